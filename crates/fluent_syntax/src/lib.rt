@@ -1,0 +1,7 @@
+//! The tree of FTL, its reader, and the writers that its texts go to.
+#![tactic(auto)]
+
+pub mod ast;
+pub mod counting;
+
+pub use counting::{Counting, WriteFault};
