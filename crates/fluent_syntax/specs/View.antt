@@ -14,8 +14,6 @@ use Rattle.fluent_syntax.specs.declared.ast.Expression as of_expression
 use Rattle.fluent_syntax.specs.declared.ast.InlineExpression as of_inline
 use Rattle.fluent_syntax.specs.declared.ast.Expression.TheOpen as level
 use Rattle.fluent_syntax.specs.declared.ast.Attribute as of_attribute
-use Rattle.fluent_syntax.specs.declared.ast.Message as of_message
-use Rattle.fluent_syntax.specs.declared.ast.Term as of_term
 use Rattle.fluent_syntax.specs.declared.ast.Entry as of_entry
 use Rattle.fluent_syntax.specs.declared.ast.Entry.TheVariants as entries
 use Rattle.fluent_syntax.specs.declared.ast.Resource as of_resource

@@ -77,17 +77,31 @@ pub enum Expression<'s> {
 #[derive(Debug, Drop)]
 pub enum InlineExpression<'s> {
     /// The text between the quotes, as the source has it: escapes are not resolved.
-    StringLiteral { value: &'s str },
-    NumberLiteral { value: &'s str },
-    FunctionReference { id: Identifier<'s>, arguments: CallArguments<'s> },
-    MessageReference { id: Identifier<'s>, attribute: Option<Identifier<'s>> },
+    StringLiteral {
+        value: &'s str,
+    },
+    NumberLiteral {
+        value: &'s str,
+    },
+    FunctionReference {
+        id: Identifier<'s>,
+        arguments: CallArguments<'s>,
+    },
+    MessageReference {
+        id: Identifier<'s>,
+        attribute: Option<Identifier<'s>>,
+    },
     TermReference {
         id: Identifier<'s>,
         attribute: Option<Identifier<'s>>,
         arguments: Option<CallArguments<'s>>,
     },
-    VariableReference { id: Identifier<'s> },
-    Placeable { expression: Box<Expression<'s>> },
+    VariableReference {
+        id: Identifier<'s>,
+    },
+    Placeable {
+        expression: Box<Expression<'s>>,
+    },
 }
 
 /// The arguments of a function or a term, positional ones first.

@@ -3,5 +3,6 @@
 
 pub mod ast;
 pub mod counting;
+mod parser;
 
 pub use counting::{Counting, WriteFault};

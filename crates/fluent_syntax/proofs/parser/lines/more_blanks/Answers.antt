@@ -1,0 +1,11 @@
+use Rattle.std.proofs.Common.{◌-◌, ◌+◌, ◌∙◌, sym, length, arith, rules}
+use Rattle.fluent_syntax.specs.Parser.{one_more}
+use Rattle.fluent_syntax.specs.Lexical.{blank_turn}
+use Rattle.fluent_syntax.proofs.Turns.{more}
+use Rattle.fluent_syntax.proofs.parser.lines.more_blanks.Goals as goal
+
+pub blanks-preserved : goal.blanks-preserved
+blanks-preserved c =
+    let n = length c.args.s.now in
+    let step = more one_more blank_turn (n - c.blanks._turn) (n - (c.blanks._turn + 1)) c.blanks.count c.blanks.rest.now _ c.in-Some.next.now (omega arith) (sym c.in-Some.ensures) (omega arith) in
+    (search rules, c.blanks.invariant.1 ∙ step, omega arith)

@@ -1,0 +1,11 @@
+use Rattle.std.proofs.Common.{◌-◌, ◌+◌, ◌∙◌, sym, length, arith, rules}
+use Rattle.fluent_syntax.specs.Parser.{one_more}
+use Rattle.fluent_syntax.specs.Lexical.{blank_line}
+use Rattle.fluent_syntax.proofs.Turns.{more}
+use Rattle.fluent_syntax.proofs.parser.lines.more_lines.Goals as goal
+
+pub lines-preserved : goal.lines-preserved
+lines-preserved c =
+    let n = length c.args.s.now in
+    let step = more one_more blank_line (n - c.lines._turn) (n - (c.lines._turn + 1)) c.lines.count c.lines.rest.now _ c.in-Some.next.now (omega arith) (sym c.in-Some.ensures) (omega arith) in
+    (search rules, c.lines.invariant.1 ∙ step, omega arith)

@@ -1,0 +1,10 @@
+use Rattle.std.proofs.Common.{◌≡◌, ◌-◌, ◌≤◌}
+use Rattle.fluent_syntax.specs.Parser.{many_from, one_more, count}
+use Rattle.fluent_syntax.specs.Lexical.{blank_line}
+use Rattle.fluent_syntax.proofs.parser.lines.more_lines.Given as goal
+use denote.Shadow.{shadow}
+use denote.Text.{Utf8}
+
+abbrev pub invariant-lines : goal.invariant-lines
+invariant-lines l =
+    shadow (Utf8 l.rest) × (count blank_line l.fn.s ≡ many_from one_more blank_line (l._turn-end - l._turn) l.count l.rest) × (l.count ≤ l._turn)

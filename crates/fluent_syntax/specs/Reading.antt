@@ -1,0 +1,29 @@
+-- How a result stands to what the grammar gives.
+use Rattle.std.specs.Prelude.{◌≡◌, ℕ, List, map, Option, Some, None, Result, Ok, Err, Vec}
+use Rattle.std.specs.Borrow.{Bor}
+use Rattle.std.specs.declared.alloc.Global.{Global}
+use Rattle.fluent_syntax.specs.declared.parser.stop.Stop.{Stop}
+use Rattle.fluent_syntax.specs.declared.parser.stop.Stop.TheVariants.{Absent, Memory}
+use Rattle.fluent_syntax.specs.Parser.{Read}
+
+-- what was found, by its content, and the rest without where it lies in memory
+abbrev pub found : {A B : Type 0} → (A → B) → Option (A × Bor (List ℕ)) → Read B
+found view None = None
+found view (Some p) = Some (view p.0, p.1.now)
+
+-- the same of a part that has no value
+abbrev pub passed : Option (Bor (List ℕ)) → Read (Unit {0})
+passed None = None
+passed (Some s) = Some (tt, s.now)
+
+-- the result is what the grammar gives, unless memory ran out
+abbrev pub Gives : {A B : Type 0} → (A → B) → Result (A × Bor (List ℕ)) Stop → Read B → Type 0
+Gives view (Ok p) r = r ≡ Some (view p.0, p.1.now)
+Gives view (Err Absent) r = r ≡ None
+Gives view (Err Memory) r = Unit {0}
+
+abbrev pub all : {A B : Type 0} → (A → B) → Vec A Global → List B
+all view v = map view v.items
+
+abbrev pub text_view : Bor (List ℕ) → List ℕ
+text_view t = t.now

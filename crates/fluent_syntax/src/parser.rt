@@ -1,0 +1,4 @@
+//! The runtime reader of FTL.
+mod bytes;
+mod lines;
+mod stop;

@@ -1,0 +1,79 @@
+//! Runs of bytes.
+ghost use Rattle.std.specs.Prelude.{◌≡◌, ◌+◌, ◌<◌, ◌≤◌, Some, length, drop, slice_index, IfSome};
+ghost use Rattle.fluent_syntax.specs.Parser as parser;
+ghost use Rattle.fluent_syntax.specs.Lexical as spec;
+ghost use Rattle.fluent_syntax.specs.Classes.{class_test};
+ghost use Rattle.fluent_syntax.specs.Reading.{passed};
+
+/// A set of bytes, each judged with the byte after it.
+#[derive(Clone, Copy)]
+pub enum Class {
+    Identifier,
+    Space,
+    Text,
+    Digit,
+    /// All but a line feed.
+    Inside,
+}
+
+/// The byte at `index`, or 0 past the end.
+pub fn byte_at(s: &str, index: usize) -> u8
+    ensures { result ≡ slice_index s.now index }
+{
+    match s.as_bytes().get(index) {
+        Some(b) => *b,
+        None => 0,
+    }
+}
+
+/// What follows this byte, which is ASCII.
+#[tactic(auto, unfolding(crate::specs::Parser::byte))]
+pub fn eat(s: &str, byte: u8) -> Option<&str>
+    requires some { 0 < byte }
+    requires ascii { byte < 128 }
+    ensures gives { passed result ≡ parser.byte byte s.now }
+    ensures shorter { IfSome result (λ rest. length rest.now < length s.now) }
+{
+    if byte_at(s, 0) == byte {
+        Some(&s[1..])
+    } else {
+        None
+    }
+}
+
+fn is_in(class: Class, byte: u8, next: u8) -> bool
+    ensures { result ≡ class_test class byte next }
+{
+    match class {
+        Class::Identifier => byte.is_ascii_alphanumeric() || byte == b'_' || byte == b'-',
+        Class::Space => byte == b' ',
+        Class::Digit => byte.is_ascii_digit(),
+        Class::Inside => byte != b'\n',
+        Class::Text => {
+            byte != b'{' && byte != b'}' && byte != b'\n' && !(byte == b'\r' && next == b'\n')
+        }
+    }
+}
+
+/// How many bytes at the front are of the class.
+#[tactic(auto, using(crate::proofs::Runs::the_runs))]
+pub fn run_len(s: &str, class: Class) -> usize
+    ensures len { result ≡ parser.run_len (class_test class) s.now }
+    ensures within { result ≤ length s.now }
+{
+    let bytes = s.as_bytes();
+    'bytes: for at in 0..bytes.len() {
+        if !is_in(class, bytes[at], byte_at(s, at + 1)) {
+            return at;
+        }
+    }
+    bytes.len()
+}
+
+/// The longest front of the class, and the rest.
+pub fn split_run<'s>(s: &'s str, class: Class) -> (&'s str, &'s str)
+    ensures parts { parser.run (class_test class) s.now ≡ Some (result.0.now, result.1.now) }
+    ensures lens { length result.0.now + length result.1.now ≡ length s.now }
+{
+    s.split_at(run_len(s, class))
+}
