@@ -6,10 +6,10 @@ use Rattle.std.proofs.lemmas.List.{drop_more, get_or_past}
 use Rattle.std.proofs.lemmas.Str.{IsCharBoundary-start, IsCharBoundary-end, IsCharBoundary-before_ascii, IsCharBoundary-after_ascii}
 use Rattle.std.specs.Str.{IsCharBoundary}
 use Rattle.fluent_syntax.specs.declared.parser.bytes.Class.{Class}
-use Rattle.fluent_syntax.specs.declared.parser.bytes.Class.TheVariants.{Identifier, Space, Text, Digit, Inside}
+use Rattle.fluent_syntax.specs.declared.parser.bytes.Class.TheVariants.{Identifier, Space, Text, Digit, Inside, Quoted, Function, Plain}
 use Rattle.fluent_syntax.specs.Classes.{class_test}
 use Rattle.fluent_syntax.specs.Parser.{first, run_len}
-use Rattle.fluent_syntax.specs.Lexical.{is_identifier_byte, is_space, is_text, is_digit, is_inside}
+use Rattle.fluent_syntax.specs.Lexical.{is_identifier_byte, is_space, is_text, is_digit, is_inside, is_quoted, is_function_byte, is_plain}
 
 pub run_len-le : (p : ℕ → ℕ → Bool) (s : List ℕ) → run_len p s ≤ length s
 run_len-le p [] = omega arith
@@ -70,7 +70,10 @@ pub boundary : (class : Class) (s : List ℕ) → IsUtf8 s → IsCharBoundary s 
 boundary Identifier s utf8 = boundary-ascii is_identifier_byte s utf8 (λ c d e. grind (arith, nat_tests))
 boundary Space s utf8 = boundary-ascii is_space s utf8 (λ c d e. grind (arith, nat_tests))
 boundary Digit s utf8 = boundary-ascii is_digit s utf8 (λ c d e. grind (arith, nat_tests))
+boundary Plain s utf8 = boundary-wide is_plain s (λ c d e. grind (arith, nat_tests))
 boundary Inside s utf8 = boundary-wide is_inside s (λ c d e. grind (arith, nat_tests))
+boundary Function s utf8 = boundary-ascii is_function_byte s utf8 (λ c d e. grind (arith, nat_tests))
+boundary Quoted s utf8 = boundary-wide is_quoted s (λ c d e. grind (arith, nat_tests))
 boundary Text s utf8 = boundary-wide is_text s (λ c d e. grind (arith, nat_tests))
 
 -- a byte that is not 0 was read inside the text

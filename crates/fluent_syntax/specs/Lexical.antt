@@ -1,6 +1,6 @@
 -- Lines, blanks and names: the parts of the grammar that hold no other (Fluent Syntax 1.0, EBNF, "Identifier" and "Whitespace").
 use Rattle.std.specs.Prelude.{ℕ, ◌+◌, Bool, not, ◌&&◌, ◌||◌, ◌==◌, if◌then◌else◌, length, Some, None}
-use Rattle.std.specs.Char.{is_ascii_alphanumeric, is_ascii_alphabetic, is_ascii_digit}
+use Rattle.std.specs.Char.{is_ascii_alphanumeric, is_ascii_alphabetic, is_ascii_uppercase, is_ascii_digit}
 use Rattle.fluent_syntax.specs.Tree.{Text, Inline, variable}
 use Rattle.fluent_syntax.specs.Parser.{Parser, ◌>>=◌, ◌>>◌, ◌<$>◌, ◌<|>◌, pure, ignore, skip, count, first, byte, run, run1}
 
@@ -23,10 +23,23 @@ is_space c next = c == 32
 abbrev pub is_inside : ℕ → ℕ → Bool
 is_inside c next = not (c == 10)
 
+-- a byte that begins no escape
+abbrev pub is_plain : ℕ → ℕ → Bool
+is_plain c next = not (c == 92)
+
 -- a byte of a text_char. A carriage return before a line feed is the start of a line_end.
 abbrev pub is_text : ℕ → ℕ → Bool
 is_text c next =
     ((not (c == 123) && not (c == 125)) && not (c == 10)) && not (c == 13 && next == 10)
+
+-- a byte of a quoted_char that is no escape: all but `"`, `\` and the start of a line_end
+abbrev pub is_quoted : ℕ → ℕ → Bool
+is_quoted c next =
+    ((not (c == 34) && not (c == 92)) && not (c == 10)) && not (c == 13 && next == 10)
+
+-- [A-Z0-9_-]
+abbrev pub is_function_byte : ℕ → ℕ → Bool
+is_function_byte c next = ((is_ascii_uppercase c || is_ascii_digit c) || c == 95) || c == 45
 
 -- ---- lines and blanks
 

@@ -1,10 +1,11 @@
 -- How a result stands to what the grammar gives.
-use Rattle.std.specs.Prelude.{◌≡◌, ℕ, List, map, Option, Some, None, Result, Ok, Err, Vec}
+use Rattle.std.specs.Prelude.{◌≡◌, ℕ, ◌<◌, ◌≤◌, length, drop, slice_index, List, map, Option, Some, None, Result, Ok, Err, Vec}
 use Rattle.std.specs.Borrow.{Bor}
 use Rattle.std.specs.declared.alloc.Global.{Global}
 use Rattle.fluent_syntax.specs.declared.parser.stop.Stop.{Stop}
 use Rattle.fluent_syntax.specs.declared.parser.stop.Stop.TheVariants.{Absent, Memory}
-use Rattle.fluent_syntax.specs.Parser.{Read}
+use Rattle.fluent_syntax.specs.Parser.{Read, run_len}
+use Rattle.fluent_syntax.specs.Lexical.{is_space}
 
 -- what was found, by its content, and the rest without where it lies in memory
 abbrev pub found : {A B : Type 0} → (A → B) → Option (A × Bor (List ℕ)) → Read B
@@ -27,3 +28,10 @@ all view v = map view v.items
 
 abbrev pub text_view : Bor (List ℕ) → List ℕ
 text_view t = t.now
+
+-- n spaces stand at the front of the line, and the rest after them
+pub record IsIndent (line : List ℕ) (n : ℕ) (rest : List ℕ) : Type 0 where
+  pub len : n ≡ run_len is_space line
+  pub within : n ≤ length line
+  pub spaces : (k : ℕ) → k < n → slice_index line k ≡ 32
+  pub follows : rest ≡ drop n line

@@ -25,3 +25,10 @@ Faulted failed empty failed' empty' (Ok x) = (failed' ≡ failed) × (empty' ≡
 Faulted failed empty failed' empty' (Err (Writer e)) = (failed' ≡ raised failed) × (empty' ≡ empty)
 Faulted failed empty failed' empty' (Err Zero) = (failed' ≡ failed) × (empty' ≡ raised empty)
 Faulted failed empty failed' empty' (Err Memory) = (failed' ≡ failed) × (empty' ≡ empty)
+
+-- if there was a fault it was the writer's
+abbrev pub ByWriter : {T : Type 0} → Result T WriteFault → Type 0
+ByWriter (Ok x) = Unit {0}
+ByWriter (Err (Writer e)) = Unit {0}
+ByWriter (Err Zero) = Unit {0}
+ByWriter (Err Memory) = ⊥

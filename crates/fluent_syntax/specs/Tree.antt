@@ -1,8 +1,10 @@
 -- The content of a tree, without where it lies in memory (Fluent Syntax 1.0, abstract syntax).
 use Rattle.std.specs.Prelude.{ℕ, List, [], ◌∷◌, Bool, true, false, Option}
-use Rattle.std.proofs.Math.Decide.{ℕ_discrete}
 use Rattle.std.proofs.Math.Bool.{Bool-discrete}
-use mathlib.Core.List.{List-discrete}
+use mathlib.Core.Bool.{true≢false}
+use mathlib.Core.Path.{◌≡◌, refl, sym}
+use Rattle.std.specs.Prelude.{nat_eq}
+use Rattle.std.specs.Cmp.Lexicographic.{pointwise, bytes_decides}
 
 -- a text, as its bytes
 abbrev pub Text : Type 0
@@ -30,15 +32,18 @@ mutual
   pub data Element : Type 0 where
     text : Text → Element
     placeable : Expression → Element
+    deriving Discrete as Element-discrete
 
   pub data Expression : Type 0 where
     inline : Inline → Expression
     select : Inline → Variants → Expression
+    deriving Discrete as Expression-discrete
 
   -- the variants of a select in order: key, pattern, and whether it is a default
   pub data Variants : Type 0 where
     no_variants : Variants
     variant : Key → Pattern → Bool → Variants → Variants
+    deriving Discrete as Variants-discrete
 
   pub data Inline : Type 0 where
     string : Text → Inline
@@ -48,31 +53,42 @@ mutual
     term : Text → Attribute → Call → Inline
     variable : Text → Inline
     nested : Expression → Inline
+    deriving Discrete as Inline-discrete
 
   -- the arguments of a term reference, which may have none
   pub data Call : Type 0 where
     no_call : Call
     call : Arguments → Call
+    deriving Discrete as Call-discrete
 
   pub data Arguments : Type 0 where
     arguments : Inlines → Nameds → Arguments
+    deriving Discrete as Arguments-discrete
 
   pub data Inlines : Type 0 where
     no_inlines : Inlines
     argument : Inline → Inlines → Inlines
+    deriving Discrete as Inlines-discrete
 
   pub data Nameds : Type 0 where
     no_nameds : Nameds
     named_argument : Text → Inline → Nameds → Nameds
+    deriving Discrete as Nameds-discrete
 
-pub text_same : Discrete Text
-text_same = List-discrete ℕ_discrete
+-- what a test decides, one way or the other
+abbrev pub decided : {P : Type 0} → (b : Bool) → (b ≡ true → P) × (P → b ≡ true) → Dec P
+decided true h = yes (h.0 refl)
+decided false h = no (λ p. true≢false (sym (h.1 p)))
 
-pub key_same : Discrete Key
+-- two texts have the same bytes, or not
+unfoldable pub text_same : Discrete Text
+text_same s t = decided (pointwise nat_eq s t) (bytes_decides s t)
+
+unfoldable pub key_same : Discrete Key
 key_same = Key-discrete text_same
 
 -- two patterns have the same content, or not
-pub pattern_same : Discrete Pattern
+unfoldable pub pattern_same : Discrete Pattern
 pattern_same = Pattern-discrete text_same (Key-discrete text_same) Bool-discrete (Attribute-discrete text_same)
 
 abbrev pub is_yes : {P : Type 0} → Dec P → Bool
@@ -116,3 +132,4 @@ pub data Entry : Type 0 where
   message_entry : Text → Option Pattern → Attributes → Entry
   term_entry : Text → Pattern → Attributes → Entry
   junk_entry : Text → Entry
+  deriving Discrete as Entry-discrete

@@ -14,6 +14,8 @@ use Rattle.fluent_syntax.specs.declared.ast.Expression as of_expression
 use Rattle.fluent_syntax.specs.declared.ast.InlineExpression as of_inline
 use Rattle.fluent_syntax.specs.declared.ast.Expression.TheOpen as level
 use Rattle.fluent_syntax.specs.declared.ast.Attribute as of_attribute
+use Rattle.fluent_syntax.specs.declared.ast.Message as of_message
+use Rattle.fluent_syntax.specs.declared.ast.Term as of_term
 use Rattle.fluent_syntax.specs.declared.ast.Entry as of_entry
 use Rattle.fluent_syntax.specs.declared.ast.Entry.TheVariants as entries
 use Rattle.fluent_syntax.specs.declared.ast.Resource as of_resource
@@ -94,10 +96,20 @@ abbrev pub value_view : Option of_pattern.Pattern → Option t.Pattern
 value_view None = None
 value_view (Some p) = Some (pattern_view p)
 
+abbrev pub message_view : of_message.Message → t.Entry
+message_view m = message_entry m.id.name.now (value_view m.value) (map attribute_view m.attributes.items)
+
+abbrev pub term_view : of_term.Term → t.Entry
+term_view m = term_entry m.id.name.now (pattern_view m.value) (map attribute_view m.attributes.items)
+
 abbrev pub entry_view : of_entry.Entry → t.Entry
-entry_view (entries.Message m) = message_entry m.id.name.now (value_view m.value) (map attribute_view m.attributes.items)
-entry_view (entries.Term m) = term_entry m.id.name.now (pattern_view m.value) (map attribute_view m.attributes.items)
+entry_view (entries.Message m) = message_view m
+entry_view (entries.Term m) = term_view m
 entry_view (entries.Junk content) = junk_entry content.now
 
 abbrev pub resource_view : of_resource.Resource → List t.Entry
 resource_view r = map entry_view r.body.items
+
+abbrev pub call_view : Option of_call.CallArguments → Call
+call_view None = no_call
+call_view (Some c) = call (arguments_view c)

@@ -14,6 +14,12 @@ pub enum Class {
     Digit,
     /// All but a line feed.
     Inside,
+    /// The text of a string literal, escapes aside.
+    Quoted,
+    /// The name of a function.
+    Function,
+    /// All but a backslash.
+    Plain,
 }
 
 /// The byte at `index`, or 0 past the end.
@@ -49,6 +55,13 @@ fn is_in(class: Class, byte: u8, next: u8) -> bool
         Class::Space => byte == b' ',
         Class::Digit => byte.is_ascii_digit(),
         Class::Inside => byte != b'\n',
+        Class::Plain => byte != b'\\',
+        Class::Function => {
+            byte.is_ascii_uppercase() || byte.is_ascii_digit() || byte == b'_' || byte == b'-'
+        }
+        Class::Quoted => {
+            byte != b'"' && byte != b'\\' && byte != b'\n' && !(byte == b'\r' && next == b'\n')
+        }
         Class::Text => {
             byte != b'{' && byte != b'}' && byte != b'\n' && !(byte == b'\r' && next == b'\n')
         }

@@ -2,7 +2,7 @@
 ghost use Rattle.std.specs.Prelude.{◌≡◌, ◌<◌, ◌≤◌, Some, length, IfSome};
 ghost use Rattle.fluent_syntax.specs.Parser as parser;
 ghost use Rattle.fluent_syntax.specs.Lexical as spec;
-ghost use Rattle.fluent_syntax.specs.Reading.{found, passed};
+ghost use Rattle.fluent_syntax.specs.Reading.{found, passed, IsIndent};
 ghost use Rattle.fluent_syntax.specs.View.{name_view, inline_view};
 
 use crate::ast::{Identifier, InlineExpression};
@@ -21,7 +21,8 @@ pub fn identifier<'s>(s: &'s str) -> Option<(Identifier<'s>, &'s str)>
 
 #[tactic(auto, unfolding(crate::specs::Lexical::blank_inline, crate::specs::Parser::run1))]
 pub fn blank_inline(s: &str) -> Option<(usize, &str)>
-    ensures { found (λ n. n) result ≡ spec.blank_inline s.now }
+    ensures gives { found (λ n. n) result ≡ spec.blank_inline s.now }
+    ensures indent { IfSome result (λ p. IsIndent s.now p.0 p.1.now) }
 {
     let (spaces, rest) = split_run(s, Class::Space);
     let len = spaces.len();

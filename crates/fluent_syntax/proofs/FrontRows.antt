@@ -1,0 +1,37 @@
+-- An entry looks on: its front and the two bytes behind it don't say what is read.
+use Rattle.std.proofs.Common.{◌≡◌, ℕ, List, [], ◌∷◌, ◌++◌, length, Some, None, refl, sym, ap, ◌∙◌, append_assoc, arith}
+use Rattle.std.specs.Prelude.{codes}
+use Rattle.fluent_syntax.specs.Tree.{Text, Entry, message_entry, junk_entry, Element, text, placeable, inline, message, no_attribute, pattern_of}
+use Rattle.fluent_syntax.specs.FrontLaws.{ReadByFront}
+use Rattle.fluent_syntax.specs.Parser.{Read, many_from, byte, run1}
+use Rattle.fluent_syntax.specs.Lexical.{identifier, blank_inline, line_break, line_end, blank_line, blank_block, blank_turn, blank, variable_reference}
+use Rattle.fluent_syntax.specs.Layout as y
+use Rattle.fluent_syntax.specs.Pieces as t
+use Rattle.fluent_syntax.specs.Expressions as e
+use Rattle.fluent_syntax.specs.Entries as n
+use Rattle.fluent_syntax.specs.Chunks.{rest_of_line, comment_line, junk_line, junk, part, chunks_within, entries, junk_ranges}
+
+-- a message without attributes
+abbrev message_of : Text → List Element → Entry
+message_of id es = message_entry id (Some (pattern_of es)) []
+
+-- a brace that stays open is none of the message
+ends_before : n.entry (codes "a = b\n {c") ≡ Some (message_of (codes "a") (text (codes "b") ∷ []), codes " {c")
+unfolding many_from byte run1 identifier blank_inline line_break line_end blank_line blank_block blank_turn blank variable_reference e.hex_digit e.hex_digits e.escape e.quoted_turn e.string_literal e.digits e.number_parts e.number_literal e.literal e.attribute_access e.message_reference e.function_reference e.optional_call e.term_reference e.inline_expression e.named_argument e.argument e.comma e.argument_comma e.argument_list e.call_arguments e.key_inside e.variant_key e.variant_head e.variant e.variant_list e.arrow e.expression e.inline_placeable e.level t.words_after t.block_text t.indent t.block_placeable t.pattern_element t.pieces y.lines y.elements n.value n.name_of_value n.attribute n.value_first n.attributes_alone n.message n.term n.entry rest_of_line comment_line junk_line junk part chunks_within
+ends_before = refl
+
+-- closed, it is
+goes_on : n.entry (codes "a = b\n {c}") ≡ Some (message_of (codes "a") (text (codes "b\n") ∷ placeable (inline (message (codes "c") no_attribute)) ∷ []), [])
+unfolding many_from byte run1 identifier blank_inline line_break line_end blank_line blank_block blank_turn blank variable_reference e.hex_digit e.hex_digits e.escape e.quoted_turn e.string_literal e.digits e.number_parts e.number_literal e.literal e.attribute_access e.message_reference e.function_reference e.optional_call e.term_reference e.inline_expression e.named_argument e.argument e.comma e.argument_comma e.argument_list e.call_arguments e.key_inside e.variant_key e.variant_head e.variant e.variant_list e.arrow e.expression e.inline_placeable e.level t.words_after t.block_text t.indent t.block_placeable t.pattern_element t.pieces y.lines y.elements n.value n.name_of_value n.attribute n.value_first n.attributes_alone n.message n.term n.entry rest_of_line comment_line junk_line junk part chunks_within
+goes_on = refl
+
+abbrev left : Read Entry → ℕ
+left None = 0
+left (Some p) = length p.1
+
+entry_looks_on : ReadByFront n.entry (codes "a = b\n {c") → ⊥
+entry_looks_on h =
+    let (front, e, more) = h (message_of (codes "a") (text (codes "b") ∷ [])) (codes " {c") ends_before in
+    let whole : front ++ codes " {c}" ≡ codes "a = b\n {c}" = sym (append_assoc front (codes " {c") (codes "}")) ∙ ap (λ w. w ++ codes "}") (sym e) in
+    let k : 4 ≡ 0 = ap left (sym (more (codes " {c}") refl) ∙ (ap n.entry whole ∙ goes_on)) in
+    absurd (omega (arith, k))

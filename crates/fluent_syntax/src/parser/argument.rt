@@ -1,0 +1,177 @@
+//! The arguments of a call.
+ghost use Rattle.std.specs.Prelude.{◌≡◌, map, OnOk, IfOk};
+ghost use Rattle.fluent_syntax.specs.Expressions as spec;
+ghost use Rattle.fluent_syntax.specs.Reading.{found, passed, Gives};
+ghost use Rattle.fluent_syntax.specs.Gathering.{argument_view, gathered_view};
+ghost use Rattle.fluent_syntax.specs.Nests.{Reads};
+ghost use Rattle.fluent_syntax.specs.View.{named_view, expression_view, arguments_view};
+
+use crate::ast::{CallArguments, Expression, InlineExpression, NamedArgument};
+use crate::parser::bytes::eat;
+use crate::parser::inner::Inner;
+use crate::parser::lines::{after_blank, identifier};
+use crate::parser::reference::literal;
+use crate::parser::stop::Stop;
+use std::alloc::{AllocError, Global};
+use std::collections::BTreeSet;
+
+#[derive(Drop)]
+pub enum Argument<'s> {
+    Positional(InlineExpression<'s>),
+    Named(NamedArgument<'s>),
+}
+
+/// The arguments that were read.
+#[derive(Drop)]
+pub struct Gathered<'s> {
+    pub positional: Vec<InlineExpression<'s>>,
+    pub named: Vec<NamedArgument<'s>>,
+    /// No positional argument followed a named one.
+    pub ordered: bool,
+}
+
+impl<'s> Gathered<'s> {
+    fn add(&mut self, argument: Argument<'s>) -> Result<(), AllocError>
+        ensures { OnOk result (gathered_view self.new ≡ spec.add (gathered_view self.old) (argument_view argument.entry)) }
+    {
+        match argument {
+            Argument::Positional(x) => {
+                self.ordered = self.ordered && self.named.is_empty();
+                self.positional.push(x)?;
+            }
+            Argument::Named(n) => self.named.push(n)?,
+        }
+        Ok(())
+    }
+}
+
+#[tactic(auto, unfolding(crate::specs::Expressions::named_argument))]
+fn named_argument<'s>(s: &'s str) -> Option<(NamedArgument<'s>, &'s str)>
+    ensures { found named_view result ≡ spec.named_argument s.now }
+{
+    let (name, rest) = identifier(s)?;
+    let rest = eat(after_blank(rest), b':')?;
+    let (value, rest) = literal(after_blank(rest))?;
+    Some((NamedArgument { name, value }, rest))
+}
+
+#[tactic(auto, unfolding(crate::specs::Expressions::comma))]
+fn comma(s: &str) -> Option<&str>
+    ensures { passed result ≡ spec.comma s.now }
+{
+    let rest = eat(after_blank(s), b',')?;
+    Some(after_blank(rest))
+}
+
+impl<
+    's,
+    F: Fn(Global, &'s str, usize) -> Result<(Expression<'s>, &'s str), Stop>,
+    G: Fn(Global, &'s str, usize) -> Result<(CallArguments<'s>, &'s str), Stop>,
+> Inner<F, G> {
+    #[tactic(auto, unfolding(crate::specs::Expressions::argument))]
+    fn argument(&self, s: &'s str) -> Result<(Argument<'s>, &'s str), Stop>
+        requires braces { Reads expression_view (spec.level self.now.depth).braces self.now.depth (F.pre self.now.braces) (F.post self.now.braces) }
+        requires brackets { Reads arguments_view (spec.level self.now.depth).brackets self.now.depth (G.pre self.now.brackets) (G.post self.now.brackets) }
+        ensures { Gives argument_view result (spec.argument (spec.level self.now.depth) s.now) }
+    {
+        if let Some((n, rest)) = named_argument(s) {
+            return Ok((Argument::Named(n), rest));
+        }
+        let (x, rest) = self.inline_expression(s)?;
+        Ok((Argument::Positional(x), rest))
+    }
+
+    /// The arguments and the commas between them. Each argument is read once, whether a comma follows it or not.
+    #[tactic(auto, using(crate::proofs::Gathers::gathered))]
+    fn argument_list(&self, s: &'s str) -> Result<(Gathered<'s>, &'s str), Stop>
+        requires braces { Reads expression_view (spec.level self.now.depth).braces self.now.depth (F.pre self.now.braces) (F.post self.now.braces) }
+        requires brackets { Reads arguments_view (spec.level self.now.depth).brackets self.now.depth (G.pre self.now.brackets) (G.post self.now.brackets) }
+        ensures { Gives gathered_view result (spec.argument_list (spec.level self.now.depth) s.now) }
+    {
+        let mut found = Gathered {
+            positional: Vec::new(self.alloc),
+            named: Vec::new(self.alloc),
+            ordered: true,
+        };
+        let mut rest = s;
+        'arguments: for _turn in 0..s.len() {
+            match self.argument(rest) {
+                Ok((next, after)) => {
+                    found.add(next)?;
+                    let Some(behind) = comma(after) else {
+                        return Ok((found, after));
+                    };
+                    if behind.len() >= rest.len() {
+                        return Ok((found, after));
+                    }
+                    rest = behind;
+                }
+                Err(Stop::Absent) => return Ok((found, rest)),
+                Err(Stop::Memory) => return Err(Stop::Memory),
+            }
+        }
+        self.last_argument(rest, found)
+    }
+
+    /// Adds an argument that may come next.
+    fn last_argument(
+        &self,
+        s: &'s str,
+        mut found: Gathered<'s>,
+    ) -> Result<(Gathered<'s>, &'s str), Stop>
+        requires braces { Reads expression_view (spec.level self.now.depth).braces self.now.depth (F.pre self.now.braces) (F.post self.now.braces) }
+        requires brackets { Reads arguments_view (spec.level self.now.depth).brackets self.now.depth (G.pre self.now.brackets) (G.post self.now.brackets) }
+        ensures { Gives gathered_view result (spec.last_argument (spec.level self.now.depth) (gathered_view found.entry) s.now) }
+    {
+        match self.argument(s) {
+            Ok((a, rest)) => {
+                found.add(a)?;
+                Ok((found, rest))
+            }
+            Err(Stop::Absent) => Ok((found, s)),
+            Err(Stop::Memory) => Err(Stop::Memory),
+        }
+    }
+
+    #[tactic(auto, unfolding(crate::specs::Expressions::call_arguments))]
+    pub fn call_arguments(&self, s: &'s str) -> Result<(CallArguments<'s>, &'s str), Stop>
+        requires braces { Reads expression_view (spec.level self.now.depth).braces self.now.depth (F.pre self.now.braces) (F.post self.now.braces) }
+        requires brackets { Reads arguments_view (spec.level self.now.depth).brackets self.now.depth (G.pre self.now.brackets) (G.post self.now.brackets) }
+        ensures { Gives arguments_view result (spec.call_arguments (spec.level self.now.depth) s.now) }
+    {
+        let opened = eat(after_blank(s), b'(').ok_or(Stop::Absent)?;
+        let (all, rest) = self.argument_list(after_blank(opened))?;
+        if !all.ordered || !differ(self.alloc, &all.named)? {
+            return Err(Stop::Absent);
+        }
+        let rest = eat(after_blank(rest), b')').ok_or(Stop::Absent)?;
+        Ok((
+            CallArguments {
+                positional: all.positional,
+                named: all.named,
+            },
+            rest,
+        ))
+    }
+}
+
+fn name_of<'s>(argument: &NamedArgument<'s>) -> &'s str
+    ensures { result.now ≡ (named_view argument.now).0 }
+{
+    argument.name.name
+}
+
+/// Whether no two arguments have one name.
+fn differ(alloc: Global, named: &[NamedArgument]) -> Result<bool, AllocError>
+    ensures { IfOk result (λ yes. yes ≡ spec.differ (spec.names (map named_view named.now))) }
+{
+    let mut later = BTreeSet::new(alloc);
+    let mut at = named.len();
+    'names: while 0 < at {
+        at -= 1;
+        if !later.insert(name_of(&named[at]))? {
+            return Ok(false);
+        }
+    }
+    Ok(true)
+}

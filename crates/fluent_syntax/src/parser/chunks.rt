@@ -1,0 +1,126 @@
+//! A source as chunks: entries, comment lines, blank lines and Junk.
+ghost use Rattle.std.specs.Prelude.{◌≡◌, ◌+◌, ◌^◌, ◌<◌, ◌++◌, Some, length, OnOk, IfOk};
+ghost use Rattle.fluent_syntax.specs.Chunks as spec;
+ghost use Rattle.fluent_syntax.specs.Chunks.{entries, junk_ranges};
+ghost use Rattle.fluent_syntax.specs.Parsed.{HoldsEntries, HoldsErrors, HasSome, error_range};
+ghost use Rattle.fluent_syntax.specs.PartView.{part_view, chunk_view};
+ghost use Rattle.fluent_syntax.specs.Reading.{all};
+ghost use Rattle.fluent_syntax.specs.View.{entry_view};
+
+use crate::ast::{Entry, Resource};
+use crate::parser::entry::entry;
+use crate::parser::errors::{ParseFault, ParserError};
+use crate::parser::junk::{comment_line, junk};
+use crate::parser::lines::blank_block;
+use crate::parser::stop::Stop;
+use std::alloc::{AllocError, Global};
+
+/// What a chunk is.
+#[derive(Drop)]
+enum Part<'s> {
+    Entry(Entry<'s>),
+    /// A comment line, or blank lines.
+    Blank,
+    Junk,
+}
+
+#[derive(Drop)]
+struct Chunk<'s> {
+    text: &'s str,
+    part: Part<'s>,
+}
+
+/// What was read so far.
+#[derive(Drop)]
+struct Found<'s> {
+    body: Vec<Entry<'s>>,
+    errors: Vec<ParserError>,
+}
+
+impl<'s> Found<'s> {
+    /// Adds what a chunk at this offset leaves.
+    fn add(&mut self, start: usize, chunk: Chunk<'s>) -> Result<(), AllocError>
+        requires { start + length chunk.text.now < 2 ^ 64 }
+        ensures entries { OnOk result (all entry_view self.new.body ≡ all entry_view self.old.body ++ spec.entry_of (chunk_view chunk.entry)) }
+        ensures errors { OnOk result (all error_range self.new.errors ≡ all error_range self.old.errors ++ spec.junk_range start (chunk_view chunk.entry)) }
+    {
+        let Chunk { text, part } = chunk;
+        match part {
+            Part::Entry(entry) => self.body.push(entry)?,
+            Part::Blank => {}
+            Part::Junk => {
+                self.body.push(Entry::Junk { content: text })?;
+                let end = start + text.len();
+                self.errors.push(ParserError { start, end })?;
+            }
+        }
+        Ok(())
+    }
+}
+
+/// Reads an FTL source (Fluent Syntax 1.0), as a program that shows texts needs it: comments are skipped.
+///
+/// What can't be read is kept as Junk, and reading goes on behind it. Where there is none, the answer is the tree;
+/// where there is some, it is `Parser` with the whole tree and the byte offsets of each Junk.
+/// `Memory` says that there was no memory, and nothing stands then.
+pub fn parse_runtime<'s>(alloc: Global, source: &'s str) -> Result<Resource<'s>, ParseFault<'s>>
+    ensures entries { HoldsEntries result (entries source.now) }
+    ensures errors { HoldsErrors result (junk_ranges source.now) }
+    ensures some { HasSome result (junk_ranges source.now) }
+{
+    let Found { body, errors } = read_chunks(alloc, source)?;
+    let resource = Resource { body };
+    if errors.is_empty() {
+        Ok(resource)
+    } else {
+        Err(ParseFault::Parser(resource, errors))
+    }
+}
+
+fn read_chunks<'s>(alloc: Global, source: &'s str) -> Result<Found<'s>, AllocError>
+    ensures entries { IfOk result (λ found. all entry_view found.body ≡ entries source.now) }
+    ensures errors { IfOk result (λ found. all error_range found.errors ≡ junk_ranges source.now) }
+{
+    let mut found = Found {
+        body: Vec::new(alloc),
+        errors: Vec::new(alloc),
+    };
+    let mut rest = source;
+    'chunks: while !rest.is_empty() {
+        let (next, after) = next_chunk(alloc, rest)?;
+        found.add(source.len() - rest.len(), next)?;
+        rest = after;
+    }
+    Ok(found)
+}
+
+fn next_chunk<'s>(alloc: Global, s: &'s str) -> Result<(Chunk<'s>, &'s str), AllocError>
+    ensures { IfOk result (λ p. spec.chunk s.now ≡ Some (chunk_view p.0, p.1.now)) }
+{
+    let (part, rest) = next_part(alloc, s)?;
+    Ok((
+        Chunk {
+            text: &s[..s.len() - rest.len()],
+            part,
+        },
+        rest,
+    ))
+}
+
+#[tactic(auto, unfolding(crate::specs::Chunks::part))]
+fn next_part<'s>(alloc: Global, s: &'s str) -> Result<(Part<'s>, &'s str), AllocError>
+    ensures { IfOk result (λ p. spec.part s.now ≡ Some (part_view p.0, p.1.now)) }
+{
+    match entry(alloc, s) {
+        Ok((entry, rest)) => return Ok((Part::Entry(entry), rest)),
+        Err(Stop::Memory) => return Err(AllocError),
+        Err(Stop::Absent) => {}
+    }
+    if let Some(rest) = comment_line(s) {
+        return Ok((Part::Blank, rest));
+    }
+    if let Some((_, rest)) = blank_block(s) {
+        return Ok((Part::Blank, rest));
+    }
+    Ok((Part::Junk, junk(s)))
+}

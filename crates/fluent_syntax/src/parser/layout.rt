@@ -1,0 +1,192 @@
+//! From the pieces of a pattern to its elements.
+ghost use Rattle.std.specs.Prelude.{◌≡◌, ◌∷◌, ◌++◌, List, map, replicate, IfOk, OnOk};
+ghost use Rattle.fluent_syntax.specs.Layout as spec;
+ghost use Rattle.fluent_syntax.specs.Layout.{lines, starts_line};
+ghost use Rattle.fluent_syntax.specs.Tree.{Element};
+ghost use Rattle.fluent_syntax.specs.View.{element_view};
+ghost use Rattle.fluent_syntax.specs.PieceView.{piece_view};
+ghost use Rattle.fluent_syntax.specs.Backwards.{backwards};
+
+use crate::ast::PatternElement;
+use crate::parser::piece::{Piece, Slice};
+use std::alloc::{AllocError, Global};
+
+/// The elements of a pattern's pieces.
+#[tactic(auto, unfolding(crate::specs::Layout::elements))]
+pub fn elements<'s>(
+    alloc: Global,
+    pieces: Vec<Piece<'s>>,
+) -> Result<Vec<PatternElement<'s>>, AllocError>
+    ensures { IfOk result (λ v. map element_view v.items ≡ spec.elements (map piece_view pieces.entry.items)) }
+{
+    let common = common_indent(&pieces);
+    let mut out = backwards(alloc, pieces, common)?;
+    drop_feeds(&mut out);
+    out.reverse();
+    trim_last(&mut out)?;
+    Ok(out)
+}
+
+/// Adds `count` line feeds.
+fn push_feeds<'s>(out: &mut Vec<PatternElement<'s>>, count: usize) -> Result<(), AllocError>
+    ensures { OnOk result ((done : List Element) → map element_view out.old.items ≡ backwards done
+        → map element_view out.new.items ≡ backwards (replicate count spec.feed ++ done)) }
+{
+    'feeds: for _turn in 0..count {
+        out.push(PatternElement::TextElement { value: "\n" })?;
+    }
+    Ok(())
+}
+
+/// Adds a text, with the line feed that follows it, which was added before, if it does so directly.
+#[tactic(auto, unfolding(crate::specs::Layout::lines))]
+fn push_words<'s>(
+    out: &mut Vec<PatternElement<'s>>,
+    words: &Slice<'s>,
+    common: usize,
+    after_line: bool,
+) -> Result<(), AllocError>
+    ensures { OnOk result ((done : List spec.Piece) → map element_view out.old.items ≡ backwards (lines common done)
+        → after_line ≡ starts_line done
+        → map element_view out.new.items ≡ backwards (lines common (spec.words words.now ∷ done))) }
+{
+    if after_line && let Some(value) = words.fed_text(common) {
+        let _ = out.pop();
+        out.push(PatternElement::TextElement { value })?;
+        return Ok(());
+    }
+    let value = words.text(common);
+    if value.is_empty() {
+        return Ok(());
+    }
+    out.push(PatternElement::TextElement { value })?;
+    Ok(())
+}
+
+/// Adds a piece before those that were added, of which the first is a line start or isn't. Answers whether this piece is one.
+#[tactic(auto, unfolding(crate::specs::Layout::lines))]
+fn push_piece<'s>(
+    out: &mut Vec<PatternElement<'s>>,
+    piece: Piece<'s>,
+    common: usize,
+    after_line: bool,
+) -> Result<bool, AllocError>
+    ensures out { OnOk result ((done : List spec.Piece) → map element_view out.old.items ≡ backwards (lines common done)
+        → after_line ≡ starts_line done
+        → map element_view out.new.items ≡ backwards (lines common (piece_view piece.entry ∷ done))) }
+    ensures line { IfOk result (λ at_line. (done : List spec.Piece) → at_line ≡ starts_line (piece_view piece.entry ∷ done)) }
+{
+    match piece {
+        Piece::Line(count) => {
+            push_feeds(out, count)?;
+            Ok(true)
+        }
+        Piece::Words(words) => {
+            push_words(out, &words, common, after_line)?;
+            Ok(false)
+        }
+        Piece::Placeable(expression) => {
+            out.push(PatternElement::Placeable { expression })?;
+            Ok(false)
+        }
+    }
+}
+
+/// The elements of the pieces, from the last, before anything is trimmed.
+fn backwards<'s>(
+    alloc: Global,
+    pieces: Vec<Piece<'s>>,
+    common: usize,
+) -> Result<Vec<PatternElement<'s>>, AllocError>
+    ensures { IfOk result (λ v. map element_view v.items ≡ backwards (lines common (map piece_view pieces.entry.items))) }
+{
+    let mut out = Vec::with_capacity(alloc, pieces.len())?;
+    let mut left = pieces;
+    let mut after_line = false;
+    'pieces: while let Some(piece) = left.pop() {
+        after_line = push_piece(&mut out, piece, common, after_line)?;
+    }
+    Ok(out)
+}
+
+#[tactic(auto, using(crate::proofs::Least::leasts))]
+fn common_indent(pieces: &[Piece<'_>]) -> usize
+    ensures { result ≡ spec.common_indent (map piece_view pieces.now) }
+{
+    let mut least: Option<usize> = None;
+    'pieces: for piece in pieces {
+        least = smaller(least, indent_in(piece));
+    }
+    least.unwrap_or(0)
+}
+
+fn indent_in(piece: &Piece<'_>) -> Option<usize>
+    ensures { result ≡ spec.indent_in (piece_view piece.now) }
+{
+    match piece {
+        Piece::Words(words) => words.indent(),
+        _ => None,
+    }
+}
+
+fn smaller(a: Option<usize>, b: Option<usize>) -> Option<usize>
+    ensures { result ≡ spec.smaller a b }
+{
+    match (a, b) {
+        (None, b) => b,
+        (Some(m), None) => Some(m),
+        (Some(m), Some(n)) => Some(m.min(n)),
+    }
+}
+
+/// Takes the line feeds off the end, which is the front of the pattern.
+fn drop_feeds<'s>(out: &mut Vec<PatternElement<'s>>)
+    ensures { map element_view out.new.items ≡ spec.without_last spec.is_feed (map element_view out.old.items) }
+{
+    let mut end = out.len();
+    'feeds: while end > 0 && is_feed(&out[end - 1]) {
+        end -= 1;
+    }
+    out.truncate(end);
+}
+
+fn is_feed(element: &PatternElement<'_>) -> bool
+    ensures { result ≡ spec.is_feed (element_view element.now) }
+{
+    match element {
+        PatternElement::TextElement { value } => *value == "\n",
+        PatternElement::Placeable { .. } => false,
+    }
+}
+
+/// Where the last element is text, takes the spaces off its end, and takes it away where nothing is left.
+fn trim_last<'s>(out: &mut Vec<PatternElement<'s>>) -> Result<(), AllocError>
+    ensures { OnOk result (map element_view out.new.items ≡ spec.trim_last (map element_view out.old.items)) }
+{
+    match out.pop() {
+        None => Ok(()),
+        Some(PatternElement::TextElement { value }) => {
+            let value = without_spaces(value);
+            if !value.is_empty() {
+                out.push(PatternElement::TextElement { value })?;
+            }
+            Ok(())
+        }
+        Some(PatternElement::Placeable { expression }) => {
+            out.push(PatternElement::Placeable { expression })?;
+            Ok(())
+        }
+    }
+}
+
+/// The text without the spaces at its end.
+pub fn without_spaces(text: &str) -> &str
+    ensures { result.now ≡ spec.trim_spaces text.now }
+{
+    let bytes = text.as_bytes();
+    let mut end = bytes.len();
+    'spaces: while end > 0 && bytes[end - 1] == b' ' {
+        end -= 1;
+    }
+    &text[..end]
+}

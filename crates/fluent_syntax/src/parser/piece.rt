@@ -1,0 +1,143 @@
+//! The pieces of a pattern, as they are read.
+ghost use Rattle.std.specs.Prelude.{◌≡◌, ◌+◌, ◌<◌, ◌≤◌, ℕ, true, false, Some, length, drop, slice_index, unwrap_or, IfSome, MatchOption, [], ◌∷◌, ◌++◌};
+ghost use Rattle.fluent_syntax.specs.Layout.{dedented};
+ghost use Rattle.fluent_syntax.specs.Pieces as spec;
+ghost use Rattle.fluent_syntax.specs.Reading.{found};
+
+use crate::ast::Expression;
+use crate::parser::bytes::{Class, byte_at, run_len};
+use crate::parser::lines::{blank_block, blank_inline};
+use std::marker::Model;
+
+/// Text of one line, behind its indent where it stands at the start of the line.
+#[derive(Debug, Drop)]
+pub struct Slice<'s> {
+    indent: Option<usize>,
+    /// The indent and the text.
+    whole: &'s str,
+    /// The same with the line feed that follows directly, if one does.
+    fed: Option<&'s str>,
+}
+
+impl<'s> Model for Slice<'s> {
+    ghost use Rattle.fluent_syntax.specs.Layout.{Words, words_code};
+
+    ghost Value = { Words };
+
+    ghost coded = { words_code };
+
+    ghost use Rattle.fluent_syntax.specs.Slice.{words_of, Holds};
+
+    ghost view = { words_of };
+
+    ghost invariant = { Holds };
+}
+
+impl<'s> Slice<'s> {
+    /// The text at the front of `text`, which follows the indent in `line`.
+    #[tactic(auto, unfolding(crate::specs::Pieces::words_after, crate::specs::Parser::run1))]
+    fn read(line: &'s str, indent: Option<usize>, text: &'s str) -> Option<(Slice<'s>, &'s str)>
+        requires within { unwrap_or indent 0 ≤ length line.now }
+        requires spaces { (k : ℕ) → k < unwrap_or indent 0 → slice_index line.now k ≡ 32 }
+        requires follows { text.now ≡ drop (unwrap_or indent 0) line.now }
+        ensures gives { found (λ w. w) result ≡ spec.words_after indent text.now }
+        ensures shorter { IfSome result (λ p. length p.1.now < length text.now) }
+    {
+        let len = run_len(text, Class::Text);
+        if len == 0 {
+            return None;
+        }
+        let (whole, rest) = line.split_at(indent.unwrap_or(0) + len);
+        if byte_at(rest, 0) == b'\n' {
+            let fed = Some(&line[..whole.len() + 1]);
+            return Some((Slice { indent, whole, fed }, rest));
+        }
+        Some((
+            Slice {
+                indent,
+                whole,
+                fed: None,
+            },
+            rest,
+        ))
+    }
+
+    /// The text without a common indent.
+    pub fn text(&self, common: usize) -> &'s str
+        ensures { result.now ≡ dedented common self.now }
+    {
+        let whole = self.whole;
+        &whole[common.min(self.indent.unwrap_or(0))..]
+    }
+
+    /// The same with the line feed that follows directly, if one does.
+    pub fn fed_text(&self, common: usize) -> Option<&'s str>
+        ensures { MatchOption result (self.now.fed ≡ false)
+            (λ u. (self.now.fed ≡ true) × (u.now ≡ dedented common self.now ++ 10 ∷ [])) }
+    {
+        let fed = self.fed?;
+        Some(&fed[common.min(self.indent.unwrap_or(0))..])
+    }
+
+    pub fn indent(&self) -> Option<usize>
+        ensures { result ≡ self.now.indent }
+    {
+        self.indent
+    }
+}
+
+/// What a pattern is read into before its text is laid out.
+#[derive(Debug, Drop)]
+pub enum Piece<'s> {
+    /// So many line ends.
+    Line(usize),
+    Words(Slice<'s>),
+    Placeable(Expression<'s>),
+}
+
+/// `inline_text`
+pub fn inline_text<'s>(s: &'s str) -> Option<(Slice<'s>, &'s str)>
+    ensures { found (λ w. w) result ≡ spec.inline_text s.now }
+{
+    Slice::read(s, None, s)
+}
+
+/// `block_text`, by its line ends and its text.
+#[tactic(auto, unfolding(crate::specs::Pieces::block_text))]
+pub fn block_text<'s>(s: &'s str) -> Option<((usize, Slice<'s>), &'s str)>
+    ensures { found (λ p. p) result ≡ spec.block_text s.now }
+{
+    let (ends, line) = blank_block(s)?;
+    let (n, text) = blank_inline(line)?;
+    let next = byte_at(text, 0);
+    if next == b'[' || next == b'*' || next == b'.' {
+        return None;
+    }
+    let (words, rest) = Slice::read(line, Some(n), text)?;
+    Some(((ends, words), rest))
+}
+
+/// The indent before a placeable that begins a line.
+#[tactic(auto, unfolding(crate::specs::Pieces::indent))]
+pub fn indent<'s>(s: &'s str) -> (Slice<'s>, &'s str)
+    ensures { spec.indent s.now ≡ Some (result.0, result.1.now) }
+{
+    match blank_inline(s) {
+        Some((n, rest)) => (
+            Slice {
+                indent: Some(n),
+                whole: &s[..n],
+                fed: None,
+            },
+            rest,
+        ),
+        None => (
+            Slice {
+                indent: Some(0),
+                whole: "",
+                fed: None,
+            },
+            s,
+        ),
+    }
+}

@@ -1,0 +1,136 @@
+//! Selects: keys, variants and lists of them.
+ghost use Rattle.std.specs.Prelude.{◌≡◌, false, length};
+ghost use Rattle.fluent_syntax.specs.Expressions as spec;
+ghost use Rattle.fluent_syntax.specs.Parser as parser;
+ghost use Rattle.fluent_syntax.specs.Reading.{found, passed, Gives, all};
+ghost use Rattle.fluent_syntax.specs.Nests.{Reads};
+ghost use Rattle.fluent_syntax.specs.View.{key_view, inline_view, variant_view, expression_view};
+
+use crate::ast::{CallArguments, Expression, InlineExpression, Variant, VariantKey};
+use crate::parser::bytes::eat;
+use crate::parser::inner::Inner;
+use crate::parser::lines::{after_blank, after_spaces, identifier, line_end};
+use crate::parser::literal::number_literal;
+use crate::parser::pattern::pattern;
+use crate::parser::stop::Stop;
+use std::alloc::Global;
+
+/// Whether an expression may select a variant.
+pub fn is_selector(x: &InlineExpression) -> bool
+    ensures { result ≡ spec.is_selector (inline_view x.now) }
+{
+    match x {
+        InlineExpression::StringLiteral { .. } => true,
+        InlineExpression::NumberLiteral { .. } => true,
+        InlineExpression::FunctionReference { .. } => true,
+        InlineExpression::VariableReference { .. } => true,
+        InlineExpression::TermReference { attribute, .. } => attribute.is_some(),
+        InlineExpression::MessageReference { .. } => false,
+        InlineExpression::Placeable { .. } => false,
+    }
+}
+
+#[tactic(auto, unfolding(crate::specs::Expressions::arrow))]
+pub fn arrow(s: &str) -> Option<&str>
+    ensures { passed result ≡ spec.arrow s.now }
+{
+    let rest = eat(eat(after_blank(s), b'-')?, b'>')?;
+    Some(after_spaces(rest))
+}
+
+#[tactic(auto, unfolding(crate::specs::Expressions::key_inside))]
+fn key_inside<'s>(s: &'s str) -> Option<(VariantKey<'s>, &'s str)>
+    ensures { found key_view result ≡ spec.key_inside s.now }
+{
+    if let Some((value, rest)) = number_literal(s) {
+        return Some((VariantKey::NumberLiteral { value }, rest));
+    }
+    let (id, rest) = identifier(s)?;
+    Some((VariantKey::Identifier { name: id.name }, rest))
+}
+
+#[tactic(auto, unfolding(crate::specs::Expressions::variant_key))]
+fn variant_key<'s>(s: &'s str) -> Option<(VariantKey<'s>, &'s str)>
+    ensures { found key_view result ≡ spec.variant_key s.now }
+{
+    let rest = eat(s, b'[')?;
+    let (key, rest) = key_inside(after_blank(rest))?;
+    let rest = eat(after_blank(rest), b']')?;
+    Some((key, rest))
+}
+
+/// The key of a variant, with what stands around it.
+#[tactic(auto, unfolding(crate::specs::Expressions::variant_head))]
+fn variant_head<'s>(s: &'s str, default: bool) -> Option<(VariantKey<'s>, &'s str)>
+    ensures { found key_view result ≡ spec.variant_head default s.now }
+{
+    let rest = after_blank(line_end(s)?);
+    let rest = if default { eat(rest, b'*')? } else { rest };
+    let (key, rest) = variant_key(rest)?;
+    Some((key, after_spaces(rest)))
+}
+
+impl<
+    's,
+    F: Fn(Global, &'s str, usize) -> Result<(Expression<'s>, &'s str), Stop>,
+    G: Fn(Global, &'s str, usize) -> Result<(CallArguments<'s>, &'s str), Stop>,
+> Inner<F, G> {
+    #[tactic(auto, unfolding(crate::specs::Expressions::variant))]
+    fn variant(&self, s: &'s str, default: bool) -> Result<(Variant<'s>, &'s str), Stop>
+        requires braces { Reads expression_view (spec.level self.now.depth).braces self.now.depth (F.pre self.now.braces) (F.post self.now.braces) }
+        ensures { Gives variant_view result (spec.variant (spec.level self.now.depth) default s.now) }
+    {
+        let (key, rest) = variant_head(s, default).ok_or(Stop::Absent)?;
+        let (value, end) = pattern(self.alloc, rest, self.depth, &self.braces)?;
+        Ok((
+            Variant {
+                key,
+                value,
+                default,
+            },
+            end,
+        ))
+    }
+
+    /// Variants in order, of which exactly one is the default.
+    #[tactic(auto, unfolding(crate::specs::Expressions::variant_list))]
+    pub fn variant_list(&self, s: &'s str) -> Result<(Vec<Variant<'s>>, &'s str), Stop>
+        requires braces { Reads expression_view (spec.level self.now.depth).braces self.now.depth (F.pre self.now.braces) (F.post self.now.braces) }
+        ensures { Gives (all variant_view) result (spec.variant_list (spec.level self.now.depth) s.now) }
+    {
+        let (before, rest) = self.variants(s, Vec::new(self.alloc))?;
+        let (default, rest) = self.variant(rest, true)?;
+        let mut found = before;
+        found.push(default)?;
+        let (all, rest) = self.variants(rest, found)?;
+        let rest = line_end(rest).ok_or(Stop::Absent)?;
+        Ok((all, rest))
+    }
+
+    /// Adds the variants that come next, none of which is the default.
+    #[tactic(auto, using(crate::proofs::Turns::turns))]
+    fn variants(
+        &self,
+        s: &'s str,
+        mut found: Vec<Variant<'s>>,
+    ) -> Result<(Vec<Variant<'s>>, &'s str), Stop>
+        requires braces { Reads expression_view (spec.level self.now.depth).braces self.now.depth (F.pre self.now.braces) (F.post self.now.braces) }
+        ensures { Gives (all variant_view) result (parser.many_from parser.push (spec.variant (spec.level self.now.depth) false) (length s.now) (all variant_view found.entry) s.now) }
+    {
+        let mut rest = s;
+        'variants: for _turn in 0..s.len() {
+            match self.variant(rest, false) {
+                Ok((next, after)) => {
+                    if after.len() >= rest.len() {
+                        return Ok((found, rest));
+                    }
+                    found.push(next)?;
+                    rest = after;
+                }
+                Err(Stop::Absent) => return Ok((found, rest)),
+                Err(Stop::Memory) => return Err(Stop::Memory),
+            }
+        }
+        Ok((found, rest))
+    }
+}
