@@ -1,0 +1,9 @@
+pub mod DecimalDigits
+pub mod DecimalLength
+pub mod DecimalPlaces
+pub mod DecimalPoints
+pub mod DecimalReading
+pub mod DecimalText
+pub mod DecimalWhole
+pub mod Remainders
+pub mod OneOperands

@@ -1,0 +1,5 @@
+use Rattle.fluent_intl.proofs.DecimalText.{one_text}
+use Rattle.fluent_intl.proofs.decimal.laws.each_number_has_one_text.Goals as goal
+
+pub returns : goal.returns
+returns c = one_text

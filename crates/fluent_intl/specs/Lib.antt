@@ -1,0 +1,6 @@
+pub mod Decimal
+pub mod Options
+pub mod SameContent
+pub mod Number
+pub mod Operands
+pub mod Plurals
