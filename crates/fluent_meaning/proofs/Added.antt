@@ -1,0 +1,111 @@
+-- What adding does to a bundle.
+use Rattle.std.proofs.Common.{◌≡◌, ℕ, ◌+◌, ◌≤◌, List, [], ◌∷◌, ◌++◌, Bool, true, false, Option, Some, None, is_some, if◌then◌else◌, refl, sym, ap, ◌∙◌, arith, append_assoc, codes}
+use Rattle.fluent_syntax.specs.Tree as t
+use Rattle.fluent_syntax.specs.Tree.{Text, message_entry, term_entry, junk_entry}
+use Rattle.fluent_meaning.specs.Errors.{message_kind, term_kind}
+use Rattle.fluent_meaning.specs.Arguments.{Map, get, set, IsInOrder}
+use Rattle.fluent_meaning.specs.Bundle.{Bundle, Entry, a_message, a_term, a_function, number_builtin, is_message, is_term, is_function, Call, add_resource, add_resource_overriding, add_function, add_builtins, set_use_isolating, set_transform, set_formatter, set_placeable_limit, add_free, added, overridden, error_if_taken, not_added, after, after_all, answered}
+use Rattle.fluent_meaning.specs.Users.{IsAdding, last_entry}
+use Rattle.fluent_meaning.proofs.Maps.{get_set, unless_there, set_in_order}
+
+module _ {C : Type 0} where
+  one_thing : (e : Option (Entry C)) → (if is_message e then 1 else 0) + (if is_term e then 1 else 0) + (if is_function e then 1 else 0) ≤ 1
+  one_thing None = omega arith
+  one_thing (Some (a_message v as')) = omega arith
+  one_thing (Some (a_term p as')) = omega arith
+  one_thing (Some (a_function f)) = omega arith
+  one_thing (Some number_builtin) = omega arith
+
+  pub means_one_thing : (b : Bundle C) (id : Text) → (if is_message (get id b.ids) then 1 else 0) + (if is_term (get id b.ids) then 1 else 0) + (if is_function (get id b.ids) then 1 else 0) ≤ 1
+  means_one_thing b id = one_thing (get id b.ids)
+
+  added_keeps : (es : List t.Entry) (ids : Map (Entry C)) (id : Text) (e : Entry C) → get id ids ≡ Some e → get id (added es ids) ≡ Some e
+  added_keeps [] ids id e h = h
+  added_keeps (message_entry n v as' ∷ es) ids id e h = added_keeps es _ id e (unless_there id n (a_message v as') e ids h)
+  added_keeps (term_entry n p as' ∷ es) ids id e h = added_keeps es _ id e (unless_there id n (a_term p as') e ids h)
+  added_keeps (junk_entry source ∷ es) ids id e h = added_keeps es ids id e h
+
+  pub adding_keeps : (b : Bundle C) (c : Call C) (id : Text) (e : Entry C) → IsAdding c → get id b.ids ≡ Some e → get id (after c b).ids ≡ Some e
+  adding_keeps b (add_resource es) id e i h = added_keeps es b.ids id e h
+  adding_keeps b (add_resource_overriding es) id e i h = absurd i
+  adding_keeps b (add_function n f) id e i h = unless_there id n (a_function f) e b.ids h
+  adding_keeps b add_builtins id e i h = unless_there id (codes "NUMBER") number_builtin e b.ids h
+  adding_keeps b (set_use_isolating on) id e i h = absurd i
+  adding_keeps b (set_transform f) id e i h = absurd i
+  adding_keeps b (set_formatter f) id e i h = absurd i
+  adding_keeps b (set_placeable_limit n) id e i h = absurd i
+
+  overridden_last : (id : Text) (es : List t.Entry) (ids : Map (Entry C)) → get id (overridden es ids) ≡ last_entry id es (get id ids)
+  overridden_last id [] ids = refl
+  overridden_last id (message_entry n v as' ∷ es) ids = overridden_last id es _ ∙ ap (last_entry id es) (get_set id n (a_message v as') ids)
+  overridden_last id (term_entry n p as' ∷ es) ids = overridden_last id es _ ∙ ap (last_entry id es) (get_set id n (a_term p as') ids)
+  overridden_last id (junk_entry source ∷ es) ids = overridden_last id es ids
+
+  pub last_wins : (b : Bundle C) (id : Text) (es : List t.Entry) → get id (after (add_resource_overriding es) b).ids ≡ last_entry id es (get id b.ids)
+  last_wins b id es = overridden_last id es b.ids
+
+  added_cut : (es fs : List t.Entry) (ids : Map (Entry C)) → added (es ++ fs) ids ≡ added fs (added es ids)
+  added_cut [] fs ids = refl
+  added_cut (message_entry n v as' ∷ es) fs ids = added_cut es fs _
+  added_cut (term_entry n p as' ∷ es) fs ids = added_cut es fs _
+  added_cut (junk_entry source ∷ es) fs ids = added_cut es fs ids
+
+  overridden_cut : (es fs : List t.Entry) (ids : Map (Entry C)) → overridden (es ++ fs) ids ≡ overridden fs (overridden es ids)
+  overridden_cut [] fs ids = refl
+  overridden_cut (message_entry n v as' ∷ es) fs ids = overridden_cut es fs _
+  overridden_cut (term_entry n p as' ∷ es) fs ids = overridden_cut es fs _
+  overridden_cut (junk_entry source ∷ es) fs ids = overridden_cut es fs ids
+
+  not_added_cut : (es fs : List t.Entry) (ids : Map (Entry C)) → not_added (es ++ fs) ids ≡ not_added es ids ++ not_added fs (added es ids)
+  not_added_cut [] fs ids = refl
+  not_added_cut (message_entry n v as' ∷ es) fs ids = ap (λ l. error_if_taken message_kind n ids ++ l) (not_added_cut es fs _) ∙ sym (append_assoc (error_if_taken message_kind n ids) _ _)
+  not_added_cut (term_entry n p as' ∷ es) fs ids = ap (λ l. error_if_taken term_kind n ids ++ l) (not_added_cut es fs _) ∙ sym (append_assoc (error_if_taken term_kind n ids) _ _)
+  not_added_cut (junk_entry source ∷ es) fs ids = not_added_cut es fs ids
+
+  pub cut_adding : (b : Bundle C) (es fs : List t.Entry) → after (add_resource (es ++ fs)) b ≡ after (add_resource fs) (after (add_resource es) b)
+  cut_adding b es fs = ap (λ m. record b { ids = m }) (added_cut es fs b.ids)
+
+  pub cut_errors : (b : Bundle C) (es fs : List t.Entry) → answered (add_resource (es ++ fs)) b ≡ answered (add_resource es) b ++ answered (add_resource fs) (after (add_resource es) b)
+  cut_errors b es fs = not_added_cut es fs b.ids
+
+  pub cut_overriding : (b : Bundle C) (es fs : List t.Entry) → after (add_resource_overriding (es ++ fs)) b ≡ after (add_resource_overriding fs) (after (add_resource_overriding es) b)
+  cut_overriding b es fs = ap (λ m. record b { ids = m }) (overridden_cut es fs b.ids)
+
+  -- ---- each map of ids that calls make is in order
+
+  add_free_in_order : (id : Text) (e : Entry C) (ids : Map (Entry C)) → IsInOrder ids → IsInOrder (add_free id e ids)
+  add_free_in_order id e ids h = by (is_some (get id ids))
+    where
+      by : (b : Bool) → IsInOrder (if b then ids else set id e ids)
+      by true = h
+      by false = set_in_order id e ids h
+
+  added_in_order : (es : List t.Entry) (ids : Map (Entry C)) → IsInOrder ids → IsInOrder (added es ids)
+  added_in_order [] ids h = h
+  added_in_order (message_entry n v as' ∷ es) ids h = added_in_order es _ (add_free_in_order n (a_message v as') ids h)
+  added_in_order (term_entry n p as' ∷ es) ids h = added_in_order es _ (add_free_in_order n (a_term p as') ids h)
+  added_in_order (junk_entry source ∷ es) ids h = added_in_order es ids h
+
+  overridden_in_order : (es : List t.Entry) (ids : Map (Entry C)) → IsInOrder ids → IsInOrder (overridden es ids)
+  overridden_in_order [] ids h = h
+  overridden_in_order (message_entry n v as' ∷ es) ids h = overridden_in_order es _ (set_in_order n (a_message v as') ids h)
+  overridden_in_order (term_entry n p as' ∷ es) ids h = overridden_in_order es _ (set_in_order n (a_term p as') ids h)
+  overridden_in_order (junk_entry source ∷ es) ids h = overridden_in_order es ids h
+
+  limited_in_order : (n : ℕ) (b : Bundle C) (t : Bool) → IsInOrder b.ids → IsInOrder (if t then record b { limit = n } else b).ids
+  limited_in_order n b true h = h
+  limited_in_order n b false h = h
+
+  after_in_order : (c : Call C) (b : Bundle C) → IsInOrder b.ids → IsInOrder (after c b).ids
+  after_in_order (add_resource es) b h = added_in_order es b.ids h
+  after_in_order (add_resource_overriding es) b h = overridden_in_order es b.ids h
+  after_in_order (add_function n f) b h = add_free_in_order n (a_function f) b.ids h
+  after_in_order add_builtins b h = add_free_in_order (codes "NUMBER") number_builtin b.ids h
+  after_in_order (set_use_isolating on) b h = h
+  after_in_order (set_transform f) b h = h
+  after_in_order (set_formatter f) b h = h
+  after_in_order (set_placeable_limit n) b h = limited_in_order n b _ h
+
+  pub calls_in_order : (cs : List (Call C)) (b : Bundle C) → IsInOrder b.ids → IsInOrder (after_all cs b).ids
+  calls_in_order [] b h = h
+  calls_in_order (c ∷ cs) b h = calls_in_order cs (after c b) (after_in_order c b h)

@@ -1,0 +1,13 @@
+pub mod Related
+pub mod Budgets
+pub mod Deeper
+pub mod Strikes
+pub mod Limits
+pub mod Worked
+pub mod Counted
+pub mod Maps
+pub mod Added
+pub mod Answers
+pub mod Marked
+pub mod Quiet
+pub mod Readings

@@ -1,0 +1,155 @@
+-- Worked examples: references, environments, paths, functions, and the calls of a bundle.
+use Rattle.std.specs.Prelude.{◌≡◌, List, [], ◌∷◌, ◌++◌, Bool, true, false, None, codes}
+use Rattle.fluent_syntax.specs.Tree as t
+use Rattle.fluent_syntax.specs.Tree.{Text, Element, Pattern, nothing, no_attribute, attribute, pattern_of, text, message_entry, term_entry, string}
+use Rattle.fluent_syntax.specs.Fallback.{fallback, in_braces}
+use Rattle.fluent_meaning.specs.Value.{custom_value, no_value, error_value}
+use Rattle.fluent_meaning.specs.Arguments.{get}
+use Rattle.fluent_meaning.specs.Errors as errors
+use Rattle.fluent_meaning.specs.Errors.{Error, resolver_error, parser_error, overriding, message_kind, term_kind, function_kind, lost, to_function, to_message, to_term, to_variable, missing_default, too_many_placeables, error_text, reference_of}
+use Rattle.fluent_meaning.specs.Bundle.{Bundle, Function, Call, add_resource, add_resource_overriding, add_function, add_builtins, after, answered, found, without_value, message_target, is_message, is_term, is_function}
+use Rattle.fluent_meaning.specs.Examples.{NoCustom, only, say, put, var, str, num, msg, msg_attribute, own, own_with, fun, named, case, case_number, default, choose, entry, private, bundle, source, whole, with, words, answers, text_length, first_argument, F, P, texts, unknown_variable, cyclic, Writes, Gives}
+
+abbrev pub error : Text → Text
+error t = codes "Resolver error: " ++ t
+
+abbrev pub itself : Bundle NoCustom
+itself = source (entry "foo" (put (msg "foo") ∷ []) ∷ [])
+
+abbrev pub twin : List Element
+twin = choose (var "n") (case_number "1" (say "x" ∷ []) ∷ default "other" (put (own_with "t" [] (named "n" (num "1") ∷ [])) ∷ []) ∷ []) ∷ []
+
+-- a message and a term of one content
+abbrev pub twins : Bundle NoCustom
+twins = source (entry "a" twin ∷ private "t" twin ∷ [])
+
+abbrev pub prefixed : Bundle NoCustom
+prefixed = source (entry "foo" (say "x" ∷ put (msg "foo") ∷ []) ∷ [])
+
+-- patterns that refer to themselves, by their content
+pub record Cycles : Type 0 where
+  pub itself : Gives itself [] "foo" (codes "{foo}") (cyclic ∷ [])
+  pub same_content : Gives twins (with "n" (whole 2)) "a" (codes "{-t}") (cyclic ∷ [])
+  pub added_again : Gives (after (add_resource_overriding (private "t" twin ∷ [])) twins) (with "n" (whole 2)) "a" (codes "{-t}") (cyclic ∷ [])
+  pub by_hand : Writes prefixed [] (pattern_of (say "x" ∷ put (msg "foo") ∷ [])) (codes "x{foo}") (cyclic ∷ [])
+  pub other_content : Writes prefixed [] (pattern_of (say "x" ∷ say "" ∷ put (msg "foo") ∷ [])) (codes "xx{foo}") (cyclic ∷ [])
+
+abbrev pub terms : Bundle NoCustom
+terms = source (private "u" (say "u" ∷ []) ∷ private "t" (put (own "u") ∷ put (var "n") ∷ []) ∷ private "v" (put (var "n") ∷ [])
+    ∷ entry "m" (put (var "n") ∷ []) ∷ private "w" (put (msg "m") ∷ [])
+    ∷ entry "outer" (put (own_with "t" [] (named "n" (num "1") ∷ [])) ∷ [])
+    ∷ entry "missing" (put (own "v") ∷ [])
+    ∷ entry "below" (put (own_with "w" [] (named "n" (num "1") ∷ [])) ∷ [])
+    ∷ entry "twice" (put (own "u") ∷ put (own "u") ∷ [])
+    ∷ entry "positional" (put (own_with "u" (var "q" ∷ []) []) ∷ [])
+    ∷ entry "last" (put (own_with "v" [] (named "n" (num "1") ∷ named "n" (num "2") ∷ [])) ∷ []) ∷ [])
+
+-- terms and their environments
+pub record Terms : Type 0 where
+  pub outer_stands_again : Gives terms (with "n" (whole 9)) "outer" (codes "u" ++ (F ++ (codes "1" ++ P))) []
+  pub missing : Gives terms (with "n" (whole 9)) "missing" (codes "{$n}") []
+  pub below_a_message : Gives terms (with "n" (whole 9)) "below" (codes "1") []
+  pub twice : Gives terms [] "twice" (codes "uu") []
+  pub positional : Gives terms [] "positional" (codes "u") (unknown_variable "q" ∷ [])
+  pub last_of_a_name : Gives terms [] "last" (codes "2") []
+
+abbrev pub attributes : Bundle NoCustom
+attributes = source (message_entry (codes "k") None ((codes "x", pattern_of (say "v" ∷ [])) ∷ []) ∷ entry "a" (put (msg "k") ∷ []) ∷ entry "b" (put (msg_attribute "k" "x") ∷ []) ∷ entry "c" (put (msg_attribute "k" "y") ∷ [])
+    ∷ entry "d" (put (fun "F" (var "q" ∷ []) []) ∷ []) ∷ [])
+
+-- what can't be found
+pub record Lost : Type 0 where
+  pub without_value : Gives attributes [] "a" (codes "{k}") (error (codes "No value: k") ∷ [])
+  pub attribute : Gives attributes [] "b" (codes "v") []
+  pub no_attribute : Gives attributes [] "c" (codes "{k.y}") (error (codes "Unknown attribute: k.y") ∷ [])
+  pub function : Gives attributes [] "d" (codes "{F()}") (unknown_variable "q" ∷ error (codes "Unknown function: F()") ∷ [])
+  pub no_reference : in_braces (fallback (str "x")) ≡ codes "{\"x\"}"
+  pub no_error : reference_of (str "x") ≡ None
+
+abbrev pub with_function : Function NoCustom → Bundle NoCustom
+with_function f = bundle (add_function (codes "F") f ∷ add_resource (entry "p" (say "a" ∷ put (fun "F" [] []) ∷ say "b" ∷ [])
+    ∷ entry "s" (choose (fun "F" [] []) (case "a" (say "x" ∷ []) ∷ default "b" (say "y" ∷ []) ∷ []) ∷ [])
+    ∷ entry "l" (put (fun "F" (str "12345" ∷ []) []) ∷ []) ∷ entry "q" (put (fun "F" (str "q" ∷ []) []) ∷ []) ∷ entry "r" (put (fun "F" [] []) ∷ []) ∷ []) ∷ [])
+
+abbrev pub without_function : Bundle NoCustom
+without_function = source (entry "s" (choose (fun "F" [] []) (case "a" (say "x" ∷ []) ∷ default "b" (say "y" ∷ []) ∷ []) ∷ []) ∷ entry "x" (put (fun "NUMBER" (var "n" ∷ []) []) ∷ []) ∷ [])
+
+-- functions of the application, and their answers
+pub record Functions : Type 0 where
+  pub none : Gives (with_function (answers no_value)) [] "p" (codes "a" ++ (F ++ (P ++ codes "b"))) []
+  pub error : Gives (with_function (answers error_value)) [] "p" (codes "a" ++ (F ++ (codes "F()" ++ (P ++ codes "b")))) []
+  pub length : Gives (with_function text_length) [] "l" (codes "5") []
+  pub argument : Gives (with_function first_argument) [] "q" (codes "q") []
+  pub no_argument : Gives (with_function first_argument) [] "r" (codes "F()") []
+  pub selects_text : Gives (with_function (answers (words "a"))) [] "s" (codes "x") []
+  pub selects_number : Gives (with_function (answers (whole 1))) [] "s" (codes "y") []
+  pub selects_custom : Gives (with_function (answers (custom_value only))) [] "s" (codes "y") []
+  pub selects_none : Gives (with_function (answers no_value)) [] "s" (codes "y") []
+  pub selects_error : Gives (with_function (answers error_value)) [] "s" (codes "y") []
+  pub unknown_selects : Gives without_function [] "s" (codes "y") []
+  pub missing_argument : Gives without_function [] "x" (codes "NUMBER()") (unknown_variable "n" ∷ [])
+
+abbrev pub ids_of : Bundle NoCustom → List Bool
+ids_of b = is_message (get (codes "foo") b.ids) ∷ is_term (get (codes "foo") b.ids) ∷ is_function (get (codes "foo") b.ids) ∷ []
+
+abbrev pub empty : Bundle NoCustom
+empty = bundle []
+
+abbrev pub foos : Call NoCustom
+foos = add_resource (entry "foo" (say "a" ∷ []) ∷ private "foo" (say "b" ∷ []) ∷ [])
+
+abbrev pub three : List t.Entry
+three = entry "a" (say "1" ∷ []) ∷ entry "a" (say "2" ∷ []) ∷ private "a" (say "3" ∷ []) ∷ []
+
+abbrev pub added_later : Call NoCustom → Bundle NoCustom
+added_later c = after c (bundle (add_resource (entry "a" (put (fun "F" [] []) ∷ []) ∷ entry "b" (put (msg "foo") ∷ []) ∷ entry "foo" (say "x" ∷ []) ∷ []) ∷ []))
+
+abbrev pub no_builtin : Bundle NoCustom
+no_builtin = bundle (add_builtins ∷ add_resource_overriding (entry "NUMBER" (say "n" ∷ []) ∷ entry "p" (put (fun "NUMBER" (num "5" ∷ []) []) ∷ []) ∷ entry "q" (put (msg "NUMBER") ∷ []) ∷ []) ∷ [])
+
+abbrev pub repeated_attribute : Bundle NoCustom
+repeated_attribute = source (message_entry (codes "k") None ((codes "x", pattern_of (say "1" ∷ [])) ∷ (codes "x", pattern_of (say "2" ∷ [])) ∷ []) ∷ [])
+
+abbrev pub welcome : Bundle NoCustom
+welcome = source (entry "intro" (say "Welcome, " ∷ put (var "name") ∷ say "." ∷ []) ∷ [])
+
+-- adding, overriding, and what an id means
+pub record Adding : Type 0 where
+  pub taken : texts (answered foos empty) ≡ codes "Attempt to override an existing term: \"foo\"." ∷ []
+  pub first_stands : Gives (after foos empty) [] "foo" (codes "a") []
+  pub term_wins : ids_of (after (add_resource_overriding (private "foo" (say "c" ∷ []) ∷ [])) (after foos empty)) ≡ false ∷ true ∷ false ∷ []
+  pub builtins_twice : texts (answered add_builtins (bundle (add_builtins ∷ []))) ≡ codes "Attempt to override an existing function: \"NUMBER\"." ∷ []
+  pub builtins_stay : after add_builtins (bundle (add_builtins ∷ [])) ≡ bundle (add_builtins ∷ [])
+  pub message_taken : texts (answered (add_resource (entry "intro" (say "Hi, " ∷ put (var "name") ∷ say "." ∷ []) ∷ [])) welcome) ≡ codes "Attempt to override an existing message: \"intro\"." ∷ []
+  pub message_stands : Gives (after (add_resource (entry "intro" (say "Hi, " ∷ put (var "name") ∷ say "." ∷ []) ∷ [])) welcome) (with "name" (words "John")) "intro" (codes "Welcome, " ++ (F ++ (codes "John" ++ (P ++ codes ".")))) []
+  pub greeting : Gives (bundle (add_resource (entry "hello" (say "Hi!" ∷ []) ∷ entry "goodbye" (say "Bye!" ∷ []) ∷ []) ∷ add_resource_overriding (entry "hello" (say "Another Hi!" ∷ []) ∷ []) ∷ [])) [] "hello" (codes "Another Hi!") []
+  pub in_order : answered (add_resource three) empty ≡ overriding message_kind (codes "a") ∷ overriding term_kind (codes "a") ∷ []
+  pub first_of_three : Gives (after (add_resource three) empty) [] "a" (codes "1") []
+  pub no_message : is_message (get (codes "a") (after (add_resource_overriding three) empty).ids) ≡ false
+  pub a_term : is_term (get (codes "a") (after (add_resource_overriding three) empty).ids) ≡ true
+  pub no_value : message_target (get (codes "k") repeated_attribute.ids) no_attribute ≡ without_value
+  pub first_attribute : message_target (get (codes "k") repeated_attribute.ids) (attribute (codes "x")) ≡ found (pattern_of (say "1" ∷ []))
+  pub over_a_function : Gives no_builtin [] "p" (codes "{NUMBER()}") (error (codes "Unknown function: NUMBER()") ∷ [])
+  pub its_message : Gives no_builtin [] "q" (codes "n") []
+  pub function_later : Gives (added_later (add_function (codes "F") (answers (words "f")))) [] "a" (codes "f") []
+  pub message_not_yet : Gives (bundle (add_resource (entry "a" (put (msg "b") ∷ []) ∷ []) ∷ [])) [] "a" (codes "{b}") (error (codes "Unknown message: b") ∷ [])
+  pub message_later : Gives (bundle (add_resource (entry "a" (put (msg "b") ∷ []) ∷ []) ∷ add_resource (entry "b" (say "1" ∷ []) ∷ []) ∷ [])) [] "a" (codes "1") []
+  pub message_overridden : Gives (bundle (add_resource (entry "a" (put (msg "b") ∷ []) ∷ []) ∷ add_resource (entry "b" (say "1" ∷ []) ∷ []) ∷ add_resource_overriding (entry "b" (say "2" ∷ []) ∷ []) ∷ [])) [] "a" (codes "2") []
+  pub no_longer : Gives (added_later (add_resource_overriding (private "foo" (say "y" ∷ []) ∷ []))) [] "b" (codes "{foo}") (error (codes "Unknown message: foo") ∷ [])
+  pub nothing_named : is_message (get (codes "F") (source []).ids) ≡ false
+  pub no_function : is_function (get (codes "F") (source []).ids) ≡ false
+
+-- the texts of errors
+pub record ErrorTexts : Type 0 where
+  pub function : error_text (resolver_error (lost (to_function (codes "F")))) ≡ codes "Resolver error: Unknown function: F()"
+  pub message : error_text (resolver_error (lost (to_message (codes "id") no_attribute))) ≡ codes "Resolver error: Unknown message: id"
+  pub message_attribute : error_text (resolver_error (lost (to_message (codes "id") (attribute (codes "attr"))))) ≡ codes "Resolver error: Unknown attribute: id.attr"
+  pub term : error_text (resolver_error (lost (to_term (codes "id") no_attribute))) ≡ codes "Resolver error: Unknown term: -id"
+  pub term_attribute : error_text (resolver_error (lost (to_term (codes "id") (attribute (codes "attr"))))) ≡ codes "Resolver error: Unknown attribute: -id.attr"
+  pub variable : error_text (resolver_error (lost (to_variable (codes "x")))) ≡ codes "Resolver error: Unknown variable: $x"
+  pub no_value : error_text (resolver_error (errors.no_value (codes "id"))) ≡ codes "Resolver error: No value: id"
+  pub missing_default : error_text (resolver_error missing_default) ≡ codes "Resolver error: No default"
+  pub cyclic : error_text (resolver_error errors.cyclic) ≡ codes "Resolver error: Cyclical dependency detected"
+  pub too_many : error_text (resolver_error too_many_placeables) ≡ codes "Resolver error: Too many placeables"
+  pub parser : error_text (parser_error 6 13) ≡ codes "Parser error: unreadable entry at bytes 6..13"
+  pub overriding : error_text (overriding function_kind (codes "NUMBER")) ≡ codes "Attempt to override an existing function: \"NUMBER\"."

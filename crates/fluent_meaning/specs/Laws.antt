@@ -1,0 +1,66 @@
+-- The laws, as statements.
+use Rattle.std.specs.Prelude.{◌≡◌, ℕ, ◌+◌, ◌-◌, ◌*◌, ◌<◌, ◌≤◌, ◌↔◌, length, List, ◌∷◌, ◌++◌}
+use Rattle.fluent_syntax.specs.Tree.{Text, Pattern}
+use Rattle.fluent_meaning.specs.Errors.{Error, resolver_error, too_many_placeables}
+use Rattle.fluent_meaning.specs.Bundle.{Bundle, stored}
+use Rattle.fluent_meaning.specs.Walk.{Environment, inner, whole}
+use Rattle.fluent_meaning.specs.Meaning.{Budget, left, struck, at_most, Outcome, Ran, nothing_more, within_budget, run, substituted, meaning}
+use Rattle.fluent_meaning.specs.Strike.{Until, passed, stopped, up_to_strike}
+use Rattle.fluent_meaning.specs.Work.{with_work, work, most_nodes}
+
+-- What a pattern means within a budget is one walk over it, with the same meaning for those that it refers to.
+abbrev pub RunsByItself : Type 0 → Type 0
+RunsByItself C = (b : Bundle C) (env : Environment C) (path : List Pattern) (p : Pattern) (budget : Budget) → run b env path p budget ≡ whole within_budget b (run b) env path p budget
+
+-- So it is with its counts, which stand beside the run itself.
+pub record CountsByItself (C : Type 0) : Type 0 where
+  pub is_the_run : (b : Bundle C) (env : Environment C) (path : List Pattern) (p : Pattern) (budget : Budget) → (work b env path p budget).ran ≡ run b env path p budget
+  pub counts : (b : Bundle C) (env : Environment C) (path : List Pattern) (p : Pattern) (budget : Budget) → work b env path p budget ≡ whole with_work b (work b) env path p budget
+
+-- A run never adds to its budget, and struck stays struck.
+pub record NeverAdds (C : Type 0) : Type 0 where
+  pub less : (b : Bundle C) (env : Environment C) (path : List Pattern) (p : Pattern) (budget : Budget) → at_most (run b env path p budget).budget ≤ at_most budget
+  pub stays : (b : Bundle C) (env : Environment C) (path : List Pattern) (p : Pattern) → run b env path p struck ≡ nothing_more
+
+-- From the count of stored patterns plus one on, every depth gives the same outcome by substitution.
+abbrev pub IsSettled : Type 0 → Type 0
+IsSettled C = (b : Bundle C) (n : ℕ) (env : Environment C) (path : List Pattern) (p : Pattern) → length (stored b) < n → substituted b n env path p ≡ meaning b env path p
+
+-- The budget is struck exactly where more is opened than the limit.
+abbrev pub StrikesBeyond : Type 0 → Type 0
+StrikesBeyond C = (b : Bundle C) (env : Environment C) (path : List Pattern) (p : Pattern) (limit : ℕ) → (run b env path p (left limit)).budget ≡ struck ↔ limit < (meaning b env path p).opened
+
+-- Where no more is opened, text and errors are the same, and what is left is the limit less what was opened.
+abbrev pub SameWithin : Type 0 → Type 0
+SameWithin C = (b : Bundle C) (env : Environment C) (path : List Pattern) (p : Pattern) (limit : ℕ) → (meaning b env path p).opened ≤ limit →
+    run b env path p (left limit) ≡ record { value = (meaning b env path p).value; errors = (meaning b env path p).errors; budget = left (limit - (meaning b env path p).opened) }
+
+abbrev pub Begins : {A : Type 0} → List A → List A → Type 0
+Begins {A} xs ys = (rest : List A) × (ys ≡ xs ++ rest)
+
+-- A run was struck: its text is the text at the strike, some text, and what closes the opened placeables; its errors are those before the strike, the strike's, and some more.
+pub record Stops (t : Text) (es : List Error) (closing : Text) (r : Ran Text) : Type 0 where
+  pub budget : r.budget ≡ struck
+  pub more : List Error
+  pub errors : r.errors ≡ es ++ resolver_error too_many_placeables ∷ more
+  pub middle : Text
+  pub text : r.value ≡ t ++ (middle ++ closing)
+
+-- The text at the strike and the errors before it begin both meanings.
+abbrev pub IsStrikeOf : Until Text → Outcome Text → Ran Text → Type 0
+IsStrikeOf (passed x es n) o r = ⊥
+IsStrikeOf (stopped t es closing) o r = Begins t o.value × Begins es o.errors × Stops t es closing r
+
+abbrev pub StrikeBeginsBoth : Type 0 → Type 0
+StrikeBeginsBoth C = (b : Bundle C) (env : Environment C) (path : List Pattern) (p : Pattern) (limit : ℕ) → limit < (meaning b env path p).opened →
+    IsStrikeOf (up_to_strike b env path p limit) (meaning b env path p) (run b env path p (left limit))
+
+-- A run with a limit opens at most so many placeables, its path grows by at most so many patterns, and each opened placeable enters at most as many patterns as its expression has nodes.
+pub record IsBounded {C : Type 0} (b : Bundle C) (env : Environment C) (path : List Pattern) (p : Pattern) (limit : ℕ) : Type 0 where
+  pub is_the_run : (work b env path p (left limit)).ran ≡ run b env path p (left limit)
+  pub opened : (work b env path p (left limit)).opened ≤ limit
+  pub longest : (work b env path p (left limit)).longest ≤ length (inner path p) + limit
+  pub entered : (work b env path p (left limit)).entered ≤ 1 + limit * most_nodes b p
+
+abbrev pub WorkIsBounded : Type 0 → Type 0
+WorkIsBounded C = (b : Bundle C) (env : Environment C) (path : List Pattern) (p : Pattern) (limit : ℕ) → IsBounded b env path p limit

@@ -1,0 +1,17 @@
+pub mod Number
+pub mod Errors
+pub mod Value
+pub mod Arguments
+pub mod Bundle
+pub mod Walk
+pub mod Meaning
+pub mod Strike
+pub mod Work
+pub mod Result
+pub mod Laws
+pub mod Users
+pub mod Marks
+pub mod Examples
+pub mod ExamplesText
+pub mod ExamplesReferences
+pub mod ExamplesLimit

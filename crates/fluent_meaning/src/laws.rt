@@ -1,0 +1,56 @@
+//! Laws of the meanings.
+
+ghost use Rattle.fluent_meaning.specs.Marks.{MarksAreBalanced};
+ghost use Rattle.fluent_meaning.specs.Users.{IsMap, MeansOneThing, AddingKeeps, LastWins, CutsAlike, NothingIsSame, TermsAreClosed, StrikesOnce, AlikeGiveTheSame, ReadsAsDefined};
+ghost use Rattle.fluent_meaning.specs.Laws.{RunsByItself, CountsByItself, NeverAdds, IsSettled, StrikesBeyond, SameWithin, StrikeBeginsBoth, WorkIsBounded};
+
+/// The work of each run is bounded by its limit.
+pub fn work_is_bounded<C>()
+    ensures { WorkIsBounded C }
+{}
+
+/// Where the budget is struck, and what the meanings have in common.
+pub fn meanings_agree<C>()
+    ensures beyond { StrikesBeyond C }
+    ensures within { SameWithin C }
+    ensures begins { StrikeBeginsBoth C }
+{}
+
+/// The substitution meaning is settled.
+pub fn meaning_is_settled<C>()
+    ensures { IsSettled C }
+{}
+
+/// The budgeted meaning is one walk over a pattern, with itself below.
+pub fn budgets_pass_through<C>()
+    ensures runs { RunsByItself C }
+    ensures counts { CountsByItself C }
+    ensures never_adds { NeverAdds C }
+{}
+
+/// What arguments, ids and values come to.
+pub fn users_rely_on<C>()
+    ensures one_thing { MeansOneThing C }
+    ensures adding { AddingKeeps C }
+    ensures overriding { LastWins C }
+    ensures cuts { CutsAlike C }
+    ensures values { NothingIsSame C }
+    ensures terms { TermsAreClosed C }
+    ensures strikes { StrikesOnce C }
+    ensures alike { AlikeGiveTheSame C }
+{}
+
+/// As many opening as closing marks are written, where nothing else brings any.
+pub fn marks_are_balanced<C>()
+    ensures { MarksAreBalanced C }
+{}
+
+/// Numbers are read as the decimals' definition says.
+pub fn numbers_read_as_defined()
+    ensures { ReadsAsDefined }
+{}
+
+/// Maps by texts: what is set last stands, each key once and in order, and look-ups tell a map.
+pub fn maps_are_told_by_look_ups<A>()
+    ensures { IsMap A }
+{}
