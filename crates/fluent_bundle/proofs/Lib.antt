@@ -1,0 +1,12 @@
+pub mod Keyed
+pub mod Looking
+pub mod Took
+pub mod Along
+pub mod Cases
+pub mod Views
+pub mod Elements
+pub mod Related
+pub mod Limits
+pub mod Formats
+pub mod Running
+pub mod Plain

@@ -1,0 +1,14 @@
+pub use Rattle.fluent_meaning.specs.Errors
+pub use Rattle.fluent_meaning.specs.Walk
+pub use Rattle.fluent_meaning.specs.Meaning
+pub mod Value
+pub mod ByText
+pub mod View
+pub mod State
+pub mod BundleView
+pub mod Interim
+pub mod Plain
+pub mod Written
+pub mod Scoped
+pub mod Agree
+pub mod Formatted

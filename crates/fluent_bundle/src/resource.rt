@@ -1,0 +1,78 @@
+//! A source with what was read from it.
+ghost use Rattle.std.specs.Prelude.{◌≡◌, map};
+ghost use Rattle.std.specs.Option.{option_map};
+ghost use Rattle.std.specs.List.{slice_get};
+ghost use Rattle.std.specs.Slice.Iter.{iter_rest};
+ghost use Rattle.fluent_syntax.specs.View.{entry_view};
+ghost use Rattle.fluent_bundle.specs.BundleView.{Tried, entries_of};
+
+use fluent_syntax::{ParseFault, ParserError, ast, parse_runtime};
+use std::alloc::Global;
+use std::slice::Iter;
+
+/// An FTL source and its entries.
+#[derive(Debug, Drop)]
+pub struct FluentResource<'s> {
+    source: &'s str,
+    body: ast::Resource<'s>,
+}
+
+/// Why a source gave no resource, or not a clean one.
+#[derive(Debug, Drop)]
+pub enum TryNewFault<'s> {
+    /// Parts of the source can't be read. The resource is whole and usable, with a Junk for each error.
+    Parser(FluentResource<'s>, Vec<ParserError>),
+    /// Memory was refused.
+    Memory,
+}
+
+/// The entries of a resource from the front.
+pub type Entries<'x, 's> = Iter<'x, ast::Entry<'s>>;
+
+impl<'s> FluentResource<'s> {
+    /// Reads a source (Fluent Syntax 1.0).
+    ///
+    /// # Errors
+    ///
+    /// `Parser` where the source holds Junk, with the resource and an error for each Junk, in order;
+    /// `Memory` where memory was refused.
+    pub fn try_new(alloc: Global, source: &'s str) -> Result<FluentResource<'s>, TryNewFault<'s>>
+        ensures { Tried source.now result }
+    {
+        match parse_runtime(alloc, source) {
+            Ok(body) => Ok(FluentResource { source, body }),
+            Err(ParseFault::Parser(body, errors)) => {
+                Err(TryNewFault::Parser(FluentResource { source, body }, errors))
+            }
+            Err(ParseFault::Memory) => Err(TryNewFault::Memory),
+        }
+    }
+
+    /// The text that the resource was read from.
+    pub fn source(&self) -> &'s str
+        ensures { result.now ≡ self.now.source.now }
+    {
+        self.source
+    }
+
+    /// The entries in order. Junk counts as an entry, comments do not.
+    pub fn entries(&self) -> Entries<'_, 's>
+        ensures { map entry_view (iter_rest result) ≡ entries_of self.now }
+    {
+        self.body.body.iter()
+    }
+
+    /// The entry at an index, or `None` past the end. Junk counts as an entry.
+    pub fn get_entry(&self, index: usize) -> Option<&ast::Entry<'s>>
+        ensures { option_map (λ e. entry_view e.now) result ≡ slice_get (entries_of self.now) index }
+    {
+        self.body.body.get(index)
+    }
+
+    /// The entries as a slice.
+    pub(crate) fn all(&self) -> &[ast::Entry<'s>]
+        ensures { map entry_view result.now ≡ entries_of self.now }
+    {
+        self.body.body.as_slice()
+    }
+}
