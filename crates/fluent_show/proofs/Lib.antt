@@ -1,0 +1,4 @@
+pub mod Lines
+pub mod Adding
+pub mod Taking
+pub mod Coming

@@ -1,0 +1,9 @@
+pub mod Words
+pub mod Input
+pub mod WordsView
+pub mod Ending
+pub mod EndingView
+pub mod Said
+pub mod Program
+pub mod Outcome
+pub mod Far

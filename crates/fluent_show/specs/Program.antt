@@ -1,0 +1,90 @@
+-- What the program shows and says, as a function of its words and the bytes of its input.
+use Rattle.std.specs.Prelude.{ℕ, Bool, List, [], ◌∷◌, ◌++◌, map, Option, Some, None, if◌then◌else◌}
+use Rattle.std.specs.Option.{option_and_then}
+use Rattle.std.specs.Str.{is_utf8}
+use Rattle.std.specs.FinMap.{empty, insert}
+use Rattle.fluent_syntax.specs.Tree.{Text, Pattern, Entry}
+use Rattle.fluent_syntax.specs.Chunks.{entries, junk_ranges}
+use Rattle.fluent_bundle.specs.Errors.{Error, parser_error}
+use Rattle.fluent_bundle.specs.Value.{text_value}
+use Rattle.fluent_bundle.specs.ByText.{Arguments}
+use Rattle.fluent_bundle.specs.State.{State, start, after, add, isolate, overridden, message_at}
+use Rattle.fluent_show.specs.Words.{Asked, asked_by}
+use Rattle.fluent_show.specs.Ending.{Ending, shown, no_message, bad_usage, not_utf8, status, said}
+use Rattle.fluent_bundle.specs.Meaning.{Ran}
+use Rattle.fluent_bundle.specs.Interim.{budgeted}
+
+-- What a run writes on its output, the errors that it reports in order, and how it ends.
+pub record Run : Type 0 where
+  pub output : Text
+  pub errors : List Error
+  pub ending : Ending
+
+-- nothing to show and to report
+abbrev pub only : Ending → Run
+only ending = record { output = []; errors = []; ending = ending }
+
+-- the arguments after these were set in order; the last of a repeated name stands
+abbrev pub with_arguments : List (Text × Text) → Arguments → Arguments
+with_arguments [] a = a
+with_arguments (p ∷ ps) a = with_arguments ps (insert a p.0 (text_value p.1))
+
+-- the errors of a source's Junks, in order
+abbrev pub error_at : ℕ × ℕ → Error
+error_at range = parser_error range.0 range.1
+
+-- the bundle of one resource
+abbrev pub bundle_of : Bool → List Entry → State
+bundle_of on entries = after (add entries) (after (isolate on) start)
+
+-- a run that reports these errors before its own
+abbrev pub after_errors : List Error → Run → Run
+after_errors before r = record { output = r.output; errors = before ++ r.errors; ending = r.ending }
+
+-- a text with a line feed after it, and what is wrong with it
+abbrev pub run_text : Ran Text → Run
+run_text r = record { output = r.value ++ 10 ∷ []; errors = r.errors; ending = shown }
+
+-- a message's value under the arguments, if there is one
+abbrev pub run_value : Asked → State → Option Pattern → Run
+run_value asked bundle None = only (no_message asked.id)
+run_value asked bundle (Some pattern) = run_text (budgeted bundle (with_arguments asked.arguments empty) pattern)
+
+-- the value of the message that an id names
+abbrev pub value_at : Text → State → Option Pattern
+value_at id bundle = option_and_then (λ content. content.value) (message_at id bundle)
+
+-- the message that was asked for, in a bundle of these entries alone
+abbrev pub run_entries : Asked → List Entry → Run
+run_entries asked entries =
+    let bundle = bundle_of asked.isolate entries in
+    after_errors (overridden entries start) (run_value asked bundle (value_at asked.id bundle))
+
+-- the same of a source, whose Junks are reported first
+abbrev pub run_source : Asked → Text → Run
+run_source asked source = after_errors (map error_at (junk_ranges source)) (run_entries asked (entries source))
+
+abbrev pub run_input : Asked → List ℕ → Run
+run_input asked bytes = if is_utf8 bytes then run_source asked bytes else only not_utf8
+
+abbrev pub run_asked : Option Asked → List ℕ → Run
+run_asked None bytes = only bad_usage
+run_asked (Some asked) bytes = run_input asked bytes
+
+abbrev pub run_of : List Text → List ℕ → Run
+run_of words bytes = run_asked (asked_by words) bytes
+
+-- ---- what a caller sees
+
+-- status, output and the text on standard error
+pub record Answer : Type 0 where
+  pub status : ℕ
+  pub output : Text
+  pub errors : Text
+
+abbrev pub answer : Run → Answer
+answer r = record { status = status r.ending; output = r.output; errors = said r.errors r.ending }
+
+-- the program: words and the bytes of the input to status, output and error text
+abbrev pub program : List Text → List ℕ → Answer
+program words bytes = answer (run_of words bytes)

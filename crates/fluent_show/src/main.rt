@@ -1,0 +1,54 @@
+//! Shows one message of an FTL source that stands on standard input.
+#![tactic(auto)]
+
+mod input;
+mod report;
+mod request;
+mod run;
+mod show;
+#[cfg(test)]
+mod tests;
+
+ghost use Rattle.std.specs.Prelude.{◌≡◌, ◌≢◌};
+ghost use Rattle.std.specs.IoError.{error_kind};
+ghost use Rattle.fluent_show.specs.Ending.{bad_usage, out_of_memory};
+ghost use Rattle.fluent_show.specs.EndingView.{ending_view};
+
+use fluent_bundle::Counting;
+use input::Reads;
+use report::Ending;
+use run::run;
+use std::io::ErrorKind;
+use std::process::ExitCode;
+use std::{env, io};
+
+/// The words after the program's name.
+fn words(rt: &HostRuntime) -> io::Result<Vec<String>> {
+    let mut words = Vec::new(rt.alloc());
+    for word in env::args(rt)?.skip(1) {
+        words.push(word)?;
+    }
+    Ok(words)
+}
+
+/// Words that can't be had end the program, too: one that is no text is a fault of usage.
+fn refusal(error: &io::Error) -> Ending<'static>
+    ensures memory { error_kind error.now ≡ ErrorKind.OutOfMemory → ending_view result ≡ out_of_memory }
+    ensures word { error_kind error.now ≢ ErrorKind.OutOfMemory → ending_view result ≡ bad_usage }
+{
+    match error.kind() {
+        ErrorKind::OutOfMemory => Ending::Memory,
+        _ => Ending::Usage,
+    }
+}
+
+fn main(rt: HostRuntime) -> ExitCode {
+    let mut input = Reads::new(rt.stdin());
+    let mut out = Counting::new(rt.stdout());
+    let mut err = Counting::new(rt.stderr());
+    let status = match words(&rt) {
+        Ok(words) => run(rt.alloc(), words.as_slice(), &mut input, &mut out, &mut err),
+        Err(error) => report::say(refusal(&error), &mut err),
+    };
+    ExitCode::from(status)
+}
