@@ -1,0 +1,102 @@
+//! Placeables and argument lists stand in one another up to a depth of 100, counted together.
+use crate::shown::shown;
+use std::alloc::{AllocError, Global};
+use std::test::Fail;
+
+/// What stands in front, what opens, what stands inside, what closes, what stands behind.
+type Nest = [&'static str; 5];
+
+/// A text that opens and closes so many times.
+fn nested(alloc: Global, nest: Nest, times: usize) -> Result<String, AllocError> {
+    let [front, open, inner, close, back] = nest;
+    let mut out = String::from_str(alloc, front)?;
+    for _ in 0..times {
+        out.push_str(open)?;
+    }
+    out.push_str(inner)?;
+    for _ in 0..times {
+        out.push_str(close)?;
+    }
+    out.push_str(back)?;
+    Ok(out)
+}
+
+/// Sources of depth 100, with their trees.
+const DEEPEST: [(Nest, usize, Nest, usize); 5] = [
+    (
+        ["d = ", "{", "\"x\"", "}", ""],
+        100,
+        ["d=[", "{", "\"x\"", "}", "]"],
+        100,
+    ),
+    (
+        ["d = { ", "F(", "", ")", " }"],
+        99,
+        ["d=[{F(", "F(", "", "),", ")}]"],
+        98,
+    ),
+    (
+        ["d = { ", "-t(", "$x", ")", " }"],
+        99,
+        ["d=[{-t(", "-t(", "$x,", "),", ")}]"],
+        98,
+    ),
+    (
+        ["d = ", "{F(", "$x", ")}", ""],
+        50,
+        ["d=[{F(", "{F(", "$x,", ")},", ")}]"],
+        49,
+    ),
+    (
+        ["d = ", "{ $b ->\n *[c] ", "x", "\n }", ""],
+        100,
+        ["d=[", "{$b->*c[", "(x)", "]}", "]"],
+        100,
+    ),
+];
+
+/// Sources that go deeper by one.
+const DEEPER: [(Nest, usize); 6] = [
+    (["d = ", "{", "\"x\"", "}", ""], 101),
+    (["d = { ", "F(", "", ")", " }"], 100),
+    (["d = { ", "-t(", "$x", ")", " }"], 100),
+    (["d = ", "{F(", "{$x}", ")}", ""], 50),
+    (["d = {", "F({", "G()", "})", "}"], 50),
+    (["d = ", "{ $b ->\n *[c] ", "x", "\n }", ""], 101),
+];
+
+#[test]
+fn a_hundred_are_read(rt: HostRuntime) -> Result<(), Fail> {
+    for (nest, times, tree, tree_times) in DEEPEST {
+        let source = nested(rt.alloc(), nest, times)?;
+        let wanted = nested(rt.alloc(), tree, tree_times)?;
+        let found = shown(rt.alloc(), source.as_str())?;
+        assert_eq!(rt; found.as_str(), wanted.as_str());
+    }
+    Ok(())
+}
+
+#[test]
+fn one_more_is_junk(rt: HostRuntime) -> Result<(), Fail> {
+    for (nest, times) in DEEPER {
+        let source = nested(rt.alloc(), nest, times)?;
+        let text = source.as_str();
+        let wanted = format!(in rt.alloc(); "!({text}) 0..{}", text.len())?;
+        let found = shown(rt.alloc(), text)?;
+        assert_eq!(rt; found.as_str(), wanted.as_str());
+    }
+    Ok(())
+}
+
+/// What opens and never closes is read in a time that grows with its length alone.
+#[test]
+fn unclosed_is_junk(rt: HostRuntime) -> Result<(), Fail> {
+    for open in ["{", "{ F(", "{ -t(", "{ \"x", "{ $b ->\n *[c] "] {
+        let source = nested(rt.alloc(), ["d = ", open, "", "", ""], 1000)?;
+        let text = source.as_str();
+        let wanted = format!(in rt.alloc(); "!({text}) 0..{}", text.len())?;
+        let found = shown(rt.alloc(), text)?;
+        assert_eq!(rt; found.as_str(), wanted.as_str());
+    }
+    Ok(())
+}
