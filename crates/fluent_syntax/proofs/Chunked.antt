@@ -1,16 +1,16 @@
 -- What a chunk takes, and how a source goes on behind it.
-use Rattle.std.proofs.Common.{◌≡◌, ◌==◌, ◌||◌, ℕ, zero, suc, ◌+◌, ◌-◌, ◌<◌, ◌≤◌, Bool, true, false, List, [], ◌∷◌, ◌++◌, length, take, drop, get_or, Option, Some, None, if◌then◌else◌, refl, sym, ap, ◌∙◌, subst, arith, length-append, length-drop, append_assoc, append-nil, IsUtf8}
+use Rattle.std.proofs.Common.{◌≡◌, ◌==◌, ◌||◌, ℕ, zero, suc, ◌+◌, ◌-◌, ◌<◌, ◌≤◌, List, [], ◌∷◌, ◌++◌, length, drop, Some, None, refl, sym, ap, ◌∙◌, subst, arith, length-append, length-drop, append_assoc, append-nil, IsUtf8}
 use Rattle.std.proofs.Math.Seq.{take-append_seam}
 use Rattle.std.proofs.lemmas.Str.{IsCharBoundary-at_seam}
 use Rattle.std.specs.Str.{IsCharBoundary}
 use Rattle.std.proofs.lemmas.Bool.Decides.{nat_tests}
 use Rattle.fluent_syntax.specs.Tree.{Entry}
-use Rattle.fluent_syntax.specs.Parser.{Read, Parser, ◌>>=◌, ◌>>◌, ◌<$>◌, ◌<|>◌, pure, ignore, skip, count, run_len, run, byte, first}
+use Rattle.fluent_syntax.specs.Parser.{Read, ◌>>◌, ◌<$>◌, pure, ignore, skip, count, run_len, run, byte, first}
 use Rattle.fluent_syntax.specs.Lexical.{is_inside, blank_block}
 use Rattle.fluent_syntax.specs.Entries.{entry}
 use Rattle.fluent_syntax.specs.Chunks.{may_begin_entry, rest_of_line, comment_line, junk_line, junk, Part, part, entry_part, blank_part, junk_part, Chunk, chunk, with_bytes, taken, followed_by, chunks_within, chunks, entry_of, entries_of, junk_range, ranges_from}
 use Rattle.fluent_syntax.proofs.Runs.{run_len-stops}
-use Rattle.fluent_syntax.proofs.Fronts.{TakesTo, Takes, takes-bind, takes-then, takes-map, takes-or, takes-pure, takes-ignore, takes-skip, takes-if, takes-unless, takes-count, takes-run, takes-byte, Lessens, Eats, eats-bind, eats-then, eats-map, eats-or, eats-byte, run_less, then_less, no_longer}
+use Rattle.fluent_syntax.proofs.Fronts.{TakesTo, Takes, takes-then, takes-map, takes-or, takes-pure, takes-ignore, takes-skip, takes-unless, takes-count, takes-run, takes-byte, Lessens, Eats, eats-then, eats-map, eats-or, eats-byte, run_less, then_less, no_longer}
 use Rattle.fluent_syntax.proofs.LexicalFronts.{takes-blank_block}
 use Rattle.fluent_syntax.proofs.Rules.{eats-blank_block, takes-entry, eats-entry}
 
@@ -48,7 +48,7 @@ eats-comment_line : Eats comment_line
 unfolding comment_line
 eats-comment_line = eats-then (byte 35) rest_of_line (eats-byte 35) takes-rest_of_line
 
-takes-junk_line : Takes junk_line
+pub takes-junk_line : Takes junk_line
 unfolding junk_line
 takes-junk_line = takes-unless (λ s. length s == 0 || may_begin_entry (first s)) rest_of_line takes-rest_of_line
 

@@ -1,10 +1,10 @@
 -- Lists without their last elements, and from the last.
-use Rattle.std.proofs.Common.{◌≡◌, ℕ, zero, suc, ◌+◌, ◌-◌, ◌<◌, ◌≤◌, Bool, true, false, cond, map, List, [], ◌∷◌, ◌++◌, length, get_or, take, drop, refl, sym, ap, ◌∙◌, arith, Option, Some, None, IsSome, ◌↔◌, append_assoc, append-nil, length-append, length-drop, add-one}
+use Rattle.std.proofs.Common.{◌≡◌, ℕ, zero, suc, ◌+◌, ◌-◌, ◌<◌, ◌≤◌, Bool, true, map, List, [], ◌∷◌, ◌++◌, length, get_or, take, drop, refl, sym, ap, ◌∙◌, arith, append_assoc, append-nil, length-append, length-drop, add-one}
 use Rattle.std.specs.Prelude.{reverse}
 use Rattle.std.specs.List.{prefix_len, suffix_len}
 use Rattle.std.proofs.Math.Seq.{take-append_seam}
-use Rattle.std.proofs.lemmas.List.{length-map, get_or-map, take-map, reverse-append, map-append, take-append-drop}
-use Rattle.std.proofs.lemmas.List.Sums.{suffix_len-take_no, suffix_len-take_yes, suffix_len-le-length}
+use Rattle.std.proofs.lemmas.List.{length-map, take-map, reverse-append, map-append, take-append-drop}
+use Rattle.std.proofs.lemmas.List.Sums.{suffix_len-take_yes}
 use Rattle.fluent_syntax.specs.Layout.{without_last, trimmed, trim_last}
 use Rattle.fluent_syntax.specs.Tree.{Element}
 use Rattle.fluent_syntax.specs.Backwards.{backwards}

@@ -1,19 +1,18 @@
 -- Every entry of a source is well-formed, and its placeables and argument lists stand no deeper than 100.
-use Rattle.std.proofs.Common.{◌≡◌, ℕ, zero, suc, ◌<◌, ◌≤◌, List, [], ◌∷◌, ◌++◌, length, Option, Some, None, All, refl, sym, ap, ◌∙◌, subst, arith}
+use Rattle.std.proofs.Common.{ℕ, zero, suc, ◌<◌, ◌≤◌, List, [], ◌∷◌, ◌++◌, length, Option, Some, None, All, sym, subst, arith}
 use Rattle.std.proofs.lemmas.List.Elements.{All-nil, All-cons, All-append}
-use Rattle.fluent_syntax.specs.Parser.{Read, Parser, ◌>>=◌, ◌>>◌, ◌<$>◌, ◌<|>◌, pure, skip, many, push, byte}
-use Rattle.fluent_syntax.specs.Tree.{Text, Pattern, Attributes, Entry, message_entry, term_entry}
+use Rattle.fluent_syntax.specs.Parser.{Read, ◌<|>◌, pure, skip, many, push, byte}
+use Rattle.fluent_syntax.specs.Tree.{Text, Pattern, Attributes, message_entry, term_entry}
 use Rattle.fluent_syntax.specs.Lexical.{line_end, blank, blank_block}
-use Rattle.fluent_syntax.specs.Pieces.{pattern}
 use Rattle.fluent_syntax.specs.Expressions.{level}
 use Rattle.fluent_syntax.specs.Entries as n
 use Rattle.fluent_syntax.specs.Entries.{value, name_of_value, attribute, value_first, attributes_alone, entry}
-use Rattle.fluent_syntax.specs.Chunks.{comment_line, junk, Part, part, entry_part, blank_part, junk_part, part_entry, Chunk, chunk, with_bytes, chunks, entries_of, entries}
+use Rattle.fluent_syntax.specs.Chunks.{comment_line, junk, Part, part, entry_part, blank_part, junk_part, part_entry, Chunk, with_bytes, chunks, entries_of}
 use Rattle.fluent_syntax.specs.WellFormed.{IsWellFormedPattern, AreWellFormedAttributes, IsWellFormedValue, IsWellFormedEntry}
 use Rattle.fluent_syntax.specs.TreeLaws.{AllWellFormed}
-use Rattle.fluent_syntax.proofs.Fronts.{takes-then, takes-byte}
+use Rattle.fluent_syntax.proofs.Fronts.{takes-byte}
 use Rattle.fluent_syntax.proofs.LexicalFronts.{takes-line_end, takes-blanks, takes-blank_block}
-use Rattle.fluent_syntax.proofs.Sound.{Holds, Sound, sound-any, sound-bind, sound-read, sound-then, sound-pure, sound-map, sound-or, sound-all}
+use Rattle.fluent_syntax.proofs.Sound.{Holds, Sound, sound-bind, sound-read, sound-then, sound-pure, sound-map, sound-or, sound-all}
 use Rattle.fluent_syntax.proofs.Trees.{sound-braces, sound-pattern}
 use Rattle.fluent_syntax.proofs.Rules.{takes-name_of_value}
 use Rattle.fluent_syntax.proofs.Chunked.{takes-comment_line, takes-junk, chunks-none, chunks-next, chunk_lens, chunk_shorter}

@@ -10,7 +10,7 @@ use Rattle.fluent_syntax.specs.ChunkLaws.{bytes_of}
 use Rattle.fluent_syntax.specs.FrontLaws.{ReadByFront, ReadFromThereOn}
 use Rattle.fluent_syntax.proofs.Chunked.{chunks-none, chunks-next}
 use Rattle.fluent_syntax.proofs.ChunkLaws.{by_chunk, made_of_chunks}
-use Rattle.fluent_syntax.proofs.Near.{Near, NearTo}
+use Rattle.fluent_syntax.proofs.Near.{two_alike, Near, NearTo}
 use Rattle.fluent_syntax.proofs.NearRules.{near-identifier, near-variable_reference, near-message_reference, near-name_of_value, near-variant_head, near-words_after, near-blank, near-comment_line, near-junk}
 use Rattle.fluent_syntax.proofs.NearStrings.{near-literal, near-named_argument}
 
@@ -35,7 +35,7 @@ read_from_there_on s before behind e = from_there s before behind e
 -- ---- rules
 
 by_front : {A : Type 0} (p : Parser A) → Near p → (s : List ℕ) → ReadByFront p s
-by_front p h s x behind e = subst (NearTo p s) e (h.near s)
+by_front p h s x behind e = let (front, g, more) = subst (NearTo p s) e (h.near s) in (front, g, λ other same. more other (two_alike other behind same))
 
 -- names, and what stands before a value
 pub identifier_by_front : (s : List ℕ) → ReadByFront identifier s

@@ -1,15 +1,19 @@
--- An entry looks on: its front and the two bytes behind it don't say what is read.
+-- An entry looks on: its front and the two bytes behind it don't say what is read. Its front alone does, before what ends it.
 use Rattle.std.proofs.Common.{◌≡◌, ℕ, List, [], ◌∷◌, ◌++◌, length, Some, None, refl, sym, ap, ◌∙◌, append_assoc, arith}
 use Rattle.std.specs.Prelude.{codes}
-use Rattle.fluent_syntax.specs.Tree.{Text, Entry, message_entry, junk_entry, Element, text, placeable, inline, message, no_attribute, pattern_of}
-use Rattle.fluent_syntax.specs.FrontLaws.{ReadByFront}
+use Rattle.fluent_syntax.specs.Tree.{Text, Entry, message_entry, Element, text, placeable, inline, message, no_attribute, pattern_of}
+use Rattle.fluent_syntax.specs.FrontLaws.{ReadByFront, EndsEntry, nothing_more, line_breaks, entry_line}
+use Rattle.fluent_syntax.proofs.Known.{lefts}
+use Rattle.fluent_syntax.proofs.Leads.{true_false}
+use Rattle.fluent_syntax.proofs.KnownEntries.{entry_before}
+use Rattle.std.proofs.lemmas.List.{append_cancel_right}
 use Rattle.fluent_syntax.specs.Parser.{Read, many_from, byte, run1}
 use Rattle.fluent_syntax.specs.Lexical.{identifier, blank_inline, line_break, line_end, blank_line, blank_block, blank_turn, blank, variable_reference}
 use Rattle.fluent_syntax.specs.Layout as y
 use Rattle.fluent_syntax.specs.Pieces as t
 use Rattle.fluent_syntax.specs.Expressions as e
 use Rattle.fluent_syntax.specs.Entries as n
-use Rattle.fluent_syntax.specs.Chunks.{rest_of_line, comment_line, junk_line, junk, part, chunks_within, entries, junk_ranges}
+use Rattle.fluent_syntax.specs.Chunks.{rest_of_line, comment_line, junk_line, junk, part, chunks_within}
 
 -- a message without attributes
 abbrev message_of : Text → List Element → Entry
@@ -35,3 +39,41 @@ entry_looks_on h =
     let whole : front ++ codes " {c}" ≡ codes "a = b\n {c}" = sym (append_assoc front (codes " {c") (codes "}")) ∙ ap (λ w. w ++ codes "}") (sym e) in
     let k : 4 ≡ 0 = ap left (sym (more (codes " {c}") refl) ∙ (ap n.entry whole ∙ goes_on)) in
     absurd (omega (arith, k))
+
+-- ---- what ends an entry
+
+abbrev Ends : Text → Type 0
+Ends behind = EndsEntry behind
+
+-- the next entry, a comment behind blank lines, Junk, and the end of the text
+before_next : Ends (codes "c = d")
+unfolding many_from byte run1 blank_inline line_break line_end blank_line line_breaks
+before_next = (0, codes "c = d", refl, refl)
+
+before_comment : Ends (codes "  \n# d")
+unfolding many_from byte run1 blank_inline line_break line_end blank_line line_breaks
+before_comment = (1, codes "# d", refl, refl)
+
+before_junk : Ends (codes "  }")
+unfolding many_from byte run1 blank_inline line_break line_end blank_line line_breaks
+before_junk = (0, codes "  }", refl, refl)
+
+before_nothing : Ends []
+unfolding many_from byte run1 blank_inline line_break line_end blank_line line_breaks
+before_nothing = (0, [], refl, refl)
+
+-- a brace doesn't, on whichever line it is
+brace_ends_none : Ends (codes " {c}") → ⊥
+unfolding many_from byte run1 blank_inline line_break line_end blank_line line_breaks
+brace_ends_none h = true_false (nothing_more h.1) h.3 (ap nothing_more (sym (lefts 0 h.0 (codes " {c}") h.1 h.2)))
+
+before_entry : entry_line (codes "a = b\nc = d") ≡ Some (message_of (codes "a") (text (codes "b") ∷ []), codes "c = d")
+unfolding many_from byte run1 identifier blank_inline line_break line_end blank_line blank_block blank_turn blank variable_reference e.hex_digit e.hex_digits e.escape e.quoted_turn e.string_literal e.digits e.number_parts e.number_literal e.literal e.attribute_access e.message_reference e.function_reference e.optional_call e.term_reference e.inline_expression e.named_argument e.argument e.comma e.argument_comma e.argument_list e.call_arguments e.key_inside e.variant_key e.variant_head e.variant e.variant_list e.arrow e.expression e.inline_placeable e.level t.words_after t.block_text t.indent t.block_placeable t.pattern_element t.pieces y.lines y.elements n.value n.name_of_value n.attribute n.value_first n.attributes_alone n.message n.term entry_line
+before_entry = refl
+
+-- so the line is that message before all that ends it
+alone : (other : Text) → Ends other → n.entry (codes "a = b\n" ++ other) ≡ Some (message_of (codes "a") (text (codes "b") ∷ []), other)
+alone other h =
+    let (front, e, more) = entry_before (codes "a = b\nc = d") (message_of (codes "a") (text (codes "b") ∷ [])) (codes "c = d") before_entry before_next in
+    let same : codes "a = b\n" ≡ front = append_cancel_right (codes "a = b\n") front (codes "c = d") e in
+    ap (λ u. n.entry (u ++ other)) same ∙ more other h

@@ -1,9 +1,9 @@
 -- The rules that hold no other take a front of the text.
-use Rattle.std.proofs.Common.{◌==◌, ◌+◌, length, ℕ, List, [], ◌∷◌, true, false, Bool, Option, Some, None, refl, if◌then◌else◌}
+use Rattle.std.proofs.Common.{◌==◌, ◌+◌, length, ℕ, [], true, false, Bool, Option, Some, None, refl}
 use Rattle.std.specs.Prelude.{unwrap_or}
 use Rattle.fluent_syntax.specs.Tree.{no_attribute, attribute, name_key, number_key}
 use Rattle.fluent_syntax.specs.Parser.{Parser, ◌>>=◌, ◌>>◌, pure, optional, ignore, skip, count, first, byte, run, run1}
-use Rattle.fluent_syntax.specs.Lexical.{is_letter, is_space, is_identifier_byte, identifier, blank_inline, at_end, line_break, line_end, blank_line, blank_block, blank_turn, blank, variable_reference, is_text}
+use Rattle.fluent_syntax.specs.Lexical.{is_letter, is_space, is_identifier_byte, identifier, blank_inline, at_end, line_break, line_end, blank_line, blank_block, blank_turn, blank, is_text}
 use Rattle.fluent_syntax.specs.Expressions.{quoted_turn, number_parts, string_literal, number_literal, attribute_access, comma, key_inside, variant_key, star, variant_head, arrow}
 use Rattle.fluent_syntax.specs.Pieces.{follows, words_after, is_indented, indented_text, block_text, indent}
 use Rattle.fluent_syntax.proofs.Fronts.{Takes, takes-bind, takes-pure, takes-then, takes-map, takes-ignore, takes-or, takes-skip, takes-count, takes-run, takes-run1, takes-byte, takes-test, takes-nothing, takes-source_of, takes-optional, takes-if}
@@ -32,7 +32,7 @@ takes-blank_turn : Takes blank_turn
 unfolding blank_turn
 takes-blank_turn = takes-or (ignore blank_inline) line_end (takes-ignore blank_inline takes-blank_inline) takes-line_end
 
-takes-blank : Takes blank
+pub takes-blank : Takes blank
 unfolding blank
 takes-blank = takes-then blank_turn (ignore (count blank_turn)) takes-blank_turn (takes-ignore (count blank_turn) (takes-count blank_turn takes-blank_turn))
 
@@ -59,7 +59,7 @@ takes-key_inside : Takes key_inside
 unfolding key_inside
 takes-key_inside = takes-or _ _ (takes-map number_key number_literal takes-number_literal) (takes-map name_key identifier takes-identifier)
 
-takes-variant_key : Takes variant_key
+pub takes-variant_key : Takes variant_key
 unfolding variant_key
 takes-variant_key = takes-then (byte 91) _ (takes-byte 91) (takes-then (skip blank) _ takes-blanks (takes-bind key_inside _ takes-key_inside (λ k. takes-then (skip blank) _ takes-blanks (takes-then (byte 93) (pure k) (takes-byte 93) (takes-pure k)))))
 

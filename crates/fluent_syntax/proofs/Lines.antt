@@ -1,8 +1,8 @@
 -- The lines of a pattern, piece by piece.
-use Rattle.std.proofs.Common.{◌≡◌, ◌&&◌, Bool, true, false, List, [], ◌∷◌, ◌++◌, drop, refl, sym, ap, ◌∙◌, ◌<◌, ◌≤◌, length, arith}
+use Rattle.std.proofs.Common.{◌≡◌, ◌&&◌, Bool, true, false, List, [], ◌∷◌, ◌++◌, drop, refl, sym, ◌∙◌, ◌<◌, ◌≤◌, length, arith}
 use Rattle.std.specs.Prelude.{ℕ}
-use Rattle.fluent_syntax.specs.Tree.{Text, Element, text}
-use Rattle.fluent_syntax.specs.Layout.{Words, Piece, words, dedented, joined, lines, starts_line, unless_empty}
+use Rattle.fluent_syntax.specs.Tree.{Text, text}
+use Rattle.fluent_syntax.specs.Layout.{Words, Piece, words, dedented, lines, starts_line, unless_empty}
 
 -- a text whose line feed follows
 pub words_fed : (common : ℕ) (w : Words) (done : List Piece) (u : Text) → w.fed ≡ true → true ≡ starts_line done → u ≡ dedented common w ++ 10 ∷ []

@@ -1,5 +1,5 @@
--- A rule is read by the front that it takes and the two bytes behind it.
-use Rattle.std.proofs.Common.{◌≡◌, ◌==◌, ℕ, zero, suc, ◌+◌, ◌-◌, ◌<◌, ◌≤◌, Bool, true, false, List, [], ◌∷◌, ◌++◌, length, take, drop, Some, None, if◌then◌else◌, refl, sym, ap, ◌∙◌, subst, append_assoc, nat_lt, take-append-drop, arith, length-append, inl, inr}
+-- A rule is read by the front that it takes and what shows of the text behind it: two bytes, or a closing bracket or a line feed alone.
+use Rattle.std.proofs.Common.{◌≡◌, ◌==◌, ◌||◌, ℕ, zero, suc, ◌+◌, ◌-◌, ◌<◌, ◌≤◌, Bool, true, false, List, [], ◌∷◌, ◌++◌, length, take, drop, Some, None, if◌then◌else◌, refl, sym, ap, ◌∙◌, subst, append_assoc, nat_lt, take-append-drop, arith, length-append, inl, inr}
 use Rattle.std.proofs.lemmas.Bool.{cases_Bool}
 use Rattle.std.proofs.lemmas.Bool.Decides.{nat_tests}
 use Rattle.fluent_syntax.specs.Parser.{Read, Parser, ◌>>=◌, ◌>>◌, ◌<$>◌, ◌<|>◌, and_then, otherwise, pure, ignore, skip, many_from, turn, go_on, count, one_more, run_len, run, run1, byte, first}
@@ -7,44 +7,64 @@ use Rattle.fluent_syntax.specs.Expressions.{taken, source_of}
 use Rattle.fluent_syntax.proofs.Turns.{more as a_turn}
 use Rattle.fluent_syntax.proofs.Chunked.{taken_is}
 
--- ---- two bytes
+-- ---- what shows of a text
 
--- texts that begin with the same two bytes
+-- `)`, `}` or a line feed: no rule looks behind it
+unfoldable pub closes : ℕ → Bool
+closes c = (c == 41 || c == 125) || c == 10
+
+-- the first two bytes, or one behind which no rule looks
+abbrev pub shows : List ℕ → List ℕ
+shows [] = []
+shows (a ∷ s) = if closes a then a ∷ [] else a ∷ take 1 s
+
+-- texts of which the same shows
 abbrev pub Alike2 : List ℕ → List ℕ → Type 0
-Alike2 s t = take 2 s ≡ take 2 t
+Alike2 s t = shows s ≡ shows t
 
 abbrev pub second : List ℕ → ℕ
 second s = first (drop 1 s)
 
-one_of : (s : List ℕ) → first (take 2 s) ≡ first s
+one_of : (s : List ℕ) → first (shows s) ≡ first s
 one_of [] = refl
-one_of (a ∷ s) = refl
+one_of (a ∷ s) = elim (cases_Bool (closes a)) [ inl shut ↦ rw shut refl | inr clear ↦ rw clear refl ]
 
-two_of : (s : List ℕ) → second (take 2 s) ≡ second s
-two_of [] = refl
-two_of (a ∷ []) = refl
-two_of (a ∷ b ∷ s) = refl
+two_of : (s : List ℕ) → closes (first s) ≡ false → second (shows s) ≡ second s
+two_of [] e = refl
+two_of (a ∷ []) e = rw e refl
+two_of (a ∷ b ∷ s) e = rw e refl
 
 pub one_seen : (s t : List ℕ) → Alike2 s t → first s ≡ first t
 one_seen s t e = sym (one_of s) ∙ (ap first e ∙ one_of t)
 
-pub two_seen : (s t : List ℕ) → Alike2 s t → second s ≡ second t
-two_seen s t e = sym (two_of s) ∙ (ap second e ∙ two_of t)
+pub two_seen : (s t : List ℕ) → closes (first s) ≡ false → Alike2 s t → second s ≡ second t
+two_seen s t n e = sym (two_of s n) ∙ (ap second e ∙ two_of t (ap closes (sym (one_seen s t e)) ∙ n))
+
+some_shows : (a : ℕ) (s : List ℕ) → 0 < length (shows (a ∷ s))
+some_shows a s = elim (cases_Bool (closes a)) [ inl shut ↦ rw shut (omega arith) | inr clear ↦ rw clear (omega arith) ]
 
 pub end_seen : (s : List ℕ) → Alike2 s [] → s ≡ []
 end_seen [] e = refl
-end_seen (a ∷ []) e = absurd (omega (arith, ap length e))
-end_seen (a ∷ b ∷ s) e = absurd (omega (arith, ap length e))
+end_seen (a ∷ s) e = absurd (omega (arith, ap length e, some_shows a s))
 
-take1_of : (s : List ℕ) → take 1 (take 2 s) ≡ take 1 s
+take1_of : (s : List ℕ) → take 1 (shows s) ≡ take 1 s
 take1_of [] = refl
-take1_of (a ∷ s) = refl
+take1_of (a ∷ s) = elim (cases_Bool (closes a)) [ inl shut ↦ rw shut refl | inr clear ↦ rw clear refl ]
 
 -- behind the same front
 pub behind_front : (u s t : List ℕ) → Alike2 s t → Alike2 (u ++ s) (u ++ t)
 behind_front [] s t e = e
-behind_front (a ∷ []) s t e = ap (λ w. a ∷ w) (sym (take1_of s) ∙ (ap (take 1) e ∙ take1_of t))
+behind_front (a ∷ []) s t e = ap (λ w. if closes a then a ∷ [] else a ∷ w) (sym (take1_of s) ∙ (ap (take 1) e ∙ take1_of t))
 behind_front (a ∷ b ∷ u) s t e = refl
+
+-- the same two bytes show the same
+shows_two : (s : List ℕ) → shows (take 2 s) ≡ shows s
+shows_two [] = refl
+shows_two (a ∷ []) = refl
+shows_two (a ∷ b ∷ s) = refl
+
+pub two_alike : (s t : List ℕ) → take 2 s ≡ take 2 t → Alike2 s t
+two_alike s t e = sym (shows_two s) ∙ (ap shows e ∙ shows_two t)
 
 -- ---- rules
 
@@ -66,7 +86,7 @@ after p f s a t (Some q) (u, e, more) (v, g, behind) = (
   e ∙ (ap (λ x. u ++ x) g ∙ sym (append_assoc u v q.1)),
   λ o same.
       ap (λ z. and_then (p z) f) (append_assoc u v o)
-      ∙ (ap (λ z. and_then z f) (more (v ++ o) (behind_front v o q.1 same ∙ ap (take 2) (sym g)))
+      ∙ (ap (λ z. and_then z f) (more (v ++ o) (behind_front v o q.1 same ∙ ap shows (sym g)))
       ∙ behind o same),
 )
 
@@ -89,7 +109,7 @@ near-map f p h = near-bind p (λ x. pure (f x)) h (λ x. near-pure (f x))
 second_read : {A : Type 0} (p q : Parser A) (s : List ℕ) (r : Read A) → p s ≡ None → Shuts p → NearTo q s r → NearTo (p <|> q) s r
 second_read p q s None n c h = tt
 second_read p q s (Some x) n c (u, e, more) =
-    (u, e, λ o same. ap (λ z. otherwise z q (u ++ o)) (c.shut s (u ++ o) (ap (take 2) e ∙ sym (behind_front u o x.1 same)) n) ∙ more o same)
+    (u, e, λ o same. ap (λ z. otherwise z q (u ++ o)) (c.shut s (u ++ o) (ap shows e ∙ sym (behind_front u o x.1 same)) n) ∙ more o same)
 
 chosen : {A : Type 0} (p q : Parser A) (s : List ℕ) (r : Read A) → p s ≡ r → NearTo p s r → Shuts p → Near q → NearTo (p <|> q) s (otherwise r q s)
 chosen p q s None n h c k = second_read p q s (q s) n c (k.near s)
@@ -144,7 +164,7 @@ pub record Sees (b : List ℕ → Bool) : Type 0 where
 tested : {A : Type 0} (b : List ℕ → Bool) (p : Parser A) (s : List ℕ) (r : Read A) → b s ≡ true → Sees b → NearTo p s r → NearTo (λ s. if b s then p s else None) s r
 tested b p s None e v h = tt
 tested b p s (Some q) e v (u, g, more) =
-    (u, g, λ o same. ap (λ w. if w then p (u ++ o) else None) (v.sees (u ++ o) s (behind_front u o q.1 same ∙ ap (take 2) (sym g)) ∙ e) ∙ more o same)
+    (u, g, λ o same. ap (λ w. if w then p (u ++ o) else None) (v.sees (u ++ o) s (behind_front u o q.1 same ∙ ap shows (sym g)) ∙ e) ∙ more o same)
 
 pub near-if : {A : Type 0} (b : List ℕ → Bool) (p : Parser A) → Sees b → Near p → Near (λ s. if b s then p s else None)
 near-if {A = A} b p v h = record { near = λ s. by (b s) s refl }
@@ -162,43 +182,50 @@ shuts-if b p v h = record { shut = λ s t same e. by (b s) s t same refl e }
 
 -- ---- runs
 
-stop_seen : (c : ℕ → ℕ → Bool) (s t : List ℕ) → Alike2 s t → run_len c s ≡ 0 → run_len c t ≡ 0
-stop_seen c [] t same e = ap (run_len c) (end_seen t (sym same))
-stop_seen c (a ∷ s) [] same e = refl
-stop_seen c (a ∷ s) (b ∷ t) same e =
+-- behind such a byte nothing is looked at
+pub record Heedless (c : ℕ → ℕ → Bool) : Type 0 where
+  pub heedless : (a m n : ℕ) → closes a ≡ true → c a m ≡ c a n
+
+stop_seen : (c : ℕ → ℕ → Bool) → Heedless c → (s t : List ℕ) → Alike2 s t → run_len c s ≡ 0 → run_len c t ≡ 0
+stop_seen c h [] t same e = ap (run_len c) (end_seen t (sym same))
+stop_seen c h (a ∷ s) [] same e = refl
+stop_seen c h (a ∷ s) (b ∷ t) same e =
     elim (cases_Bool (c a (first s))) [
       | inl pass ↦ let e2 = rw pass at e in absurd (omega arith)
       | inr stop ↦
           let x : a ≡ b = one_seen (a ∷ s) (b ∷ t) same in
-          let y : first s ≡ first t = two_seen (a ∷ s) (b ∷ t) same in
-          let z : c b (first t) ≡ false = rw (← x, ← y) stop in
+          let y : c a (first s) ≡ c a (first t) = elim (cases_Bool (closes a)) [
+            | inl shut ↦ h.heedless a (first s) (first t) shut
+            | inr clear ↦ ap (c a) (two_seen (a ∷ s) (b ∷ t) clear same)
+          ] in
+          let z : c b (first t) ≡ false = ap (λ k. c k (first t)) (sym x) ∙ (sym y ∙ stop) in
           rw z refl
     ]
 
 -- the same run, before what goes on alike
-run_same : (c : ℕ → ℕ → Bool) (s o : List ℕ) → Alike2 o (drop (run_len c s) s) → run c (take (run_len c s) s ++ o) ≡ Some (take (run_len c s) s, o)
-run_same c [] o same = rw (end_seen o same) refl
-run_same c (a ∷ s) o same =
+run_same : (c : ℕ → ℕ → Bool) → Heedless c → (s o : List ℕ) → Alike2 o (drop (run_len c s) s) → run c (take (run_len c s) s ++ o) ≡ Some (take (run_len c s) s, o)
+run_same c h [] o same = rw (end_seen o same) refl
+run_same c h (a ∷ s) o same =
     elim (cases_Bool (c a (first s))) [
       | inl pass ↦
           let n : 1 + run_len c s ≡ suc (run_len c s) = omega arith in
-          let same2 = rw (pass, n) at same in
+          let same2 : Alike2 o (drop (run_len c s) s) = same ∙ ap (λ k. shows (drop k (a ∷ s))) (ap (λ v. if v then 1 + run_len c s else 0) pass ∙ n) in
           let u = take (run_len c s) s in
-          let f : first (u ++ o) ≡ first s = one_seen (u ++ o) s (behind_front u o (drop (run_len c s) s) same2 ∙ ap (take 2) (take-append-drop (run_len c s) s)) in
-          let more = run_same c s o same2 in
+          let f : first (u ++ o) ≡ first s = one_seen (u ++ o) s (behind_front u o (drop (run_len c s) s) same2 ∙ ap shows (take-append-drop (run_len c s) s)) in
+          let more = run_same c h s o same2 in
           let m : 1 + run_len c (u ++ o) ≡ suc (run_len c (u ++ o)) = omega arith in
           rw (pass, n, f, pass, m) (ap (grown a) more)
       | inr stop ↦
-          let same2 = rw stop at same in
-          rw (stop, stop_seen c (a ∷ s) o (sym same2) (rw stop refl)) refl
+          let same2 : Alike2 o (a ∷ s) = same ∙ ap (λ v. shows (drop (if v then 1 + run_len c s else 0) (a ∷ s))) stop in
+          rw (stop, stop_seen c h (a ∷ s) o (sym same2) (rw stop refl)) refl
     ]
   where
     grown : ℕ → Read (List ℕ) → Read (List ℕ)
     grown a None = None
     grown a (Some p) = Some (a ∷ p.0, p.1)
 
-pub near-run : (c : ℕ → ℕ → Bool) → Near (run c)
-near-run c = record { near = λ s. (take (run_len c s) s, sym (take-append-drop (run_len c s) s), λ o same. run_same c s o same) }
+pub near-run : (c : ℕ → ℕ → Bool) → Heedless c → Near (run c)
+near-run c h = record { near = λ s. (take (run_len c s) s, sym (take-append-drop (run_len c s) s), λ o same. run_same c h s o same) }
 
 -- where a test of the first two bytes does not pass
 pub near-unless : {A : Type 0} (b : List ℕ → Bool) (p : Parser A) → Sees b → Near p → Near (λ s. if b s then None else p s)
@@ -207,33 +234,33 @@ near-unless {A = A} b p v h = record { near = λ s. by (b s) s refl (p s) (h.nea
     passed : (s : List ℕ) (r : Read A) → b s ≡ false → NearTo p s r → NearTo (λ s. if b s then None else p s) s r
     passed s None e n = tt
     passed s (Some q) e (u, g, more) =
-        (u, g, λ o same. ap (λ w. if w then None else p (u ++ o)) (v.sees (u ++ o) s (behind_front u o q.1 same ∙ ap (take 2) (sym g)) ∙ e) ∙ more o same)
+        (u, g, λ o same. ap (λ w. if w then None else p (u ++ o)) (v.sees (u ++ o) s (behind_front u o q.1 same ∙ ap shows (sym g)) ∙ e) ∙ more o same)
 
     by : (w : Bool) (s : List ℕ) → b s ≡ w → (r : Read A) → NearTo p s r → NearTo (λ s. if b s then None else p s) s (if w then None else r)
     by true s e r n = tt
     by false s e r n = passed s r e n
 
-sees_stop : (c : ℕ → ℕ → Bool) → Sees (λ s. run_len c s == 0)
-sees_stop c = record { sees = λ s t same. by s t same (run_len c s) (run_len c t) refl refl }
+sees_stop : (c : ℕ → ℕ → Bool) → Heedless c → Sees (λ s. run_len c s == 0)
+sees_stop c h = record { sees = λ s t same. by s t same (run_len c s) (run_len c t) refl refl }
   where
     by : (s t : List ℕ) → Alike2 s t → (m n : ℕ) → run_len c s ≡ m → run_len c t ≡ n → (run_len c s == 0) ≡ (run_len c t == 0)
-    by s t same zero n e f = let g = stop_seen c s t same e in rw (e, g) refl
-    by s t same (suc m) zero e f = let g = stop_seen c t s (sym same) f in absurd (omega arith)
+    by s t same zero n e f = let g = stop_seen c h s t same e in rw (e, g) refl
+    by s t same (suc m) zero e f = let g = stop_seen c h t s (sym same) f in absurd (omega arith)
     by s t same (suc m) (suc n) e f =
         let a : (run_len c s == 0) ≡ false = grind (arith, nat_tests) in
         let b : (run_len c t == 0) ≡ false = grind (arith, nat_tests) in
         a ∙ sym b
 
-pub near-run1 : (c : ℕ → ℕ → Bool) → Near (run1 c)
+pub near-run1 : (c : ℕ → ℕ → Bool) → Heedless c → Near (run1 c)
 unfolding run1
-near-run1 c = near-unless (λ s. run_len c s == 0) (run c) (sees_stop c) (near-run c)
+near-run1 c h = near-unless (λ s. run_len c s == 0) (run c) (sees_stop c h) (near-run c h)
 
-pub shuts-run1 : (c : ℕ → ℕ → Bool) → Shuts (run1 c)
+pub shuts-run1 : (c : ℕ → ℕ → Bool) → Heedless c → Shuts (run1 c)
 unfolding run1
-shuts-run1 c = record { shut = λ s t same e. by (run_len c s == 0) s t same refl e }
+shuts-run1 c h = record { shut = λ s t same e. by (run_len c s == 0) s t same refl e }
   where
     by : (w : Bool) (s t : List ℕ) → Alike2 s t → (run_len c s == 0) ≡ w → (if w then None else run c s) ≡ None → (if run_len c t == 0 then None else run c t) ≡ None
-    by true s t same e n = ap (λ w. if w then None else run c t) (sym ((sees_stop c).sees s t same) ∙ e)
+    by true s t same e n = ap (λ w. if w then None else run c t) (sym ((sees_stop c h).sees s t same) ∙ e)
     by false s t same e n = absurd (is_read (take (run_len c s) s, drop (run_len c s) s) n)
 
 -- ---- one byte
@@ -279,7 +306,7 @@ abbrev pub NearMany : {A B : Type 0} → (List ℕ → Type 0) → (B → A → 
 NearMany at add p acc s None = Unit {0}
 NearMany at add p acc s (Some q) = at q.1 → ManyTo add p acc s q
 
-none_left : {A B : Type 0} (add : B → A → B) (p : Parser A) (m : ℕ) (acc : B) (s : List ℕ) → p s ≡ None → many_from add p m acc s ≡ Some (acc, s)
+pub none_left : {A B : Type 0} (add : B → A → B) (p : Parser A) (m : ℕ) (acc : B) (s : List ℕ) → p s ≡ None → many_from add p m acc s ≡ Some (acc, s)
 unfolding many_from
 none_left add p zero acc s e = refl
 none_left add p (suc m) acc s e = rw e refl
@@ -305,7 +332,7 @@ one_more_turn add p acc s a t q l (u, e, more) (v, g, others) =
   where
     gone : (o : List ℕ) (m : ℕ) → Alike2 o q.1 → length ((u ++ v) ++ o) ≤ m → (u ++ v) ++ o ≡ u ++ (v ++ o) → many_from add p m acc ((u ++ v) ++ o) ≡ Some (q.0, o)
     gone o m same room z =
-        let reads : p (u ++ (v ++ o)) ≡ Some (a, v ++ o) = more (v ++ o) (behind_front v o q.1 same ∙ ap (take 2) (sym g)) in
+        let reads : p (u ++ (v ++ o)) ≡ Some (a, v ++ o) = more (v ++ o) (behind_front v o q.1 same ∙ ap shows (sym g)) in
         let some : 0 < length u = omega (arith, ap length e, length-append u t) in
         let whole : length ((u ++ v) ++ o) ≡ length u + length (v ++ o) = ap length z ∙ length-append u (v ++ o) in
         let shorter : length (v ++ o) < length (u ++ (v ++ o)) = omega (arith, length-append u (v ++ o)) in
@@ -324,7 +351,7 @@ near_turns at add p zero acc (b ∷ s) h c l = absurd (omega arith)
 near_turns {A = A} {B = B} at add p (suc n) acc s h c l = turned (p s) refl (h.near s) (λ b t k. near_turns at add p n b t h c k)
   where
     stayed : (q : A × List ℕ) → p s ≡ Some q → length s ≤ length q.1 → NearTo p s (Some q) → NearMany at add p acc s (Some (acc, s))
-    stayed q e k ([], g, more) = λ here. ([], refl, λ o m same room. none_taken add p m acc o q.0 (more o (same ∙ ap (take 2) g)))
+    stayed q e k ([], g, more) = λ here. ([], refl, λ o m same room. none_taken add p m acc o q.0 (more o (same ∙ ap shows g)))
     stayed q e k (b ∷ u, g, more) = absurd (omega (arith, ap length g, length-append u q.1))
 
     gone : (q : A × List ℕ) (w : Bool) → nat_lt (length q.1) (length s) ≡ w → p s ≡ Some q → NearTo p s (Some q) → ((b : B) (t : List ℕ) → length t ≤ n → NearMany at add p b t (many_from add p n b t)) → NearMany at add p acc s (go_on add (many_from add p n) acc s q w)

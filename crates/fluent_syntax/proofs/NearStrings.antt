@@ -1,12 +1,12 @@
 -- Literals and named arguments are read by their front and the two bytes behind it.
-use Rattle.std.proofs.Common.{◌≡◌, ◌==◌, length, ℕ, zero, suc, List, [], ◌∷◌, ◌++◌, take, drop, true, false, Bool, Some, None, refl, sym, ap, ◌∙◌, if◌then◌else◌, arith, eqb-true}
+use Rattle.std.proofs.Common.{◌≡◌, ◌==◌, length, ℕ, zero, suc, List, [], ◌∷◌, ◌++◌, drop, true, false, Bool, Some, None, refl, sym, ap, ◌∙◌, if◌then◌else◌, arith, eqb-true}
 use Rattle.std.specs.Char.{is_ascii_hexdigit}
 use Rattle.fluent_syntax.specs.Tree.{string, number}
 use Rattle.fluent_syntax.specs.Parser.{Read, Parser, ◌>>=◌, ◌>>◌, ◌<$>◌, ◌<|>◌, and_then, otherwise, pure, ignore, skip, count, one_more, many_from, first, byte, run1}
 use Rattle.fluent_syntax.specs.Lexical.{is_quoted, identifier, blank}
 use Rattle.fluent_syntax.specs.Expressions.{taken, source_of, hex_digit, hex_digits, escape, quoted_turn, string_literal, number_literal, number_parts, digits, literal, named_argument}
-use Rattle.fluent_syntax.proofs.Near.{one_seen, end_seen, behind_front, Near, NearTo, ShutsAt, NearMany, after, near_turns, near-bind, near-map, near-pure, near-then, near-or, near-ignore, near-if, near-run1, near-byte, shuts-ignore, shuts-run1, shuts-byte, sees_first, is_read, behind_one, sourced}
-use Rattle.fluent_syntax.proofs.NearRules.{near-identifier, near-blanks, near-number_literal}
+use Rattle.fluent_syntax.proofs.Near.{shows, one_seen, end_seen, behind_front, Near, NearTo, ShutsAt, NearMany, after, near_turns, near-bind, near-map, near-pure, near-then, near-or, near-ignore, near-if, near-run1, near-byte, shuts-ignore, shuts-run1, shuts-byte, sees_first, is_read, behind_one, sourced}
+use Rattle.fluent_syntax.proofs.NearRules.{heedless-quoted, near-identifier, near-blanks, near-number_literal}
 
 -- ---- where what follows reads at some places alone
 
@@ -36,7 +36,7 @@ sourced_at at p s (Some q) h = λ here. sourced p s (Some q) (h here)
 second_at : {A : Type 0} (at : List ℕ → Type 0) (p q : Parser A) (s : List ℕ) (r : Read A) → q s ≡ r → p s ≡ None → ShutsAt at p → ReadsAt at q → NearTo q s r → NearTo (p <|> q) s r
 second_at at p q s None g n c k h = tt
 second_at at p q s (Some x) g n c k (u, e, more) =
-    (u, e, λ o same. ap (λ z. otherwise z q (u ++ o)) (c.shut_at s (u ++ o) (k s x g) (ap (take 2) e ∙ sym (behind_front u o x.1 same)) n) ∙ more o same)
+    (u, e, λ o same. ap (λ z. otherwise z q (u ++ o)) (c.shut_at s (u ++ o) (k s x g) (ap shows e ∙ sym (behind_front u o x.1 same)) n) ∙ more o same)
 
 chosen_at : {A : Type 0} (at : List ℕ → Type 0) (p q : Parser A) (s : List ℕ) (r : Read A) → p s ≡ r → NearTo p s r → ShutsAt at p → ReadsAt at q → Near q → NearTo (p <|> q) s (otherwise r q s)
 chosen_at at p q s None n h c k m = second_at at p q s (q s) refl n c k (m.near s)
@@ -90,7 +90,7 @@ near-escape = near-then (byte 92) _ (near-byte 92 refl) (near-or (byte 92) _ (ne
 
 near-quoted_turn : Near quoted_turn
 unfolding quoted_turn
-near-quoted_turn = near-or (ignore (run1 is_quoted)) escape (near-ignore (run1 is_quoted) (near-run1 is_quoted)) (shuts-ignore (run1 is_quoted) (shuts-run1 is_quoted)) near-escape
+near-quoted_turn = near-or (ignore (run1 is_quoted)) escape (near-ignore (run1 is_quoted) (near-run1 is_quoted heedless-quoted)) (shuts-ignore (run1 is_quoted) (shuts-run1 is_quoted heedless-quoted)) near-escape
 
 -- at the quotation mark
 no_turn : (t : List ℕ) → first t ≡ 34 → quoted_turn t ≡ None

@@ -1,18 +1,18 @@
 -- A pattern that is the text of one line.
-use Rattle.std.proofs.Common.{◌≡◌, ◌==◌, ℕ, zero, suc, ◌+◌, ◌-◌, ◌<◌, ◌≤◌, Bool, true, false, ◌&&◌, cond, List, [], ◌∷◌, ◌++◌, length, take, drop, get_or, Option, Some, None, refl, sym, ap, ◌∙◌, subst, arith, inl, inr, length-take}
+use Rattle.std.proofs.Common.{◌≡◌, ◌==◌, ℕ, zero, suc, ◌+◌, ◌<◌, Bool, true, false, List, [], ◌∷◌, ◌++◌, length, take, drop, if◌then◌else◌, Option, Some, None, refl, ap, ◌∙◌, subst, arith, inl, inr, length-take}
 use Rattle.std.proofs.lemmas.Bool.{cases_Bool, cases_lt}
 use Rattle.std.proofs.lemmas.Bool.Decides.{nat_tests}
 use Rattle.fluent_syntax.specs.Parser.{Read, Parser, many_from, run, run1, run_len, byte, first}
-use Rattle.fluent_syntax.specs.Tree.{Text, text, pattern_of}
+use Rattle.fluent_syntax.specs.Tree.{Text, pattern_of}
 use Rattle.fluent_syntax.specs.Lexical.{is_text, is_space, blank_inline, blank_block}
-use Rattle.fluent_syntax.specs.Layout.{Words, Piece, words, unless_empty, trim_spaces, lines, elements}
-use Rattle.fluent_syntax.specs.Pieces.{follows, words_after, block_text, indent, block_placeable, pattern_element, pieces, pattern}
+use Rattle.fluent_syntax.specs.Layout.{Piece, words, unless_empty, trim_spaces, lines, elements}
+use Rattle.fluent_syntax.specs.Progress.{closes_pattern, Ends}
+use Rattle.fluent_syntax.specs.Pieces.{follows, is_indented, indented_text, words_after, block_text, indent, block_placeable, pattern_element, pieces, pattern}
 use Rattle.fluent_syntax.specs.Expressions.{level, inline_placeable}
-use Rattle.fluent_syntax.proofs.Runs.{run_len-le}
 use Rattle.fluent_syntax.proofs.Turns.{none, done}
 
 -- behind a run no other begins
-stops : (p : ℕ → ℕ → Bool) (s : List ℕ) → run_len p (drop (run_len p s) s) ≡ 0
+pub stops : (p : ℕ → ℕ → Bool) (s : List ℕ) → run_len p (drop (run_len p s) s) ≡ 0
 stops p [] = refl
 stops p (c ∷ cs) =
     elim (cases_Bool (p c (first cs))) [
@@ -20,7 +20,7 @@ stops p (c ∷ cs) =
       | inr stop ↦ rw (stop, stop) refl
     ]
 
-not_placeable : (n : ℕ) (s : List ℕ) → (first s == 123) ≡ false → (level n).braces s ≡ None
+pub not_placeable : (n : ℕ) (s : List ℕ) → (first s == 123) ≡ false → (level n).braces s ≡ None
 unfolding level inline_placeable byte
 not_placeable zero s e = refl
 not_placeable (suc n) s e = rw e refl
@@ -29,33 +29,43 @@ no_spaces : (s : List ℕ) → (first s == 32) ≡ false → run_len is_space s 
 no_spaces [] e = refl
 no_spaces (c ∷ cs) e = rw e refl
 
-no_blank_inline : (s : List ℕ) → (first s == 32) ≡ false → blank_inline s ≡ None
+pub no_blank_inline : (s : List ℕ) → (first s == 32) ≡ false → blank_inline s ≡ None
 unfolding blank_inline run1
 no_blank_inline s e = rw (no_spaces s e) refl
 
-no_words : (i : Option ℕ) (s : List ℕ) → run_len is_text s ≡ 0 → words_after i s ≡ None
+pub no_words : (i : Option ℕ) (s : List ℕ) → run_len is_text s ≡ 0 → words_after i s ≡ None
 unfolding words_after run1
 no_words i s e = rw e refl
 
-some_words : (s : List ℕ) → 0 < run_len is_text s → words_after None s ≡ Some (record { indent = None; bytes = take (run_len is_text s) s; fed = follows 10 (drop (run_len is_text s) s) }, drop (run_len is_text s) s)
+pub some_words : (s : List ℕ) → 0 < run_len is_text s → words_after None s ≡ Some (record { indent = None; bytes = take (run_len is_text s) s; fed = follows 10 (drop (run_len is_text s) s) }, drop (run_len is_text s) s)
 unfolding words_after run1
 some_words s n =
     let e : (run_len is_text s == 0) ≡ false = grind (arith, nat_tests) in
     rw e refl
 
--- nothing of the lines that follow goes on with a pattern
-ends : (n : ℕ) (s line : List ℕ) (k : ℕ) → run_len is_text s ≡ 0 → (first s == 123) ≡ false → blank_block s ≡ Some (k, line) → (first line == 32) ≡ false → (first line == 123) ≡ false → pattern_element (level n).braces s ≡ None
+-- nothing of the lines that follow goes on with a pattern: the next line isn't indented, and doesn't begin with a placeable
+pub ends : (n : ℕ) (s line : List ℕ) (k : ℕ) → run_len is_text s ≡ 0 → (first s == 123) ≡ false → blank_block s ≡ Some (k, line) → blank_inline line ≡ None → (first line == 123) ≡ false → pattern_element (level n).braces s ≡ None
 unfolding pattern_element block_text block_placeable indent
-ends n s line k t b e i l = rw (no_words None s t, e, no_blank_inline line i, not_placeable n s b, e, no_blank_inline line i, not_placeable n line l) refl
+ends n s line k t b e i l = rw (no_words None s t, e, i, not_placeable n s b, e, i, not_placeable n line l) refl
 
-stays : (p : Parser (List Piece)) (front : List Piece) (rest : List ℕ) → p rest ≡ None → many_from ◌++◌ p (length rest) front rest ≡ Some (front, rest)
+-- a text of which a pattern takes nothing where it is indented
+pub record Closes (t : List ℕ) : Type 0 where
+  pub no_text : (m : ℕ) → indented_text m t ≡ None
+  pub no_brace : (first t == 123) ≡ false
+
+-- or the next line is indented, and then comes what belongs to no pattern
+pub ends_at : (n : ℕ) (s line t : List ℕ) (k m : ℕ) → run_len is_text s ≡ 0 → (first s == 123) ≡ false → blank_block s ≡ Some (k, line) → blank_inline line ≡ Some (m, t) → Closes t → pattern_element (level n).braces s ≡ None
+unfolding pattern_element block_text block_placeable indent
+ends_at n s line t k m w b e i c = rw (no_words None s w, e, i, c.no_text m, not_placeable n s b, e, i, not_placeable n t c.no_brace) refl
+
+pub stays : (p : Parser (List Piece)) (front : List Piece) (rest : List ℕ) → p rest ≡ None → many_from ◌++◌ p (length rest) front rest ≡ Some (front, rest)
 stays p front rest e =
     elim (cases_lt 0 (length rest)) [
       | inl some ↦ none ◌++◌ p (length rest) front rest some e
       | inr empty ↦ done ◌++◌ p (length rest) front rest (omega arith)
     ]
 
-no_feed : (b d : ℕ) → is_text b d ≡ true → (b == 10) ≡ false
+pub no_feed : (b d : ℕ) → is_text b d ≡ true → (b == 10) ≡ false
 no_feed b d e = grind (arith, nat_tests)
 
 -- a text of one line is its only element
@@ -72,14 +82,13 @@ element_of (c ∷ cs) fed h =
       | inr stop ↦ let h2 = rw stop at h in absurd (omega arith)
     ]
 
-pub one_line : (n : ℕ) (s line : List ℕ) (k : ℕ) → 0 < run_len is_text s → (first (drop (run_len is_text s) s) == 123) ≡ false → blank_block (drop (run_len is_text s) s) ≡ Some (k, line)
-    → (first line == 32) ≡ false → (first line == 123) ≡ false
+pub one_line : (n : ℕ) (s : List ℕ) → 0 < run_len is_text s → pattern_element (level n).braces (drop (run_len is_text s) s) ≡ None
     → pattern (level n).braces s ≡ Some (pattern_of (unless_empty (trim_spaces (take (run_len is_text s) s))), drop (run_len is_text s) s)
 unfolding pieces pattern_element
-one_line n s line k h b e i l =
+one_line n s h e =
     let rest = drop (run_len is_text s) s in
     let front = words (record { indent = None; bytes = take (run_len is_text s) s; fed = follows 10 rest }) ∷ [] in
-    rw (some_words s h, stays (pattern_element (level n).braces) front rest (ends n rest line k (stops is_text s) b e i l), element_of s (follows 10 rest) h) refl
+    rw (some_words s h, stays (pattern_element (level n).braces) front rest e, element_of s (follows 10 rest) h) refl
 
 text_read : Read Text → Text
 text_read None = []
@@ -90,15 +99,31 @@ rest_read None = []
 rest_read (Some p) = p.1
 
 -- the same of what a run gave
-pub one_line_at : (s t rest line : List ℕ) (k : ℕ) → Some (t, rest) ≡ run is_text s → 0 < length t → (first rest == 123) ≡ false → blank_block rest ≡ Some (k, line)
-    → (first line == 32) ≡ false → (first line == 123) ≡ false
+pub one_line_at : (s t rest : List ℕ) → Some (t, rest) ≡ run is_text s → 0 < length t → (first rest == 123) ≡ false → Ends rest
     → (n : ℕ) → pattern (level n).braces s ≡ Some (pattern_of (unless_empty (trim_spaces t)), rest)
 unfolding text_read rest_read
-one_line_at s t rest line k e h b g i l n =
+one_line_at s t rest e h b ends n =
     let m : t ≡ take (run_len is_text s) s = ap text_read e in
     let d : rest ≡ drop (run_len is_text s) s = ap rest_read e in
     let some : 0 < run_len is_text s = omega (arith, ap length m, length-take (run_len is_text s) s) in
-    rw (m, d) (one_line n s line k some (subst (λ r. (first r == 123) ≡ false) d b) (subst (λ r. blank_block r ≡ Some (k, line)) d g) i l)
+    let none : run_len is_text rest ≡ 0 = ap (run_len is_text) d ∙ stops is_text s in
+    rw (m, d) (one_line n s some (subst (λ r. pattern_element (level n).braces r ≡ None) d (ends none b n)))
+
+no_text_at : (t : List ℕ) → (first t == 125) ≡ true → run_len is_text t ≡ 0
+no_text_at [] e = refl
+no_text_at (c ∷ cs) e = let stop : is_text c (first cs) ≡ false = grind (arith, nat_tests) in rw stop refl
+
+brace_text : (m : ℕ) (t : List ℕ) → run_len is_text t ≡ 0 → (v : Bool) → (if v then words_after (Some m) t else None) ≡ None
+brace_text m t e true = no_words (Some m) t e
+brace_text m t e false = refl
+
+-- a bracket, a star, a point or a closing brace
+pub closes : (t : List ℕ) → closes_pattern (first t) ≡ true → Closes t
+closes t e =
+    elim (cases_Bool (first t == 125)) [
+      | inl brace ↦ record { no_text = λ m. brace_text m t (no_text_at t brace) (is_indented t); no_brace = grind (arith, nat_tests) }
+      | inr mark ↦ let marked : is_indented t ≡ false = grind (arith, nat_tests) in record { no_text = λ m. rw marked refl; no_brace = grind (arith, nat_tests) }
+    ]
 
 pub is_other : (a b : ℕ) → (a ≡ b → ⊥) → (a == b) ≡ false
 is_other a b h = grind (arith, nat_tests)

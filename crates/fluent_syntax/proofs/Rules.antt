@@ -1,7 +1,7 @@
 -- Entries take a front of the text, and a byte at least.
-use Rattle.std.proofs.Common.{◌≡◌, ◌==◌, ℕ, zero, suc, ◌+◌, ◌-◌, ◌<◌, ◌≤◌, Bool, true, false, List, [], ◌∷◌, ◌++◌, length, Option, Some, None, if◌then◌else◌, refl, arith}
+use Rattle.std.proofs.Common.{◌≡◌, ◌==◌, ℕ, ◌<◌, Bool, true, false, List, [], ◌∷◌, length, Some, None, if◌then◌else◌, refl, arith}
 use Rattle.std.proofs.lemmas.Bool.Decides.{nat_tests}
-use Rattle.fluent_syntax.specs.Parser.{Read, Parser, ◌>>=◌, ◌>>◌, ◌<$>◌, ◌<|>◌, pure, skip, many, many_from, count, push, run_len, run, run1, byte, first}
+use Rattle.fluent_syntax.specs.Parser.{◌>>=◌, ◌>>◌, ◌<|>◌, pure, skip, many, push, run_len, run, run1, byte, first}
 use Rattle.fluent_syntax.specs.Tree.{Text, message_entry, term_entry}
 use Rattle.fluent_syntax.specs.Lexical.{is_identifier_byte, is_space, is_letter, identifier, blank_inline, at_end, line_break, line_end, blank_line, blank_block, blank}
 use Rattle.fluent_syntax.specs.Pieces.{pattern}
@@ -9,7 +9,7 @@ use Rattle.fluent_syntax.specs.Expressions.{level}
 use Rattle.fluent_syntax.specs.Entries as n
 use Rattle.fluent_syntax.specs.Entries.{value, name_of_value, attribute, value_first, attributes_alone, entry}
 use Rattle.fluent_syntax.specs.WellFormed.{IsWellFormedPattern}
-use Rattle.fluent_syntax.proofs.Fronts.{TakesTo, Takes, takes-bind, takes-then, takes-or, takes-pure, takes-all, takes-byte, Lessens, Eats, eats-bind, eats-then, eats-map, eats-or, eats-skip, eats-byte, eats-run1, run_less}
+use Rattle.fluent_syntax.proofs.Fronts.{Takes, takes-bind, takes-then, takes-or, takes-pure, takes-all, takes-byte, Lessens, Eats, eats-bind, eats-then, eats-map, eats-or, eats-skip, eats-byte, eats-run1, run_less}
 use Rattle.fluent_syntax.proofs.LexicalFronts.{takes-identifier, takes-line_end, takes-spaces, takes-blanks, more_lines, takes-more_lines}
 use Rattle.fluent_syntax.proofs.Sound.{takes-sound}
 use Rattle.fluent_syntax.proofs.Trees.{sound-braces, sound-pattern}
@@ -59,7 +59,7 @@ eats-blank_block = eats-then blank_line more_lines eats-blank_line takes-more_li
 
 -- ---- entries
 
-takes-value : Takes value
+pub takes-value : Takes value
 unfolding value
 takes-value = takes-sound (λ p. IsWellFormedPattern p 100) (pattern (level 100).braces) (sound-pattern (level 100).braces 100 (sound-braces 100))
 
@@ -74,7 +74,7 @@ eats-name_of_value : Eats name_of_value
 unfolding name_of_value
 eats-name_of_value = eats-bind identifier _ eats-identifier after_name
 
-takes-attribute : Takes attribute
+pub takes-attribute : Takes attribute
 unfolding attribute
 takes-attribute = takes-then line_end _ takes-line_end (takes-then (skip blank) _ takes-blanks (takes-then (byte 46) _ (takes-byte 46) (takes-bind name_of_value _ takes-name_of_value (λ id. takes-bind value _ takes-value (λ v. takes-pure (id, v))))))
 
@@ -92,7 +92,7 @@ takes-attributes_alone = takes-bind attribute _ takes-attribute (λ a. takes-bin
 after_message : (id : Text) → Takes ((value_first <|> attributes_alone) >>= (λ c. pure (message_entry id c.0 c.1)))
 after_message id = takes-bind (value_first <|> attributes_alone) _ (takes-or value_first attributes_alone takes-value_first takes-attributes_alone) (λ c. takes-pure (message_entry id c.0 c.1))
 
-takes-message : Takes n.message
+pub takes-message : Takes n.message
 unfolding n.message
 takes-message = takes-bind name_of_value _ takes-name_of_value after_message
 
@@ -106,7 +106,7 @@ after_term id = takes-bind value _ takes-value (λ v. takes-bind (many attribute
 takes-term_rest : Takes (name_of_value >>= (λ id. value >>= (λ v. many attribute >>= (λ others. pure (term_entry id v others)))))
 takes-term_rest = takes-bind name_of_value _ takes-name_of_value after_term
 
-takes-term : Takes n.term
+pub takes-term : Takes n.term
 unfolding n.term
 takes-term = takes-then (byte 45) _ (takes-byte 45) takes-term_rest
 

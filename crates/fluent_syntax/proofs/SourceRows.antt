@@ -1,5 +1,5 @@
 -- Worked sources.
-use Rattle.std.proofs.Common.{◌≡◌, ℕ, List, [], ◌∷◌, Some, None, refl}
+use Rattle.std.proofs.Common.{◌≡◌, List, [], ◌∷◌, Some, refl}
 use Rattle.std.specs.Prelude.{codes}
 use Rattle.fluent_syntax.specs.Tree.{Text, Entry, message_entry, junk_entry, Element, text, placeable, inline, variable, pattern_of}
 use Rattle.fluent_syntax.specs.Parser.{many_from, byte, run1}

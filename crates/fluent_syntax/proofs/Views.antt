@@ -1,11 +1,17 @@
 -- The content of each case of an element.
-use Rattle.std.proofs.Common.{◌≡◌, ℕ, List, ap, ◌∙◌, rules}
+use Rattle.std.proofs.Common.{◌≡◌, ℕ, List, Vec, Global, None, map, ap, ◌∙◌, rules}
 use Rattle.std.specs.Borrow.{Bor}
-use Rattle.fluent_syntax.specs.Tree.{text, placeable}
-use Rattle.fluent_syntax.specs.View.{element_view, expression_view}
+use Rattle.fluent_syntax.specs.Tree.{text, placeable, pattern_of, inline, variable, message, term, no_attribute, no_call}
+use Rattle.fluent_syntax.specs.View.{element_view, expression_view, inline_view, pattern_view}
 use Rattle.fluent_syntax.specs.declared.ast.Expression as of_expression
 use Rattle.fluent_syntax.specs.declared.ast.PatternElement as of_element
 use Rattle.fluent_syntax.specs.declared.ast.PatternElement.TheVariants as elements
+use Rattle.fluent_syntax.specs.declared.ast.InlineExpression as of_inline
+use Rattle.fluent_syntax.specs.declared.ast.InlineExpression.TheVariants as inlines
+use Rattle.fluent_syntax.specs.declared.ast.Expression.TheVariants as expressions
+use Rattle.fluent_syntax.specs.declared.ast.Identifier.{Identifier}
+use Rattle.fluent_syntax.specs.declared.ast.Pattern as of_pattern
+use Rattle.fluent_syntax.specs.declared.ast.Expression.TheViews.{roll-Pattern}
 
 pub view_text : (t : Bor (List ℕ)) → element_view (elements.TextElement t) ≡ text t.now
 view_text t = search (rules, of_element.the_lemmas)
@@ -18,3 +24,18 @@ view_text_in x t h = ap element_view h ∙ view_text t
 
 pub view_placeable_in : (x : of_element.PatternElement) (e : of_expression.Expression) → x ≡ elements.Placeable e → element_view x ≡ placeable (expression_view e)
 view_placeable_in x e h = ap element_view h ∙ view_placeable e
+
+pub view_pattern : (v : Vec of_element.PatternElement Global) → pattern_view (roll-Pattern (record { elements = v })) ≡ pattern_of (map element_view v.items)
+view_pattern v = search (rules, of_pattern.the_lemmas)
+
+pub view_inline : (x : of_inline.InlineExpression) → expression_view (expressions.Inline x) ≡ inline (inline_view x)
+view_inline x = search (rules, of_expression.the_lemmas)
+
+pub view_variable : (id : Identifier) → inline_view (inlines.VariableReference id) ≡ variable id.name.now
+view_variable id = search (rules, of_inline.the_lemmas)
+
+pub view_message : (id : Identifier) → inline_view (inlines.MessageReference id None) ≡ message id.name.now no_attribute
+view_message id = search (rules, of_inline.the_lemmas)
+
+pub view_term : (id : Identifier) → inline_view (inlines.TermReference id None None) ≡ term id.name.now no_attribute no_call
+view_term id = search (rules, of_inline.the_lemmas)

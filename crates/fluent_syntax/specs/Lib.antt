@@ -11,8 +11,9 @@ pub mod Slice
 pub mod PieceView
 pub mod Backwards
 pub mod Pieces
-pub mod StepView
+pub mod Progress
 pub mod Expressions
+pub mod Bare
 pub mod FrontLaws
 pub mod Gathering
 pub mod Nests

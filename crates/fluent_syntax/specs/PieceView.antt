@@ -1,5 +1,4 @@
 -- What the reader's pieces stand for.
-use Rattle.std.specs.Prelude.{List, map}
 use Rattle.fluent_syntax.specs.View.{expression_view}
 use Rattle.fluent_syntax.specs.Layout.{Piece, line, words, hole}
 use Rattle.fluent_syntax.specs.declared.parser.piece.Piece as code

@@ -1,5 +1,5 @@
 -- How the reader keeps words: as a slice of the source that holds their indent too.
-use Rattle.std.specs.Prelude.{◌≡◌, ℕ, ◌<◌, ◌≤◌, List, [], ◌∷◌, ◌++◌, length, drop, slice_index, unwrap_or, is_some, IfSome, map}
+use Rattle.std.specs.Prelude.{◌≡◌, ℕ, ◌<◌, ◌≤◌, [], ◌∷◌, ◌++◌, length, drop, slice_index, unwrap_or, is_some, IfSome}
 use Rattle.fluent_syntax.specs.Layout.{Words}
 use Rattle.fluent_syntax.specs.declared.parser.piece.Slice.TheInside.{Inside}
 

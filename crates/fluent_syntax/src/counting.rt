@@ -3,7 +3,7 @@
 ghost use Rattle.std.specs.Prelude.{◌≡◌, ◌≢◌, ◌+◌, ◌<◌, length, MatchResult, OnOk, OnErr, IfErr, is_ok, if◌then◌else◌};
 ghost use Rattle.std.specs.Io.KnownBytes.{Appends, WriteAppends};
 ghost use Rattle.std.specs.Io.{WritesAtMost};
-ghost use Rattle.fluent_syntax.specs.Taken.{raised, took_nothing, TookFront, Faulted, ByWriter};
+ghost use Rattle.fluent_syntax.specs.Taken.{raised, took_nothing, TookFront, Faulted};
 
 use std::alloc::AllocError;
 use std::io;
@@ -110,7 +110,6 @@ pub fn put<W: Write>(w: &mut Counting<W>, piece: &[u8]) -> Result<(), WriteFault
     ensures whole { OnOk result (Appends (W.contents w.old.inner) (W.contents w.new.inner) piece.now) }
     ensures front { OnErr result (TookFront (W.contents w.old.inner) (W.contents w.new.inner) piece.now) }
     ensures fault { Faulted w.old.failed w.old.empty w.new.failed w.new.empty result }
-    ensures writer { ByWriter result }
     ensures memory { result ≢ Err WriteFault.Memory }
 {
     let mut rest = piece;

@@ -1,12 +1,13 @@
 //! Laws of the definitions that the reader's contract names. A function here does nothing: its contract is the law.
-ghost use Rattle.std.specs.Prelude.{false, true};
+ghost use Rattle.std.specs.Prelude.{ℕ, Bool, false, true};
 ghost use Rattle.fluent_syntax.specs.ChunkLaws.{MadeOfChunks, NoneEmpty, RangesWithin};
-ghost use Rattle.fluent_syntax.specs.Chunks.{comment_line, junk};
-ghost use Rattle.fluent_syntax.specs.Entries.{name_of_value};
-ghost use Rattle.fluent_syntax.specs.Expressions.{literal, message_reference, named_argument, variant_head};
-ghost use Rattle.fluent_syntax.specs.FrontLaws.{ReadByFront, ReadFromThereOn};
-ghost use Rattle.fluent_syntax.specs.Lexical.{blank, identifier, variable_reference};
-ghost use Rattle.fluent_syntax.specs.Pieces.{inline_text};
+ghost use Rattle.fluent_syntax.specs.Chunks.{comment_line, junk, junk_line};
+ghost use Rattle.fluent_syntax.specs.Entries as entries;
+ghost use Rattle.fluent_syntax.specs.Entries.{attribute, entry, name_of_value};
+ghost use Rattle.fluent_syntax.specs.Expressions.{argument, argument_list, attribute_access, digits, function_reference, inline_expression, level, literal, message_reference, named_argument, number_literal, select_expression, string_literal, term_reference, variant, variant_head, variant_key, variant_list};
+ghost use Rattle.fluent_syntax.specs.FrontLaws.{EndsMessage, EndsPattern, EntryReadBefore, ReadBefore, ReadByFront, ReadByFrontAlone, ReadFromThereOn, TakesFront};
+ghost use Rattle.fluent_syntax.specs.Lexical.{blank, blank_block, blank_inline, identifier, line_end, variable_reference};
+ghost use Rattle.fluent_syntax.specs.Pieces.{block_placeable, block_text, inline_text, pattern, pattern_element};
 ghost use Rattle.fluent_syntax.specs.SliceLaws.{AllSlices};
 ghost use Rattle.fluent_syntax.specs.TreeLaws.{AllWellFormed};
 
@@ -54,6 +55,49 @@ pub fn read_from_there_on(source: &str)
     let _ = source;
 }
 
+/// Each rule of the grammar takes a front of a text, at whatever depth: what it leaves is the text's end. A depth counts
+/// the placeables and argument lists that may stand in one another.
+#[tactic(auto, using(crate::proofs::RuleFronts::rule_fronts))]
+pub fn rules_take_a_front(source: &str)
+    ensures identifier { TakesFront identifier source.now }
+    ensures blank_inline { TakesFront blank_inline source.now }
+    ensures line_end { TakesFront line_end source.now }
+    ensures blank_block { TakesFront blank_block source.now }
+    ensures blank { TakesFront blank source.now }
+    ensures string { TakesFront string_literal source.now }
+    ensures number { TakesFront number_literal source.now }
+    ensures digits { TakesFront digits source.now }
+    ensures accessor { TakesFront attribute_access source.now }
+    ensures variable { TakesFront variable_reference source.now }
+    ensures message_reference { TakesFront message_reference source.now }
+    ensures function_reference { (depth : ℕ) → TakesFront (function_reference (level depth)) source.now }
+    ensures term_reference { (depth : ℕ) → TakesFront (term_reference (level depth)) source.now }
+    ensures inline_expression { (depth : ℕ) → TakesFront (inline_expression (level depth)) source.now }
+    ensures named_argument { TakesFront named_argument source.now }
+    ensures argument { (depth : ℕ) → TakesFront (argument (level depth)) source.now }
+    ensures argument_list { (depth : ℕ) → TakesFront (argument_list (level depth)) source.now }
+    ensures call_arguments { (depth : ℕ) → TakesFront (level depth).brackets source.now }
+    ensures variant_key { TakesFront variant_key source.now }
+    ensures variant { (depth : ℕ) (default : Bool) → TakesFront (variant (level depth) default) source.now }
+    ensures variant_list { (depth : ℕ) → TakesFront (variant_list (level depth)) source.now }
+    ensures select { (depth : ℕ) → TakesFront (select_expression (level depth)) source.now }
+    ensures placeable { (depth : ℕ) → TakesFront (level depth).braces source.now }
+    ensures inline_text { TakesFront inline_text source.now }
+    ensures block_text { TakesFront block_text source.now }
+    ensures block_placeable { (depth : ℕ) → TakesFront (block_placeable (level depth).braces) source.now }
+    ensures pattern_element { (depth : ℕ) → TakesFront (pattern_element (level depth).braces) source.now }
+    ensures pattern { (depth : ℕ) → TakesFront (pattern (level depth).braces) source.now }
+    ensures attribute { TakesFront attribute source.now }
+    ensures message { TakesFront entries.message source.now }
+    ensures term { TakesFront entries.term source.now }
+    ensures entry { TakesFront entry source.now }
+    ensures comment { TakesFront comment_line source.now }
+    ensures junk_line { TakesFront junk_line source.now }
+    ensures junk { TakesFront junk source.now }
+{
+    let _ = source;
+}
+
 /// These rules take a front of a text, and what they read depends on that front and the two bytes behind it alone. Two,
 /// since a carriage return is text or begins a line end by the byte behind it, and a point belongs to a number by the
 /// digit behind it.
@@ -71,6 +115,30 @@ pub fn read_by_front(source: &str)
     ensures blank { ReadByFront blank source.now }
     ensures comment { ReadByFront comment_line source.now }
     ensures junk { ReadByFront junk source.now }
+{
+    let _ = source;
+}
+
+/// Placeables and call arguments, at whatever depth, take a front of a text, and what they read depends on that front
+/// alone: each ends with its own closing brace or bracket.
+#[tactic(auto, using(crate::proofs::KnownPatterns::rules_by_front_alone))]
+pub fn read_by_front_alone(source: &str)
+    ensures placeable { (depth : ℕ) → ReadByFrontAlone (level depth).braces source.now }
+    ensures call_arguments { (depth : ℕ) → ReadByFrontAlone (level depth).brackets source.now }
+{
+    let _ = source;
+}
+
+/// Patterns, attributes, messages, terms and entries take a front of a text, and what they read depends on that front
+/// alone, as long as what stands behind it ends them: a line break, blank lines, and then the end of the text or a line
+/// that can't belong to them. An entry takes the line break; before the others it stays the same one.
+#[tactic(auto, using(crate::proofs::KnownEntries::rules_before))]
+pub fn read_before_an_end(source: &str)
+    ensures pattern { (depth : ℕ) → ReadBefore EndsPattern (pattern (level depth).braces) source.now }
+    ensures attribute { ReadBefore EndsPattern attribute source.now }
+    ensures message { ReadBefore EndsMessage entries.message source.now }
+    ensures term { ReadBefore EndsMessage entries.term source.now }
+    ensures entry { EntryReadBefore source.now }
 {
     let _ = source;
 }

@@ -10,6 +10,7 @@ use crate::ast::{CallArguments, Expression, InlineExpression, NamedArgument};
 use crate::parser::bytes::eat;
 use crate::parser::inner::Inner;
 use crate::parser::lines::{after_blank, identifier};
+use crate::parser::list::push;
 use crate::parser::reference::literal;
 use crate::parser::stop::Stop;
 use std::alloc::{AllocError, Global};
@@ -31,20 +32,22 @@ pub struct Gathered<'s> {
 }
 
 impl<'s> Gathered<'s> {
+    #[inline(always)]
     fn add(&mut self, argument: Argument<'s>) -> Result<(), AllocError>
         ensures { OnOk result (gathered_view self.new ≡ spec.add (gathered_view self.old) (argument_view argument.entry)) }
     {
         match argument {
             Argument::Positional(x) => {
                 self.ordered = self.ordered && self.named.is_empty();
-                self.positional.push(x)?;
+                push(&mut self.positional, x)?;
             }
-            Argument::Named(n) => self.named.push(n)?,
+            Argument::Named(n) => push(&mut self.named, n)?,
         }
         Ok(())
     }
 }
 
+#[inline(always)]
 #[tactic(auto, unfolding(crate::specs::Expressions::named_argument))]
 fn named_argument<'s>(s: &'s str) -> Option<(NamedArgument<'s>, &'s str)>
     ensures { found named_view result ≡ spec.named_argument s.now }
@@ -55,6 +58,7 @@ fn named_argument<'s>(s: &'s str) -> Option<(NamedArgument<'s>, &'s str)>
     Some((NamedArgument { name, value }, rest))
 }
 
+#[inline(always)]
 #[tactic(auto, unfolding(crate::specs::Expressions::comma))]
 fn comma(s: &str) -> Option<&str>
     ensures { passed result ≡ spec.comma s.now }
@@ -68,6 +72,7 @@ impl<
     F: Fn(Global, &'s str, usize) -> Result<(Expression<'s>, &'s str), Stop>,
     G: Fn(Global, &'s str, usize) -> Result<(CallArguments<'s>, &'s str), Stop>,
 > Inner<F, G> {
+    #[inline(always)]
     #[tactic(auto, unfolding(crate::specs::Expressions::argument))]
     fn argument(&self, s: &'s str) -> Result<(Argument<'s>, &'s str), Stop>
         requires braces { Reads expression_view (spec.level self.now.depth).braces self.now.depth (F.pre self.now.braces) (F.post self.now.braces) }
@@ -114,6 +119,7 @@ impl<
     }
 
     /// Adds an argument that may come next.
+    #[inline(always)]
     fn last_argument(
         &self,
         s: &'s str,

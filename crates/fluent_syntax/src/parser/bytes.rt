@@ -5,6 +5,8 @@ ghost use Rattle.fluent_syntax.specs.Lexical as spec;
 ghost use Rattle.fluent_syntax.specs.Classes.{class_test};
 ghost use Rattle.fluent_syntax.specs.Reading.{passed};
 
+use crate::parser::text::text_len;
+
 /// A set of bytes, each judged with the byte after it.
 #[derive(Clone, Copy)]
 pub enum Class {
@@ -23,6 +25,7 @@ pub enum Class {
 }
 
 /// The byte at `index`, or 0 past the end.
+#[inline(always)]
 pub fn byte_at(s: &str, index: usize) -> u8
     ensures { result ≡ slice_index s.now index }
 {
@@ -33,6 +36,7 @@ pub fn byte_at(s: &str, index: usize) -> u8
 }
 
 /// What follows this byte, which is ASCII.
+#[inline(always)]
 #[tactic(auto, unfolding(crate::specs::Parser::byte))]
 pub fn eat(s: &str, byte: u8) -> Option<&str>
     requires some { 0 < byte }
@@ -47,6 +51,7 @@ pub fn eat(s: &str, byte: u8) -> Option<&str>
     }
 }
 
+#[inline(always)]
 fn is_in(class: Class, byte: u8, next: u8) -> bool
     ensures { result ≡ class_test class byte next }
 {
@@ -69,11 +74,15 @@ fn is_in(class: Class, byte: u8, next: u8) -> bool
 }
 
 /// How many bytes at the front are of the class.
+#[inline(always)]
 #[tactic(auto, using(crate::proofs::Runs::the_runs))]
 pub fn run_len(s: &str, class: Class) -> usize
     ensures len { result ≡ parser.run_len (class_test class) s.now }
     ensures within { result ≤ length s.now }
 {
+    if let Class::Text = class {
+        return text_len(s);
+    }
     let bytes = s.as_bytes();
     'bytes: for at in 0..bytes.len() {
         if !is_in(class, bytes[at], byte_at(s, at + 1)) {
@@ -84,6 +93,7 @@ pub fn run_len(s: &str, class: Class) -> usize
 }
 
 /// The longest front of the class, and the rest.
+#[inline(always)]
 pub fn split_run<'s>(s: &'s str, class: Class) -> (&'s str, &'s str)
     ensures parts { parser.run (class_test class) s.now ≡ Some (result.0.now, result.1.now) }
     ensures lens { length result.0.now + length result.1.now ≡ length s.now }

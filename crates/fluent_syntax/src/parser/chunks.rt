@@ -12,6 +12,7 @@ use crate::parser::entry::entry;
 use crate::parser::errors::{ParseFault, ParserError};
 use crate::parser::junk::{comment_line, junk};
 use crate::parser::lines::blank_block;
+use crate::parser::list::push;
 use crate::parser::stop::Stop;
 use std::alloc::{AllocError, Global};
 
@@ -46,12 +47,12 @@ impl<'s> Found<'s> {
     {
         let Chunk { text, part } = chunk;
         match part {
-            Part::Entry(entry) => self.body.push(entry)?,
+            Part::Entry(entry) => push(&mut self.body, entry)?,
             Part::Blank => {}
             Part::Junk => {
-                self.body.push(Entry::Junk { content: text })?;
+                push(&mut self.body, Entry::Junk { content: text })?;
                 let end = start + text.len();
-                self.errors.push(ParserError { start, end })?;
+                push(&mut self.errors, ParserError { start, end })?;
             }
         }
         Ok(())

@@ -10,6 +10,7 @@ use crate::ast::{Attribute, Entry, Identifier, Message, Pattern, Term};
 use crate::parser::bytes::eat;
 use crate::parser::expression::inline_placeable;
 use crate::parser::lines::{after_blank, after_spaces, identifier, line_end};
+use crate::parser::list::push;
 use crate::parser::pattern::pattern;
 use crate::parser::stop::Stop;
 use std::alloc::Global;
@@ -86,7 +87,7 @@ fn attributes_alone<'s>(alloc: Global, s: &'s str) -> Result<(Content<'s>, &'s s
 {
     let (front, rest) = attribute(alloc, s)?;
     let mut found = Vec::new(alloc);
-    found.push(front)?;
+    push(&mut found, front)?;
     let (attributes, rest) = attributes(alloc, rest, found)?;
     let value = None;
     Ok((Content { value, attributes }, rest))
@@ -124,7 +125,7 @@ fn attributes<'s>(
                 if after.len() >= rest.len() {
                     return Ok((found, rest));
                 }
-                found.push(next)?;
+                push(&mut found, next)?;
                 rest = after;
             }
             Err(Stop::Absent) => return Ok((found, rest)),

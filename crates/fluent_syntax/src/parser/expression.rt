@@ -14,6 +14,7 @@ use crate::parser::stop::Stop;
 use std::alloc::Global;
 
 /// Whether an expression may stand between braces without variants.
+#[inline(always)]
 fn stands_alone(x: &InlineExpression) -> bool
     ensures { result ≡ spec.stands_alone (inline_view x.now) }
 {
@@ -29,6 +30,7 @@ fn stands_alone(x: &InlineExpression) -> bool
 }
 
 /// The expression itself, before `rest`, where it needs no variants.
+#[inline(always)]
 fn alone<'s>(x: InlineExpression<'s>, rest: &'s str) -> Result<(Expression<'s>, &'s str), Stop>
     ensures { Gives expression_view result (spec.alone (inline_view x.entry) rest.now) }
 {
@@ -44,6 +46,7 @@ impl<
     G: Fn(Global, &'s str, usize) -> Result<(CallArguments<'s>, &'s str), Stop>,
 > Inner<F, G> {
     /// A select or an inline expression. The inline expression is read once, whether `->` follows it or not.
+    #[inline(always)]
     #[tactic(auto, unfolding(crate::specs::Expressions::expression))]
     fn expression(&self, s: &'s str) -> Result<(Expression<'s>, &'s str), Stop>
         requires braces { Reads expression_view (spec.level self.now.depth).braces self.now.depth (F.pre self.now.braces) (F.post self.now.braces) }

@@ -8,6 +8,7 @@ ghost use Rattle.fluent_syntax.specs.PieceView.{piece_view};
 ghost use Rattle.fluent_syntax.specs.Backwards.{backwards};
 
 use crate::ast::PatternElement;
+use crate::parser::list::push;
 use crate::parser::piece::{Piece, Slice};
 use std::alloc::{AllocError, Global};
 
@@ -33,12 +34,13 @@ fn push_feeds<'s>(out: &mut Vec<PatternElement<'s>>, count: usize) -> Result<(),
         → map element_view out.new.items ≡ backwards (replicate count spec.feed ++ done)) }
 {
     'feeds: for _turn in 0..count {
-        out.push(PatternElement::TextElement { value: "\n" })?;
+        push(out, PatternElement::TextElement { value: "\n" })?;
     }
     Ok(())
 }
 
 /// Adds a text, with the line feed that follows it, which was added before, if it does so directly.
+#[inline(always)]
 #[tactic(auto, unfolding(crate::specs::Layout::lines))]
 fn push_words<'s>(
     out: &mut Vec<PatternElement<'s>>,
@@ -52,18 +54,19 @@ fn push_words<'s>(
 {
     if after_line && let Some(value) = words.fed_text(common) {
         let _ = out.pop();
-        out.push(PatternElement::TextElement { value })?;
+        push(out, PatternElement::TextElement { value })?;
         return Ok(());
     }
     let value = words.text(common);
     if value.is_empty() {
         return Ok(());
     }
-    out.push(PatternElement::TextElement { value })?;
+    push(out, PatternElement::TextElement { value })?;
     Ok(())
 }
 
 /// Adds a piece before those that were added, of which the first is a line start or isn't. Answers whether this piece is one.
+#[inline(always)]
 #[tactic(auto, unfolding(crate::specs::Layout::lines))]
 fn push_piece<'s>(
     out: &mut Vec<PatternElement<'s>>,
@@ -86,7 +89,7 @@ fn push_piece<'s>(
             Ok(false)
         }
         Piece::Placeable(expression) => {
-            out.push(PatternElement::Placeable { expression })?;
+            push(out, PatternElement::Placeable { expression })?;
             Ok(false)
         }
     }
@@ -140,6 +143,7 @@ fn smaller(a: Option<usize>, b: Option<usize>) -> Option<usize>
 }
 
 /// Takes the line feeds off the end, which is the front of the pattern.
+#[inline(always)]
 fn drop_feeds<'s>(out: &mut Vec<PatternElement<'s>>)
     ensures { map element_view out.new.items ≡ spec.without_last spec.is_feed (map element_view out.old.items) }
 {
@@ -150,6 +154,7 @@ fn drop_feeds<'s>(out: &mut Vec<PatternElement<'s>>)
     out.truncate(end);
 }
 
+#[inline(always)]
 fn is_feed(element: &PatternElement<'_>) -> bool
     ensures { result ≡ spec.is_feed (element_view element.now) }
 {
@@ -160,7 +165,8 @@ fn is_feed(element: &PatternElement<'_>) -> bool
 }
 
 /// Where the last element is text, takes the spaces off its end, and takes it away where nothing is left.
-fn trim_last<'s>(out: &mut Vec<PatternElement<'s>>) -> Result<(), AllocError>
+#[inline(always)]
+pub fn trim_last<'s>(out: &mut Vec<PatternElement<'s>>) -> Result<(), AllocError>
     ensures { OnOk result (map element_view out.new.items ≡ spec.trim_last (map element_view out.old.items)) }
 {
     match out.pop() {
@@ -168,12 +174,12 @@ fn trim_last<'s>(out: &mut Vec<PatternElement<'s>>) -> Result<(), AllocError>
         Some(PatternElement::TextElement { value }) => {
             let value = without_spaces(value);
             if !value.is_empty() {
-                out.push(PatternElement::TextElement { value })?;
+                push(out, PatternElement::TextElement { value })?;
             }
             Ok(())
         }
         Some(PatternElement::Placeable { expression }) => {
-            out.push(PatternElement::Placeable { expression })?;
+            push(out, PatternElement::Placeable { expression })?;
             Ok(())
         }
     }

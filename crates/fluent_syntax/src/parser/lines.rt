@@ -8,6 +8,7 @@ ghost use Rattle.fluent_syntax.specs.View.{name_view, inline_view};
 use crate::ast::{Identifier, InlineExpression};
 use crate::parser::bytes::{Class, byte_at, eat, split_run};
 
+#[inline(always)]
 #[tactic(auto, unfolding(crate::specs::Lexical::identifier))]
 pub fn identifier<'s>(s: &'s str) -> Option<(Identifier<'s>, &'s str)>
     ensures { found name_view result ≡ spec.identifier s.now }
@@ -19,6 +20,7 @@ pub fn identifier<'s>(s: &'s str) -> Option<(Identifier<'s>, &'s str)>
     Some((Identifier { name }, rest))
 }
 
+#[inline(always)]
 #[tactic(auto, unfolding(crate::specs::Lexical::blank_inline, crate::specs::Parser::run1))]
 pub fn blank_inline(s: &str) -> Option<(usize, &str)>
     ensures gives { found (λ n. n) result ≡ spec.blank_inline s.now }
@@ -33,6 +35,7 @@ pub fn blank_inline(s: &str) -> Option<(usize, &str)>
 }
 
 /// What follows a line feed, or a carriage return and a line feed.
+#[inline(always)]
 #[tactic(auto, unfolding(crate::specs::Lexical::line_break))]
 pub fn line_break(s: &str) -> Option<&str>
     ensures { passed result ≡ spec.line_break s.now }
@@ -45,6 +48,7 @@ pub fn line_break(s: &str) -> Option<&str>
     eat(s, b'\n')
 }
 
+#[inline(always)]
 #[tactic(auto, unfolding(crate::specs::Lexical::line_end))]
 pub fn line_end(s: &str) -> Option<&str>
     ensures { passed result ≡ spec.line_end s.now }
@@ -55,6 +59,7 @@ pub fn line_end(s: &str) -> Option<&str>
     if s.is_empty() { Some(s) } else { None }
 }
 
+#[inline(always)]
 pub fn after_spaces(s: &str) -> &str
     ensures { parser.skip spec.blank_inline s.now ≡ Some (tt, result.now) }
 {
@@ -65,7 +70,20 @@ pub fn after_spaces(s: &str) -> &str
 }
 
 /// After blanks and line ends.
+#[inline(always)]
 pub fn after_blank(s: &str) -> &str
+    ensures { parser.skip spec.blank s.now ≡ Some (tt, result.now) }
+{
+    let rest = after_spaces(s);
+    if byte_at(rest, 0) > b' ' {
+        return rest;
+    }
+    after_lines(s)
+}
+
+/// The same where line ends stand among the blanks.
+#[inline(never)]
+fn after_lines(s: &str) -> &str
     ensures { parser.skip spec.blank s.now ≡ Some (tt, result.now) }
 {
     match blank(s) {
@@ -102,6 +120,7 @@ fn more_blanks(s: &str) -> (usize, &str)
     (count, rest)
 }
 
+#[inline(always)]
 #[tactic(auto, unfolding(crate::specs::Lexical::blank_turn))]
 fn blank_turn(s: &str) -> Option<&str>
     ensures { passed result ≡ spec.blank_turn s.now }
@@ -112,6 +131,7 @@ fn blank_turn(s: &str) -> Option<&str>
     line_end(s)
 }
 
+#[inline(always)]
 #[tactic(auto, unfolding(crate::specs::Lexical::blank_line))]
 pub fn blank_line(s: &str) -> Option<&str>
     ensures { passed result ≡ spec.blank_line s.now }
@@ -149,6 +169,7 @@ fn more_lines(s: &str) -> (usize, &str)
     (count, rest)
 }
 
+#[inline(always)]
 #[tactic(auto, unfolding(crate::specs::Lexical::variable_reference))]
 pub fn variable_reference<'s>(s: &'s str) -> Option<(InlineExpression<'s>, &'s str)>
     ensures { found inline_view result ≡ spec.variable_reference s.now }

@@ -1,5 +1,5 @@
 //! The pieces of a pattern, as they are read.
-ghost use Rattle.std.specs.Prelude.{◌≡◌, ◌+◌, ◌<◌, ◌≤◌, ℕ, true, false, Some, length, drop, slice_index, unwrap_or, IfSome, MatchOption, [], ◌∷◌, ◌++◌};
+ghost use Rattle.std.specs.Prelude.{None, ◌≡◌, ◌+◌, ◌<◌, ◌≤◌, ℕ, true, false, Some, length, drop, slice_index, unwrap_or, IfSome, MatchOption, [], ◌∷◌, ◌++◌};
 ghost use Rattle.fluent_syntax.specs.Layout.{dedented};
 ghost use Rattle.fluent_syntax.specs.Pieces as spec;
 ghost use Rattle.fluent_syntax.specs.Reading.{found};
@@ -35,6 +35,7 @@ impl<'s> Model for Slice<'s> {
 
 impl<'s> Slice<'s> {
     /// The text at the front of `text`, which follows the indent in `line`.
+    #[inline(always)]
     #[tactic(auto, unfolding(crate::specs::Pieces::words_after, crate::specs::Parser::run1))]
     fn read(line: &'s str, indent: Option<usize>, text: &'s str) -> Option<(Slice<'s>, &'s str)>
         requires within { unwrap_or indent 0 ≤ length line.now }
@@ -62,6 +63,17 @@ impl<'s> Slice<'s> {
         ))
     }
 
+    /// Text that no indent stands before, and no line feed behind.
+    pub fn in_line(whole: &'s str) -> Slice<'s>
+        ensures { result ≡ record { indent = None; bytes = whole.now; fed = false } }
+    {
+        Slice {
+            indent: None,
+            whole,
+            fed: None,
+        }
+    }
+
     /// The text without a common indent.
     pub fn text(&self, common: usize) -> &'s str
         ensures { result.now ≡ dedented common self.now }
@@ -79,6 +91,7 @@ impl<'s> Slice<'s> {
         Some(&fed[common.min(self.indent.unwrap_or(0))..])
     }
 
+    #[inline(always)]
     pub fn indent(&self) -> Option<usize>
         ensures { result ≡ self.now.indent }
     {
@@ -96,6 +109,7 @@ pub enum Piece<'s> {
 }
 
 /// `inline_text`
+#[inline(always)]
 pub fn inline_text<'s>(s: &'s str) -> Option<(Slice<'s>, &'s str)>
     ensures { found (λ w. w) result ≡ spec.inline_text s.now }
 {
@@ -103,6 +117,7 @@ pub fn inline_text<'s>(s: &'s str) -> Option<(Slice<'s>, &'s str)>
 }
 
 /// `block_text`, by its line ends and its text.
+#[inline(always)]
 #[tactic(auto, unfolding(crate::specs::Pieces::block_text))]
 pub fn block_text<'s>(s: &'s str) -> Option<((usize, Slice<'s>), &'s str)>
     ensures { found (λ p. p) result ≡ spec.block_text s.now }
@@ -118,6 +133,7 @@ pub fn block_text<'s>(s: &'s str) -> Option<((usize, Slice<'s>), &'s str)>
 }
 
 /// The indent before a placeable that begins a line.
+#[inline(always)]
 #[tactic(auto, unfolding(crate::specs::Pieces::indent))]
 pub fn indent<'s>(s: &'s str) -> (Slice<'s>, &'s str)
     ensures { spec.indent s.now ≡ Some (result.0, result.1.now) }

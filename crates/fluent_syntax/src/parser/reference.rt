@@ -14,6 +14,7 @@ use crate::parser::stop::Stop;
 use std::alloc::Global;
 
 /// A string or a number.
+#[inline(always)]
 #[tactic(auto, unfolding(crate::specs::Expressions::literal))]
 pub fn literal<'s>(s: &'s str) -> Option<(InlineExpression<'s>, &'s str)>
     ensures { found inline_view result ≡ spec.literal s.now }
@@ -25,6 +26,7 @@ pub fn literal<'s>(s: &'s str) -> Option<(InlineExpression<'s>, &'s str)>
     Some((InlineExpression::NumberLiteral { value }, rest))
 }
 
+#[inline(always)]
 #[tactic(auto, unfolding(crate::specs::Expressions::attribute_access))]
 fn attribute_access<'s>(s: &'s str) -> (Option<Identifier<'s>>, &'s str)
     ensures { spec.attribute_access s.now ≡ Some (attribute_of result.0, result.1.now) }
@@ -37,6 +39,7 @@ fn attribute_access<'s>(s: &'s str) -> (Option<Identifier<'s>>, &'s str)
     (None, s)
 }
 
+#[inline(always)]
 #[tactic(auto, unfolding(crate::specs::Expressions::message_reference))]
 fn message_reference<'s>(s: &'s str) -> Option<(InlineExpression<'s>, &'s str)>
     ensures { found inline_view result ≡ spec.message_reference s.now }
@@ -47,6 +50,7 @@ fn message_reference<'s>(s: &'s str) -> Option<(InlineExpression<'s>, &'s str)>
 }
 
 /// In upper case: capital letters, digits, `_` and `-`, a letter first.
+#[inline(always)]
 fn is_function_name(name: &str) -> bool
     ensures { result ≡ spec.is_function_name name.now }
 {
@@ -58,6 +62,7 @@ impl<
     F: Fn(Global, &'s str, usize) -> Result<(Expression<'s>, &'s str), Stop>,
     G: Fn(Global, &'s str, usize) -> Result<(CallArguments<'s>, &'s str), Stop>,
 > Inner<F, G> {
+    #[inline(always)]
     #[tactic(auto, unfolding(crate::specs::Expressions::function_reference))]
     fn function_reference(&self, s: &'s str) -> Result<(InlineExpression<'s>, &'s str), Stop>
         requires brackets { Reads arguments_view (spec.level self.now.depth).brackets self.now.depth (G.pre self.now.brackets) (G.post self.now.brackets) }
@@ -71,6 +76,7 @@ impl<
         Ok((InlineExpression::FunctionReference { id, arguments }, rest))
     }
 
+    #[inline(always)]
     #[tactic(auto, unfolding(crate::specs::Expressions::optional_call))]
     fn optional_call(&self, s: &'s str) -> Result<(Option<CallArguments<'s>>, &'s str), Stop>
         requires brackets { Reads arguments_view (spec.level self.now.depth).brackets self.now.depth (G.pre self.now.brackets) (G.post self.now.brackets) }
@@ -83,6 +89,7 @@ impl<
         }
     }
 
+    #[inline(always)]
     #[tactic(auto, unfolding(crate::specs::Expressions::term_reference))]
     fn term_reference(&self, s: &'s str) -> Result<(InlineExpression<'s>, &'s str), Stop>
         requires brackets { Reads arguments_view (spec.level self.now.depth).brackets self.now.depth (G.pre self.now.brackets) (G.post self.now.brackets) }
@@ -102,8 +109,23 @@ impl<
         ))
     }
 
-    #[tactic(auto, unfolding(crate::specs::Expressions::inline_expression))]
+    /// An expression that is no select. Variables, which most are, are tried first: nothing else begins as they do.
+    #[inline(always)]
+    #[tactic(auto, using(crate::proofs::References::variable_first))]
     pub fn inline_expression(&self, s: &'s str) -> Result<(InlineExpression<'s>, &'s str), Stop>
+        requires braces { Reads expression_view (spec.level self.now.depth).braces self.now.depth (F.pre self.now.braces) (F.post self.now.braces) }
+        requires brackets { Reads arguments_view (spec.level self.now.depth).brackets self.now.depth (G.pre self.now.brackets) (G.post self.now.brackets) }
+        ensures { Gives inline_view result (spec.inline_expression (spec.level self.now.depth) s.now) }
+    {
+        if let Some((x, rest)) = variable_reference(s) {
+            return Ok((x, rest));
+        }
+        self.any_expression(s)
+    }
+
+    #[inline(never)]
+    #[tactic(auto, unfolding(crate::specs::Expressions::inline_expression))]
+    fn any_expression(&self, s: &'s str) -> Result<(InlineExpression<'s>, &'s str), Stop>
         requires braces { Reads expression_view (spec.level self.now.depth).braces self.now.depth (F.pre self.now.braces) (F.post self.now.braces) }
         requires brackets { Reads arguments_view (spec.level self.now.depth).brackets self.now.depth (G.pre self.now.brackets) (G.post self.now.brackets) }
         ensures { Gives inline_view result (spec.inline_expression (spec.level self.now.depth) s.now) }

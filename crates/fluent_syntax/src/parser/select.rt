@@ -10,6 +10,7 @@ use crate::ast::{CallArguments, Expression, InlineExpression, Variant, VariantKe
 use crate::parser::bytes::eat;
 use crate::parser::inner::Inner;
 use crate::parser::lines::{after_blank, after_spaces, identifier, line_end};
+use crate::parser::list::push;
 use crate::parser::literal::number_literal;
 use crate::parser::pattern::pattern;
 use crate::parser::stop::Stop;
@@ -93,6 +94,7 @@ impl<
     }
 
     /// Variants in order, of which exactly one is the default.
+    #[inline(never)]
     #[tactic(auto, unfolding(crate::specs::Expressions::variant_list))]
     pub fn variant_list(&self, s: &'s str) -> Result<(Vec<Variant<'s>>, &'s str), Stop>
         requires braces { Reads expression_view (spec.level self.now.depth).braces self.now.depth (F.pre self.now.braces) (F.post self.now.braces) }
@@ -101,7 +103,7 @@ impl<
         let (before, rest) = self.variants(s, Vec::new(self.alloc))?;
         let (default, rest) = self.variant(rest, true)?;
         let mut found = before;
-        found.push(default)?;
+        push(&mut found, default)?;
         let (all, rest) = self.variants(rest, found)?;
         let rest = line_end(rest).ok_or(Stop::Absent)?;
         Ok((all, rest))
@@ -124,7 +126,7 @@ impl<
                     if after.len() >= rest.len() {
                         return Ok((found, rest));
                     }
-                    found.push(next)?;
+                    push(&mut found, next)?;
                     rest = after;
                 }
                 Err(Stop::Absent) => return Ok((found, rest)),

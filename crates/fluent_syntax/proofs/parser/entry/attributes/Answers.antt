@@ -10,7 +10,7 @@ pub attributes-preserved : goal.attributes-preserved
 attributes-preserved c =
     let n = length c.args.s.now in (
       search rules,
-      pushed attribute_view attribute (n - c.attributes._turn) (n - (c.attributes._turn + 1)) c.attributes.found.items c.attributes.rest.now c.in-Ok.next c.in-Ok.after.now c.push.new.self.items _ (omega arith) c.in-Ok.ensures (omega arith) c.in_ok-push-in-Ok.ensures.items c.attributes.invariant.1,
+      pushed attribute_view attribute (n - c.attributes._turn) (n - (c.attributes._turn + 1)) c.attributes.found.items c.attributes.rest.now c.in-Ok.next c.in-Ok.after.now c.push.new.list.items _ (omega arith) c.in-Ok.ensures (omega arith) c.in_ok-push-in-Ok.ensures.items c.attributes.invariant.1,
     )
 
 pub returns-then-after-rest : goal.returns-then-after-rest

@@ -1,4 +1,4 @@
-use Rattle.std.proofs.Common.{[], ◌∷◌, refl, sym, ap, ◌∙◌, map, rules, append-nil, append_assoc}
+use Rattle.std.proofs.Common.{[], ◌∷◌, refl, rules, append-nil, append_assoc}
 use Rattle.std.proofs.lemmas.List.{map-append}
 use Rattle.fluent_syntax.specs.Layout.{lines}
 use Rattle.fluent_syntax.specs.PieceView.{piece_view}

@@ -1,4 +1,4 @@
-use Rattle.std.proofs.Common.{◌≡◌, map, refl, sym, ap, ◌∙◌, rules}
+use Rattle.std.proofs.Common.{◌≡◌, map, ap, ◌∙◌}
 use Rattle.fluent_syntax.specs.View.{element_view}
 use Rattle.fluent_syntax.specs.Layout.{elements, lines, trim_last, trim_front, is_feed, common_indent}
 use Rattle.fluent_syntax.specs.PieceView.{piece_view}

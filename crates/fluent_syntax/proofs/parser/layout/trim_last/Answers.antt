@@ -1,9 +1,8 @@
-use Rattle.std.proofs.Common.{◌≡◌, ◌<◌, ◌≤◌, [], ◌∷◌, ◌++◌, length, map, refl, sym, ap, ◌∙◌, arith, rules}
+use Rattle.std.proofs.Common.{◌<◌, ◌≤◌, length, refl, sym, ap, ◌∙◌, arith}
 use Rattle.std.proofs.lemmas.Bool.Decides.{nat_tests}
-use Rattle.std.proofs.lemmas.List.{map-append}
 use Rattle.fluent_syntax.specs.Tree.{text, placeable}
 use Rattle.fluent_syntax.specs.View.{element_view, expression_view}
-use Rattle.fluent_syntax.specs.Layout.{trim_last, unless_empty}
+use Rattle.fluent_syntax.specs.Layout.{unless_empty}
 use Rattle.fluent_syntax.proofs.Ends.{trimmed_last, trimmed_away}
 use Rattle.fluent_syntax.proofs.Views.{view_text, view_text_in, view_placeable, view_placeable_in}
 use Rattle.fluent_syntax.proofs.Lines.{not_empty, is_empty}

@@ -10,7 +10,7 @@ pub variants-preserved : goal.variants-preserved
 variants-preserved g c =
     let n = length c.args.s.now in (
       search rules,
-      pushed variant_view (variant (level c.args.self.now.depth) false) (n - c.variants._turn) (n - (c.variants._turn + 1)) c.variants.found.items c.variants.rest.now c.in-Ok.next c.in-Ok.after.now c.push.new.self.items _ (omega arith) c.in-Ok.ensures (omega arith) c.in_ok-push-in-Ok.ensures.items c.variants.invariant.1,
+      pushed variant_view (variant (level c.args.self.now.depth) false) (n - c.variants._turn) (n - (c.variants._turn + 1)) c.variants.found.items c.variants.rest.now c.in-Ok.next c.in-Ok.after.now c.push.new.list.items _ (omega arith) c.in-Ok.ensures (omega arith) c.in_ok-push-in-Ok.ensures.items c.variants.invariant.1,
     )
 
 pub returns-then-after-rest : goal.returns-then-after-rest

@@ -1,4 +1,4 @@
-use Rattle.std.proofs.Common.{◌≡◌, ◌≤◌, ◌++◌, [], ◌∷◌, true, length, length-append, ◌∙◌, ap, sym, unwrap_or, arith, rules}
+use Rattle.std.proofs.Common.{◌≡◌, ◌≤◌, ◌++◌, [], ◌∷◌, length, length-append, ◌∙◌, ap, unwrap_or, arith, rules}
 use Rattle.fluent_syntax.proofs.Cuts.{boundary-spaces, cut_fed_is, spaces_fed}
 use Rattle.fluent_syntax.proofs.parser.piece.Slice.fed_text.Goals as goal
 

@@ -1,4 +1,4 @@
-use Rattle.std.proofs.Common.{◌∙◌, sym, unwrap_or, arith, rules}
+use Rattle.std.proofs.Common.{◌∙◌, unwrap_or, arith, rules}
 use Rattle.fluent_syntax.proofs.Cuts.{boundary-spaces, cut_is}
 use Rattle.fluent_syntax.proofs.parser.piece.Slice.text.Goals as goal
 

@@ -1,0 +1,64 @@
+-- How far a pattern was read.
+use Rattle.std.specs.Prelude.{◌≡◌, ℕ, Bool, false, ◌||◌, ◌==◌, List, [], ◌∷◌, ◌++◌, length, map, Some, None, Result, Ok, Err}
+use Rattle.std.specs.Borrow.{Bor}
+use Rattle.fluent_syntax.specs.Parser.{Read, Parser, ◌<$>◌, ◌<|>◌, many_from, first, run_len}
+use Rattle.fluent_syntax.specs.Tree.{Expression, Element, text, placeable}
+use Rattle.fluent_syntax.specs.Lexical.{is_text}
+use Rattle.fluent_syntax.specs.Layout.{Piece, line, words, hole, elements, trim_last}
+use Rattle.fluent_syntax.specs.Pieces.{inline_text, block_text, block_placeable, pattern_element, pieces}
+use Rattle.fluent_syntax.specs.Expressions.{level}
+use Rattle.fluent_syntax.specs.declared.parser.stop.Stop.{Stop}
+use Rattle.fluent_syntax.specs.declared.parser.stop.Stop.TheVariants.{Absent, Memory}
+use Rattle.fluent_syntax.specs.declared.parser.first_line.Line.{Line}
+use Rattle.fluent_syntax.specs.declared.parser.first_line.Line.TheVariants.{Whole, Open}
+
+-- a byte that no text of an indented line begins with
+abbrev pub closes_pattern : ℕ → Bool
+closes_pattern c = ((c == 91 || c == 42) || c == 46) || c == 125
+
+-- where neither text nor a brace stands next, no line that follows goes on with the pattern
+abbrev pub Ends : List ℕ → Type 0
+Ends s = run_len is_text s ≡ 0 → (first s == 123) ≡ false → (n : ℕ) → pattern_element (level n).braces s ≡ None
+
+-- these pieces and those that follow them
+abbrev pub goes_on : ℕ → List Piece → Parser (List Piece)
+goes_on n ps = λ s. many_from ◌++◌ (pattern_element (level n).braces) (length s) ps s
+
+-- these pieces stand between the start of a pattern and what is left of it
+abbrev pub Reached : ℕ → List ℕ → List Piece → List ℕ → Type 0
+Reached n whole [] s = s ≡ whole
+Reached n whole (p ∷ ps) s = pieces (level n).braces whole ≡ goes_on n (p ∷ ps) s
+
+-- the pieces of a pattern that ends here; with none of them there is no pattern
+abbrev pub ended : List Piece → Parser (List Piece)
+ended [] = λ s. None
+ended (p ∷ ps) = λ s. Some (p ∷ ps, s)
+
+-- an element that no line end stands behind, as a piece
+abbrev pub piece_of : Element → Piece
+piece_of (text u) = words (record { indent = None; bytes = u; fed = false })
+piece_of (placeable x) = hole x
+
+-- what the elements of a pattern's first line say: they are the pattern but for the spaces at its end, or the pattern may go on behind them
+abbrev pub IsFirstLine : ℕ → List ℕ → List Element → Line → Type 0
+IsFirstLine n whole es (Whole rest) = (ps : List Piece) × (pieces (level n).braces whole ≡ ended ps rest.now) × (elements ps ≡ trim_last es) × (length ps ≡ length es)
+IsFirstLine n whole es (Open rest) = Reached n whole (map piece_of es) rest.now
+
+-- a placeable that was read stands behind the elements that were there
+abbrev pub Places : Result (Bor (List ℕ)) Stop → List Element → List Element → Read Expression → Type 0
+Places (Ok rest) old new r = (x : Expression) × (r ≡ Some (x, rest.now)) × (new ≡ old ++ placeable x ∷ [])
+Places (Err Absent) old new r = (r ≡ None) × (new ≡ old)
+Places (Err Memory) old new r = Unit {0}
+
+-- inline_text | block_text, and inline_placeable | block_placeable: together the elements of a pattern
+abbrev pub text_pieces : Parser (List Piece)
+text_pieces = ((λ w. words w ∷ []) <$> inline_text) <|> ((λ p. line p.0 ∷ words p.1 ∷ []) <$> block_text)
+
+abbrev pub hole_pieces : ℕ → Parser (List Piece)
+hole_pieces n = ((λ x. hole x ∷ []) <$> (level n).braces) <|> block_placeable (level n).braces
+
+-- the pieces that were read, one at least, stand behind those that were there
+abbrev pub Adds : Result (Bor (List ℕ)) Stop → List Piece → List Piece → Read (List Piece) → Type 0
+Adds (Ok rest) old new r = (q : Piece) × (qs : List Piece) × (r ≡ Some (q ∷ qs, rest.now)) × (new ≡ old ++ q ∷ qs)
+Adds (Err Absent) old new r = (r ≡ None) × (new ≡ old)
+Adds (Err Memory) old new r = Unit {0}

@@ -1,0 +1,127 @@
+//! The first line of a pattern, read straight into its elements.
+ghost use Rattle.std.specs.Prelude.{◌≡◌, ◌++◌, false, OnOk, IfOk};
+ghost use Rattle.fluent_syntax.specs.Expressions.{level};
+ghost use Rattle.fluent_syntax.specs.Layout.{unless_empty};
+ghost use Rattle.fluent_syntax.specs.Nests.{Reads};
+ghost use Rattle.fluent_syntax.specs.Progress.{closes_pattern, Ends, Places, IsFirstLine};
+ghost use Rattle.fluent_syntax.specs.Reading.{all};
+ghost use Rattle.fluent_syntax.specs.View.{element_view, expression_view};
+
+use crate::ast::{Expression, PatternElement};
+use crate::parser::bare::bare_placeable;
+use crate::parser::bytes::{Class, byte_at, split_run};
+use crate::parser::lines::{blank_block, blank_inline};
+use crate::parser::list::push;
+use crate::parser::stop::Stop;
+use std::alloc::{AllocError, Global};
+
+/// What follows the elements of a pattern's first line.
+#[derive(Drop)]
+pub enum Line<'s> {
+    /// They are the whole pattern, and this stands behind it.
+    Whole(&'s str),
+    /// The pattern may go on with this.
+    Open(&'s str),
+}
+
+/// Whether a pattern may go on with the lines behind a line's text. It may not before an attribute, a variant or the end of a select.
+pub fn may_go_on(s: &str) -> bool
+    ensures { (result ≡ false) → Ends s.now }
+{
+    let Some((_, line)) = blank_block(s) else {
+        return true;
+    };
+    let Some((_, text)) = blank_inline(line) else {
+        return byte_at(line, 0) == b'{';
+    };
+    if closes_pattern(byte_at(text, 0)) {
+        return false;
+    }
+    true
+}
+
+/// Whether an indented line that begins with this byte belongs to what follows a pattern: a variant, an attribute, or the end of a select.
+fn closes_pattern(byte: u8) -> bool
+    ensures { result ≡ closes_pattern byte }
+{
+    byte == b'[' || byte == b'*' || byte == b'.' || byte == b'}'
+}
+
+/// Adds a text, unless it is empty.
+#[inline(never)]
+fn push_text<'s>(found: &mut Vec<PatternElement<'s>>, value: &'s str) -> Result<(), AllocError>
+    ensures { OnOk result (all element_view found.new ≡ all element_view found.old ++ unless_empty value.now) }
+{
+    if value.is_empty() {
+        return Ok(());
+    }
+    push(found, PatternElement::TextElement { value })
+}
+
+/// Reads a placeable and adds it. One that holds a reference alone, as most do, is read at once.
+#[inline(never)]
+fn push_placeable<'s, F: Fn(Global, &'s str, usize) -> Result<(Expression<'s>, &'s str), Stop>>(
+    alloc: Global,
+    s: &'s str,
+    depth: usize,
+    braces: &F,
+    found: &mut Vec<PatternElement<'s>>,
+) -> Result<&'s str, Stop>
+    requires braces { Reads expression_view (level depth).braces depth (F.pre braces.now) (F.post braces.now) }
+    ensures { Places result (all element_view found.old) (all element_view found.new) ((level depth).braces s.now) }
+{
+    if depth > 0
+        && let Some((expression, rest)) = bare_placeable(s)
+    {
+        push(found, PatternElement::Placeable { expression })?;
+        return Ok(rest);
+    }
+    push_any_placeable(alloc, s, depth, braces, found)
+}
+
+#[inline(never)]
+fn push_any_placeable<'s, F: Fn(Global, &'s str, usize) -> Result<(Expression<'s>, &'s str), Stop>>(
+    alloc: Global,
+    s: &'s str,
+    depth: usize,
+    braces: &F,
+    found: &mut Vec<PatternElement<'s>>,
+) -> Result<&'s str, Stop>
+    requires braces { Reads expression_view (level depth).braces depth (F.pre braces.now) (F.post braces.now) }
+    ensures { Places result (all element_view found.old) (all element_view found.new) ((level depth).braces s.now) }
+{
+    let (expression, rest) = braces(alloc, s, depth)?;
+    push(found, PatternElement::Placeable { expression })?;
+    Ok(rest)
+}
+
+/// The texts and placeables of a pattern's first line. Where the pattern may go on, the line's last text is left.
+pub fn first_line<'s, F: Fn(Global, &'s str, usize) -> Result<(Expression<'s>, &'s str), Stop>>(
+    alloc: Global,
+    s: &'s str,
+    depth: usize,
+    braces: &F,
+) -> Result<(Vec<PatternElement<'s>>, Line<'s>), AllocError>
+    requires braces { Reads expression_view (level depth).braces depth (F.pre braces.now) (F.post braces.now) }
+    ensures { IfOk result (λ p. IsFirstLine depth s.now (all element_view p.0) p.1) }
+{
+    let mut found = Vec::new(alloc);
+    let mut rest = s;
+    'elements: for _turn in 0..s.len() {
+        let (value, after) = split_run(rest, Class::Text);
+        if byte_at(after, 0) != b'{' {
+            if may_go_on(after) {
+                return Ok((found, Line::Open(rest)));
+            }
+            push_text(&mut found, value)?;
+            return Ok((found, Line::Whole(after)));
+        }
+        push_text(&mut found, value)?;
+        match push_placeable(alloc, after, depth, braces, &mut found) {
+            Ok(next) => rest = next,
+            Err(Stop::Absent) => return Ok((found, Line::Whole(after))),
+            Err(Stop::Memory) => return Err(AllocError),
+        }
+    }
+    Ok((found, Line::Open(rest)))
+}

@@ -1,0 +1,158 @@
+//! The pieces of a pattern that has several lines.
+ghost use Rattle.std.specs.Prelude.{◌≡◌, ℕ, List, map, IfOk};
+ghost use Rattle.fluent_syntax.specs.Expressions.{level};
+ghost use Rattle.fluent_syntax.specs.Nests.{Reads};
+ghost use Rattle.fluent_syntax.specs.Pieces.{pattern_element, pieces};
+ghost use Rattle.fluent_syntax.specs.PieceView.{piece_view};
+ghost use Rattle.fluent_syntax.specs.Progress.{Reached, Adds, piece_of, ended, text_pieces, hole_pieces};
+ghost use Rattle.fluent_syntax.specs.Reading.{Gives, all};
+ghost use Rattle.fluent_syntax.specs.View.{element_view, expression_view};
+
+use crate::ast::{Expression, PatternElement};
+use crate::parser::bare::bare_placeable;
+use crate::parser::lines::blank_block;
+use crate::parser::list::push;
+use crate::parser::piece::{Piece, Slice, block_text, indent, inline_text};
+use crate::parser::stop::Stop;
+use std::alloc::{AllocError, Global};
+
+/// The elements of a pattern's first line, as pieces.
+pub fn as_pieces<'s>(
+    alloc: Global,
+    front: Vec<PatternElement<'s>>,
+) -> Result<Vec<Piece<'s>>, AllocError>
+    ensures { IfOk result (λ found. all piece_view found ≡ map piece_of (all element_view front.entry)) }
+{
+    let mut pieces = Vec::with_capacity(alloc, front.len())?;
+    'elements: for element in front {
+        push(&mut pieces, as_piece(element))?;
+    }
+    Ok(pieces)
+}
+
+fn as_piece<'s>(element: PatternElement<'s>) -> Piece<'s>
+    ensures { piece_view result ≡ piece_of (element_view element.entry) }
+{
+    match element {
+        PatternElement::TextElement { value } => Piece::Words(Slice::in_line(value)),
+        PatternElement::Placeable { expression } => Piece::Placeable(expression),
+    }
+}
+
+/// All pieces of a pattern, of which the first were found already.
+pub fn more_pieces<'s, F: Fn(Global, &'s str, usize) -> Result<(Expression<'s>, &'s str), Stop>>(
+    alloc: Global,
+    s: &'s str,
+    depth: usize,
+    braces: &F,
+    mut found: Vec<Piece<'s>>,
+) -> Result<(Vec<Piece<'s>>, &'s str), Stop>
+    requires braces { Reads expression_view (level depth).braces depth (F.pre braces.now) (F.post braces.now) }
+    ensures { (whole : List ℕ) → Reached depth whole (all piece_view found.entry) s.now → Gives (all piece_view) result (pieces (level depth).braces whole) }
+{
+    let mut rest = s;
+    'pieces: while !rest.is_empty() {
+        match push_element(alloc, rest, depth, braces, &mut found) {
+            Ok(after) => rest = after,
+            Err(Stop::Absent) => return all_found(found, rest),
+            Err(Stop::Memory) => return Err(Stop::Memory),
+        }
+    }
+    all_found(found, rest)
+}
+
+/// The pieces before what follows them, if there are any.
+fn all_found<'s>(found: Vec<Piece<'s>>, rest: &'s str) -> Result<(Vec<Piece<'s>>, &'s str), Stop>
+    ensures { Gives (all piece_view) result (ended (all piece_view found.entry) rest.now) }
+{
+    if found.is_empty() {
+        return Err(Stop::Absent);
+    }
+    Ok((found, rest))
+}
+
+/// Reads a text or a placeable with what stands before it on its line, and adds it.
+fn push_element<'s, F: Fn(Global, &'s str, usize) -> Result<(Expression<'s>, &'s str), Stop>>(
+    alloc: Global,
+    s: &'s str,
+    depth: usize,
+    braces: &F,
+    found: &mut Vec<Piece<'s>>,
+) -> Result<&'s str, Stop>
+    requires braces { Reads expression_view (level depth).braces depth (F.pre braces.now) (F.post braces.now) }
+    ensures { Adds result (all piece_view found.old) (all piece_view found.new) (pattern_element (level depth).braces s.now) }
+{
+    match push_words(s, found) {
+        Ok(rest) => Ok(rest),
+        Err(Stop::Memory) => Err(Stop::Memory),
+        Err(Stop::Absent) => push_hole(alloc, s, depth, braces, found),
+    }
+}
+
+fn push_words<'s>(s: &'s str, found: &mut Vec<Piece<'s>>) -> Result<&'s str, Stop>
+    ensures { Adds result (all piece_view found.old) (all piece_view found.new) (text_pieces s.now) }
+{
+    if let Some((words, rest)) = inline_text(s) {
+        push(found, Piece::Words(words))?;
+        return Ok(rest);
+    }
+    if let Some((parts, rest)) = block_text(s) {
+        let (ends, words) = parts;
+        push(found, Piece::Line(ends))?;
+        push(found, Piece::Words(words))?;
+        return Ok(rest);
+    }
+    Err(Stop::Absent)
+}
+
+/// Reads a placeable, with what stands before it on its line, and adds it. One that holds a reference alone is read at once.
+#[inline(never)]
+fn push_hole<'s, F: Fn(Global, &'s str, usize) -> Result<(Expression<'s>, &'s str), Stop>>(
+    alloc: Global,
+    s: &'s str,
+    depth: usize,
+    braces: &F,
+    found: &mut Vec<Piece<'s>>,
+) -> Result<&'s str, Stop>
+    requires braces { Reads expression_view (level depth).braces depth (F.pre braces.now) (F.post braces.now) }
+    ensures { Adds result (all piece_view found.old) (all piece_view found.new) (hole_pieces depth s.now) }
+{
+    if depth > 0
+        && let Some((x, rest)) = bare_placeable(s)
+    {
+        push(found, Piece::Placeable(x))?;
+        return Ok(rest);
+    }
+    push_any_hole(alloc, s, depth, braces, found)
+}
+
+#[inline(never)]
+#[tactic(auto, unfolding(crate::specs::Pieces::block_placeable))]
+fn push_any_hole<'s, F: Fn(Global, &'s str, usize) -> Result<(Expression<'s>, &'s str), Stop>>(
+    alloc: Global,
+    s: &'s str,
+    depth: usize,
+    braces: &F,
+    found: &mut Vec<Piece<'s>>,
+) -> Result<&'s str, Stop>
+    requires braces { Reads expression_view (level depth).braces depth (F.pre braces.now) (F.post braces.now) }
+    ensures { Adds result (all piece_view found.old) (all piece_view found.new) (hole_pieces depth s.now) }
+{
+    match braces(alloc, s, depth) {
+        Ok((x, rest)) => {
+            push(found, Piece::Placeable(x))?;
+            return Ok(rest);
+        }
+        Err(Stop::Memory) => return Err(Stop::Memory),
+        Err(Stop::Absent) => {}
+    }
+    let Some((ends, line)) = blank_block(s) else {
+        return Err(Stop::Absent);
+    };
+    let (words, rest) = indent(line);
+    let (x, rest) = braces(alloc, rest, depth)?;
+    push(found, Piece::Line(ends))?;
+    push(found, Piece::Words(words))?;
+    push(found, Piece::Placeable(x))?;
+    Ok(rest)
+}
