@@ -2,10 +2,11 @@
 use Rattle.std.proofs.Common.{◌≡◌, ℕ, zero, suc, ◌+◌, ◌<◌, ◌++◌, Bool, refl, sym, ap, subst, ◌∙◌, arith, ◌⊎◌, inl, inr, ⊎_elim}
 use Rattle.fluent_syntax.specs.Tree.{Text, Pattern}
 use Rattle.fluent_bundle.specs.Agree.{AgreesWithin}
-use Rattle.fluent_bundle.specs.ByText.{Arguments}
+use Rattle.fluent_meaning.specs.Value.{Value}
+use Rattle.fluent_meaning.specs.Arguments.{Map}
 use Rattle.fluent_meaning.specs.Meaning.{Outcome, by_substitution, first_mark, last_mark, Budget, left, struck, Ran, after_text, closed, ending, within_budget, opening}
 use Rattle.fluent_bundle.specs.Interim.{substituted, ran}
-use Rattle.fluent_bundle.specs.State.{State}
+use Rattle.fluent_meaning.specs.Bundle.{Bundle}
 use Rattle.fluent_bundle.proofs.Related.{Relation, whole_related}
 
 -- within the limit: the same value and errors, and what is left with what was opened is the budget
@@ -82,24 +83,24 @@ agrees = record {
   element = element_agrees;
 }
 
-meets : (s : State) (env : Arguments) (p : Pattern) (n : ℕ) → Meets n (substituted s env p) (ran s env p (left n))
+meets : {C : Type 0} (s : Bundle C) (env : Map (Value C)) (p : Pattern) (n : ℕ) → Meets n (substituted s env p) (ran s env p (left n))
 meets s env p n = (whole_related by_substitution within_budget agrees s env p).at n
 
-pub within : (s : State) (env : Arguments) (p : Pattern) (n : ℕ) → AgreesWithin n (substituted s env p) (ran s env p (left n))
+pub within : {C : Type 0} (s : Bundle C) (env : Map (Value C)) (p : Pattern) (n : ℕ) → AgreesWithin n (substituted s env p) (ran s env p (left n))
 within s env p n h = same (meets s env p n) h
   where
     same : {o : Outcome Text} {r : Ran Text} → Meets n o r → AgreesWithin n o r
     same (inl k) h = record { left_over = k.left_over; budget = k.budget; total = k.total; text = k.value; errors = k.errors }
     same (inr k) h = absurd (omega (arith, k.more_opened))
 
-pub struck_beyond : (s : State) (env : Arguments) (p : Pattern) (n : ℕ) → (ran s env p (left n)).budget ≡ struck → n < (substituted s env p).opened
+pub struck_beyond : {C : Type 0} (s : Bundle C) (env : Map (Value C)) (p : Pattern) (n : ℕ) → (ran s env p (left n)).budget ≡ struck → n < (substituted s env p).opened
 struck_beyond s env p n h = by_case _ _ (meets s env p n) h
   where
     by_case : (o : Outcome Text) (r : Ran Text) → Meets n o r → r.budget ≡ struck → n < o.opened
     by_case o r (inl k) h = absurd (let e : left k.left_over ≡ struck = sym k.budget ∙ h in cc)
     by_case o r (inr k) h = k.more_opened
 
-pub beyond_struck : (s : State) (env : Arguments) (p : Pattern) (n : ℕ) → n < (substituted s env p).opened → (ran s env p (left n)).budget ≡ struck
+pub beyond_struck : {C : Type 0} (s : Bundle C) (env : Map (Value C)) (p : Pattern) (n : ℕ) → n < (substituted s env p).opened → (ran s env p (left n)).budget ≡ struck
 beyond_struck s env p n h = by_case _ _ (meets s env p n) h
   where
     by_case : (o : Outcome Text) (r : Ran Text) → Meets n o r → n < o.opened → r.budget ≡ struck

@@ -1,11 +1,10 @@
 -- What holds of each step of two walks holds of the walks.
 use Rattle.std.proofs.Common.{Bool, [], Option, Some, None}
-use Rattle.std.specs.FinMap.{get}
 use Rattle.fluent_syntax.specs.Tree.{Text, Pattern, nothing, more, Element, text, placeable, Expression, inline, select, string, number, function, message, term, variable, nested, Inline}
-use Rattle.fluent_bundle.specs.ByText.{Arguments}
+use Rattle.fluent_meaning.specs.Value.{Value}
+use Rattle.fluent_meaning.specs.Arguments.{Map, get}
 use Rattle.fluent_meaning.specs.Errors.{ResolverError}
-use Rattle.fluent_bundle.specs.State.{State}
-use Rattle.fluent_bundle.specs.Value.{Value}
+use Rattle.fluent_meaning.specs.Bundle.{Bundle}
 use Rattle.fluent_meaning.specs.Walk.{Steps, has_one}
 use Rattle.fluent_bundle.specs.Interim.{elements, part, inline_text, expression_text, variable_text, whole}
 
@@ -16,14 +15,14 @@ pub record Relation (S T : Steps) : Type 1 where
   pub opens : (isolated : Bool) (t : Text) (m : S.M Text) (n : T.M Text) → At m n → At (S.opens isolated t m) (T.opens isolated t n)
   pub element : (m k : S.M Text) (n l : T.M Text) → At m n → At k l → At (S.element m k) (T.element n l)
 
-module _ (S T : Steps) (R : Relation S T) (s : State) (env : Arguments) where
-  variable_related : (x : Text) (v : Option Value) → R.At (variable_text S s env x v) (variable_text T s env x v)
+module _ (S T : Steps) (R : Relation S T) {C : Type 0} (s : Bundle C) (env : Map (Value C)) where
+  variable_related : (x : Text) (v : Option (Value C)) → R.At (variable_text S s env x v) (variable_text T s env x v)
   variable_related x None = R.fails _ _
   variable_related x (Some v) = R.give _
 
   mutual
     inline_related : (x : Inline) → R.At (inline_text S s env x) (inline_text T s env x)
-    inline_related (variable x) = variable_related x (get env x)
+    inline_related (variable x) = variable_related x (get x env)
     inline_related (string t) = R.give _
     inline_related (number t) = R.give _
     inline_related (function f a) = R.give _
@@ -36,7 +35,7 @@ module _ (S T : Steps) (R : Relation S T) (s : State) (env : Arguments) where
     expression_related (select x vs) = R.give _
 
   part_related : (one : Bool) (e : Element) → R.At (part S s env one e) (part T s env one e)
-  part_related one (text t) = R.give t
+  part_related one (text t) = R.give _
   part_related one (placeable e) = R.opens _ _ _ _ (expression_related e)
 
   elements_related : (one : Bool) (p : Pattern) → R.At (elements S s env one p) (elements T s env one p)

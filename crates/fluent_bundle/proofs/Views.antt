@@ -97,16 +97,19 @@ view_string_in x t h = ap inline_view h ∙ view_string t
 pub view_nested_in : (x : of_inline.InlineExpression) (b : Box of_expression.Expression Global) → x ≡ inlines.Placeable b → inline_view x ≡ nested (expression_view b.value)
 view_nested_in x b h = ap inline_view h ∙ view_nested b
 
--- all but a variable, a string literal and a nested placeable
-pub view_unresolved : (x : of_inline.InlineExpression) → ((id : Identifier) → x ≡ inlines.VariableReference id → ⊥) → ((t : Bor (List ℕ)) → x ≡ inlines.StringLiteral t → ⊥) → ((b : Box of_expression.Expression Global) → x ≡ inlines.Placeable b → ⊥) → IsUnresolved (inline_view x)
-view_unresolved x v q n = by_case (of_inline.out-InlineExpression x) refl
+pub view_number_in : (x : of_inline.InlineExpression) (t : Bor (List ℕ)) → x ≡ inlines.NumberLiteral t → inline_view x ≡ number t.now
+view_number_in x t h = ap inline_view h ∙ view_number t
+
+-- all but a variable, a literal and a nested placeable
+pub view_unresolved : (x : of_inline.InlineExpression) → ((id : Identifier) → x ≡ inlines.VariableReference id → ⊥) → ((t : Bor (List ℕ)) → x ≡ inlines.StringLiteral t → ⊥) → ((t : Bor (List ℕ)) → x ≡ inlines.NumberLiteral t → ⊥) → ((b : Box of_expression.Expression Global) → x ≡ inlines.Placeable b → ⊥) → IsUnresolved (inline_view x)
+view_unresolved x v q d n = by_case (of_inline.out-InlineExpression x) refl
   where
     made : (o : Level) → of_inline.out-InlineExpression x ≡ o → x ≡ of_inline.roll-InlineExpression o
     made o h = sym (of_inline.roll-out-InlineExpression x) ∙ ap of_inline.roll-InlineExpression h
 
     by_case : (o : Level) → of_inline.out-InlineExpression x ≡ o → IsUnresolved (inline_view x)
     by_case (level.StringLiteral t) h = absurd (q t (made _ h ∙ inlines.rolls-StringLiteral t))
-    by_case (level.NumberLiteral t) h = subst IsUnresolved (sym (ap inline_view (made _ h ∙ inlines.rolls-NumberLiteral t) ∙ view_number t)) tt
+    by_case (level.NumberLiteral t) h = absurd (d t (made _ h ∙ inlines.rolls-NumberLiteral t))
     by_case (level.FunctionReference id a) h = subst IsUnresolved (sym (ap inline_view (made _ h ∙ inlines.rolls-FunctionReference id a) ∙ view_function id a)) tt
     by_case (level.MessageReference id a) h = subst IsUnresolved (sym (ap inline_view (made _ h ∙ inlines.rolls-MessageReference id a) ∙ view_message id a)) tt
     by_case (level.TermReference id a c) h = subst IsUnresolved (sym (ap inline_view (made _ h ∙ inlines.rolls-TermReference id a c) ∙ view_term id a c)) tt

@@ -1,29 +1,39 @@
 -- The content of resources, messages and bundles of the code.
-use Rattle.std.specs.Prelude.{Bool, List, map, Result, Ok, Err, ◌≡◌, ◌≢◌, []}
-use Rattle.std.specs.FinMap.{from_entries}
+use Rattle.std.specs.Prelude.{Bool, not, is_some, List, map, Option, Some, None, Result, Ok, Err, ◌≡◌, ◌≢◌, [], ◌∷◌, ◌++◌, if◌then◌else◌}
+use Rattle.std.specs.Option.{option_map}
+use Rattle.std.specs.Cow.{cow_str_bytes}
 use Rattle.std.specs.HashMap.{HashMap}
 use Rattle.std.specs.HashSet.{HashSet, contains_by}
 use Rattle.std.specs.Str.{bytes_eq}
-use Rattle.std.proofs.Common.{Bor}
+use Rattle.std.specs.Slice.Iter.{iter_rest}
+use Rattle.std.specs.declared.borrow.CowStr.{CowStr}
+use Rattle.std.proofs.Common.{Bor, Global}
 use Rattle.fluent_syntax.specs.Tree as t
-use Rattle.fluent_syntax.specs.Tree.{Text}
+use Rattle.fluent_syntax.specs.Tree.{Text, Pattern, Attributes}
 use Rattle.fluent_syntax.specs.View as view
-use Rattle.fluent_syntax.specs.View.{attribute_view, resource_view}
+use Rattle.fluent_syntax.specs.View.{attribute_view, pattern_view, resource_view}
 use Rattle.fluent_syntax.specs.Chunks.{entries, junk_ranges}
 use Rattle.fluent_syntax.specs.Parsed.{error_range}
 use Rattle.fluent_syntax.specs.declared.ast.Message.{Message}
-use Rattle.fluent_bundle.specs.ByText.{ByText}
-use Rattle.fluent_bundle.specs.View.{error_view}
-use Rattle.fluent_bundle.specs.State.{State, Content, Known, known_message, Step, after, add, isolate, overridden}
+use Rattle.fluent_syntax.specs.declared.ast.Term.{Term}
+use Rattle.fluent_intl.specs.declared.language.LanguageIdentifier.{LanguageIdentifier}
+use Rattle.fluent_meaning.specs.Number.{is_text}
+use Rattle.fluent_meaning.specs.Value.{Value, Plurals}
+use Rattle.fluent_meaning.specs.Arguments.{Map, get, number_function}
+use Rattle.fluent_meaning.specs.Bundle.{Bundle, Function, a_message, a_term, a_function, number_builtin, transform_of, formatter_of, Call, after, after_all, answered}
+use Rattle.fluent_meaning.specs.Bundle as m
+use Rattle.fluent_bundle.specs.View.{error_view, by_name}
 use Rattle.fluent_bundle.specs.declared.resource.FluentResource.{FluentResource}
 use Rattle.fluent_bundle.specs.declared.resource.TryNewFault.{TryNewFault}
 use Rattle.fluent_bundle.specs.declared.resource.TryNewFault.TheVariants as refused
 use Rattle.fluent_bundle.specs.declared.message.FluentMessage.{FluentMessage}
+use Rattle.fluent_bundle.specs.declared.message.FluentAttribute.{FluentAttribute}
+use Rattle.fluent_bundle.specs.declared.message.Attributes.{Attributes as IteratedAttributes}
 use Rattle.fluent_bundle.specs.declared.entry.Entry.{Entry}
-use Rattle.fluent_bundle.specs.declared.entry.Entry.TheVariants as named
+use Rattle.fluent_bundle.specs.declared.entry.Entry.TheVariants as entry
+use Rattle.fluent_bundle.specs.declared.entry.FunctionRef.{FunctionRef}
+use Rattle.fluent_bundle.specs.declared.entry.FunctionRef.TheVariants as function
 use Rattle.fluent_bundle.specs.declared.bundle.FluentBundle.{FluentBundle}
-use Rattle.fluent_bundle.specs.declared.calls.Call.{Call}
-use Rattle.fluent_bundle.specs.declared.calls.Call.TheVariants as call
 use Rattle.fluent_bundle.specs.declared.bundle.AddFault.{AddFault}
 use Rattle.fluent_bundle.specs.declared.bundle.AddFault.TheVariants as fault
 
@@ -41,33 +51,108 @@ Tried source (Ok r) = IsRead source r × (junk_ranges source ≡ [])
 Tried source (Err (refused.Parser r errors)) = IsRead source r × (map error_range errors.items ≡ junk_ranges source) × (junk_ranges source ≢ [])
 Tried source (Err refused.Memory) = Unit {0}
 
+-- a message without its id: a value, attributes, or both
+pub record Content : Type 0 where
+  pub value : Option Pattern
+  pub attributes : Attributes
+
 abbrev pub content_of : Message → Content
 content_of m = record { value = view.value_view m.value; attributes = map attribute_view m.attributes.items }
 
 abbrev pub message_view : FluentMessage → Content
 message_view m = content_of m.node.now
 
-abbrev pub known_view : Entry → Known
-known_view (named.Message m) = known_message (content_of m.now)
+-- a message with its id, as `==` compares it
+abbrev pub entry_seen : FluentMessage → t.Entry
+entry_seen m = view.message_view m.node.now
 
--- what each id names
-abbrev pub ids : {S : Type 0} → HashMap (Bor Text) Entry S → ByText Known
-ids m = from_entries (map (λ e. (e.0.now, known_view e.1)) m.entries)
+-- an attribute: its name and its value
+abbrev pub attribute_content : FluentAttribute → Text × Pattern
+attribute_content a = attribute_view a.node.now
+
+-- the attributes that an iterator has still to give
+abbrev pub attributes_left : IteratedAttributes → Attributes
+attributes_left a = map attribute_view (iter_rest a.rest)
+
+-- the first attribute of a name
+abbrev pub first_named : Text → Attributes → Option (Text × Pattern)
+first_named name [] = None
+first_named name (a ∷ as') = if is_text a.0 name then Some a else first_named name as'
+
+-- ---- what ids name
+
+abbrev pub entry_of : {F : Type 0} → (F → Function Text) → Entry F → m.Entry Text
+entry_of answer (entry.Message x) = a_message (view.value_view x.now.value) (map attribute_view x.now.attributes.items)
+entry_of answer (entry.Term x) = a_term (pattern_view x.now.value) (map attribute_view x.now.attributes.items)
+entry_of answer (entry.Function f) = a_function (answer f)
+entry_of answer entry.Number = number_builtin
+
+abbrev pub ids : {F S : Type 0} → (F → Function Text) → HashMap (CowStr Global) (Entry F) S → Map (m.Entry Text)
+ids answer m = by_name (map (λ e. (cow_str_bytes e.0, entry_of answer e.1)) m.entries)
+
+-- The content of a bundle, by what the types of its parts state: its plural source, custom values, functions, formatter and transform.
+abbrev pub meant : {M C F G X : Type 0} → (M → Plurals) → (Text → Text) → (Text → Text → Bool) → (F → Function Text) → (G → Value Text → M → Option Text) → (X → Text → Text) → FluentBundle M C F G X → Bundle Text
+meant category shown alike answer formatted changed b = record {
+  ids = ids answer b.entries;
+  isolates = b.use_isolating;
+  transform = transform_of (option_map changed b.transform);
+  formatter = formatter_of (option_map (λ g v. formatted g v b.intls) b.formatter);
+  plurals = category b.intls;
+  custom = record { text = shown; same = alike };
+  limit = 100;
+}
+
+-- one locale, which has no part
+abbrev pub IsUndetermined : LanguageIdentifier → Type 0
+IsUndetermined l = (l.language ≡ None) × (l.script ≡ None) × (l.region ≡ None) × (l.variants.items ≡ [])
+
+abbrev pub AreUndetermined : List LanguageIdentifier → Type 0
+AreUndetermined [] = ⊥
+AreUndetermined (l ∷ []) = IsUndetermined l
+AreUndetermined (l ∷ k ∷ ls) = ⊥
 
 -- a set of texts has this one
 abbrev pub has : {S : Type 0} → HashSet (Bor Text) S → Text → Bool
 has s q = contains_by (λ k. bytes_eq q k.now) s
 
-abbrev pub state : FluentBundle → State
-state b = record { ids = ids b.entries; isolates = b.use_isolating }
+-- the message that an id names
+abbrev pub message_content : {C : Type 0} → Option (m.Entry C) → Option Content
+message_content (Some (a_message v as')) = Some (record { value = v; attributes = as' })
+message_content _ = None
 
--- From old, adding entries answered so and left new.
-abbrev pub Adds : State → List t.Entry → State → Result (Unit {0}) AddFault → Type 0
-Adds old entries new (Ok u) = (new ≡ after (add entries) old) × (overridden entries old ≡ [])
-Adds old entries new (Err (fault.Overriding errors)) = (new ≡ after (add entries) old) × (map error_view errors.items ≡ overridden entries old) × (overridden entries old ≢ [])
-Adds old entries new (Err fault.Memory) = new ≡ old
+-- a term without its id
+pub record TermContent : Type 0 where
+  pub value : Pattern
+  pub attributes : Attributes
 
--- the step that a call is
-abbrev pub step : Call → Step
-step (call.AddResource r) = add (entries_of r.now)
-step (call.SetUseIsolating on) = isolate on
+abbrev pub term_content_of : Term → TermContent
+term_content_of x = record { value = pattern_view x.value; attributes = map attribute_view x.attributes.items }
+
+-- the term that an id names
+abbrev pub term_content : {C : Type 0} → Option (m.Entry C) → Option TermContent
+term_content (Some (a_term p as')) = Some (record { value = p; attributes = as' })
+term_content _ = None
+
+-- the function that is referred to
+abbrev pub function_of : {F : Type 0} → (F → Function Text) → FunctionRef F → Function Text
+function_of answer (function.Own f) = answer f.now
+function_of answer function.Number = number_function
+
+abbrev pub message_at : {C : Type 0} → Text → Bundle C → Option Content
+message_at id b = message_content (get id b.ids)
+
+-- ---- calls
+
+-- From old, a call answered so and left new: the errors are exactly those of what was not taken.
+abbrev pub Adds : {C : Type 0} → Bundle C → Call C → Bundle C → Result (Unit {0}) AddFault → Type 0
+Adds old call new (Ok u) = (new ≡ after call old) × (answered call old ≡ [])
+Adds old call new (Err (fault.Overriding errors)) = (new ≡ after call old) × (map error_view errors.items ≡ answered call old) × (answered call old ≢ [])
+Adds old call new (Err fault.Memory) = new ≡ old
+
+-- from old, some of the calls from the front on led to new
+abbrev pub BegunBy : {C : Type 0} → List (Call C) → Bundle C → Bundle C → Type 0
+BegunBy {C = C} calls old new = (made : List (Call C)) × (left : List (Call C)) × (calls ≡ made ++ left) × (new ≡ after_all made old)
+
+-- whether a bundle changes no text
+abbrev pub is_plain : {M C F G X : Type 0} → FluentBundle M C F G X → Bool
+is_plain b = not (is_some b.transform)

@@ -1,22 +1,51 @@
 -- What a formatting call wrote and reported.
-use Rattle.std.specs.Prelude.{◌≡◌, List, ◌++◌, Option}
+use Rattle.std.specs.Prelude.{◌≡◌, List, ◌++◌, Option, Result, OnOk, IfOk}
+use Rattle.std.specs.Cow.{cow_str_bytes}
+use Rattle.std.specs.declared.borrow.CowStr.{CowStr}
+use Rattle.std.proofs.Common.{Global}
 use Rattle.std.specs.Io.KnownBytes.{Appends}
+use Rattle.fluent_syntax.specs.Taken.{Faulted}
 use Rattle.fluent_syntax.specs.Tree.{Text}
+use Rattle.fluent_syntax.specs.declared.counting.WriteFault.{WriteFault}
 use Rattle.fluent_meaning.specs.Errors.{Error}
+use Rattle.fluent_meaning.specs.Meaning.{Ran}
 use Rattle.fluent_bundle.specs.Scoped.{reported}
+use Rattle.fluent_bundle.specs.Written.{Sink}
 use Rattle.fluent_bundle.specs.declared.errors.FluentError.{FluentError}
+
+-- The list of errors has these after those that stood in it.
+pub record AddsAll (errors : List Error) (list list' : List FluentError) : Type 0 where
+  pub added : reported list' ≡ reported list ++ errors
+
+-- The same of a beginning of the errors.
+pub record AddsFront (errors : List Error) (list list' : List FluentError) : Type 0 where
+  pub front : List Error
+  pub rest : List Error
+  pub whole : front ++ rest ≡ errors
+  pub adds : AddsAll front list list'
 
 -- The writer took the text, and the list of errors has these after those that stood in it.
 pub record WritesAll (text : Text) (errors : List Error) (held held' : Option Text) (list list' : List FluentError) : Type 0 where
   pub taken : Appends held held' text
-  pub added : reported list' ≡ reported list ++ errors
+  pub adds : AddsAll errors list list'
 
 -- The same of a beginning of the text, and of a beginning of the errors.
 pub record WritesFront (text : Text) (errors : List Error) (held held' : Option Text) (list list' : List FluentError) : Type 0 where
-  pub text_front : Text
-  pub text_rest : Text
-  pub text_whole : text_front ++ text_rest ≡ text
-  pub errors_front : List Error
-  pub errors_rest : List Error
-  pub errors_whole : errors_front ++ errors_rest ≡ errors
-  pub front : WritesAll text_front errors_front held held' list list'
+  pub front : Text
+  pub rest : Text
+  pub whole : front ++ rest ≡ text
+  pub taken : Appends held held' front
+  pub adds : AddsFront errors list list'
+
+-- What a pattern means was written, or a beginning of it where the answer is no Ok.
+pub record Writes {T : Type 0} (result : Result T WriteFault) (meant : Ran Text) (w w' : Sink) (list list' : List FluentError) : Type 0 where
+  pub all : OnOk result (WritesAll meant.value meant.errors w.held w'.held list list')
+  pub front : WritesFront meant.value meant.errors w.held w'.held list list'
+  pub fault : Faulted w.failed w.empty w'.failed w'.empty result
+  pub beside : w'.beside ≡ w.beside
+  pub lent : w'.lent ≡ w.lent
+
+-- The text is answered, and the errors are added.
+pub record Gives {E : Type 0} (all : Text) (errors : List Error) (result : Result (CowStr Global) E) (list list' : List FluentError) : Type 0 where
+  pub text : IfOk result (λ t. cow_str_bytes t ≡ all)
+  pub adds : OnOk result (AddsAll errors list list')

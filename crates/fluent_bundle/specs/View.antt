@@ -1,16 +1,20 @@
 -- The content of the types of the code.
-use Rattle.std.specs.Prelude.{map, Option, Some, None, String, string_bytes}
+use Rattle.std.specs.Prelude.{List, map, Option, Some, None, String, string_bytes}
 use Rattle.std.specs.Cow.{cow_str_bytes}
-use Rattle.std.specs.FinMap.{from_entries}
+use Rattle.std.specs.Ordering.{nat_cmp}
+use Rattle.std.specs.Cmp.Lexicographic.{slice_cmp}
+use Rattle.std.specs.FinMap.{from_entries, entries}
 use Rattle.std.proofs.Common.{Global}
 use Rattle.fluent_syntax.specs.Tree as t
-use Rattle.fluent_syntax.specs.Tree.{no_attribute, attribute}
-use Rattle.fluent_bundle.specs.Value.{Value, text_value}
-use Rattle.fluent_bundle.specs.ByText.{Arguments}
+use Rattle.fluent_syntax.specs.Tree.{Text, no_attribute, attribute}
+use Rattle.fluent_intl.specs.Number.{number_of}
+use Rattle.fluent_meaning.specs.Value.{Value, text_value, number_value, custom_value, error_value}
+use Rattle.fluent_meaning.specs.Value as values_of
+use Rattle.fluent_meaning.specs.Arguments.{Map}
 use Rattle.fluent_meaning.specs.Errors as e
 use Rattle.fluent_meaning.specs.Errors.{Kind, message_kind, term_kind, function_kind, Reference, to_function, to_message, to_term, to_variable, lost, no_value, missing_default, cyclic, too_many_placeables, overriding, parser_error, resolver_error}
-use Rattle.fluent_bundle.specs.declared.types.FluentValue.{FluentValue}
-use Rattle.fluent_bundle.specs.declared.types.FluentValue.TheVariants as values
+use Rattle.fluent_bundle.specs.declared.types.value.FluentValue.{FluentValue}
+use Rattle.fluent_bundle.specs.declared.types.value.FluentValue.TheVariants as values
 use Rattle.fluent_bundle.specs.declared.args.FluentArgs.{FluentArgs}
 use Rattle.fluent_bundle.specs.declared.errors.EntryKind.{EntryKind}
 use Rattle.fluent_bundle.specs.declared.errors.EntryKind.TheVariants as kinds
@@ -21,12 +25,21 @@ use Rattle.fluent_bundle.specs.declared.resolver.errors.ReferenceKind.TheVariant
 use Rattle.fluent_bundle.specs.declared.resolver.errors.ResolverError.{ResolverError}
 use Rattle.fluent_bundle.specs.declared.resolver.errors.ResolverError.TheVariants as resolving
 
-abbrev pub value_view : FluentValue → Value
-value_view (values.String s) = text_value (cow_str_bytes s)
+-- a value by its content, a custom one by what its type states
+abbrev pub value_view : {C : Type 0} → (C → Text) → FluentValue C → Value Text
+value_view content (values.String s) = text_value (cow_str_bytes s)
+value_view content (values.Number n) = number_value (number_of n)
+value_view content (values.Custom c) = custom_value (content c)
+value_view content values.None = values_of.no_value
+value_view content values.Error = error_value
+
+-- the finite map of pairs, of which the first of a name stands
+abbrev pub by_name : {A : Type 0} → List (Text × A) → Map A
+by_name es = entries (from_entries {R = slice_cmp nat_cmp} es)
 
 -- what each name means
-abbrev pub named : FluentArgs → Arguments
-named a = from_entries (map (λ e. (cow_str_bytes e.0, value_view e.1)) a.entries.entries)
+abbrev pub named : {C : Type 0} → (C → Text) → FluentArgs C → Map (Value Text)
+named content a = by_name (map (λ e. (cow_str_bytes e.0, value_view content e.1)) a.entries.entries)
 
 abbrev pub kind_view : EntryKind → Kind
 kind_view kinds.Message = message_kind

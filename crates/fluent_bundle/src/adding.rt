@@ -1,102 +1,176 @@
 //! Adding the entries of a resource: first a look at the ids, then room, then steps that can't fail.
-ghost use Rattle.std.specs.Prelude.{◌≡◌, ◌<◌, ◌≤◌, ◌+◌, ◌++◌, ◌||◌, IfOk, OnOk, length, is_some, map, ℕ, List};
-ghost use Rattle.std.specs.FinMap as fin;
+ghost use Rattle.std.specs.Prelude.{◌≡◌, ◌<◌, ◌≤◌, ◌+◌, ◌++◌, ◌||◌, [], ◌∷◌, IfOk, OnOk, OnErr, length, is_some, map};
+ghost use Rattle.std.specs.Cow.{cow_str_bytes};
 ghost use Rattle.std.specs.HashMap.{spare};
+ghost use Rattle.fluent_syntax.specs.Tree.{Text};
 ghost use Rattle.fluent_syntax.specs.View.{entry_view};
-ghost use Rattle.fluent_bundle.specs.View.{error_view};
-ghost use Rattle.fluent_meaning.specs.Errors.{overriding, message_kind};
-ghost use Rattle.fluent_bundle.specs.State.{with_entry, with_entries, report, reports, or_named};
-ghost use Rattle.fluent_bundle.specs.BundleView.{ids, has};
+ghost use Rattle.fluent_meaning.specs.Arguments.{Map, get};
+ghost use Rattle.fluent_meaning.specs.Bundle.{Function, added, overridden, add_free, error_if_taken, not_added};
+ghost use Rattle.fluent_meaning.specs.Bundle as m;
+ghost use Rattle.fluent_meaning.specs.Errors as e;
+ghost use Rattle.fluent_bundle.specs.View.{error_view, kind_view};
+ghost use Rattle.fluent_bundle.specs.BundleView.{ids, entry_of, has};
+ghost use Rattle.fluent_bundle.specs.Adding.{AreTaken};
 
 use crate::entry::Entry;
 use crate::errors::{EntryKind, FluentError};
-use crate::ids::{is_known, put_in_room};
+use crate::ids::{Ids, is_known, put, put_in_room, put_where_free};
 use fluent_syntax::ast;
 use std::alloc::{AllocError, Global};
-use std::collections::{HashMap, HashSet};
+use std::borrow::CowStr;
+use std::collections::HashSet;
 
 /// Gives the entry's id its meaning where it is free, in a map that has room for it.
-fn add_entry<'r, 's>(known: &mut HashMap<&'s str, Entry<'r, 's>>, entry: &'r ast::Entry<'s>)
+fn add_entry<'r, 's, F: Drop>(known: &mut Ids<'r, 's, F>, entry: &'r ast::Entry<'s>)
     requires { 0 < spare known.old }
-    ensures after { ids known.new ≡ with_entry (entry_view entry.now) (ids known.old) }
+    ensures after { (answer : F → Function Text) → ids answer known.new ≡ added (entry_view entry.now ∷ []) (ids answer known.old) }
     ensures room { spare known.old ≤ spare known.new + 1 }
 {
-    if let ast::Entry::Message(message) = entry {
-        let id = message.id.name;
-        if !is_known(known, id) {
-            put_in_room(known, id, Entry::Message(message));
+    match entry {
+        ast::Entry::Message(message) => {
+            put_where_free(known, message.id.name, Entry::Message(message));
         }
+        ast::Entry::Term(term) => put_where_free(known, term.id.name, Entry::Term(term)),
+        ast::Entry::Junk { .. } => {}
     }
 }
 
 /// Gives each free id its meaning, in a map that has room for all.
-pub(crate) fn add_all<'r, 's>(
-    known: &mut HashMap<&'s str, Entry<'r, 's>>,
-    entries: &'r [ast::Entry<'s>],
-)
+pub(crate) fn add_all<'r, 's, F: Drop>(known: &mut Ids<'r, 's, F>, entries: &'r [ast::Entry<'s>])
     requires { length entries.now ≤ spare known.old }
-    ensures { ids known.new ≡ with_entries (map entry_view entries.now) (ids known.old) }
+    ensures { (answer : F → Function Text) → ids answer known.new ≡ added (map entry_view entries.now) (ids answer known.old) }
 {
     for entry in entries {
         add_entry(known, entry);
     }
 }
 
-/// Whether an id is known, or was seen before.
-fn is_taken<'r, 's>(
-    known: &HashMap<&'s str, Entry<'r, 's>>,
-    seen: &HashSet<&'s str>,
-    id: &str,
-) -> bool
-    ensures { result ≡ (is_some (fin.get (ids known.now) id.now) || has seen.now id.now) }
+/// Gives the entry's id its meaning in place of what it had, in a map that has room for it.
+fn override_entry<'r, 's, F: Drop>(known: &mut Ids<'r, 's, F>, entry: &'r ast::Entry<'s>)
+    requires { 0 < spare known.old }
+    ensures after { (answer : F → Function Text) → ids answer known.new ≡ overridden (entry_view entry.now ∷ []) (ids answer known.old) }
+    ensures room { spare known.old ≤ spare known.new + 1 }
 {
-    is_known(known, id) || seen.contains(id)
+    match entry {
+        ast::Entry::Message(message) => {
+            put_in_room(known, message.id.name, Entry::Message(message));
+        }
+        ast::Entry::Term(term) => put_in_room(known, term.id.name, Entry::Term(term)),
+        ast::Entry::Junk { .. } => {}
+    }
 }
 
-/// The report of a message that is left.
-fn left(alloc: Global, id: &str) -> Result<FluentError, AllocError>
-    ensures { IfOk result (λ e. error_view e ≡ overriding message_kind id.now) }
+/// Gives each id its meaning in place of what it had, in a map that has room for all.
+pub(crate) fn override_all<'r, 's, F: Drop>(
+    known: &mut Ids<'r, 's, F>,
+    entries: &'r [ast::Entry<'s>],
+)
+    requires { length entries.now ≤ spare known.old }
+    ensures { (answer : F → Function Text) → ids answer known.new ≡ overridden (map entry_view entries.now) (ids answer known.old) }
+{
+    for entry in entries {
+        override_entry(known, entry);
+    }
+}
+
+/// The report of an entry that is left, since its id is taken.
+pub(crate) fn left(alloc: Global, kind: EntryKind, id: &str) -> Result<FluentError, AllocError>
+    ensures { IfOk result (λ error. error_view error ≡ e.overriding (kind_view kind) id.now) }
 {
     Ok(FluentError::Overriding {
-        kind: EntryKind::Message,
+        kind,
         id: String::from_str(alloc, id)?,
     })
 }
 
-/// Reports the entry where its id is taken, and takes the id otherwise.
-fn look_at<'r, 's>(
+/// Gives a free id to a function, and gives the report where it is taken.
+pub(crate) fn add_function<'r, 's, F: Drop>(
+    known: &mut Ids<'r, 's, F>,
     alloc: Global,
-    known: &HashMap<&'s str, Entry<'r, 's>>,
-    seen: &mut HashSet<&'s str>,
-    entry: &'r ast::Entry<'s>,
-    errors: &mut Vec<FluentError>,
-) -> Result<(), AllocError>
-    ensures told { OnOk result (map error_view errors.new.items ≡ map error_view errors.old.items ++ report (entry_view entry.now) (λ q. is_some (fin.get (ids known.now) q) || has seen.old q)) }
-    ensures taken { OnOk result ((q : List ℕ) → (is_some (fin.get (ids known.now) q) || has seen.new q) ≡ or_named (entry_view entry.now) (λ q. is_some (fin.get (ids known.now) q) || has seen.old q) q) }
+    id: CowStr<'s>,
+    function: Entry<'r, 's, F>,
+) -> Result<Vec<FluentError>, AllocError>
+    ensures after { OnOk result ((answer : F → Function Text) → ids answer known.new ≡ add_free (cow_str_bytes id.entry) (entry_of answer function.entry) (ids answer known.old)) }
+    ensures errors { IfOk result (λ errors. (answer : F → Function Text) → map error_view errors.items ≡ error_if_taken e.function_kind (cow_str_bytes id.entry) (ids answer known.old)) }
+    ensures err { OnErr result ((answer : F → Function Text) → ids answer known.new ≡ ids answer known.old) }
 {
-    if let ast::Entry::Message(message) = entry {
-        let id = message.id.name;
-        if is_taken(known, seen, id) {
-            errors.push(left(alloc, id)?)?;
-        } else {
-            seen.insert(id)?;
-        }
+    let mut errors = Vec::new(alloc);
+    if is_known(known, id.as_str()) {
+        errors.push(left(alloc, EntryKind::Function, id.as_str())?)?;
+    } else {
+        put(known, id, function)?;
+    }
+    Ok(errors)
+}
+
+/// Whether an id is known, or was seen before.
+fn is_taken<'r, 's, F>(known: &Ids<'r, 's, F>, seen: &HashSet<&'s str>, id: &str) -> bool
+    ensures { (answer : F → Function Text) → result ≡ (is_some (get id.now (ids answer known.now)) || has seen.now id.now) }
+{
+    is_known(known, id) || seen.contains(id)
+}
+
+/// Reports an id that is taken, and takes it otherwise.
+fn look_for<'r, 's, F>(
+    known: &Ids<'r, 's, F>,
+    seen: &mut HashSet<&'s str>,
+    kind: EntryKind,
+    id: &'s str,
+    errors: &mut Vec<FluentError>,
+    alloc: Global,
+) -> Result<(), AllocError>
+    ensures told { OnOk result ((answer : F → Function Text) (taken : Map (m.Entry Text)) → AreTaken answer known.now seen.old taken → map error_view errors.new.items ≡ map error_view errors.old.items ++ error_if_taken (kind_view kind) id.now taken) }
+    ensures seen { OnOk result ((answer : F → Function Text) (taken : Map (m.Entry Text)) (entry : m.Entry Text) → AreTaken answer known.now seen.old taken → AreTaken answer known.now seen.new (add_free id.now entry taken)) }
+{
+    if is_taken(known, seen, id) {
+        errors.push(left(alloc, kind, id)?)?;
+    } else {
+        seen.insert(id)?;
     }
     Ok(())
 }
 
-/// The reports of the messages whose id is taken when their turn comes.
-pub(crate) fn look<'r, 's>(
+/// Reports the entry where its id is taken, and takes the id otherwise.
+fn look_at<'r, 's, F>(
+    known: &Ids<'r, 's, F>,
+    seen: &mut HashSet<&'s str>,
+    entry: &ast::Entry<'s>,
+    errors: &mut Vec<FluentError>,
     alloc: Global,
-    known: &HashMap<&'s str, Entry<'r, 's>>,
-    entries: &'r [ast::Entry<'s>],
+) -> Result<(), AllocError>
+    ensures told { OnOk result ((answer : F → Function Text) (taken : Map (m.Entry Text)) → AreTaken answer known.now seen.old taken → map error_view errors.new.items ≡ map error_view errors.old.items ++ not_added (entry_view entry.now ∷ []) taken) }
+    ensures seen { OnOk result ((answer : F → Function Text) (taken : Map (m.Entry Text)) → AreTaken answer known.now seen.old taken → AreTaken answer known.now seen.new (added (entry_view entry.now ∷ []) taken)) }
+{
+    match entry {
+        ast::Entry::Message(message) => {
+            look_for(
+                known,
+                seen,
+                EntryKind::Message,
+                message.id.name,
+                errors,
+                alloc,
+            )
+        }
+        ast::Entry::Term(term) => {
+            look_for(known, seen, EntryKind::Term, term.id.name, errors, alloc)
+        }
+        ast::Entry::Junk { .. } => Ok(()),
+    }
+}
+
+/// The reports of the entries whose id is taken when their turn comes.
+pub(crate) fn look<'r, 's, F>(
+    alloc: Global,
+    known: &Ids<'r, 's, F>,
+    entries: &[ast::Entry<'s>],
 ) -> Result<Vec<FluentError>, AllocError>
-    ensures { IfOk result (λ errors. map error_view errors.items ≡ reports (map entry_view entries.now) (λ q. is_some (fin.get (ids known.now) q))) }
+    ensures { IfOk result (λ errors. (answer : F → Function Text) → map error_view errors.items ≡ not_added (map entry_view entries.now) (ids answer known.now)) }
 {
     let mut seen: HashSet<&'s str> = HashSet::new(alloc);
     let mut errors = Vec::new(alloc);
     for entry in entries {
-        look_at(alloc, known, &mut seen, entry, &mut errors)?;
+        look_at(known, &mut seen, entry, &mut errors, alloc)?;
     }
     Ok(errors)
 }

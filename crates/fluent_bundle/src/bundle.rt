@@ -1,43 +1,50 @@
 //! The bundle: messages by id, and how they are written.
-ghost use Rattle.std.specs.Prelude.{◌≡◌, ◌≢◌, ◌≤◌, ◌++◌, map, is_some, Err, IfOk, OnOk, OnErr};
+ghost use Rattle.std.specs.Prelude.{◌≡◌, map, is_some, IfOk, OnOk, OnErr};
 ghost use Rattle.std.specs.Option.{option_map};
+ghost use Rattle.fluent_intl.specs.Plurals.{english};
+ghost use Rattle.fluent_meaning.specs.Bundle.{empty_bundle, after, answered, add_resource, add_resource_overriding, add_function, add_builtins, set_use_isolating, set_transform, set_formatter};
 ghost use Rattle.fluent_bundle.specs.View.{error_view};
-ghost use Rattle.fluent_bundle.specs.State.{start, after, add, isolate, overridden, message_at};
-ghost use Rattle.fluent_bundle.specs.Formatted.{WritesAll, WritesFront};
-ghost use Rattle.fluent_bundle.specs.Interim.{budgeted, limit, substituted, IsText};
-ghost use Rattle.fluent_bundle.specs.Scoped.{arguments_view};
-ghost use Rattle.fluent_syntax.specs.Taken.{Faulted};
-ghost use Rattle.fluent_syntax.specs.View.{pattern_view};
-ghost use Rattle.fluent_bundle.specs.BundleView.{state, entries_of, message_view, Adds};
+ghost use Rattle.fluent_bundle.specs.BundleView.{meant, entries_of, message_view, message_at, Adds, AreUndetermined};
+ghost use Rattle.fluent_bundle.specs.Adding.{reported};
 
-use crate::adding::{add_all, look};
-use crate::args::FluentArgs;
-use crate::entry::Entry;
+use crate::adding;
+use crate::adding::{add_all, look, override_all};
+use crate::entry::{Entry, FunctionRef, GetEntry};
 use crate::errors::FluentError;
-use crate::ids::{make_room, named};
+use crate::formatter::FluentFormatter;
+use crate::function::FluentFunction;
+use crate::ids::{Ids, make_room, named};
 use crate::message::FluentMessage;
-use crate::resolver::pattern::write_elements;
-use crate::resolver::scope::Scope;
 use crate::resource::FluentResource;
-use fluent_syntax::ast::Pattern;
-use fluent_syntax::{Counting, WriteFault};
+use crate::transform::Transform;
+use crate::types::FluentType;
+use fluent_intl::{EnglishPlurals, LanguageIdentifier, MemoizerKind};
+use fluent_syntax::ast;
 use std::alloc::{AllocError, Global};
+use std::borrow::CowStr;
 use std::collections::HashMap;
-use std::io::Write;
+use std::marker::PhantomData;
 
 /// Messages by id, from one resource or many, and the settings under which patterns are resolved.
 ///
 /// It refers to its resources for `'r`; their sources live for `'s`. Two lifetimes, so that a resource made in
-/// a function can be lent to a bundle made there.
+/// a function can be lent to a bundle made there. Its types: `M` chooses plural categories, `C` is a value of
+/// the application's own, `F` a function, `G` a formatter, `T` a transform.
 #[derive(Drop)]
-pub struct FluentBundle<'r, 's> {
-    pub(crate) entries: HashMap<&'s str, Entry<'r, 's>>,
+pub struct FluentBundle<'r, 's, M, C, F, G, T = Box<dyn Transform>> {
+    /// The languages of the bundle, which nothing here reads.
+    pub locales: Vec<LanguageIdentifier>,
+    pub(crate) entries: Ids<'r, 's, F>,
     pub(crate) use_isolating: bool,
+    pub(crate) transform: Option<T>,
+    pub(crate) formatter: Option<G>,
+    pub(crate) intls: M,
+    pub(crate) custom: PhantomData<C>,
     pub(crate) alloc: Global,
 }
 
 /// Why not everything was added.
-#[derive(Debug, Drop)]
+#[derive(Drop)]
 pub enum AddFault {
     /// Some ids were there: one error for each entry that was left, in order. All else was added.
     Overriding(Vec<FluentError>),
@@ -45,38 +52,65 @@ pub enum AddFault {
     Memory,
 }
 
-impl<'r, 's> FluentBundle<'r, 's> {
-    /// Makes a bundle with no messages, with isolation on. It keeps the allocator and takes no memory yet.
-    pub fn new(alloc: Global) -> FluentBundle<'r, 's>
-        ensures { state result ≡ start }
+impl<
+    'r,
+    's,
+    M: MemoizerKind,
+    C: FluentType,
+    F: FluentFunction<C>,
+    G: FluentFormatter<C, M>,
+    T: Transform,
+> FluentBundle<'r, 's, M, C, F, G, T> {
+    /// Makes a bundle with no messages, with isolation on, without transform and formatter. It keeps the allocator and takes no memory yet.
+    pub fn new(alloc: Global, locales: Vec<LanguageIdentifier>, intls: M) -> Self
+        ensures locales { result.locales ≡ locales }
+        ensures empty { let of = meant M.category C.shown C.alike F.answer G.formatted T.changed in of result ≡ empty_bundle (M.category intls) (record { text = C.shown; same = C.alike }) }
     {
         FluentBundle {
+            locales,
             entries: HashMap::new(alloc),
             use_isolating: true,
+            transform: None,
+            formatter: None,
+            intls,
+            custom: PhantomData,
             alloc,
         }
     }
 
-    /// Adds the messages of a resource in order. A message whose id is there is left and reported. Junk is
-    /// passed over, and so are terms.
+    /// Says whether placeables are written between U+2068 and U+2069.
+    pub fn set_use_isolating(&mut self, value: bool)
+        ensures { let of = meant M.category C.shown C.alike F.answer G.formatted T.changed in of self.new ≡ after (set_use_isolating value) (of self.old) }
+    {
+        self.use_isolating = value;
+    }
+
+    /// Sets what changes text elements; `None` leaves them as they are. The transform that was set is dropped.
+    pub fn set_transform(&mut self, transform: Option<T>)
+        ensures { let of = meant M.category C.shown C.alike F.answer G.formatted T.changed in of self.new ≡ after (set_transform (option_map T.changed transform)) (of self.old) }
+    {
+        self.transform = transform;
+    }
+
+    /// Sets what is asked how a value is shown; `None` shows each value by its own text. The formatter that was
+    /// set is dropped.
+    pub fn set_formatter(&mut self, formatter: Option<G>)
+        ensures { let of = meant M.category C.shown C.alike F.answer G.formatted T.changed in of self.new ≡ after (set_formatter (option_map (λ g v. G.formatted g v self.old.intls) formatter)) (of self.old) }
+    {
+        self.formatter = formatter;
+    }
+
+    /// Adds the messages and terms of a resource in order. An entry whose id is there is left and reported. Junk is
+    /// passed over.
     ///
     /// # Errors
     ///
-    /// `Overriding` where an id was there, also from an earlier message of the same resource: all others are
-    /// added. `Memory` where memory was refused: the bundle is as before.
+    /// `Overriding` where an id was there, also from an earlier entry of the same resource: all others are added.
+    /// `Memory` where memory was refused: the bundle is as before.
     pub fn add_resource(&mut self, resource: &'r FluentResource<'s>) -> Result<(), AddFault>
-        ensures { Adds (state self.old) (entries_of resource.now) (state self.new) result }
+        ensures { let of = meant M.category C.shown C.alike F.answer G.formatted T.changed in Adds (of self.old) (add_resource (entries_of resource.now)) (of self.new) result }
     {
-        match self.take_resource(resource) {
-            Ok(errors) => {
-                if errors.is_empty() {
-                    Ok(())
-                } else {
-                    Err(AddFault::Overriding(errors))
-                }
-            }
-            Err(_) => Err(AddFault::Memory),
-        }
+        all_added(self.take_resource(resource))
     }
 
     /// Adds what has a free id, and gives the reports of what has none.
@@ -84,9 +118,9 @@ impl<'r, 's> FluentBundle<'r, 's> {
         &mut self,
         resource: &'r FluentResource<'s>,
     ) -> Result<Vec<FluentError>, AllocError>
-        ensures ok { OnOk result (state self.new ≡ after (add (entries_of resource.now)) (state self.old)) }
-        ensures errors { IfOk result (λ errors. map error_view errors.items ≡ overridden (entries_of resource.now) (state self.old)) }
-        ensures err { OnErr result (state self.new ≡ state self.old) }
+        ensures ok { let of = meant M.category C.shown C.alike F.answer G.formatted T.changed in OnOk result (of self.new ≡ after (add_resource (entries_of resource.now)) (of self.old)) }
+        ensures errors { let of = meant M.category C.shown C.alike F.answer G.formatted T.changed in IfOk result (λ errors. map error_view errors.items ≡ answered (add_resource (entries_of resource.now)) (of self.old)) }
+        ensures err { let of = meant M.category C.shown C.alike F.answer G.formatted T.changed in OnErr result (of self.new ≡ of self.old) }
     {
         let entries = resource.all();
         let errors = look(self.alloc, &self.entries, entries)?;
@@ -95,60 +129,156 @@ impl<'r, 's> FluentBundle<'r, 's> {
         Ok(errors)
     }
 
-    /// Says whether placeables are written between U+2068 and U+2069.
-    pub fn set_use_isolating(&mut self, value: bool)
-        ensures { state self.new ≡ after (isolate value) (state self.old) }
+    /// Adds the messages and terms of a resource in order, each in place of what had its id, a function too. Junk
+    /// is passed over.
+    ///
+    /// # Errors
+    ///
+    /// Memory was refused: the bundle is as before.
+    pub fn add_resource_overriding(
+        &mut self,
+        resource: &'r FluentResource<'s>,
+    ) -> Result<(), AllocError>
+        ensures ok { let of = meant M.category C.shown C.alike F.answer G.formatted T.changed in OnOk result (of self.new ≡ after (add_resource_overriding (entries_of resource.now)) (of self.old)) }
+        ensures err { let of = meant M.category C.shown C.alike F.answer G.formatted T.changed in OnErr result (of self.new ≡ of self.old) }
     {
-        self.use_isolating = value;
+        let entries = resource.all();
+        make_room(&mut self.entries, entries.len())?;
+        override_all(&mut self.entries, entries);
+        Ok(())
+    }
+
+    /// Adds a function of the application under an id, which is copied.
+    ///
+    /// # Errors
+    ///
+    /// `Overriding` with one error where the id was there, `Memory` where memory was refused: the bundle is as
+    /// before, and the function is dropped.
+    pub fn add_function(&mut self, id: &str, function: F) -> Result<(), AddFault>
+        ensures { let of = meant M.category C.shown C.alike F.answer G.formatted T.changed in Adds (of self.old) (add_function id.now (F.answer function)) (of self.new) result }
+    {
+        all_added(self.take_function(id, function))
+    }
+
+    /// Adds a function where its id is free, and gives the report where it is not.
+    fn take_function(&mut self, id: &str, function: F) -> Result<Vec<FluentError>, AllocError>
+        ensures ok { let of = meant M.category C.shown C.alike F.answer G.formatted T.changed in OnOk result (of self.new ≡ after (add_function id.now (F.answer function)) (of self.old)) }
+        ensures errors { let of = meant M.category C.shown C.alike F.answer G.formatted T.changed in IfOk result (λ errors. map error_view errors.items ≡ answered (add_function id.now (F.answer function)) (of self.old)) }
+        ensures err { let of = meant M.category C.shown C.alike F.answer G.formatted T.changed in OnErr result (of self.new ≡ of self.old) }
+    {
+        let id = CowStr::Owned(String::from_str(self.alloc, id)?);
+        adding::add_function(&mut self.entries, self.alloc, id, Entry::Function(function))
+    }
+
+    /// Adds the function `NUMBER`, which gives a number the options in its named arguments.
+    ///
+    /// # Errors
+    ///
+    /// `Overriding` with one error where the id `NUMBER` was there, `Memory` where memory was refused: the bundle
+    /// is as before.
+    pub fn add_builtins(&mut self) -> Result<(), AddFault>
+        ensures { let of = meant M.category C.shown C.alike F.answer G.formatted T.changed in Adds (of self.old) add_builtins (of self.new) result }
+    {
+        let id = CowStr::Borrowed("NUMBER");
+        all_added(adding::add_function(&mut self.entries, self.alloc, id, Entry::Number))
     }
 
     /// Whether the id names a message. Takes no memory.
     pub fn has_message(&self, id: &str) -> bool
-        ensures { result ≡ is_some (message_at id.now (state self.now)) }
+        ensures { let of = meant M.category C.shown C.alike F.answer G.formatted T.changed in result ≡ is_some (message_at id.now (of self.now)) }
     {
         self.get_message(id).is_some()
     }
 
     /// The message that the id names, or `None`. Takes no memory.
     pub fn get_message(&self, id: &str) -> Option<FluentMessage<'r, 's>>
-        ensures { option_map message_view result ≡ message_at id.now (state self.now) }
+        ensures { let of = meant M.category C.shown C.alike F.answer G.formatted T.changed in option_map message_view result ≡ message_at id.now (of self.now) }
     {
         match named(&self.entries, id) {
             Some(Entry::Message(node)) => Some(FluentMessage::from(*node)),
-            None => None,
+            _ => None,
         }
     }
+}
 
-    /// Writes the text of a pattern, and adds what went wrong in it at the end of the list of errors. Without
-    /// arguments each variable is missing.
-    ///
-    /// A placeable stands between U+2068 and U+2069 where isolation is on and it is not all of its pattern. A
-    /// variable that is missing is an error and shows as its name in braces. One call opens 100 placeables at
-    /// most: one more is an error, and nothing after it is written.
+impl<
+    'r,
+    's,
+    C: FluentType,
+    F: FluentFunction<C>,
+    G: FluentFormatter<C, EnglishPlurals>,
+    T: Transform,
+> FluentBundle<'r, 's, EnglishPlurals, C, F, G, T> {
+    /// Makes a bundle with English plural rules, as `new` does. Its one locale is the undetermined one.
     ///
     /// # Errors
     ///
-    /// `Writer` where a write failed, `Zero` where a write of a nonempty piece took no byte, `Memory` where memory
-    /// was refused. Then what was written begins the text, and what was added begins the errors. A pattern of
-    /// texts alone takes no memory.
-    pub fn write_pattern<W: Write>(
-        &self,
-        w: &mut Counting<W>,
-        pattern: &Pattern<'_>,
-        args: Option<&FluentArgs<'_>>,
-        errors: &mut Vec<FluentError>,
-    ) -> Result<(), WriteFault>
-        // By substitution, where that opens no more placeables than the limit.
-        ensures within { let meant = substituted (state self.now) (arguments_view args.entry) (pattern_view pattern.now) in meant.opened ≤ limit → OnOk result (WritesAll meant.value meant.errors (W.contents w.old.inner) (W.contents w.new.inner) errors.old.items errors.new.items) }
-        // With the budget, in every case.
-        ensures whole { let meant = budgeted (state self.now) (arguments_view args.entry) (pattern_view pattern.now) in OnOk result (WritesAll meant.value meant.errors (W.contents w.old.inner) (W.contents w.new.inner) errors.old.items errors.new.items) }
-
-        // Whatever is answered.
-        ensures front { let meant = budgeted (state self.now) (arguments_view args.entry) (pattern_view pattern.now) in WritesFront meant.value meant.errors (W.contents w.old.inner) (W.contents w.new.inner) errors.old.items errors.new.items }
-        ensures fault { Faulted w.old.failed w.old.empty w.new.failed w.new.empty result }
-        ensures memory { IsText (pattern_view pattern.now) → result ≢ Err WriteFault.Memory }
+    /// Memory was refused.
+    pub fn new_default(alloc: Global) -> Result<Self, AllocError>
+        ensures empty { IfOk result (λ b. meant (λ _. english) C.shown C.alike F.answer G.formatted T.changed b ≡ empty_bundle english (record { text = C.shown; same = C.alike })) }
+        ensures locales { IfOk result (λ b. AreUndetermined b.locales.items) }
     {
-        let mut scope = Scope::new(self, args, errors);
-        write_elements(&mut scope, w, pattern)
+        let mut locales = Vec::new(alloc);
+        locales.push(LanguageIdentifier::und(alloc))?;
+        Ok(FluentBundle::new(alloc, locales, EnglishPlurals))
     }
 }
+
+impl<
+    'r,
+    's,
+    M: MemoizerKind,
+    C: FluentType,
+    F: FluentFunction<C>,
+    G: FluentFormatter<C, M>,
+    T: Transform,
+> GetEntry<'s, F> for FluentBundle<'r, 's, M, C, F, G, T> {
+    ghost use Rattle.fluent_meaning.specs.Arguments.{get};
+    ghost use Rattle.fluent_bundle.specs.BundleView.{ids};
+
+    // The ids of what the bundle means.
+    ghost named = { λ b id. get id (ids F.answer b.entries) };
+
+    ghost answer = { F.answer };
+
+    fn get_entry_message(&self, id: &str) -> Option<&ast::Message<'s>> {
+        match named(&self.entries, id) {
+            Some(Entry::Message(message)) => Some(*message),
+            _ => None,
+        }
+    }
+
+    fn get_entry_term(&self, id: &str) -> Option<&ast::Term<'s>> {
+        match named(&self.entries, id) {
+            Some(Entry::Term(term)) => Some(*term),
+            _ => None,
+        }
+    }
+
+    fn get_entry_function(&self, id: &str) -> Option<FunctionRef<'_, F>> {
+        match named(&self.entries, id) {
+            Some(Entry::Function(function)) => Some(FunctionRef::Own(function)),
+            Some(Entry::Number) => Some(FunctionRef::Number),
+            _ => None,
+        }
+    }
+}
+
+/// What an adding call answers, by the reports of what it left.
+fn all_added(left: Result<Vec<FluentError>, AllocError>) -> Result<(), AddFault>
+    ensures { result ≡ reported left }
+{
+    match left {
+        Ok(errors) => {
+            if errors.is_empty() {
+                Ok(())
+            } else {
+                Err(AddFault::Overriding(errors))
+            }
+        }
+        Err(_) => Err(AddFault::Memory),
+    }
+}
+
+#[cfg(test)]
+mod tests;

@@ -1,38 +1,59 @@
 //! Calls on a bundle as values, so that what a list of them makes can be said.
 ghost use Rattle.std.specs.Prelude.{◌≡◌, OnOk, OnErr, map};
-ghost use Rattle.fluent_bundle.specs.State.{after, after_all, BegunBy};
-ghost use Rattle.fluent_bundle.specs.BundleView.{state, step};
+ghost use Rattle.fluent_meaning.specs.Bundle.{after, after_all};
+ghost use Rattle.fluent_bundle.specs.BundleView.{meant, BegunBy};
+ghost use Rattle.fluent_bundle.specs.Calls.{asked};
 
 use crate::bundle::{AddFault, FluentBundle};
+use crate::formatter::FluentFormatter;
+use crate::function::FluentFunction;
 use crate::resource::FluentResource;
+use crate::transform::Transform;
+use crate::types::FluentType;
+use fluent_intl::MemoizerKind;
 use std::alloc::AllocError;
 
-/// A call that changes a bundle.
+/// A call that changes a bundle. Calls that hand over an object of the application are made on the bundle itself.
 #[derive(Clone, Copy, Drop)]
 pub enum Call<'r, 's> {
     AddResource(&'r FluentResource<'s>),
+    AddResourceOverriding(&'r FluentResource<'s>),
+    AddBuiltins,
     SetUseIsolating(bool),
 }
 
-impl<'r, 's> FluentBundle<'r, 's> {
+impl<
+    'r,
+    's,
+    M: MemoizerKind,
+    C: FluentType,
+    F: FluentFunction<C>,
+    G: FluentFormatter<C, M>,
+    T: Transform,
+> FluentBundle<'r, 's, M, C, F, G, T> {
     /// Makes a call. An id that was there is no failure here, and isn't reported.
     ///
     /// # Errors
     ///
     /// Memory was refused: the bundle is as before.
     pub fn make(&mut self, call: &Call<'r, 's>) -> Result<(), AllocError>
-        ensures ok { OnOk result (state self.new ≡ after (step call.now) (state self.old)) }
-        ensures err { OnErr result (state self.new ≡ state self.old) }
+        ensures ok { let of = meant M.category C.shown C.alike F.answer G.formatted T.changed in OnOk result (of self.new ≡ after (asked call.now) (of self.old)) }
+        ensures err { let of = meant M.category C.shown C.alike F.answer G.formatted T.changed in OnErr result (of self.new ≡ of self.old) }
     {
-        match call {
-            Call::AddResource(resource) => match self.add_resource(*resource) {
-                Err(AddFault::Memory) => Err(AllocError),
-                _ => Ok(()),
-            },
+        let added = match call {
+            Call::AddResource(resource) => self.add_resource(*resource),
+            Call::AddResourceOverriding(resource) => {
+                return self.add_resource_overriding(*resource);
+            }
+            Call::AddBuiltins => self.add_builtins(),
             Call::SetUseIsolating(value) => {
                 self.set_use_isolating(*value);
                 Ok(())
             }
+        };
+        match added {
+            Err(AddFault::Memory) => Err(AllocError),
+            _ => Ok(()),
         }
     }
 
@@ -42,8 +63,8 @@ impl<'r, 's> FluentBundle<'r, 's> {
     ///
     /// Memory was refused at one of them: those before it were made, and no other.
     pub fn make_all(&mut self, calls: &[Call<'r, 's>]) -> Result<(), AllocError>
-        ensures ok { OnOk result (state self.new ≡ after_all (map step calls.now) (state self.old)) }
-        ensures err { OnErr result (BegunBy (map step calls.now) (state self.old) (state self.new)) }
+        ensures ok { let of = meant M.category C.shown C.alike F.answer G.formatted T.changed in OnOk result (of self.new ≡ after_all (map asked calls.now) (of self.old)) }
+        ensures err { let of = meant M.category C.shown C.alike F.answer G.formatted T.changed in OnErr result (BegunBy (map asked calls.now) (of self.old) (of self.new)) }
     {
         for call in calls {
             self.make(call)?;

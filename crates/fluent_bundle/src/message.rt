@@ -1,13 +1,14 @@
-//! A message as a caller sees it.
+//! Messages and attributes as a caller sees them.
 ghost use Rattle.std.specs.Prelude.{◌≡◌};
 ghost use Rattle.std.specs.Option.{option_map};
 ghost use Rattle.fluent_syntax.specs.View.{pattern_view};
-ghost use Rattle.fluent_bundle.specs.BundleView.{message_view};
+ghost use Rattle.fluent_bundle.specs.BundleView.{message_view, attribute_content, attributes_left, first_named};
 
 use fluent_syntax::ast;
+use std::slice::Iter;
 
-/// A message of a resource.
-#[derive(Clone, Copy, Debug, Drop)]
+/// A message of a resource. Two are equal where their contents are, their ids among them.
+#[derive(Clone, Copy, Debug, Drop, PartialEq, Eq)]
 pub struct FluentMessage<'m, 's> {
     node: &'m ast::Message<'s>,
 }
@@ -22,15 +23,100 @@ impl<'m, 's> FluentMessage<'m, 's> {
             None => None,
         }
     }
+
+    /// The attributes in order.
+    pub fn attributes(&self) -> Attributes<'m, 's>
+        ensures { attributes_left result ≡ (message_view self.now).attributes }
+    {
+        Attributes {
+            rest: self.node.attributes.iter(),
+        }
+    }
+
+    /// The first attribute of the name, or `None` where none has it.
+    pub fn get_attribute(&self, name: &str) -> Option<FluentAttribute<'m, 's>>
+        ensures { option_map attribute_content result ≡ first_named name.now (message_view self.now).attributes }
+    {
+        for attribute in &self.node.attributes {
+            if attribute.id.name == name {
+                return Some(FluentAttribute::from(attribute));
+            }
+        }
+        None
+    }
 }
 
 impl<'m, 's> From<&'m ast::Message<'s>> for FluentMessage<'m, 's> {
     ghost use Rattle.std.specs.Prelude.{◌≡◌};
-    ghost use Rattle.fluent_bundle.specs.BundleView.{content_of, message_view};
+    ghost use Rattle.fluent_syntax.specs.View as tree;
+    ghost use Rattle.fluent_bundle.specs.BundleView.{content_of, message_view, entry_seen};
 
-    ghost from_gives = { λ m result. message_view result ≡ content_of m.now };
+    ghost from_gives = { λ m result. (message_view result ≡ content_of m.now) × (entry_seen result ≡ tree.message_view m.now) };
 
     fn from(node: &'m ast::Message<'s>) -> FluentMessage<'m, 's> {
         FluentMessage { node }
+    }
+}
+
+/// An attribute of a message. Two are equal where their contents are, their names among them.
+#[derive(Clone, Copy, Debug, Drop, PartialEq, Eq)]
+pub struct FluentAttribute<'m, 's> {
+    node: &'m ast::Attribute<'s>,
+}
+
+impl<'m, 's> FluentAttribute<'m, 's> {
+    /// The name.
+    pub fn id(&self) -> &'s str
+        ensures { result.now ≡ (attribute_content self.now).0 }
+    {
+        let node = self.node;
+        node.id.name
+    }
+
+    /// The value.
+    pub fn value(&self) -> &'m ast::Pattern<'s>
+        ensures { pattern_view result.now ≡ (attribute_content self.now).1 }
+    {
+        &self.node.value
+    }
+}
+
+impl<'m, 's> From<&'m ast::Attribute<'s>> for FluentAttribute<'m, 's> {
+    ghost use Rattle.std.specs.Prelude.{◌≡◌};
+    ghost use Rattle.fluent_syntax.specs.View.{attribute_view};
+    ghost use Rattle.fluent_bundle.specs.BundleView.{attribute_content};
+
+    ghost from_gives = { λ a result. attribute_content result ≡ attribute_view a.now };
+
+    fn from(node: &'m ast::Attribute<'s>) -> FluentAttribute<'m, 's> {
+        FluentAttribute { node }
+    }
+}
+
+/// The attributes of a message from the front.
+#[derive(Debug, Drop)]
+pub struct Attributes<'m, 's> {
+    rest: Iter<'m, ast::Attribute<'s>>,
+}
+
+impl<'m, 's> Iterator for Attributes<'m, 's> {
+    ghost use Rattle.std.specs.Prelude.{◌≡◌, drop, length};
+    ghost use Rattle.std.specs.Option.{option_map};
+    ghost use Rattle.std.specs.List.{slice_get};
+    ghost use Rattle.std.specs.Iterator.{at_most};
+    ghost use Rattle.fluent_bundle.specs.BundleView.{attribute_content, attributes_left};
+
+    type Item = FluentAttribute<'m, 's>;
+
+    ghost remaining = { λ a. at_most (length (attributes_left a)) };
+
+    // The first of those that are left, which then are one less.
+    ghost next_gives = { λ old result new. (option_map attribute_content result ≡ slice_get (attributes_left old) 0) × (attributes_left new ≡ drop 1 (attributes_left old)) };
+
+    fn next(&mut self) -> Option<FluentAttribute<'m, 's>> {
+        match self.rest.next() {
+            Some(attribute) => Some(FluentAttribute::from(attribute)),
+            None => None,
+        }
     }
 }

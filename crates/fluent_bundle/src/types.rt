@@ -1,9 +1,16 @@
 //! The values that arguments give and expressions have.
-use std::borrow::CowStr;
 
-/// A value of an argument or of an expression.
-#[derive(Debug, Drop)]
-pub enum FluentValue<'s> {
-    /// A text, borrowed or owned.
-    String(CowStr<'s>),
-}
+mod conversions;
+pub mod custom;
+pub mod merge;
+#[cfg(test)]
+mod tests;
+pub mod value;
+
+pub use custom::{FluentType, NoCustom};
+pub use fluent_intl::{
+    Decimal, FluentNumber, FluentNumberCurrencyDisplayStyle, FluentNumberOptions,
+    FluentNumberStyle, FluentNumberType,
+};
+pub use merge::MergeArgs;
+pub use value::FluentValue;

@@ -3,7 +3,7 @@ use Rattle.std.proofs.Common.{◌≡◌, ◌∙◌, sym, ap, subst, refl, false,
 use Rattle.std.specs.Result.{OnOk}
 use Rattle.std.proofs.Math.Seq.{take-suc}
 use Rattle.std.proofs.lemmas.List.{take-append-drop, map-append}
-use Rattle.fluent_bundle.specs.Errors.{Error}
+use Rattle.fluent_meaning.specs.Errors.{Error}
 use Rattle.fluent_bundle.specs.View.{error_view}
 use Rattle.fluent_bundle.specs.declared.errors.FluentError.{FluentError}
 use Rattle.fluent_show.specs.EndingView.{reported}

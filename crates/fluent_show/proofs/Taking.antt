@@ -5,7 +5,7 @@ use Rattle.std.specs.Io.KnownBytes.{Appends}
 use Rattle.std.proofs.KnownBytes.{Appends-trans}
 use Rattle.fluent_syntax.specs.Tree.{Text}
 use Rattle.fluent_syntax.specs.Taken.{TookFront}
-use Rattle.fluent_bundle.specs.Errors.{Error}
+use Rattle.fluent_meaning.specs.Errors.{Error}
 use Rattle.fluent_bundle.specs.Formatted.{WritesAll, WritesFront}
 use Rattle.fluent_bundle.specs.declared.errors.FluentError.{FluentError}
 use Rattle.fluent_show.specs.Far.{Added, Took}
@@ -34,20 +34,27 @@ pub took_short : {T E T' E' : Type 0} (r : Result T E) (r' : Result T' E') (s t 
 took_short r (Ok x) s t old new faulted h = cc
 took_short r (Err e) s t old new faulted h = record { front = h.front; rest = h.rest ++ t; begins = ap (λ w. w ++ t) h.begins ∙ append_assoc h.front h.rest t; held = h.held; all = tt }
 
+-- The same of an answer that is Ok where this one is.
+pub took_recast : {T E T' E' : Type 0} (r : Result T E) (r' : Result T' E') (s t : Text) (old new : Option Text) → is_ok r' ≡ is_ok r → s ≡ t → Took r s old new → Took r' t old new
+took_recast (Ok x) (Ok y) s t old new same e h = record { front = h.front; rest = h.rest; begins = sym e ∙ h.begins; held = h.held; all = h.all }
+took_recast (Ok x) (Err y) s t old new same e h = record { front = h.front; rest = h.rest; begins = sym e ∙ h.begins; held = h.held; all = tt }
+took_recast (Err x) (Ok y) s t old new same e h = cc
+took_recast (Err x) (Err y) s t old new same e h = record { front = h.front; rest = h.rest; begins = sym e ∙ h.begins; held = h.held; all = tt }
+
 -- what a formatting call took
 pub took_written : {T E : Type 0} (r : Result T E) (text : Text) (errors : List Error) (held held' : Option Text) (old new : List FluentError)
     → OnOk r (WritesAll text errors held held' old new) → WritesFront text errors held held' old new → Took r text held held'
 took_written (Ok x) text errors held held' old new whole front = record { front = text; rest = []; begins = sym (append-nil text); held = whole.taken; all = refl }
-took_written (Err e) text errors held held' old new whole front = record { front = front.text_front; rest = front.text_rest; begins = sym front.text_whole; held = front.front.taken; all = tt }
+took_written (Err e) text errors held held' old new whole front = record { front = front.front; rest = front.rest; begins = sym front.whole; held = front.taken; all = tt }
 
 -- what it added
 pub added_written : {T E : Type 0} (r : Result T E) (text : Text) (errors : List Error) (held held' : Option Text) (old new : List FluentError)
     → OnOk r (WritesAll text errors held held' old new) → WritesFront text errors held held' old new → Added r errors old new
-added_written (Ok x) text errors held held' old new whole front = record { front = errors; rest = []; begins = sym (append-nil errors); list = whole.added; all = refl }
+added_written (Ok x) text errors held held' old new whole front = record { front = errors; rest = []; begins = sym (append-nil errors); list = whole.adds.added; all = refl }
 added_written (Err e) text errors held held' old new whole front = record {
-  front = front.errors_front;
-  rest = front.errors_rest;
-  begins = sym front.errors_whole;
-  list = front.front.added;
+  front = front.adds.front;
+  rest = front.adds.rest;
+  begins = sym front.adds.whole;
+  list = front.adds.adds.added;
   all = tt;
 }

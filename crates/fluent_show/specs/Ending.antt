@@ -1,7 +1,7 @@
 -- How a run ends: its status, and what it says of that on standard error.
 use Rattle.std.specs.Prelude.{ℕ, List, [], ◌∷◌, ◌++◌, codes}
 use Rattle.fluent_syntax.specs.Tree.{Text}
-use Rattle.fluent_bundle.specs.Errors.{Error, error_text}
+use Rattle.fluent_meaning.specs.Errors.{Error, error_text}
 
 pub data Ending : Type 0 where
   -- the text was written

@@ -1,6 +1,6 @@
 -- An ending and the errors of the code, by content.
 use Rattle.std.specs.Prelude.{List, map}
-use Rattle.fluent_bundle.specs.Errors.{Error}
+use Rattle.fluent_meaning.specs.Errors.{Error}
 use Rattle.fluent_bundle.specs.View.{error_view}
 use Rattle.fluent_bundle.specs.declared.errors.FluentError.{FluentError}
 use Rattle.fluent_show.specs.Ending as e

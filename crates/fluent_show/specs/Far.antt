@@ -2,7 +2,7 @@
 use Rattle.std.specs.Prelude.{◌≡◌, ℕ, List, [], ◌++◌, ◌⊎◌, Option, Result, OnOk}
 use Rattle.std.specs.Io.KnownBytes.{Appends}
 use Rattle.fluent_syntax.specs.Tree.{Text}
-use Rattle.fluent_bundle.specs.Errors.{Error}
+use Rattle.fluent_meaning.specs.Errors.{Error}
 use Rattle.fluent_bundle.specs.declared.errors.FluentError.{FluentError}
 use Rattle.fluent_show.specs.EndingView.{reported}
 use Rattle.fluent_show.specs.Ending.{Ending, status, writing_failed}

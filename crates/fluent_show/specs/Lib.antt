@@ -4,6 +4,7 @@ pub mod WordsView
 pub mod Ending
 pub mod EndingView
 pub mod Said
+pub mod BundleView
 pub mod Program
 pub mod Outcome
 pub mod Far

@@ -3,7 +3,7 @@ use Rattle.std.specs.Prelude.{◌≡◌, ℕ, List, ◌++◌, ◌⊎◌, Option,
 use Rattle.std.specs.Io.KnownBytes.{Appends}
 use Rattle.fluent_syntax.specs.Tree.{Text}
 use Rattle.fluent_syntax.specs.Taken.{raised}
-use Rattle.fluent_bundle.specs.Errors.{Error}
+use Rattle.fluent_meaning.specs.Errors.{Error}
 use Rattle.fluent_show.specs.Ending.{Ending, said, out_of_memory, reading_failed, writing_failed}
 use Rattle.fluent_show.specs.Program.{Run, Answer}
 

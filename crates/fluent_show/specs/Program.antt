@@ -1,18 +1,19 @@
 -- What the program shows and says, as a function of its words and the bytes of its input.
-use Rattle.std.specs.Prelude.{ℕ, Bool, List, [], ◌∷◌, ◌++◌, map, Option, Some, None, if◌then◌else◌}
+use Rattle.std.specs.Prelude.{ℕ, Bool, true, List, [], ◌∷◌, ◌++◌, map, Option, Some, None, if◌then◌else◌}
 use Rattle.std.specs.Option.{option_and_then}
 use Rattle.std.specs.Str.{is_utf8}
-use Rattle.std.specs.FinMap.{empty, insert}
 use Rattle.fluent_syntax.specs.Tree.{Text, Pattern, Entry}
 use Rattle.fluent_syntax.specs.Chunks.{entries, junk_ranges}
-use Rattle.fluent_bundle.specs.Errors.{Error, parser_error}
-use Rattle.fluent_bundle.specs.Value.{text_value}
-use Rattle.fluent_bundle.specs.ByText.{Arguments}
-use Rattle.fluent_bundle.specs.State.{State, start, after, add, isolate, overridden, message_at}
+use Rattle.fluent_intl.specs.Plurals.{english}
+use Rattle.fluent_meaning.specs.Errors.{Error, parser_error}
+use Rattle.fluent_meaning.specs.Value.{Value, Custom, try_number}
+use Rattle.fluent_meaning.specs.Arguments.{Map, set_all}
+use Rattle.fluent_meaning.specs.Bundle.{Bundle, empty_bundle, after, after_all, answered, add_resource, add_builtins, set_use_isolating}
+use Rattle.fluent_meaning.specs.Meaning.{Ran}
+use Rattle.fluent_bundle.specs.BundleView.{message_at}
+use Rattle.fluent_bundle.specs.Interim.{budgeted}
 use Rattle.fluent_show.specs.Words.{Asked, asked_by}
 use Rattle.fluent_show.specs.Ending.{Ending, shown, no_message, bad_usage, not_utf8, status, said}
-use Rattle.fluent_bundle.specs.Meaning.{Ran}
-use Rattle.fluent_bundle.specs.Interim.{budgeted}
 
 -- What a run writes on its output, the errors that it reports in order, and how it ends.
 pub record Run : Type 0 where
@@ -24,18 +25,29 @@ pub record Run : Type 0 where
 abbrev pub only : Ending → Run
 only ending = record { output = []; errors = []; ending = ending }
 
--- the arguments after these were set in order; the last of a repeated name stands
-abbrev pub with_arguments : List (Text × Text) → Arguments → Arguments
-with_arguments [] a = a
-with_arguments (p ∷ ps) a = with_arguments ps (insert a p.0 (text_value p.1))
+-- an argument: a value that is the text of a number is that number, any other is a text
+abbrev pub argument : Text × Text → Text × Value Text
+argument p = (p.0, try_number p.1)
+
+-- the arguments, set in order; the last of a repeated name stands
+abbrev pub arguments_of : List (Text × Text) → Map (Value Text)
+arguments_of ps = set_all (map argument ps) []
 
 -- the errors of a source's Junks, in order
 abbrev pub error_at : ℕ × ℕ → Error
 error_at range = parser_error range.0 range.1
 
--- the bundle of one resource
-abbrev pub bundle_of : Bool → List Entry → State
-bundle_of on entries = after (add entries) (after (isolate on) start)
+-- the application has no values of its own
+abbrev pub no_custom : Custom Text
+no_custom = record { text = λ t. []; same = λ s t. true }
+
+-- a bundle in English, with the built-in function alone
+abbrev pub start : Bool → Bundle Text
+start on = after_all (set_use_isolating on ∷ add_builtins ∷ []) (empty_bundle english no_custom)
+
+-- the same with one resource
+abbrev pub bundle_of : Bool → List Entry → Bundle Text
+bundle_of on entries = after (add_resource entries) (start on)
 
 -- a run that reports these errors before its own
 abbrev pub after_errors : List Error → Run → Run
@@ -46,19 +58,19 @@ abbrev pub run_text : Ran Text → Run
 run_text r = record { output = r.value ++ 10 ∷ []; errors = r.errors; ending = shown }
 
 -- a message's value under the arguments, if there is one
-abbrev pub run_value : Asked → State → Option Pattern → Run
+abbrev pub run_value : Asked → Bundle Text → Option Pattern → Run
 run_value asked bundle None = only (no_message asked.id)
-run_value asked bundle (Some pattern) = run_text (budgeted bundle (with_arguments asked.arguments empty) pattern)
+run_value asked bundle (Some pattern) = run_text (budgeted bundle (arguments_of asked.arguments) pattern)
 
 -- the value of the message that an id names
-abbrev pub value_at : Text → State → Option Pattern
+abbrev pub value_at : Text → Bundle Text → Option Pattern
 value_at id bundle = option_and_then (λ content. content.value) (message_at id bundle)
 
 -- the message that was asked for, in a bundle of these entries alone
 abbrev pub run_entries : Asked → List Entry → Run
 run_entries asked entries =
     let bundle = bundle_of asked.isolate entries in
-    after_errors (overridden entries start) (run_value asked bundle (value_at asked.id bundle))
+    after_errors (answered (add_resource entries) (start asked.isolate)) (run_value asked bundle (value_at asked.id bundle))
 
 -- the same of a source, whose Junks are reported first
 abbrev pub run_source : Asked → Text → Run

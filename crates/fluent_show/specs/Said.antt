@@ -4,7 +4,7 @@ use Rattle.std.specs.Io.KnownBytes.{Appends}
 use Rattle.fluent_syntax.specs.Tree.{Text}
 use Rattle.fluent_syntax.specs.declared.counting.WriteFault.{WriteFault}
 use Rattle.fluent_syntax.specs.declared.counting.WriteFault.TheVariants.{Memory, Writer, Zero}
-use Rattle.fluent_bundle.specs.Errors.{Error}
+use Rattle.fluent_meaning.specs.Errors.{Error}
 use Rattle.fluent_show.specs.Ending.{Ending, out_of_memory, error_lines, said}
 
 -- one list begins the other

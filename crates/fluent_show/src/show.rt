@@ -1,44 +1,52 @@
 //! A message of a source, written with its errors.
 
 ghost use Rattle.std.specs.Prelude.{◌≡◌, ◌++◌, ◌∷◌, [], map, IfOk, string_bytes};
-ghost use Rattle.std.specs.FinMap.{empty};
 ghost use Rattle.fluent_syntax.specs.Chunks.{entries, junk_ranges};
 ghost use Rattle.fluent_syntax.specs.Parsed.{error_range};
 ghost use Rattle.fluent_syntax.specs.Taken.{Faulted};
-ghost use Rattle.fluent_bundle.specs.View.{named};
-ghost use Rattle.fluent_bundle.specs.State.{start, overridden};
-ghost use Rattle.fluent_bundle.specs.BundleView.{state, entries_of};
 ghost use Rattle.fluent_syntax.specs.View.{pattern_view};
+ghost use Rattle.fluent_meaning.specs.Bundle.{answered, add_resource};
+ghost use Rattle.fluent_bundle.specs.BundleView.{entries_of};
 ghost use Rattle.fluent_show.specs.Words.{name_and_value};
 ghost use Rattle.fluent_show.specs.WordsView.{asked_view};
 ghost use Rattle.fluent_show.specs.EndingView.{ending_view};
 ghost use Rattle.fluent_bundle.specs.Interim.{budgeted};
-ghost use Rattle.fluent_show.specs.Program.{with_arguments, error_at, bundle_of, value_at, run_text, run_value, run_entries, run_source};
+ghost use Rattle.fluent_show.specs.BundleView.{arguments_view, bundle_view};
+ghost use Rattle.fluent_show.specs.Program.{arguments_of, error_at, start, bundle_of, value_at, run_text, run_value, run_entries, run_source};
 ghost use Rattle.fluent_show.specs.Far.{Added, Took};
 
 use crate::report::Ending;
 use crate::request::{Request, name_and_value};
 use fluent_bundle::{
     AddFault, Counting, FluentArgs, FluentBundle, FluentError, FluentResource, FluentValue,
-    ParserError, TryNewFault, WriteFault, ast,
+    NoCustom, NoFormatter, NoFunction, NoTransform, ParserError, TryNewFault, WriteFault, ast,
 };
+use fluent_intl::EnglishPlurals;
 use fluent_syntax::counting::put;
 use std::alloc::{AllocError, Global};
 use std::borrow::CowStr;
 use std::io::Write;
 
-/// The arguments that words `NAME=VALUE` give, each a text.
-fn arguments<'w>(alloc: Global, words: &'w [String]) -> Result<FluentArgs<'w>, AllocError>
+/// A bundle in English for which the application adds nothing of its own but resources.
+type Bundle<'r, 's> = FluentBundle<
+    'r,
+    's,
+    EnglishPlurals,
+    NoCustom,
+    NoFunction,
+    NoFormatter,
+    NoTransform,
+>;
+
+/// The arguments that words `NAME=VALUE` give. A value that is the text of a number is a number, any other a text.
+fn arguments<'w>(alloc: Global, words: &'w [String]) -> Result<FluentArgs<'w, NoCustom>, AllocError>
     ensures { IfOk result (λ args.
-        named args ≡ with_arguments (map name_and_value (map string_bytes words.now)) empty) }
+        arguments_view args ≡ arguments_of (map name_and_value (map string_bytes words.now))) }
 {
     let mut args = FluentArgs::new(alloc);
     for word in words {
         let (name, value) = name_and_value(word.as_str());
-        args.set(
-            CowStr::Borrowed(name),
-            FluentValue::String(CowStr::Borrowed(value)),
-        )?;
+        args.set(CowStr::Borrowed(name), FluentValue::try_number(value))?;
     }
     Ok(args)
 }
@@ -73,18 +81,31 @@ fn read<'s>(
     }
 }
 
-/// A bundle of one resource, with a report of each id that stands there twice.
+/// A bundle with the built-in function alone.
+fn start<'r, 's>(alloc: Global, isolate: bool) -> Result<Bundle<'r, 's>, AllocError>
+    ensures { IfOk result (λ bundle. bundle_view bundle ≡ start isolate) }
+{
+    let mut bundle = FluentBundle::new_default(alloc)?;
+    bundle.set_use_isolating(isolate);
+    match bundle.add_builtins() {
+        Ok(()) => Ok(bundle),
+        // All ids are free, so it is memory that was refused.
+        Err(_) => Err(AllocError),
+    }
+}
+
+/// A bundle of one resource, with a report of each id that stands there twice, or is that of the built-in function.
 fn bundle_of<'r, 's>(
     alloc: Global,
     isolate: bool,
     resource: &'r FluentResource<'s>,
     errors: &mut Vec<FluentError>,
-) -> Result<FluentBundle<'r, 's>, AllocError>
-    ensures state { IfOk result (λ bundle. state bundle ≡ bundle_of isolate (entries_of resource.now)) }
-    ensures errors { Added result (overridden (entries_of resource.now) start) errors.old.items errors.new.items }
+) -> Result<Bundle<'r, 's>, AllocError>
+    ensures bundle { IfOk result (λ bundle. bundle_view bundle ≡ bundle_of isolate (entries_of resource.now)) }
+    ensures errors { Added result (answered (add_resource (entries_of resource.now)) (start isolate))
+        errors.old.items errors.new.items }
 {
-    let mut bundle = FluentBundle::new(alloc);
-    bundle.set_use_isolating(isolate);
+    let mut bundle = start(alloc, isolate)?;
     match bundle.add_resource(resource) {
         Ok(()) => Ok(bundle),
         Err(AddFault::Overriding(mut found)) => {
@@ -96,19 +117,19 @@ fn bundle_of<'r, 's>(
 }
 
 /// Writes a pattern's text under the arguments, and a line feed.
-fn write_value<W: Write>(
+fn write_value<'r, 's: 'r, W: Write>(
     alloc: Global,
-    bundle: &FluentBundle<'_, '_>,
+    bundle: &Bundle<'r, 's>,
     words: &[String],
     pattern: &ast::Pattern<'_>,
     out: &mut Counting<W>,
     errors: &mut Vec<FluentError>,
 ) -> Result<(), WriteFault>
-    ensures text { let args = with_arguments (map name_and_value (map string_bytes words.now)) empty in
-        let run = run_text (budgeted (state bundle.now) args (pattern_view pattern.now)) in
+    ensures text { let args = arguments_of (map name_and_value (map string_bytes words.now)) in
+        let run = run_text (budgeted (bundle_view bundle.now) args (pattern_view pattern.now)) in
         Took result run.output (W.contents out.old.inner) (W.contents out.new.inner) }
-    ensures errors { let args = with_arguments (map name_and_value (map string_bytes words.now)) empty in
-        let run = run_text (budgeted (state bundle.now) args (pattern_view pattern.now)) in
+    ensures errors { let args = arguments_of (map name_and_value (map string_bytes words.now)) in
+        let run = run_text (budgeted (bundle_view bundle.now) args (pattern_view pattern.now)) in
         Added result run.errors errors.old.items errors.new.items }
     ensures fault { Faulted out.old.failed out.old.empty out.new.failed out.new.empty result }
 {
@@ -118,21 +139,21 @@ fn write_value<W: Write>(
 }
 
 /// Writes the value of the message that was asked for, if there is one.
-fn show_value<'w, W: Write>(
+fn show_value<'w, 'r, 's: 'r, W: Write>(
     alloc: Global,
     request: Request<'w>,
-    bundle: &FluentBundle<'_, '_>,
+    bundle: &Bundle<'r, 's>,
     out: &mut Counting<W>,
     errors: &mut Vec<FluentError>,
 ) -> Result<Ending<'w>, WriteFault>
-    ensures text { let value = value_at request.entry.id.now (state bundle.now) in
-        let run = run_value (asked_view request.entry) (state bundle.now) value in
+    ensures text { let value = value_at request.entry.id.now (bundle_view bundle.now) in
+        let run = run_value (asked_view request.entry) (bundle_view bundle.now) value in
         Took result run.output (W.contents out.old.inner) (W.contents out.new.inner) }
-    ensures errors { let value = value_at request.entry.id.now (state bundle.now) in
-        let run = run_value (asked_view request.entry) (state bundle.now) value in
+    ensures errors { let value = value_at request.entry.id.now (bundle_view bundle.now) in
+        let run = run_value (asked_view request.entry) (bundle_view bundle.now) value in
         Added result run.errors errors.old.items errors.new.items }
-    ensures ending { let value = value_at request.entry.id.now (state bundle.now) in
-        let run = run_value (asked_view request.entry) (state bundle.now) value in
+    ensures ending { let value = value_at request.entry.id.now (bundle_view bundle.now) in
+        let run = run_value (asked_view request.entry) (bundle_view bundle.now) value in
         IfOk result (λ ending. ending_view ending ≡ run.ending) }
     ensures fault { Faulted out.old.failed out.old.empty out.new.failed out.new.empty result }
 {

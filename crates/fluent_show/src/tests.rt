@@ -162,6 +162,37 @@ fn shows_the_message(rt: HostRuntime) -> Result<(), Fail> {
 }
 
 #[test]
+fn takes_numbers_for_numbers(rt: HostRuntime) -> Result<(), Fail> {
+    let alloc = rt.alloc();
+    let source = b"n = { $n }";
+    let rows = [
+        ("n=007", "7\n"),
+        ("n=1.50", "1.50\n"),
+        ("n=.5", "0.5\n"),
+        ("n=-3", "-3\n"),
+        ("n=1e3", "1e3\n"),
+        ("n=7 ", "7 \n"),
+    ];
+    for (word, want) in rows {
+        expect_run(&rt, alloc, &["n", word], source, (0, want, ""))?;
+    }
+    Ok(())
+}
+
+#[test]
+fn reports_what_would_override(rt: HostRuntime) -> Result<(), Fail> {
+    let alloc = rt.alloc();
+    let source = b"NUMBER = one\na = two\n-a = three\n-b = four\n-b = five";
+    let errors =
+        "Attempt to override an existing message: \"NUMBER\".\nAttempt to override an existing term: \"a\".\nAttempt to override an existing term: \"b\".\n";
+    expect_run(&rt, alloc, &["a"], source, (0, "two\n", errors))?;
+    let line =
+        "Attempt to override an existing message: \"NUMBER\".\nfluent_show: no message with a value: NUMBER\n";
+    expect_run(&rt, alloc, &["NUMBER"], b"NUMBER = one", (1, "", line))?;
+    Ok(())
+}
+
+#[test]
 fn reports_errors_in_order(rt: HostRuntime) -> Result<(), Fail> {
     let alloc = rt.alloc();
     let missing = "Welcome, \u{2068}{$name}\u{2069}.\n";

@@ -1,4 +1,4 @@
-//! Tests of what no contract says, over the crates of this repository.
+//! Tests that cross crates, of what no contract says, and one statement from end to end: what a bundle writes after a list of calls.
 #![tactic(auto)]
 
 #[cfg(test)]
@@ -9,6 +9,7 @@ mod depth;
 mod equality;
 #[cfg(test)]
 mod escapes;
+pub mod headline;
 #[cfg(test)]
 mod shown;
 #[cfg(test)]

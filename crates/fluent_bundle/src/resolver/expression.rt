@@ -4,34 +4,38 @@ ghost use Rattle.std.specs.Prelude.{◌≡◌};
 ghost use Rattle.fluent_syntax.specs.Fallback.{fallback, fallback_of};
 ghost use Rattle.fluent_syntax.specs.View.{expression_view, inline_view};
 ghost use Rattle.fluent_meaning.specs.Meaning.{within_budget};
-ghost use Rattle.fluent_bundle.specs.Scoped.{Wrote};
 ghost use Rattle.fluent_meaning.specs.Walk.{is_bare};
 ghost use Rattle.fluent_bundle.specs.Interim.{expression_text};
+ghost use Rattle.fluent_bundle.specs.Scoped.{status, Wrote};
 ghost use Rattle.fluent_bundle.specs.Written.{sink};
 
-use super::inline_expression::{put_in_braces, write_inline};
-use super::scope::Scope;
+use super::context::Context;
+use super::fallback::put_in_braces;
+use super::frame::Frame;
+use super::inline_expression::write_inline;
+use super::output::Output;
+use crate::types::FluentType;
+use fluent_syntax::WriteFault;
 use fluent_syntax::ast::{Expression, InlineExpression};
-use fluent_syntax::{Counting, WriteFault};
 use std::io::Write;
 
 /// Writes what an expression gives.
-pub fn write_expression<W: Write>(
-    scope: &mut Scope,
-    w: &mut Counting<W>,
+pub(crate) fn write_expression<W: Write, C: FluentType, B: Context<C>>(
+    frame: &mut Frame<'_, '_, '_, C, B>,
+    out: &mut Output<W>,
     expression: &Expression,
 ) -> Result<(), WriteFault>
-    ensures { Wrote result (λ s env. expression_text within_budget s env (expression_view expression.now)) (sink W.contents w.old) (sink W.contents w.new) scope.old scope.new }
+    ensures { let at = status B.meant B.is_plain C.content in Wrote result (λ b env. expression_text within_budget b env (expression_view expression.now)) (sink W.contents out.old) (sink W.contents out.new) (at frame.old) (at frame.new) }
 {
     match expression {
-        Expression::Inline(inline) => write_inline(scope, w, inline),
+        Expression::Inline(inline) => write_inline(frame, out, inline),
         // A select isn't resolved yet.
-        Expression::Select { selector, .. } => put_in_braces(w, selector),
+        Expression::Select { selector, .. } => put_in_braces(out, selector),
     }
 }
 
 /// Whether it is directly a message reference, a term reference or a string literal.
-pub fn is_bare(expression: &Expression) -> bool
+pub(crate) fn is_bare(expression: &Expression) -> bool
     ensures { result ≡ is_bare (expression_view expression.now) }
 {
     matches!(
@@ -45,7 +49,9 @@ pub fn is_bare(expression: &Expression) -> bool
 }
 
 /// The part of an expression that its fallback shows: of a select the selector.
-pub fn shown_part<'tree, 's>(expression: &'tree Expression<'s>) -> &'tree InlineExpression<'s>
+pub(crate) fn shown_part<'tree, 's>(
+    expression: &'tree Expression<'s>,
+) -> &'tree InlineExpression<'s>
     ensures { fallback (inline_view result.now) ≡ fallback_of (expression_view expression.now) }
 {
     match expression {

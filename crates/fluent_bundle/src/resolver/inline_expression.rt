@@ -1,166 +1,106 @@
 //! Inline expressions.
 
 ghost use Rattle.std.specs.Prelude.{◌≡◌};
-ghost use Rattle.fluent_syntax.specs.Fallback.{fallback, dotted, in_braces};
 ghost use Rattle.fluent_syntax.specs.Escapes.{unescaped};
-ghost use Rattle.fluent_syntax.specs.Tree.{variable};
-ghost use Rattle.fluent_syntax.specs.View.{inline_view, attribute_of};
+ghost use Rattle.fluent_syntax.specs.View.{inline_view};
+ghost use Rattle.fluent_meaning.specs.Arguments.{get};
+ghost use Rattle.fluent_meaning.specs.Bundle.{shown};
 ghost use Rattle.fluent_meaning.specs.Errors.{lost, to_variable};
 ghost use Rattle.fluent_meaning.specs.Meaning.{within_budget};
-ghost use Rattle.fluent_bundle.specs.Scoped.{Wrote, Added};
-ghost use Rattle.fluent_bundle.specs.View.{value_view};
-ghost use Rattle.fluent_bundle.specs.Interim.{inline_text, text_of, variable_text};
+ghost use Rattle.fluent_meaning.specs.Value.{try_number};
+ghost use Rattle.fluent_bundle.specs.Interim.{inline_text, variable_text};
+ghost use Rattle.fluent_bundle.specs.Scoped.{status, Wrote, Added};
 ghost use Rattle.fluent_bundle.specs.Written.{sink, Took};
-ghost use Rattle.std.specs.FinMap.{get};
 
+use super::context::Context;
 use super::errors::{ReferenceKind, ResolverError};
-use super::scope::Scope;
-use crate::types::FluentValue;
-use fluent_syntax::ast::{Expression, Identifier, InlineExpression};
-use fluent_syntax::counting::put;
-use fluent_syntax::{Counting, WriteFault, unescape_unicode};
-use std::alloc::AllocError;
+use super::fallback::{put_in_braces, put_variable};
+use super::frame::Frame;
+use super::output::{Output, put_text};
+use super::value::put_value;
+use crate::types::{FluentType, FluentValue};
+use fluent_syntax::ast::{Expression, InlineExpression};
+use fluent_syntax::{WriteFault, unescape_unicode, unescape_unicode_to_string};
+use std::alloc::{AllocError, Global};
 use std::io::Write;
 
 /// Writes what an inline expression gives.
-pub fn write_inline<W: Write>(
-    scope: &mut Scope,
-    w: &mut Counting<W>,
+pub(crate) fn write_inline<W: Write, C: FluentType, B: Context<C>>(
+    frame: &mut Frame<'_, '_, '_, C, B>,
+    out: &mut Output<W>,
     inline: &InlineExpression,
 ) -> Result<(), WriteFault>
-    ensures { Wrote result (λ s env. inline_text within_budget s env (inline_view inline.now)) (sink W.contents w.old) (sink W.contents w.new) scope.old scope.new }
+    ensures { let at = status B.meant B.is_plain C.content in Wrote result (λ b env. inline_text within_budget b env (inline_view inline.now)) (sink W.contents out.old) (sink W.contents out.new) (at frame.old) (at frame.new) }
 {
     match inline {
-        InlineExpression::VariableReference { id } => write_variable(scope, w, id.name),
-        InlineExpression::StringLiteral { value } => put_unescaped(w, value),
+        InlineExpression::VariableReference { id } => write_variable(frame, out, id.name),
+        InlineExpression::StringLiteral { value } => put_unescaped(
+            frame.bundle.allocator(),
+            out,
+            value,
+        ),
+        InlineExpression::NumberLiteral { value } => put_number(frame, out, value),
         InlineExpression::Placeable { expression } => match &**expression {
-            Expression::Inline(inside) => write_inline(scope, w, inside),
+            Expression::Inline(inside) => write_inline(frame, out, inside),
             // A select isn't resolved yet.
-            Expression::Select { selector, .. } => put_in_braces(w, selector),
+            Expression::Select { selector, .. } => put_in_braces(out, selector),
         },
         // The others aren't resolved yet.
-        _ => put_in_braces(w, inline),
+        _ => put_in_braces(out, inline),
     }
 }
 
 /// Writes the text of a string literal, with its escapes resolved.
-fn put_unescaped<W: Write>(w: &mut Counting<W>, value: &str) -> Result<(), WriteFault>
-    ensures { Took result (unescaped value.now) (sink W.contents w.old) (sink W.contents w.new) }
-{
-    unescape_unicode(w, value)
-}
-
-/// Writes the text of a variable, or its fallback where the arguments lack it.
-fn write_variable<W: Write>(
-    scope: &mut Scope,
-    w: &mut Counting<W>,
-    name: &str,
+fn put_unescaped<W: Write>(
+    alloc: Global,
+    out: &mut Output<W>,
+    value: &str,
 ) -> Result<(), WriteFault>
-    ensures { Wrote result (λ s env. variable_text within_budget s env name.now (get env name.now)) (sink W.contents w.old) (sink W.contents w.new) scope.old scope.new }
+    ensures { Took result (unescaped value.now) (sink W.contents out.old) (sink W.contents out.new) }
 {
-    match scope.argument(name) {
-        Some(value) => put_value(w, value),
-        None => {
-            report_variable(scope, name)?;
-            put_variable(w, name)
-        }
+    if out.is_buffered {
+        let text = unescape_unicode_to_string(alloc, value)?;
+        put_text(out, &text)
+    } else {
+        unescape_unicode(out.writer, value)
     }
 }
 
-/// Writes the text of a value.
-fn put_value<W: Write>(w: &mut Counting<W>, value: &FluentValue) -> Result<(), WriteFault>
-    ensures { Took result (text_of (value_view value.now)) (sink W.contents w.old) (sink W.contents w.new) }
+/// Writes a number literal: the number that its source is, as it is shown.
+fn put_number<W: Write, C: FluentType, B: Context<C>>(
+    frame: &Frame<'_, '_, '_, C, B>,
+    out: &mut Output<W>,
+    source: &str,
+) -> Result<(), WriteFault>
+    ensures { let at = status B.meant B.is_plain C.content in Took result (shown (at frame.now).bundle (try_number source.now)) (sink W.contents out.old) (sink W.contents out.new) }
 {
-    match value {
-        FluentValue::String(text) => put_text(w, text),
+    put_value(frame.bundle, out, &FluentValue::try_number(source))
+}
+
+/// Writes the value of a variable, or its fallback where the arguments lack it.
+fn write_variable<W: Write, C: FluentType, B: Context<C>>(
+    frame: &mut Frame<'_, '_, '_, C, B>,
+    out: &mut Output<W>,
+    name: &str,
+) -> Result<(), WriteFault>
+    ensures { let at = status B.meant B.is_plain C.content in Wrote result (λ b env. variable_text within_budget b env name.now (get name.now env)) (sink W.contents out.old) (sink W.contents out.new) (at frame.old) (at frame.new) }
+{
+    match frame.argument(name) {
+        Some(value) => put_value(frame.bundle, out, value),
+        None => {
+            report_variable(frame, name)?;
+            put_variable(out, name)
+        }
     }
 }
 
 /// The error for a variable that the arguments lack.
-fn report_variable(scope: &mut Scope, name: &str) -> Result<(), AllocError>
-    ensures { Added result (lost (to_variable name.now)) scope.old scope.new }
+fn report_variable<C: FluentType, B: Context<C>>(
+    frame: &mut Frame<'_, '_, '_, C, B>,
+    name: &str,
+) -> Result<(), AllocError>
+    ensures { let at = status B.meant B.is_plain C.content in Added result (lost (to_variable name.now)) (at frame.old) (at frame.new) }
 {
-    let id = String::from_str(scope.bundle.alloc, name)?;
-    scope.add_error(ResolverError::Reference(ReferenceKind::Variable { id }))
-}
-
-/// Writes a variable's fallback in braces.
-fn put_variable<W: Write>(w: &mut Counting<W>, name: &str) -> Result<(), WriteFault>
-    ensures { Took result (in_braces (fallback (variable name.now))) (sink W.contents w.old) (sink W.contents w.new) }
-{
-    put_text(w, "{$")?;
-    put_text(w, name)?;
-    put_text(w, "}")
-}
-
-/// Writes an expression's fallback in braces.
-pub fn put_in_braces<W: Write>(
-    w: &mut Counting<W>,
-    expression: &InlineExpression,
-) -> Result<(), WriteFault>
-    ensures { Took result (in_braces (fallback (inline_view expression.now))) (sink W.contents w.old) (sink W.contents w.new) }
-{
-    put_text(w, "{")?;
-    put_fallback(w, expression)?;
-    put_text(w, "}")
-}
-
-/// Writes an expression's fallback, without braces.
-fn put_fallback<W: Write>(
-    w: &mut Counting<W>,
-    expression: &InlineExpression,
-) -> Result<(), WriteFault>
-    ensures { Took result (fallback (inline_view expression.now)) (sink W.contents w.old) (sink W.contents w.new) }
-{
-    match expression {
-        InlineExpression::StringLiteral { value } => {
-            put_text(w, "\"")?;
-            put_text(w, value)?;
-            put_text(w, "\"")
-        }
-        InlineExpression::NumberLiteral { value } => put_text(w, value),
-        InlineExpression::FunctionReference { id, .. } => {
-            put_text(w, id.name)?;
-            put_text(w, "()")
-        }
-        InlineExpression::MessageReference { id, attribute } => put_dotted(w, id, attribute),
-        InlineExpression::TermReference { id, attribute, .. } => {
-            put_text(w, "-")?;
-            put_dotted(w, id, attribute)
-        }
-        InlineExpression::VariableReference { id } => {
-            put_text(w, "$")?;
-            put_text(w, id.name)
-        }
-        InlineExpression::Placeable { expression } => match &**expression {
-            Expression::Inline(shown)
-            | Expression::Select {
-                selector: shown,
-                ..
-            } => put_fallback(w, shown),
-        },
-    }
-}
-
-/// Writes a name, and after a point that of an attribute.
-fn put_dotted<W: Write>(
-    w: &mut Counting<W>,
-    id: &Identifier,
-    attribute: &Option<Identifier>,
-) -> Result<(), WriteFault>
-    ensures { Took result (dotted id.now.name.now (attribute_of attribute.now)) (sink W.contents w.old) (sink W.contents w.new) }
-{
-    put_text(w, id.name)?;
-    if let Some(attribute) = attribute {
-        put_text(w, ".")?;
-        put_text(w, attribute.name)?;
-    }
-    Ok(())
-}
-
-/// Writes a text.
-pub fn put_text<W: Write>(w: &mut Counting<W>, text: &str) -> Result<(), WriteFault>
-    ensures { Took result text.now (sink W.contents w.old) (sink W.contents w.new) }
-{
-    put(w, text.as_bytes())
+    let id = String::from_str(frame.bundle.allocator(), name)?;
+    frame.add_error(ResolverError::Reference(ReferenceKind::Variable { id }))
 }

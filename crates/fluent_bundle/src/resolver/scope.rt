@@ -1,120 +1,118 @@
-//! What a formatting call carries along a pattern.
+//! The state of one formatting call, for those who write values by hand.
 
-ghost use Rattle.std.specs.Prelude.{◌≡◌, ◌↔◌, IsTrue};
-ghost use Rattle.std.specs.FinMap.{get};
+ghost use Rattle.std.specs.Prelude.{◌≡◌, ◌↔◌, ◌∷◌, [], OnOk, OnErr, IsTrue, map};
 ghost use Rattle.std.specs.Option.{option_map};
-ghost use Rattle.fluent_bundle.specs.View.{resolver_error_view, value_view};
+ghost use Rattle.fluent_meaning.specs.Errors.{resolver_error};
 ghost use Rattle.fluent_meaning.specs.Meaning.{struck, left};
-ghost use Rattle.fluent_bundle.specs.Interim.{limit};
-ghost use Rattle.fluent_bundle.specs.Scoped.{arguments_view, budget_view, can_open, less_one, Keeps, Added};
+ghost use Rattle.fluent_bundle.specs.View.{error_view, resolver_error_view};
+ghost use Rattle.fluent_bundle.specs.Scoped.{budget_view};
+ghost use Rattle.fluent_bundle.specs.ScopeView.{errors_of, with_errors, SameBut};
+ghost use Rattle.fluent_bundle.specs.Ended.{ended};
 
+use super::context::Context;
 use super::errors::ResolverError;
+use super::frame::Budget;
 use crate::args::FluentArgs;
-use crate::bundle::FluentBundle;
 use crate::errors::FluentError;
-use crate::types::FluentValue;
+use crate::types::FluentType;
 use std::alloc::AllocError;
 
-/// How many placeables one formatting call opens.
-const MAX_PLACEABLES: u32 = 100;
-
-/// How many more placeables may be opened; struck once one more was met.
-#[derive(Clone, Copy)]
-pub enum Budget {
-    Left(u32),
-    Struck,
+/// The state of one formatting call: its bundle, its arguments, its list of errors, and how many more placeables
+/// it may open.
+pub struct Scope<'errors, 'bundle, 'args, C, B> {
+    pub(crate) errors: Option<&'errors mut Vec<FluentError>>,
+    pub(crate) bundle: &'bundle B,
+    pub(crate) args: Option<&'bundle FluentArgs<'args, C>>,
+    pub(crate) budget: Budget,
 }
 
-/// The state of one formatting call.
-pub struct Scope<'errors, 'bundle, 'resource, 'source, 'args> {
-    pub errors: &'errors mut Vec<FluentError>,
-    pub bundle: &'bundle FluentBundle<'resource, 'source>,
-    pub args: Option<&'bundle FluentArgs<'args>>,
-    pub budget: Budget,
-}
-
-impl Drop for Scope<'_, '_, '_, '_, '_> {
+impl<C, B> Drop for Scope<'_, '_, '_, C, B> {
     // By hand, so that it says that the list of errors keeps what was added.
     fn drop(self)
-        ensures { self.exit.0.now ≡ self.entry.errors.now }
+        ensures { ended self.exit.0 ≡ option_map (λ e. e.now) self.entry.errors }
     {
-        let Scope {
-            errors: _,
-            bundle: _,
-            args: _,
-            budget: _,
-        } = self;
+        match &self.errors {
+            Some(_) => {
+                let Scope {
+                    errors: _,
+                    bundle: _,
+                    args: _,
+                    budget: _,
+                } = self;
+            }
+            None => {
+                let Scope {
+                    errors: _,
+                    bundle: _,
+                    args: _,
+                    budget: _,
+                } = self;
+            }
+        }
     }
 }
 
-impl<'errors, 'bundle, 'resource, 'source, 'args> Scope<
-    'errors,
-    'bundle,
-    'resource,
-    'source,
-    'args,
-> {
-    /// The state in which a call begins, with its whole budget.
+impl<'errors, 'bundle, 'args, C: FluentType, B: Context<C>> Scope<'errors, 'bundle, 'args, C, B> {
+    /// The state in which a call begins, with its whole budget. Errors are added at the end of the list, if there
+    /// is one. Without arguments each variable is missing.
     pub fn new(
-        bundle: &'bundle FluentBundle<'resource, 'source>,
-        args: Option<&'bundle FluentArgs<'args>>,
-        errors: &'errors mut Vec<FluentError>,
+        bundle: &'bundle B,
+        args: Option<&'bundle FluentArgs<'args, C>>,
+        errors: Option<&'errors mut Vec<FluentError>>,
     ) -> Self
         ensures bundle { result.bundle ≡ bundle.entry }
         ensures args { result.args ≡ args.entry }
-        ensures list { result.errors.ghost_name ≡ errors.entry.ghost_name }
-        ensures errors { result.errors.now ≡ errors.old }
-        ensures budget { budget_view result.budget ≡ left limit }
+        ensures errors { result.errors ≡ errors.entry }
+        ensures budget { budget_view result.budget ≡ left (B.meant bundle.now).limit }
     {
         Scope {
             errors,
             bundle,
             args,
-            budget: Budget::Left(MAX_PLACEABLES),
+            budget: Budget::Left(bundle.placeable_limit()),
+        }
+    }
+
+    /// The bundle of the call.
+    pub fn bundle(&self) -> &'bundle B
+        ensures { result ≡ self.now.bundle }
+    {
+        self.bundle
+    }
+
+    /// The list of errors, with those that the call added; `None` where it was given no list.
+    pub fn errors(&self) -> Option<&[FluentError]>
+        ensures { option_map (λ list. map error_view list.now) result ≡ errors_of self.now }
+    {
+        match &self.errors {
+            Some(errors) => Some(errors.as_slice()),
+            None => None,
         }
     }
 
     /// Whether a placeable past the limit was met.
-    pub fn is_struck(&self) -> bool
+    pub fn dirty(&self) -> bool
         ensures { IsTrue result ↔ (budget_view self.now.budget ≡ struck) }
     {
         matches!(self.budget, Budget::Struck)
     }
 
-    /// Takes one from the budget, or strikes it where none is left.
-    pub fn take_one(&mut self) -> bool
-        ensures opens { result ≡ can_open (budget_view self.old.budget) }
-        ensures takes { budget_view self.new.budget ≡ less_one (budget_view self.old.budget) }
-        ensures errors { self.new.errors.now ≡ self.old.errors.now }
-        ensures kept { Keeps self.old self.new }
-    {
-        match self.budget {
-            Budget::Left(left) if left > 0 => {
-                self.budget = Budget::Left(left - 1);
-                true
-            }
-            _ => {
-                self.budget = Budget::Struck;
-                false
-            }
-        }
-    }
-
-    /// The value of a variable.
-    pub fn argument(&self, name: &str) -> Option<&FluentValue<'args>>
-        ensures { option_map (λ v. value_view v.now) result ≡ get (arguments_view self.now.args) name.now }
-    {
-        match self.args {
-            Some(args) => args.get(name),
-            None => None,
-        }
-    }
-
-    /// Adds an error at the end of the list.
+    /// Adds an error at the end of the list, if there is one.
+    ///
+    /// # Errors
+    ///
+    /// Memory was refused: the list is as before.
     pub fn add_error(&mut self, error: ResolverError) -> Result<(), AllocError>
-        ensures { Added result (resolver_error_view error) self.old self.new }
+        ensures added { OnOk result (errors_of self.new ≡ with_errors (errors_of self.old) (resolver_error (resolver_error_view error) ∷ [])) }
+        ensures refused { OnErr result (errors_of self.new ≡ errors_of self.old) }
+        ensures kept { SameBut self.old self.new }
     {
-        self.errors.push(FluentError::ResolverError(error))?;
-        Ok(())
+        match &mut self.errors {
+            Some(errors) => {
+                errors.push(FluentError::ResolverError(error))?;
+                Ok(())
+            }
+            None => Ok(()),
+        }
     }
 }

@@ -1,13 +1,14 @@
 use Rattle.std.proofs.Common.{◌≡◌, ◌≤◌, length, ◌-◌, drop, map}
 use Rattle.std.specs.HashMap.{spare}
+use Rattle.fluent_syntax.specs.Tree.{Text}
 use Rattle.fluent_syntax.specs.View.{entry_view}
-use Rattle.fluent_bundle.specs.State.{with_entries}
+use Rattle.fluent_meaning.specs.Bundle.{Function, added}
 use Rattle.fluent_bundle.specs.BundleView.{ids}
 use Rattle.fluent_bundle.proofs.adding.add_all.Given as goal
 
 -- there is room for what is left, and what is left makes of the ids what all of it would
 abbrev pub invariant-loop-entry : goal.invariant-loop-entry
-invariant-loop-entry l = record {
+invariant-loop-entry g l = record {
   room : length l.entries - l.entry-index ≤ spare l.known;
-  same : with_entries (map entry_view (drop l.entry-index l.entries)) (ids l.known) ≡ with_entries (map entry_view l.entries) (ids l.fn.known);
+  same : (answer : _ → Function Text) → added (map entry_view (drop l.entry-index l.entries)) (ids answer l.known) ≡ added (map entry_view l.entries) (ids answer l.fn.known);
 }

@@ -1,6 +1,14 @@
-use Rattle.fluent_bundle.proofs.Looking.{one_look}
+use Rattle.std.proofs.Common.{subst}
+use Rattle.fluent_bundle.specs.BundleView.{ids}
+use Rattle.fluent_bundle.specs.Adding.{AreTaken}
+use Rattle.fluent_bundle.proofs.Added.{one_told, one_taken}
 use Rattle.fluent_bundle.proofs.adding.look.Goals as goal
 
 pub loop-entry-preserved : goal.loop-entry-preserved
-loop-entry-preserved c =
-    one_look c.args.entries.now c.loop-entry.entry-index _ _ _ _ _ _ _ c.loop-entry-test.true c.entry-item.is c.in_ok-look_at.ensures.told c.in_ok-look_at.ensures.taken c.loop-entry.invariant
+loop-entry-preserved g c = record {
+  told = λ answer. one_told c.args.entries.now c.loop-entry.entry-index _ _ _ _ (ids answer c.args.known.now) c.loop-entry-test.true c.entry-item.is
+      (c.in_ok-look_at.ensures.told answer _ (c.loop-entry.invariant.seen answer)) (c.loop-entry.invariant.told answer);
+  seen = λ answer. subst (AreTaken answer c.args.known.now c.look_at.new.seen)
+      (one_taken c.args.entries.now c.loop-entry.entry-index _ _ (ids answer c.args.known.now) c.loop-entry-test.true c.entry-item.is)
+      (c.in_ok-look_at.ensures.seen answer _ (c.loop-entry.invariant.seen answer));
+}

@@ -1,13 +1,15 @@
-use Rattle.std.proofs.Common.{◌≡◌, ◌++◌, drop, map, is_some, ◌||◌}
-use Rattle.std.specs.FinMap as fin
+use Rattle.std.proofs.Common.{◌≡◌, take, map}
+use Rattle.fluent_syntax.specs.Tree.{Text}
 use Rattle.fluent_syntax.specs.View.{entry_view}
+use Rattle.fluent_meaning.specs.Bundle.{Function, added, not_added}
 use Rattle.fluent_bundle.specs.View.{error_view}
-use Rattle.fluent_bundle.specs.State.{reports}
-use Rattle.fluent_bundle.specs.BundleView.{ids, has}
+use Rattle.fluent_bundle.specs.BundleView.{ids}
+use Rattle.fluent_bundle.specs.Adding.{AreTaken}
 use Rattle.fluent_bundle.proofs.adding.look.Given as goal
 
--- the reports so far and those of what is left are those of all of it
+-- what was told is what adding the entries so far would answer, and what is taken is what they would make
 abbrev pub invariant-loop-entry : goal.invariant-loop-entry
-invariant-loop-entry l =
-    map error_view l.errors.items ++ reports (map entry_view (drop l.entry-index l.entries)) (λ q. is_some (fin.get (ids l.known) q) || has l.seen q)
-    ≡ reports (map entry_view l.entries) (λ q. is_some (fin.get (ids l.known) q))
+invariant-loop-entry g l = record {
+  told : (answer : _ → Function Text) → map error_view l.errors.items ≡ not_added (map entry_view (take l.entry-index l.entries)) (ids answer l.known);
+  seen : (answer : _ → Function Text) → AreTaken answer l.known l.seen (added (map entry_view (take l.entry-index l.entries)) (ids answer l.known));
+}

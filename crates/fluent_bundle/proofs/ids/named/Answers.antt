@@ -1,8 +1,8 @@
 use Rattle.std.proofs.Common.{sym, ◌∙◌, ap}
 use Rattle.std.specs.Option.{option_map}
-use Rattle.fluent_bundle.specs.BundleView.{known_view}
-use Rattle.fluent_bundle.proofs.Keyed.{get_hash, copied_meaning}
+use Rattle.fluent_bundle.specs.BundleView.{entry_of}
+use Rattle.fluent_bundle.proofs.ByName.{get_named, copied_view}
 use Rattle.fluent_bundle.proofs.ids.named.Goals as goal
 
 pub returns : goal.returns
-returns c = copied_meaning known_view _ ∙ ap (option_map known_view) c.get.ensures.value ∙ sym (get_hash known_view c.args.known.now.entries c.args.id.now)
+returns g c = λ answer. copied_view (entry_of answer) _ ∙ ap (option_map (entry_of answer)) c.get.ensures.value ∙ sym (get_named (entry_of answer) c.args.known.now.entries c.args.id.now)

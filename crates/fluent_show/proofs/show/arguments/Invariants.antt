@@ -1,11 +1,11 @@
 use Rattle.std.proofs.Common.{◌≡◌, map, drop, string_bytes}
-use Rattle.std.specs.FinMap.{empty}
-use Rattle.fluent_bundle.specs.View.{named}
+use Rattle.fluent_meaning.specs.Arguments.{set_all}
 use Rattle.fluent_show.specs.Words.{name_and_value}
-use Rattle.fluent_show.specs.Program.{with_arguments}
+use Rattle.fluent_show.specs.BundleView.{arguments_view}
+use Rattle.fluent_show.specs.Program.{argument, arguments_of}
 use Rattle.fluent_show.proofs.show.arguments.Given as goal
 
 abbrev pub invariant-loop-word : goal.invariant-loop-word
 invariant-loop-word l =
-    with_arguments (map name_and_value (map string_bytes (drop l.word-index l.words))) (named l.args)
-    ≡ with_arguments (map name_and_value (map string_bytes l.words)) empty
+    set_all (map argument (map name_and_value (map string_bytes (drop l.word-index l.words)))) (arguments_view l.args)
+    ≡ arguments_of (map name_and_value (map string_bytes l.words))

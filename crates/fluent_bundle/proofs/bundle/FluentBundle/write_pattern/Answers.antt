@@ -1,22 +1,25 @@
-use Rattle.std.proofs.Common.{rules, ap}
+use Rattle.std.proofs.Common.{rules}
 use Rattle.fluent_syntax.specs.View.{pattern_view}
-use Rattle.fluent_bundle.specs.BundleView.{state}
+use Rattle.fluent_bundle.specs.BundleView.{meant}
 use Rattle.fluent_bundle.specs.Scoped.{arguments_view}
-use Rattle.fluent_bundle.proofs.Formats.{all_of, fresh, front, substituted_of}
+use Rattle.fluent_bundle.proofs.Formats.{substituted_of, written_by}
 use Rattle.fluent_bundle.proofs.bundle.FluentBundle.write_pattern.Goals as goal
 
 pub returns-clause-within : goal.returns-clause-within
 returns-clause-within g c =
-    let new = c.new-scope.ensures in
-    substituted_of _ _ _ _ _ (state c.args.self.now) (arguments_view c.args.args) (pattern_view c.args.pattern.now)
-    (all_of c.write_elements.ensures.wrote (fresh c.new-scope.result _ _ (pattern_view c.args.pattern.now) new.bundle new.args new.budget) (ap (λ v. v.items) new.errors) (search rules))
+    let b = meant g.M.MemoizerKind.category g.C.FluentType.shown g.C.FluentType.alike g.F.FluentFunction.answer g.G.FluentFormatter.formatted g.T.Transform.changed c.args.self.now in
+    let out = c.write_out.new.out in
+    let h = written_by g.W.Write.contents _ out.writer.ghost_name _ out.buffer.ghost_name c.args.w.now out.writer.now c.w-1.given.0 c.new-unused.result out.buffer.now out.is_buffered (search rules) c.write_out.ensures.writes in
+    substituted_of _ _ _ _ _ b (arguments_view g.C.FluentType.content c.args.args) (pattern_view c.args.pattern.now) h.all
 
 pub returns-clause-whole : goal.returns-clause-whole
 returns-clause-whole g c =
-    let new = c.new-scope.ensures in
-    all_of c.write_elements.ensures.wrote (fresh c.new-scope.result _ _ (pattern_view c.args.pattern.now) new.bundle new.args new.budget) (ap (λ v. v.items) new.errors) (search rules)
+    let out = c.write_out.new.out in
+    let h = written_by g.W.Write.contents _ out.writer.ghost_name _ out.buffer.ghost_name c.args.w.now out.writer.now c.w-1.given.0 c.new-unused.result out.buffer.now out.is_buffered (search rules) c.write_out.ensures.writes in
+    h.all
 
 pub returns-clause-front : goal.returns-clause-front
 returns-clause-front g c =
-    let new = c.new-scope.ensures in
-    front c.write_elements.ensures.wrote (fresh c.new-scope.result _ _ (pattern_view c.args.pattern.now) new.bundle new.args new.budget) (ap (λ v. v.items) new.errors) (search rules)
+    let out = c.write_out.new.out in
+    let h = written_by g.W.Write.contents _ out.writer.ghost_name _ out.buffer.ghost_name c.args.w.now out.writer.now c.w-1.given.0 c.new-unused.result out.buffer.now out.is_buffered (search rules) c.write_out.ensures.writes in
+    h.front

@@ -1,7 +1,6 @@
 use Rattle.std.proofs.Common.{ap}
 use Rattle.fluent_meaning.specs.Meaning.{within_budget}
-use Rattle.fluent_bundle.specs.Scoped.{budget_view, arguments_view}
-use Rattle.fluent_bundle.specs.BundleView.{state}
+use Rattle.fluent_bundle.specs.Scoped.{status}
 use Rattle.fluent_bundle.specs.Interim.{expression_text}
 use Rattle.fluent_bundle.proofs.Along.{starts, turns, puts_last, wrote}
 use Rattle.fluent_bundle.proofs.Views.{view_select_in}
@@ -9,7 +8,7 @@ use Rattle.fluent_bundle.proofs.resolver.expression.write_expression.Goals as go
 
 pub returns-in-Select : goal.returns-in-Select
 returns-in-Select g c =
-    let a = c.args.scope.now in
+    let a = status g.B.Context.meant g.B.Context.is_plain g.C.FluentType.content c.args.frame.now in
     wrote (puts_last c.put_in_braces.ensures (turns
-    (ap (λ e. expression_text within_budget (state a.bundle.now) (arguments_view a.args) e (budget_view a.budget)) (view_select_in c.args.expression.now c.in-Select.selector c.in-Select.variants c.in-Select.is))
+    (ap (λ e. expression_text within_budget a.bundle a.arguments e a.budget) (view_select_in c.args.expression.now c.in-Select.selector c.in-Select.variants c.in-Select.is))
     (starts _ _ _)))

@@ -1,5 +1,13 @@
-use Rattle.fluent_bundle.proofs.Took.{took_by}
+use Rattle.std.proofs.Common.{rules}
+use Rattle.fluent_bundle.proofs.Outputs.{to_writer}
+use Rattle.fluent_bundle.proofs.Took.{took_none}
 use Rattle.fluent_bundle.proofs.resolver.inline_expression.put_unescaped.Goals as goal
 
-pub returns : goal.returns
-returns g c = let e = c.unescape_unicode.ensures in took_by _ _ _ e.whole e.front e.fault e.writer
+pub returns-in_err-text : goal.returns-in_err-text
+returns-in_err-text g c = took_none _ _ (search rules)
+
+pub returns-else-out : goal.returns-else-out
+returns-else-out g c =
+    let out = c.args.out.now in
+    let e = c.unescape_unicode.ensures in
+    to_writer g.W.Write.contents out.writer.ghost_name out.buffer.ghost_name out.writer.now c.unescape_unicode.new.w out.buffer.now out.is_buffered _ (search rules) e.whole e.front e.fault

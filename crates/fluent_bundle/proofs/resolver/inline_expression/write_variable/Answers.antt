@@ -2,20 +2,18 @@ use Rattle.std.proofs.Common.{rules, ap, sym, ◌∙◌, Option}
 use Rattle.std.specs.Option.{option_map}
 use Rattle.fluent_syntax.specs.Fallback.{in_braces, fallback}
 use Rattle.fluent_syntax.specs.Tree.{variable}
-use Rattle.fluent_bundle.specs.Value.{Value}
+use Rattle.fluent_meaning.specs.Value.{Value}
 use Rattle.fluent_bundle.specs.View.{value_view}
 use Rattle.fluent_bundle.specs.Interim.{variable_text}
 use Rattle.fluent_meaning.specs.Meaning.{within_budget, Ran}
 use Rattle.fluent_syntax.specs.Tree.{Text}
-use Rattle.fluent_bundle.specs.Scoped.{budget_view, arguments_view, given}
-use Rattle.fluent_bundle.specs.BundleView.{state}
-use Rattle.fluent_bundle.specs.declared.resolver.scope.Scope.{Scope}
+use Rattle.fluent_bundle.specs.Scoped.{Status, status, given}
 use Rattle.fluent_bundle.proofs.Along.{starts, turns, adds, refuses, puts_last, wrote}
 use Rattle.fluent_bundle.proofs.resolver.inline_expression.write_variable.Goals as goal
 
 -- what a variable with this value gives
-abbrev giving : Scope → Text → Option Value → Ran Text
-giving a x v = variable_text within_budget (state a.bundle.now) (arguments_view a.args) x v (budget_view a.budget)
+abbrev giving : Status → Text → Option (Value Text) → Ran Text
+giving a x v = variable_text within_budget a.bundle a.arguments x v a.budget
 
 pub returns-in_err-report_variable-in-None : goal.returns-in_err-report_variable-in-None
 returns-in_err-report_variable-in-None g c =
@@ -23,17 +21,16 @@ returns-in_err-report_variable-in-None g c =
 
 pub returns-in-Some : goal.returns-in-Some
 returns-in-Some g c =
-    let a = c.args.scope.now in
+    let a = status g.B.Context.meant g.B.Context.is_plain g.C.FluentType.content c.args.frame.now in
     wrote (puts_last c.put_value.ensures (turns
-    (ap (giving a c.args.name.now) (sym c.argument.ensures ∙ ap (option_map (λ v. value_view v.now)) c.in-Some.is))
+    (ap (giving a c.args.name.now) (sym c.argument.ensures ∙ ap (option_map (λ v. value_view g.C.FluentType.content v.now)) c.in-Some.is))
     (starts _ _ _)))
 
 pub returns-in_ok-report_variable-in-None : goal.returns-in_ok-report_variable-in-None
 returns-in_ok-report_variable-in-None g c =
-    let a = c.args.scope.now in
-    let b = c.report_variable.new.scope in
+    let a = status g.B.Context.meant g.B.Context.is_plain g.C.FluentType.content c.args.frame.now in
     wrote (puts_last c.put_variable.ensures (turns
-    (ap (λ n. given (in_braces (fallback (variable c.args.name.now))) (budget_view n)) (sym c.report_variable.ensures.budget))
+    (ap (λ n. given (in_braces (fallback (variable c.args.name.now))) n) (sym c.report_variable.ensures.budget))
     (adds _ c.in_ok-report_variable-in-None.was c.report_variable.ensures (turns
-    (ap (giving a c.args.name.now) (sym c.argument.ensures ∙ ap (option_map (λ v. value_view v.now)) c.in-None.is))
+    (ap (giving a c.args.name.now) (sym c.argument.ensures ∙ ap (option_map (λ v. value_view g.C.FluentType.content v.now)) c.in-None.is))
     (starts _ _ _)))))

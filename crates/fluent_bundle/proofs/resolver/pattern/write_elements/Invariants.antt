@@ -1,8 +1,8 @@
 use Rattle.std.proofs.Common.{drop, Ok}
 use Rattle.fluent_syntax.specs.View.{pattern_view}
 use Rattle.fluent_meaning.specs.Meaning.{within_budget}
-use Rattle.fluent_bundle.specs.Scoped.{Along, from_scope, budget_view}
 use Rattle.fluent_meaning.specs.Walk.{has_one}
+use Rattle.fluent_bundle.specs.Scoped.{Along, Status, status, from_here}
 use Rattle.fluent_bundle.specs.Interim.{elements}
 use Rattle.fluent_bundle.specs.Written.{sink}
 use Rattle.fluent_bundle.proofs.Elements.{giving}
@@ -10,7 +10,9 @@ use Rattle.fluent_bundle.proofs.resolver.pattern.write_elements.Given as goal
 
 abbrev pub invariant-loop-element : goal.invariant-loop-element
 invariant-loop-element g l =
+    let a : Status = status g.B.Context.meant g.B.Context.is_plain g.C.FluentType.content l.initial.frame in
+    let b : Status = status g.B.Context.meant g.B.Context.is_plain g.C.FluentType.content l.frame in
     Along {T = Unit {0}} (Ok tt)
-    (from_scope l.initial.scope (λ s env. elements within_budget s env (has_one (pattern_view l.pattern)) (pattern_view l.pattern)))
-    (giving l.initial.scope (has_one (pattern_view l.pattern)) (drop l.element-index l.element-items) (budget_view l.scope.budget))
-    (sink g.W.Write.contents l.initial.w) (sink g.W.Write.contents l.w) l.initial.scope l.scope
+    (from_here a (λ s env. elements within_budget s env (has_one (pattern_view l.pattern)) (pattern_view l.pattern)))
+    (giving a (has_one (pattern_view l.pattern)) (drop l.element-index l.element-items) b.budget)
+    (sink g.W.Write.contents l.initial.out) (sink g.W.Write.contents l.out) a b

@@ -1,0 +1,102 @@
+-- Adding entry by entry.
+use Rattle.std.specs.Prelude.{◌≡◌, ℕ, List, [], ◌∷◌, ◌++◌, map, refl, cond, true, false, Bool, ◌||◌, take, drop, length, ◌<◌, ◌+◌, is_some, Option, Some}
+use Rattle.std.specs.Ordering.{nat_cmp, eq_by_cmp}
+use Rattle.std.specs.Cmp.{eq_by_cmp_equiv}
+use Rattle.std.specs.Cmp.Lexicographic.{slice_cmp, nat_list_cmp_total, texts_ties}
+use Rattle.std.specs.FinMap.Entries.{find-put}
+use Rattle.std.specs.Str.{bytes_eq}
+use Rattle.std.proofs.Common.{sym, ◌∙◌, ap, get_or, append_assoc}
+use Rattle.std.proofs.lemmas.List.{drop_more, map_more, append-nil}
+use Rattle.fluent_syntax.specs.Tree.{Text, Entry, message_entry, term_entry, junk_entry}
+use Rattle.fluent_syntax.specs.View.{entry_view}
+use Rattle.fluent_syntax.specs.declared.ast.Entry as code
+use Rattle.fluent_meaning.specs.Arguments.{Map, get, set}
+use Rattle.fluent_meaning.specs.Bundle.{added, overridden, not_added, add_free, error_if_taken, a_message, a_term}
+use Rattle.fluent_meaning.specs.Bundle as m
+use Rattle.fluent_meaning.specs.Errors.{Error, Kind, message_kind, term_kind}
+
+or_seen : (known seen equal : Bool) → cond equal true (known || seen) ≡ (known || cond equal true seen)
+or_seen true seen true = refl
+or_seen true seen false = refl
+or_seen false seen true = refl
+or_seen false seen false = refl
+
+module _ {C : Type 0} where
+  pub added_append : (es fs : List Entry) (ids : Map (m.Entry C)) → added (es ++ fs) ids ≡ added fs (added es ids)
+  added_append [] fs ids = refl
+  added_append (message_entry id v a ∷ es) fs ids = added_append es fs (add_free id (a_message v a) ids)
+  added_append (term_entry id p a ∷ es) fs ids = added_append es fs (add_free id (a_term p a) ids)
+  added_append (junk_entry c ∷ es) fs ids = added_append es fs ids
+
+  pub overridden_append : (es fs : List Entry) (ids : Map (m.Entry C)) → overridden (es ++ fs) ids ≡ overridden fs (overridden es ids)
+  overridden_append [] fs ids = refl
+  overridden_append (message_entry id v a ∷ es) fs ids = overridden_append es fs (set id (a_message v a) ids)
+  overridden_append (term_entry id p a ∷ es) fs ids = overridden_append es fs (set id (a_term p a) ids)
+  overridden_append (junk_entry c ∷ es) fs ids = overridden_append es fs ids
+
+  pub not_added_append : (es fs : List Entry) (ids : Map (m.Entry C)) → not_added (es ++ fs) ids ≡ not_added es ids ++ not_added fs (added es ids)
+  not_added_append [] fs ids = refl
+  not_added_append (message_entry id v a ∷ es) fs ids =
+      let next : Map (m.Entry C) = add_free id (a_message v a) ids in
+      ap (λ r. error_if_taken message_kind id ids ++ r) (not_added_append es fs next) ∙ sym (append_assoc (error_if_taken message_kind id ids) (not_added es next) (not_added fs (added es next)))
+  not_added_append (term_entry id p a ∷ es) fs ids =
+      let next : Map (m.Entry C) = add_free id (a_term p a) ids in
+      ap (λ r. error_if_taken term_kind id ids ++ r) (not_added_append es fs next) ∙ sym (append_assoc (error_if_taken term_kind id ids) (not_added es next) (not_added fs (added es next)))
+  not_added_append (junk_entry c ∷ es) fs ids = not_added_append es fs ids
+
+  -- ---- a step of a loop over entries of the code
+
+  pub one_added : (es : List code.Entry) (i : ℕ) (d e : code.Entry) (ids next all : Map (m.Entry C)) → i < length es → e ≡ get_or es i d
+      → next ≡ added (entry_view e ∷ []) ids → added (map entry_view (drop i es)) ids ≡ all → added (map entry_view (drop (i + 1) es)) next ≡ all
+  one_added es i d e ids next all lt is step inv =
+      ap (added (map entry_view (drop (i + 1) es))) step ∙ ap (λ x. added (map entry_view (drop (i + 1) es)) (added (entry_view x ∷ []) ids)) is
+      ∙ sym (added_append (entry_view (get_or es i d) ∷ []) (map entry_view (drop (i + 1) es)) ids)
+      ∙ ap (λ r. added (map entry_view r) ids) (sym (drop_more es i d lt)) ∙ inv
+
+  pub one_overridden : (es : List code.Entry) (i : ℕ) (d e : code.Entry) (ids next all : Map (m.Entry C)) → i < length es → e ≡ get_or es i d
+      → next ≡ overridden (entry_view e ∷ []) ids → overridden (map entry_view (drop i es)) ids ≡ all → overridden (map entry_view (drop (i + 1) es)) next ≡ all
+  one_overridden es i d e ids next all lt is step inv =
+      ap (overridden (map entry_view (drop (i + 1) es))) step ∙ ap (λ x. overridden (map entry_view (drop (i + 1) es)) (overridden (entry_view x ∷ []) ids)) is
+      ∙ sym (overridden_append (entry_view (get_or es i d) ∷ []) (map entry_view (drop (i + 1) es)) ids)
+      ∙ ap (λ r. overridden (map entry_view r) ids) (sym (drop_more es i d lt)) ∙ inv
+
+  -- what one more entry tells
+  pub one_told : (es : List code.Entry) (i : ℕ) (d e : code.Entry) (so more : List Error) (ids : Map (m.Entry C)) → i < length es → e ≡ get_or es i d
+      → more ≡ so ++ not_added (entry_view e ∷ []) (added (map entry_view (take i es)) ids) → so ≡ not_added (map entry_view (take i es)) ids
+      → more ≡ not_added (map entry_view (take (i + 1) es)) ids
+  one_told es i d e so more ids lt is step inv =
+      step ∙ ap (λ s. s ++ not_added (entry_view e ∷ []) (added (map entry_view (take i es)) ids)) inv
+      ∙ ap (λ x. not_added (map entry_view (take i es)) ids ++ not_added (entry_view x ∷ []) (added (map entry_view (take i es)) ids)) is
+      ∙ sym (not_added_append (map entry_view (take i es)) (entry_view (get_or es i d) ∷ []) ids)
+      ∙ ap (λ r. not_added r ids) (sym (map_more entry_view es i d lt))
+
+  -- the ids after one more entry
+  pub one_taken : (es : List code.Entry) (i : ℕ) (d e : code.Entry) (ids : Map (m.Entry C)) → i < length es → e ≡ get_or es i d
+      → added (entry_view e ∷ []) (added (map entry_view (take i es)) ids) ≡ added (map entry_view (take (i + 1) es)) ids
+  one_taken es i d e ids lt is =
+      ap (λ x. added (entry_view x ∷ []) (added (map entry_view (take i es)) ids)) is
+      ∙ sym (added_append (map entry_view (take i es)) (entry_view (get_or es i d) ∷ []) ids)
+      ∙ ap (λ r. added r ids) (sym (map_more entry_view es i d lt))
+
+  -- what an entry by itself tells
+  pub alone : (kind : Kind) (id : Text) (ids : Map (m.Entry C)) (so more : List Error) → more ≡ so ++ error_if_taken kind id ids → more ≡ so ++ (error_if_taken kind id ids ++ [])
+  alone kind id ids so more told = told ∙ ap (λ r. so ++ r) (sym (append-nil (error_if_taken kind id ids)))
+
+  -- ---- which ids are taken
+
+  some_cond : (b : Bool) (e : m.Entry C) (o : Option (m.Entry C)) → is_some (cond b (Some e) o) ≡ cond b true (is_some o)
+  some_cond true e o = refl
+  some_cond false e o = refl
+
+  is_set : (id q : Text) (e : m.Entry C) (ids : Map (m.Entry C)) → is_some (get q (set id e ids)) ≡ cond (bytes_eq id q) true (is_some (get q ids))
+  is_set id q e ids =
+      let tied : eq_by_cmp (slice_cmp nat_cmp) q id ≡ bytes_eq id q = sym (texts_ties id q ∙ (eq_by_cmp_equiv nat_list_cmp_total).symm id q) in
+      ap is_some (find-put (slice_cmp nat_cmp) nat_list_cmp_total q id e ids) ∙ ap (λ b. is_some (cond b (Some e) (get q ids))) tied ∙ some_cond (bytes_eq id q) e (get q ids)
+
+  -- an id that was free is taken once it was seen
+  pub taken_more : (known seen now : Text → Bool) (id : Text) (e : m.Entry C) (ids : Map (m.Entry C)) → is_some (get id ids) ≡ false
+      → ((q : Text) → is_some (get q ids) ≡ (known q || seen q)) → ((q : Text) → now q ≡ cond (bytes_eq id q) true (seen q))
+      → (q : Text) → is_some (get q (add_free id e ids)) ≡ (known q || now q)
+  taken_more known seen now id e ids free taken more q =
+      ap (λ b. is_some (get q (cond b ids (set id e ids)))) free ∙ is_set id q e ids ∙ ap (cond (bytes_eq id q) true) (taken q)
+      ∙ or_seen (known q) (seen q) (bytes_eq id q) ∙ ap (λ b. known q || b) (sym (more q))

@@ -1,0 +1,39 @@
+use Rattle.std.proofs.Common.{rules, sym, ap, ◌∙◌}
+use Rattle.std.specs.Option.{option_map}
+use Rattle.fluent_syntax.specs.View.{pattern_view}
+use Rattle.fluent_meaning.specs.Bundle.{transform_of, formatter_of}
+use Rattle.fluent_bundle.specs.BundleView.{meant}
+use Rattle.fluent_bundle.specs.Scoped.{arguments_view}
+use Rattle.fluent_bundle.proofs.Givings.{gives_within, lent_where, sole_formatted, none_added}
+use Rattle.fluent_bundle.proofs.bundle.FluentBundle.format_pattern.Goals as goal
+
+pub returns-in-Some-clause-whole : goal.returns-in-Some-clause-whole
+returns-in-Some-clause-whole g c =
+    let self = c.args.self.now in
+    let b = meant g.M.MemoizerKind.category g.C.FluentType.shown g.C.FluentType.alike g.F.FluentFunction.answer g.G.FluentFormatter.formatted g.T.Transform.changed self in
+    let env = arguments_view g.C.FluentType.content c.args.args in
+    let p = pattern_view c.args.pattern.now in
+    let t = c.in-Some.text.now in
+    let lent = lent_where self.transform self.formatter p t (sym (ap (option_map (λ t. t.now)) c.in-Some.is) ∙ c.sole_text.ensures) in
+    record {
+      text = sole_formatted b env p t
+          (λ u. ap (λ o. transform_of (option_map g.T.Transform.changed o) u) lent.0)
+          (λ v. ap (λ o. formatter_of (option_map (λ f v. g.G.FluentFormatter.formatted f v self.intls) o) v) lent.1)
+          lent.2;
+      adds = none_added b env p t c.args.errors.now.items lent.2;
+    }
+
+pub returns-in-Some-clause-within : goal.returns-in-Some-clause-within
+returns-in-Some-clause-within g c =
+    let b = meant g.M.MemoizerKind.category g.C.FluentType.shown g.C.FluentType.alike g.F.FluentFunction.answer g.G.FluentFormatter.formatted g.T.Transform.changed c.args.self.now in
+    gives_within b (arguments_view g.C.FluentType.content c.args.args) (pattern_view c.args.pattern.now) _ _ _ (returns-in-Some-clause-whole g c)
+
+pub returns-in-Some-2-clause-within : goal.returns-in-Some-2-clause-within
+returns-in-Some-2-clause-within g c =
+    let b = meant g.M.MemoizerKind.category g.C.FluentType.shown g.C.FluentType.alike g.F.FluentFunction.answer g.G.FluentFormatter.formatted g.T.Transform.changed c.args.self.now in
+    gives_within b (arguments_view g.C.FluentType.content c.args.args) (pattern_view c.args.pattern.now) _ _ _ (search rules)
+
+pub returns-clause-within : goal.returns-clause-within
+returns-clause-within g c =
+    let b = meant g.M.MemoizerKind.category g.C.FluentType.shown g.C.FluentType.alike g.F.FluentFunction.answer g.G.FluentFormatter.formatted g.T.Transform.changed c.args.self.now in
+    gives_within b (arguments_view g.C.FluentType.content c.args.args) (pattern_view c.args.pattern.now) _ _ _ (search rules)

@@ -1,0 +1,195 @@
+//! The formatting calls of a bundle.
+ghost use Rattle.std.specs.Prelude.{◌≡◌, ◌≢◌, ◌≤◌, ◌++◌, ◌&&◌, not, if◌then◌else◌, is_some, None, false, Err, IfOk, OnOk, IsOk, true, string_bytes};
+ghost use Rattle.std.specs.Option.{option_map};
+ghost use Rattle.fluent_meaning.specs.Value.{text_value};
+ghost use Rattle.fluent_syntax.specs.Taken.{Faulted};
+ghost use Rattle.fluent_syntax.specs.View.{pattern_view};
+ghost use Rattle.fluent_meaning.specs.Result.{formatted};
+ghost use Rattle.fluent_bundle.specs.BundleView.{meant};
+ghost use Rattle.fluent_bundle.specs.Formatted.{AddsAll, AddsFront, Gives, Writes, WritesAll, WritesFront};
+ghost use Rattle.fluent_bundle.specs.Interim.{budgeted, sole_text, substituted, IsText};
+ghost use Rattle.fluent_bundle.specs.Scoped.{arguments_view};
+ghost use Rattle.fluent_bundle.specs.Written.{sink};
+
+use crate::args::FluentArgs;
+use crate::bundle::FluentBundle;
+use crate::errors::FluentError;
+use crate::formatter::FluentFormatter;
+use crate::function::FluentFunction;
+use crate::resolver::answers::formatted;
+use crate::resolver::frame::Frame;
+use crate::resolver::output::Output;
+use crate::resolver::pattern::write_elements;
+use crate::transform::Transform;
+use crate::types::{FluentType, FluentValue};
+use fluent_intl::MemoizerKind;
+use fluent_syntax::ast::{Pattern, PatternElement};
+use fluent_syntax::{Counting, WriteFault};
+use std::alloc::AllocError;
+use std::borrow::CowStr;
+use std::io::Write;
+
+impl<
+    'r,
+    's: 'r,
+    M: MemoizerKind,
+    C: FluentType,
+    F: FluentFunction<C>,
+    G: FluentFormatter<C, M>,
+    T: Transform,
+> FluentBundle<'r, 's, M, C, F, G, T> {
+    /// Writes the text of a pattern, and adds what went wrong in it at the end of the list of errors. Without
+    /// arguments each variable is missing.
+    ///
+    /// A placeable stands between U+2068 and U+2069 where isolation is on and it is not all of its pattern. A
+    /// variable that is missing is an error and shows as its name in braces. One call opens 100 placeables at
+    /// most: one more is an error, and nothing after it is written. Text elements are written as the transform
+    /// changes them, and values as the formatter shows them; it is not asked about the whole text.
+    ///
+    /// # Errors
+    ///
+    /// `Writer` where a write failed, `Zero` where a write of a nonempty piece took no byte, `Memory` where memory
+    /// was refused. Then what was written begins the text, and what was added begins the errors. A pattern of
+    /// texts alone takes no memory where no transform is set.
+    pub fn write_pattern<W: Write>(
+        &self,
+        w: &mut Counting<W>,
+        pattern: &Pattern<'_>,
+        args: Option<&FluentArgs<'_, C>>,
+        errors: &mut Vec<FluentError>,
+    ) -> Result<(), WriteFault>
+        // By substitution, where that opens no more placeables than the limit.
+        ensures within { let b = meant M.category C.shown C.alike F.answer G.formatted T.changed self.now in let means = substituted b (arguments_view C.content args.entry) (pattern_view pattern.now) in means.opened ≤ b.limit → OnOk result (WritesAll means.value means.errors (W.contents w.old.inner) (W.contents w.new.inner) errors.old.items errors.new.items) }
+
+        // With the budget, in every case.
+        ensures whole { let b = meant M.category C.shown C.alike F.answer G.formatted T.changed self.now in let means = budgeted b (arguments_view C.content args.entry) (pattern_view pattern.now) in OnOk result (WritesAll means.value means.errors (W.contents w.old.inner) (W.contents w.new.inner) errors.old.items errors.new.items) }
+
+        // Whatever is answered.
+        ensures front { let b = meant M.category C.shown C.alike F.answer G.formatted T.changed self.now in let means = budgeted b (arguments_view C.content args.entry) (pattern_view pattern.now) in WritesFront means.value means.errors (W.contents w.old.inner) (W.contents w.new.inner) errors.old.items errors.new.items }
+        ensures fault { Faulted w.old.failed w.old.empty w.new.failed w.new.empty result }
+        ensures memory { IsText (pattern_view pattern.now) → self.now.transform ≡ None → result ≢ Err WriteFault.Memory }
+    {
+        let mut unused = String::new(self.alloc);
+        let mut out = Output {
+            writer: w,
+            buffer: &mut unused,
+            is_buffered: false,
+        };
+        self.write_out(&mut out, pattern, args, errors)
+    }
+
+    /// The text of a pattern, as [`FluentBundle::write_pattern`] writes it, and then as the formatter shows it as a
+    /// value; what went wrong is added at the end of the list of errors. A pattern that is one text is lent and
+    /// takes no memory, where no transform and no formatter is set.
+    ///
+    /// # Errors
+    ///
+    /// Memory was refused: what was added begins the errors.
+    pub fn format_pattern<'p>(
+        &self,
+        pattern: &Pattern<'p>,
+        args: Option<&FluentArgs<'_, C>>,
+        errors: &mut Vec<FluentError>,
+    ) -> Result<CowStr<'p>, AllocError>
+        ensures within { let b = meant M.category C.shown C.alike F.answer G.formatted T.changed self.now in let means = substituted b (arguments_view C.content args.entry) (pattern_view pattern.now) in means.opened ≤ b.limit → Gives (formatted b means.value) means.errors result errors.old.items errors.new.items }
+        ensures whole { let b = meant M.category C.shown C.alike F.answer G.formatted T.changed self.now in let means = budgeted b (arguments_view C.content args.entry) (pattern_view pattern.now) in Gives (formatted b means.value) means.errors result errors.old.items errors.new.items }
+        ensures front { let b = meant M.category C.shown C.alike F.answer G.formatted T.changed self.now in let means = budgeted b (arguments_view C.content args.entry) (pattern_view pattern.now) in AddsFront means.errors errors.old.items errors.new.items }
+        ensures lent { is_some (sole_text (pattern_view pattern.now)) ≡ true → self.now.transform ≡ None → self.now.formatter ≡ None → IsOk result }
+    {
+        if let Some(text) = self.sole_text(pattern) {
+            return Ok(CowStr::Borrowed(text));
+        }
+        let text = self.gather(pattern, args, errors)?;
+        match self.formatted_text(text.as_str())? {
+            Some(shown) => Ok(CowStr::Owned(shown)),
+            None => Ok(CowStr::Owned(text)),
+        }
+    }
+
+    /// The text of a pattern that is one text, where no transform and no formatter is set.
+    fn sole_text<'p>(&self, pattern: &Pattern<'p>) -> Option<&'p str>
+        ensures { option_map (λ t. t.now) result ≡ (if not (is_some self.now.transform) && not (is_some self.now.formatter) then sole_text (pattern_view pattern.now) else None) }
+    {
+        if self.transform.is_none() && self.formatter.is_none() {
+            only_text(pattern)
+        } else {
+            None
+        }
+    }
+
+    /// The formatter's answer for a whole text.
+    fn formatted_text(&self, text: &str) -> Result<Option<String>, AllocError>
+        ensures { let b = meant M.category C.shown C.alike F.answer G.formatted T.changed self.now in IfOk result (λ shown. option_map string_bytes shown ≡ b.formatter (text_value text.now)) }
+    {
+        let value = FluentValue::String(CowStr::Borrowed(text));
+        formatted(self.alloc, &self.formatter, &value, &self.intls)
+    }
+
+    /// Writes the text of a pattern to where an output says.
+    fn write_out<W: Write>(
+        &self,
+        out: &mut Output<W>,
+        pattern: &Pattern<'_>,
+        args: Option<&FluentArgs<'_, C>>,
+        errors: &mut Vec<FluentError>,
+    ) -> Result<(), WriteFault>
+        ensures writes { let b = meant M.category C.shown C.alike F.answer G.formatted T.changed self.now in let means = budgeted b (arguments_view C.content args.entry) (pattern_view pattern.now) in Writes result means (sink W.contents out.old) (sink W.contents out.new) errors.old.items errors.new.items }
+        ensures memory { IsText (pattern_view pattern.now) → self.now.transform ≡ None → out.old.is_buffered ≡ false → result ≢ Err WriteFault.Memory }
+    {
+        let mut frame = Frame::new(self, args, errors);
+        write_elements(&mut frame, out, pattern)
+    }
+
+    /// The text of a pattern in memory of its own.
+    fn gather(
+        &self,
+        pattern: &Pattern<'_>,
+        args: Option<&FluentArgs<'_, C>>,
+        errors: &mut Vec<FluentError>,
+    ) -> Result<String, AllocError>
+        ensures text { let b = meant M.category C.shown C.alike F.answer G.formatted T.changed self.now in let means = budgeted b (arguments_view C.content args.entry) (pattern_view pattern.now) in IfOk result (λ text. string_bytes text ≡ means.value) }
+        ensures errors { let b = meant M.category C.shown C.alike F.answer G.formatted T.changed self.now in let means = budgeted b (arguments_view C.content args.entry) (pattern_view pattern.now) in OnOk result (AddsAll means.errors errors.old.items errors.new.items) }
+        ensures front { let b = meant M.category C.shown C.alike F.answer G.formatted T.changed self.now in let means = budgeted b (arguments_view C.content args.entry) (pattern_view pattern.now) in AddsFront means.errors errors.old.items errors.new.items }
+    {
+        let mut text = String::new(self.alloc);
+        let mut unused = Counting::new(Vec::new(self.alloc));
+        match self.write_into(&mut text, &mut unused, pattern, args, errors) {
+            Ok(()) => Ok(text),
+            Err(_) => Err(AllocError),
+        }
+    }
+
+    /// Writes the text of a pattern at the end of a text, and leaves the writer beside it alone.
+    fn write_into<W: Write>(
+        &self,
+        text: &mut String,
+        unused: &mut Counting<W>,
+        pattern: &Pattern<'_>,
+        args: Option<&FluentArgs<'_, C>>,
+        errors: &mut Vec<FluentError>,
+    ) -> Result<(), WriteFault>
+        ensures text { let b = meant M.category C.shown C.alike F.answer G.formatted T.changed self.now in let means = budgeted b (arguments_view C.content args.entry) (pattern_view pattern.now) in OnOk result (string_bytes text.new ≡ string_bytes text.old ++ means.value) }
+        ensures errors { let b = meant M.category C.shown C.alike F.answer G.formatted T.changed self.now in let means = budgeted b (arguments_view C.content args.entry) (pattern_view pattern.now) in OnOk result (AddsAll means.errors errors.old.items errors.new.items) }
+        ensures front { let b = meant M.category C.shown C.alike F.answer G.formatted T.changed self.now in let means = budgeted b (arguments_view C.content args.entry) (pattern_view pattern.now) in AddsFront means.errors errors.old.items errors.new.items }
+    {
+        let mut out = Output {
+            writer: unused,
+            buffer: text,
+            is_buffered: true,
+        };
+        self.write_out(&mut out, pattern, args, errors)
+    }
+}
+
+/// The text of a pattern that is one text.
+fn only_text<'p>(pattern: &Pattern<'p>) -> Option<&'p str>
+    ensures { option_map (λ t. t.now) result ≡ sole_text (pattern_view pattern.now) }
+{
+    match pattern.elements.as_slice() {
+        [element] => match element {
+            PatternElement::TextElement { value } => Some(*value),
+            PatternElement::Placeable { .. } => None,
+        },
+        _ => None,
+    }
+}

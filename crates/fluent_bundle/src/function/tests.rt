@@ -1,0 +1,67 @@
+//! A function of an application, kept with its fact.
+ghost use Rattle.std.specs.Prelude.{◌≡◌, [], map, unwrap_or, slice_get, IfOk};
+ghost use Rattle.fluent_meaning.specs.Value.{error_value};
+ghost use Rattle.fluent_bundle.specs.View.{value_view};
+
+use crate::FluentArgs;
+use crate::function::{AnswerRule, Answering, FluentFunction, FunctionOf, NoFunction};
+use crate::types::{FluentValue, NoCustom};
+use std::alloc::{AllocError, Global};
+use std::process::Abort;
+use std::test::Fail;
+
+/// The first positional value, or an error where there is none.
+struct FirstValue;
+
+impl AnswerRule<NoCustom> for FirstValue {
+    ghost answer = { λ positional _. unwrap_or (slice_get positional 0) error_value };
+}
+
+fn first<'a>(
+    alloc: Global,
+    positional: &[FluentValue<'a, NoCustom>],
+    _arguments: &FluentArgs<'a, NoCustom>,
+) -> Result<FluentValue<'a, NoCustom>, AllocError>
+    ensures { IfOk result (λ v. value_view (λ _. []) v ≡ unwrap_or (slice_get (map (value_view (λ _. [])) positional.now) 0) error_value) }
+{
+    match positional.first() {
+        Some(value) => value.try_clone(alloc),
+        None => Ok(FluentValue::Error),
+    }
+}
+
+fn answers<F: FluentFunction<NoCustom>>(
+    rt: &impl Abort,
+    alloc: Global,
+    function: &F,
+    wanted: &FluentValue<'_, NoCustom>,
+) -> Result<(), Fail> {
+    let arguments = FluentArgs::new(alloc);
+    let positional = [FluentValue::from("a"), FluentValue::from("b")];
+    let answer = function.call(alloc, &positional, &arguments)?;
+    assert_eq!(rt; answer.same(wanted), wanted.same(wanted));
+    let answer = function.call(alloc, &[], &arguments)?;
+    assert!(rt; matches!(answer, FluentValue::Error));
+    Ok(())
+}
+
+fn kept_answers<K: Answering<NoCustom, FirstValue> + Drop>(
+    rt: &impl Abort,
+    alloc: Global,
+    closure: K,
+) -> Result<(), Fail>
+    requires { K.ready closure }
+{
+    let function = FunctionOf::<NoCustom, K, FirstValue>::new(closure);
+    answers(rt, alloc, &function, &FluentValue::from("a"))
+}
+
+#[test]
+fn a_kept_function_answers_by_its_rule(rt: HostRuntime) -> Result<(), Fail> {
+    kept_answers(&rt, rt.alloc(), first)
+}
+
+#[test]
+fn no_function_answers_an_error(rt: HostRuntime) -> Result<(), Fail> {
+    answers(&rt, rt.alloc(), &NoFunction, &FluentValue::Error)
+}

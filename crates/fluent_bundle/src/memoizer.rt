@@ -1,0 +1,3 @@
+//! Sources of plural categories.
+
+pub use fluent_intl::{EnglishPlurals, MemoizerKind};

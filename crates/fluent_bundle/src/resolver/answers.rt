@@ -1,0 +1,132 @@
+//! What a bundle answers to the resolver.
+
+ghost use Rattle.std.specs.Prelude.{◌≡◌, IfOk, string_bytes};
+ghost use Rattle.std.specs.Cow.{cow_str_bytes};
+ghost use Rattle.std.specs.Option.{option_map};
+ghost use Rattle.fluent_intl.specs.Number.{number_of};
+ghost use Rattle.fluent_meaning.specs.Bundle.{formatter_of};
+ghost use Rattle.fluent_meaning.specs.Number.{category_word};
+ghost use Rattle.fluent_meaning.specs.Value.{value_text, category_of};
+ghost use Rattle.fluent_bundle.specs.View.{value_view};
+
+use super::context::Context;
+use crate::bundle::FluentBundle;
+use crate::formatter::FluentFormatter;
+use crate::function::FluentFunction;
+use crate::transform::Transform;
+use crate::types::{FluentNumber, FluentNumberType, FluentType, FluentValue};
+use fluent_intl::{MemoizerKind, PluralCategory, PluralOperands, PluralRuleType};
+use std::alloc::{AllocError, Global};
+use std::borrow::CowStr;
+
+/// How many placeables one formatting call opens.
+const MAX_PLACEABLES: u32 = 100;
+
+impl<
+    'r,
+    's: 'r,
+    M: MemoizerKind,
+    C: FluentType,
+    F: FluentFunction<C>,
+    G: FluentFormatter<C, M>,
+    T: Transform,
+> Context<C> for FluentBundle<'r, 's, M, C, F, G, T> {
+    ghost use Rattle.fluent_bundle.specs.BundleView.{meant, is_plain};
+
+    ghost meant = { λ b. meant M.category C.shown C.alike F.answer G.formatted T.changed b };
+
+    ghost is_plain = { is_plain };
+
+    fn allocator(&self) -> Global {
+        self.alloc
+    }
+
+    fn placeable_limit(&self) -> u32 {
+        MAX_PLACEABLES
+    }
+
+    fn uses_isolating(&self) -> bool {
+        self.use_isolating
+    }
+
+    fn change<'t>(&self, text: &'t str) -> Result<CowStr<'t>, AllocError> {
+        match &self.transform {
+            Some(transform) => Ok(CowStr::Owned(transform.transform(self.alloc, text)?)),
+            None => Ok(CowStr::Borrowed(text)),
+        }
+    }
+
+    fn show<'t>(&self, value: &'t FluentValue<'_, C>) -> Result<CowStr<'t>, AllocError> {
+        match formatted(self.alloc, &self.formatter, value, &self.intls)? {
+            Some(text) => Ok(CowStr::Owned(text)),
+            None => own_text(self.alloc, value),
+        }
+    }
+
+    fn matches(&self, value: &FluentValue<'_, C>, other: &FluentValue<'_, C>) -> bool {
+        match (value, other) {
+            (FluentValue::String(text), FluentValue::String(other)) => text.as_str()
+                == other.as_str(),
+            (FluentValue::Number(number), FluentValue::Number(other)) => number == other,
+            (FluentValue::String(text), FluentValue::Number(number)) => {
+                text.as_str() == word_of(category_of(&self.intls, number))
+            }
+            _ => false,
+        }
+    }
+}
+
+/// The formatter's answer for a value.
+pub(crate) fn formatted<M, C: FluentType, G: FluentFormatter<C, M>>(
+    alloc: Global,
+    formatter: &Option<G>,
+    value: &FluentValue<'_, C>,
+    intls: &M,
+) -> Result<Option<String>, AllocError>
+    ensures { IfOk result (λ text. option_map string_bytes text ≡ formatter_of (option_map (λ g v. G.formatted g v intls.now) formatter.now) (value_view C.content value.now)) }
+{
+    match formatter {
+        Some(formatter) => formatter.format(alloc, value, intls),
+        None => Ok(None),
+    }
+}
+
+/// A value's own text.
+fn own_text<'t, C: FluentType>(
+    alloc: Global,
+    value: &'t FluentValue<'_, C>,
+) -> Result<CowStr<'t>, AllocError>
+    ensures { IfOk result (λ text. cow_str_bytes text ≡ value_text (record { text = C.shown; same = C.alike }) (value_view C.content value.now)) }
+{
+    match value {
+        FluentValue::String(text) => Ok(CowStr::Borrowed(text.as_str())),
+        FluentValue::Number(number) => number.as_string(alloc),
+        FluentValue::Custom(custom) => Ok(CowStr::Owned(custom.as_string(alloc)?)),
+        FluentValue::None | FluentValue::Error => Ok(CowStr::Borrowed("")),
+    }
+}
+
+/// The plural category of a number, by its type.
+fn category_of<M: MemoizerKind>(intls: &M, number: &FluentNumber) -> PluralCategory
+    ensures { result ≡ category_of (M.category intls.now) (number_of number.now) }
+{
+    let kind = match number.options.number_type {
+        FluentNumberType::Cardinal => PluralRuleType::CARDINAL,
+        FluentNumberType::Ordinal => PluralRuleType::ORDINAL,
+    };
+    intls.select(kind, &PluralOperands::from(number))
+}
+
+/// The word of a plural category, as it stands as the key of a variant.
+fn word_of(category: PluralCategory) -> &'static str
+    ensures { result.now ≡ category_word category }
+{
+    match category {
+        PluralCategory::ZERO => "zero",
+        PluralCategory::ONE => "one",
+        PluralCategory::TWO => "two",
+        PluralCategory::FEW => "few",
+        PluralCategory::MANY => "many",
+        PluralCategory::OTHER => "other",
+    }
+}

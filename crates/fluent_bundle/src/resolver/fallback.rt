@@ -1,0 +1,86 @@
+//! Fallbacks: how an expression shows where it can't be resolved.
+
+ghost use Rattle.std.specs.Prelude.{◌≡◌};
+ghost use Rattle.fluent_syntax.specs.Fallback.{fallback, dotted, in_braces};
+ghost use Rattle.fluent_syntax.specs.Tree.{variable};
+ghost use Rattle.fluent_syntax.specs.View.{inline_view, attribute_of};
+ghost use Rattle.fluent_bundle.specs.Written.{sink, Took};
+
+use super::output::{Output, put_text};
+use fluent_syntax::WriteFault;
+use fluent_syntax::ast::{Expression, Identifier, InlineExpression};
+use std::io::Write;
+
+/// Writes a variable's fallback in braces.
+pub(crate) fn put_variable<W: Write>(out: &mut Output<W>, name: &str) -> Result<(), WriteFault>
+    ensures { Took result (in_braces (fallback (variable name.now))) (sink W.contents out.old) (sink W.contents out.new) }
+{
+    put_text(out, "{$")?;
+    put_text(out, name)?;
+    put_text(out, "}")
+}
+
+/// Writes an expression's fallback in braces.
+pub(crate) fn put_in_braces<W: Write>(
+    out: &mut Output<W>,
+    expression: &InlineExpression,
+) -> Result<(), WriteFault>
+    ensures { Took result (in_braces (fallback (inline_view expression.now))) (sink W.contents out.old) (sink W.contents out.new) }
+{
+    put_text(out, "{")?;
+    put_fallback(out, expression)?;
+    put_text(out, "}")
+}
+
+/// Writes an expression's fallback, without braces.
+fn put_fallback<W: Write>(
+    out: &mut Output<W>,
+    expression: &InlineExpression,
+) -> Result<(), WriteFault>
+    ensures { Took result (fallback (inline_view expression.now)) (sink W.contents out.old) (sink W.contents out.new) }
+{
+    match expression {
+        InlineExpression::StringLiteral { value } => {
+            put_text(out, "\"")?;
+            put_text(out, value)?;
+            put_text(out, "\"")
+        }
+        InlineExpression::NumberLiteral { value } => put_text(out, value),
+        InlineExpression::FunctionReference { id, .. } => {
+            put_text(out, id.name)?;
+            put_text(out, "()")
+        }
+        InlineExpression::MessageReference { id, attribute } => put_dotted(out, id, attribute),
+        InlineExpression::TermReference { id, attribute, .. } => {
+            put_text(out, "-")?;
+            put_dotted(out, id, attribute)
+        }
+        InlineExpression::VariableReference { id } => {
+            put_text(out, "$")?;
+            put_text(out, id.name)
+        }
+        InlineExpression::Placeable { expression } => match &**expression {
+            Expression::Inline(shown)
+            | Expression::Select {
+                selector: shown,
+                ..
+            } => put_fallback(out, shown),
+        },
+    }
+}
+
+/// Writes a name, and after a point that of an attribute.
+fn put_dotted<W: Write>(
+    out: &mut Output<W>,
+    id: &Identifier,
+    attribute: &Option<Identifier>,
+) -> Result<(), WriteFault>
+    ensures { Took result (dotted id.now.name.now (attribute_of attribute.now)) (sink W.contents out.old) (sink W.contents out.new) }
+{
+    put_text(out, id.name)?;
+    if let Some(attribute) = attribute {
+        put_text(out, ".")?;
+        put_text(out, attribute.name)?;
+    }
+    Ok(())
+}

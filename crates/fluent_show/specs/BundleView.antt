@@ -1,0 +1,23 @@
+-- The bundle of the code and its arguments, by content.
+use Rattle.std.specs.Prelude.{[], true, None}
+use Rattle.fluent_syntax.specs.Tree.{Text}
+use Rattle.fluent_intl.specs.Plurals.{english}
+use Rattle.fluent_intl.specs.declared.plurals.EnglishPlurals.{EnglishPlurals}
+use Rattle.fluent_meaning.specs.Value.{Value, error_value}
+use Rattle.fluent_meaning.specs.Arguments.{Map}
+use Rattle.fluent_meaning.specs.Bundle.{Bundle}
+use Rattle.fluent_bundle.specs.View.{named}
+use Rattle.fluent_bundle.specs.BundleView.{meant}
+use Rattle.fluent_bundle.specs.declared.args.FluentArgs.{FluentArgs}
+use Rattle.fluent_bundle.specs.declared.bundle.FluentBundle.{FluentBundle}
+use Rattle.fluent_bundle.specs.declared.formatter.NoFormatter.{NoFormatter}
+use Rattle.fluent_bundle.specs.declared.function.NoFunction.{NoFunction}
+use Rattle.fluent_bundle.specs.declared.transform.NoTransform.{NoTransform}
+use Rattle.fluent_bundle.specs.declared.types.custom.NoCustom.{NoCustom}
+
+-- English plurals; no values and functions of the application, no formatter, no transform
+abbrev pub bundle_view : FluentBundle EnglishPlurals NoCustom NoFunction NoFormatter NoTransform → Bundle Text
+bundle_view = meant (λ m. english) (λ t. []) (λ s t. true) (λ f vs as'. error_value) (λ g v m. None) (λ x t. t)
+
+abbrev pub arguments_view : FluentArgs NoCustom → Map (Value Text)
+arguments_view = named (λ c. [])
