@@ -1,4 +1,4 @@
-//! The bundle: messages by id, and how they are written.
+//! The bundle: messages, terms and functions by id, and its settings.
 ghost use Rattle.std.specs.Prelude.{◌≡◌, map, is_some, IfOk, OnOk, OnErr};
 ghost use Rattle.std.specs.Option.{option_map};
 ghost use Rattle.fluent_intl.specs.Plurals.{english};
