@@ -8,7 +8,7 @@ use Rattle.fluent_syntax.specs.declared.counting.WriteFault.TheVariants.{Memory}
 use Rattle.fluent_meaning.specs.Errors.{Error, ResolverError, resolver_error}
 use Rattle.fluent_meaning.specs.Meaning.{Budget, Ran, after_errors}
 use Rattle.fluent_bundle.specs.Written.{Sink, Took}
-use Rattle.fluent_bundle.specs.Scoped.{Status, Walk, walked, from_here, given, Keeps, Adds, Along, Went, Wrote, Added}
+use Rattle.fluent_bundle.specs.Scoped.{Status, Walk, walked, from_here, given, Keeps, Reports, Along, Went, Wrote, Added}
 use Rattle.fluent_bundle.proofs.Took.{appends_none, appends_on, faulted_on, at_ok, never}
 
 -- SCOPES
@@ -27,10 +27,10 @@ moved {a = a} {b = b} walk h =
 
 -- ERRORS
 
-pub adds_none : (a : Status) → Adds a a []
+pub adds_none : (a : Status) → Reports a a []
 adds_none a = sym (append-nil a.errors)
 
-pub adds_on : (a b c : Status) (xs ys : List Error) → Adds a b xs → Adds b c ys → Adds a c (xs ++ ys)
+pub adds_on : (a b c : Status) (xs ys : List Error) → Reports a b xs → Reports b c ys → Reports a c (xs ++ ys)
 adds_on a b c xs ys h k = k ∙ ap (λ es. es ++ ys) h ∙ append_assoc a.errors xs ys
 
 -- WHAT IS TO COME
@@ -130,7 +130,7 @@ refused {w = w} {w1 = w1} {a = a} {b = b} {c = c} was is k h = record {
   held = h.held;
   text = h.text;
   added = h.added;
-  list = subst (λ es. Adds a c es) (append-nil h.added) (adds_on a b c h.added [] h.list (at_err was k.refused));
+  list = subst (λ es. Reports a c es) (append-nil h.added) (adds_on a b c h.added [] h.list (at_err was k.refused));
   errors = h.errors;
   budget = h.budget;
   keeps = keeps_on h.keeps k.keeps;

@@ -18,4 +18,3 @@ pub mod Merging
 pub mod ByName
 pub mod Added
 pub mod Running
-pub mod Equal

@@ -21,6 +21,6 @@ abbrev pub AreTaken : {F S T : Type 0} → (F → Function Text) → HashMap (Co
 AreTaken answer known seen taken = (q : Text) → is_some (get q taken) ≡ (is_some (get q (ids answer known)) || has seen q)
 
 -- what an adding call answers, by the reports of what it left
-abbrev pub reported : Result (Vec FluentError Global) AllocError → Result (Unit {0}) AddFault
-reported (Err e) = Err fault.Memory
-reported (Ok errors) = elim errors.items [ [] ↦ Ok tt | ◌∷◌ e es ↦ Err (fault.Overriding errors) ]
+abbrev pub answer_of : Result (Vec FluentError Global) AllocError → Result (Unit {0}) AddFault
+answer_of (Err e) = Err fault.Memory
+answer_of (Ok errors) = elim errors.items [ [] ↦ Ok tt | ◌∷◌ e es ↦ Err (fault.Overriding errors) ]

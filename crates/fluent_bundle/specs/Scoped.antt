@@ -85,8 +85,8 @@ pub record Keeps (s s' : Status) : Type 0 where
   pub is_plain : s'.is_plain ≡ s.is_plain
 
 -- these errors were added at the end of the list
-abbrev pub Adds : Status → Status → List Error → Type 0
-Adds s s' es = s'.errors ≡ s.errors ++ es
+abbrev pub Reports : Status → Status → List Error → Type 0
+Reports s s' es = s'.errors ≡ s.errors ++ es
 
 -- What was written and added so far, and what is still to come, are the whole.
 pub record Along {T : Type 0} (result : Result T WriteFault) (all rest : Ran Text) (w w' : Sink) (s s' : Status) : Type 0 where
@@ -94,7 +94,7 @@ pub record Along {T : Type 0} (result : Result T WriteFault) (all rest : Ran Tex
   pub held : Appends w.held w'.held taken
   pub text : taken ++ rest.value ≡ all.value
   pub added : List Error
-  pub list : Adds s s' added
+  pub list : Reports s s' added
   pub errors : added ++ rest.errors ≡ all.errors
   pub budget : rest.budget ≡ all.budget
   pub keeps : Keeps s s'
@@ -114,7 +114,7 @@ pub record Wrote {T : Type 0} (result : Result T WriteFault) (walk : Walk) (w w'
 
 -- One error was added; or none, where the answer is no Ok.
 pub record Added {T E : Type 0} (result : Result T E) (error : ResolverError) (s s' : Status) : Type 0 where
-  pub added : OnOk result (Adds s s' (resolver_error error ∷ []))
-  pub refused : OnErr result (Adds s s' [])
+  pub added : OnOk result (Reports s s' (resolver_error error ∷ []))
+  pub refused : OnErr result (Reports s s' [])
   pub budget : s'.budget ≡ s.budget
   pub keeps : Keeps s s'

@@ -7,8 +7,6 @@ ghost use Rattle.fluent_meaning.specs.Arguments as fin;
 ghost use Rattle.fluent_bundle.specs.View.{value_view, named};
 ghost use Rattle.fluent_bundle.specs.Args.{pair_view, shown_left};
 
-#[cfg(test)]
-mod tests;
 
 use crate::types::{FluentType, FluentValue};
 use std::alloc::{AllocError, Global};

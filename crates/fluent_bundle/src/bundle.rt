@@ -5,7 +5,7 @@ ghost use Rattle.fluent_intl.specs.Plurals.{english};
 ghost use Rattle.fluent_meaning.specs.Bundle.{empty_bundle, after, answered, add_resource, add_resource_overriding, add_function, add_builtins, set_use_isolating, set_transform, set_formatter};
 ghost use Rattle.fluent_bundle.specs.View.{error_view};
 ghost use Rattle.fluent_bundle.specs.BundleView.{meant, entries_of, message_view, message_at, Adds, AreUndetermined};
-ghost use Rattle.fluent_bundle.specs.Adding.{reported};
+ghost use Rattle.fluent_bundle.specs.Adding.{answer_of};
 
 use crate::adding;
 use crate::adding::{add_all, look, override_all};
@@ -80,14 +80,16 @@ impl<
 
     /// Says whether placeables are written between U+2068 and U+2069.
     pub fn set_use_isolating(&mut self, value: bool)
-        ensures { let of = meant M.category C.shown C.alike F.answer G.formatted T.changed in of self.new ≡ after (set_use_isolating value) (of self.old) }
+        ensures step { let of = meant M.category C.shown C.alike F.answer G.formatted T.changed in of self.new ≡ after (set_use_isolating value) (of self.old) }
+        ensures locales { self.new.locales ≡ self.old.locales }
     {
         self.use_isolating = value;
     }
 
     /// Sets what changes text elements; `None` leaves them as they are. The transform that was set is dropped.
     pub fn set_transform(&mut self, transform: Option<T>)
-        ensures { let of = meant M.category C.shown C.alike F.answer G.formatted T.changed in of self.new ≡ after (set_transform (option_map T.changed transform)) (of self.old) }
+        ensures step { let of = meant M.category C.shown C.alike F.answer G.formatted T.changed in of self.new ≡ after (set_transform (option_map T.changed transform)) (of self.old) }
+        ensures locales { self.new.locales ≡ self.old.locales }
     {
         self.transform = transform;
     }
@@ -95,7 +97,8 @@ impl<
     /// Sets what is asked how a value is shown; `None` shows each value by its own text. The formatter that was
     /// set is dropped.
     pub fn set_formatter(&mut self, formatter: Option<G>)
-        ensures { let of = meant M.category C.shown C.alike F.answer G.formatted T.changed in of self.new ≡ after (set_formatter (option_map (λ g v. G.formatted g v self.old.intls) formatter)) (of self.old) }
+        ensures step { let of = meant M.category C.shown C.alike F.answer G.formatted T.changed in of self.new ≡ after (set_formatter (option_map (λ g v. G.formatted g v self.old.intls) formatter)) (of self.old) }
+        ensures locales { self.new.locales ≡ self.old.locales }
     {
         self.formatter = formatter;
     }
@@ -108,7 +111,8 @@ impl<
     /// `Overriding` where an id was there, also from an earlier entry of the same resource: all others are added.
     /// `Memory` where memory was refused: the bundle is as before.
     pub fn add_resource(&mut self, resource: &'r FluentResource<'s>) -> Result<(), AddFault>
-        ensures { let of = meant M.category C.shown C.alike F.answer G.formatted T.changed in Adds (of self.old) (add_resource (entries_of resource.now)) (of self.new) result }
+        ensures step { let of = meant M.category C.shown C.alike F.answer G.formatted T.changed in Adds (of self.old) (add_resource (entries_of resource.now)) (of self.new) result }
+        ensures locales { self.new.locales ≡ self.old.locales }
     {
         all_added(self.take_resource(resource))
     }
@@ -121,6 +125,7 @@ impl<
         ensures ok { let of = meant M.category C.shown C.alike F.answer G.formatted T.changed in OnOk result (of self.new ≡ after (add_resource (entries_of resource.now)) (of self.old)) }
         ensures errors { let of = meant M.category C.shown C.alike F.answer G.formatted T.changed in IfOk result (λ errors. map error_view errors.items ≡ answered (add_resource (entries_of resource.now)) (of self.old)) }
         ensures err { let of = meant M.category C.shown C.alike F.answer G.formatted T.changed in OnErr result (of self.new ≡ of self.old) }
+        ensures locales { self.new.locales ≡ self.old.locales }
     {
         let entries = resource.all();
         let errors = look(self.alloc, &self.entries, entries)?;
@@ -141,6 +146,7 @@ impl<
     ) -> Result<(), AllocError>
         ensures ok { let of = meant M.category C.shown C.alike F.answer G.formatted T.changed in OnOk result (of self.new ≡ after (add_resource_overriding (entries_of resource.now)) (of self.old)) }
         ensures err { let of = meant M.category C.shown C.alike F.answer G.formatted T.changed in OnErr result (of self.new ≡ of self.old) }
+        ensures locales { self.new.locales ≡ self.old.locales }
     {
         let entries = resource.all();
         make_room(&mut self.entries, entries.len())?;
@@ -155,7 +161,8 @@ impl<
     /// `Overriding` with one error where the id was there, `Memory` where memory was refused: the bundle is as
     /// before, and the function is dropped.
     pub fn add_function(&mut self, id: &str, function: F) -> Result<(), AddFault>
-        ensures { let of = meant M.category C.shown C.alike F.answer G.formatted T.changed in Adds (of self.old) (add_function id.now (F.answer function)) (of self.new) result }
+        ensures step { let of = meant M.category C.shown C.alike F.answer G.formatted T.changed in Adds (of self.old) (add_function id.now (F.answer function)) (of self.new) result }
+        ensures locales { self.new.locales ≡ self.old.locales }
     {
         all_added(self.take_function(id, function))
     }
@@ -165,6 +172,7 @@ impl<
         ensures ok { let of = meant M.category C.shown C.alike F.answer G.formatted T.changed in OnOk result (of self.new ≡ after (add_function id.now (F.answer function)) (of self.old)) }
         ensures errors { let of = meant M.category C.shown C.alike F.answer G.formatted T.changed in IfOk result (λ errors. map error_view errors.items ≡ answered (add_function id.now (F.answer function)) (of self.old)) }
         ensures err { let of = meant M.category C.shown C.alike F.answer G.formatted T.changed in OnErr result (of self.new ≡ of self.old) }
+        ensures locales { self.new.locales ≡ self.old.locales }
     {
         let id = CowStr::Owned(String::from_str(self.alloc, id)?);
         adding::add_function(&mut self.entries, self.alloc, id, Entry::Function(function))
@@ -177,7 +185,8 @@ impl<
     /// `Overriding` with one error where the id `NUMBER` was there, `Memory` where memory was refused: the bundle
     /// is as before.
     pub fn add_builtins(&mut self) -> Result<(), AddFault>
-        ensures { let of = meant M.category C.shown C.alike F.answer G.formatted T.changed in Adds (of self.old) add_builtins (of self.new) result }
+        ensures step { let of = meant M.category C.shown C.alike F.answer G.formatted T.changed in Adds (of self.old) add_builtins (of self.new) result }
+        ensures locales { self.new.locales ≡ self.old.locales }
     {
         let id = CowStr::Borrowed("NUMBER");
         all_added(adding::add_function(&mut self.entries, self.alloc, id, Entry::Number))
@@ -266,7 +275,7 @@ impl<
 
 /// What an adding call answers, by the reports of what it left.
 fn all_added(left: Result<Vec<FluentError>, AllocError>) -> Result<(), AddFault>
-    ensures { result ≡ reported left }
+    ensures { result ≡ answer_of left }
 {
     match left {
         Ok(errors) => {
@@ -279,6 +288,3 @@ fn all_added(left: Result<Vec<FluentError>, AllocError>) -> Result<(), AddFault>
         Err(_) => Err(AddFault::Memory),
     }
 }
-
-#[cfg(test)]
-mod tests;

@@ -39,6 +39,7 @@ impl<
     pub fn make(&mut self, call: &Call<'r, 's>) -> Result<(), AllocError>
         ensures ok { let of = meant M.category C.shown C.alike F.answer G.formatted T.changed in OnOk result (of self.new ≡ after (asked call.now) (of self.old)) }
         ensures err { let of = meant M.category C.shown C.alike F.answer G.formatted T.changed in OnErr result (of self.new ≡ of self.old) }
+        ensures locales { self.new.locales ≡ self.old.locales }
     {
         let added = match call {
             Call::AddResource(resource) => self.add_resource(*resource),
@@ -65,6 +66,7 @@ impl<
     pub fn make_all(&mut self, calls: &[Call<'r, 's>]) -> Result<(), AllocError>
         ensures ok { let of = meant M.category C.shown C.alike F.answer G.formatted T.changed in OnOk result (of self.new ≡ after_all (map asked calls.now) (of self.old)) }
         ensures err { let of = meant M.category C.shown C.alike F.answer G.formatted T.changed in OnErr result (BegunBy (map asked calls.now) (of self.old) (of self.new)) }
+        ensures locales { self.new.locales ≡ self.old.locales }
     {
         for call in calls {
             self.make(call)?;

@@ -6,8 +6,6 @@ ghost use Rattle.fluent_meaning.specs.Arguments.{Map};
 ghost use Rattle.fluent_bundle.specs.View.{value_view, named};
 
 mod function_of;
-#[cfg(test)]
-mod tests;
 
 use crate::args::FluentArgs;
 use crate::types::{FluentType, FluentValue};

@@ -35,6 +35,3 @@ pub use resolver::{Context, ResolverError, Scope};
 pub use resource::{Entries, FluentResource, TryNewFault};
 pub use transform::{NoTransform, Transform};
 pub use types::{FluentNumber, FluentNumberOptions, FluentType, FluentValue, MergeArgs, NoCustom};
-
-#[cfg(test)]
-mod tests;

@@ -8,7 +8,7 @@ use fluent_syntax::ast;
 use std::slice::Iter;
 
 /// A message of a resource. Two are equal where their contents are, their ids among them.
-#[derive(Clone, Copy, Debug, Drop, PartialEq, Eq)]
+#[derive(Clone, Copy, Debug, Drop)]
 pub struct FluentMessage<'m, 's> {
     node: &'m ast::Message<'s>,
 }
@@ -58,8 +58,30 @@ impl<'m, 's> From<&'m ast::Message<'s>> for FluentMessage<'m, 's> {
     }
 }
 
+impl<'m, 's> PartialEq for FluentMessage<'m, 's> {
+    ghost use Rattle.std.specs.Cmp.{partial_equiv_from_equiv};
+    ghost use Rattle.fluent_syntax.specs.Tree.{is_yes};
+    ghost use Rattle.fluent_syntax.specs.Same.{equivalent, entry_same};
+    ghost use Rattle.fluent_bundle.specs.BundleView.{entry_seen};
+
+    ghost eq = { λ a b. is_yes (entry_same (entry_seen a) (entry_seen b)) };
+
+    ghost laws = { partial_equiv_from_equiv (equivalent entry_seen entry_same) };
+
+    fn eq(&self, other: &FluentMessage<'m, 's>) -> bool {
+        self.node == other.node
+    }
+}
+
+impl<'m, 's> Eq for FluentMessage<'m, 's> {
+    ghost use Rattle.fluent_syntax.specs.Same.{equivalent, entry_same};
+    ghost use Rattle.fluent_bundle.specs.BundleView.{entry_seen};
+
+    ghost laws = { equivalent entry_seen entry_same };
+}
+
 /// An attribute of a message. Two are equal where their contents are, their names among them.
-#[derive(Clone, Copy, Debug, Drop, PartialEq, Eq)]
+#[derive(Clone, Copy, Debug, Drop)]
 pub struct FluentAttribute<'m, 's> {
     node: &'m ast::Attribute<'s>,
 }
@@ -91,6 +113,28 @@ impl<'m, 's> From<&'m ast::Attribute<'s>> for FluentAttribute<'m, 's> {
     fn from(node: &'m ast::Attribute<'s>) -> FluentAttribute<'m, 's> {
         FluentAttribute { node }
     }
+}
+
+impl<'m, 's> PartialEq for FluentAttribute<'m, 's> {
+    ghost use Rattle.std.specs.Cmp.{partial_equiv_from_equiv};
+    ghost use Rattle.fluent_syntax.specs.Tree.{is_yes};
+    ghost use Rattle.fluent_syntax.specs.Same.{equivalent, attribute_same};
+    ghost use Rattle.fluent_bundle.specs.BundleView.{attribute_content};
+
+    ghost eq = { λ a b. is_yes (attribute_same (attribute_content a) (attribute_content b)) };
+
+    ghost laws = { partial_equiv_from_equiv (equivalent attribute_content attribute_same) };
+
+    fn eq(&self, other: &FluentAttribute<'m, 's>) -> bool {
+        self.node == other.node
+    }
+}
+
+impl<'m, 's> Eq for FluentAttribute<'m, 's> {
+    ghost use Rattle.fluent_syntax.specs.Same.{equivalent, attribute_same};
+    ghost use Rattle.fluent_bundle.specs.BundleView.{attribute_content};
+
+    ghost laws = { equivalent attribute_content attribute_same };
 }
 
 /// The attributes of a message from the front.

@@ -14,6 +14,3 @@ mod value;
 pub use context::Context;
 pub use errors::ResolverError;
 pub use scope::Scope;
-
-#[cfg(test)]
-mod tests;

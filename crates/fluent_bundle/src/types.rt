@@ -3,8 +3,6 @@
 mod conversions;
 pub mod custom;
 pub mod merge;
-#[cfg(test)]
-mod tests;
 pub mod value;
 
 pub use custom::{FluentType, NoCustom};

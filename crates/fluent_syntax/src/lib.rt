@@ -8,8 +8,6 @@ pub mod laws;
 mod parser;
 mod same;
 mod same_entries;
-#[cfg(test)]
-mod tests;
 mod unicode;
 
 pub use counting::{Counting, WriteFault};

@@ -2,6 +2,8 @@
 #![tactic(auto)]
 
 #[cfg(test)]
+mod bundle;
+#[cfg(test)]
 mod cuts;
 #[cfg(test)]
 mod depth;
@@ -14,3 +16,5 @@ pub mod headline;
 mod shown;
 #[cfg(test)]
 mod sources;
+#[cfg(test)]
+mod writers;

@@ -4,9 +4,9 @@ ghost use Rattle.fluent_intl.specs.Number.{number_with};
 ghost use Rattle.fluent_meaning.specs.Value.{text_value, number_value};
 ghost use Rattle.fluent_bundle.specs.View.{value_view};
 
-use crate::FluentArgs;
-use crate::builtins::NUMBER;
-use crate::types::{
+use fluent_bundle::FluentArgs;
+use fluent_bundle::builtins::NUMBER;
+use fluent_bundle::types::{
     FluentNumber, FluentNumberCurrencyDisplayStyle, FluentNumberOptions, FluentNumberStyle,
     FluentNumberType, FluentType, FluentValue, MergeArgs, NoCustom,
 };

@@ -1,6 +1,6 @@
 //! Each call once, also where memory is refused.
-use crate::types::{FluentNumber, FluentValue, NoCustom};
-use crate::{ArgsIntoIter, ArgsIter, FluentArgs};
+use fluent_bundle::types::{FluentNumber, FluentValue, NoCustom};
+use fluent_bundle::{ArgsIntoIter, ArgsIter, FluentArgs};
 use std::borrow::CowStr;
 use std::process::Abort;
 use std::test::Fail;

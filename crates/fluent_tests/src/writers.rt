@@ -1,11 +1,11 @@
 //! What no clause says: memory and writers that fail. Sources with their trees stand in `fluent_tests`.
 
-use crate::counting::put;
-use crate::laws::{
+use fluent_syntax::counting::put;
+use fluent_syntax::laws::{
     chunks_make_up, entries_are_well_formed, junk_ranges_in_order, read_from_there_on,
     texts_are_slices,
 };
-use crate::{Counting, WriteFault};
+use fluent_syntax::{Counting, WriteFault};
 use std::alloc::{AllocError, Global};
 use std::io;
 use std::process::Abort;

@@ -3,9 +3,9 @@ ghost use Rattle.std.specs.Prelude.{◌≡◌, [], map, unwrap_or, slice_get, If
 ghost use Rattle.fluent_meaning.specs.Value.{error_value};
 ghost use Rattle.fluent_bundle.specs.View.{value_view};
 
-use crate::FluentArgs;
-use crate::function::{AnswerRule, Answering, FluentFunction, FunctionOf, NoFunction};
-use crate::types::{FluentValue, NoCustom};
+use fluent_bundle::FluentArgs;
+use fluent_bundle::{AnswerRule, Answering, FluentFunction, FunctionOf, NoFunction};
+use fluent_bundle::types::{FluentValue, NoCustom};
 use std::alloc::{AllocError, Global};
 use std::process::Abort;
 use std::test::Fail;

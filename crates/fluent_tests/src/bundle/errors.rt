@@ -1,6 +1,6 @@
 //! What no clause says: that calls succeed, and the texts of errors.
-use crate::ast::{Entry, Expression, InlineExpression, Pattern, PatternElement};
-use crate::{
+use fluent_bundle::ast::{Entry, Expression, InlineExpression, Pattern, PatternElement};
+use fluent_bundle::{
     EntryKind, FluentBundle, FluentError, FluentMessage, FluentResource, NoCustom, NoFormatter,
     NoFunction, ParserError, ReferenceKind, ResolverError, TryNewFault,
 };

@@ -1,8 +1,8 @@
 //! What no clause says: that formatting succeeds, the rows of its texts, and what comes through odd writers.
-use super::Scope;
-use crate::ast::{Expression, Identifier, InlineExpression, Pattern, PatternElement};
-use crate::types::{FluentNumber, FluentNumberType};
-use crate::{
+use fluent_bundle::Scope;
+use fluent_bundle::ast::{Expression, Identifier, InlineExpression, Pattern, PatternElement};
+use fluent_bundle::types::{FluentNumber, FluentNumberType};
+use fluent_bundle::{
     Counting, FluentArgs, FluentBundle, FluentError, FluentFormatter, FluentResource, FluentValue,
     NoCustom, NoFormatter, NoFunction, ResolverError, Transform, TryNewFault, WriteFault,
 };
@@ -431,6 +431,30 @@ fn a_transform_changes_text_elements_alone(rt: HostRuntime) -> Result<(), Fail> 
         in_upper_case(&rt, rt.alloc(), &resource, text)?;
     }
     Ok(())
+}
+
+fn replaces_settings<'r, 's: 'r>(
+    rt: &impl Abort,
+    alloc: Global,
+    resource: &'r FluentResource<'s>,
+) -> Result<(), Fail> {
+    let mut bundle: Bundle<'r, 's, Bracketed> = FluentBundle::new_default(alloc)?;
+    if bundle.add_resource(resource).is_err() {
+        return Err("not added".into());
+    }
+    bundle.set_formatter(Some(Bracketed));
+    bundle.set_transform(Some(Box::new(alloc, Upper)?));
+    both(rt, alloc, &bundle, "HELLO", "[HELLO]")?;
+    bundle.set_transform(None);
+    both(rt, alloc, &bundle, "Hello", "[Hello]")?;
+    bundle.set_formatter(None);
+    both(rt, alloc, &bundle, "Hello", "Hello")
+}
+
+#[test]
+fn settings_are_replaced(rt: HostRuntime) -> Result<(), Fail> {
+    let resource = read(rt.alloc(), "m = Hello")?;
+    replaces_settings(&rt, rt.alloc(), &resource)
 }
 
 /// Formats the value of the message `m` without arguments.

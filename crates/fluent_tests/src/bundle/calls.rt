@@ -3,12 +3,12 @@ ghost use Rattle.std.specs.Prelude.{◌≡◌, ◌↔◌, IsTrue};
 ghost use Rattle.fluent_syntax.specs.View.{attribute_view};
 ghost use Rattle.fluent_syntax.specs.View as tree;
 
-use crate::ast::{Attribute, Message, Pattern, PatternElement, Term};
-use crate::bundle::AddFault;
-use crate::{
+use fluent_bundle::ast::{Attribute, Message, Pattern, PatternElement, Term};
+use fluent_bundle::bundle::AddFault;
+use fluent_bundle::{
     Call, FluentArgs, FluentAttribute, FluentBundle, FluentError, FluentFormatter, FluentFunction,
     FluentMessage, FluentResource, FluentValue, FunctionRef, GetEntry, NoCustom, NoFormatter,
-    NoFunction, Transform, TryNewFault,
+    NoFunction, TryNewFault,
 };
 use fluent_intl::EnglishPlurals;
 use std::alloc::{AllocError, Global};
@@ -144,7 +144,7 @@ enum Own {
 
 impl FluentFunction<NoCustom> for Own {
     ghost use Rattle.fluent_meaning.specs.Value.{no_value, error_value};
-    ghost use Rattle.fluent_bundle.specs.declared.bundle.tests.Own.TheVariants as own;
+    ghost use Rattle.fluent_tests.specs.declared.bundle.calls.Own.TheVariants as own;
 
     ghost answer = { λ f _ _. elim f [ own.Nothing ↦ no_value | own.Fault ↦ error_value ] };
 
@@ -228,7 +228,7 @@ fn builtins_are_added_once(rt: HostRuntime) -> Result<(), Fail> {
 /// The first message of a resource.
 fn message_of<'r, 's>(resource: &'r FluentResource<'s>) -> Result<&'r Message<'s>, Fail> {
     match resource.get_entry(0) {
-        Some(crate::ast::Entry::Message(message)) => Ok(message),
+        Some(fluent_bundle::ast::Entry::Message(message)) => Ok(message),
         _ => Err("no message".into()),
     }
 }
@@ -359,7 +359,16 @@ fn refused_calls_can_be_repeated(rt: HostRuntime) -> Result<(), Fail> {
     adds_functions_again(&rt, alloc)
 }
 
-fn makes_calls<'r, 's>(
+/// Whether the value of `c`, a text and a placeable, is written with marks.
+fn isolates<'r, 's: 'r>(alloc: Global, bundle: &Plain<'r, 's>) -> Result<bool, Fail> {
+    let message = bundle.get_message("c").ok_or("no c")?;
+    let pattern = message.value().ok_or("no value")?;
+    let mut errors = Vec::new(alloc);
+    let text = bundle.format_pattern(pattern, None, &mut errors)?;
+    Ok(text.as_str() == "x\u{2068}y\u{2069}")
+}
+
+fn makes_calls<'r, 's: 'r>(
     rt: &impl Abort,
     alloc: Global,
     first: &'r FluentResource<'s>,
@@ -374,14 +383,14 @@ fn makes_calls<'r, 's>(
     ])?;
     assert_eq!(rt; value_text(bundle.get_message("a")), "one");
     assert_eq!(rt; value_text(bundle.get_message("b")), "three");
-    assert!(rt; !bundle.use_isolating);
     assert!(rt; bundle.get_entry_function("NUMBER").is_some());
+    assert!(rt; !isolates(alloc, &bundle)?);
     bundle.make_all(&[
         Call::AddResourceOverriding(second),
         Call::SetUseIsolating(true),
     ])?;
     assert_eq!(rt; value_text(bundle.get_message("a")), "two");
-    assert!(rt; bundle.use_isolating);
+    assert!(rt; isolates(alloc, &bundle)?);
     Ok(())
 }
 
@@ -389,7 +398,7 @@ fn makes_calls<'r, 's>(
 fn calls_are_made_in_order(rt: HostRuntime) -> Result<(), Fail> {
     let alloc = rt.alloc();
     let first = clean(alloc, "a = one\n")?;
-    let second = clean(alloc, "a = two\nb = three\n")?;
+    let second = clean(alloc, "a = two\nb = three\nc = x{ \"y\" }\n")?;
     makes_calls(&rt, alloc, &first, &second)
 }
 
@@ -398,35 +407,5 @@ fn the_default_bundle_has_one_locale(rt: HostRuntime) -> Result<(), Fail> {
     let bundle: Plain<'_, '_> = FluentBundle::new_default(rt.alloc())?;
     assert_eq!(rt; bundle.locales.len(), 1);
     assert!(rt; bundle.locales[0].language.is_none());
-    assert!(rt; bundle.use_isolating);
-    Ok(())
-}
-
-/// Empties each text.
-#[derive(Drop)]
-struct Emptied;
-
-impl Transform for Emptied {
-    ghost use Rattle.std.specs.Prelude.{[]};
-
-    ghost changed = { λ _ _. [] };
-
-    fn transform(&self, alloc: Global, _text: &str) -> Result<String, AllocError> {
-        Ok(String::new(alloc))
-    }
-}
-
-#[test]
-fn settings_are_replaced(rt: HostRuntime) -> Result<(), Fail> {
-    let alloc = rt.alloc();
-    let mut bundle: Plain<'_, '_> = FluentBundle::new_default(alloc)?;
-    bundle.set_formatter(Some(NoFormatter));
-    assert!(rt; bundle.formatter.is_some());
-    bundle.set_formatter(None);
-    assert!(rt; bundle.formatter.is_none());
-    bundle.set_transform(Some(Box::new(alloc, Emptied)?));
-    assert!(rt; bundle.transform.is_some());
-    bundle.set_transform(None);
-    assert!(rt; bundle.transform.is_none());
     Ok(())
 }
