@@ -7,9 +7,9 @@ use Rattle.fluent_syntax.specs.declared.counting.WriteFault.{WriteFault}
 use Rattle.fluent_syntax.specs.declared.counting.WriteFault.TheVariants.{Memory}
 use Rattle.fluent_meaning.specs.Errors.{Error, ResolverError, resolver_error}
 use Rattle.fluent_meaning.specs.Meaning.{Budget, Ran, after_errors}
-use Rattle.fluent_bundle.specs.Written.{Sink, Took}
+use Rattle.fluent_values.specs.Written.{Sink, Took}
 use Rattle.fluent_bundle.specs.Scoped.{Status, Walk, walked, from_here, given, Keeps, Reports, Along, Went, Wrote, Added}
-use Rattle.fluent_bundle.proofs.Took.{appends_none, appends_on, faulted_on, at_ok, never}
+use Rattle.fluent_values.proofs.Took.{appends_none, appends_on, faulted_on, at_ok, never}
 
 -- SCOPES
 

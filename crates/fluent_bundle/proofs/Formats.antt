@@ -13,11 +13,11 @@ use Rattle.fluent_meaning.specs.Walk.{has_one}
 use Rattle.fluent_bundle.specs.Formatted.{AddsAll, AddsFront, WritesAll, WritesFront, Writes}
 use Rattle.fluent_bundle.specs.Interim.{budgeted, ran, substituted, elements}
 use Rattle.fluent_bundle.specs.Scoped.{Status, Walk, Wrote, from_here, given, reported}
-use Rattle.fluent_bundle.specs.Written.{Sink, writer, at}
-use Rattle.fluent_bundle.specs.declared.errors.FluentError.{FluentError}
+use Rattle.fluent_values.specs.Written.{Sink, writer, at}
+use Rattle.fluent_values.specs.declared.errors.FluentError.{FluentError}
 use Rattle.fluent_syntax.specs.declared.counting.Counting.{Counting}
 use Rattle.fluent_bundle.proofs.Limits.{within}
-use Rattle.fluent_bundle.proofs.Outputs.{still}
+use Rattle.fluent_values.proofs.Outputs.{still}
 
 -- a walk over a whole pattern, from a new scope
 pub fresh : (a : Status) (b : Bundle Text) (env : Map (Value Text)) (p : Pattern) → a.bundle ≡ b → a.arguments ≡ env → a.budget ≡ left a.bundle.limit

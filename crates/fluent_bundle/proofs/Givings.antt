@@ -11,7 +11,7 @@ use Rattle.fluent_meaning.specs.Result.{formatted}
 use Rattle.fluent_bundle.specs.Formatted.{AddsAll, Gives}
 use Rattle.fluent_bundle.specs.Interim.{budgeted, substituted, sole_text, elements}
 use Rattle.fluent_bundle.specs.Scoped.{reported}
-use Rattle.fluent_bundle.specs.declared.errors.FluentError.{FluentError}
+use Rattle.fluent_values.specs.declared.errors.FluentError.{FluentError}
 use Rattle.fluent_bundle.proofs.Limits.{within}
 
 -- the same by substitution, within the limit
@@ -38,7 +38,7 @@ sole_value b env (more (placeable x) p) t plain is = search (rules, is)
 
 sole_errors : (b : Bundle Text) (env : Map (Value Text)) (p : Pattern) (t : Text) → sole_text p ≡ Some t → (budgeted b env p).errors ≡ []
 unfolding elements
-sole_errors b env nothing t is = search (rules, is)
+sole_errors b env nothing t is = refl
 sole_errors b env (more (text u) nothing) t is = refl
 sole_errors b env (more (text u) (more e p)) t is = search (rules, is)
 sole_errors b env (more (placeable x) p) t is = search (rules, is)

@@ -1,5 +1,3 @@
-pub mod Took
-pub mod Outputs
 pub mod Along
 pub mod Cases
 pub mod Views
@@ -10,11 +8,6 @@ pub mod Soles
 pub mod Plain
 pub mod Formats
 pub mod Givings
-pub mod Keyed
-pub mod Ordered
-pub mod Setting
-pub mod Reading
-pub mod Merging
 pub mod ByName
 pub mod Added
 pub mod Running

@@ -12,7 +12,7 @@ use Rattle.fluent_bundle.specs.BundleView.{ids, has}
 use Rattle.std.specs.declared.vec.Vec.{Vec}
 use Rattle.std.specs.declared.alloc.AllocError.{AllocError}
 use Rattle.fluent_bundle.specs.declared.entry.Entry.{Entry}
-use Rattle.fluent_bundle.specs.declared.errors.FluentError.{FluentError}
+use Rattle.fluent_values.specs.declared.errors.FluentError.{FluentError}
 use Rattle.fluent_bundle.specs.declared.bundle.AddFault.{AddFault}
 use Rattle.fluent_bundle.specs.declared.bundle.AddFault.TheVariants as fault
 

@@ -22,7 +22,7 @@ use Rattle.fluent_meaning.specs.Value.{Value, Plurals}
 use Rattle.fluent_meaning.specs.Arguments.{Map, get, number_function}
 use Rattle.fluent_meaning.specs.Bundle.{Bundle, Function, a_message, a_term, a_function, number_builtin, transform_of, formatter_of, Call, after, after_all, answered}
 use Rattle.fluent_meaning.specs.Bundle as m
-use Rattle.fluent_bundle.specs.View.{error_view, by_name}
+use Rattle.fluent_values.specs.View.{error_view, by_name}
 use Rattle.fluent_bundle.specs.declared.resource.FluentResource.{FluentResource}
 use Rattle.fluent_bundle.specs.declared.resource.TryNewFault.{TryNewFault}
 use Rattle.fluent_bundle.specs.declared.resource.TryNewFault.TheVariants as refused

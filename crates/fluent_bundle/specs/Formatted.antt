@@ -10,8 +10,8 @@ use Rattle.fluent_syntax.specs.declared.counting.WriteFault.{WriteFault}
 use Rattle.fluent_meaning.specs.Errors.{Error}
 use Rattle.fluent_meaning.specs.Meaning.{Ran}
 use Rattle.fluent_bundle.specs.Scoped.{reported}
-use Rattle.fluent_bundle.specs.Written.{Sink}
-use Rattle.fluent_bundle.specs.declared.errors.FluentError.{FluentError}
+use Rattle.fluent_values.specs.Written.{Sink}
+use Rattle.fluent_values.specs.declared.errors.FluentError.{FluentError}
 
 -- The list of errors has these after those that stood in it.
 pub record AddsAll (errors : List Error) (list list' : List FluentError) : Type 0 where

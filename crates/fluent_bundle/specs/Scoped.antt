@@ -11,13 +11,12 @@ use Rattle.fluent_meaning.specs.Value.{Value}
 use Rattle.fluent_meaning.specs.Arguments.{Map}
 use Rattle.fluent_meaning.specs.Bundle.{Bundle}
 use Rattle.fluent_meaning.specs.Meaning.{Budget, left, struck, Ran}
-use Rattle.fluent_bundle.specs.View.{error_view, named}
-use Rattle.fluent_bundle.specs.Written.{Sink}
-use Rattle.fluent_bundle.specs.declared.args.FluentArgs.{FluentArgs}
-use Rattle.fluent_bundle.specs.declared.errors.FluentError.{FluentError}
+use Rattle.fluent_values.specs.View.{error_view, named}
+use Rattle.fluent_values.specs.ScopeView.{budget_view}
+use Rattle.fluent_values.specs.Written.{Sink}
+use Rattle.fluent_values.specs.declared.args.FluentArgs.{FluentArgs}
+use Rattle.fluent_values.specs.declared.errors.FluentError.{FluentError}
 use Rattle.fluent_bundle.specs.declared.resolver.frame.Frame as frames
-use Rattle.fluent_bundle.specs.declared.resolver.frame.Budget as budgets
-use Rattle.fluent_bundle.specs.declared.resolver.frame.Budget.TheVariants as budget
 
 -- no arguments are an empty map
 abbrev pub arguments_view : {C : Type 0} → (C → Text) → Option (Bor (FluentArgs C)) → Map (Value Text)
@@ -27,10 +26,6 @@ arguments_view content (Some a) = named content a.now
 -- a list of errors, by content
 abbrev pub reported : List FluentError → List Error
 reported es = map error_view es
-
-abbrev pub budget_view : budgets.Budget → Budget
-budget_view (budget.Left n) = left n
-budget_view budget.Struck = struck
 
 -- whether one more placeable may be opened, and what is left then
 abbrev pub can_open : Budget → Bool

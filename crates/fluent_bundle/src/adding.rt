@@ -8,14 +8,14 @@ ghost use Rattle.fluent_meaning.specs.Arguments.{Map, get};
 ghost use Rattle.fluent_meaning.specs.Bundle.{Function, added, overridden, add_free, error_if_taken, not_added};
 ghost use Rattle.fluent_meaning.specs.Bundle as m;
 ghost use Rattle.fluent_meaning.specs.Errors as e;
-ghost use Rattle.fluent_bundle.specs.View.{error_view, kind_view};
+ghost use Rattle.fluent_values.specs.View.{error_view, kind_view};
 ghost use Rattle.fluent_bundle.specs.BundleView.{ids, entry_of, has};
 ghost use Rattle.fluent_bundle.specs.Adding.{AreTaken};
 
 use crate::entry::Entry;
-use crate::errors::{EntryKind, FluentError};
 use crate::ids::{Ids, is_known, put, put_in_room, put_where_free};
 use fluent_syntax::ast;
+use fluent_values::{EntryKind, FluentError};
 use std::alloc::{AllocError, Global};
 use std::borrow::CowStr;
 use std::collections::HashSet;

@@ -5,12 +5,10 @@ ghost use Rattle.fluent_bundle.specs.BundleView.{meant, BegunBy};
 ghost use Rattle.fluent_bundle.specs.Calls.{asked};
 
 use crate::bundle::{AddFault, FluentBundle};
-use crate::formatter::FluentFormatter;
-use crate::function::FluentFunction;
 use crate::resource::FluentResource;
-use crate::transform::Transform;
-use crate::types::FluentType;
 use fluent_intl::MemoizerKind;
+use fluent_values::types::FluentType;
+use fluent_values::{FluentFormatter, FluentFunction, Transform};
 use std::alloc::AllocError;
 
 /// A call that changes a bundle. Calls that hand over an object of the application are made on the bundle itself.

@@ -6,7 +6,7 @@ use Rattle.std.specs.Io.KnownBytes.{Appends}
 use Rattle.std.proofs.KnownBytes.{Appends-nil}
 use Rattle.std.proofs.lemmas.Str.{IsUtf8-from_is_utf8, is_utf8-from_IsUtf8}
 use Rattle.fluent_syntax.specs.Tree.{Text}
-use Rattle.fluent_bundle.specs.declared.errors.FluentError.{FluentError}
+use Rattle.fluent_values.specs.declared.errors.FluentError.{FluentError}
 use Rattle.fluent_show.specs.Words.{Asked}
 use Rattle.fluent_show.specs.Ending.{Ending, shown, no_message, bad_usage, not_utf8, out_of_memory, reading_failed, writing_failed, status, said}
 use Rattle.fluent_syntax.specs.declared.counting.WriteFault.{WriteFault}

@@ -3,8 +3,8 @@ use Rattle.std.proofs.Common.{◌≡◌, ◌∙◌, sym, ap, refl, ℕ, ◌+◌,
 use Rattle.std.proofs.Math.Seq.{take-suc}
 use Rattle.std.proofs.lemmas.List.{take-append-drop, map-append}
 use Rattle.fluent_meaning.specs.Errors.{Error, error_text}
-use Rattle.fluent_bundle.specs.View.{error_view}
-use Rattle.fluent_bundle.specs.declared.errors.FluentError.{FluentError}
+use Rattle.fluent_values.specs.View.{error_view}
+use Rattle.fluent_values.specs.declared.errors.FluentError.{FluentError}
 use Rattle.fluent_show.specs.Ending.{line, error_lines}
 use Rattle.fluent_show.specs.EndingView.{reported}
 use Rattle.fluent_show.specs.Said.{Begins}

@@ -7,7 +7,7 @@ use Rattle.fluent_syntax.specs.Tree.{Text}
 use Rattle.fluent_syntax.specs.Taken.{TookFront}
 use Rattle.fluent_meaning.specs.Errors.{Error}
 use Rattle.fluent_bundle.specs.Formatted.{WritesAll, WritesFront}
-use Rattle.fluent_bundle.specs.declared.errors.FluentError.{FluentError}
+use Rattle.fluent_values.specs.declared.errors.FluentError.{FluentError}
 use Rattle.fluent_show.specs.Far.{Added, Took}
 
 -- what one call of `put` takes

@@ -6,14 +6,14 @@ use Rattle.fluent_intl.specs.declared.plurals.EnglishPlurals.{EnglishPlurals}
 use Rattle.fluent_meaning.specs.Value.{Value, error_value}
 use Rattle.fluent_meaning.specs.Arguments.{Map}
 use Rattle.fluent_meaning.specs.Bundle.{Bundle}
-use Rattle.fluent_bundle.specs.View.{named}
+use Rattle.fluent_values.specs.View.{named}
 use Rattle.fluent_bundle.specs.BundleView.{meant}
-use Rattle.fluent_bundle.specs.declared.args.FluentArgs.{FluentArgs}
+use Rattle.fluent_values.specs.declared.args.FluentArgs.{FluentArgs}
 use Rattle.fluent_bundle.specs.declared.bundle.FluentBundle.{FluentBundle}
-use Rattle.fluent_bundle.specs.declared.formatter.NoFormatter.{NoFormatter}
-use Rattle.fluent_bundle.specs.declared.function.NoFunction.{NoFunction}
-use Rattle.fluent_bundle.specs.declared.transform.NoTransform.{NoTransform}
-use Rattle.fluent_bundle.specs.declared.types.custom.NoCustom.{NoCustom}
+use Rattle.fluent_values.specs.declared.formatter.NoFormatter.{NoFormatter}
+use Rattle.fluent_values.specs.declared.function.NoFunction.{NoFunction}
+use Rattle.fluent_values.specs.declared.transform.NoTransform.{NoTransform}
+use Rattle.fluent_values.specs.declared.types.custom.NoCustom.{NoCustom}
 
 -- English plurals; no values and functions of the application, no formatter, no transform
 abbrev pub bundle_view : FluentBundle EnglishPlurals NoCustom NoFunction NoFormatter NoTransform → Bundle Text

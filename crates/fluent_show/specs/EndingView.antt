@@ -1,8 +1,8 @@
 -- An ending and the errors of the code, by content.
 use Rattle.std.specs.Prelude.{List, map}
 use Rattle.fluent_meaning.specs.Errors.{Error}
-use Rattle.fluent_bundle.specs.View.{error_view}
-use Rattle.fluent_bundle.specs.declared.errors.FluentError.{FluentError}
+use Rattle.fluent_values.specs.View.{error_view}
+use Rattle.fluent_values.specs.declared.errors.FluentError.{FluentError}
 use Rattle.fluent_show.specs.Ending as e
 use Rattle.fluent_show.specs.Ending.{shown, no_message, bad_usage, not_utf8, out_of_memory, reading_failed, writing_failed}
 use Rattle.fluent_syntax.specs.declared.counting.WriteFault as faults

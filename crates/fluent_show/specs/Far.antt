@@ -3,7 +3,7 @@ use Rattle.std.specs.Prelude.{◌≡◌, ℕ, List, [], ◌++◌, ◌⊎◌, Opt
 use Rattle.std.specs.Io.KnownBytes.{Appends}
 use Rattle.fluent_syntax.specs.Tree.{Text}
 use Rattle.fluent_meaning.specs.Errors.{Error}
-use Rattle.fluent_bundle.specs.declared.errors.FluentError.{FluentError}
+use Rattle.fluent_values.specs.declared.errors.FluentError.{FluentError}
 use Rattle.fluent_show.specs.EndingView.{reported}
 use Rattle.fluent_show.specs.Ending.{Ending, status, writing_failed}
 use Rattle.fluent_show.specs.Program.{Run}

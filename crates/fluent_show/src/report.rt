@@ -4,7 +4,7 @@ ghost use Rattle.std.specs.Prelude.{◌≡◌, ◌≢◌, ◌⊎◌, map, Err, I
 ghost use Rattle.std.specs.Io.KnownBytes.{Appends};
 ghost use Rattle.fluent_syntax.specs.Taken.{Faulted};
 ghost use Rattle.fluent_meaning.specs.Errors.{error_text};
-ghost use Rattle.fluent_bundle.specs.View.{error_view};
+ghost use Rattle.fluent_values.specs.View.{error_view};
 ghost use Rattle.fluent_show.specs.Ending.{status, line, no_message, ending_line};
 ghost use Rattle.fluent_show.specs.EndingView.{ending_view, reported};
 ghost use Rattle.fluent_show.specs.Outcome.{Rose};

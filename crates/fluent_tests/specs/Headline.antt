@@ -8,10 +8,10 @@ use Rattle.fluent_meaning.specs.Value.{Custom, error_value}
 use Rattle.fluent_meaning.specs.Bundle.{Bundle, Call, add_resource, add_resource_overriding, add_builtins, set_use_isolating, empty_bundle, after_all}
 use Rattle.fluent_bundle.specs.BundleView.{entries_of, meant}
 use Rattle.fluent_bundle.specs.declared.bundle.FluentBundle.{FluentBundle}
-use Rattle.fluent_bundle.specs.declared.formatter.NoFormatter.{NoFormatter}
-use Rattle.fluent_bundle.specs.declared.function.NoFunction.{NoFunction}
-use Rattle.fluent_bundle.specs.declared.transform.NoTransform.{NoTransform}
-use Rattle.fluent_bundle.specs.declared.types.custom.NoCustom.{NoCustom}
+use Rattle.fluent_values.specs.declared.formatter.NoFormatter.{NoFormatter}
+use Rattle.fluent_values.specs.declared.function.NoFunction.{NoFunction}
+use Rattle.fluent_values.specs.declared.transform.NoTransform.{NoTransform}
+use Rattle.fluent_values.specs.declared.types.custom.NoCustom.{NoCustom}
 use Rattle.fluent_tests.specs.declared.headline.Asked.{Asked}
 use Rattle.fluent_tests.specs.declared.headline.Asked.TheVariants as asked
 use Rattle.fluent_tests.specs.declared.headline.Step.{Step}

@@ -1,6 +1,7 @@
 //! Placeables and argument lists stand in one another up to a depth of 100, counted together.
 use crate::shown::shown;
 use std::alloc::{AllocError, Global};
+use std::process::Abort;
 use std::test::Fail;
 
 /// What stands in front, what opens, what stands inside, what closes, what stands behind.
@@ -76,14 +77,19 @@ fn a_hundred_are_read(rt: HostRuntime) -> Result<(), Fail> {
     Ok(())
 }
 
+/// That a source is read as one Junk.
+fn is_junk(rt: &impl Abort, alloc: Global, text: &str) -> Result<(), Fail> {
+    let wanted = format!(in alloc; "!({text}) 0..{}", text.len())?;
+    let found = shown(alloc, text)?;
+    assert_eq!(rt; found.as_str(), wanted.as_str());
+    Ok(())
+}
+
 #[test]
 fn one_more_is_junk(rt: HostRuntime) -> Result<(), Fail> {
     for (nest, times) in DEEPER {
         let source = nested(rt.alloc(), nest, times)?;
-        let text = source.as_str();
-        let wanted = format!(in rt.alloc(); "!({text}) 0..{}", text.len())?;
-        let found = shown(rt.alloc(), text)?;
-        assert_eq!(rt; found.as_str(), wanted.as_str());
+        is_junk(&rt, rt.alloc(), source.as_str())?;
     }
     Ok(())
 }
@@ -93,10 +99,7 @@ fn one_more_is_junk(rt: HostRuntime) -> Result<(), Fail> {
 fn unclosed_is_junk(rt: HostRuntime) -> Result<(), Fail> {
     for open in ["{", "{ F(", "{ -t(", "{ \"x", "{ $b ->\n *[c] "] {
         let source = nested(rt.alloc(), ["d = ", open, "", "", ""], 1000)?;
-        let text = source.as_str();
-        let wanted = format!(in rt.alloc(); "!({text}) 0..{}", text.len())?;
-        let found = shown(rt.alloc(), text)?;
-        assert_eq!(rt; found.as_str(), wanted.as_str());
+        is_junk(&rt, rt.alloc(), source.as_str())?;
     }
     Ok(())
 }

@@ -7,15 +7,13 @@ ghost use Rattle.fluent_intl.specs.Number.{number_of};
 ghost use Rattle.fluent_meaning.specs.Bundle.{formatter_of};
 ghost use Rattle.fluent_meaning.specs.Number.{category_word};
 ghost use Rattle.fluent_meaning.specs.Value.{value_text, category_of};
-ghost use Rattle.fluent_bundle.specs.View.{value_view};
+ghost use Rattle.fluent_values.specs.View.{value_view};
 
-use super::context::Context;
 use crate::bundle::FluentBundle;
-use crate::formatter::FluentFormatter;
-use crate::function::FluentFunction;
-use crate::transform::Transform;
-use crate::types::{FluentNumber, FluentNumberType, FluentType, FluentValue};
 use fluent_intl::{MemoizerKind, PluralCategory, PluralOperands, PluralRuleType};
+use fluent_values::resolver::Context;
+use fluent_values::types::{FluentNumber, FluentNumberType, FluentType, FluentValue};
+use fluent_values::{FluentFormatter, FluentFunction, Transform};
 use std::alloc::{AllocError, Global};
 use std::borrow::CowStr;
 

@@ -7,16 +7,16 @@ ghost use Rattle.fluent_meaning.specs.Meaning.{within_budget};
 ghost use Rattle.fluent_meaning.specs.Walk.{is_bare};
 ghost use Rattle.fluent_bundle.specs.Interim.{expression_text};
 ghost use Rattle.fluent_bundle.specs.Scoped.{status, Wrote};
-ghost use Rattle.fluent_bundle.specs.Written.{sink};
+ghost use Rattle.fluent_values.specs.Written.{sink};
 
-use super::context::Context;
 use super::fallback::put_in_braces;
 use super::frame::Frame;
 use super::inline_expression::write_inline;
-use super::output::Output;
-use crate::types::FluentType;
 use fluent_syntax::WriteFault;
 use fluent_syntax::ast::{Expression, InlineExpression};
+use fluent_values::resolver::Context;
+use fluent_values::resolver::output::Output;
+use fluent_values::types::FluentType;
 use std::io::Write;
 
 /// Writes what an expression gives.

@@ -4,11 +4,11 @@ ghost use Rattle.std.specs.Prelude.{◌≡◌};
 ghost use Rattle.fluent_syntax.specs.Fallback.{fallback, dotted, in_braces};
 ghost use Rattle.fluent_syntax.specs.Tree.{variable};
 ghost use Rattle.fluent_syntax.specs.View.{inline_view, attribute_of};
-ghost use Rattle.fluent_bundle.specs.Written.{sink, Took};
+ghost use Rattle.fluent_values.specs.Written.{sink, Took};
 
-use super::output::{Output, put_text};
 use fluent_syntax::WriteFault;
 use fluent_syntax::ast::{Expression, Identifier, InlineExpression};
+use fluent_values::resolver::output::{Output, put_text};
 use std::io::Write;
 
 /// Writes a variable's fallback in braces.

@@ -4,22 +4,14 @@ ghost use Rattle.std.specs.Prelude.{◌≡◌, ◌↔◌, IsTrue};
 ghost use Rattle.std.specs.Option.{option_map};
 ghost use Rattle.fluent_meaning.specs.Arguments.{get};
 ghost use Rattle.fluent_meaning.specs.Meaning.{struck, left};
-ghost use Rattle.fluent_bundle.specs.View.{resolver_error_view, value_view};
-ghost use Rattle.fluent_bundle.specs.Scoped.{arguments_view, budget_view, can_open, less_one, status, Keeps, Added};
+ghost use Rattle.fluent_values.specs.View.{resolver_error_view, value_view};
+ghost use Rattle.fluent_values.specs.ScopeView.{budget_view};
+ghost use Rattle.fluent_bundle.specs.Scoped.{arguments_view, can_open, less_one, status, Keeps, Added};
 
-use super::context::Context;
-use super::errors::ResolverError;
-use crate::args::FluentArgs;
-use crate::errors::FluentError;
-use crate::types::{FluentType, FluentValue};
+use fluent_values::resolver::{Budget, Context};
+use fluent_values::types::{FluentType, FluentValue};
+use fluent_values::{FluentArgs, FluentError, ResolverError};
 use std::alloc::AllocError;
-
-/// How many more placeables may be opened; struck once one more was met.
-#[derive(Clone, Copy)]
-pub(crate) enum Budget {
-    Left(u32),
-    Struck,
-}
 
 /// What stands while a pattern is resolved: its bundle, its arguments, the list of errors, and how many more
 /// placeables may be opened.

@@ -10,17 +10,17 @@ ghost use Rattle.fluent_meaning.specs.Meaning.{within_budget};
 ghost use Rattle.fluent_meaning.specs.Value.{try_number};
 ghost use Rattle.fluent_bundle.specs.Interim.{inline_text, variable_text};
 ghost use Rattle.fluent_bundle.specs.Scoped.{status, Wrote, Added};
-ghost use Rattle.fluent_bundle.specs.Written.{sink, Took};
+ghost use Rattle.fluent_values.specs.Written.{sink, Took};
 
-use super::context::Context;
-use super::errors::{ReferenceKind, ResolverError};
 use super::fallback::{put_in_braces, put_variable};
 use super::frame::Frame;
-use super::output::{Output, put_text};
-use super::value::put_value;
-use crate::types::{FluentType, FluentValue};
 use fluent_syntax::ast::{Expression, InlineExpression};
 use fluent_syntax::{WriteFault, unescape_unicode, unescape_unicode_to_string};
+use fluent_values::resolver::Context;
+use fluent_values::resolver::output::{Output, put_text};
+use fluent_values::resolver::value::put_value;
+use fluent_values::types::{FluentType, FluentValue};
+use fluent_values::{ReferenceKind, ResolverError};
 use std::alloc::{AllocError, Global};
 use std::io::Write;
 

@@ -7,18 +7,19 @@ ghost use Rattle.fluent_syntax.specs.View.{expression_view, pattern_view};
 ghost use Rattle.fluent_meaning.specs.Meaning.{within_budget, first_mark, last_mark, ending, struck};
 ghost use Rattle.fluent_meaning.specs.Walk.{has_one, is_marked};
 ghost use Rattle.fluent_bundle.specs.Interim.{elements, part, IsText};
-ghost use Rattle.fluent_bundle.specs.Scoped.{status, Wrote, budget_view};
-ghost use Rattle.fluent_bundle.specs.Written.{sink, Took};
+ghost use Rattle.fluent_values.specs.ScopeView.{budget_view};
+ghost use Rattle.fluent_bundle.specs.Scoped.{status, Wrote};
+ghost use Rattle.fluent_values.specs.Written.{sink, Took};
 
-use super::context::Context;
-use super::errors::ResolverError;
 use super::expression::{is_bare, shown_part, write_expression};
 use super::fallback::put_in_braces;
-use super::frame::{Budget, Frame};
-use super::output::{Output, put_text};
-use crate::types::FluentType;
+use super::frame::Frame;
 use fluent_syntax::WriteFault;
 use fluent_syntax::ast::{Expression, Pattern, PatternElement};
+use fluent_values::ResolverError;
+use fluent_values::resolver::output::{Output, put_text};
+use fluent_values::resolver::{Budget, Context};
+use fluent_values::types::FluentType;
 use std::io::Write;
 
 /// Writes the elements of a pattern, in order.

@@ -294,6 +294,35 @@ fn equality_is_that_of_contents(rt: HostRuntime) -> Result<(), Fail> {
     Ok(())
 }
 
+/// Adds a resource, again where memory is refused, after which the bundle is as before.
+fn adds<'r, 's>(
+    rt: &impl Abort,
+    bundle: &mut Plain<'r, 's>,
+    resource: &'r FluentResource<'s>,
+) -> Result<(), Fail> {
+    if bundle.add_resource(resource).is_err() {
+        assert!(rt; !bundle.has_message("a"));
+        return whole(bundle.add_resource(resource));
+    }
+    Ok(())
+}
+
+/// Adds a resource of which one id is there, again where memory is refused.
+fn adds_the_rest<'r, 's>(
+    rt: &impl Abort,
+    bundle: &mut Plain<'r, 's>,
+    resource: &'r FluentResource<'s>,
+) -> Result<(), Fail> {
+    let mut added = bundle.add_resource(resource);
+    if let Err(AddFault::Memory) = added {
+        assert!(rt; !bundle.has_message("b"));
+        assert!(rt; !bundle.has_message("c"));
+        added = bundle.add_resource(resource);
+    }
+    assert_eq!(rt; left(added)?.len(), 1);
+    Ok(())
+}
+
 /// Adds one resource after another, each again where memory is refused.
 fn adds_again<'r, 's>(
     rt: &impl Abort,
@@ -302,17 +331,8 @@ fn adds_again<'r, 's>(
     second: &'r FluentResource<'s>,
 ) -> Result<(), Fail> {
     let mut bundle: Plain<'_, '_> = FluentBundle::new(alloc, Vec::new(alloc), EnglishPlurals);
-    if bundle.add_resource(first).is_err() {
-        assert!(rt; !bundle.has_message("a"));
-        whole(bundle.add_resource(first))?;
-    }
-    let mut added = bundle.add_resource(second);
-    if let Err(AddFault::Memory) = added {
-        assert!(rt; !bundle.has_message("b"));
-        assert!(rt; !bundle.has_message("c"));
-        added = bundle.add_resource(second);
-    }
-    assert_eq!(rt; left(added)?.len(), 1);
+    adds(rt, &mut bundle, first)?;
+    adds_the_rest(rt, &mut bundle, second)?;
     assert_eq!(rt; value_text(bundle.get_message("a")), "one");
     assert_eq!(rt; value_text(bundle.get_message("b")), "two");
     if bundle.add_resource_overriding(second).is_err() {
@@ -359,13 +379,13 @@ fn refused_calls_can_be_repeated(rt: HostRuntime) -> Result<(), Fail> {
     adds_functions_again(&rt, alloc)
 }
 
-/// Whether the value of `c`, a text and a placeable, is written with marks.
+/// Whether the value of `c`, a text and a missing variable, is written with marks.
 fn isolates<'r, 's: 'r>(alloc: Global, bundle: &Plain<'r, 's>) -> Result<bool, Fail> {
     let message = bundle.get_message("c").ok_or("no c")?;
     let pattern = message.value().ok_or("no value")?;
     let mut errors = Vec::new(alloc);
     let text = bundle.format_pattern(pattern, None, &mut errors)?;
-    Ok(text.as_str() == "x\u{2068}y\u{2069}")
+    Ok(text.as_str() == "x\u{2068}{$y}\u{2069}")
 }
 
 fn makes_calls<'r, 's: 'r>(
@@ -398,7 +418,7 @@ fn makes_calls<'r, 's: 'r>(
 fn calls_are_made_in_order(rt: HostRuntime) -> Result<(), Fail> {
     let alloc = rt.alloc();
     let first = clean(alloc, "a = one\n")?;
-    let second = clean(alloc, "a = two\nb = three\nc = x{ \"y\" }\n")?;
+    let second = clean(alloc, "a = two\nb = three\nc = x{ $y }\n")?;
     makes_calls(&rt, alloc, &first, &second)
 }
 

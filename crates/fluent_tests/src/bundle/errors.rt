@@ -15,6 +15,19 @@ fn text(alloc: Global, bytes: &str) -> Result<String, AllocError> {
     String::from_str(alloc, bytes)
 }
 
+/// The text of a report; a copy of it is equal.
+fn reported(
+    rt: &impl Abort,
+    alloc: Global,
+    report: FluentError,
+    expected: &str,
+) -> Result<(), Fail> {
+    assert_eq!(rt; report.to_string(alloc)?.as_str(), expected);
+    assert!(rt; report.try_clone(alloc)? == report);
+    Ok(())
+}
+
+/// The text of an error of the resolver, alone and as a report.
 fn written(
     rt: &impl Abort,
     alloc: Global,
@@ -22,14 +35,10 @@ fn written(
     expected: &str,
 ) -> Result<(), Fail> {
     assert_eq!(rt; error.to_string(alloc)?.as_str(), expected);
-    let copy = error.try_clone(alloc)?;
-    assert!(rt; copy == error);
-    let report = FluentError::from(copy);
+    assert!(rt; error.try_clone(alloc)? == error);
     let mut line = text(alloc, "Resolver error: ")?;
     line.push_str(expected)?;
-    assert_eq!(rt; report.to_string(alloc)?.as_str(), line.as_str());
-    assert!(rt; report.try_clone(alloc)? == report);
-    Ok(())
+    reported(rt, alloc, FluentError::from(error), line.as_str())
 }
 
 fn to_message(alloc: Global, attribute: Option<String>) -> Result<ResolverError, AllocError> {
@@ -42,46 +51,64 @@ fn to_term(alloc: Global, attribute: Option<String>) -> Result<ResolverError, Al
     Ok(ResolverError::Reference(ReferenceKind::Term { id, attribute }))
 }
 
+fn reference(
+    rt: &impl Abort,
+    alloc: Global,
+    reference: ReferenceKind,
+    expected: &str,
+) -> Result<(), Fail> {
+    written(rt, alloc, ResolverError::Reference(reference), expected)
+}
+
 #[test]
-fn errors_of_references_have_their_texts(rt: HostRuntime) -> Result<(), Fail> {
+fn unknown_functions_and_variables_have_their_texts(rt: HostRuntime) -> Result<(), Fail> {
     let alloc = rt.alloc();
-    let function = ReferenceKind::Function {
-        id: text(alloc, "F")?,
-    };
-    let variable = ReferenceKind::Variable {
-        id: text(alloc, "x")?,
-    };
-    for (error, expected) in [
-        (ResolverError::Reference(function), "Unknown function: F()"),
-        (to_message(alloc, None)?, "Unknown message: id"),
-        (
-            to_message(alloc, Some(text(alloc, "attr")?))?,
-            "Unknown attribute: id.attr",
-        ),
-        (to_term(alloc, None)?, "Unknown term: -id"),
-        (
-            to_term(alloc, Some(text(alloc, "attr")?))?,
-            "Unknown attribute: -id.attr",
-        ),
-        (ResolverError::Reference(variable), "Unknown variable: $x"),
-    ] {
-        written(&rt, alloc, error, expected)?;
-    }
-    Ok(())
+    let id = text(alloc, "F")?;
+    reference(
+        &rt,
+        alloc,
+        ReferenceKind::Function { id },
+        "Unknown function: F()",
+    )?;
+    let id = text(alloc, "x")?;
+    reference(
+        &rt,
+        alloc,
+        ReferenceKind::Variable { id },
+        "Unknown variable: $x",
+    )
+}
+
+#[test]
+fn unknown_messages_have_their_texts(rt: HostRuntime) -> Result<(), Fail> {
+    let alloc = rt.alloc();
+    let error = to_message(alloc, None)?;
+    written(&rt, alloc, error, "Unknown message: id")?;
+    let name = text(alloc, "attr")?;
+    let error = to_message(alloc, Some(name))?;
+    written(&rt, alloc, error, "Unknown attribute: id.attr")
+}
+
+#[test]
+fn unknown_terms_have_their_texts(rt: HostRuntime) -> Result<(), Fail> {
+    let alloc = rt.alloc();
+    let error = to_term(alloc, None)?;
+    written(&rt, alloc, error, "Unknown term: -id")?;
+    let name = text(alloc, "attr")?;
+    let error = to_term(alloc, Some(name))?;
+    written(&rt, alloc, error, "Unknown attribute: -id.attr")
 }
 
 #[test]
 fn other_errors_have_their_texts(rt: HostRuntime) -> Result<(), Fail> {
     let alloc = rt.alloc();
-    for (error, expected) in [
-        (ResolverError::NoValue(text(alloc, "id")?), "No value: id"),
-        (ResolverError::MissingDefault, "No default"),
-        (ResolverError::Cyclic, "Cyclical dependency detected"),
-        (ResolverError::TooManyPlaceables, "Too many placeables"),
-    ] {
-        written(&rt, alloc, error, expected)?;
-    }
-    Ok(())
+    let id = text(alloc, "id")?;
+    written(&rt, alloc, ResolverError::NoValue(id), "No value: id")?;
+    written(&rt, alloc, ResolverError::MissingDefault, "No default")?;
+    let cyclic = "Cyclical dependency detected";
+    written(&rt, alloc, ResolverError::Cyclic, cyclic)?;
+    let error = ResolverError::TooManyPlaceables;
+    written(&rt, alloc, error, "Too many placeables")
 }
 
 #[test]
@@ -95,34 +122,25 @@ fn an_unreadable_entry_is_named_by_its_bytes(rt: HostRuntime) -> Result<(), Fail
         unreadable.to_string(alloc)?.as_str(),
         "unreadable entry at bytes 11..109"
     );
-    let report = FluentError::from(unreadable);
-    assert_eq!(rt;
-        report.to_string(alloc)?.as_str(),
-        "Parser error: unreadable entry at bytes 11..109"
-    );
-    assert!(rt; report.try_clone(alloc)? == report);
-    Ok(())
+    let line = "Parser error: unreadable entry at bytes 11..109";
+    reported(&rt, alloc, FluentError::from(unreadable), line)
+}
+
+fn overriding(rt: &impl Abort, alloc: Global, kind: EntryKind, expected: &str) -> Result<(), Fail> {
+    let id = text(alloc, "id")?;
+    reported(rt, alloc, FluentError::Overriding { kind, id }, expected)
 }
 
 #[test]
 fn what_was_not_added_is_named_by_its_kind(rt: HostRuntime) -> Result<(), Fail> {
     let alloc = rt.alloc();
-    for (kind, name) in [
-        (EntryKind::Message, "message"),
-        (EntryKind::Term, "term"),
-        (EntryKind::Function, "function"),
-    ] {
-        assert_eq!(rt; kind.to_string(alloc)?.as_str(), name);
-        let report = FluentError::Overriding {
-            kind,
-            id: text(alloc, "id")?,
-        };
-        let mut line = text(alloc, "Attempt to override an existing ")?;
-        line.push_str(name)?;
-        line.push_str(": \"id\".")?;
-        assert_eq!(rt; report.to_string(alloc)?.as_str(), line.as_str());
-        assert!(rt; report.try_clone(alloc)? == report);
-    }
+    let message = "Attempt to override an existing message: \"id\".";
+    overriding(&rt, alloc, EntryKind::Message, message)?;
+    let term = "Attempt to override an existing term: \"id\".";
+    overriding(&rt, alloc, EntryKind::Term, term)?;
+    let function = "Attempt to override an existing function: \"id\".";
+    overriding(&rt, alloc, EntryKind::Function, function)?;
+    assert_eq!(rt; EntryKind::Term.to_string(alloc)?.as_str(), "term");
     Ok(())
 }
 

@@ -1,11 +1,10 @@
 //! A function of an application, kept with its fact.
 ghost use Rattle.std.specs.Prelude.{◌≡◌, [], map, unwrap_or, slice_get, IfOk};
 ghost use Rattle.fluent_meaning.specs.Value.{error_value};
-ghost use Rattle.fluent_bundle.specs.View.{value_view};
+ghost use Rattle.fluent_values.specs.View.{value_view};
 
-use fluent_bundle::FluentArgs;
-use fluent_bundle::{AnswerRule, Answering, FluentFunction, FunctionOf, NoFunction};
 use fluent_bundle::types::{FluentValue, NoCustom};
+use fluent_bundle::{AnswerRule, Answering, FluentArgs, FluentFunction, FunctionOf, NoFunction};
 use std::alloc::{AllocError, Global};
 use std::process::Abort;
 use std::test::Fail;

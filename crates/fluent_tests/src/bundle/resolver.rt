@@ -1,10 +1,9 @@
 //! What no clause says: that formatting succeeds, the rows of its texts, and what comes through odd writers.
-use fluent_bundle::Scope;
 use fluent_bundle::ast::{Expression, Identifier, InlineExpression, Pattern, PatternElement};
 use fluent_bundle::types::{FluentNumber, FluentNumberType};
 use fluent_bundle::{
     Counting, FluentArgs, FluentBundle, FluentError, FluentFormatter, FluentResource, FluentValue,
-    NoCustom, NoFormatter, NoFunction, ResolverError, Transform, TryNewFault, WriteFault,
+    NoCustom, NoFormatter, NoFunction, ResolverError, Scope, Transform, TryNewFault, WriteFault,
 };
 use fluent_intl::EnglishPlurals;
 use std::alloc::{AllocError, Global};

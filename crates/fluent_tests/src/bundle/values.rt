@@ -2,7 +2,7 @@
 ghost use Rattle.std.specs.Prelude.{◌≡◌, ◌*◌, ◌^◌, [], None, Some, codes, pos};
 ghost use Rattle.fluent_intl.specs.Number.{number_with};
 ghost use Rattle.fluent_meaning.specs.Value.{text_value, number_value};
-ghost use Rattle.fluent_bundle.specs.View.{value_view};
+ghost use Rattle.fluent_values.specs.View.{value_view};
 
 use fluent_bundle::FluentArgs;
 use fluent_bundle::builtins::NUMBER;

@@ -1,5 +1,5 @@
 //! Attributes and terms.
-use crate::shown::shown;
+use crate::sources::read_as;
 use std::test::Fail;
 
 const ROWS_1: [(&str, &str); 18] = [
@@ -52,16 +52,10 @@ const ROWS_2: [(&str, &str); 18] = [
 
 #[test]
 fn attributes_1(rt: HostRuntime) -> Result<(), Fail> {
-    for (source, tree) in ROWS_1 {
-        assert_eq!(rt; shown(rt.alloc(), source)?.as_str(), tree, "of {source:?}");
-    }
-    Ok(())
+    read_as(&rt, rt.alloc(), &ROWS_1)
 }
 
 #[test]
 fn attributes_2(rt: HostRuntime) -> Result<(), Fail> {
-    for (source, tree) in ROWS_2 {
-        assert_eq!(rt; shown(rt.alloc(), source)?.as_str(), tree, "of {source:?}");
-    }
-    Ok(())
+    read_as(&rt, rt.alloc(), &ROWS_2)
 }

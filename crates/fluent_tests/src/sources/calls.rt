@@ -1,5 +1,5 @@
 //! Calls of functions and terms, and their arguments.
-use crate::shown::shown;
+use crate::sources::read_as;
 use std::test::Fail;
 
 const ROWS_1: [(&str, &str); 24] = [
@@ -79,16 +79,10 @@ const ROWS_2: [(&str, &str); 24] = [
 
 #[test]
 fn calls_1(rt: HostRuntime) -> Result<(), Fail> {
-    for (source, tree) in ROWS_1 {
-        assert_eq!(rt; shown(rt.alloc(), source)?.as_str(), tree, "of {source:?}");
-    }
-    Ok(())
+    read_as(&rt, rt.alloc(), &ROWS_1)
 }
 
 #[test]
 fn calls_2(rt: HostRuntime) -> Result<(), Fail> {
-    for (source, tree) in ROWS_2 {
-        assert_eq!(rt; shown(rt.alloc(), source)?.as_str(), tree, "of {source:?}");
-    }
-    Ok(())
+    read_as(&rt, rt.alloc(), &ROWS_2)
 }

@@ -1,5 +1,5 @@
 //! What stands between braces: literals and references.
-use crate::shown::shown;
+use crate::sources::read_as;
 use std::test::Fail;
 
 const ROWS_1: [(&str, &str); 22] = [
@@ -83,24 +83,15 @@ const ROWS_3: [(&str, &str); 20] = [
 
 #[test]
 fn placeables_1(rt: HostRuntime) -> Result<(), Fail> {
-    for (source, tree) in ROWS_1 {
-        assert_eq!(rt; shown(rt.alloc(), source)?.as_str(), tree, "of {source:?}");
-    }
-    Ok(())
+    read_as(&rt, rt.alloc(), &ROWS_1)
 }
 
 #[test]
 fn placeables_2(rt: HostRuntime) -> Result<(), Fail> {
-    for (source, tree) in ROWS_2 {
-        assert_eq!(rt; shown(rt.alloc(), source)?.as_str(), tree, "of {source:?}");
-    }
-    Ok(())
+    read_as(&rt, rt.alloc(), &ROWS_2)
 }
 
 #[test]
 fn placeables_3(rt: HostRuntime) -> Result<(), Fail> {
-    for (source, tree) in ROWS_3 {
-        assert_eq!(rt; shown(rt.alloc(), source)?.as_str(), tree, "of {source:?}");
-    }
-    Ok(())
+    read_as(&rt, rt.alloc(), &ROWS_3)
 }

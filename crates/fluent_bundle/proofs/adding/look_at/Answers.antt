@@ -1,7 +1,7 @@
 use Rattle.std.proofs.Common.{map}
 use Rattle.std.proofs.lemmas.Result.{on_ok_weaker}
 use Rattle.fluent_meaning.specs.Errors.{message_kind, term_kind}
-use Rattle.fluent_bundle.specs.View.{error_view}
+use Rattle.fluent_values.specs.View.{error_view}
 use Rattle.fluent_bundle.proofs.Added.{alone}
 use Rattle.fluent_bundle.proofs.adding.look_at.Goals as goal
 

@@ -1,7 +1,7 @@
 use Rattle.std.proofs.Common.{◌≡◌, ◌++◌, map, List, Result, subst}
 use Rattle.fluent_syntax.specs.Tree.{Text, Entry}
 use Rattle.fluent_syntax.specs.Chunks.{entries, junk_ranges}
-use Rattle.fluent_bundle.specs.declared.errors.FluentError.{FluentError}
+use Rattle.fluent_values.specs.declared.errors.FluentError.{FluentError}
 use Rattle.fluent_bundle.specs.BundleView.{entries_of}
 use Rattle.fluent_show.specs.Words.{Asked}
 use Rattle.fluent_show.specs.WordsView.{asked_view}

@@ -3,8 +3,8 @@ use Rattle.fluent_syntax.specs.Fallback.{dotted}
 use Rattle.fluent_syntax.specs.Tree.{Text, Attribute, no_attribute, attribute}
 use Rattle.fluent_syntax.specs.View.{attribute_of}
 use Rattle.fluent_syntax.specs.declared.counting.WriteFault.{WriteFault}
-use Rattle.fluent_bundle.specs.Written.{Sink, Took}
-use Rattle.fluent_bundle.proofs.Took.{took_on, took_stops, took_fails, took_same, took_done}
+use Rattle.fluent_values.specs.Written.{Sink, Took}
+use Rattle.fluent_values.proofs.Took.{took_on, took_stops, took_fails, took_same, took_done}
 use Rattle.fluent_bundle.proofs.resolver.fallback.put_dotted.Goals as goal
 
 dotted_stops : {T : Type 0} {r r' : Result T WriteFault} {e : WriteFault} {w w' : Sink} (t : Text) (a : Attribute) → r ≡ Err e → r' ≡ Err e → Took r t w w' → Took r' (dotted t a) w w'

@@ -1,5 +1,5 @@
 use Rattle.std.proofs.Common.{rules, ◌∷◌, [], ◌++◌}
-use Rattle.fluent_bundle.proofs.Took.{took_on, took_stops}
+use Rattle.fluent_values.proofs.Took.{took_on, took_stops}
 use Rattle.fluent_bundle.proofs.resolver.fallback.put_variable.Goals as goal
 
 pub returns-in_err-put_text : goal.returns-in_err-put_text

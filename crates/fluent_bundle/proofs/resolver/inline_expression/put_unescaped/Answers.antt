@@ -1,6 +1,6 @@
 use Rattle.std.proofs.Common.{rules}
-use Rattle.fluent_bundle.proofs.Outputs.{to_writer}
-use Rattle.fluent_bundle.proofs.Took.{took_none}
+use Rattle.fluent_values.proofs.Outputs.{to_writer}
+use Rattle.fluent_values.proofs.Took.{took_none}
 use Rattle.fluent_bundle.proofs.resolver.inline_expression.put_unescaped.Goals as goal
 
 pub returns-in_err-text : goal.returns-in_err-text

@@ -3,7 +3,7 @@ use Rattle.std.specs.Option.{option_map}
 use Rattle.fluent_syntax.specs.Fallback.{in_braces, fallback}
 use Rattle.fluent_syntax.specs.Tree.{variable}
 use Rattle.fluent_meaning.specs.Value.{Value}
-use Rattle.fluent_bundle.specs.View.{value_view}
+use Rattle.fluent_values.specs.View.{value_view}
 use Rattle.fluent_bundle.specs.Interim.{variable_text}
 use Rattle.fluent_meaning.specs.Meaning.{within_budget, Ran}
 use Rattle.fluent_syntax.specs.Tree.{Text}

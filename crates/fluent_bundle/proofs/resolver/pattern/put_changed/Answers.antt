@@ -1,5 +1,5 @@
 use Rattle.std.proofs.Common.{rules}
-use Rattle.fluent_bundle.proofs.Took.{took_none}
+use Rattle.fluent_values.proofs.Took.{took_none}
 use Rattle.fluent_bundle.proofs.resolver.pattern.put_changed.Goals as goal
 
 pub returns-in_err-changed-clause-took : goal.returns-in_err-changed-clause-took

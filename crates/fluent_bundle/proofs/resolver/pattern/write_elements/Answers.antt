@@ -2,12 +2,13 @@ use Rattle.std.proofs.Common.{rules, IsTrue, ap, sym, ◌∙◌, ◌+◌, drop, 
 use Rattle.fluent_syntax.specs.Tree.{placeable, pattern_of}
 use Rattle.fluent_syntax.specs.View.{pattern_view, element_view, expression_view}
 use Rattle.fluent_meaning.specs.Meaning.{within_budget}
-use Rattle.fluent_bundle.specs.Scoped.{status, budget_view}
+use Rattle.fluent_values.specs.ScopeView.{budget_view}
+use Rattle.fluent_bundle.specs.Scoped.{status}
 use Rattle.fluent_meaning.specs.Walk.{has_one}
 use Rattle.fluent_bundle.specs.Interim.{part, IsText}
 use Rattle.fluent_bundle.proofs.Along.{starts, turns, put, calls, goes_on, ends, stops, sequence}
-use Rattle.fluent_bundle.proofs.Took.{took_same}
-use Rattle.fluent_bundle.proofs.Outputs.{still}
+use Rattle.fluent_values.proofs.Took.{took_same}
+use Rattle.fluent_values.proofs.Outputs.{still}
 use Rattle.fluent_bundle.proofs.Elements.{giving, giving_all, giving_text, giving_placeable, giving_end, giving_struck, next_of, none_left, no_placeable}
 use Rattle.fluent_bundle.proofs.Views.{view_pattern, view_text_in, view_placeable_in}
 use Rattle.fluent_bundle.proofs.resolver.pattern.write_elements.Goals.{in-TextElement+in_ok-put_changed-in-TextElement, in-Placeable+in_ok-write_placeable-in-Placeable}

@@ -4,7 +4,7 @@ use Rattle.fluent_meaning.specs.Meaning.{within_budget}
 use Rattle.fluent_meaning.specs.Walk.{has_one}
 use Rattle.fluent_bundle.specs.Scoped.{Along, Status, status, from_here}
 use Rattle.fluent_bundle.specs.Interim.{elements}
-use Rattle.fluent_bundle.specs.Written.{sink}
+use Rattle.fluent_values.specs.Written.{sink}
 use Rattle.fluent_bundle.proofs.Elements.{giving}
 use Rattle.fluent_bundle.proofs.resolver.pattern.write_elements.Given as goal
 

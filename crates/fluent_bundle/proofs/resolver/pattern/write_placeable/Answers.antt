@@ -2,11 +2,12 @@ use Rattle.std.proofs.Common.{rules, ap, sym, ◌∙◌, ◌∷◌, [], ◌≡�
 use Rattle.fluent_syntax.specs.View.{expression_view}
 use Rattle.fluent_meaning.specs.Errors.{resolver_error, too_many_placeables}
 use Rattle.fluent_meaning.specs.Meaning.{first_mark, last_mark, after_errors}
-use Rattle.fluent_bundle.specs.Scoped.{status, budget_view, given}
+use Rattle.fluent_values.specs.ScopeView.{budget_view}
+use Rattle.fluent_bundle.specs.Scoped.{status, given}
 use Rattle.fluent_meaning.specs.Walk.{is_marked}
 use Rattle.fluent_bundle.proofs.Along.{starts, turns, shifts, put, puts_last, adds, refuses, calls, goes_on, wrote, ends, stops}
 use Rattle.fluent_bundle.proofs.Cases.{part_opens, part_strikes, opened, unmarked, closing}
-use Rattle.fluent_bundle.proofs.Took.{took_same}
+use Rattle.fluent_values.proofs.Took.{took_same}
 use Rattle.fluent_bundle.proofs.resolver.pattern.write_placeable.Goals as goal
 
 pub returns-in_err-add_error : goal.returns-in_err-add_error

@@ -1,8 +1,0 @@
-use Rattle.std.proofs.Common.{◌≡◌, [], map}
-use Rattle.fluent_meaning.specs.Arguments.{set_all}
-use Rattle.fluent_bundle.specs.Args.{pair_view}
-use Rattle.fluent_bundle.specs.View.{named}
-use Rattle.fluent_bundle.proofs.args.FluentArgs.try_from_iter.Given as goal
-
-abbrev pub invariant-loop-name : goal.invariant-loop-name
-invariant-loop-name g l = named g.C.FluentType.content l.args ≡ set_all (map (pair_view g.C.FluentType.content) l.yielded) []

@@ -1,0 +1,15 @@
+use Rattle.std.proofs.Common.{◌∙◌, ap, sym}
+use Rattle.std.specs.Cow.{cow_str_bytes}
+use Rattle.fluent_meaning.specs.Arguments.{set}
+use Rattle.fluent_values.specs.View.{value_view}
+use Rattle.fluent_values.specs.Args.{pair_view}
+use Rattle.fluent_values.proofs.Setting.{set_all_more}
+use Rattle.fluent_values.proofs.args.FluentArgs.try_from_iter.Goals as goal
+
+pub loop-name-preserved : goal.loop-name-preserved
+loop-name-preserved g c =
+    let content = g.C.FluentType.content in
+    let name = c.in-Some.name in
+    let value = c.in-Some.value in
+    c.in_ok-set.ensures.ok ∙ ap (set (cow_str_bytes name) (value_view content value)) c.loop-name.invariant
+    ∙ sym (set_all_more (pair_view content) c.loop-name.yielded (name, value) _)

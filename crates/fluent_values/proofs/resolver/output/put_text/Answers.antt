@@ -1,0 +1,13 @@
+use Rattle.std.proofs.Common.{rules}
+use Rattle.fluent_values.proofs.Took.{took_same}
+use Rattle.fluent_values.proofs.Outputs.{in_buffer, to_writer}
+use Rattle.fluent_values.proofs.resolver.output.put_text.Goals as goal
+
+pub returns-in_ok-push_str-clause-took : goal.returns-in_ok-push_str-clause-took
+returns-in_ok-push_str-clause-took g c = let out = c.args.out.now in in_buffer g.W.Write.contents out.writer.ghost_name out.buffer.ghost_name out.writer.now out.buffer.now c.push_str.new.self out.is_buffered c.args.text.now (search rules) (search rules)
+
+pub returns-else-out-clause-took : goal.returns-else-out-clause-took
+returns-else-out-clause-took g c =
+    let out = c.args.out.now in
+    let e = c.put.ensures in
+    took_same c.as_bytes.ensures.value (to_writer g.W.Write.contents out.writer.ghost_name out.buffer.ghost_name out.writer.now c.put.new.w out.buffer.now out.is_buffered c.as_bytes.result.now (search rules) e.whole e.front e.fault)

@@ -1,0 +1,23 @@
+-- Arguments one after another.
+use Rattle.std.specs.Prelude.{map}
+use Rattle.std.specs.Cow.{cow_str_bytes}
+use Rattle.std.specs.declared.borrow.CowStr.{CowStr}
+use Rattle.std.proofs.Common.{Global}
+use Rattle.fluent_syntax.specs.Tree.{Text}
+use Rattle.fluent_meaning.specs.Value.{Value}
+use Rattle.fluent_meaning.specs.Arguments.{Map}
+use Rattle.fluent_values.specs.View.{value_view}
+use Rattle.fluent_values.specs.declared.types.value.FluentValue.{FluentValue}
+use Rattle.fluent_values.specs.declared.args.ArgsIter.{ArgsIter}
+use Rattle.fluent_values.specs.declared.args.ArgsIntoIter.{ArgsIntoIter}
+
+-- a name with its value, by content
+abbrev pub pair_view : {C : Type 0} → (C → Text) → CowStr Global × FluentValue C → Text × Value Text
+pair_view content p = (cow_str_bytes p.0, value_view content p.1)
+
+-- what an iterator has left to give
+abbrev pub shown_left : {C : Type 0} → (C → Text) → ArgsIter C → Map (Value Text)
+shown_left content s = map (pair_view content) s.inner
+
+abbrev pub given_left : {C : Type 0} → (C → Text) → ArgsIntoIter C → Map (Value Text)
+given_left content s = map (pair_view content) s.inner

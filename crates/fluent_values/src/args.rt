@@ -1,0 +1,157 @@
+//! The arguments of a formatting call.
+ghost use Rattle.std.specs.Prelude.{◌≡◌, [], None, List, map, IfOk, IsOk, OnOk, OnErr};
+ghost use Rattle.std.specs.Option.{option_map};
+ghost use Rattle.std.specs.Cow.{cow_str_bytes};
+ghost use Rattle.std.specs.Iterator.{IsFinite, Drains};
+ghost use Rattle.fluent_meaning.specs.Arguments as fin;
+ghost use Rattle.fluent_values.specs.View.{value_view, named};
+ghost use Rattle.fluent_values.specs.Args.{pair_view, shown_left};
+
+use crate::types::{FluentType, FluentValue};
+use std::alloc::{AllocError, Global};
+use std::borrow::CowStr;
+use std::collections::{BTreeMap, btree_map};
+
+/// The values of variables: a map from name to value.
+#[derive(Drop)]
+pub struct FluentArgs<'a, C> {
+    entries: BTreeMap<CowStr<'a>, FluentValue<'a, C>>,
+}
+
+impl<'a, C: FluentType> FluentArgs<'a, C> {
+    /// Makes a map with no names in it. It keeps the allocator and takes no memory yet.
+    pub fn new(alloc: Global) -> FluentArgs<'a, C>
+        ensures { named C.content result ≡ [] }
+    {
+        FluentArgs {
+            entries: BTreeMap::new(alloc),
+        }
+    }
+
+    /// Makes a map with no names in it, of which about so many are expected. It takes no memory yet.
+    ///
+    /// # Errors
+    ///
+    /// None today.
+    pub fn with_capacity(alloc: Global, _capacity: usize) -> Result<FluentArgs<'a, C>, AllocError>
+        ensures empty { IfOk result (λ args. named C.content args ≡ []) }
+        ensures succeeds { IsOk result }
+    {
+        Ok(FluentArgs::new(alloc))
+    }
+
+    /// Makes a map of the pairs of an iterator that ends. The last value of a name stands.
+    ///
+    /// # Errors
+    ///
+    /// Memory was refused.
+    pub fn try_from_iter<I: Iterator<Item = (CowStr<'a>, FluentValue<'a, C>)>>(
+        alloc: Global,
+        pairs: I,
+    ) -> Result<FluentArgs<'a, C>, AllocError>
+        requires can { I.can_next pairs }
+        requires ends { IsFinite (I.remaining pairs) }
+        ensures { IfOk result (λ args. (given : List _) × Drains I.next_gives pairs given × (named C.content args ≡ fin.set_all (map (pair_view C.content) given) [])) }
+    {
+        let mut args = FluentArgs::new(alloc);
+        for (name, value) in pairs {
+            args.set(name, value)?;
+        }
+        Ok(args)
+    }
+
+    /// The value of a name, or `None` where it has none. Takes no memory.
+    pub fn get(&self, name: &str) -> Option<&FluentValue<'a, C>>
+        ensures { option_map (λ v. value_view C.content v.now) result ≡ fin.get name.now (named C.content self.now) }
+    {
+        self.entries.get(name)
+    }
+
+    /// Gives the name the value, in place of one that it had.
+    ///
+    /// # Errors
+    ///
+    /// Memory was refused, which only a new name can meet: the arguments are as before, and the pair is
+    /// dropped.
+    pub fn set(&mut self, name: CowStr<'a>, value: FluentValue<'a, C>) -> Result<(), AllocError>
+        ensures ok { OnOk result (named C.content self.new ≡ fin.set (cow_str_bytes name.entry) (value_view C.content value.entry) (named C.content self.old)) }
+        ensures err { OnErr result (named C.content self.new ≡ named C.content self.old) }
+        ensures new_name { OnErr result (fin.get (cow_str_bytes name.entry) (named C.content self.old) ≡ None) }
+    {
+        self.entries.insert(name, value)?;
+        Ok(())
+    }
+
+    /// The names with their values, each name once, in the order of their bytes. Takes no memory.
+    pub fn iter(&self) -> ArgsIter<'_, 'a, C>
+        ensures { shown_left C.content result ≡ named C.content self.now }
+    {
+        ArgsIter {
+            inner: self.entries.iter(),
+        }
+    }
+}
+
+/// The names of arguments with their values, lent in the order of the names' bytes.
+#[derive(Drop)]
+pub struct ArgsIter<'x, 'a, C> {
+    inner: btree_map::Iter<'x, CowStr<'a>, FluentValue<'a, C>>,
+}
+
+impl<'x, 'a, C: FluentType> Iterator for ArgsIter<'x, 'a, C> {
+    type Item = (&'x str, &'x FluentValue<'a, C>);
+
+    ghost use Rattle.std.specs.Iterator.{YieldsFirstBy, item_count};
+    ghost use Rattle.fluent_values.specs.View.{value_view};
+    ghost use Rattle.fluent_values.specs.Args.{shown_left};
+
+    ghost next_gives = { YieldsFirstBy (λ p. (p.0.now, value_view C.content p.1.now)) (shown_left C.content) };
+
+    ghost remaining = { item_count (shown_left C.content) };
+
+    fn next(&mut self) -> Option<(&'x str, &'x FluentValue<'a, C>)> {
+        match self.inner.next() {
+            Some((name, value)) => Some((name.as_str(), value)),
+            None => None,
+        }
+    }
+}
+
+impl<'a, C: FluentType> IntoIterator for FluentArgs<'a, C> {
+    type Item = (CowStr<'a>, FluentValue<'a, C>);
+
+    type IntoIter = ArgsIntoIter<'a, C>;
+
+    ghost use Rattle.std.specs.Prelude.{◌≡◌};
+    ghost use Rattle.fluent_values.specs.View.{named};
+    ghost use Rattle.fluent_values.specs.Args.{given_left};
+
+    ghost into_iter_gives = { λ args result. given_left C.content result ≡ named C.content args };
+
+    fn into_iter(self) -> ArgsIntoIter<'a, C> {
+        ArgsIntoIter {
+            inner: self.entries.into_iter(),
+        }
+    }
+}
+
+/// The names of arguments with their values, given away in the order of the names' bytes.
+#[derive(Drop)]
+pub struct ArgsIntoIter<'a, C> {
+    inner: btree_map::IntoIter<CowStr<'a>, FluentValue<'a, C>>,
+}
+
+impl<'a, C: FluentType> Iterator for ArgsIntoIter<'a, C> {
+    type Item = (CowStr<'a>, FluentValue<'a, C>);
+
+    ghost use Rattle.std.specs.Iterator.{YieldsFirstBy, item_count};
+    ghost use Rattle.fluent_values.specs.Args.{pair_view, given_left};
+
+    ghost next_gives = { YieldsFirstBy (pair_view C.content) (given_left C.content) };
+
+    ghost remaining = { item_count (given_left C.content) };
+
+    fn next(&mut self) -> Option<(CowStr<'a>, FluentValue<'a, C>)> {
+        self.inner.next()
+    }
+}

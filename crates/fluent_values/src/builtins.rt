@@ -1,0 +1,32 @@
+//! The functions that a bundle can have built in.
+ghost use Rattle.std.specs.Prelude.{◌≡◌, map, IfOk};
+ghost use Rattle.fluent_meaning.specs.Arguments.{number_function};
+ghost use Rattle.fluent_values.specs.View.{value_view, named};
+
+use crate::args::FluentArgs;
+use crate::types::{FluentType, FluentValue, MergeArgs};
+use std::alloc::{AllocError, Global};
+
+/// The first positional value, if it is a number, with its options merged with the named arguments. Otherwise
+/// `FluentValue::Error`.
+///
+/// # Errors
+///
+/// Memory was refused.
+#[allow(non_snake_case)]
+pub fn NUMBER<'a, C: FluentType>(
+    alloc: Global,
+    positional: &[FluentValue<'a, C>],
+    arguments: &FluentArgs<'a, C>,
+) -> Result<FluentValue<'a, C>, AllocError>
+    ensures { IfOk result (λ v. value_view C.content v ≡ number_function (map (value_view C.content) positional.now) (named C.content arguments.now)) }
+{
+    match positional.first() {
+        Some(FluentValue::Number(number)) => {
+            let mut number = number.try_clone(alloc)?;
+            number.options.merge(alloc, arguments)?;
+            Ok(FluentValue::Number(number))
+        }
+        _ => Ok(FluentValue::Error),
+    }
+}

@@ -1,0 +1,102 @@
+//! A function kept beside the fact of what it answers.
+ghost use Rattle.std.specs.Prelude.{◌≡◌, List, Ok, map, IfOk};
+ghost use Rattle.fluent_syntax.specs.Tree.{Text};
+ghost use Rattle.fluent_meaning.specs.Value.{Value};
+ghost use Rattle.fluent_meaning.specs.Arguments.{Map};
+ghost use Rattle.fluent_values.specs.View.{value_view, named};
+
+use crate::args::FluentArgs;
+use crate::function::FluentFunction;
+use crate::types::{FluentType, FluentValue};
+use std::alloc::{AllocError, Global};
+use std::marker::{Model, PhantomData};
+
+/// What a function answers: a type that names a rule, and has no calls.
+pub trait AnswerRule<C: FluentType> {
+    /// The answer to positional and named arguments, by their content.
+    ghost answer: { List (Value Text) → Map (Value Text) → Value Text };
+}
+
+/// What answers by a rule where it is ready. Each function of the shape of [`FluentFunction::call`] is one.
+pub trait Answering<C: FluentType, N: AnswerRule<C>> {
+    /// It may be called on all arguments, and answers by the rule.
+    ghost ready: { Self → Type 0 };
+
+    /// Answers by the rule.
+    ///
+    /// # Errors
+    ///
+    /// Memory was refused.
+    fn reply<'a>(
+        &self,
+        alloc: Global,
+        positional: &[FluentValue<'a, C>],
+        arguments: &FluentArgs<'a, C>,
+    ) -> Result<FluentValue<'a, C>, AllocError>
+        requires { ready self.now }
+        ensures { IfOk result (λ v. value_view C.content v ≡ N.answer (map (value_view C.content) positional.now) (named C.content arguments.now)) };
+}
+
+impl<C: FluentType, K, N: AnswerRule<C>> Answering<C, N> for K
+where
+    K: for<'a> Fn(
+        Global,
+        &[FluentValue<'a, C>],
+        &FluentArgs<'a, C>,
+    ) -> Result<FluentValue<'a, C>, AllocError>,
+{
+    ghost ready = { λ f. K.IsAlwaysCallable f × ((alloc : _) (positional : _) (arguments : _) (v : _) → K.post f alloc positional arguments (Ok v) → value_view C.content v ≡ N.answer (map (value_view C.content) positional.now) (named C.content arguments.now)) };
+
+    fn reply<'a>(
+        &self,
+        alloc: Global,
+        positional: &[FluentValue<'a, C>],
+        arguments: &FluentArgs<'a, C>,
+    ) -> Result<FluentValue<'a, C>, AllocError> {
+        self(alloc, positional, arguments)
+    }
+}
+
+/// A function of the application with the fact that it may be called on all arguments and answers by the rule
+/// that `N` names.
+#[derive(Drop)]
+pub struct FunctionOf<C: FluentType, K: Answering<C, N>, N: AnswerRule<C>> {
+    closure: K,
+    rule: PhantomData<(C, N)>,
+}
+
+impl<C: FluentType, K: Answering<C, N>, N: AnswerRule<C>> Model for FunctionOf<C, K, N> {
+    ghost Value = { K };
+
+    ghost view = { λ f. f.closure };
+
+    ghost invariant = { λ f. K.ready f.closure };
+}
+
+impl<C: FluentType, K: Answering<C, N>, N: AnswerRule<C>> FunctionOf<C, K, N> {
+    /// Keeps a function. Whoever makes one shows that the function answers by the rule; nobody who calls it
+    /// has to.
+    pub fn new(closure: K) -> Self
+        requires { K.ready closure }
+        ensures { result ≡ closure }
+    {
+        FunctionOf {
+            closure,
+            rule: PhantomData,
+        }
+    }
+}
+
+impl<C: FluentType, K: Answering<C, N> + Drop, N: AnswerRule<C>> FluentFunction<C>
+    for FunctionOf<C, K, N> {
+    ghost answer = { λ _. N.answer };
+
+    fn call<'a>(
+        &self,
+        alloc: Global,
+        positional: &[FluentValue<'a, C>],
+        arguments: &FluentArgs<'a, C>,
+    ) -> Result<FluentValue<'a, C>, AllocError> {
+        self.closure.reply(alloc, positional, arguments)
+    }
+}

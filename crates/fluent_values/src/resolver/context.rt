@@ -1,0 +1,54 @@
+//! What resolving a pattern asks of a bundle.
+
+ghost use Rattle.std.specs.Prelude.{◌≡◌, IfOk, IsOk, IsTrue, Bool};
+ghost use Rattle.std.specs.Cow.{cow_str_bytes};
+ghost use Rattle.fluent_syntax.specs.Tree.{Text};
+ghost use Rattle.fluent_meaning.specs.Bundle.{Bundle, shown};
+ghost use Rattle.fluent_meaning.specs.Value.{matches};
+ghost use Rattle.fluent_values.specs.View.{value_view};
+
+use crate::types::{FluentType, FluentValue};
+use std::alloc::{AllocError, Global};
+use std::borrow::CowStr;
+
+/// A bundle, as far as resolving a pattern asks it, whatever its plural source, functions, formatter and transform
+/// are.
+pub trait Context<C: FluentType> {
+    /// The bundle that it is, by content.
+    ghost meant: { Self → Bundle Text };
+
+    /// Whether it changes no text.
+    ghost is_plain: { Self → Bool };
+
+    /// The allocator of the bundle.
+    fn allocator(&self) -> Global;
+
+    /// How many placeables one formatting call opens.
+    fn placeable_limit(&self) -> u32
+        ensures { result ≡ (meant self.now).limit };
+
+    /// Whether placeables are written between U+2068 and U+2069.
+    fn uses_isolating(&self) -> bool
+        ensures { result ≡ (meant self.now).isolates };
+
+    /// What a text element is written as.
+    ///
+    /// # Errors
+    ///
+    /// Memory was refused.
+    fn change<'t>(&self, text: &'t str) -> Result<CowStr<'t>, AllocError>
+        ensures text { IfOk result (λ changed. cow_str_bytes changed ≡ (meant self.now).transform text.now) }
+        ensures succeeds { IsTrue (is_plain self.now) → IsOk result };
+
+    /// What a value is shown as: the formatter's answer, where there is one, else its own text.
+    ///
+    /// # Errors
+    ///
+    /// Memory was refused.
+    fn show<'t>(&self, value: &'t FluentValue<'_, C>) -> Result<CowStr<'t>, AllocError>
+        ensures { IfOk result (λ text. cow_str_bytes text ≡ shown (meant self.now) (value_view C.content value.now)) };
+
+    /// Whether a value matches another, as a variant's key a selector.
+    fn matches(&self, value: &FluentValue<'_, C>, other: &FluentValue<'_, C>) -> bool
+        ensures { result ≡ matches (meant self.now).plurals (value_view C.content value.now) (value_view C.content other.now) };
+}

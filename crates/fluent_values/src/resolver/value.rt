@@ -1,0 +1,94 @@
+//! How values are shown, and which they match.
+
+ghost use Rattle.std.specs.Prelude.{◌≡◌, IfOk};
+ghost use Rattle.std.specs.Cow.{cow_str_bytes};
+ghost use Rattle.fluent_meaning.specs.Bundle.{shown};
+ghost use Rattle.fluent_meaning.specs.Value.{matches};
+ghost use Rattle.fluent_values.specs.View.{value_view};
+ghost use Rattle.fluent_values.specs.Written.{sink, writer, Took};
+
+use super::context::Context;
+use super::output::{Output, put_text};
+use super::scope::Scope;
+use crate::types::{FluentType, FluentValue};
+use fluent_syntax::{Counting, WriteFault};
+use std::alloc::AllocError;
+use std::borrow::CowStr;
+use std::io::Write;
+
+/// Writes what a value is shown as.
+pub fn put_value<W: Write, C: FluentType, B: Context<C>>(
+    bundle: &B,
+    out: &mut Output<W>,
+    value: &FluentValue<'_, C>,
+) -> Result<(), WriteFault>
+    ensures { Took result (shown (B.meant bundle.now) (value_view C.content value.now)) (sink W.contents out.old) (sink W.contents out.new) }
+{
+    let text = bundle.show(value)?;
+    put_text(out, &text)
+}
+
+impl<'v, C: FluentType> FluentValue<'v, C> {
+    /// Whether the value matches another, as the key of a variant a selector: equal texts, equal numbers, or the
+    /// word of a plural category and a number of that category. Takes no memory.
+    pub fn matches<B: Context<C>>(
+        &self,
+        other: &FluentValue<'_, C>,
+        scope: &Scope<'_, '_, '_, C, B>,
+    ) -> bool
+        ensures { result ≡ matches (B.meant scope.now.bundle.now).plurals (value_view C.content self.now) (value_view C.content other.now) }
+    {
+        scope.bundle.matches(self, other)
+    }
+
+    /// Writes what the value is shown as: the formatter's answer, where there is one, else its own text.
+    ///
+    /// # Errors
+    ///
+    /// `Writer` where a write failed, `Zero` where a write of a nonempty piece took no byte, `Memory` where memory
+    /// was refused. Then what was written begins the text.
+    pub fn write<W: Write, B: Context<C>>(
+        &self,
+        w: &mut Counting<W>,
+        scope: &Scope<'_, '_, '_, C, B>,
+    ) -> Result<(), WriteFault>
+        ensures { Took result (shown (B.meant scope.now.bundle.now) (value_view C.content self.now)) (writer W.contents w.old) (writer W.contents w.new) }
+    {
+        let mut unused = String::new(scope.bundle.allocator());
+        let mut out = Output {
+            writer: w,
+            buffer: &mut unused,
+            is_buffered: false,
+        };
+        put_value(scope.bundle, &mut out, self)
+    }
+
+    /// What the value is shown as: the formatter's answer, where there is one, else its own text.
+    ///
+    /// # Errors
+    ///
+    /// Memory was refused.
+    pub fn as_string<B: Context<C>>(
+        &self,
+        scope: &Scope<'_, '_, '_, C, B>,
+    ) -> Result<CowStr<'v>, AllocError>
+        ensures { IfOk result (λ text. cow_str_bytes text ≡ shown (B.meant scope.now.bundle.now) (value_view C.content self.now)) }
+    {
+        let text = scope.bundle.show(self)?;
+        Ok(CowStr::Owned(text.into_owned(scope.bundle.allocator())?))
+    }
+
+    /// The same, of a value that is not wanted any more.
+    ///
+    /// # Errors
+    ///
+    /// Memory was refused.
+    pub fn into_string<B: Context<C>>(
+        self,
+        scope: &Scope<'_, '_, '_, C, B>,
+    ) -> Result<CowStr<'v>, AllocError>
+        ensures { IfOk result (λ text. cow_str_bytes text ≡ shown (B.meant scope.now.bundle.now) (value_view C.content self.entry)) }
+    {
+        self.as_string(scope)
+    }
+}
