@@ -3,5 +3,6 @@ mod args;
 mod calls;
 mod errors;
 mod function;
+mod refused;
 mod resolver;
 mod values;

@@ -15,6 +15,49 @@ fn text(alloc: Global, bytes: &str) -> Result<String, AllocError> {
     String::from_str(alloc, bytes)
 }
 
+/// The expression in the first entry, a message of one placeable.
+fn expression_of<'x, 's>(resource: &'x FluentResource<'s>) -> Option<&'x InlineExpression<'s>> {
+    let Entry::Message(message) = resource.get_entry(0)? else {
+        return None;
+    };
+    match message.value.as_ref()?.elements.first()? {
+        PatternElement::Placeable {
+            expression: Expression::Inline(expression),
+        } => Some(expression),
+        _ => None,
+    }
+}
+
+/// The error of the reference that a message of one placeable holds; no text where it holds none.
+fn lost(rt: &impl Abort, alloc: Global, source: &str, expected: &str) -> Result<(), Fail> {
+    let Ok(resource) = FluentResource::try_new(alloc, source) else {
+        return Err("not read".into());
+    };
+    let expression = expression_of(&resource).ok_or("no expression")?;
+    match ResolverError::of(alloc, expression)? {
+        Some(error) => assert_eq!(rt; error.to_string(alloc)?.as_str(), expected),
+        None => assert_eq!(rt; expected, ""),
+    }
+    Ok(())
+}
+
+#[test]
+fn references_have_their_errors(rt: HostRuntime) -> Result<(), Fail> {
+    for (source, expected) in [
+        ("a = { b }", "Unknown message: b"),
+        ("a = { b.c }", "Unknown attribute: b.c"),
+        ("a = { -b }", "Unknown term: -b"),
+        ("a = { F(1) }", "Unknown function: F()"),
+        ("a = { $b }", "Unknown variable: $b"),
+        ("a = { \"b\" }", ""),
+        ("a = { 1 }", ""),
+        ("a = { { $b } }", ""),
+    ] {
+        lost(&rt, rt.alloc(), source, expected)?;
+    }
+    Ok(())
+}
+
 /// The text of a report; a copy of it is equal.
 fn reported(
     rt: &impl Abort,

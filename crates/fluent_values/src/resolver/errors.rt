@@ -1,7 +1,11 @@
 //! What goes wrong where a pattern is resolved.
 ghost use Rattle.std.specs.Prelude.{◌≡◌, IfOk, string_bytes};
+ghost use Rattle.std.specs.Option.{option_map};
+ghost use Rattle.fluent_syntax.specs.View.{inline_view, attribute_of};
+ghost use Rattle.fluent_meaning.specs.Errors.{reference_of, lost};
 ghost use Rattle.fluent_values.specs.View.{attribute_name, reference_view, resolver_error_view};
 
+use fluent_syntax::ast::{Identifier, InlineExpression};
 use std::alloc::{AllocError, Global};
 use std::fmt;
 
@@ -41,7 +45,53 @@ fn copy_of_name(alloc: Global, name: &Option<String>) -> Result<Option<String>, 
     }
 }
 
+/// The name of an attribute that an expression refers to, where it does.
+fn name_of(alloc: Global, attribute: &Option<Identifier<'_>>) -> Result<Option<String>, AllocError>
+    ensures { IfOk result (λ name. attribute_name name ≡ attribute_of attribute.now) }
+{
+    match attribute {
+        Some(attribute) => Ok(Some(String::from_str(alloc, attribute.name)?)),
+        None => Ok(None),
+    }
+}
+
 impl ReferenceKind {
+    /// What an expression refers to; `None` where it is no reference.
+    ///
+    /// # Errors
+    ///
+    /// Memory was refused.
+    pub fn of(
+        alloc: Global,
+        expression: &InlineExpression<'_>,
+    ) -> Result<Option<ReferenceKind>, AllocError>
+        ensures { IfOk result (λ found. option_map reference_view found ≡ reference_of (inline_view expression.now)) }
+    {
+        match expression {
+            InlineExpression::FunctionReference { id, .. } => Ok(Some(ReferenceKind::Function {
+                id: String::from_str(alloc, id.name)?,
+            })),
+            InlineExpression::MessageReference { id, attribute } => {
+                Ok(Some(ReferenceKind::Message {
+                    id: String::from_str(alloc, id.name)?,
+                    attribute: name_of(alloc, attribute)?,
+                }))
+            }
+            InlineExpression::TermReference { id, attribute, .. } => Ok(Some(
+                ReferenceKind::Term {
+                    id: String::from_str(alloc, id.name)?,
+                    attribute: name_of(alloc, attribute)?,
+                },
+            )),
+            InlineExpression::VariableReference { id } => Ok(Some(ReferenceKind::Variable {
+                id: String::from_str(alloc, id.name)?,
+            })),
+            InlineExpression::StringLiteral { .. } => Ok(None),
+            InlineExpression::NumberLiteral { .. } => Ok(None),
+            InlineExpression::Placeable { .. } => Ok(None),
+        }
+    }
+
     /// Makes a copy with the same content.
     ///
     /// # Errors
@@ -85,6 +135,23 @@ pub enum ResolverError {
 }
 
 impl ResolverError {
+    /// The error of a reference that could not be resolved; `None` where the expression is no reference.
+    ///
+    /// # Errors
+    ///
+    /// Memory was refused.
+    pub fn of(
+        alloc: Global,
+        expression: &InlineExpression<'_>,
+    ) -> Result<Option<ResolverError>, AllocError>
+        ensures { IfOk result (λ found. option_map resolver_error_view found ≡ option_map lost (reference_of (inline_view expression.now))) }
+    {
+        match ReferenceKind::of(alloc, expression)? {
+            Some(reference) => Ok(Some(ResolverError::Reference(reference))),
+            None => Ok(None),
+        }
+    }
+
     /// Makes a copy with the same content.
     ///
     /// # Errors
