@@ -1,8 +1,8 @@
 //! Calls on a bundle as values, so that what a list of them makes can be said.
-ghost use Rattle.std.specs.Prelude.{◌≡◌, OnOk, OnErr, map};
+ghost use Rattle.std.specs.Prelude.{◌≡◌, OnOk, OnErr, IsOk, map};
 ghost use Rattle.fluent_meaning.specs.Bundle.{after, after_all};
 ghost use Rattle.fluent_bundle.specs.BundleView.{meant, BegunBy};
-ghost use Rattle.fluent_bundle.specs.Calls.{asked};
+ghost use Rattle.fluent_bundle.specs.Calls.{asked, SetsIsolation};
 
 use crate::bundle::{AddFault, FluentBundle};
 use crate::resource::FluentResource;
@@ -33,11 +33,12 @@ impl<
     ///
     /// # Errors
     ///
-    /// Memory was refused: the bundle is as before.
+    /// Memory was refused, which setting the isolation can't meet: the bundle is as before.
     pub fn make(&mut self, call: &Call<'r, 's>) -> Result<(), AllocError>
         ensures ok { let of = meant M.category C.shown C.alike F.answer G.formatted T.changed in OnOk result (of self.new ≡ after (asked call.now) (of self.old)) }
         ensures err { let of = meant M.category C.shown C.alike F.answer G.formatted T.changed in OnErr result (of self.new ≡ of self.old) }
         ensures locales { self.new.locales ≡ self.old.locales }
+        ensures succeeds { SetsIsolation call.now → IsOk result }
     {
         let added = match call {
             Call::AddResource(resource) => self.add_resource(*resource),

@@ -5,3 +5,4 @@ pub mod Merging
 pub mod Ended
 pub mod ScopeView
 pub mod Written
+pub mod Free

@@ -1,7 +1,8 @@
 //! The functions that a bundle can have built in.
-ghost use Rattle.std.specs.Prelude.{◌≡◌, map, IfOk};
+ghost use Rattle.std.specs.Prelude.{◌≡◌, map, IfOk, OnErr};
 ghost use Rattle.fluent_meaning.specs.Arguments.{number_function};
 ghost use Rattle.fluent_values.specs.View.{value_view, named};
+ghost use Rattle.fluent_values.specs.Free.{AsksForCurrency};
 
 use crate::args::FluentArgs;
 use crate::types::{FluentType, FluentValue, MergeArgs};
@@ -12,14 +13,15 @@ use std::alloc::{AllocError, Global};
 ///
 /// # Errors
 ///
-/// Memory was refused.
+/// Memory was refused, which only a currency can meet, of the number or of the arguments.
 #[allow(non_snake_case)]
 pub fn NUMBER<'a, C: FluentType>(
     alloc: Global,
     positional: &[FluentValue<'a, C>],
     arguments: &FluentArgs<'a, C>,
 ) -> Result<FluentValue<'a, C>, AllocError>
-    ensures { IfOk result (λ v. value_view C.content v ≡ number_function (map (value_view C.content) positional.now) (named C.content arguments.now)) }
+    ensures same { IfOk result (λ v. value_view C.content v ≡ number_function (map (value_view C.content) positional.now) (named C.content arguments.now)) }
+    ensures memory { OnErr result (AsksForCurrency (map (value_view C.content) positional.now) (named C.content arguments.now)) }
 {
     match positional.first() {
         Some(FluentValue::Number(number)) => {

@@ -1,6 +1,7 @@
 //! What is reported beside a text or an added resource.
-ghost use Rattle.std.specs.Prelude.{◌≡◌, IfOk};
+ghost use Rattle.std.specs.Prelude.{◌≡◌, IfOk, IsOk};
 ghost use Rattle.fluent_values.specs.View.{error_view};
+ghost use Rattle.fluent_values.specs.Free.{HasNoText};
 
 use crate::resolver::errors::{ResolverError, copy_of};
 use fluent_syntax::ParserError;
@@ -49,9 +50,10 @@ impl FluentError {
     ///
     /// # Errors
     ///
-    /// Memory was refused.
+    /// Memory was refused, which only an error with a text can meet.
     pub fn try_clone(&self, alloc: Global) -> Result<FluentError, AllocError>
-        ensures { IfOk result (λ copy. error_view copy ≡ error_view self.now) }
+        ensures same { IfOk result (λ copy. error_view copy ≡ error_view self.now) }
+        ensures succeeds { HasNoText self.now → IsOk result }
     {
         match self {
             FluentError::Overriding { kind, id } => Ok(FluentError::Overriding {

@@ -1,9 +1,10 @@
 //! What goes wrong where a pattern is resolved.
-ghost use Rattle.std.specs.Prelude.{◌≡◌, IfOk, string_bytes};
+ghost use Rattle.std.specs.Prelude.{◌≡◌, IfOk, IsOk, None, string_bytes};
 ghost use Rattle.std.specs.Option.{option_map};
 ghost use Rattle.fluent_syntax.specs.View.{inline_view, attribute_of};
 ghost use Rattle.fluent_meaning.specs.Errors.{reference_of, lost};
 ghost use Rattle.fluent_values.specs.View.{attribute_name, reference_view, resolver_error_view};
+ghost use Rattle.fluent_values.specs.Free.{NamesNothing};
 
 use fluent_syntax::ast::{Identifier, InlineExpression};
 use std::alloc::{AllocError, Global};
@@ -60,12 +61,13 @@ impl ReferenceKind {
     ///
     /// # Errors
     ///
-    /// Memory was refused.
+    /// Memory was refused, which only a reference can meet.
     pub fn of(
         alloc: Global,
         expression: &InlineExpression<'_>,
     ) -> Result<Option<ReferenceKind>, AllocError>
-        ensures { IfOk result (λ found. option_map reference_view found ≡ reference_of (inline_view expression.now)) }
+        ensures found { IfOk result (λ found. option_map reference_view found ≡ reference_of (inline_view expression.now)) }
+        ensures succeeds { reference_of (inline_view expression.now) ≡ None → IsOk result }
     {
         match expression {
             InlineExpression::FunctionReference { id, .. } => Ok(Some(ReferenceKind::Function {
@@ -139,12 +141,13 @@ impl ResolverError {
     ///
     /// # Errors
     ///
-    /// Memory was refused.
+    /// Memory was refused, which only a reference can meet.
     pub fn of(
         alloc: Global,
         expression: &InlineExpression<'_>,
     ) -> Result<Option<ResolverError>, AllocError>
-        ensures { IfOk result (λ found. option_map resolver_error_view found ≡ option_map lost (reference_of (inline_view expression.now))) }
+        ensures found { IfOk result (λ found. option_map resolver_error_view found ≡ option_map lost (reference_of (inline_view expression.now))) }
+        ensures succeeds { reference_of (inline_view expression.now) ≡ None → IsOk result }
     {
         match ReferenceKind::of(alloc, expression)? {
             Some(reference) => Ok(Some(ResolverError::Reference(reference))),
@@ -156,9 +159,10 @@ impl ResolverError {
     ///
     /// # Errors
     ///
-    /// Memory was refused.
+    /// Memory was refused, which only an error with a text can meet.
     pub fn try_clone(&self, alloc: Global) -> Result<ResolverError, AllocError>
-        ensures { IfOk result (λ copy. resolver_error_view copy ≡ resolver_error_view self.now) }
+        ensures same { IfOk result (λ copy. resolver_error_view copy ≡ resolver_error_view self.now) }
+        ensures succeeds { NamesNothing self.now → IsOk result }
     {
         match self {
             ResolverError::Reference(reference) => Ok(ResolverError::Reference(reference.try_clone(

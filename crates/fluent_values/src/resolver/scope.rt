@@ -1,6 +1,6 @@
 //! The state of one formatting call, for those who write values by hand.
 
-ghost use Rattle.std.specs.Prelude.{◌≡◌, ◌↔◌, ◌∷◌, [], OnOk, OnErr, IsTrue, map};
+ghost use Rattle.std.specs.Prelude.{◌≡◌, ◌↔◌, ◌∷◌, [], OnOk, OnErr, IfNone, IsOk, IsTrue, map};
 ghost use Rattle.std.specs.Option.{option_map};
 ghost use Rattle.fluent_meaning.specs.Errors.{resolver_error};
 ghost use Rattle.fluent_meaning.specs.Meaning.{struck, left};
@@ -104,11 +104,12 @@ impl<'errors, 'bundle, 'args, C: FluentType, B: Context<C>> Scope<'errors, 'bund
     ///
     /// # Errors
     ///
-    /// Memory was refused: the list is as before.
+    /// Memory was refused, which only a list can meet: it is as before.
     pub fn add_error(&mut self, error: ResolverError) -> Result<(), AllocError>
         ensures added { OnOk result (errors_of self.new ≡ with_errors (errors_of self.old) (resolver_error (resolver_error_view error) ∷ [])) }
         ensures refused { OnErr result (errors_of self.new ≡ errors_of self.old) }
         ensures kept { SameBut self.old self.new }
+        ensures succeeds { IfNone self.old.errors (IsOk result) }
     {
         match &mut self.errors {
             Some(errors) => {

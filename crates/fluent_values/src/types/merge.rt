@@ -4,6 +4,7 @@ ghost use Rattle.fluent_intl.specs.Options.{Options, options_of, type_named, sty
 ghost use Rattle.fluent_meaning.specs.Arguments as fin;
 ghost use Rattle.fluent_meaning.specs.Number.{is_text};
 ghost use Rattle.fluent_values.specs.View.{named};
+ghost use Rattle.fluent_values.specs.Free.{IsTextGiven};
 ghost use Rattle.fluent_values.specs.Merging.{by_text, by_count, with_argument, with_currency, with_kinds, with_digits};
 
 use crate::args::FluentArgs;
@@ -25,10 +26,11 @@ pub trait MergeArgs<C: FluentType> {
     ///
     /// # Errors
     ///
-    /// Memory was refused: the options are as before.
+    /// Memory was refused, which only a text for `currency` can meet: the options are as before.
     fn merge(&mut self, alloc: Global, args: &FluentArgs<'_, C>) -> Result<(), AllocError>
         ensures ok { OnOk result (options self.new ≡ fin.merge (named C.content args.now) (options self.old)) }
-        ensures err { OnErr result (options self.new ≡ options self.old) };
+        ensures err { OnErr result (options self.new ≡ options self.old) }
+        ensures memory { OnErr result (IsTextGiven (fin.get (codes "currency") (named C.content args.now))) };
 }
 
 impl<C: FluentType> MergeArgs<C> for FluentNumberOptions {
@@ -50,6 +52,7 @@ fn merge_currency<C: FluentType>(
 ) -> Result<(), AllocError>
     ensures ok { OnOk result (options_of options.new ≡ with_currency (named C.content args.now) (options_of options.old)) }
     ensures err { OnErr result (options.new ≡ options.old) }
+    ensures memory { OnErr result (IsTextGiven (fin.get (codes "currency") (named C.content args.now))) }
 {
     match args.get("currency") {
         Some(FluentValue::String(code)) => {

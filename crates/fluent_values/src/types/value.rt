@@ -1,7 +1,8 @@
 //! Values.
-ghost use Rattle.std.specs.Prelude.{◌≡◌, IfOk};
+ghost use Rattle.std.specs.Prelude.{◌≡◌, IfOk, IsOk};
 ghost use Rattle.fluent_meaning.specs.Value as meaning;
 ghost use Rattle.fluent_values.specs.View.{value_view};
+ghost use Rattle.fluent_values.specs.Free.{IsLent, IsTextless};
 
 use crate::types::FluentType;
 use fluent_intl::FluentNumber;
@@ -54,9 +55,10 @@ impl<'s, C: FluentType> FluentValue<'s, C> {
     ///
     /// # Errors
     ///
-    /// Memory was refused.
+    /// Memory was refused, which only a text of its own, a currency or a custom value can meet.
     pub fn try_clone(&self, alloc: Global) -> Result<FluentValue<'s, C>, AllocError>
-        ensures { IfOk result (λ copy. value_view C.content copy ≡ value_view C.content self.now) }
+        ensures same { IfOk result (λ copy. value_view C.content copy ≡ value_view C.content self.now) }
+        ensures succeeds { IsLent self.now → IsOk result }
     {
         match self {
             FluentValue::String(CowStr::Borrowed(text)) => {
@@ -70,9 +72,10 @@ impl<'s, C: FluentType> FluentValue<'s, C> {
     ///
     /// # Errors
     ///
-    /// Memory was refused.
+    /// Memory was refused, which only a text, a currency or a custom value can meet.
     pub fn into_owned<'b>(&self, alloc: Global) -> Result<FluentValue<'b, C>, AllocError>
-        ensures { IfOk result (λ copy. value_view C.content copy ≡ value_view C.content self.now) }
+        ensures same { IfOk result (λ copy. value_view C.content copy ≡ value_view C.content self.now) }
+        ensures succeeds { IsTextless self.now → IsOk result }
     {
         match self {
             FluentValue::String(text) => {

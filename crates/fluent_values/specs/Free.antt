@@ -1,0 +1,51 @@
+-- What takes no memory, so that it can't be refused.
+use Rattle.std.specs.Prelude.{◌≡◌, ⊤, List, ◌∷◌, Option, Some, None, codes}
+use Rattle.std.specs.declared.borrow.CowStr.TheVariants as text
+use Rattle.fluent_syntax.specs.Tree.{Text}
+use Rattle.fluent_meaning.specs.Value.{Value, text_value, number_value}
+use Rattle.fluent_meaning.specs.Arguments.{Map, get}
+use Rattle.fluent_values.specs.declared.types.value.FluentValue.{FluentValue}
+use Rattle.fluent_values.specs.declared.types.value.FluentValue.TheVariants as values
+use Rattle.fluent_values.specs.declared.errors.FluentError.{FluentError}
+use Rattle.fluent_values.specs.declared.errors.FluentError.TheVariants as errors
+use Rattle.fluent_values.specs.declared.resolver.errors.ResolverError.{ResolverError}
+use Rattle.fluent_values.specs.declared.resolver.errors.ResolverError.TheVariants as resolving
+
+-- a value with no text of its own: a number without a currency, none or error
+abbrev pub IsTextless : {C : Type 0} → FluentValue C → Type 0
+IsTextless (values.Number n) = n.options.currency ≡ None
+IsTextless values.None = ⊤
+IsTextless values.Error = ⊤
+IsTextless _ = ⊥
+
+-- the same, or a text that is borrowed
+abbrev pub IsLent : {C : Type 0} → FluentValue C → Type 0
+IsLent (values.String (text.Borrowed t)) = ⊤
+IsLent v = IsTextless v
+
+-- an error of the resolver that names nothing
+abbrev pub NamesNothing : ResolverError → Type 0
+NamesNothing (resolving.Reference r) = ⊥
+NamesNothing (resolving.NoValue id) = ⊥
+NamesNothing _ = ⊤
+
+-- the same of any error
+abbrev pub HasNoText : FluentError → Type 0
+HasNoText (errors.Overriding kind id) = ⊥
+HasNoText (errors.ParserError p) = ⊤
+HasNoText (errors.ResolverError r) = NamesNothing r
+
+-- an argument that is a text
+abbrev pub IsTextGiven : Option (Value Text) → Type 0
+IsTextGiven (Some (text_value t)) = ⊤
+IsTextGiven _ = ⊥
+
+-- a currency, or one that is given
+abbrev pub HasCurrency : Option Text → Option (Value Text) → Type 0
+HasCurrency (Some code) given = ⊤
+HasCurrency None given = IsTextGiven given
+
+-- NUMBER is asked for a number with a currency
+abbrev pub AsksForCurrency : List (Value Text) → Map (Value Text) → Type 0
+AsksForCurrency (number_value n ∷ vs) named = HasCurrency n.options.currency (get (codes "currency") named)
+AsksForCurrency _ named = ⊥
