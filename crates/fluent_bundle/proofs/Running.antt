@@ -3,12 +3,17 @@ use Rattle.std.specs.Prelude.{◌≡◌, ℕ, List, [], ◌∷◌, ◌++◌, map
 use Rattle.std.proofs.Common.{sym, ◌∙◌, ap, get_or}
 use Rattle.std.proofs.lemmas.List.{map_more, map-append, take-append-drop}
 use Rattle.fluent_meaning.specs.Bundle.{Bundle, Call, after, after_all}
-use Rattle.fluent_bundle.specs.BundleView.{BegunBy}
+use Rattle.fluent_bundle.specs.BundleView.{BegunBy, Kept}
+use Rattle.fluent_bundle.specs.declared.bundle.FluentBundle.{FluentBundle}
 
 -- what holds in any case
 pub on_err : {T E P : Type 0} (r : Result T E) → P → OnErr r P
 on_err (Ok x) p = tt
 on_err (Err e) p = p
+
+-- kept twice
+pub kept_on : {M C F G X : Type 0} (a b c : FluentBundle M C F G X) → Kept a b → Kept b c → Kept a c
+kept_on a b c h k = record { locales = k.locales ∙ h.locales; transform = k.transform ∙ h.transform; formatter = k.formatter ∙ h.formatter }
 
 module _ {C : Type 0} where
   after_one_more : (calls : List (Call C)) (call : Call C) (b : Bundle C) → after_all (calls ++ call ∷ []) b ≡ after call (after_all calls b)

@@ -156,3 +156,9 @@ BegunBy {C = C} calls old new = (made : List (Call C)) × (left : List (Call C))
 -- whether a bundle changes no text
 abbrev pub is_plain : {M C F G X : Type 0} → FluentBundle M C F G X → Bool
 is_plain b = not (is_some b.transform)
+
+-- What a bundle's meaning does not show is as before: its locales, and which transform and formatter it holds.
+pub record Kept {M C F G X : Type 0} (b b' : FluentBundle M C F G X) : Type 0 where
+  pub locales : b'.locales ≡ b.locales
+  pub transform : b'.transform ≡ b.transform
+  pub formatter : b'.formatter ≡ b.formatter

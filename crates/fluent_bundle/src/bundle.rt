@@ -1,10 +1,10 @@
 //! The bundle: messages, terms and functions by id, and its settings.
-ghost use Rattle.std.specs.Prelude.{◌≡◌, map, is_some, IfOk, OnOk, OnErr};
+ghost use Rattle.std.specs.Prelude.{◌≡◌, map, is_some, None, IfOk, OnOk, OnErr};
 ghost use Rattle.std.specs.Option.{option_map};
 ghost use Rattle.fluent_intl.specs.Plurals.{english};
 ghost use Rattle.fluent_meaning.specs.Bundle.{empty_bundle, after, answered, add_resource, add_resource_overriding, add_function, add_builtins, set_use_isolating, set_transform, set_formatter};
 ghost use Rattle.fluent_values.specs.View.{error_view};
-ghost use Rattle.fluent_bundle.specs.BundleView.{meant, entries_of, message_view, message_at, Adds, AreUndetermined};
+ghost use Rattle.fluent_bundle.specs.BundleView.{meant, entries_of, message_view, message_at, Adds, AreUndetermined, Kept};
 ghost use Rattle.fluent_bundle.specs.Adding.{answer_of};
 
 use crate::adding;
@@ -61,6 +61,7 @@ impl<
     /// Makes a bundle with no messages, with isolation on, without transform and formatter. It keeps the allocator and takes no memory yet.
     pub fn new(alloc: Global, locales: Vec<LanguageIdentifier>, intls: M) -> Self
         ensures locales { result.locales ≡ locales }
+        ensures unset { (result.transform ≡ None) × (result.formatter ≡ None) }
         ensures empty { let of = meant M.category C.shown C.alike F.answer G.formatted T.changed in of result ≡ empty_bundle (M.category intls) (record { text = C.shown; same = C.alike }) }
     {
         FluentBundle {
@@ -78,7 +79,7 @@ impl<
     /// Says whether placeables are written between U+2068 and U+2069.
     pub fn set_use_isolating(&mut self, value: bool)
         ensures step { let of = meant M.category C.shown C.alike F.answer G.formatted T.changed in of self.new ≡ after (set_use_isolating value) (of self.old) }
-        ensures locales { self.new.locales ≡ self.old.locales }
+        ensures kept { Kept self.old self.new }
     {
         self.use_isolating = value;
     }
@@ -86,7 +87,8 @@ impl<
     /// Sets what changes text elements; `None` leaves them as they are. The transform that was set is dropped.
     pub fn set_transform(&mut self, transform: Option<T>)
         ensures step { let of = meant M.category C.shown C.alike F.answer G.formatted T.changed in of self.new ≡ after (set_transform (option_map T.changed transform)) (of self.old) }
-        ensures locales { self.new.locales ≡ self.old.locales }
+        ensures set { self.new.transform ≡ transform }
+        ensures kept { (self.new.locales ≡ self.old.locales) × (self.new.formatter ≡ self.old.formatter) }
     {
         self.transform = transform;
     }
@@ -95,7 +97,8 @@ impl<
     /// set is dropped.
     pub fn set_formatter(&mut self, formatter: Option<G>)
         ensures step { let of = meant M.category C.shown C.alike F.answer G.formatted T.changed in of self.new ≡ after (set_formatter (option_map (λ g v. G.formatted g v self.old.intls) formatter)) (of self.old) }
-        ensures locales { self.new.locales ≡ self.old.locales }
+        ensures set { self.new.formatter ≡ formatter }
+        ensures kept { (self.new.locales ≡ self.old.locales) × (self.new.transform ≡ self.old.transform) }
     {
         self.formatter = formatter;
     }
@@ -109,7 +112,7 @@ impl<
     /// `Memory` where memory was refused: the bundle is as before.
     pub fn add_resource(&mut self, resource: &'r FluentResource<'s>) -> Result<(), AddFault>
         ensures step { let of = meant M.category C.shown C.alike F.answer G.formatted T.changed in Adds (of self.old) (add_resource (entries_of resource.now)) (of self.new) result }
-        ensures locales { self.new.locales ≡ self.old.locales }
+        ensures kept { Kept self.old self.new }
     {
         all_added(self.take_resource(resource))
     }
@@ -122,7 +125,7 @@ impl<
         ensures ok { let of = meant M.category C.shown C.alike F.answer G.formatted T.changed in OnOk result (of self.new ≡ after (add_resource (entries_of resource.now)) (of self.old)) }
         ensures errors { let of = meant M.category C.shown C.alike F.answer G.formatted T.changed in IfOk result (λ errors. map error_view errors.items ≡ answered (add_resource (entries_of resource.now)) (of self.old)) }
         ensures err { let of = meant M.category C.shown C.alike F.answer G.formatted T.changed in OnErr result (of self.new ≡ of self.old) }
-        ensures locales { self.new.locales ≡ self.old.locales }
+        ensures kept { Kept self.old self.new }
     {
         let entries = resource.all();
         let errors = look(self.alloc, &self.entries, entries)?;
@@ -143,7 +146,7 @@ impl<
     ) -> Result<(), AllocError>
         ensures ok { let of = meant M.category C.shown C.alike F.answer G.formatted T.changed in OnOk result (of self.new ≡ after (add_resource_overriding (entries_of resource.now)) (of self.old)) }
         ensures err { let of = meant M.category C.shown C.alike F.answer G.formatted T.changed in OnErr result (of self.new ≡ of self.old) }
-        ensures locales { self.new.locales ≡ self.old.locales }
+        ensures kept { Kept self.old self.new }
     {
         let entries = resource.all();
         make_room(&mut self.entries, entries.len())?;
@@ -159,7 +162,7 @@ impl<
     /// before, and the function is dropped.
     pub fn add_function(&mut self, id: &str, function: F) -> Result<(), AddFault>
         ensures step { let of = meant M.category C.shown C.alike F.answer G.formatted T.changed in Adds (of self.old) (add_function id.now (F.answer function)) (of self.new) result }
-        ensures locales { self.new.locales ≡ self.old.locales }
+        ensures kept { Kept self.old self.new }
     {
         all_added(self.take_function(id, function))
     }
@@ -169,7 +172,7 @@ impl<
         ensures ok { let of = meant M.category C.shown C.alike F.answer G.formatted T.changed in OnOk result (of self.new ≡ after (add_function id.now (F.answer function)) (of self.old)) }
         ensures errors { let of = meant M.category C.shown C.alike F.answer G.formatted T.changed in IfOk result (λ errors. map error_view errors.items ≡ answered (add_function id.now (F.answer function)) (of self.old)) }
         ensures err { let of = meant M.category C.shown C.alike F.answer G.formatted T.changed in OnErr result (of self.new ≡ of self.old) }
-        ensures locales { self.new.locales ≡ self.old.locales }
+        ensures kept { Kept self.old self.new }
     {
         let id = CowStr::Owned(String::from_str(self.alloc, id)?);
         adding::add_function(&mut self.entries, self.alloc, id, Entry::Function(function))
@@ -183,7 +186,7 @@ impl<
     /// is as before.
     pub fn add_builtins(&mut self) -> Result<(), AddFault>
         ensures step { let of = meant M.category C.shown C.alike F.answer G.formatted T.changed in Adds (of self.old) add_builtins (of self.new) result }
-        ensures locales { self.new.locales ≡ self.old.locales }
+        ensures kept { Kept self.old self.new }
     {
         let id = CowStr::Borrowed("NUMBER");
         all_added(adding::add_function(&mut self.entries, self.alloc, id, Entry::Number))
@@ -223,6 +226,7 @@ impl<
     pub fn new_default(alloc: Global) -> Result<Self, AllocError>
         ensures empty { IfOk result (λ b. meant (λ _. english) C.shown C.alike F.answer G.formatted T.changed b ≡ empty_bundle english (record { text = C.shown; same = C.alike })) }
         ensures locales { IfOk result (λ b. AreUndetermined b.locales.items) }
+        ensures unset { IfOk result (λ b. (b.transform ≡ None) × (b.formatter ≡ None)) }
     {
         let mut locales = Vec::new(alloc);
         locales.push(LanguageIdentifier::und(alloc))?;

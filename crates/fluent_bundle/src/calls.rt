@@ -1,7 +1,7 @@
 //! Calls on a bundle as values, so that what a list of them makes can be said.
 ghost use Rattle.std.specs.Prelude.{◌≡◌, OnOk, OnErr, IsOk, map};
 ghost use Rattle.fluent_meaning.specs.Bundle.{after, after_all};
-ghost use Rattle.fluent_bundle.specs.BundleView.{meant, BegunBy};
+ghost use Rattle.fluent_bundle.specs.BundleView.{meant, BegunBy, Kept};
 ghost use Rattle.fluent_bundle.specs.Calls.{asked, SetsIsolation};
 
 use crate::bundle::{AddFault, FluentBundle};
@@ -37,7 +37,7 @@ impl<
     pub fn make(&mut self, call: &Call<'r, 's>) -> Result<(), AllocError>
         ensures ok { let of = meant M.category C.shown C.alike F.answer G.formatted T.changed in OnOk result (of self.new ≡ after (asked call.now) (of self.old)) }
         ensures err { let of = meant M.category C.shown C.alike F.answer G.formatted T.changed in OnErr result (of self.new ≡ of self.old) }
-        ensures locales { self.new.locales ≡ self.old.locales }
+        ensures kept { Kept self.old self.new }
         ensures succeeds { SetsIsolation call.now → IsOk result }
     {
         let added = match call {
@@ -65,7 +65,7 @@ impl<
     pub fn make_all(&mut self, calls: &[Call<'r, 's>]) -> Result<(), AllocError>
         ensures ok { let of = meant M.category C.shown C.alike F.answer G.formatted T.changed in OnOk result (of self.new ≡ after_all (map asked calls.now) (of self.old)) }
         ensures err { let of = meant M.category C.shown C.alike F.answer G.formatted T.changed in OnErr result (BegunBy (map asked calls.now) (of self.old) (of self.new)) }
-        ensures locales { self.new.locales ≡ self.old.locales }
+        ensures kept { Kept self.old self.new }
     {
         for call in calls {
             self.make(call)?;

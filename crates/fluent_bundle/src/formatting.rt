@@ -167,6 +167,7 @@ impl<
         ensures text { let b = meant M.category C.shown C.alike F.answer G.formatted T.changed self.now in let means = budgeted b (arguments_view C.content args.entry) (pattern_view pattern.now) in OnOk result (string_bytes text.new ≡ string_bytes text.old ++ means.value) }
         ensures errors { let b = meant M.category C.shown C.alike F.answer G.formatted T.changed self.now in let means = budgeted b (arguments_view C.content args.entry) (pattern_view pattern.now) in OnOk result (AddsAll means.errors errors.old.items errors.new.items) }
         ensures front { let b = meant M.category C.shown C.alike F.answer G.formatted T.changed self.now in let means = budgeted b (arguments_view C.content args.entry) (pattern_view pattern.now) in AddsFront means.errors errors.old.items errors.new.items }
+        ensures fault { Faulted unused.old.failed unused.old.empty unused.new.failed unused.new.empty result }
     {
         let mut out = Output {
             writer: unused,

@@ -1,4 +1,8 @@
 //! Calls of the bundle that are refused memory and made again, to be run with each allocation failing in turn.
+ghost use Rattle.std.specs.Prelude.{◌≡◌, is_some, true, IsTrue};
+ghost use Rattle.fluent_syntax.specs.View.{pattern_view};
+ghost use Rattle.fluent_bundle.specs.Interim.{sole_text};
+
 use fluent_bundle::ast::Pattern;
 use fluent_bundle::{
     Call, FluentBundle, FluentError, FluentMessage, FluentResource, NoCustom, NoFormatter,
@@ -95,5 +99,26 @@ fn a_pattern_with_a_missing_variable(rt: HostRuntime) -> Result<(), Fail> {
     let pattern = FluentMessage::from(message).value().ok_or("no value")?;
     let text = formats(&rt, rt.alloc(), pattern)?;
     assert_eq!(rt; text.as_str(), "Welcome, \u{2068}{$name}\u{2069}.");
+    Ok(())
+}
+
+/// A pattern of one text is formatted by a new bundle, even where no memory is left.
+fn is_formatted(alloc: Global, pattern: &Pattern<'_>) -> bool
+    ensures { is_some (sole_text (pattern_view pattern.now)) ≡ true → IsTrue result }
+{
+    let mut made: Plain<'_, '_> = FluentBundle::new(alloc, Vec::new(alloc), EnglishPlurals);
+    made.set_use_isolating(false);
+    let mut errors = Vec::new(alloc);
+    made.format_pattern(pattern, None, &mut errors).is_ok()
+}
+
+#[test]
+fn a_pattern_of_one_text(rt: HostRuntime) -> Result<(), Fail> {
+    let resource = resource(rt.alloc(), "a = Welcome.")?;
+    let Some(fluent_bundle::ast::Entry::Message(message)) = resource.get_entry(0) else {
+        return Err("no message".into());
+    };
+    let pattern = FluentMessage::from(message).value().ok_or("no value")?;
+    assert!(rt; is_formatted(rt.alloc(), pattern));
     Ok(())
 }
