@@ -102,21 +102,28 @@ fn limits_of_128_bits(rt: HostRuntime) {
 }
 
 #[test]
-fn cuts_and_saturates(rt: HostRuntime) -> Result<(), Fail> {
-    assert_eq!(rt; i8::from(FluentNumber::from(300i64)), 127);
-    assert_eq!(rt; i8::from(FluentNumber::from(-300i64)), -128);
-    assert_eq!(rt; u8::from(number("-1.9")?), 0);
-    assert_eq!(rt; i32::from(number("-1.9")?), -1);
+fn cuts_toward_zero(rt: HostRuntime) -> Result<(), Fail> {
+    let read = number("-1.9")?;
+    assert!(rt; u8::from(&read) == 0);
+    assert!(rt; i32::from(&read) == -1);
+    assert!(rt; u128::from(read) == 0);
+    Ok(())
+}
+
+#[test]
+fn saturates_small_numbers(rt: HostRuntime) {
+    assert!(rt; i8::from(FluentNumber::from(300i64)) == 127);
+    assert!(rt; i8::from(FluentNumber::from(-300i64)) == -128);
+}
+
+#[test]
+fn saturates_the_largest_number(rt: HostRuntime) -> Result<(), Fail> {
     let most = number("18446744073709551615")?;
-    assert_eq!(rt; u64::from(&most), u64::MAX);
-    assert_eq!(rt; usize::from(&most), usize::MAX);
-    assert_eq!(rt; i64::from(&most), i64::MAX);
-    assert_eq!(rt; isize::from(&most), isize::MAX);
-    assert_eq!(rt; u32::from(&most), u32::MAX);
-    assert_eq!(rt; i128::from(&most), u64::MAX as i128);
-    assert_eq!(rt; u128::from(&most), u64::MAX as u128);
-    assert_eq!(rt; i128::from(most), u64::MAX as i128);
-    assert_eq!(rt; u128::from(number("-5")?), 0);
+    assert!(rt; u64::from(&most) == u64::MAX && usize::from(&most) == usize::MAX);
+    assert!(rt; i64::from(&most) == i64::MAX && isize::from(&most) == isize::MAX);
+    assert!(rt; u32::from(&most) == u32::MAX);
+    assert!(rt; i128::from(&most) == u64::MAX as i128);
+    assert!(rt; u128::from(most) == u64::MAX as u128);
     Ok(())
 }
 
@@ -319,27 +326,21 @@ fn lent_usize(x: usize) -> usize
 }
 
 #[test]
-fn comes_out_again(rt: HostRuntime) {
-    assert_eq!(rt; again_i8(i8::MAX), i8::MAX);
-    assert_eq!(rt; lent_i8(i8::MIN), i8::MIN);
-    assert_eq!(rt; again_i16(i16::MAX), i16::MAX);
-    assert_eq!(rt; lent_i16(i16::MIN), i16::MIN);
-    assert_eq!(rt; again_i32(i32::MAX), i32::MAX);
-    assert_eq!(rt; lent_i32(i32::MIN), i32::MIN);
-    assert_eq!(rt; again_i64(i64::MAX), i64::MAX);
-    assert_eq!(rt; lent_i64(i64::MIN), i64::MIN);
-    assert_eq!(rt; again_isize(isize::MAX), isize::MAX);
-    assert_eq!(rt; lent_isize(isize::MIN), isize::MIN);
-    assert_eq!(rt; again_u8(u8::MAX), u8::MAX);
-    assert_eq!(rt; lent_u8(u8::MIN), u8::MIN);
-    assert_eq!(rt; again_u16(u16::MAX), u16::MAX);
-    assert_eq!(rt; lent_u16(u16::MIN), u16::MIN);
-    assert_eq!(rt; again_u32(u32::MAX), u32::MAX);
-    assert_eq!(rt; lent_u32(u32::MIN), u32::MIN);
-    assert_eq!(rt; again_u64(u64::MAX), u64::MAX);
-    assert_eq!(rt; lent_u64(u64::MIN), u64::MIN);
-    assert_eq!(rt; again_usize(usize::MAX), usize::MAX);
-    assert_eq!(rt; lent_usize(usize::MIN), usize::MIN);
+fn signed_numbers_come_out_again(rt: HostRuntime) {
+    assert!(rt; again_i8(i8::MAX) == i8::MAX && lent_i8(i8::MIN) == i8::MIN);
+    assert!(rt; again_i16(i16::MAX) == i16::MAX && lent_i16(i16::MIN) == i16::MIN);
+    assert!(rt; again_i32(i32::MAX) == i32::MAX && lent_i32(i32::MIN) == i32::MIN);
+    assert!(rt; again_i64(i64::MAX) == i64::MAX && lent_i64(i64::MIN) == i64::MIN);
+    assert!(rt; again_isize(isize::MAX) == isize::MAX && lent_isize(isize::MIN) == isize::MIN);
+}
+
+#[test]
+fn other_numbers_come_out_again(rt: HostRuntime) {
+    assert!(rt; again_u8(u8::MAX) == u8::MAX && lent_u8(u8::MIN) == u8::MIN);
+    assert!(rt; again_u16(u16::MAX) == u16::MAX && lent_u16(u16::MIN) == u16::MIN);
+    assert!(rt; again_u32(u32::MAX) == u32::MAX && lent_u32(u32::MIN) == u32::MIN);
+    assert!(rt; again_u64(u64::MAX) == u64::MAX && lent_u64(u64::MIN) == u64::MIN);
+    assert!(rt; again_usize(usize::MAX) == usize::MAX && lent_usize(usize::MIN) == usize::MIN);
 }
 
 #[test]
@@ -396,22 +397,33 @@ fn english_categories(rt: HostRuntime) -> Result<(), Fail> {
 }
 
 #[test]
-fn words_of_options(rt: HostRuntime) {
+fn words_of_types(rt: HostRuntime) {
     assert!(rt; FluentNumberType::from("ordinal") == FluentNumberType::Ordinal);
     assert!(rt; FluentNumberType::from("cardinal") == FluentNumberType::Cardinal);
     assert!(rt; FluentNumberType::from("Ordinal") == FluentNumberType::default());
+}
+
+#[test]
+fn words_of_styles(rt: HostRuntime) {
     assert!(rt; FluentNumberStyle::from("currency") == FluentNumberStyle::Currency);
     assert!(rt; FluentNumberStyle::from("percent") == FluentNumberStyle::Percent);
     assert!(rt; FluentNumberStyle::from("decimal") == FluentNumberStyle::Decimal);
     assert!(rt; FluentNumberStyle::from("") == FluentNumberStyle::default());
-    let symbol = FluentNumberCurrencyDisplayStyle::from("symbol");
-    assert!(rt; symbol == FluentNumberCurrencyDisplayStyle::Symbol);
-    let code = FluentNumberCurrencyDisplayStyle::from("code");
-    assert!(rt; code == FluentNumberCurrencyDisplayStyle::Code);
-    let name = FluentNumberCurrencyDisplayStyle::from("name");
-    assert!(rt; name == FluentNumberCurrencyDisplayStyle::Name);
-    let other = FluentNumberCurrencyDisplayStyle::from("names");
-    assert!(rt; other == FluentNumberCurrencyDisplayStyle::default());
+}
+
+#[test]
+fn words_of_currency_displays(rt: HostRuntime) {
+    for (word, want) in [
+        ("symbol", FluentNumberCurrencyDisplayStyle::Symbol),
+        ("code", FluentNumberCurrencyDisplayStyle::Code),
+        ("name", FluentNumberCurrencyDisplayStyle::Name),
+        ("names", FluentNumberCurrencyDisplayStyle::default()),
+    ] {
+        assert!(rt;
+            FluentNumberCurrencyDisplayStyle::from(word) == want,
+            "{word}"
+        );
+    }
 }
 
 fn hash_of<T: Hash>(value: &T) -> u64 {
@@ -428,18 +440,34 @@ fn in_euros(alloc: Global) -> Result<FluentNumber, Fail> {
 }
 
 #[test]
-fn copies_and_compares(rt: HostRuntime) -> Result<(), Fail> {
-    let mut price = in_euros(rt.alloc())?;
+fn copies_are_equal(rt: HostRuntime) -> Result<(), Fail> {
+    let price = in_euros(rt.alloc())?;
     let copy = price.try_clone(rt.alloc())?;
     assert!(rt; price == copy);
-    assert!(rt; price.options == copy.options);
-    assert_eq!(rt; hash_of(&price.options), hash_of(&copy.options));
+    assert!(rt; hash_of(&price.options) == hash_of(&copy.options));
+    Ok(())
+}
+
+#[test]
+fn copies_of_options_are_equal(rt: HostRuntime) -> Result<(), Fail> {
+    let price = in_euros(rt.alloc())?;
     let options = price.options.try_clone(rt.alloc())?;
-    assert!(rt; options == copy.options);
+    assert!(rt; options == price.options);
+    Ok(())
+}
+
+#[test]
+fn other_currencies_differ(rt: HostRuntime) -> Result<(), Fail> {
+    let mut price = in_euros(rt.alloc())?;
     price.options.currency = Some(String::from_str(rt.alloc(), "USD")?);
-    assert!(rt; price != copy);
-    assert!(rt; price.options != copy.options);
-    assert!(rt; FluentNumber::from(5u8) != copy);
+    let other = in_euros(rt.alloc())?;
+    assert!(rt; price != other);
+    assert!(rt; price.options != other.options);
+    Ok(())
+}
+
+#[test]
+fn numbers_compare_with_their_options(rt: HostRuntime) -> Result<(), Fail> {
     let default = FluentNumberOptions::default();
     assert!(rt; default.use_grouping);
     assert!(rt; FluentNumber::from(5u8) == FluentNumber::new(Decimal::from_u64(5), default));
@@ -449,23 +477,15 @@ fn copies_and_compares(rt: HostRuntime) -> Result<(), Fail> {
 
 #[test]
 fn hashes_agree(rt: HostRuntime) -> Result<(), Fail> {
-    assert_eq!(rt;
-        hash_of(&number("-0")?.value),
-        hash_of(&Decimal::from_u64(0))
-    );
-    assert_eq!(rt;
-        hash_of(&FluentNumberType::from("x")),
-        hash_of(&FluentNumberType::default())
-    );
-    assert_eq!(rt;
-        hash_of(&FluentNumberStyle::from("x")),
-        hash_of(&FluentNumberStyle::default())
-    );
+    let zero = number("-0")?.value;
+    assert!(rt; hash_of(&zero) == hash_of(&Decimal::from_u64(0)));
+    let kind = FluentNumberType::from("x");
+    assert!(rt; hash_of(&kind) == hash_of(&FluentNumberType::default()));
+    let style = FluentNumberStyle::from("x");
+    assert!(rt; hash_of(&style) == hash_of(&FluentNumberStyle::default()));
+    let display = FluentNumberCurrencyDisplayStyle::from("x");
     let first = FluentNumberCurrencyDisplayStyle::default();
-    assert_eq!(rt;
-        hash_of(&FluentNumberCurrencyDisplayStyle::from("x")),
-        hash_of(&first)
-    );
+    assert!(rt; hash_of(&display) == hash_of(&first));
     Ok(())
 }
 
