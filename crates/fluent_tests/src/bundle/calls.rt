@@ -344,28 +344,35 @@ fn adds_again<'r, 's>(
     Ok(())
 }
 
-fn adds_functions_again(rt: &impl Abort, alloc: Global) -> Result<(), Fail> {
+fn adds_a_function_again(rt: &impl Abort, alloc: Global) -> Result<(), Fail> {
     let mut bundle: Plain<'_, '_> = FluentBundle::new(alloc, Vec::new(alloc), EnglishPlurals);
     if bundle.add_function("F", NoFunction).is_err() {
         assert!(rt; bundle.get_entry_function("F").is_none());
         whole(bundle.add_function("F", NoFunction))?;
     }
     assert!(rt; matches!(bundle.get_entry_function("F"), Some(FunctionRef::Own(_))));
+    Ok(())
+}
+
+fn is_builtin(bundle: &Plain<'_, '_>) -> bool {
+    matches!(
+        bundle.get_entry_function("NUMBER"),
+        Some(FunctionRef::Number)
+    )
+}
+
+fn adds_builtins_again(rt: &impl Abort, alloc: Global) -> Result<(), Fail> {
+    let mut bundle: Plain<'_, '_> = FluentBundle::new(alloc, Vec::new(alloc), EnglishPlurals);
     if bundle.add_builtins().is_err() {
-        assert!(rt; bundle.get_entry_function("NUMBER").is_none());
+        assert!(rt; !is_builtin(&bundle));
         whole(bundle.add_builtins())?;
     }
     let mut added = bundle.add_builtins();
     if let Err(AddFault::Memory) = added {
         added = bundle.add_builtins();
     }
-    assert_eq!(rt; left(added)?.len(), 1);
-    assert!(rt;
-        matches!(
-            bundle.get_entry_function("NUMBER"),
-            Some(FunctionRef::Number)
-        )
-    );
+    assert!(rt; left(added)?.len() == 1);
+    assert!(rt; is_builtin(&bundle));
     Ok(())
 }
 
@@ -376,7 +383,8 @@ fn refused_calls_can_be_repeated(rt: HostRuntime) -> Result<(), Fail> {
     let first = clean(alloc, "a = one\n")?;
     let second = clean(alloc, "b = two\na = three\n-a-b = five\nc = four\n")?;
     adds_again(&rt, alloc, &first, &second)?;
-    adds_functions_again(&rt, alloc)
+    adds_a_function_again(&rt, alloc)?;
+    adds_builtins_again(&rt, alloc)
 }
 
 /// Whether the value of `c`, a text and a missing variable, is written with marks.

@@ -310,7 +310,40 @@ fn numbers_are_written(rt: HostRuntime) -> Result<(), Fail> {
 
 // ---- both calls, with a formatter or a transform
 
-/// What the value of the message `m` of a bundle is written as and formatted as, without an error.
+/// What the value of the message `m` of a bundle is written as, without an error.
+fn is_written<'r, 's: 'r, G: FluentFormatter<NoCustom, EnglishPlurals>>(
+    rt: &impl Abort,
+    alloc: Global,
+    bundle: &Bundle<'r, 's, G>,
+    pattern: &Pattern<'_>,
+    text: &str,
+) -> Result<(), Fail> {
+    let args = arguments(alloc, &[("name", "John")])?;
+    let mut errors = Vec::new(alloc);
+    let mut w = Counting::new(Vec::new(alloc));
+    bundle.write_pattern(&mut w, pattern, Some(&args), &mut errors)?;
+    assert_eq!(rt; w.into_inner().as_slice(), text.as_bytes());
+    assert!(rt; errors.is_empty());
+    Ok(())
+}
+
+/// What it is formatted as, without an error.
+fn is_formatted<'r, 's: 'r, G: FluentFormatter<NoCustom, EnglishPlurals>>(
+    rt: &impl Abort,
+    alloc: Global,
+    bundle: &Bundle<'r, 's, G>,
+    pattern: &Pattern<'_>,
+    text: &str,
+) -> Result<(), Fail> {
+    let args = arguments(alloc, &[("name", "John")])?;
+    let mut errors = Vec::new(alloc);
+    let formatted = bundle.format_pattern(pattern, Some(&args), &mut errors)?;
+    assert_eq!(rt; formatted.as_str(), text);
+    assert!(rt; errors.is_empty());
+    Ok(())
+}
+
+/// Both, of the value of the message `m`.
 fn both<'r, 's: 'r, G: FluentFormatter<NoCustom, EnglishPlurals>>(
     rt: &impl Abort,
     alloc: Global,
@@ -318,17 +351,10 @@ fn both<'r, 's: 'r, G: FluentFormatter<NoCustom, EnglishPlurals>>(
     written: &str,
     formatted: &str,
 ) -> Result<(), Fail> {
-    let args = arguments(alloc, &[("name", "John")])?;
     let message = bundle.get_message("m").ok_or("no message")?;
     let pattern = message.value().ok_or("no value")?;
-    let mut errors = Vec::new(alloc);
-    let mut w = Counting::new(Vec::new(alloc));
-    bundle.write_pattern(&mut w, pattern, Some(&args), &mut errors)?;
-    assert_eq!(rt; w.into_inner().as_slice(), written.as_bytes());
-    let text = bundle.format_pattern(pattern, Some(&args), &mut errors)?;
-    assert_eq!(rt; text.as_str(), formatted);
-    assert!(rt; errors.is_empty());
-    Ok(())
+    is_written(rt, alloc, bundle, pattern, written)?;
+    is_formatted(rt, alloc, bundle, pattern, formatted)
 }
 
 /// Shows each text between brackets.

@@ -138,27 +138,52 @@ fn copies_are_the_same(rt: HostRuntime) -> Result<(), Fail> {
     Ok(())
 }
 
+fn is_shown(
+    rt: &impl Abort,
+    alloc: Global,
+    value: FluentValue<'_, NoCustom>,
+    text: &str,
+) -> Result<(), Fail> {
+    assert_eq!(rt; number_text(alloc, &value)?.as_str(), text);
+    Ok(())
+}
+
 #[test]
-fn values_are_made_of_other_types(rt: HostRuntime) -> Result<(), Fail> {
+fn values_are_made_of_numbers(rt: HostRuntime) -> Result<(), Fail> {
     let alloc = rt.alloc();
-    let made: [(FluentValue<'_, NoCustom>, &str); 6] = [
-        (FluentValue::from(-128i8), "-128"),
-        (FluentValue::from(&u64::MAX), "18446744073709551615"),
-        (FluentValue::from(i64::MIN), "-9223372036854775808"),
-        (FluentValue::from(Some(5usize)), "5"),
-        (FluentValue::from(Some(&-1isize)), "-1"),
-        (FluentValue::from(FluentNumber::from(7u8)), "7"),
-    ];
-    for (value, text) in &made {
-        assert_eq!(rt; number_text(alloc, value)?.as_str(), *text);
-    }
-    let text = String::from_str(alloc, "a")?;
+    is_shown(&rt, alloc, FluentValue::from(-128i8), "-128")?;
+    is_shown(
+        &rt,
+        alloc,
+        FluentValue::from(&u64::MAX),
+        "18446744073709551615",
+    )?;
+    is_shown(
+        &rt,
+        alloc,
+        FluentValue::from(i64::MIN),
+        "-9223372036854775808",
+    )?;
+    is_shown(&rt, alloc, FluentValue::from(FluentNumber::from(7u8)), "7")
+}
+
+#[test]
+fn values_are_made_of_optional_numbers(rt: HostRuntime) -> Result<(), Fail> {
+    let alloc = rt.alloc();
+    is_shown(&rt, alloc, FluentValue::from(Some(5usize)), "5")?;
+    is_shown(&rt, alloc, FluentValue::from(Some(&-1isize)), "-1")?;
+    let none: FluentValue<'_, NoCustom> = FluentValue::from(None::<&str>);
+    assert!(rt; matches!(none, FluentValue::None));
+    Ok(())
+}
+
+#[test]
+fn values_are_made_of_texts(rt: HostRuntime) -> Result<(), Fail> {
+    let text = String::from_str(rt.alloc(), "a")?;
     let a = FluentValue::from("a");
     assert!(rt; a.same(&FluentValue::<NoCustom>::from(&text)));
     assert!(rt; a.same(&FluentValue::<NoCustom>::from(Some(CowStr::Borrowed("a")))));
     assert!(rt; a.same(&FluentValue::<NoCustom>::from(Some(text))));
-    let none: FluentValue<'_, NoCustom> = FluentValue::from(None::<&str>);
-    assert!(rt; matches!(none, FluentValue::None));
     Ok(())
 }
 
