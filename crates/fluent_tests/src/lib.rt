@@ -1,4 +1,4 @@
-//! Tests that cross crates, of what no contract says, and one statement from end to end: what a bundle writes after a list of calls.
+//! Tests of the reader, of values and of the bundle, of what no contract says, and one statement from end to end: what a bundle writes after a list of calls.
 #![tactic(auto)]
 
 #[cfg(test)]

@@ -1,4 +1,4 @@
-//! What no clause says: memory and writers that fail. Sources with their trees stand in `fluent_tests`.
+//! What no clause of `fluent_syntax` says of writers that fail.
 
 use fluent_syntax::counting::put;
 use fluent_syntax::laws::{
