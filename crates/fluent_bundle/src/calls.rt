@@ -1,5 +1,6 @@
 //! Calls on a bundle as values, so that what a list of them makes can be said.
 ghost use Rattle.std.specs.Prelude.{◌≡◌, OnOk, OnErr, IsOk, map};
+ghost use Rattle.std.specs.List.{All};
 ghost use Rattle.fluent_meaning.specs.Bundle.{after, after_all};
 ghost use Rattle.fluent_bundle.specs.BundleView.{meant, BegunBy, Kept};
 ghost use Rattle.fluent_bundle.specs.Calls.{asked, SetsIsolation};
@@ -61,11 +62,13 @@ impl<
     ///
     /// # Errors
     ///
-    /// Memory was refused at one of them: those before it were made, and no other.
+    /// Memory was refused at one of them, which calls that set the isolation can't meet: those before it
+    /// were made, and no other.
     pub fn make_all(&mut self, calls: &[Call<'r, 's>]) -> Result<(), AllocError>
         ensures ok { let of = meant M.category C.shown C.alike F.answer G.formatted T.changed in OnOk result (of self.new ≡ after_all (map asked calls.now) (of self.old)) }
         ensures err { let of = meant M.category C.shown C.alike F.answer G.formatted T.changed in OnErr result (BegunBy (map asked calls.now) (of self.old) (of self.new)) }
         ensures kept { Kept self.old self.new }
+        ensures succeeds { All SetsIsolation calls.now → IsOk result }
     {
         for call in calls {
             self.make(call)?;
