@@ -1,8 +1,8 @@
 -- The walk of each case, as the steps of the code.
 use Rattle.std.proofs.Common.{◌≡◌, refl, sym, ap, zero, suc, [], ◌∷◌, append-nil, Bool, true, false, rules, List}
 use Rattle.std.specs.Bool.{⊤}
-use Rattle.fluent_syntax.specs.Tree.{Text, Pattern, nothing, more, Element, placeable, Expression, Inline, string, number, function, message, term, variable, nested}
-use Rattle.fluent_syntax.specs.Fallback.{fallback, fallback_of, in_braces}
+use Rattle.fluent_tree.specs.Tree.{Text, Pattern, nothing, more, Element, placeable, Expression, Inline, string, number, function, message, term, variable, nested}
+use Rattle.fluent_tree.specs.Fallback.{fallback, fallback_of, in_braces}
 use Rattle.fluent_meaning.specs.Errors.{Error, resolver_error, too_many_placeables}
 use Rattle.fluent_meaning.specs.Value.{Value}
 use Rattle.fluent_meaning.specs.Arguments.{Map}

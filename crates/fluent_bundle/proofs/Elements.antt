@@ -1,10 +1,10 @@
 -- The elements of a pattern, those that are still to come.
 use Rattle.std.proofs.Common.{◌≡◌, refl, sym, ap, ◌∙◌, ℕ, zero, suc, ◌+◌, ◌<◌, ◌≤◌, List, [], ◌∷◌, length, get_or, drop, map, Bool, arith}
 use Rattle.std.proofs.lemmas.List.{drop_more}
-use Rattle.fluent_syntax.specs.Tree.{Text, Element, text, placeable, Expression, more, pattern_of}
-use Rattle.fluent_syntax.specs.View.{element_view, pattern_view}
-use Rattle.fluent_syntax.specs.declared.ast.Pattern.{Pattern}
-use Rattle.fluent_syntax.specs.declared.ast.PatternElement.{PatternElement}
+use Rattle.fluent_tree.specs.Tree.{Text, Element, text, placeable, Expression, more, pattern_of}
+use Rattle.fluent_tree.specs.View.{element_view, pattern_view}
+use Rattle.fluent_tree.specs.declared.ast.Pattern.{Pattern}
+use Rattle.fluent_tree.specs.declared.ast.PatternElement.{PatternElement}
 use Rattle.fluent_bundle.specs.Interim.{elements, part, IsText}
 use Rattle.fluent_meaning.specs.Meaning.{Budget, struck, Ran, within_budget}
 use Rattle.fluent_bundle.specs.Scoped.{Status, given}

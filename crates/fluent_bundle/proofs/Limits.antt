@@ -1,6 +1,6 @@
 -- The two meanings, within a limit and beyond it.
 use Rattle.std.proofs.Common.{◌≡◌, ℕ, zero, suc, ◌+◌, ◌<◌, ◌++◌, Bool, refl, sym, ap, subst, ◌∙◌, arith, ◌⊎◌, inl, inr, ⊎_elim}
-use Rattle.fluent_syntax.specs.Tree.{Text, Pattern}
+use Rattle.fluent_tree.specs.Tree.{Text, Pattern}
 use Rattle.fluent_bundle.specs.Agree.{AgreesWithin}
 use Rattle.fluent_meaning.specs.Value.{Value}
 use Rattle.fluent_meaning.specs.Arguments.{Map}

@@ -1,7 +1,7 @@
 -- The walk of today is fluent_meaning's, on the patterns that it resolves whole.
 use Rattle.std.proofs.Common.{◌≡◌, refl, ap, ◌∙◌, List, [], Bool, Option, Some, None}
-use Rattle.fluent_syntax.specs.Tree.{Text, Pattern, nothing, more, Element, text, placeable, Expression, inline, select, Inline, string, number, function, message, term, variable, nested}
-use Rattle.fluent_syntax.specs.Fallback.{fallback_of}
+use Rattle.fluent_tree.specs.Tree.{Text, Pattern, nothing, more, Element, text, placeable, Expression, inline, select, Inline, string, number, function, message, term, variable, nested}
+use Rattle.fluent_tree.specs.Fallback.{fallback_of}
 use Rattle.fluent_meaning.specs.Value.{Value}
 use Rattle.fluent_meaning.specs.Arguments.{Map, get}
 use Rattle.fluent_meaning.specs.Bundle.{Bundle}

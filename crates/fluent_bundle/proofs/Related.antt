@@ -1,6 +1,6 @@
 -- What holds of each step of two walks holds of the walks.
 use Rattle.std.proofs.Common.{Bool, [], Option, Some, None}
-use Rattle.fluent_syntax.specs.Tree.{Text, Pattern, nothing, more, Element, text, placeable, Expression, inline, select, string, number, function, message, term, variable, nested, Inline}
+use Rattle.fluent_tree.specs.Tree.{Text, Pattern, nothing, more, Element, text, placeable, Expression, inline, select, string, number, function, message, term, variable, nested, Inline}
 use Rattle.fluent_meaning.specs.Value.{Value}
 use Rattle.fluent_meaning.specs.Arguments.{Map, get}
 use Rattle.fluent_meaning.specs.Errors.{ResolverError}

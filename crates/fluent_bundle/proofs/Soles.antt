@@ -1,8 +1,8 @@
 -- Patterns of one text.
 use Rattle.std.proofs.Common.{◌≡◌, refl, ℕ, ◌<◌, List, [], ◌∷◌, length, map, None, arith}
-use Rattle.fluent_syntax.specs.Tree.{Element, text, placeable, more, pattern_of}
-use Rattle.fluent_syntax.specs.View.{element_view}
-use Rattle.fluent_syntax.specs.declared.ast.PatternElement.{PatternElement}
+use Rattle.fluent_tree.specs.Tree.{Element, text, placeable, more, pattern_of}
+use Rattle.fluent_tree.specs.View.{element_view}
+use Rattle.fluent_tree.specs.declared.ast.PatternElement.{PatternElement}
 use Rattle.fluent_bundle.specs.Interim.{sole_text}
 
 pub sole_none : (es : List PatternElement) → (length es ≡ 1 → ⊥) → sole_text (pattern_of (map element_view es)) ≡ None

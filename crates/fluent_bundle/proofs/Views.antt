@@ -2,22 +2,22 @@
 use Rattle.std.proofs.Common.{◌≡◌, refl, ap, sym, subst, ◌∙◌, rules, ℕ, Option, Vec, Box, Global, List, map, ◌++◌, ◌∷◌, []}
 use Rattle.std.specs.Borrow.{Bor}
 use Rattle.std.specs.Option.{option_map}
-use Rattle.fluent_syntax.specs.Tree.{select, string, number, function, message, term, nested, text, placeable, pattern_of, variants_of}
-use Rattle.fluent_syntax.specs.Fallback.{fallback, dotted}
-use Rattle.fluent_syntax.specs.View.{expression_view, inline_view, pattern_view, arguments_view, attribute_of, call_of, element_view, variant_view}
-use Rattle.fluent_syntax.specs.declared.ast.CallArguments as of_call
-use Rattle.fluent_syntax.specs.declared.ast.Expression as of_expression
-use Rattle.fluent_syntax.specs.declared.ast.Expression.TheOpen as level
-use Rattle.fluent_syntax.specs.declared.ast.Expression.TheVariants as expressions
-use Rattle.fluent_syntax.specs.declared.ast.NamedArgument as of_named
+use Rattle.fluent_tree.specs.Tree.{select, string, number, function, message, term, nested, text, placeable, pattern_of, variants_of}
+use Rattle.fluent_tree.specs.Fallback.{fallback, dotted}
+use Rattle.fluent_tree.specs.View.{expression_view, inline_view, pattern_view, arguments_view, attribute_of, call_of, element_view, variant_view}
+use Rattle.fluent_tree.specs.declared.ast.CallArguments as of_call
+use Rattle.fluent_tree.specs.declared.ast.Expression as of_expression
+use Rattle.fluent_tree.specs.declared.ast.Expression.TheOpen as level
+use Rattle.fluent_tree.specs.declared.ast.Expression.TheVariants as expressions
+use Rattle.fluent_tree.specs.declared.ast.NamedArgument as of_named
 use Rattle.fluent_bundle.proofs.Cases.{IsUnresolved}
-use Rattle.fluent_syntax.specs.declared.ast.Identifier.{Identifier}
-use Rattle.fluent_syntax.specs.declared.ast.InlineExpression as of_inline
-use Rattle.fluent_syntax.specs.declared.ast.InlineExpression.TheVariants as inlines
-use Rattle.fluent_syntax.specs.declared.ast.Pattern as of_pattern
-use Rattle.fluent_syntax.specs.declared.ast.PatternElement as of_element
-use Rattle.fluent_syntax.specs.declared.ast.PatternElement.TheVariants as parts
-use Rattle.fluent_syntax.specs.declared.ast.Variant.{Variant}
+use Rattle.fluent_tree.specs.declared.ast.Identifier.{Identifier}
+use Rattle.fluent_tree.specs.declared.ast.InlineExpression as of_inline
+use Rattle.fluent_tree.specs.declared.ast.InlineExpression.TheVariants as inlines
+use Rattle.fluent_tree.specs.declared.ast.Pattern as of_pattern
+use Rattle.fluent_tree.specs.declared.ast.PatternElement as of_element
+use Rattle.fluent_tree.specs.declared.ast.PatternElement.TheVariants as parts
+use Rattle.fluent_tree.specs.declared.ast.Variant.{Variant}
 
 pub view_pattern : (p : of_pattern.Pattern) → pattern_view p ≡ pattern_of (map element_view p.elements.items)
 view_pattern p = search (rules, of_pattern.the_lemmas)

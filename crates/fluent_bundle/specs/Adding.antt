@@ -4,7 +4,7 @@ use Rattle.std.specs.HashMap.{HashMap}
 use Rattle.std.specs.HashSet.{HashSet}
 use Rattle.std.specs.declared.borrow.CowStr.{CowStr}
 use Rattle.std.proofs.Common.{Bor, Global}
-use Rattle.fluent_syntax.specs.Tree.{Text}
+use Rattle.fluent_tree.specs.Tree.{Text}
 use Rattle.fluent_meaning.specs.Arguments.{Map, get}
 use Rattle.fluent_meaning.specs.Bundle.{Function}
 use Rattle.fluent_meaning.specs.Bundle as m

@@ -1,6 +1,6 @@
 -- How the two meanings go together.
 use Rattle.std.specs.Prelude.{◌≡◌, ℕ, ◌+◌, ◌≤◌}
-use Rattle.fluent_syntax.specs.Tree.{Text}
+use Rattle.fluent_tree.specs.Tree.{Text}
 use Rattle.fluent_meaning.specs.Meaning.{Outcome, Ran, left}
 
 -- Text and errors are the same, and what is left with what was opened is the limit.

@@ -8,14 +8,14 @@ use Rattle.std.specs.Str.{bytes_eq}
 use Rattle.std.specs.Slice.Iter.{iter_rest}
 use Rattle.std.specs.declared.borrow.CowStr.{CowStr}
 use Rattle.std.proofs.Common.{Bor, Global}
-use Rattle.fluent_syntax.specs.Tree as t
-use Rattle.fluent_syntax.specs.Tree.{Text, Pattern, Attributes}
-use Rattle.fluent_syntax.specs.View as view
-use Rattle.fluent_syntax.specs.View.{attribute_view, pattern_view, resource_view}
+use Rattle.fluent_tree.specs.Tree as t
+use Rattle.fluent_tree.specs.Tree.{Text, Pattern, Attributes}
+use Rattle.fluent_tree.specs.View as view
+use Rattle.fluent_tree.specs.View.{attribute_view, pattern_view, resource_view}
 use Rattle.fluent_syntax.specs.Chunks.{entries, junk_ranges}
 use Rattle.fluent_syntax.specs.Parsed.{error_range}
-use Rattle.fluent_syntax.specs.declared.ast.Message.{Message}
-use Rattle.fluent_syntax.specs.declared.ast.Term.{Term}
+use Rattle.fluent_tree.specs.declared.ast.Message.{Message}
+use Rattle.fluent_tree.specs.declared.ast.Term.{Term}
 use Rattle.fluent_intl.specs.declared.language.LanguageIdentifier.{LanguageIdentifier}
 use Rattle.fluent_meaning.specs.Number.{is_text}
 use Rattle.fluent_meaning.specs.Value.{Value, Plurals}

@@ -1,8 +1,8 @@
 -- What a pattern means as far as it is resolved today: texts, variables, string and number literals, and nested placeables. This file goes when the resolver is whole; then the walk of fluent_meaning stands in its place.
 use Rattle.std.specs.Prelude.{ℕ, Bool, [], Option, Some, None, ⊤}
-use Rattle.fluent_syntax.specs.Tree.{Text, Pattern, nothing, more, Element, text, placeable, Expression, inline, string, number, variable, Inline, nested, select}
-use Rattle.fluent_syntax.specs.Fallback.{fallback, fallback_of, in_braces}
-use Rattle.fluent_syntax.specs.Escapes.{unescaped}
+use Rattle.fluent_tree.specs.Tree.{Text, Pattern, nothing, more, Element, text, placeable, Expression, inline, string, number, variable, Inline, nested, select}
+use Rattle.fluent_tree.specs.Fallback.{fallback, fallback_of, in_braces}
+use Rattle.fluent_tree.specs.Escapes.{unescaped}
 use Rattle.fluent_meaning.specs.Errors.{lost, to_variable}
 use Rattle.fluent_meaning.specs.Value.{Value, try_number}
 use Rattle.fluent_meaning.specs.Arguments.{Map, get}

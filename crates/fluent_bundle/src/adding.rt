@@ -2,8 +2,8 @@
 ghost use Rattle.std.specs.Prelude.{◌≡◌, ◌<◌, ◌≤◌, ◌+◌, ◌++◌, ◌||◌, [], ◌∷◌, IfOk, OnOk, OnErr, length, is_some, map};
 ghost use Rattle.std.specs.Cow.{cow_str_bytes};
 ghost use Rattle.std.specs.HashMap.{spare};
-ghost use Rattle.fluent_syntax.specs.Tree.{Text};
-ghost use Rattle.fluent_syntax.specs.View.{entry_view};
+ghost use Rattle.fluent_tree.specs.Tree.{Text};
+ghost use Rattle.fluent_tree.specs.View.{entry_view};
 ghost use Rattle.fluent_meaning.specs.Arguments.{Map, get};
 ghost use Rattle.fluent_meaning.specs.Bundle.{Function, added, overridden, add_free, error_if_taken, not_added};
 ghost use Rattle.fluent_meaning.specs.Bundle as m;

@@ -1,7 +1,7 @@
 //! What an id of a bundle names.
 ghost use Rattle.std.specs.Prelude.{◌≡◌, Option};
 ghost use Rattle.std.specs.Option.{option_map};
-ghost use Rattle.fluent_syntax.specs.Tree.{Text};
+ghost use Rattle.fluent_tree.specs.Tree.{Text};
 ghost use Rattle.fluent_meaning.specs.Bundle.{Function, function_found};
 ghost use Rattle.fluent_meaning.specs.Bundle as m;
 ghost use Rattle.fluent_bundle.specs.BundleView.{content_of, message_content, term_content_of, term_content, function_of};

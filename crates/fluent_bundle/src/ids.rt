@@ -3,7 +3,7 @@ ghost use Rattle.std.specs.Prelude.{◌≡◌, ◌<◌, ◌≤◌, ◌+◌, OnOk
 ghost use Rattle.std.specs.Option.{option_map};
 ghost use Rattle.std.specs.Cow.{cow_str_bytes};
 ghost use Rattle.std.specs.HashMap.{spare};
-ghost use Rattle.fluent_syntax.specs.Tree.{Text};
+ghost use Rattle.fluent_tree.specs.Tree.{Text};
 ghost use Rattle.fluent_meaning.specs.Arguments.{get, set};
 ghost use Rattle.fluent_meaning.specs.Bundle.{Function, add_free};
 ghost use Rattle.fluent_bundle.specs.BundleView.{ids, entry_of};

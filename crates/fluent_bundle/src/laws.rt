@@ -1,6 +1,6 @@
 //! Laws of the meanings that the resolver is proved against.
 ghost use Rattle.std.specs.Prelude.{◌≡◌, ◌<◌, ◌↔◌, ℕ};
-ghost use Rattle.fluent_syntax.specs.Tree.{Pattern};
+ghost use Rattle.fluent_tree.specs.Tree.{Pattern};
 ghost use Rattle.fluent_meaning.specs.Arguments.{Map};
 ghost use Rattle.fluent_meaning.specs.Bundle.{Bundle};
 ghost use Rattle.fluent_meaning.specs.Meaning.{left, struck};

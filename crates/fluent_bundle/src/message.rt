@@ -1,7 +1,7 @@
 //! Messages and attributes as a caller sees them.
 ghost use Rattle.std.specs.Prelude.{◌≡◌};
 ghost use Rattle.std.specs.Option.{option_map};
-ghost use Rattle.fluent_syntax.specs.View.{pattern_view};
+ghost use Rattle.fluent_tree.specs.View.{pattern_view};
 ghost use Rattle.fluent_bundle.specs.BundleView.{message_view, attribute_content, attributes_left, first_named};
 
 use fluent_syntax::ast;
@@ -48,7 +48,7 @@ impl<'m, 's> FluentMessage<'m, 's> {
 
 impl<'m, 's> From<&'m ast::Message<'s>> for FluentMessage<'m, 's> {
     ghost use Rattle.std.specs.Prelude.{◌≡◌};
-    ghost use Rattle.fluent_syntax.specs.View as tree;
+    ghost use Rattle.fluent_tree.specs.View as tree;
     ghost use Rattle.fluent_bundle.specs.BundleView.{content_of, message_view, entry_seen};
 
     ghost from_gives = { λ m result. (message_view result ≡ content_of m.now) × (entry_seen result ≡ tree.message_view m.now) };
@@ -60,8 +60,8 @@ impl<'m, 's> From<&'m ast::Message<'s>> for FluentMessage<'m, 's> {
 
 impl<'m, 's> PartialEq for FluentMessage<'m, 's> {
     ghost use Rattle.std.specs.Cmp.{partial_equiv_from_equiv};
-    ghost use Rattle.fluent_syntax.specs.Tree.{is_yes};
-    ghost use Rattle.fluent_syntax.specs.Same.{equivalent, entry_same};
+    ghost use Rattle.fluent_tree.specs.Tree.{is_yes};
+    ghost use Rattle.fluent_tree.specs.Same.{equivalent, entry_same};
     ghost use Rattle.fluent_bundle.specs.BundleView.{entry_seen};
 
     ghost eq = { λ a b. is_yes (entry_same (entry_seen a) (entry_seen b)) };
@@ -74,7 +74,7 @@ impl<'m, 's> PartialEq for FluentMessage<'m, 's> {
 }
 
 impl<'m, 's> Eq for FluentMessage<'m, 's> {
-    ghost use Rattle.fluent_syntax.specs.Same.{equivalent, entry_same};
+    ghost use Rattle.fluent_tree.specs.Same.{equivalent, entry_same};
     ghost use Rattle.fluent_bundle.specs.BundleView.{entry_seen};
 
     ghost laws = { equivalent entry_seen entry_same };
@@ -105,7 +105,7 @@ impl<'m, 's> FluentAttribute<'m, 's> {
 
 impl<'m, 's> From<&'m ast::Attribute<'s>> for FluentAttribute<'m, 's> {
     ghost use Rattle.std.specs.Prelude.{◌≡◌};
-    ghost use Rattle.fluent_syntax.specs.View.{attribute_view};
+    ghost use Rattle.fluent_tree.specs.View.{attribute_view};
     ghost use Rattle.fluent_bundle.specs.BundleView.{attribute_content};
 
     ghost from_gives = { λ a result. attribute_content result ≡ attribute_view a.now };
@@ -117,8 +117,8 @@ impl<'m, 's> From<&'m ast::Attribute<'s>> for FluentAttribute<'m, 's> {
 
 impl<'m, 's> PartialEq for FluentAttribute<'m, 's> {
     ghost use Rattle.std.specs.Cmp.{partial_equiv_from_equiv};
-    ghost use Rattle.fluent_syntax.specs.Tree.{is_yes};
-    ghost use Rattle.fluent_syntax.specs.Same.{equivalent, attribute_same};
+    ghost use Rattle.fluent_tree.specs.Tree.{is_yes};
+    ghost use Rattle.fluent_tree.specs.Same.{equivalent, attribute_same};
     ghost use Rattle.fluent_bundle.specs.BundleView.{attribute_content};
 
     ghost eq = { λ a b. is_yes (attribute_same (attribute_content a) (attribute_content b)) };
@@ -131,7 +131,7 @@ impl<'m, 's> PartialEq for FluentAttribute<'m, 's> {
 }
 
 impl<'m, 's> Eq for FluentAttribute<'m, 's> {
-    ghost use Rattle.fluent_syntax.specs.Same.{equivalent, attribute_same};
+    ghost use Rattle.fluent_tree.specs.Same.{equivalent, attribute_same};
     ghost use Rattle.fluent_bundle.specs.BundleView.{attribute_content};
 
     ghost laws = { equivalent attribute_content attribute_same };

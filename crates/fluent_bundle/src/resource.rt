@@ -3,7 +3,7 @@ ghost use Rattle.std.specs.Prelude.{◌≡◌, map};
 ghost use Rattle.std.specs.Option.{option_map};
 ghost use Rattle.std.specs.List.{slice_get};
 ghost use Rattle.std.specs.Slice.Iter.{iter_rest};
-ghost use Rattle.fluent_syntax.specs.View.{entry_view};
+ghost use Rattle.fluent_tree.specs.View.{entry_view};
 ghost use Rattle.fluent_bundle.specs.BundleView.{Tried, entries_of};
 
 use fluent_syntax::{ParseFault, ParserError, ast, parse_runtime};

@@ -1,7 +1,7 @@
 -- What adding does to a bundle.
 use Rattle.std.proofs.Common.{◌≡◌, ℕ, ◌+◌, ◌≤◌, List, [], ◌∷◌, ◌++◌, Bool, true, false, Option, Some, None, is_some, if◌then◌else◌, refl, sym, ap, ◌∙◌, arith, append_assoc, codes}
-use Rattle.fluent_syntax.specs.Tree as t
-use Rattle.fluent_syntax.specs.Tree.{Text, message_entry, term_entry, junk_entry}
+use Rattle.fluent_tree.specs.Tree as t
+use Rattle.fluent_tree.specs.Tree.{Text, message_entry, term_entry, junk_entry}
 use Rattle.fluent_meaning.specs.Errors.{message_kind, term_kind}
 use Rattle.fluent_meaning.specs.Arguments.{Map, get, set, IsInOrder}
 use Rattle.fluent_meaning.specs.Bundle.{Bundle, Entry, a_message, a_term, a_function, number_builtin, is_message, is_term, is_function, Call, add_resource, add_resource_overriding, add_function, add_builtins, set_use_isolating, set_transform, set_formatter, set_placeable_limit, add_free, added, overridden, error_if_taken, not_added, after, after_all, answered}

@@ -1,7 +1,7 @@
 -- What a term's arguments, a run's errors and a bundle's answers come to.
 use Rattle.std.proofs.Common.{◌≡◌, ℕ, zero, suc, ◌+◌, ◌≤◌, List, [], ◌∷◌, ◌++◌, Bool, false, refl, ap, ◌∙◌, arith}
 use Rattle.std.specs.Bool.{⊤}
-use Rattle.fluent_syntax.specs.Tree.{Text, Attribute, Pattern, Inline, string, number, function, message, term, variable, nested, Call, no_call, call, arguments, no_inlines, argument, Nameds, no_nameds, named_argument}
+use Rattle.fluent_tree.specs.Tree.{Text, Attribute, Pattern, Inline, string, number, function, message, term, variable, nested, Call, no_call, call, arguments, no_inlines, argument, Nameds, no_nameds, named_argument}
 use Rattle.fluent_meaning.specs.Errors.{Error, ResolverError, resolver_error, lost, missing_default, cyclic, too_many_placeables, overriding, parser_error}
 use Rattle.fluent_meaning.specs.Errors as errors
 use Rattle.fluent_meaning.specs.Value.{Value, Custom, Plurals, same, text_value, number_value, custom_value, no_value, error_value}

@@ -1,7 +1,7 @@
 -- How deep references are followed makes no difference to a run, once it is more than the budget.
 use Rattle.std.proofs.Common.{◌≡◌, ℕ, zero, suc, ◌≤◌, ◌<◌, List, [], Bool, refl, sym, ap, ◌∙◌, arith}
 use Rattle.std.specs.Bool.{⊤}
-use Rattle.fluent_syntax.specs.Tree.{Text, Pattern, nothing, more}
+use Rattle.fluent_tree.specs.Tree.{Text, Pattern, nothing, more}
 use Rattle.fluent_meaning.specs.Bundle.{Bundle}
 use Rattle.fluent_meaning.specs.Walk.{Environment, elements, has_one, inner, whole, deep}
 use Rattle.fluent_meaning.specs.Meaning.{nothing_more, at_most, Budget, left, struck, Ran, after_errors, after_text, closed, within_budget, opening, unless_struck, ran, run}

@@ -1,7 +1,7 @@
 -- How deep references are followed makes no difference to the counts of a run, once it is more than the budget.
 use Rattle.std.proofs.Common.{◌≡◌, ℕ, zero, suc, ◌+◌, ◌≤◌, ◌<◌, max, List, [], Bool, length, refl, sym, ap, ◌∙◌, arith}
 use Rattle.std.specs.Bool.{⊤}
-use Rattle.fluent_syntax.specs.Tree.{Text, Pattern}
+use Rattle.fluent_tree.specs.Tree.{Text, Pattern}
 use Rattle.fluent_meaning.specs.Bundle.{Bundle}
 use Rattle.fluent_meaning.specs.Walk.{Environment, has_one, inner, whole, deep}
 use Rattle.fluent_meaning.specs.Meaning.{Budget, left, struck, at_most, after_errors, after_text, closed}

@@ -2,7 +2,7 @@
 use Rattle.std.proofs.Common.{◌≡◌, ℕ, zero, suc, ◌+◌, ◌≤◌, ◌<◌, List, [], ◌∷◌, ◌++◌, length, map, Bool, true, false, Option, Some, None, if◌then◌else◌, cond, refl, sym, ap, ◌∙◌, arith, inl, inr, ◌⊎◌}
 use Rattle.std.specs.Ordering.{nat_cmp, eq_by_cmp}
 use Rattle.std.specs.Cmp.Lexicographic.{slice_cmp}
-use Rattle.fluent_syntax.specs.Tree.{Text, Attribute, no_attribute, attribute, Attributes, is_yes, pattern_same, Pattern}
+use Rattle.fluent_tree.specs.Tree.{Text, Attribute, no_attribute, attribute, Attributes, is_yes, pattern_same, Pattern}
 use Rattle.fluent_meaning.specs.Number.{is_text}
 use Rattle.fluent_meaning.specs.Arguments.{Map, get}
 use Rattle.fluent_meaning.specs.Bundle.{Bundle, Entry, a_message, a_term, a_function, number_builtin, Target, found, first_of, message_target, term_target, patterns_of, stored_in, stored}

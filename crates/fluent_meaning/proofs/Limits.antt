@@ -1,7 +1,7 @@
 -- The substitution meaning beside a run up to the strike.
 use Rattle.std.proofs.Common.{◌≡◌, ℕ, zero, suc, ◌+◌, ◌-◌, ◌≤◌, ◌<◌, ◌↔◌, List, [], ◌++◌, length, Bool, refl, sym, ap, subst, ◌∙◌, arith, append_assoc}
 use Rattle.std.specs.Bool.{⊤}
-use Rattle.fluent_syntax.specs.Tree.{Text, Pattern}
+use Rattle.fluent_tree.specs.Tree.{Text, Pattern}
 use Rattle.fluent_meaning.specs.Errors.{Error}
 use Rattle.fluent_meaning.specs.Bundle.{Bundle, stored}
 use Rattle.fluent_meaning.specs.Walk.{Environment, has_one, inner, deep}

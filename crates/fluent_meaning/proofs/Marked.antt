@@ -3,8 +3,8 @@ use Rattle.std.proofs.Common.{◌≡◌, ℕ, zero, suc, ℤ, pos, ◌+◌, ◌/
 use Rattle.std.specs.List.{range_with_len}
 use Rattle.std.specs.Bool.{⊤}
 use Rattle.std.specs.Fmt.{decimal, digits, digits_onto, digit_glyph}
-use Rattle.fluent_syntax.specs.Tree.{Text, Attribute, no_attribute, attribute}
-use Rattle.fluent_syntax.specs.Fallback.{dotted, in_braces}
+use Rattle.fluent_tree.specs.Tree.{Text, Attribute, no_attribute, attribute}
+use Rattle.fluent_tree.specs.Fallback.{dotted, in_braces}
 use Rattle.fluent_intl.specs.Decimal.{text_places, place_digit, point_text, decimal_text}
 use Rattle.fluent_meaning.specs.Meaning.{first_mark, last_mark}
 use Rattle.fluent_meaning.specs.Marks.{at_front, marks, cut_off, is_whole, IsBalanced, IsBalancedAttribute}

@@ -1,8 +1,8 @@
 -- A walk over texts in balance writes texts in balance.
 use Rattle.std.proofs.Common.{◌≡◌, ℕ, ℤ, zero, suc, List, [], ◌∷◌, ◌++◌, length, Bool, true, false, Option, Some, None, if◌then◌else◌, refl, sym, subst, ◌∙◌, arith, append_assoc, inl, inr}
 use Rattle.std.specs.Bool.{⊤}
-use Rattle.fluent_syntax.specs.Tree.{Text, Pattern, nothing, more, text, placeable, Expression, inline, select, Variants, no_variants, variant, Inline, string, number, function, message, term, variable, nested, Call, no_call, call, arguments, Nameds, no_nameds, named_argument}
-use Rattle.fluent_syntax.specs.Fallback.{fallback, fallback_of}
+use Rattle.fluent_tree.specs.Tree.{Text, Pattern, nothing, more, text, placeable, Expression, inline, select, Variants, no_variants, variant, Inline, string, number, function, message, term, variable, nested, Call, no_call, call, arguments, Nameds, no_nameds, named_argument}
+use Rattle.fluent_tree.specs.Fallback.{fallback, fallback_of}
 use Rattle.fluent_meaning.specs.Number.{is_text, read_number}
 use Rattle.fluent_meaning.specs.Errors.{Reference, reference_of}
 use Rattle.fluent_meaning.specs.Value as values

@@ -1,7 +1,7 @@
 -- What holds of every step of two walks holds of the walks.
 use Rattle.std.proofs.Common.{◌≡◌, ℕ, List, [], ◌∷◌, ◌++◌, length, Bool, true, false, Option, Some, None, refl}
-use Rattle.fluent_syntax.specs.Tree.{Text, Attribute, Pattern, nothing, more, Element, text, placeable, Expression, inline, select, Variants, no_variants, variant, Inline, string, number, function, message, term, variable, nested, Call, no_call, call, Arguments, arguments, Inlines, no_inlines, argument, Nameds, no_nameds, named_argument}
-use Rattle.fluent_syntax.specs.Fallback.{fallback, in_braces}
+use Rattle.fluent_tree.specs.Tree.{Text, Attribute, Pattern, nothing, more, Element, text, placeable, Expression, inline, select, Variants, no_variants, variant, Inline, string, number, function, message, term, variable, nested, Call, no_call, call, Arguments, arguments, Inlines, no_inlines, argument, Nameds, no_nameds, named_argument}
+use Rattle.fluent_tree.specs.Fallback.{fallback, in_braces}
 use Rattle.fluent_meaning.specs.Errors.{ResolverError, lost, no_value, missing_default, cyclic, too_many_placeables, Reference, reference_of}
 use Rattle.fluent_meaning.specs.Value as values
 use Rattle.fluent_meaning.specs.Value.{Value, text_value, number_value, custom_value, error_value, try_number}

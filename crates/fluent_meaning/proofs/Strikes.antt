@@ -1,8 +1,8 @@
 -- A run up to the strike, beside the whole run.
 use Rattle.std.proofs.Common.{◌≡◌, ℕ, zero, suc, List, [], ◌∷◌, ◌++◌, Bool, refl, sym, ap, subst, ◌∙◌, append_assoc, append-nil}
 use Rattle.std.specs.Bool.{⊤}
-use Rattle.fluent_syntax.specs.Tree.{Text, Pattern}
-use Rattle.fluent_syntax.specs.Fallback.{in_braces}
+use Rattle.fluent_tree.specs.Tree.{Text, Pattern}
+use Rattle.fluent_tree.specs.Fallback.{in_braces}
 use Rattle.fluent_meaning.specs.Errors.{Error, resolver_error, too_many_placeables}
 use Rattle.fluent_meaning.specs.Bundle.{Bundle}
 use Rattle.fluent_meaning.specs.Walk.{Environment, has_one, inner, deep}

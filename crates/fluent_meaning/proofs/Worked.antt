@@ -2,7 +2,7 @@
 use Rattle.std.proofs.Common.{◌≡◌, ℕ, zero, suc, ◌+◌, ◌*◌, ◌≤◌, List, [], ◌∷◌, ◌++◌, length, length-append, Bool, true, false, Option, Some, None, refl, ap, ◌∙◌, arith, inl, inr}
 use Rattle.std.proofs.Math.Nat.{add-mul, mul-le-mul_right}
 use Rattle.std.specs.Bool.{⊤}
-use Rattle.fluent_syntax.specs.Tree.{Text, Pattern, nothing, more, text, placeable, Expression, inline, select, Variants, no_variants, variant, Inline, string, number, function, message, term, variable, nested, no_call, call, Arguments, arguments, Inlines, no_inlines, argument, Nameds, no_nameds, named_argument}
+use Rattle.fluent_tree.specs.Tree.{Text, Pattern, nothing, more, text, placeable, Expression, inline, select, Variants, no_variants, variant, Inline, string, number, function, message, term, variable, nested, no_call, call, Arguments, arguments, Inlines, no_inlines, argument, Nameds, no_nameds, named_argument}
 use Rattle.fluent_meaning.specs.Errors.{ResolverError, lost, no_value, cyclic, Reference, reference_of}
 use Rattle.fluent_meaning.specs.Value as values
 use Rattle.fluent_meaning.specs.Value.{Value, text_value, number_value, custom_value, error_value, try_number}

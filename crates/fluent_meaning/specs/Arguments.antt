@@ -3,7 +3,7 @@ use Rattle.std.specs.Prelude.{ℕ, min, List, [], ◌∷◌, not, Option, Some, 
 use Rattle.std.specs.Ordering.{nat_cmp}
 use Rattle.std.specs.Cmp.Lexicographic.{slice_cmp}
 use Rattle.std.specs.FinMap.{find, put, is_sorted}
-use Rattle.fluent_syntax.specs.Tree.{Text}
+use Rattle.fluent_tree.specs.Tree.{Text}
 use Rattle.fluent_intl.specs.Options.{Options, type_named, style_named, currency_display_named}
 use Rattle.fluent_meaning.specs.Number.{as_count, is_text}
 use Rattle.fluent_meaning.specs.Value.{Value, text_value, number_value, custom_value, no_value, error_value}

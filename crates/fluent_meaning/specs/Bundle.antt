@@ -1,7 +1,7 @@
 -- What a bundle is, and what each call makes of it: messages, terms and functions of fluent-bundle share one map of ids.
 use Rattle.std.specs.Prelude.{ℕ, ◌&&◌, nat_le, List, [], ◌∷◌, ◌++◌, map, Bool, true, false, Option, Some, None, is_some, codes, if◌then◌else◌}
-use Rattle.fluent_syntax.specs.Tree as t
-use Rattle.fluent_syntax.specs.Tree.{Text, Attribute, no_attribute, attribute, Key, name_key, number_key, Pattern, Attributes, message_entry, term_entry, junk_entry}
+use Rattle.fluent_tree.specs.Tree as t
+use Rattle.fluent_tree.specs.Tree.{Text, Attribute, no_attribute, attribute, Key, name_key, number_key, Pattern, Attributes, message_entry, term_entry, junk_entry}
 use Rattle.fluent_meaning.specs.Number.{is_text}
 use Rattle.fluent_meaning.specs.Value.{Value, text_value, Custom, Plurals, value_text, matches, try_number}
 use Rattle.fluent_meaning.specs.Arguments.{Map, get, set, number_function}

@@ -1,8 +1,8 @@
 -- What is reported: the content of fluent-bundle's errors, whatever owns their texts, and their texts.
 use Rattle.std.specs.Prelude.{ℕ, ◌∷◌, ◌++◌, Option, Some, None, codes}
-use Rattle.fluent_syntax.specs.Tree.{Text, Attribute, no_attribute, attribute, Inline, string, number, function, message, term, variable, nested}
-use Rattle.fluent_syntax.specs.Fallback.{dotted}
-use Rattle.fluent_syntax.specs.ParserError.{unreadable_text}
+use Rattle.fluent_tree.specs.Tree.{Text, Attribute, no_attribute, attribute, Inline, string, number, function, message, term, variable, nested}
+use Rattle.fluent_tree.specs.Fallback.{dotted}
+use Rattle.fluent_tree.specs.ParserError.{unreadable_text}
 
 pub data Kind : Type 0 where
   message_kind term_kind function_kind : Kind

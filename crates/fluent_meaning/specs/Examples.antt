@@ -1,8 +1,8 @@
 -- Trees, bundles and results written by hand, for the worked examples.
 use Prim.Native.String.{String}
 use Rattle.std.specs.Prelude.{◌≡◌, ℕ, suc, zero, pos, ◌-◌, ◌*◌, ◌^◌, nat_le, ◌&&◌, List, [], ◌∷◌, ◌++◌, map, length, true, false, Option, Some, None, codes, if◌then◌else◌}
-use Rattle.fluent_syntax.specs.Tree as t
-use Rattle.fluent_syntax.specs.Tree.{Text, Key, name_key, number_key, no_attribute, attribute, Pattern, nothing, Element, text, placeable, inline, select, Inline, string, number, function, message, term, variable, nested, no_call, call, arguments, pattern_of, variants_of, inlines_of, nameds_of, message_entry, term_entry}
+use Rattle.fluent_tree.specs.Tree as t
+use Rattle.fluent_tree.specs.Tree.{Text, Key, name_key, number_key, no_attribute, attribute, Pattern, nothing, Element, text, placeable, inline, select, Inline, string, number, function, message, term, variable, nested, no_call, call, arguments, pattern_of, variants_of, inlines_of, nameds_of, message_entry, term_entry}
 use Rattle.fluent_intl.specs.Number.{number_with}
 use Rattle.fluent_intl.specs.Plurals.{english}
 use Rattle.fluent_meaning.specs.Value.{Value, text_value, number_value, error_value}

@@ -1,7 +1,7 @@
 -- Worked examples: the limit on placeables.
 use Rattle.std.specs.Prelude.{◌≡◌, ℕ, zero, suc, List, [], ◌∷◌, ◌++◌, codes}
-use Rattle.fluent_syntax.specs.Tree as t
-use Rattle.fluent_syntax.specs.Tree.{Element, Inline, nested, inline, placeable, Pattern, pattern_of}
+use Rattle.fluent_tree.specs.Tree as t
+use Rattle.fluent_tree.specs.Tree.{Element, Inline, nested, inline, placeable, Pattern, pattern_of}
 use Rattle.fluent_meaning.specs.Bundle.{Bundle, add_resource, add_builtins, set_placeable_limit}
 use Rattle.fluent_meaning.specs.Examples.{NoCustom, say, put, var, str, msg, own_with, fun, case, default, choose, times, entry, private, bundle, F, P, many, unknown_variable, too_many, Gives}
 

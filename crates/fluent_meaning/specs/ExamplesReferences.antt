@@ -1,8 +1,8 @@
 -- Worked examples: references, environments, paths, functions, and the calls of a bundle.
 use Rattle.std.specs.Prelude.{◌≡◌, List, [], ◌∷◌, ◌++◌, Bool, true, false, None, codes}
-use Rattle.fluent_syntax.specs.Tree as t
-use Rattle.fluent_syntax.specs.Tree.{Text, Element, Pattern, nothing, no_attribute, attribute, pattern_of, text, message_entry, term_entry, string}
-use Rattle.fluent_syntax.specs.Fallback.{fallback, in_braces}
+use Rattle.fluent_tree.specs.Tree as t
+use Rattle.fluent_tree.specs.Tree.{Text, Element, Pattern, nothing, no_attribute, attribute, pattern_of, text, message_entry, term_entry, string}
+use Rattle.fluent_tree.specs.Fallback.{fallback, in_braces}
 use Rattle.fluent_meaning.specs.Value.{custom_value, no_value, error_value}
 use Rattle.fluent_meaning.specs.Arguments.{get}
 use Rattle.fluent_meaning.specs.Errors as errors

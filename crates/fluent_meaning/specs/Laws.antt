@@ -1,6 +1,6 @@
 -- The laws, as statements.
 use Rattle.std.specs.Prelude.{◌≡◌, ℕ, ◌+◌, ◌-◌, ◌*◌, ◌<◌, ◌≤◌, ◌↔◌, length, List, ◌∷◌, ◌++◌}
-use Rattle.fluent_syntax.specs.Tree.{Text, Pattern}
+use Rattle.fluent_tree.specs.Tree.{Text, Pattern}
 use Rattle.fluent_meaning.specs.Errors.{Error, resolver_error, too_many_placeables}
 use Rattle.fluent_meaning.specs.Bundle.{Bundle, stored}
 use Rattle.fluent_meaning.specs.Walk.{Environment, inner, whole}

@@ -1,7 +1,7 @@
 -- The two meanings of a pattern: by substitution, without a limit, and with a budget, which is fluent-bundle's limit on placeables.
 use Rattle.std.specs.Prelude.{ℕ, zero, suc, ◌+◌, List, [], ◌∷◌, ◌++◌, length, Bool, if◌then◌else◌}
-use Rattle.fluent_syntax.specs.Tree.{Text, Pattern}
-use Rattle.fluent_syntax.specs.Fallback.{in_braces}
+use Rattle.fluent_tree.specs.Tree.{Text, Pattern}
+use Rattle.fluent_tree.specs.Fallback.{in_braces}
 use Rattle.fluent_meaning.specs.Errors.{Error, resolver_error, too_many_placeables}
 use Rattle.fluent_meaning.specs.Bundle.{Bundle, stored}
 use Rattle.fluent_meaning.specs.Walk.{Environment, Steps, deep}

@@ -1,7 +1,7 @@
 -- What the formatting calls give, and the calls of a scope.
 use Rattle.std.specs.Prelude.{List, [], false}
-use Rattle.fluent_syntax.specs.Tree.{Text, Pattern, Expression, Inline, Arguments}
-use Rattle.fluent_syntax.specs.Fallback.{fallback_of}
+use Rattle.fluent_tree.specs.Tree.{Text, Pattern, Expression, Inline, Arguments}
+use Rattle.fluent_tree.specs.Fallback.{fallback_of}
 use Rattle.fluent_meaning.specs.Value.{Value, text_value}
 use Rattle.fluent_meaning.specs.Arguments.{Map}
 use Rattle.fluent_meaning.specs.Bundle.{Bundle, unless_formatted}

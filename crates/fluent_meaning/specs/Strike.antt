@@ -1,7 +1,7 @@
 -- What stands when the limit is struck.
 use Rattle.std.specs.Prelude.{ℕ, zero, suc, List, [], ◌∷◌, ◌++◌, Bool}
-use Rattle.fluent_syntax.specs.Tree.{Text, Pattern}
-use Rattle.fluent_syntax.specs.Fallback.{in_braces}
+use Rattle.fluent_tree.specs.Tree.{Text, Pattern}
+use Rattle.fluent_tree.specs.Fallback.{in_braces}
 use Rattle.fluent_meaning.specs.Errors.{Error, resolver_error}
 use Rattle.fluent_meaning.specs.Bundle.{Bundle}
 use Rattle.fluent_meaning.specs.Walk.{Environment, Steps, deep}

@@ -1,7 +1,7 @@
 -- Laws that callers rely on, as statements.
 use Rattle.std.specs.Prelude.{◌≡◌, ◌↔◌, ℕ, ℤ, ◌+◌, ◌≤◌, List, [], ◌∷◌, ◌++◌, false, Option, Some, if◌then◌else◌}
-use Rattle.fluent_syntax.specs.Tree as t
-use Rattle.fluent_syntax.specs.Tree.{Text, Attribute, Pattern, Inline, string, number, term, Call, no_call, call, arguments, no_inlines, Nameds, no_nameds, named_argument, message_entry, term_entry, junk_entry}
+use Rattle.fluent_tree.specs.Tree as t
+use Rattle.fluent_tree.specs.Tree.{Text, Attribute, Pattern, Inline, string, number, term, Call, no_call, call, arguments, no_inlines, Nameds, no_nameds, named_argument, message_entry, term_entry, junk_entry}
 use Rattle.fluent_intl.specs.Decimal.{Reads}
 use Rattle.fluent_meaning.specs.Number.{is_text, read_number}
 use Rattle.fluent_meaning.specs.Errors.{Error, resolver_error, overriding, parser_error, ResolverError, lost, missing_default, cyclic, too_many_placeables}

@@ -1,6 +1,6 @@
 -- What a variable holds or a function answers: the values of fluent-bundle, by their content.
 use Rattle.std.specs.Prelude.{ℕ, ℤ, [], Bool, false, Option, Some, None}
-use Rattle.fluent_syntax.specs.Tree.{Text}
+use Rattle.fluent_tree.specs.Tree.{Text}
 use Rattle.fluent_intl.specs.Decimal.{decimal_text}
 use Rattle.fluent_intl.specs.Number.{Number, number_with}
 use Rattle.fluent_intl.specs.Operands.{operands_of}

@@ -1,6 +1,6 @@
 -- The work of a run: placeables opened, the longest path, patterns entered.
 use Rattle.std.specs.Prelude.{ℕ, zero, suc, ◌+◌, max, List, [], ◌∷◌, Bool}
-use Rattle.fluent_syntax.specs.Tree.{Text, Pattern, nothing, more, text, placeable, Expression, inline, select, Variants, no_variants, variant, Inline, string, number, function, message, term, variable, nested, no_call, call, Arguments, arguments, Inlines, no_inlines, argument, Nameds, no_nameds, named_argument}
+use Rattle.fluent_tree.specs.Tree.{Text, Pattern, nothing, more, text, placeable, Expression, inline, select, Variants, no_variants, variant, Inline, string, number, function, message, term, variable, nested, no_call, call, Arguments, arguments, Inlines, no_inlines, argument, Nameds, no_nameds, named_argument}
 use Rattle.fluent_meaning.specs.Bundle.{Bundle, stored}
 use Rattle.fluent_meaning.specs.Walk.{Environment, Steps, deep}
 use Rattle.fluent_meaning.specs.Meaning.{Budget, left, struck, at_most, Ran, after_errors, after_text, closed, strike, nothing_more, within_budget}

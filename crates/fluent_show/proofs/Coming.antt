@@ -5,12 +5,12 @@ use Rattle.std.specs.Str.{IsUtf8, is_utf8}
 use Rattle.std.specs.Io.KnownBytes.{Appends}
 use Rattle.std.proofs.KnownBytes.{Appends-nil}
 use Rattle.std.proofs.lemmas.Str.{IsUtf8-from_is_utf8, is_utf8-from_IsUtf8}
-use Rattle.fluent_syntax.specs.Tree.{Text}
+use Rattle.fluent_tree.specs.Tree.{Text}
 use Rattle.fluent_values.specs.declared.errors.FluentError.{FluentError}
 use Rattle.fluent_show.specs.Words.{Asked}
 use Rattle.fluent_show.specs.Ending.{Ending, shown, no_message, bad_usage, not_utf8, out_of_memory, reading_failed, writing_failed, status, said}
-use Rattle.fluent_syntax.specs.declared.counting.WriteFault.{WriteFault}
-use Rattle.fluent_syntax.specs.declared.counting.WriteFault.TheVariants.{Memory, Writer, Zero}
+use Rattle.fluent_tree.specs.declared.counting.WriteFault.{WriteFault}
+use Rattle.fluent_tree.specs.declared.counting.WriteFault.TheVariants.{Memory, Writer, Zero}
 use Rattle.fluent_show.specs.EndingView.{reported, ending_of}
 use Rattle.fluent_show.specs.Program.{Run, only, run_source, run_input}
 use Rattle.fluent_show.specs.Said.{Says}

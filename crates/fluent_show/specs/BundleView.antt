@@ -1,6 +1,6 @@
 -- The bundle of the code and its arguments, by content.
 use Rattle.std.specs.Prelude.{[], true, None}
-use Rattle.fluent_syntax.specs.Tree.{Text}
+use Rattle.fluent_tree.specs.Tree.{Text}
 use Rattle.fluent_intl.specs.Plurals.{english}
 use Rattle.fluent_intl.specs.declared.plurals.EnglishPlurals.{EnglishPlurals}
 use Rattle.fluent_meaning.specs.Value.{Value, error_value}

@@ -1,6 +1,6 @@
 -- How a run ends: its status, and what it says of that on standard error.
 use Rattle.std.specs.Prelude.{ℕ, List, [], ◌∷◌, ◌++◌, codes}
-use Rattle.fluent_syntax.specs.Tree.{Text}
+use Rattle.fluent_tree.specs.Tree.{Text}
 use Rattle.fluent_meaning.specs.Errors.{Error, error_text}
 
 pub data Ending : Type 0 where

@@ -1,7 +1,7 @@
 -- How far a call came with what it writes and reports.
 use Rattle.std.specs.Prelude.{◌≡◌, ℕ, List, [], ◌++◌, ◌⊎◌, Option, Result, OnOk}
 use Rattle.std.specs.Io.KnownBytes.{Appends}
-use Rattle.fluent_syntax.specs.Tree.{Text}
+use Rattle.fluent_tree.specs.Tree.{Text}
 use Rattle.fluent_meaning.specs.Errors.{Error}
 use Rattle.fluent_values.specs.declared.errors.FluentError.{FluentError}
 use Rattle.fluent_show.specs.EndingView.{reported}

@@ -1,8 +1,8 @@
 -- What a run of the program came to.
 use Rattle.std.specs.Prelude.{◌≡◌, ℕ, List, ◌++◌, ◌⊎◌, Option, IfSome}
 use Rattle.std.specs.Io.KnownBytes.{Appends}
-use Rattle.fluent_syntax.specs.Tree.{Text}
-use Rattle.fluent_syntax.specs.Taken.{raised}
+use Rattle.fluent_tree.specs.Tree.{Text}
+use Rattle.fluent_tree.specs.Taken.{raised}
 use Rattle.fluent_meaning.specs.Errors.{Error}
 use Rattle.fluent_show.specs.Ending.{Ending, said, out_of_memory, reading_failed, writing_failed}
 use Rattle.fluent_show.specs.Program.{Run, Answer}

@@ -2,7 +2,7 @@
 use Rattle.std.specs.Prelude.{ℕ, Bool, true, List, [], ◌∷◌, ◌++◌, map, Option, Some, None, if◌then◌else◌}
 use Rattle.std.specs.Option.{option_and_then}
 use Rattle.std.specs.Str.{is_utf8}
-use Rattle.fluent_syntax.specs.Tree.{Text, Pattern, Entry}
+use Rattle.fluent_tree.specs.Tree.{Text, Pattern, Entry}
 use Rattle.fluent_syntax.specs.Chunks.{entries, junk_ranges}
 use Rattle.fluent_intl.specs.Plurals.{english}
 use Rattle.fluent_meaning.specs.Errors.{Error, parser_error}

@@ -1,9 +1,9 @@
 -- What standard error took of a report.
 use Rattle.std.specs.Prelude.{◌≡◌, List, ◌++◌, ◌⊎◌, Option, Result, Ok, Err}
 use Rattle.std.specs.Io.KnownBytes.{Appends}
-use Rattle.fluent_syntax.specs.Tree.{Text}
-use Rattle.fluent_syntax.specs.declared.counting.WriteFault.{WriteFault}
-use Rattle.fluent_syntax.specs.declared.counting.WriteFault.TheVariants.{Memory, Writer, Zero}
+use Rattle.fluent_tree.specs.Tree.{Text}
+use Rattle.fluent_tree.specs.declared.counting.WriteFault.{WriteFault}
+use Rattle.fluent_tree.specs.declared.counting.WriteFault.TheVariants.{Memory, Writer, Zero}
 use Rattle.fluent_meaning.specs.Errors.{Error}
 use Rattle.fluent_show.specs.Ending.{Ending, out_of_memory, error_lines, said}
 

@@ -2,7 +2,7 @@
 use Rattle.std.specs.Prelude.{ℕ, Bool, true, false, ◌&&◌, ◌==◌, nat_eq, nat_lt, if◌then◌else◌, Option, Some, None, List, [], ◌∷◌, map, length, codes}
 use Rattle.std.specs.List.{list_all, starts_with, before_first, after_first}
 use Rattle.std.specs.Str.{bytes_eq}
-use Rattle.fluent_syntax.specs.Tree.{Text}
+use Rattle.fluent_tree.specs.Tree.{Text}
 
 -- a message to show, whether placeables are isolated, and the arguments in their order
 pub record Asked : Type 0 where

@@ -4,9 +4,9 @@ use Rattle.std.proofs.Math.Seq.{take-append_seam}
 use Rattle.std.proofs.lemmas.Str.{IsCharBoundary-at_seam}
 use Rattle.std.specs.Str.{IsCharBoundary}
 use Rattle.std.proofs.lemmas.Bool.Decides.{nat_tests}
-use Rattle.fluent_syntax.specs.Tree.{Entry}
-use Rattle.fluent_syntax.specs.Parser.{Read, ◌>>◌, ◌<$>◌, pure, ignore, skip, count, run_len, run, byte, first}
-use Rattle.fluent_syntax.specs.Lexical.{is_inside, blank_block}
+use Rattle.fluent_tree.specs.Tree.{Entry}
+use Rattle.fluent_tree.specs.Parser.{Read, ◌>>◌, ◌<$>◌, pure, ignore, skip, count, run_len, run, byte, first}
+use Rattle.fluent_tree.specs.Lexical.{is_inside, blank_block}
 use Rattle.fluent_syntax.specs.Entries.{entry}
 use Rattle.fluent_syntax.specs.Chunks.{may_begin_entry, rest_of_line, comment_line, junk_line, junk, Part, part, entry_part, blank_part, junk_part, Chunk, chunk, with_bytes, taken, followed_by, chunks_within, chunks, entry_of, entries_of, junk_range, ranges_from}
 use Rattle.fluent_syntax.proofs.Runs.{run_len-stops}

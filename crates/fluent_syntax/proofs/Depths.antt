@@ -1,9 +1,9 @@
 -- Placeables and argument lists in one another, as deep as they may stand and one deeper.
 use Rattle.std.proofs.Common.{◌≡◌, ℕ, zero, suc, [], ◌∷◌, length, Some, None, true, false, ◌==◌, refl, sym, ap, ◌∙◌, arith}
 use Rattle.std.proofs.lemmas.Bool.Decides.{nat_tests}
-use Rattle.fluent_syntax.specs.Tree.{Text, Expression, inline, no_attribute, message, nested, function, Inline, Arguments, arguments, no_inlines, argument, no_nameds}
-use Rattle.fluent_syntax.specs.Parser.{many_from, byte, run1}
-use Rattle.fluent_syntax.specs.Lexical as l
+use Rattle.fluent_tree.specs.Tree.{Text, Expression, inline, no_attribute, message, nested, function, Inline, Arguments, arguments, no_inlines, argument, no_nameds}
+use Rattle.fluent_tree.specs.Parser.{many_from, byte, run1}
+use Rattle.fluent_tree.specs.Lexical as l
 use Rattle.fluent_syntax.specs.Expressions as e
 use Rattle.fluent_syntax.specs.Expressions.{Level, level, Gathered, Argument, positional, add, argument_list, call_arguments, comma, arrow, inline_expression, expression, inline_placeable}
 use Rattle.fluent_syntax.proofs.Gathers.{starts, gathers-none, gathers-last}

@@ -6,7 +6,7 @@ use Rattle.std.proofs.Math.Seq.{take-append_seam}
 use Rattle.std.proofs.lemmas.List.{length-map, take-map, reverse-append, map-append, take-append-drop}
 use Rattle.std.proofs.lemmas.List.Sums.{suffix_len-take_yes}
 use Rattle.fluent_syntax.specs.Layout.{without_last, trimmed, trim_last}
-use Rattle.fluent_syntax.specs.Tree.{Element}
+use Rattle.fluent_tree.specs.Tree.{Element}
 use Rattle.fluent_syntax.specs.Backwards.{backwards}
 
 -- what a loop that counts down keeps: so many elements at the end pass

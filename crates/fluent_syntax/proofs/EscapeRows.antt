@@ -2,9 +2,9 @@
 use Rattle.std.proofs.Common.{◌≡◌, [], ◌∷◌, refl}
 use Rattle.std.specs.Prelude.{codes}
 use lib.Utf8.{encode}
-use Rattle.fluent_syntax.specs.Parser as p
-use Rattle.fluent_syntax.specs.Escapes as e
-use Rattle.fluent_syntax.specs.Escapes.{unescaped}
+use Rattle.fluent_tree.specs.Parser as p
+use Rattle.fluent_tree.specs.Escapes as e
+use Rattle.fluent_tree.specs.Escapes.{unescaped}
 
 -- a text without a backslash is itself
 pub row_plain : unescaped (codes "hello") ≡ codes "hello"

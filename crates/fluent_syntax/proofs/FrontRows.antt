@@ -1,14 +1,14 @@
 -- An entry looks on: its front and the two bytes behind it don't say what is read. Its front alone does, before what ends it.
 use Rattle.std.proofs.Common.{◌≡◌, ℕ, List, [], ◌∷◌, ◌++◌, length, Some, None, refl, sym, ap, ◌∙◌, append_assoc, arith}
 use Rattle.std.specs.Prelude.{codes}
-use Rattle.fluent_syntax.specs.Tree.{Text, Entry, message_entry, Element, text, placeable, inline, message, no_attribute, pattern_of}
+use Rattle.fluent_tree.specs.Tree.{Text, Entry, message_entry, Element, text, placeable, inline, message, no_attribute, pattern_of}
 use Rattle.fluent_syntax.specs.FrontLaws.{ReadByFront, EndsEntry, nothing_more, line_breaks, entry_line}
 use Rattle.fluent_syntax.proofs.Known.{lefts}
 use Rattle.fluent_syntax.proofs.Leads.{true_false}
 use Rattle.fluent_syntax.proofs.KnownEntries.{entry_before}
 use Rattle.std.proofs.lemmas.List.{append_cancel_right}
-use Rattle.fluent_syntax.specs.Parser.{Read, many_from, byte, run1}
-use Rattle.fluent_syntax.specs.Lexical.{identifier, blank_inline, line_break, line_end, blank_line, blank_block, blank_turn, blank, variable_reference}
+use Rattle.fluent_tree.specs.Parser.{Read, many_from, byte, run1}
+use Rattle.fluent_tree.specs.Lexical.{identifier, blank_inline, line_break, line_end, blank_line, blank_block, blank_turn, blank, variable_reference}
 use Rattle.fluent_syntax.specs.Layout as y
 use Rattle.fluent_syntax.specs.Pieces as t
 use Rattle.fluent_syntax.specs.Expressions as e

@@ -1,6 +1,6 @@
 -- Arguments, each read once: before a comma, or last.
 use Rattle.std.proofs.Common.{◌≡◌, ℕ, suc, ◌<◌, ◌≤◌, List, length, Some, None, ap, true, [], refl}
-use Rattle.fluent_syntax.specs.Parser.{Parser, and_then, many_from}
+use Rattle.fluent_tree.specs.Parser.{Parser, and_then, many_from}
 use Rattle.fluent_syntax.specs.Expressions.{Level, Gathered, Argument, add, argument, comma, argument_comma, last_argument, argument_list}
 use Rattle.fluent_syntax.proofs.Turns.{more, none, empty, done}
 

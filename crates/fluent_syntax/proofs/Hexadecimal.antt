@@ -2,7 +2,7 @@
 use Rattle.std.proofs.Common.{◌≡◌, ℕ, zero, suc, ◌+◌, ◌-◌, ◌*◌, ◌^◌, ◌<◌, ◌≤◌, List, Some, None, ap, ◌∙◌, arith}
 use Rattle.std.proofs.Math.Nat.{pow-le-pow_right}
 use Rattle.std.proofs.lemmas.Grind.{pow_more}
-use Rattle.fluent_syntax.specs.Escapes.{hex_digit, hex_number}
+use Rattle.fluent_tree.specs.Escapes.{hex_digit, hex_number}
 
 pub hex_more : (k j n : ℕ) (s : List ℕ) (d : ℕ) (r : List ℕ) → k ≡ suc j → hex_digit s ≡ Some (d, r) → hex_number k n s ≡ hex_number j (n * 16 + d) r
 unfolding hex_number

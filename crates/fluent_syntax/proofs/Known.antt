@@ -2,7 +2,7 @@
 use Rattle.std.proofs.Common.{◌≡◌, ◌==◌, ℕ, zero, suc, ◌-◌, ◌<◌, ◌≤◌, Bool, true, false, List, [], ◌∷◌, ◌++◌, length, Some, None, if◌then◌else◌, refl, sym, ap, ◌∙◌, subst, append_assoc, nat_lt, arith, length-append, eqb-true}
 use Rattle.std.proofs.lemmas.Bool.Decides.{nat_tests}
 use Rattle.std.proofs.lemmas.List.{append_cancel_right}
-use Rattle.fluent_syntax.specs.Parser.{Read, Parser, ◌>>=◌, ◌>>◌, ◌<$>◌, ◌<|>◌, and_then, otherwise, pure, many_from, turn, go_on, byte}
+use Rattle.fluent_tree.specs.Parser.{Read, Parser, ◌>>=◌, ◌>>◌, ◌<$>◌, ◌<|>◌, and_then, otherwise, pure, many_from, turn, go_on, byte}
 use Rattle.fluent_syntax.specs.Expressions.{provided}
 use Rattle.fluent_syntax.proofs.Fronts.{TakesTo, Takes, takes-many, takes-bind, takes-pure, takes-map, takes-nothing, takes-byte, takes-or, takes-all}
 use Rattle.fluent_syntax.proofs.Turns.{more as a_turn}

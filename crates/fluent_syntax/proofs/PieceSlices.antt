@@ -4,9 +4,9 @@ use Rattle.std.specs.Prelude.{unwrap_or}
 use Rattle.std.proofs.lemmas.List.{length-replicate}
 use Rattle.std.proofs.lemmas.Bool.{cases_Bool}
 use Rattle.std.proofs.lemmas.Bool.Decides.{nat_tests}
-use Rattle.fluent_syntax.specs.Tree.{Text, Expression, pattern_of}
-use Rattle.fluent_syntax.specs.Parser.{Parser, ◌>>=◌, ◌>>◌, ◌<$>◌, and_then, pure, optional, skip, first, byte, run, run1, run_len}
-use Rattle.fluent_syntax.specs.Lexical.{is_space, is_text, blank_inline, at_end, line_break, line_end, blank_line, blank_block}
+use Rattle.fluent_tree.specs.Tree.{Text, Expression, pattern_of}
+use Rattle.fluent_tree.specs.Parser.{Parser, ◌>>=◌, ◌>>◌, ◌<$>◌, and_then, pure, optional, skip, first, byte, run, run1, run_len}
+use Rattle.fluent_tree.specs.Lexical.{is_space, is_text, blank_inline, at_end, line_break, line_end, blank_line, blank_block}
 use Rattle.fluent_syntax.specs.Layout.{Words, Piece, line, words, hole}
 use Rattle.fluent_syntax.specs.Layout as y
 use Rattle.fluent_syntax.specs.Pieces.{follows, words_after, is_indented, indented_text, block_text, indent, block_placeable, pattern_element, pieces, pattern}

@@ -8,8 +8,8 @@ use Rattle.std.specs.Str.{IsCharBoundary}
 use Rattle.fluent_syntax.specs.declared.parser.bytes.Class.{Class}
 use Rattle.fluent_syntax.specs.declared.parser.bytes.Class.TheVariants.{Identifier, Space, Text, Digit, Inside, Quoted, Function, Plain}
 use Rattle.fluent_syntax.specs.Classes.{class_test}
-use Rattle.fluent_syntax.specs.Parser.{first, run_len}
-use Rattle.fluent_syntax.specs.Lexical.{is_identifier_byte, is_space, is_text, is_digit, is_inside, is_quoted, is_function_byte, is_plain}
+use Rattle.fluent_tree.specs.Parser.{first, run_len}
+use Rattle.fluent_tree.specs.Lexical.{is_identifier_byte, is_space, is_text, is_digit, is_inside, is_quoted, is_function_byte, is_plain}
 
 pub run_len-le : (p : ℕ → ℕ → Bool) (s : List ℕ) → run_len p s ≤ length s
 run_len-le p [] = omega arith

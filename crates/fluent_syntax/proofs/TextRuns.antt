@@ -4,8 +4,8 @@ use Rattle.std.proofs.lemmas.Bool.{cases_Bool, cases_lt}
 use Rattle.std.proofs.lemmas.Bool.Decides.{nat_tests}
 use Rattle.std.proofs.lemmas.List.{get_or_past}
 use Rattle.memchr.specs.Find.{Nowhere, Passes, is_byte3}
-use Rattle.fluent_syntax.specs.Parser.{first, run_len}
-use Rattle.fluent_syntax.specs.Lexical.{is_text}
+use Rattle.fluent_tree.specs.Parser.{first, run_len}
+use Rattle.fluent_tree.specs.Lexical.{is_text}
 use Rattle.fluent_syntax.proofs.Runs.{run_len-le, run_len-stops, run_len-passes}
 
 pub not_both : (a : Bool) → a ≡ true → a ≡ false → ⊥

@@ -1,7 +1,7 @@
 -- The turns of a repetition, beside a loop that counts up.
 use Rattle.std.proofs.Common.{map, [], ◌∷◌, ◌++◌, ◌≡◌, ℕ, suc, ◌-◌, ◌<◌, ◌≤◌, List, length, Some, None, ap, ◌∙◌, arith, nat_lt, true, false}
 use Rattle.std.proofs.lemmas.Bool.Decides.{nat_tests}
-use Rattle.fluent_syntax.specs.Parser.{Read, Parser, many_from, push}
+use Rattle.fluent_tree.specs.Parser.{Read, Parser, many_from, push}
 use Rattle.std.proofs.lemmas.List.{map-append}
 
 pub more : {A B : Type 0} (add : B → A → B) (p : Parser A) (k j : ℕ) (acc : B) (s : List ℕ) (x : A) (r : List ℕ)

@@ -2,12 +2,12 @@
 use Rattle.std.proofs.Common.{◌≡◌, ◌≢◌, ℕ, zero, suc, ◌-◌, ◌<◌, ◌==◌, List, [], ◌∷◌, ◌++◌, length, take, drop, Option, Some, None, ap, sym, ◌∙◌, append_assoc, append-nil, length-drop, arith, refl, nat_lt, true, false, Bool, Result, Ok, Err, OnErr, inl, inr}
 use Rattle.std.specs.Io.KnownBytes.{Appends}
 use Rattle.std.proofs.lemmas.Bool.Decides.{nat_tests}
-use Rattle.fluent_syntax.specs.Tree.{Text}
-use Rattle.fluent_syntax.specs.Taken.{TookFront}
-use Rattle.fluent_syntax.specs.Lexical.{is_plain}
-use Rattle.fluent_syntax.specs.Parser.{Read, Parser, many_from, turn, go_on, run, run1, run_len, byte}
-use Rattle.fluent_syntax.specs.Escapes.{value_of, part, unescaped}
-use Rattle.fluent_syntax.proofs.Front.{appends_twice}
+use Rattle.fluent_tree.specs.Tree.{Text}
+use Rattle.fluent_tree.specs.Taken.{TookFront}
+use Rattle.fluent_tree.specs.Lexical.{is_plain}
+use Rattle.fluent_tree.specs.Parser.{Read, Parser, many_from, turn, go_on, run, run1, run_len, byte}
+use Rattle.fluent_tree.specs.Escapes.{value_of, part, unescaped}
+use Rattle.fluent_tree.proofs.Front.{appends_twice}
 use Rattle.fluent_syntax.proofs.Runs.{run_len-stops}
 use Rattle.std.specs.List.{All}
 use Rattle.std.proofs.lemmas.List.{take_all}

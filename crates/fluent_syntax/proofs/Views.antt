@@ -1,17 +1,17 @@
 -- The content of each case of an element.
 use Rattle.std.proofs.Common.{◌≡◌, ℕ, List, Vec, Global, None, map, ap, ◌∙◌, rules}
 use Rattle.std.specs.Borrow.{Bor}
-use Rattle.fluent_syntax.specs.Tree.{text, placeable, pattern_of, inline, variable, message, term, no_attribute, no_call}
-use Rattle.fluent_syntax.specs.View.{element_view, expression_view, inline_view, pattern_view}
-use Rattle.fluent_syntax.specs.declared.ast.Expression as of_expression
-use Rattle.fluent_syntax.specs.declared.ast.PatternElement as of_element
-use Rattle.fluent_syntax.specs.declared.ast.PatternElement.TheVariants as elements
-use Rattle.fluent_syntax.specs.declared.ast.InlineExpression as of_inline
-use Rattle.fluent_syntax.specs.declared.ast.InlineExpression.TheVariants as inlines
-use Rattle.fluent_syntax.specs.declared.ast.Expression.TheVariants as expressions
-use Rattle.fluent_syntax.specs.declared.ast.Identifier.{Identifier}
-use Rattle.fluent_syntax.specs.declared.ast.Pattern as of_pattern
-use Rattle.fluent_syntax.specs.declared.ast.Expression.TheViews.{roll-Pattern}
+use Rattle.fluent_tree.specs.Tree.{text, placeable, pattern_of, inline, variable, message, term, no_attribute, no_call}
+use Rattle.fluent_tree.specs.View.{element_view, expression_view, inline_view, pattern_view}
+use Rattle.fluent_tree.specs.declared.ast.Expression as of_expression
+use Rattle.fluent_tree.specs.declared.ast.PatternElement as of_element
+use Rattle.fluent_tree.specs.declared.ast.PatternElement.TheVariants as elements
+use Rattle.fluent_tree.specs.declared.ast.InlineExpression as of_inline
+use Rattle.fluent_tree.specs.declared.ast.InlineExpression.TheVariants as inlines
+use Rattle.fluent_tree.specs.declared.ast.Expression.TheVariants as expressions
+use Rattle.fluent_tree.specs.declared.ast.Identifier.{Identifier}
+use Rattle.fluent_tree.specs.declared.ast.Pattern as of_pattern
+use Rattle.fluent_tree.specs.declared.ast.Expression.TheViews.{roll-Pattern}
 
 pub view_text : (t : Bor (List ℕ)) → element_view (elements.TextElement t) ≡ text t.now
 view_text t = search (rules, of_element.the_lemmas)

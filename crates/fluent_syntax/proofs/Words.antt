@@ -4,9 +4,9 @@ use Rattle.std.proofs.lemmas.Bool.Decides.{nat_tests}
 use Rattle.std.proofs.lemmas.List.{drop-take}
 use Rattle.std.proofs.lemmas.Str.{IsCharBoundary-after_ascii, IsCharBoundary-from_rest}
 use Rattle.std.specs.Str.{IsCharBoundary}
-use Rattle.fluent_syntax.specs.Parser.{run_len, run, run1}
+use Rattle.fluent_tree.specs.Parser.{run_len, run, run1}
 use Rattle.fluent_syntax.specs.Reading.{IsIndent}
-use Rattle.fluent_syntax.specs.Lexical.{is_space, is_text}
+use Rattle.fluent_tree.specs.Lexical.{is_space, is_text}
 use Rattle.fluent_syntax.specs.Pieces.{follows, words_after}
 use Rattle.fluent_syntax.proofs.Runs.{boundary-wide, run_len-le, run_len-passes, within_from_byte}
 

@@ -1,6 +1,6 @@
 -- A reference that has neither an attribute nor arguments.
 use Rattle.std.specs.Prelude.{◌≡◌, ℕ, List, true, Some, None}
-use Rattle.fluent_syntax.specs.Tree.{Inline}
+use Rattle.fluent_tree.specs.Tree.{Inline}
 use Rattle.fluent_syntax.specs.Expressions.{Level, inline_expression, stands_alone}
 
 -- x stands at the front of s and r behind it, where no arguments follow; it may stand alone between braces

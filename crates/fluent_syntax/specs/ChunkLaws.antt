@@ -1,6 +1,6 @@
 -- What holds of the chunks of every source.
 use Rattle.std.specs.Prelude.{◌≡◌, ℕ, ◌<◌, ◌≤◌, List, [], ◌∷◌, length, flat_map, All}
-use Rattle.fluent_syntax.specs.Tree.{Text}
+use Rattle.fluent_tree.specs.Tree.{Text}
 use Rattle.fluent_syntax.specs.Chunks.{Chunk, chunks, junk_ranges}
 
 abbrev pub bytes_of : List Chunk → Text

@@ -1,7 +1,7 @@
 -- What follows the name of a message, by its content.
 use Rattle.std.specs.Prelude.{Option}
-use Rattle.fluent_syntax.specs.Tree as t
-use Rattle.fluent_syntax.specs.View.{value_view, attribute_view}
+use Rattle.fluent_tree.specs.Tree as t
+use Rattle.fluent_tree.specs.View.{value_view, attribute_view}
 use Rattle.fluent_syntax.specs.Reading.{all}
 use Rattle.fluent_syntax.specs.declared.parser.entry.Content.{Content}
 

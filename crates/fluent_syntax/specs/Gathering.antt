@@ -1,5 +1,5 @@
 -- The arguments of a call as they are gathered, by their content.
-use Rattle.fluent_syntax.specs.View.{inline_view, named_view}
+use Rattle.fluent_tree.specs.View.{inline_view, named_view}
 use Rattle.fluent_syntax.specs.declared.parser.argument.Argument as of_argument
 use Rattle.fluent_syntax.specs.declared.parser.argument.Argument.TheVariants as code
 use Rattle.fluent_syntax.specs.declared.parser.argument.Gathered as of_gathered

@@ -1,9 +1,3 @@
-pub mod Tree
-pub mod View
-pub mod Fallback
-pub mod Taken
-pub mod Parser
-pub mod Lexical
 pub mod Classes
 pub mod Reading
 pub mod Layout
@@ -18,9 +12,7 @@ pub mod FrontLaws
 pub mod Gathering
 pub mod Nests
 pub mod WellFormed
-pub mod Escapes
 pub mod Unescaped
-pub mod Same
 pub mod Entries
 pub mod ContentView
 pub mod Chunks
@@ -29,4 +21,3 @@ pub mod TreeLaws
 pub mod SliceLaws
 pub mod Parsed
 pub mod PartView
-pub mod ParserError

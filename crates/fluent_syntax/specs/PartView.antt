@@ -1,5 +1,5 @@
 -- The content of a chunk of the code.
-use Rattle.fluent_syntax.specs.View.{entry_view}
+use Rattle.fluent_tree.specs.View.{entry_view}
 use Rattle.fluent_syntax.specs.Chunks as t
 use Rattle.fluent_syntax.specs.Chunks.{entry_part, blank_part, junk_part}
 use Rattle.fluent_syntax.specs.declared.parser.chunks.Part.{Part}

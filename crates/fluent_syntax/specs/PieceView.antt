@@ -1,5 +1,5 @@
 -- What the reader's pieces stand for.
-use Rattle.fluent_syntax.specs.View.{expression_view}
+use Rattle.fluent_tree.specs.View.{expression_view}
 use Rattle.fluent_syntax.specs.Layout.{Piece, line, words, hole}
 use Rattle.fluent_syntax.specs.declared.parser.piece.Piece as code
 use Rattle.fluent_syntax.specs.declared.parser.piece.Piece.TheVariants as codes

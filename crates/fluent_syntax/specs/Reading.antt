@@ -4,8 +4,8 @@ use Rattle.std.specs.Borrow.{Bor}
 use Rattle.std.specs.declared.alloc.Global.{Global}
 use Rattle.fluent_syntax.specs.declared.parser.stop.Stop.{Stop}
 use Rattle.fluent_syntax.specs.declared.parser.stop.Stop.TheVariants.{Absent, Memory}
-use Rattle.fluent_syntax.specs.Parser.{Read, run_len}
-use Rattle.fluent_syntax.specs.Lexical.{is_space}
+use Rattle.fluent_tree.specs.Parser.{Read, run_len}
+use Rattle.fluent_tree.specs.Lexical.{is_space}
 
 -- what was found, by its content, and the rest without where it lies in memory
 abbrev pub found : {A B : Type 0} → (A → B) → Option (A × Bor (List ℕ)) → Read B

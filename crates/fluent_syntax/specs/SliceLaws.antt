@@ -1,6 +1,6 @@
 -- Where the texts of a tree come from: each is a slice of the source (Fluent Syntax 1.0, "Abstract Syntax").
 use Rattle.std.specs.Prelude.{◌≡◌, Option, Some, None, All, [], ◌∷◌, ◌++◌}
-use Rattle.fluent_syntax.specs.Tree.{Text, Key, name_key, number_key, Attribute, no_attribute, attribute, Pattern, nothing, more, Element, text, placeable, Expression, inline, select, Variants, no_variants, variant, Inline, string, number, function, message, term, variable, nested, Call, no_call, call, Arguments, arguments, Inlines, no_inlines, argument, Nameds, no_nameds, named_argument, Attributes, Entry, message_entry, term_entry, junk_entry}
+use Rattle.fluent_tree.specs.Tree.{Text, Key, name_key, number_key, Attribute, no_attribute, attribute, Pattern, nothing, more, Element, text, placeable, Expression, inline, select, Variants, no_variants, variant, Inline, string, number, function, message, term, variable, nested, Call, no_call, call, Arguments, arguments, Inlines, no_inlines, argument, Nameds, no_nameds, named_argument, Attributes, Entry, message_entry, term_entry, junk_entry}
 use Rattle.fluent_syntax.specs.Chunks.{entries}
 
 -- a text stands in the source, between a front and a rest

@@ -1,6 +1,6 @@
 -- What holds of every tree that is read.
 use Rattle.std.specs.Prelude.{All}
-use Rattle.fluent_syntax.specs.Tree.{Text}
+use Rattle.fluent_tree.specs.Tree.{Text}
 use Rattle.fluent_syntax.specs.Chunks.{entries}
 use Rattle.fluent_syntax.specs.WellFormed.{IsWellFormedEntry}
 

@@ -1,15 +1,10 @@
-//! The tree of FTL, its reader, and the writers that its texts go to.
+//! The reader of FTL and the escapes of its string literals, over the tree of `fluent_tree`.
 #![tactic(auto)]
 
-pub mod ast;
-pub mod counting;
-mod equality;
 pub mod laws;
 mod parser;
-mod same;
-mod same_entries;
 mod unicode;
 
-pub use counting::{Counting, WriteFault};
-pub use parser::{ParseFault, ParserError, parse_runtime};
+pub use fluent_tree::{Counting, ParserError, WriteFault, ast, counting};
+pub use parser::{ParseFault, parse_runtime};
 pub use unicode::{unescape_unicode, unescape_unicode_to_string};

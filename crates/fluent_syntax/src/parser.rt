@@ -22,4 +22,4 @@ mod stop;
 mod text;
 
 pub use chunks::parse_runtime;
-pub use errors::{ParseFault, ParserError};
+pub use errors::ParseFault;

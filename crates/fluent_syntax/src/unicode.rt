@@ -4,13 +4,13 @@ ghost use Rattle.std.specs.Prelude.{◌≡◌, ◌≢◌, ◌<◌, ◌≤◌, �
 ghost use Rattle.std.specs.Io.KnownBytes.{Appends};
 ghost use Rattle.std.specs.Cow.{cow_str_bytes};
 ghost use Rattle.std.specs.List.{All};
-ghost use Rattle.fluent_syntax.specs.Escapes as spec;
+ghost use Rattle.fluent_tree.specs.Escapes as spec;
 ghost use Rattle.fluent_syntax.specs.Unescaped.{bytes_of, Lends};
 ghost use Rattle.fluent_syntax.specs.Reading.{found};
-ghost use Rattle.fluent_syntax.specs.Taken.{TookFront, Faulted, ByWriter};
+ghost use Rattle.fluent_tree.specs.Taken.{TookFront, Faulted, ByWriter};
 
-use crate::counting::{Counting, WriteFault, put};
 use crate::parser::bytes::{Class, byte_at, eat, split_run};
+use fluent_tree::counting::{Counting, WriteFault, put};
 use std::alloc::{AllocError, Global};
 use std::borrow::CowStr;
 use std::io::Write;
@@ -102,7 +102,7 @@ fn push_part(out: &mut String, part: Unescaped) -> Result<(), AllocError>
 }
 
 /// The part at the front, and what follows it.
-#[tactic(auto, unfolding(crate::specs::Escapes::part, crate::specs::Parser::run1))]
+#[tactic(auto, unfolding(fluent_tree::specs::Escapes::part, fluent_tree::specs::Parser::run1))]
 fn next_part<'s>(text: &'s str) -> Option<(Unescaped<'s>, &'s str)>
     ensures gives { found bytes_of result ≡ spec.part text.now }
     ensures shorter { IfSome result (λ p. length p.1.now < length text.now) }
@@ -115,7 +115,7 @@ fn next_part<'s>(text: &'s str) -> Option<(Unescaped<'s>, &'s str)>
 }
 
 /// What stands behind a backslash means, and what follows it.
-#[tactic(auto, unfolding(crate::specs::Escapes::escape))]
+#[tactic(auto, unfolding(fluent_tree::specs::Escapes::escape))]
 fn escape<'s>(text: &'s str) -> (Unescaped<'s>, &'s str)
     ensures gives { spec.escape text.now ≡ Some (bytes_of result.0, result.1.now) }
     ensures shorter { length result.1.now ≤ length text.now }
@@ -136,7 +136,7 @@ fn escape<'s>(text: &'s str) -> (Unescaped<'s>, &'s str)
 }
 
 /// The character of so many hexadecimal digits behind a letter.
-#[tactic(auto, unfolding(crate::specs::Escapes::numbered))]
+#[tactic(auto, unfolding(fluent_tree::specs::Escapes::numbered))]
 fn numbered(text: &str, letter: u8, count: usize) -> Option<(char, &str)>
     requires some { 0 < letter }
     requires ascii { letter < 128 }
@@ -177,7 +177,7 @@ fn hex_number(text: &str, count: usize) -> Option<(u32, &str)>
     Some((number, rest))
 }
 
-#[tactic(auto, unfolding(crate::specs::Escapes::hex_digit, crate::specs::Parser::byte))]
+#[tactic(auto, unfolding(fluent_tree::specs::Escapes::hex_digit, fluent_tree::specs::Parser::byte))]
 fn hex_digit(text: &str) -> Option<(u32, &str)>
     ensures gives { found (λ n. n) result ≡ spec.hex_digit text.now }
     ensures digit { IfSome result (λ p. p.0 < 16) }

@@ -1,6 +1,6 @@
 -- What a decision of equality says.
 use Rattle.std.proofs.Common.{◌≡◌, ◌↔◌, IsTrue, Bool, true, false, refl, sym, ◌∙◌, rules}
-use Rattle.fluent_syntax.specs.Tree.{is_yes}
+use Rattle.fluent_tree.specs.Tree.{is_yes}
 
 of_yes : {P : Type 0} (r : Bool) (d : Dec P) → r ≡ is_yes d → IsTrue r ↔ P
 of_yes true (yes p) e = (λ t. p, λ q. search rules)

@@ -1,6 +1,6 @@
 -- What a bundle is after calls, by the texts of its sources alone.
 use Rattle.std.specs.Prelude.{List, [], true, None, map}
-use Rattle.fluent_syntax.specs.Tree.{Text}
+use Rattle.fluent_tree.specs.Tree.{Text}
 use Rattle.fluent_syntax.specs.Chunks.{entries}
 use Rattle.fluent_intl.specs.Plurals.{english}
 use Rattle.fluent_intl.specs.declared.plurals.EnglishPlurals.{EnglishPlurals}

@@ -1,8 +1,8 @@
 //! What a pattern gives in a bundle that a list of calls makes, said from the texts of the sources alone.
 ghost use Rattle.std.specs.Prelude.{◌≡◌, ◌≤◌, [], map, IfOk, OnOk};
 ghost use Rattle.fluent_syntax.specs.Chunks.{entries};
-ghost use Rattle.fluent_syntax.specs.Taken.{Faulted};
-ghost use Rattle.fluent_syntax.specs.View.{pattern_view};
+ghost use Rattle.fluent_tree.specs.Taken.{Faulted};
+ghost use Rattle.fluent_tree.specs.View.{pattern_view};
 ghost use Rattle.fluent_bundle.specs.BundleView.{entries_of, meant};
 ghost use Rattle.fluent_bundle.specs.Calls.{asked};
 ghost use Rattle.fluent_bundle.specs.Formatted.{WritesAll, WritesFront};

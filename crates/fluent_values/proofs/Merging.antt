@@ -3,7 +3,7 @@ use Rattle.std.proofs.Common.{◌≡◌, ℕ, [], ◌∷◌, Bool, true, false, 
 use Rattle.std.specs.Ordering.{is_eq}
 use Rattle.std.specs.Cmp.Lexicographic.{bytes_decides, nat_list_eq_equiv}
 use Rattle.std.specs.FinMap.{find, is_sorted}
-use Rattle.fluent_syntax.specs.Tree.{Text}
+use Rattle.fluent_tree.specs.Tree.{Text}
 use Rattle.fluent_intl.specs.Options.{Options, type_named, style_named, currency_display_named}
 use Rattle.fluent_intl.specs.declared.options.FluentNumberType.{FluentNumberType}
 use Rattle.fluent_intl.specs.declared.options.FluentNumberStyle.{FluentNumberStyle}

@@ -1,6 +1,6 @@
 -- A text as a value, by the definition of reading.
 use Rattle.std.proofs.Common.{◌≡◌, ℕ, ℤ, Option, Some, None, refl, sym, ap, ◌∙◌}
-use Rattle.fluent_syntax.specs.Tree.{Text}
+use Rattle.fluent_tree.specs.Tree.{Text}
 use Rattle.fluent_intl.specs.Decimal.{Reads}
 use Rattle.fluent_intl.specs.Number.{Number, ReadsNumber}
 use Rattle.fluent_meaning.specs.Number.{read_number}

@@ -1,6 +1,6 @@
 -- Pairs that are set one after another.
 use Rattle.std.proofs.Common.{◌≡◌, List, [], ◌∷◌, ◌++◌, map, refl}
-use Rattle.fluent_syntax.specs.Tree.{Text}
+use Rattle.fluent_tree.specs.Tree.{Text}
 use Rattle.fluent_meaning.specs.Arguments.{Map, set, set_all}
 
 module _ {A X : Type 0} (f : X → Text × A) where

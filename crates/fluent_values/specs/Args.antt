@@ -3,7 +3,7 @@ use Rattle.std.specs.Prelude.{map}
 use Rattle.std.specs.Cow.{cow_str_bytes}
 use Rattle.std.specs.declared.borrow.CowStr.{CowStr}
 use Rattle.std.proofs.Common.{Global}
-use Rattle.fluent_syntax.specs.Tree.{Text}
+use Rattle.fluent_tree.specs.Tree.{Text}
 use Rattle.fluent_meaning.specs.Value.{Value}
 use Rattle.fluent_meaning.specs.Arguments.{Map}
 use Rattle.fluent_values.specs.View.{value_view}

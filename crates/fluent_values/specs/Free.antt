@@ -1,7 +1,7 @@
 -- What takes no memory, so that it can't be refused.
 use Rattle.std.specs.Prelude.{◌≡◌, ⊤, List, ◌∷◌, Option, Some, None, codes}
 use Rattle.std.specs.declared.borrow.CowStr.TheVariants as text
-use Rattle.fluent_syntax.specs.Tree.{Text}
+use Rattle.fluent_tree.specs.Tree.{Text}
 use Rattle.fluent_meaning.specs.Value.{Value, text_value, number_value}
 use Rattle.fluent_meaning.specs.Arguments.{Map, get}
 use Rattle.fluent_values.specs.declared.types.value.FluentValue.{FluentValue}

@@ -1,6 +1,6 @@
 -- Options that are looked up in arguments, each by its name: how the parts of `merge` in the code stand to `merge` of the meaning.
 use Rattle.std.specs.Prelude.{ℕ, min, Option, Some, None, codes, not}
-use Rattle.fluent_syntax.specs.Tree.{Text}
+use Rattle.fluent_tree.specs.Tree.{Text}
 use Rattle.fluent_intl.specs.Options.{Options, type_named, style_named, currency_display_named}
 use Rattle.fluent_meaning.specs.Number.{as_count, is_text}
 use Rattle.fluent_meaning.specs.Value.{Value, text_value, number_value, custom_value, no_value, error_value}

@@ -5,8 +5,8 @@ use Rattle.std.specs.Ordering.{nat_cmp}
 use Rattle.std.specs.Cmp.Lexicographic.{slice_cmp}
 use Rattle.std.specs.FinMap.{from_entries, entries}
 use Rattle.std.proofs.Common.{Global}
-use Rattle.fluent_syntax.specs.Tree as t
-use Rattle.fluent_syntax.specs.Tree.{Text, no_attribute, attribute}
+use Rattle.fluent_tree.specs.Tree as t
+use Rattle.fluent_tree.specs.Tree.{Text, no_attribute, attribute}
 use Rattle.fluent_intl.specs.Number.{number_of}
 use Rattle.fluent_meaning.specs.Value.{Value, text_value, number_value, custom_value, error_value}
 use Rattle.fluent_meaning.specs.Value as values_of

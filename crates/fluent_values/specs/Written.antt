@@ -2,10 +2,10 @@
 use Rattle.std.specs.Prelude.{◌≡◌, ℕ, Bool, true, false, [], ◌++◌, Option, None, Some, Result, OnOk, String, string_bytes}
 use Rattle.std.specs.Io.KnownBytes.{Appends}
 use Rattle.std.proofs.Common.{Global}
-use Rattle.fluent_syntax.specs.Tree.{Text}
-use Rattle.fluent_syntax.specs.Taken.{Faulted}
-use Rattle.fluent_syntax.specs.declared.counting.Counting.{Counting}
-use Rattle.fluent_syntax.specs.declared.counting.WriteFault.{WriteFault}
+use Rattle.fluent_tree.specs.Tree.{Text}
+use Rattle.fluent_tree.specs.Taken.{Faulted}
+use Rattle.fluent_tree.specs.declared.counting.Counting.{Counting}
+use Rattle.fluent_tree.specs.declared.counting.WriteFault.{WriteFault}
 use Rattle.fluent_values.specs.declared.resolver.output.Output.{Output}
 
 -- what is known of where a text goes: the bytes that it holds, the writer's two counts, where a buffer takes the text what the writer beside it holds, and which borrows these are

@@ -4,7 +4,7 @@ ghost use Rattle.fluent_values.specs.View.{error_view};
 ghost use Rattle.fluent_values.specs.Free.{HasNoText};
 
 use crate::resolver::errors::{ResolverError, copy_of};
-use fluent_syntax::ParserError;
+use fluent_tree::ParserError;
 use std::alloc::{AllocError, Global};
 use std::fmt;
 

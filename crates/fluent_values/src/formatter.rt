@@ -1,7 +1,7 @@
 //! How values are shown, in place of their own text.
 ghost use Rattle.std.specs.Prelude.{◌≡◌, IfOk, Option, None, string_bytes};
 ghost use Rattle.std.specs.Option.{option_map};
-ghost use Rattle.fluent_syntax.specs.Tree.{Text};
+ghost use Rattle.fluent_tree.specs.Tree.{Text};
 ghost use Rattle.fluent_meaning.specs.Value.{Value};
 ghost use Rattle.fluent_values.specs.View.{value_view};
 

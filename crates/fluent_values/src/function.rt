@@ -1,6 +1,6 @@
 //! Functions of the application, which messages call by name.
 ghost use Rattle.std.specs.Prelude.{◌≡◌, List, map, IfOk};
-ghost use Rattle.fluent_syntax.specs.Tree.{Text};
+ghost use Rattle.fluent_tree.specs.Tree.{Text};
 ghost use Rattle.fluent_meaning.specs.Value.{Value, error_value};
 ghost use Rattle.fluent_meaning.specs.Arguments.{Map};
 ghost use Rattle.fluent_values.specs.View.{value_view, named};

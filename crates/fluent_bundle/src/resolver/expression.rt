@@ -1,8 +1,8 @@
 //! Expressions.
 
 ghost use Rattle.std.specs.Prelude.{◌≡◌};
-ghost use Rattle.fluent_syntax.specs.Fallback.{fallback, fallback_of};
-ghost use Rattle.fluent_syntax.specs.View.{expression_view, inline_view};
+ghost use Rattle.fluent_tree.specs.Fallback.{fallback, fallback_of};
+ghost use Rattle.fluent_tree.specs.View.{expression_view, inline_view};
 ghost use Rattle.fluent_meaning.specs.Meaning.{within_budget};
 ghost use Rattle.fluent_meaning.specs.Walk.{is_bare};
 ghost use Rattle.fluent_bundle.specs.Interim.{expression_text};

@@ -1,9 +1,9 @@
 //! Fallbacks: how an expression shows where it can't be resolved.
 
 ghost use Rattle.std.specs.Prelude.{◌≡◌};
-ghost use Rattle.fluent_syntax.specs.Fallback.{fallback, dotted, in_braces};
-ghost use Rattle.fluent_syntax.specs.Tree.{variable};
-ghost use Rattle.fluent_syntax.specs.View.{inline_view, attribute_of};
+ghost use Rattle.fluent_tree.specs.Fallback.{fallback, dotted, in_braces};
+ghost use Rattle.fluent_tree.specs.Tree.{variable};
+ghost use Rattle.fluent_tree.specs.View.{inline_view, attribute_of};
 ghost use Rattle.fluent_values.specs.Written.{sink, Took};
 
 use fluent_syntax::WriteFault;

@@ -1,8 +1,8 @@
 //! Inline expressions.
 
 ghost use Rattle.std.specs.Prelude.{◌≡◌};
-ghost use Rattle.fluent_syntax.specs.Escapes.{unescaped};
-ghost use Rattle.fluent_syntax.specs.View.{inline_view};
+ghost use Rattle.fluent_tree.specs.Escapes.{unescaped};
+ghost use Rattle.fluent_tree.specs.View.{inline_view};
 ghost use Rattle.fluent_meaning.specs.Arguments.{get};
 ghost use Rattle.fluent_meaning.specs.Bundle.{shown};
 ghost use Rattle.fluent_meaning.specs.Errors.{lost, to_variable};

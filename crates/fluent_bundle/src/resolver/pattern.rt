@@ -1,9 +1,9 @@
 //! Patterns.
 
 ghost use Rattle.std.specs.Prelude.{◌≡◌, ◌≢◌, Err, false, IsTrue};
-ghost use Rattle.fluent_syntax.specs.Fallback.{fallback_of};
-ghost use Rattle.fluent_syntax.specs.Tree.{placeable};
-ghost use Rattle.fluent_syntax.specs.View.{expression_view, pattern_view};
+ghost use Rattle.fluent_tree.specs.Fallback.{fallback_of};
+ghost use Rattle.fluent_tree.specs.Tree.{placeable};
+ghost use Rattle.fluent_tree.specs.View.{expression_view, pattern_view};
 ghost use Rattle.fluent_meaning.specs.Meaning.{within_budget, first_mark, last_mark, ending, struck};
 ghost use Rattle.fluent_meaning.specs.Walk.{has_one, is_marked};
 ghost use Rattle.fluent_bundle.specs.Interim.{elements, part, IsText};

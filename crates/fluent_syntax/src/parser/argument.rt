@@ -4,15 +4,15 @@ ghost use Rattle.fluent_syntax.specs.Expressions as spec;
 ghost use Rattle.fluent_syntax.specs.Reading.{found, passed, Gives};
 ghost use Rattle.fluent_syntax.specs.Gathering.{argument_view, gathered_view};
 ghost use Rattle.fluent_syntax.specs.Nests.{Reads};
-ghost use Rattle.fluent_syntax.specs.View.{named_view, expression_view, arguments_view};
+ghost use Rattle.fluent_tree.specs.View.{named_view, expression_view, arguments_view};
 
-use crate::ast::{CallArguments, Expression, InlineExpression, NamedArgument};
 use crate::parser::bytes::eat;
 use crate::parser::inner::Inner;
 use crate::parser::lines::{after_blank, identifier};
 use crate::parser::list::push;
 use crate::parser::reference::literal;
 use crate::parser::stop::Stop;
+use fluent_tree::ast::{CallArguments, Expression, InlineExpression, NamedArgument};
 use std::alloc::{AllocError, Global};
 use std::collections::BTreeSet;
 

@@ -2,11 +2,11 @@
 ghost use Rattle.std.specs.Prelude.{◌≡◌, ℕ, suc, Some, IfSome};
 ghost use Rattle.fluent_syntax.specs.Bare.{IsBare};
 ghost use Rattle.fluent_syntax.specs.Expressions.{level};
-ghost use Rattle.fluent_syntax.specs.View.{inline_view, expression_view};
+ghost use Rattle.fluent_tree.specs.View.{inline_view, expression_view};
 
-use crate::ast::{Expression, InlineExpression};
 use crate::parser::bytes::{byte_at, eat};
 use crate::parser::lines::{after_blank, identifier};
+use fluent_tree::ast::{Expression, InlineExpression};
 
 /// A variable, a message or a term, without an attribute and without arguments.
 #[inline(always)]

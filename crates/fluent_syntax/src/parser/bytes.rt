@@ -1,7 +1,7 @@
 //! Runs of bytes.
 ghost use Rattle.std.specs.Prelude.{◌≡◌, ◌+◌, ◌<◌, ◌≤◌, Some, length, drop, slice_index, IfSome};
-ghost use Rattle.fluent_syntax.specs.Parser as parser;
-ghost use Rattle.fluent_syntax.specs.Lexical as spec;
+ghost use Rattle.fluent_tree.specs.Parser as parser;
+ghost use Rattle.fluent_tree.specs.Lexical as spec;
 ghost use Rattle.fluent_syntax.specs.Classes.{class_test};
 ghost use Rattle.fluent_syntax.specs.Reading.{passed};
 
@@ -37,7 +37,7 @@ pub fn byte_at(s: &str, index: usize) -> u8
 
 /// What follows this byte, which is ASCII.
 #[inline(always)]
-#[tactic(auto, unfolding(crate::specs::Parser::byte))]
+#[tactic(auto, unfolding(fluent_tree::specs::Parser::byte))]
 pub fn eat(s: &str, byte: u8) -> Option<&str>
     requires some { 0 < byte }
     requires ascii { byte < 128 }

@@ -5,15 +5,16 @@ ghost use Rattle.fluent_syntax.specs.Chunks.{entries, junk_ranges};
 ghost use Rattle.fluent_syntax.specs.Parsed.{HoldsEntries, HoldsErrors, HasSome, error_range};
 ghost use Rattle.fluent_syntax.specs.PartView.{part_view, chunk_view};
 ghost use Rattle.fluent_syntax.specs.Reading.{all};
-ghost use Rattle.fluent_syntax.specs.View.{entry_view};
+ghost use Rattle.fluent_tree.specs.View.{entry_view};
 
-use crate::ast::{Entry, Resource};
 use crate::parser::entry::entry;
-use crate::parser::errors::{ParseFault, ParserError};
+use crate::parser::errors::ParseFault;
 use crate::parser::junk::{comment_line, junk};
 use crate::parser::lines::blank_block;
 use crate::parser::list::push;
 use crate::parser::stop::Stop;
+use fluent_tree::ParserError;
+use fluent_tree::ast::{Entry, Resource};
 use std::alloc::{AllocError, Global};
 
 /// What a chunk is.

@@ -1,18 +1,18 @@
 //! Messages and terms, with their attributes.
 ghost use Rattle.std.specs.Prelude.{◌≡◌, length};
 ghost use Rattle.fluent_syntax.specs.Entries as spec;
-ghost use Rattle.fluent_syntax.specs.Parser as parser;
+ghost use Rattle.fluent_tree.specs.Parser as parser;
 ghost use Rattle.fluent_syntax.specs.Reading.{found, Gives, all};
 ghost use Rattle.fluent_syntax.specs.ContentView.{content_view};
-ghost use Rattle.fluent_syntax.specs.View.{name_view, pattern_view, attribute_view, entry_view};
+ghost use Rattle.fluent_tree.specs.View.{name_view, pattern_view, attribute_view, entry_view};
 
-use crate::ast::{Attribute, Entry, Identifier, Message, Pattern, Term};
 use crate::parser::bytes::eat;
 use crate::parser::expression::inline_placeable;
 use crate::parser::lines::{after_blank, after_spaces, identifier, line_end};
 use crate::parser::list::push;
 use crate::parser::pattern::pattern;
 use crate::parser::stop::Stop;
+use fluent_tree::ast::{Attribute, Entry, Identifier, Message, Pattern, Term};
 use std::alloc::Global;
 
 /// How many placeables and argument lists of an entry may stand in one another.

@@ -5,14 +5,14 @@ ghost use Rattle.fluent_syntax.specs.Layout.{unless_empty};
 ghost use Rattle.fluent_syntax.specs.Nests.{Reads};
 ghost use Rattle.fluent_syntax.specs.Progress.{closes_pattern, Ends, Places, IsFirstLine};
 ghost use Rattle.fluent_syntax.specs.Reading.{all};
-ghost use Rattle.fluent_syntax.specs.View.{element_view, expression_view};
+ghost use Rattle.fluent_tree.specs.View.{element_view, expression_view};
 
-use crate::ast::{Expression, PatternElement};
 use crate::parser::bare::bare_placeable;
 use crate::parser::bytes::{Class, byte_at, split_run};
 use crate::parser::lines::{blank_block, blank_inline};
 use crate::parser::list::push;
 use crate::parser::stop::Stop;
+use fluent_tree::ast::{Expression, PatternElement};
 use std::alloc::{AllocError, Global};
 
 /// What follows the elements of a pattern's first line.

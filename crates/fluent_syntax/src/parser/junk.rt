@@ -1,7 +1,7 @@
 //! Comments and Junk.
 ghost use Rattle.std.specs.Prelude.{◌≡◌, Some};
 ghost use Rattle.fluent_syntax.specs.Chunks as spec;
-ghost use Rattle.fluent_syntax.specs.Parser as parser;
+ghost use Rattle.fluent_tree.specs.Parser as parser;
 ghost use Rattle.fluent_syntax.specs.Reading.{passed};
 
 use crate::parser::bytes::{Class, byte_at, eat, split_run};

@@ -2,14 +2,14 @@
 ghost use Rattle.std.specs.Prelude.{◌≡◌, ◌∷◌, ◌++◌, List, map, replicate, IfOk, OnOk};
 ghost use Rattle.fluent_syntax.specs.Layout as spec;
 ghost use Rattle.fluent_syntax.specs.Layout.{lines, starts_line};
-ghost use Rattle.fluent_syntax.specs.Tree.{Element};
-ghost use Rattle.fluent_syntax.specs.View.{element_view};
+ghost use Rattle.fluent_tree.specs.Tree.{Element};
+ghost use Rattle.fluent_tree.specs.View.{element_view};
 ghost use Rattle.fluent_syntax.specs.PieceView.{piece_view};
 ghost use Rattle.fluent_syntax.specs.Backwards.{backwards};
 
-use crate::ast::PatternElement;
 use crate::parser::list::push;
 use crate::parser::piece::{Piece, Slice};
+use fluent_tree::ast::PatternElement;
 use std::alloc::{AllocError, Global};
 
 /// The elements of a pattern's pieces.

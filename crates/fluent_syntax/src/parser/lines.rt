@@ -1,15 +1,15 @@
 //! Identifiers, blanks and line ends.
 ghost use Rattle.std.specs.Prelude.{◌≡◌, ◌<◌, ◌≤◌, Some, length, IfSome};
-ghost use Rattle.fluent_syntax.specs.Parser as parser;
-ghost use Rattle.fluent_syntax.specs.Lexical as spec;
+ghost use Rattle.fluent_tree.specs.Parser as parser;
+ghost use Rattle.fluent_tree.specs.Lexical as spec;
 ghost use Rattle.fluent_syntax.specs.Reading.{found, passed, IsIndent};
-ghost use Rattle.fluent_syntax.specs.View.{name_view, inline_view};
+ghost use Rattle.fluent_tree.specs.View.{name_view, inline_view};
 
-use crate::ast::{Identifier, InlineExpression};
 use crate::parser::bytes::{Class, byte_at, eat, split_run};
+use fluent_tree::ast::{Identifier, InlineExpression};
 
 #[inline(always)]
-#[tactic(auto, unfolding(crate::specs::Lexical::identifier))]
+#[tactic(auto, unfolding(fluent_tree::specs::Lexical::identifier))]
 pub fn identifier<'s>(s: &'s str) -> Option<(Identifier<'s>, &'s str)>
     ensures { found name_view result ≡ spec.identifier s.now }
 {
@@ -21,7 +21,7 @@ pub fn identifier<'s>(s: &'s str) -> Option<(Identifier<'s>, &'s str)>
 }
 
 #[inline(always)]
-#[tactic(auto, unfolding(crate::specs::Lexical::blank_inline, crate::specs::Parser::run1))]
+#[tactic(auto, unfolding(fluent_tree::specs::Lexical::blank_inline, fluent_tree::specs::Parser::run1))]
 pub fn blank_inline(s: &str) -> Option<(usize, &str)>
     ensures gives { found (λ n. n) result ≡ spec.blank_inline s.now }
     ensures indent { IfSome result (λ p. IsIndent s.now p.0 p.1.now) }
@@ -36,7 +36,7 @@ pub fn blank_inline(s: &str) -> Option<(usize, &str)>
 
 /// What follows a line feed, or a carriage return and a line feed.
 #[inline(always)]
-#[tactic(auto, unfolding(crate::specs::Lexical::line_break))]
+#[tactic(auto, unfolding(fluent_tree::specs::Lexical::line_break))]
 pub fn line_break(s: &str) -> Option<&str>
     ensures { passed result ≡ spec.line_break s.now }
 {
@@ -49,7 +49,7 @@ pub fn line_break(s: &str) -> Option<&str>
 }
 
 #[inline(always)]
-#[tactic(auto, unfolding(crate::specs::Lexical::line_end))]
+#[tactic(auto, unfolding(fluent_tree::specs::Lexical::line_end))]
 pub fn line_end(s: &str) -> Option<&str>
     ensures { passed result ≡ spec.line_end s.now }
 {
@@ -92,7 +92,7 @@ fn after_lines(s: &str) -> &str
     }
 }
 
-#[tactic(auto, unfolding(crate::specs::Lexical::blank))]
+#[tactic(auto, unfolding(fluent_tree::specs::Lexical::blank))]
 fn blank(s: &str) -> Option<&str>
     ensures { passed result ≡ spec.blank s.now }
 {
@@ -121,7 +121,7 @@ fn more_blanks(s: &str) -> (usize, &str)
 }
 
 #[inline(always)]
-#[tactic(auto, unfolding(crate::specs::Lexical::blank_turn))]
+#[tactic(auto, unfolding(fluent_tree::specs::Lexical::blank_turn))]
 fn blank_turn(s: &str) -> Option<&str>
     ensures { passed result ≡ spec.blank_turn s.now }
 {
@@ -132,7 +132,7 @@ fn blank_turn(s: &str) -> Option<&str>
 }
 
 #[inline(always)]
-#[tactic(auto, unfolding(crate::specs::Lexical::blank_line))]
+#[tactic(auto, unfolding(fluent_tree::specs::Lexical::blank_line))]
 pub fn blank_line(s: &str) -> Option<&str>
     ensures { passed result ≡ spec.blank_line s.now }
 {
@@ -140,7 +140,7 @@ pub fn blank_line(s: &str) -> Option<&str>
 }
 
 /// How many line ends.
-#[tactic(auto, unfolding(crate::specs::Lexical::blank_block))]
+#[tactic(auto, unfolding(fluent_tree::specs::Lexical::blank_block))]
 pub fn blank_block(s: &str) -> Option<(usize, &str)>
     ensures { found (λ n. n) result ≡ spec.blank_block s.now }
 {
@@ -170,7 +170,7 @@ fn more_lines(s: &str) -> (usize, &str)
 }
 
 #[inline(always)]
-#[tactic(auto, unfolding(crate::specs::Lexical::variable_reference))]
+#[tactic(auto, unfolding(fluent_tree::specs::Lexical::variable_reference))]
 pub fn variable_reference<'s>(s: &'s str) -> Option<(InlineExpression<'s>, &'s str)>
     ensures { found inline_view result ≡ spec.variable_reference s.now }
 {

@@ -1,6 +1,6 @@
 //! String and number literals, which are kept as the source has them.
 ghost use Rattle.std.specs.Prelude.{◌≡◌, ◌-◌, ◌≤◌, Some, length, take, drop};
-ghost use Rattle.fluent_syntax.specs.Parser as parser;
+ghost use Rattle.fluent_tree.specs.Parser as parser;
 ghost use Rattle.fluent_syntax.specs.Expressions as spec;
 ghost use Rattle.fluent_syntax.specs.Reading.{found, passed, text_view};
 
@@ -15,7 +15,7 @@ fn before<'s>(whole: &'s str, rest: &str) -> &'s str
     &whole[..whole.len() - rest.len()]
 }
 
-#[tactic(auto, unfolding(crate::specs::Expressions::hex_digit, crate::specs::Parser::byte))]
+#[tactic(auto, unfolding(crate::specs::Expressions::hex_digit, fluent_tree::specs::Parser::byte))]
 fn hex_digit(s: &str) -> Option<&str>
     ensures { passed result ≡ spec.hex_digit s.now }
 {
@@ -57,7 +57,7 @@ fn escape(s: &str) -> Option<&str>
     hex_digits(eat(rest, b'U')?, 6)
 }
 
-#[tactic(auto, unfolding(crate::specs::Expressions::quoted_turn, crate::specs::Parser::run1))]
+#[tactic(auto, unfolding(crate::specs::Expressions::quoted_turn, fluent_tree::specs::Parser::run1))]
 fn quoted_turn(s: &str) -> Option<&str>
     ensures { passed result ≡ spec.quoted_turn s.now }
 {
@@ -98,7 +98,7 @@ pub fn string_literal<'s>(s: &'s str) -> Option<(&'s str, &'s str)>
     Some((before(body, end), rest))
 }
 
-#[tactic(auto, unfolding(crate::specs::Expressions::digits, crate::specs::Parser::run1))]
+#[tactic(auto, unfolding(crate::specs::Expressions::digits, fluent_tree::specs::Parser::run1))]
 fn digits(s: &str) -> Option<&str>
     ensures { passed result ≡ parser.ignore spec.digits s.now }
 {

@@ -6,16 +6,16 @@ ghost use Rattle.fluent_syntax.specs.Layout.{unless_empty, trim_spaces};
 ghost use Rattle.fluent_syntax.specs.Reading.{Gives, all};
 ghost use Rattle.fluent_syntax.specs.Nests.{Reads};
 ghost use Rattle.fluent_syntax.specs.Progress.{Reached, piece_of};
-ghost use Rattle.fluent_syntax.specs.Tree.{pattern_of};
-ghost use Rattle.fluent_syntax.specs.View.{element_view, expression_view, pattern_view};
+ghost use Rattle.fluent_tree.specs.Tree.{pattern_of};
+ghost use Rattle.fluent_tree.specs.View.{element_view, expression_view, pattern_view};
 
-use crate::ast::{Expression, Pattern, PatternElement};
 use crate::parser::bytes::{Class, byte_at, split_run};
 use crate::parser::first_line::{Line, first_line, may_go_on};
 use crate::parser::layout::{elements, trim_last, without_spaces};
 use crate::parser::list::push;
 use crate::parser::pieces::{as_pieces, more_pieces};
 use crate::parser::stop::Stop;
+use fluent_tree::ast::{Expression, Pattern, PatternElement};
 use std::alloc::{AllocError, Global};
 
 /// A pattern whose placeables are read by `braces`, no deeper than `depth`.

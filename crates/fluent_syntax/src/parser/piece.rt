@@ -4,9 +4,9 @@ ghost use Rattle.fluent_syntax.specs.Layout.{dedented};
 ghost use Rattle.fluent_syntax.specs.Pieces as spec;
 ghost use Rattle.fluent_syntax.specs.Reading.{found};
 
-use crate::ast::Expression;
 use crate::parser::bytes::{Class, byte_at, run_len};
 use crate::parser::lines::{blank_block, blank_inline};
+use fluent_tree::ast::Expression;
 use std::marker::Model;
 
 /// Text of one line, behind its indent where it stands at the start of the line.
@@ -36,7 +36,7 @@ impl<'s> Model for Slice<'s> {
 impl<'s> Slice<'s> {
     /// The text at the front of `text`, which follows the indent in `line`.
     #[inline(always)]
-    #[tactic(auto, unfolding(crate::specs::Pieces::words_after, crate::specs::Parser::run1))]
+    #[tactic(auto, unfolding(crate::specs::Pieces::words_after, fluent_tree::specs::Parser::run1))]
     fn read(line: &'s str, indent: Option<usize>, text: &'s str) -> Option<(Slice<'s>, &'s str)>
         requires within { unwrap_or indent 0 ≤ length line.now }
         requires spaces { (k : ℕ) → k < unwrap_or indent 0 → slice_index line.now k ≡ 32 }

@@ -6,14 +6,14 @@ ghost use Rattle.fluent_syntax.specs.Pieces.{pattern_element, pieces};
 ghost use Rattle.fluent_syntax.specs.PieceView.{piece_view};
 ghost use Rattle.fluent_syntax.specs.Progress.{Reached, Adds, piece_of, ended, text_pieces, hole_pieces};
 ghost use Rattle.fluent_syntax.specs.Reading.{Gives, all};
-ghost use Rattle.fluent_syntax.specs.View.{element_view, expression_view};
+ghost use Rattle.fluent_tree.specs.View.{element_view, expression_view};
 
-use crate::ast::{Expression, PatternElement};
 use crate::parser::bare::bare_placeable;
 use crate::parser::lines::blank_block;
 use crate::parser::list::push;
 use crate::parser::piece::{Piece, Slice, block_text, indent, inline_text};
 use crate::parser::stop::Stop;
+use fluent_tree::ast::{Expression, PatternElement};
 use std::alloc::{AllocError, Global};
 
 /// The elements of a pattern's first line, as pieces.

@@ -3,14 +3,14 @@ ghost use Rattle.std.specs.Prelude.{◌≡◌, Some, length};
 ghost use Rattle.fluent_syntax.specs.Expressions as spec;
 ghost use Rattle.fluent_syntax.specs.Reading.{found, Gives};
 ghost use Rattle.fluent_syntax.specs.Nests.{Reads};
-ghost use Rattle.fluent_syntax.specs.View.{inline_view, expression_view, arguments_view, attribute_of, call_view};
+ghost use Rattle.fluent_tree.specs.View.{inline_view, expression_view, arguments_view, attribute_of, call_view};
 
-use crate::ast::{CallArguments, Expression, Identifier, InlineExpression};
 use crate::parser::bytes::{Class, byte_at, eat, run_len};
 use crate::parser::inner::Inner;
 use crate::parser::lines::{identifier, variable_reference};
 use crate::parser::literal::{number_literal, string_literal};
 use crate::parser::stop::Stop;
+use fluent_tree::ast::{CallArguments, Expression, Identifier, InlineExpression};
 use std::alloc::Global;
 
 /// A string or a number.

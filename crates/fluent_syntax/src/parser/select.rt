@@ -1,12 +1,11 @@
 //! Selects: keys, variants and lists of them.
 ghost use Rattle.std.specs.Prelude.{◌≡◌, false, length};
 ghost use Rattle.fluent_syntax.specs.Expressions as spec;
-ghost use Rattle.fluent_syntax.specs.Parser as parser;
+ghost use Rattle.fluent_tree.specs.Parser as parser;
 ghost use Rattle.fluent_syntax.specs.Reading.{found, passed, Gives, all};
 ghost use Rattle.fluent_syntax.specs.Nests.{Reads};
-ghost use Rattle.fluent_syntax.specs.View.{key_view, inline_view, variant_view, expression_view};
+ghost use Rattle.fluent_tree.specs.View.{key_view, inline_view, variant_view, expression_view};
 
-use crate::ast::{CallArguments, Expression, InlineExpression, Variant, VariantKey};
 use crate::parser::bytes::eat;
 use crate::parser::inner::Inner;
 use crate::parser::lines::{after_blank, after_spaces, identifier, line_end};
@@ -14,6 +13,7 @@ use crate::parser::list::push;
 use crate::parser::literal::number_literal;
 use crate::parser::pattern::pattern;
 use crate::parser::stop::Stop;
+use fluent_tree::ast::{CallArguments, Expression, InlineExpression, Variant, VariantKey};
 use std::alloc::Global;
 
 /// Whether an expression may select a variant.

@@ -1,7 +1,7 @@
 //! What no clause says: that calls succeed, and the texts of errors.
 ghost use Rattle.std.specs.Prelude.{◌≡◌, ◌↔◌, IsTrue};
-ghost use Rattle.fluent_syntax.specs.View.{attribute_view};
-ghost use Rattle.fluent_syntax.specs.View as tree;
+ghost use Rattle.fluent_tree.specs.View.{attribute_view};
+ghost use Rattle.fluent_tree.specs.View as tree;
 
 use fluent_bundle::ast::{Attribute, Message, Pattern, PatternElement, Term};
 use fluent_bundle::bundle::AddFault;

@@ -1,6 +1,6 @@
 //! Calls of the bundle that are refused memory and made again, to be run with each allocation failing in turn.
 ghost use Rattle.std.specs.Prelude.{◌≡◌, is_some, true, IsTrue};
-ghost use Rattle.fluent_syntax.specs.View.{pattern_view};
+ghost use Rattle.fluent_tree.specs.View.{pattern_view};
 ghost use Rattle.fluent_bundle.specs.Interim.{sole_text};
 
 use fluent_bundle::ast::Pattern;

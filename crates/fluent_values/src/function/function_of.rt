@@ -1,6 +1,6 @@
 //! A function kept beside the fact of what it answers.
 ghost use Rattle.std.specs.Prelude.{◌≡◌, List, Ok, map, IfOk};
-ghost use Rattle.fluent_syntax.specs.Tree.{Text};
+ghost use Rattle.fluent_tree.specs.Tree.{Text};
 ghost use Rattle.fluent_meaning.specs.Value.{Value};
 ghost use Rattle.fluent_meaning.specs.Arguments.{Map};
 ghost use Rattle.fluent_values.specs.View.{value_view, named};

@@ -2,7 +2,7 @@
 
 ghost use Rattle.std.specs.Prelude.{◌≡◌, IfOk, IsOk, IsTrue, Bool};
 ghost use Rattle.std.specs.Cow.{cow_str_bytes};
-ghost use Rattle.fluent_syntax.specs.Tree.{Text};
+ghost use Rattle.fluent_tree.specs.Tree.{Text};
 ghost use Rattle.fluent_meaning.specs.Bundle.{Bundle, shown};
 ghost use Rattle.fluent_meaning.specs.Value.{matches};
 ghost use Rattle.fluent_values.specs.View.{value_view};

@@ -1,12 +1,12 @@
 //! What goes wrong where a pattern is resolved.
 ghost use Rattle.std.specs.Prelude.{◌≡◌, IfOk, IsOk, None, string_bytes};
 ghost use Rattle.std.specs.Option.{option_map};
-ghost use Rattle.fluent_syntax.specs.View.{inline_view, attribute_of};
+ghost use Rattle.fluent_tree.specs.View.{inline_view, attribute_of};
 ghost use Rattle.fluent_meaning.specs.Errors.{reference_of, lost};
 ghost use Rattle.fluent_values.specs.View.{attribute_name, reference_view, resolver_error_view};
 ghost use Rattle.fluent_values.specs.Free.{NamesNothing};
 
-use fluent_syntax::ast::{Identifier, InlineExpression};
+use fluent_tree::ast::{Identifier, InlineExpression};
 use std::alloc::{AllocError, Global};
 use std::fmt;
 

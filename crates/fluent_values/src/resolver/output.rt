@@ -2,8 +2,8 @@
 ghost use Rattle.std.specs.Prelude.{◌≡◌, ◌≢◌, Err, false};
 ghost use Rattle.fluent_values.specs.Written.{sink, Took};
 
-use fluent_syntax::counting::put;
-use fluent_syntax::{Counting, WriteFault};
+use fluent_tree::counting::put;
+use fluent_tree::{Counting, WriteFault};
 use std::io::Write;
 
 /// A writer, and a buffer beside it, which takes the text in its place where that is wanted.

@@ -1,6 +1,6 @@
 //! Values of the application's own.
 ghost use Rattle.std.specs.Prelude.{◌≡◌, [], Bool, true, IfOk, string_bytes};
-ghost use Rattle.fluent_syntax.specs.Tree.{Text};
+ghost use Rattle.fluent_tree.specs.Tree.{Text};
 
 use std::alloc::{AllocError, Global};
 

@@ -1,7 +1,7 @@
 use Rattle.std.proofs.Common.{◌≡◌, ◌≤◌, length, ◌-◌, drop, map}
 use Rattle.std.specs.HashMap.{spare}
-use Rattle.fluent_syntax.specs.Tree.{Text}
-use Rattle.fluent_syntax.specs.View.{entry_view}
+use Rattle.fluent_tree.specs.Tree.{Text}
+use Rattle.fluent_tree.specs.View.{entry_view}
 use Rattle.fluent_meaning.specs.Bundle.{Function, added}
 use Rattle.fluent_bundle.specs.BundleView.{ids}
 use Rattle.fluent_bundle.proofs.adding.add_all.Given as goal

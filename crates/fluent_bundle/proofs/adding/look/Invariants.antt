@@ -1,6 +1,6 @@
 use Rattle.std.proofs.Common.{◌≡◌, take, map}
-use Rattle.fluent_syntax.specs.Tree.{Text}
-use Rattle.fluent_syntax.specs.View.{entry_view}
+use Rattle.fluent_tree.specs.Tree.{Text}
+use Rattle.fluent_tree.specs.View.{entry_view}
 use Rattle.fluent_meaning.specs.Bundle.{Function, added, not_added}
 use Rattle.fluent_values.specs.View.{error_view}
 use Rattle.fluent_bundle.specs.BundleView.{ids}

@@ -1,6 +1,6 @@
 use Rattle.std.proofs.Common.{rules, ◌≡◌, Err, take}
 use Rattle.std.proofs.KnownBytes.{Appends-trans}
-use Rattle.fluent_syntax.specs.declared.counting.WriteFault.TheVariants.{Memory}
+use Rattle.fluent_tree.specs.declared.counting.WriteFault.TheVariants.{Memory}
 use Rattle.fluent_show.specs.EndingView.{reported}
 use Rattle.fluent_show.proofs.Lines.{one_more, first_begin}
 use Rattle.fluent_show.proofs.report.put_errors.Goals as goal

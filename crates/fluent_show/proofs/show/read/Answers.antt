@@ -1,7 +1,7 @@
 use Rattle.std.proofs.Common.{rules, ◌≡◌, ◌∙◌, ap, map, List, ℕ, Err, alloc_error, is_ok, sym}
 use Rattle.std.proofs.lemmas.Simd.{map-map}
 use Rattle.fluent_syntax.specs.Parsed.{error_range}
-use Rattle.fluent_syntax.specs.declared.parser.errors.ParserError.{ParserError}
+use Rattle.fluent_tree.specs.declared.errors.ParserError.{ParserError}
 use Rattle.fluent_show.specs.Program.{error_at}
 use Rattle.fluent_show.proofs.Adding.{recast}
 use Rattle.fluent_show.proofs.show.read.Goals as goal

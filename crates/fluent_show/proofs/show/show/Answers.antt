@@ -1,5 +1,5 @@
 use Rattle.std.proofs.Common.{◌≡◌, ◌++◌, map, List, Result, subst}
-use Rattle.fluent_syntax.specs.Tree.{Text, Entry}
+use Rattle.fluent_tree.specs.Tree.{Text, Entry}
 use Rattle.fluent_syntax.specs.Chunks.{entries, junk_ranges}
 use Rattle.fluent_values.specs.declared.errors.FluentError.{FluentError}
 use Rattle.fluent_bundle.specs.BundleView.{entries_of}

@@ -1,5 +1,5 @@
 use Rattle.std.proofs.Common.{◌≡◌, ◌++◌, List, Result, subst}
-use Rattle.fluent_syntax.specs.Tree.{Text, Entry}
+use Rattle.fluent_tree.specs.Tree.{Text, Entry}
 use Rattle.fluent_values.specs.declared.errors.FluentError.{FluentError}
 use Rattle.fluent_meaning.specs.Bundle.{Bundle, answered, add_resource}
 use Rattle.fluent_bundle.specs.BundleView.{entries_of}

@@ -1,5 +1,5 @@
 use Rattle.std.proofs.Common.{rules, ◌≡◌, ◌∙◌, sym, ap, refl, false, is_ok, Some}
-use Rattle.fluent_syntax.specs.View.{pattern_view}
+use Rattle.fluent_tree.specs.View.{pattern_view}
 use Rattle.fluent_show.specs.BundleView.{bundle_view}
 use Rattle.fluent_show.specs.Program.{value_at}
 use Rattle.fluent_show.proofs.Taking.{took_recast}

@@ -1,7 +1,7 @@
 use Rattle.std.proofs.Common.{◌≡◌, ◌-◌, ◌<◌, ◌≤◌, ◌^◌, length}
 use denote.Shadow.{shadow}
 use denote.Text.{Utf8}
-use Rattle.fluent_syntax.specs.Escapes.{hex_number}
+use Rattle.fluent_tree.specs.Escapes.{hex_number}
 use Rattle.fluent_syntax.proofs.unicode.hex_number.Given as goal
 
 abbrev pub invariant-digits : goal.invariant-digits

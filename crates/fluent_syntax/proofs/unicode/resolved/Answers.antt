@@ -1,6 +1,6 @@
 use Rattle.std.proofs.Common.{◌-◌, ◌+◌, ◌++◌, ◌∙◌, ap, sym, length, arith, rules}
 use Rattle.std.specs.Prelude.{string_bytes}
-use Rattle.fluent_syntax.specs.Escapes.{part, value_of}
+use Rattle.fluent_tree.specs.Escapes.{part, value_of}
 use Rattle.fluent_syntax.proofs.Turns.{none, done, next}
 use Rattle.fluent_syntax.proofs.unicode.resolved.Goals as goal
 

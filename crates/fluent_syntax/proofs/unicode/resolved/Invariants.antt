@@ -2,8 +2,8 @@ use Rattle.std.proofs.Common.{◌≡◌, ◌++◌, ◌-◌, [], length}
 use Rattle.std.specs.Prelude.{string_bytes}
 use denote.Shadow.{shadow}
 use denote.Text.{Utf8}
-use Rattle.fluent_syntax.specs.Parser.{many_from}
-use Rattle.fluent_syntax.specs.Escapes.{part}
+use Rattle.fluent_tree.specs.Parser.{many_from}
+use Rattle.fluent_tree.specs.Escapes.{part}
 use Rattle.fluent_syntax.proofs.unicode.resolved.Given as goal
 
 abbrev pub invariant-parts : goal.invariant-parts

@@ -1,8 +1,8 @@
 use Rattle.std.proofs.Common.{◌-◌, ◌+◌, ◌++◌, ◌∙◌, ap, sym, refl, subst, length, arith, rules}
 use Rattle.std.specs.Io.KnownBytes.{Appends}
-use Rattle.fluent_syntax.specs.Escapes.{part, value_of}
+use Rattle.fluent_tree.specs.Escapes.{part, value_of}
 use Rattle.fluent_syntax.specs.Unescaped.{bytes_of}
-use Rattle.fluent_syntax.proofs.Front.{appends_twice}
+use Rattle.fluent_tree.proofs.Front.{appends_twice}
 use Rattle.fluent_syntax.proofs.Turns.{none, done, next, more}
 use Rattle.fluent_syntax.proofs.Unescapes.{began, on_err}
 use Rattle.fluent_syntax.proofs.unicode.unescape_unicode.Goals as goal

@@ -1,5 +1,5 @@
 use Rattle.std.proofs.Common.{rules}
-use Rattle.fluent_syntax.specs.View.{pattern_view}
+use Rattle.fluent_tree.specs.View.{pattern_view}
 use Rattle.fluent_bundle.specs.BundleView.{meant}
 use Rattle.fluent_bundle.specs.Scoped.{arguments_view}
 use Rattle.fluent_bundle.proofs.Formats.{substituted_of, written_by}

@@ -1,5 +1,5 @@
 use Rattle.std.proofs.Common.{◌≡◌, drop, map}
-use Rattle.fluent_syntax.specs.View.{attribute_view}
+use Rattle.fluent_tree.specs.View.{attribute_view}
 use Rattle.fluent_bundle.specs.BundleView.{first_named}
 use Rattle.fluent_bundle.proofs.message.FluentMessage.get_attribute.Given as goal
 

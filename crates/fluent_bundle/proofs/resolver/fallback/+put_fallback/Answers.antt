@@ -1,6 +1,6 @@
 use Rattle.std.proofs.Common.{rules, ◌∷◌, [], ◌++◌}
-use Rattle.fluent_syntax.specs.Fallback.{dotted}
-use Rattle.fluent_syntax.specs.View.{attribute_of}
+use Rattle.fluent_tree.specs.Fallback.{dotted}
+use Rattle.fluent_tree.specs.View.{attribute_of}
 use Rattle.fluent_values.proofs.Took.{took_on, took_stops, took_same}
 use Rattle.fluent_bundle.proofs.Views.{string_fallback_in, function_fallback_in, term_fallback_in, variable_fallback_in}
 use Rattle.fluent_bundle.proofs.resolver.fallback.+put_fallback.Goals as goal

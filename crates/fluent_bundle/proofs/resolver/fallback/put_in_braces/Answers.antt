@@ -1,6 +1,6 @@
 use Rattle.std.proofs.Common.{rules, ◌∷◌, [], ◌++◌}
-use Rattle.fluent_syntax.specs.Fallback.{fallback}
-use Rattle.fluent_syntax.specs.View.{inline_view}
+use Rattle.fluent_tree.specs.Fallback.{fallback}
+use Rattle.fluent_tree.specs.View.{inline_view}
 use Rattle.fluent_values.proofs.Took.{took_on, took_stops}
 use Rattle.fluent_bundle.proofs.resolver.fallback.put_in_braces.Goals as goal
 

@@ -1,6 +1,6 @@
 use Rattle.std.proofs.Common.{◌∙◌, ap, rules}
-use Rattle.fluent_syntax.specs.Tree.{nested}
-use Rattle.fluent_syntax.specs.View.{inline_view}
+use Rattle.fluent_tree.specs.Tree.{nested}
+use Rattle.fluent_tree.specs.View.{inline_view}
 use Rattle.fluent_meaning.specs.Meaning.{within_budget}
 use Rattle.fluent_bundle.specs.Scoped.{status}
 use Rattle.fluent_bundle.specs.Interim.{inline_text}

@@ -1,12 +1,12 @@
 use Rattle.std.proofs.Common.{rules, ap, sym, ◌∙◌, Option}
 use Rattle.std.specs.Option.{option_map}
-use Rattle.fluent_syntax.specs.Fallback.{in_braces, fallback}
-use Rattle.fluent_syntax.specs.Tree.{variable}
+use Rattle.fluent_tree.specs.Fallback.{in_braces, fallback}
+use Rattle.fluent_tree.specs.Tree.{variable}
 use Rattle.fluent_meaning.specs.Value.{Value}
 use Rattle.fluent_values.specs.View.{value_view}
 use Rattle.fluent_bundle.specs.Interim.{variable_text}
 use Rattle.fluent_meaning.specs.Meaning.{within_budget, Ran}
-use Rattle.fluent_syntax.specs.Tree.{Text}
+use Rattle.fluent_tree.specs.Tree.{Text}
 use Rattle.fluent_bundle.specs.Scoped.{Status, status, given}
 use Rattle.fluent_bundle.proofs.Along.{starts, turns, adds, refuses, puts_last, wrote}
 use Rattle.fluent_bundle.proofs.resolver.inline_expression.write_variable.Goals as goal

@@ -1,7 +1,7 @@
 use Rattle.std.proofs.Common.{◌≡◌, refl, rules, ap, sym, ◌∙◌, List, [], ◌∷◌, length, nat_eq, map}
-use Rattle.fluent_syntax.specs.Tree.{pattern_of}
-use Rattle.fluent_syntax.specs.View.{element_view}
-use Rattle.fluent_syntax.specs.declared.ast.PatternElement.{PatternElement}
+use Rattle.fluent_tree.specs.Tree.{pattern_of}
+use Rattle.fluent_tree.specs.View.{element_view}
+use Rattle.fluent_tree.specs.declared.ast.PatternElement.{PatternElement}
 use Rattle.fluent_meaning.specs.Walk.{has_one}
 use Rattle.fluent_bundle.proofs.Views.{view_pattern}
 use Rattle.fluent_bundle.proofs.resolver.pattern.has_one.Goals as goal

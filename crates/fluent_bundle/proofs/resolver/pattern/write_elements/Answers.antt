@@ -1,6 +1,6 @@
 use Rattle.std.proofs.Common.{rules, IsTrue, ap, sym, ◌∙◌, ◌+◌, drop, map, subst}
-use Rattle.fluent_syntax.specs.Tree.{placeable, pattern_of}
-use Rattle.fluent_syntax.specs.View.{pattern_view, element_view, expression_view}
+use Rattle.fluent_tree.specs.Tree.{placeable, pattern_of}
+use Rattle.fluent_tree.specs.View.{pattern_view, element_view, expression_view}
 use Rattle.fluent_meaning.specs.Meaning.{within_budget}
 use Rattle.fluent_values.specs.ScopeView.{budget_view}
 use Rattle.fluent_bundle.specs.Scoped.{status}

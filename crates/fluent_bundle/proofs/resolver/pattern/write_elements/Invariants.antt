@@ -1,5 +1,5 @@
 use Rattle.std.proofs.Common.{drop, Ok}
-use Rattle.fluent_syntax.specs.View.{pattern_view}
+use Rattle.fluent_tree.specs.View.{pattern_view}
 use Rattle.fluent_meaning.specs.Meaning.{within_budget}
 use Rattle.fluent_meaning.specs.Walk.{has_one}
 use Rattle.fluent_bundle.specs.Scoped.{Along, Status, status, from_here}

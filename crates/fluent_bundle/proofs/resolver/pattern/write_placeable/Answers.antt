@@ -1,5 +1,5 @@
 use Rattle.std.proofs.Common.{rules, ap, sym, ◌∙◌, ◌∷◌, [], ◌≡◌}
-use Rattle.fluent_syntax.specs.View.{expression_view}
+use Rattle.fluent_tree.specs.View.{expression_view}
 use Rattle.fluent_meaning.specs.Errors.{resolver_error, too_many_placeables}
 use Rattle.fluent_meaning.specs.Meaning.{first_mark, last_mark, after_errors}
 use Rattle.fluent_values.specs.ScopeView.{budget_view}

@@ -1,7 +1,7 @@
 use Rattle.std.proofs.Common.{rules, ◌≡◌, ◌∙◌, sym, Bool, true, false, List, ◌∷◌, map, string_bytes, String, Global, nat_eq, codes, Some, None, refl}
 use Rattle.std.specs.List.{list_all, starts_with}
 use Rattle.std.proofs.lemmas.List.Folds.{list_all-map}
-use Rattle.fluent_syntax.specs.Tree.{Text}
+use Rattle.fluent_tree.specs.Tree.{Text}
 use Rattle.fluent_show.specs.Words.{name_and_value, is_argument, asked_from}
 use Rattle.fluent_show.proofs.request.Request.from_id.Goals as goal
 

@@ -1,6 +1,6 @@
 use Rattle.std.proofs.Common.{◌-◌, ◌+◌, ◌∙◌, length, arith, rules}
-use Rattle.fluent_syntax.specs.View.{attribute_view}
-use Rattle.fluent_syntax.specs.Parser.{push}
+use Rattle.fluent_tree.specs.View.{attribute_view}
+use Rattle.fluent_tree.specs.Parser.{push}
 use Rattle.fluent_syntax.specs.Entries.{attribute}
 use Rattle.fluent_syntax.specs.Reading.{all}
 use Rattle.fluent_syntax.proofs.Turns.{pushed, empty}

@@ -1,9 +1,9 @@
 use Rattle.std.proofs.Common.{◌≡◌, ◌==◌, ◌++◌, ◌∷◌, [], true, None, Err, sym, ap, ◌∙◌, subst, map, rules}
-use Rattle.fluent_syntax.specs.Parser.{first}
+use Rattle.fluent_tree.specs.Parser.{first}
 use Rattle.fluent_syntax.specs.Expressions.{level}
 use Rattle.fluent_syntax.specs.Layout.{unless_empty}
-use Rattle.fluent_syntax.specs.Tree.{placeable}
-use Rattle.fluent_syntax.specs.View.{element_view}
+use Rattle.fluent_tree.specs.Tree.{placeable}
+use Rattle.fluent_tree.specs.View.{element_view}
 use Rattle.fluent_syntax.specs.Progress.{Places, Reached, piece_of}
 use Rattle.fluent_syntax.specs.Reading.{all}
 use Rattle.fluent_syntax.proofs.OneLine.{is_other}

@@ -1,7 +1,7 @@
 use denote.Shadow.{shadow}
 use denote.Text.{Utf8}
 use Rattle.std.proofs.Common.{map}
-use Rattle.fluent_syntax.specs.View.{element_view}
+use Rattle.fluent_tree.specs.View.{element_view}
 use Rattle.fluent_syntax.specs.Progress.{Reached, piece_of}
 use Rattle.fluent_syntax.specs.Reading.{all}
 use Rattle.fluent_syntax.proofs.Progress.{Plain}

@@ -1,7 +1,7 @@
 use Rattle.std.proofs.Common.{◌≡◌, ◌-◌, suc, ◌∷◌, [], ◌++◌, Some, map, ap, ◌∙◌, subst, arith}
 use Rattle.std.proofs.lemmas.List.{map-append}
 use Rattle.fluent_syntax.specs.Expressions.{level}
-use Rattle.fluent_syntax.specs.View.{element_view, expression_view}
+use Rattle.fluent_tree.specs.View.{element_view, expression_view}
 use Rattle.fluent_syntax.specs.Reading.{all}
 use Rattle.fluent_syntax.proofs.Views.{view_placeable}
 use Rattle.fluent_syntax.proofs.parser.first_line.push_placeable.Goals as goal

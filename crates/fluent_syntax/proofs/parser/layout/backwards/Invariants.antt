@@ -1,6 +1,6 @@
 use Rattle.std.proofs.Common.{◌≡◌, List, ◌++◌, length, map}
 use Rattle.fluent_syntax.specs.Backwards.{backwards}
-use Rattle.fluent_syntax.specs.View.{element_view}
+use Rattle.fluent_tree.specs.View.{element_view}
 use Rattle.fluent_syntax.specs.Layout.{Piece, lines, starts_line}
 use Rattle.fluent_syntax.specs.PieceView.{piece_view}
 use Rattle.fluent_syntax.proofs.parser.layout.backwards.Given as goal

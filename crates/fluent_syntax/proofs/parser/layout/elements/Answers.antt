@@ -1,5 +1,5 @@
 use Rattle.std.proofs.Common.{◌≡◌, map, ap, ◌∙◌}
-use Rattle.fluent_syntax.specs.View.{element_view}
+use Rattle.fluent_tree.specs.View.{element_view}
 use Rattle.fluent_syntax.specs.Layout.{elements, lines, trim_last, trim_front, is_feed, common_indent}
 use Rattle.fluent_syntax.specs.PieceView.{piece_view}
 use Rattle.std.specs.Prelude.{reverse}

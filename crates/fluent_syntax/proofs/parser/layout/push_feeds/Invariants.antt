@@ -1,7 +1,7 @@
 use Rattle.std.proofs.Common.{◌≡◌, List, ◌++◌, map}
 use Rattle.std.specs.Prelude.{replicate}
-use Rattle.fluent_syntax.specs.Tree.{Element}
-use Rattle.fluent_syntax.specs.View.{element_view}
+use Rattle.fluent_tree.specs.Tree.{Element}
+use Rattle.fluent_tree.specs.View.{element_view}
 use Rattle.fluent_syntax.specs.Backwards.{backwards}
 use Rattle.fluent_syntax.specs.Layout.{feed}
 use Rattle.fluent_syntax.proofs.parser.layout.push_feeds.Given as goal

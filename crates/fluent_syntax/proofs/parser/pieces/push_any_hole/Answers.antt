@@ -3,7 +3,7 @@ use Rattle.fluent_syntax.specs.Layout.{line, words, hole}
 use Rattle.fluent_syntax.specs.Expressions.{level}
 use Rattle.fluent_syntax.specs.Reading.{Gives}
 use Rattle.fluent_syntax.specs.PieceView.{piece_view}
-use Rattle.fluent_syntax.specs.View.{expression_view}
+use Rattle.fluent_tree.specs.View.{expression_view}
 use Rattle.fluent_syntax.proofs.Progress.{hole_here, hole_below, added, added_three}
 use Rattle.fluent_syntax.proofs.parser.pieces.push_any_hole.Goals as goal
 

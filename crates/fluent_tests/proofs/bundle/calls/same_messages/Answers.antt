@@ -1,4 +1,4 @@
-use Rattle.fluent_syntax.specs.Same.{entry_same}
+use Rattle.fluent_tree.specs.Same.{entry_same}
 use Rattle.fluent_tests.proofs.Equal.{same_views}
 use Rattle.fluent_tests.proofs.bundle.calls.same_messages.Goals as goal
 

@@ -1,6 +1,6 @@
 use Rattle.std.proofs.Common.{◌-◌, ◌+◌, ◌∙◌, false, length, arith, rules}
-use Rattle.fluent_syntax.specs.View.{variant_view}
-use Rattle.fluent_syntax.specs.Parser.{push}
+use Rattle.fluent_tree.specs.View.{variant_view}
+use Rattle.fluent_tree.specs.Parser.{push}
 use Rattle.fluent_syntax.specs.Expressions.{variant, level}
 use Rattle.fluent_syntax.specs.Reading.{all}
 use Rattle.fluent_syntax.proofs.Turns.{pushed, empty}

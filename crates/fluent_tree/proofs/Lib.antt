@@ -1,0 +1,5 @@
+pub mod Front
+mod Lists
+mod Inverse
+mod Alike
+mod Decided

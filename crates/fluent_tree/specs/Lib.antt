@@ -1,0 +1,9 @@
+pub mod Tree
+pub mod View
+pub mod Fallback
+pub mod Taken
+pub mod Parser
+pub mod Lexical
+pub mod Escapes
+pub mod Same
+pub mod ParserError
