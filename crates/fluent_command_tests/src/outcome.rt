@@ -57,8 +57,8 @@ pub fn expect_run<R: Read + Drop>(
 ) -> Result<R, AllocError> {
     let left = run_over(alloc, words, input, Vec::new(alloc), Vec::new(alloc))?;
     let (status, output, errors) = want;
-    assert_eq!(rt; left.status, status, "of {words:?}");
-    assert_eq!(rt; left.out.as_slice(), output.as_bytes(), "of {words:?}");
-    assert_eq!(rt; left.err.as_slice(), errors.as_bytes(), "of {words:?}");
+    assert_eq!(rt; left.status, status, "{errors}");
+    assert_eq!(rt; left.out.as_slice(), output.as_bytes());
+    assert_eq!(rt; left.err.as_slice(), errors.as_bytes());
     Ok(left.input)
 }

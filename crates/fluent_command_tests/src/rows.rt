@@ -18,7 +18,7 @@ fn expect_rows(rt: &impl Abort, alloc: Global, rows: &[Row]) -> Result<(), Alloc
 
 const ISOLATED: &str = "Welcome, \u{2068}John\u{2069}.\n";
 
-const SHOWN: [Row; 5] = [
+const SHOWN: &[Row] = &[
     (&["intro", "name=John"], INTRO, (0, ISOLATED, "")),
     (
         &["--no-isolate", "intro", "name=John"],
@@ -44,12 +44,12 @@ const SHOWN: [Row; 5] = [
 
 #[test]
 fn shows_the_message(rt: HostRuntime) -> Result<(), Fail> {
-    Ok(expect_rows(&rt, rt.alloc(), &SHOWN)?)
+    Ok(expect_rows(&rt, rt.alloc(), SHOWN)?)
 }
 
 const NUMBER: &[u8] = b"n = { $n }";
 
-const NUMBERS: [Row; 6] = [
+const NUMBERS: &[Row] = &[
     (&["n", "n=007"], NUMBER, (0, "7\n", "")),
     (&["n", "n=1.50"], NUMBER, (0, "1.50\n", "")),
     (&["n", "n=.5"], NUMBER, (0, "0.5\n", "")),
@@ -60,12 +60,12 @@ const NUMBERS: [Row; 6] = [
 
 #[test]
 fn takes_numbers_for_numbers(rt: HostRuntime) -> Result<(), Fail> {
-    Ok(expect_rows(&rt, rt.alloc(), &NUMBERS)?)
+    Ok(expect_rows(&rt, rt.alloc(), NUMBERS)?)
 }
 
 const MISSING: &str = "Welcome, \u{2068}{$name}\u{2069}.\n";
 
-const REPORTED: [Row; 4] = [
+const REPORTED: &[Row] = &[
     (
         &["a"],
         b"NUMBER = one\na = two\n-a = three\n-b = four\n-b = five",
@@ -102,14 +102,14 @@ const REPORTED: [Row; 4] = [
 
 #[test]
 fn reports_errors_in_order(rt: HostRuntime) -> Result<(), Fail> {
-    Ok(expect_rows(&rt, rt.alloc(), &REPORTED)?)
+    Ok(expect_rows(&rt, rt.alloc(), REPORTED)?)
 }
 
 const USAGE: &str = "usage: fluent_show [--no-isolate] ID [NAME=VALUE]..\n";
 
 const NOT_UTF8: &str = "fluent_show: standard input is not UTF-8\n";
 
-const REFUSED: [Row; 12] = [
+const REFUSED: &[Row] = &[
     (
         &["nope"],
         INTRO,
@@ -138,5 +138,5 @@ const REFUSED: [Row; 12] = [
 
 #[test]
 fn refuses_what_it_cannot_show(rt: HostRuntime) -> Result<(), Fail> {
-    Ok(expect_rows(&rt, rt.alloc(), &REFUSED)?)
+    Ok(expect_rows(&rt, rt.alloc(), REFUSED)?)
 }
