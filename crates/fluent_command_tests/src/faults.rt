@@ -1,6 +1,6 @@
 //! Readers that give pieces, fail or never end, and writers that take little or fail.
 
-use crate::outcome::{expect_run, run_over};
+use crate::outcome::{expect_outcome, expect_run, run_over};
 use std::alloc::Global;
 use std::io;
 use std::io::{Read, Write};
@@ -81,12 +81,12 @@ fn of_room(alloc: Global, room: usize, fails: bool) -> Narrow {
     }
 }
 
-const SIZES: [usize; 4] = [1, 2, 3, 100];
+const SIZES: &[usize] = &[1, 2, 3, 100];
 
 #[test]
 fn reads_in_any_pieces(rt: HostRuntime) -> Result<(), Fail> {
     let want = (0, "Welcome, \u{2068}John\u{2069}.\n", "");
-    for size in &SIZES {
+    for size in SIZES {
         let input = Pieces {
             rest: INTRO,
             size: *size,
@@ -120,7 +120,7 @@ fn stops_reading_what_never_ends(rt: HostRuntime) -> Result<(), Fail> {
 }
 
 /// The room of an output, whether it fails when it is full, and what it takes of the text without arguments.
-const ROOMS: [(usize, bool, &str); 4] = [
+const ROOMS: &[(usize, bool, &str)] = &[
     (12, true, "Welcome, \u{2068}"),
     (23, true, "Welcome, \u{2068}{$name}\u{2069}."),
     (12, false, "Welcome, \u{2068}"),
@@ -130,23 +130,26 @@ const ROOMS: [(usize, bool, &str); 4] = [
 #[test]
 fn stops_where_writing_fails(rt: HostRuntime) -> Result<(), Fail> {
     let alloc = rt.alloc();
-    let lines = b"Resolver error: Unknown variable: $name\nfluent_show: writing failed\n";
-    for (room, fails, want) in &ROOMS {
+    let lines = "Resolver error: Unknown variable: $name\nfluent_show: writing failed\n";
+    for (room, fails, text) in ROOMS {
         let out = of_room(alloc, *room, *fails);
         let left = run_over(alloc, &["intro"], INTRO, out, Vec::new(alloc))?;
-        assert_eq!(rt; left.status, 3);
-        assert_eq!(rt; left.out.taken.as_slice(), want.as_bytes());
-        assert_eq!(rt; left.err.as_slice(), lines.as_slice());
+        let output = left.out.taken.as_slice();
+        expect_outcome(
+            &rt,
+            left.status,
+            output,
+            left.err.as_slice(),
+            (3, *text, lines),
+        );
     }
     Ok(())
 }
 
-const BOTH: [bool; 2] = [true, false];
-
 #[test]
 fn gives_the_status_where_nothing_can_be_said(rt: HostRuntime) -> Result<(), Fail> {
     let alloc = rt.alloc();
-    for fails in &BOTH {
+    for fails in &[true, false] {
         let err = of_room(alloc, 0, *fails);
         let left = run_over(alloc, &["intro"], INTRO, Vec::new(alloc), err)?;
         assert_eq!(rt; left.status, 3);

@@ -47,7 +47,21 @@ pub fn run_over<R: Read + Drop, W: Write + Drop, E: Write + Drop>(
     })
 }
 
-/// Compares status, output and error text of a run, and gives its reader back.
+/// Compares status, output and error text of a run.
+pub fn expect_outcome(
+    rt: &impl Abort,
+    status: u8,
+    output: &[u8],
+    errors: &[u8],
+    want: Outcome<'_>,
+) {
+    let (want_status, want_output, want_errors) = want;
+    assert_eq!(rt; status, want_status, "{want_errors}");
+    assert_eq!(rt; output, want_output.as_bytes());
+    assert_eq!(rt; errors, want_errors.as_bytes());
+}
+
+/// Makes a run, compares what it came to, and gives its reader back.
 pub fn expect_run<R: Read + Drop>(
     rt: &impl Abort,
     alloc: Global,
@@ -56,9 +70,12 @@ pub fn expect_run<R: Read + Drop>(
     want: Outcome<'_>,
 ) -> Result<R, AllocError> {
     let left = run_over(alloc, words, input, Vec::new(alloc), Vec::new(alloc))?;
-    let (status, output, errors) = want;
-    assert_eq!(rt; left.status, status, "{errors}");
-    assert_eq!(rt; left.out.as_slice(), output.as_bytes());
-    assert_eq!(rt; left.err.as_slice(), errors.as_bytes());
+    expect_outcome(
+        rt,
+        left.status,
+        left.out.as_slice(),
+        left.err.as_slice(),
+        want,
+    );
     Ok(left.input)
 }
