@@ -1,23 +1,15 @@
 //! Shows one message of an FTL source that stands on standard input.
 #![tactic(auto)]
 
-mod input;
-mod report;
-mod request;
-mod run;
-mod show;
-#[cfg(test)]
-mod tests;
-
 ghost use Rattle.std.specs.Prelude.{◌≡◌, ◌≢◌};
 ghost use Rattle.std.specs.IoError.{error_kind};
-ghost use Rattle.fluent_show.specs.Ending.{bad_usage, out_of_memory};
-ghost use Rattle.fluent_show.specs.EndingView.{ending_view};
+ghost use Rattle.fluent_command.specs.Ending.{bad_usage, out_of_memory};
+ghost use Rattle.fluent_command.specs.EndingView.{ending_view};
 
 use fluent_bundle::Counting;
-use input::Reads;
-use report::Ending;
-use run::run;
+use fluent_command::input::Reads;
+use fluent_command::report::{Ending, say};
+use fluent_command::run::run;
 use std::io::ErrorKind;
 use std::process::ExitCode;
 use std::{env, io};
@@ -48,7 +40,7 @@ fn main(rt: HostRuntime) -> ExitCode {
     let mut err = Counting::new(rt.stderr());
     let status = match words(&rt) {
         Ok(words) => run(rt.alloc(), words.as_slice(), &mut input, &mut out, &mut err),
-        Err(error) => report::say(refusal(&error), &mut err),
+        Err(error) => say(refusal(&error), &mut err),
     };
     ExitCode::from(status)
 }

@@ -1,0 +1,60 @@
+-- A text that is taken piece by piece.
+use Rattle.std.proofs.Common.{◌≡◌, ◌∙◌, sym, ap, subst, refl, false, List, [], ◌++◌, append_assoc, append-nil, Option, Result, Ok, Err, is_ok}
+use Rattle.std.specs.Result.{OnOk, OnErr}
+use Rattle.std.specs.Io.KnownBytes.{Appends}
+use Rattle.std.proofs.KnownBytes.{Appends-trans}
+use Rattle.fluent_tree.specs.Tree.{Text}
+use Rattle.fluent_tree.specs.Taken.{TookFront}
+use Rattle.fluent_meaning.specs.Errors.{Error}
+use Rattle.fluent_bundle.specs.Formatted.{WritesAll, WritesFront}
+use Rattle.fluent_values.specs.declared.errors.FluentError.{FluentError}
+use Rattle.fluent_command.specs.Far.{Added, Took}
+
+-- what one call of `put` takes
+pub took_put : {T E : Type 0} (r : Result T E) (piece : Text) (old new : Option Text) → OnOk r (Appends old new piece) → OnErr r (TookFront old new piece) → Took r piece old new
+took_put (Ok x) piece old new whole front = record { front = piece; rest = []; begins = sym (append-nil piece); held = whole; all = refl }
+took_put (Err e) piece old new whole front = record { front = front.0; rest = front.1; begins = front.2; held = front.3; all = tt }
+
+-- a text after the whole of another
+pub took_then : {T E T' E' : Type 0} (r : Result T E) (r' : Result T' E') (x : T) (s t : Text) (old mid new : Option Text) → r ≡ Ok x
+    → Took r s old mid → Took r' t mid new → Took r' (s ++ t) old new
+took_then r r' x s t old mid new was first second =
+    let all_first : first.rest ≡ [] = subst (λ w. OnOk w (first.rest ≡ [])) was first.all in
+    let whole : s ≡ first.front = first.begins ∙ ap (λ w. first.front ++ w) all_first ∙ append-nil first.front in
+    record {
+      front = s ++ second.front;
+      rest = second.rest;
+      begins = ap (λ w. s ++ w) second.begins ∙ sym (append_assoc s second.front second.rest);
+      held = subst (λ w. Appends old new (w ++ second.front)) (sym whole) (Appends-trans old mid new first.front second.front first.held second.held);
+      all = second.all;
+    }
+
+-- a call that faulted took a beginning of more, too
+pub took_short : {T E T' E' : Type 0} (r : Result T E) (r' : Result T' E') (s t : Text) (old new : Option Text) → is_ok r' ≡ false → Took r s old new → Took r' (s ++ t) old new
+took_short r (Ok x) s t old new faulted h = cc
+took_short r (Err e) s t old new faulted h = record { front = h.front; rest = h.rest ++ t; begins = ap (λ w. w ++ t) h.begins ∙ append_assoc h.front h.rest t; held = h.held; all = tt }
+
+-- The same of an answer that is Ok where this one is.
+pub took_recast : {T E T' E' : Type 0} (r : Result T E) (r' : Result T' E') (s t : Text) (old new : Option Text) → is_ok r' ≡ is_ok r → s ≡ t → Took r s old new → Took r' t old new
+took_recast (Ok x) (Ok y) s t old new same e h = record { front = h.front; rest = h.rest; begins = sym e ∙ h.begins; held = h.held; all = h.all }
+took_recast (Ok x) (Err y) s t old new same e h = record { front = h.front; rest = h.rest; begins = sym e ∙ h.begins; held = h.held; all = tt }
+took_recast (Err x) (Ok y) s t old new same e h = cc
+took_recast (Err x) (Err y) s t old new same e h = record { front = h.front; rest = h.rest; begins = sym e ∙ h.begins; held = h.held; all = tt }
+
+-- what a formatting call took
+pub took_written : {T E : Type 0} (r : Result T E) (text : Text) (errors : List Error) (held held' : Option Text) (old new : List FluentError)
+    → OnOk r (WritesAll text errors held held' old new) → WritesFront text errors held held' old new → Took r text held held'
+took_written (Ok x) text errors held held' old new whole front = record { front = text; rest = []; begins = sym (append-nil text); held = whole.taken; all = refl }
+took_written (Err e) text errors held held' old new whole front = record { front = front.front; rest = front.rest; begins = sym front.whole; held = front.taken; all = tt }
+
+-- what it added
+pub added_written : {T E : Type 0} (r : Result T E) (text : Text) (errors : List Error) (held held' : Option Text) (old new : List FluentError)
+    → OnOk r (WritesAll text errors held held' old new) → WritesFront text errors held held' old new → Added r errors old new
+added_written (Ok x) text errors held held' old new whole front = record { front = errors; rest = []; begins = sym (append-nil errors); list = whole.adds.added; all = refl }
+added_written (Err e) text errors held held' old new whole front = record {
+  front = front.adds.front;
+  rest = front.adds.rest;
+  begins = sym front.adds.whole;
+  list = front.adds.adds.added;
+  all = tt;
+}

@@ -1,0 +1,8 @@
+//! The program as a library: what it shows and says of any reader and writers. `main` hands it the real ones.
+#![tactic(auto)]
+
+pub mod input;
+pub mod report;
+mod request;
+pub mod run;
+mod show;

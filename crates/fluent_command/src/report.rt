@@ -1,0 +1,161 @@
+//! What is said on standard error, and the status.
+
+ghost use Rattle.std.specs.Prelude.{◌≡◌, ◌≢◌, ◌⊎◌, map, Err, IfOk, OnOk, string_bytes};
+ghost use Rattle.std.specs.Io.KnownBytes.{Appends};
+ghost use Rattle.fluent_tree.specs.Taken.{Faulted};
+ghost use Rattle.fluent_meaning.specs.Errors.{error_text};
+ghost use Rattle.fluent_values.specs.View.{error_view};
+ghost use Rattle.fluent_command.specs.Ending.{status, line, no_message, ending_line};
+ghost use Rattle.fluent_command.specs.EndingView.{ending_view, reported};
+ghost use Rattle.fluent_command.specs.Outcome.{Rose};
+ghost use Rattle.fluent_command.specs.Said.{TookErrors, Says};
+
+use fluent_bundle::{Counting, FluentError, WriteFault};
+use fluent_syntax::counting::put;
+use std::alloc::{AllocError, Global};
+use std::io::Write;
+
+/// How a run ends.
+#[derive(Clone, Copy, Debug)]
+pub enum Ending<'w> {
+    /// The text was written.
+    Shown,
+    /// No message of this id has a value.
+    NoMessage(&'w str),
+    /// The words are not of the form that the program takes.
+    Usage,
+    /// The input is no text.
+    NotUtf8,
+    /// Memory was refused.
+    Memory,
+    /// A read failed, or the input did not end.
+    Reading,
+    /// A write on the output failed, or took nothing.
+    Writing,
+}
+
+impl<'w> Ending<'w> {
+    /// The exit status: 0, 1, 2 or 3.
+    pub(crate) fn status(self) -> u8
+        ensures { result ≡ status (ending_view self.entry) }
+    {
+        match self {
+            Ending::Shown => 0,
+            Ending::NoMessage(_) => 1,
+            Ending::Usage | Ending::NotUtf8 => 2,
+            Ending::Memory | Ending::Reading | Ending::Writing => 3,
+        }
+    }
+}
+
+impl<'w> From<WriteFault> for Ending<'w> {
+    ghost use Rattle.fluent_command.specs.EndingView.{ending_view, ending_of};
+
+    ghost from_gives = { λ fault ending. ending_view ending ≡ ending_of fault };
+
+    fn from(fault: WriteFault) -> Ending<'w> {
+        match fault {
+            WriteFault::Memory => Ending::Memory,
+            WriteFault::Writer(_) | WriteFault::Zero => Ending::Writing,
+        }
+    }
+}
+
+/// The text of an error, and a line feed.
+fn error_line(alloc: Global, error: &FluentError) -> Result<String, AllocError>
+    ensures { IfOk result (λ text. string_bytes text ≡ line (error_text (error_view error.now))) }
+{
+    format!(in alloc; "{error}\n")
+}
+
+/// Writes a line for each error. It takes memory for one line at a time.
+fn put_errors<E: Write>(
+    alloc: Global,
+    errors: &[FluentError],
+    err: &mut Counting<E>,
+) -> Result<(), WriteFault>
+    ensures lines { TookErrors result (reported errors.now)
+        (E.contents err.old.inner) (E.contents err.new.inner) }
+    ensures fault { Faulted err.old.failed err.old.empty err.new.failed err.new.empty result }
+{
+    for error in errors {
+        let line = error_line(alloc, error)?;
+        put(err, line.as_bytes())?;
+    }
+    Ok(())
+}
+
+fn put_no_message<E: Write>(id: &str, err: &mut Counting<E>) -> Result<(), WriteFault>
+    ensures line { OnOk result (Appends (E.contents err.old.inner) (E.contents err.new.inner)
+        (ending_line (no_message id.now))) }
+    ensures fault { Faulted err.old.failed err.old.empty err.new.failed err.new.empty result }
+    ensures memory { result ≢ Err WriteFault.Memory }
+{
+    put(err, b"fluent_show: no message with a value: ")?;
+    put(err, id.as_bytes())?;
+    put(err, b"\n")
+}
+
+/// Writes the line of an ending, which takes no memory.
+fn put_ending<E: Write>(ending: Ending<'_>, err: &mut Counting<E>) -> Result<(), WriteFault>
+    ensures line { OnOk result (Appends (E.contents err.old.inner) (E.contents err.new.inner)
+        (ending_line (ending_view ending.entry))) }
+    ensures fault { Faulted err.old.failed err.old.empty err.new.failed err.new.empty result }
+    ensures memory { result ≢ Err WriteFault.Memory }
+{
+    match ending {
+        Ending::Shown => Ok(()),
+        Ending::NoMessage(id) => put_no_message(id, err),
+        Ending::Usage => put(
+            err,
+            b"usage: fluent_show [--no-isolate] ID [NAME=VALUE]..\n",
+        ),
+        Ending::NotUtf8 => put(err, b"fluent_show: standard input is not UTF-8\n"),
+        Ending::Memory => put(err, b"fluent_show: out of memory\n"),
+        Ending::Reading => put(err, b"fluent_show: reading failed\n"),
+        Ending::Writing => put(err, b"fluent_show: writing failed\n"),
+    }
+}
+
+/// Writes the errors and the ending, one a line, and gives the ending that was said: where memory is
+/// refused for the line of an error, that is said in place of all that is still to say.
+///
+/// # Errors
+///
+/// `Writer` or `Zero` of standard error, never `Memory`.
+pub(crate) fn report<'w, E: Write>(
+    alloc: Global,
+    errors: &[FluentError],
+    ending: Ending<'w>,
+    err: &mut Counting<E>,
+) -> Result<Ending<'w>, WriteFault>
+    ensures says { IfOk result (λ final.
+        Says (reported errors.now) (ending_view ending.entry) (ending_view final)
+        (E.contents err.old.inner) (E.contents err.new.inner)) }
+    ensures fault { Faulted err.old.failed err.old.empty err.new.failed err.new.empty result }
+    ensures memory { result ≢ Err WriteFault.Memory }
+{
+    let ending = match put_errors(alloc, errors, err) {
+        Ok(()) => ending,
+        Err(WriteFault::Memory) => Ending::Memory,
+        Err(fault) => return Err(fault),
+    };
+    put_ending(ending, err)?;
+    Ok(ending)
+}
+
+/// Writes the line of an ending alone, and gives the exit status: for a program that ends before it can call `run`.
+///
+/// It is 3 also where standard error failed or took nothing. Memory is not asked for.
+pub fn say<E: Write>(ending: Ending<'_>, err: &mut Counting<E>) -> u8
+    ensures status { result ≢ 3 → result ≡ status (ending_view ending.entry) }
+    ensures line { result ≢ 3 → Appends (E.contents err.old.inner) (E.contents err.new.inner)
+        (ending_line (ending_view ending.entry)) }
+    ensures cause { result ≡ 3 → (status (ending_view ending.entry) ≡ 3)
+        ⊎ Rose err.old.failed err.old.empty err.new.failed err.new.empty }
+{
+    match put_ending(ending, err) {
+        Ok(()) => ending.status(),
+        Err(_) => 3,
+    }
+}

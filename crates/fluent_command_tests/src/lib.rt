@@ -1,0 +1,9 @@
+//! Tests of the program: what runs come to on whole inputs, and where readers and writers are short, fail or never end.
+#![tactic(auto)]
+
+#[cfg(test)]
+mod faults;
+#[cfg(test)]
+mod outcome;
+#[cfg(test)]
+mod rows;
