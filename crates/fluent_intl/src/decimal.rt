@@ -4,8 +4,6 @@ mod backward;
 mod errors;
 mod laws;
 mod read;
-#[cfg(test)]
-mod tests;
 mod text;
 
 ghost use Rattle.std.specs.Prelude.{◌≡◌, ◌+◌, ◌*◌, ◌^◌, ◌<◌, ◌≤◌, pos, unsigned_abs, MatchOption, IsTrue, ◌↔◌, ◌<ℤ◌, ◌*ℤ◌, ◌/◌, ◌%◌, int_div};

@@ -22,6 +22,3 @@ pub use options::{
     FluentNumberCurrencyDisplayStyle, FluentNumberOptions, FluentNumberStyle, FluentNumberType,
 };
 pub use plurals::{EnglishPlurals, MemoizerKind, PluralCategory, PluralRuleType};
-
-#[cfg(test)]
-mod tests;

@@ -1,8 +1,9 @@
 //! Sources cut after each of their characters: each cut is read, and its Junk is what stands at its ranges.
-use crate::shown::shown;
+use crate::shown::is_tree;
 use fluent_syntax::ast::{Entry, Resource};
 use fluent_syntax::{ParseFault, ParserError, parse_runtime};
 use std::alloc::Global;
+use std::process::Abort;
 use std::test::Fail;
 
 const ORDINALS: &str =
@@ -17,28 +18,30 @@ const MIXED: &str =
 const MIXED_TREE: &str =
     "!(\u{feff}a = b\r\n) -t=[(  x\u{1f602})(\n)(\n)(    ){$n}(\n)(y)] .at=[{\"\\u00e9\"}] !(? = }\r\n\n) m=[{-t(c:-1.5,)}( ){F({$b},d.e,)}] !( .x = y\n) z=[{{1}}] 6..16 77..85 126..134";
 
+/// The part of a source between two places.
+fn part_of<'x>(source: &'x str, start: usize, end: usize) -> Option<&'x str> {
+    let (front, _) = source.split_at_checked(end)?;
+    let (_, part) = front.split_at_checked(start)?;
+    Some(part)
+}
+
+/// That Junk stands in the source at a range, which isn't empty and begins behind `done`.
+fn stands_at(source: &str, range: &ParserError, junk: &str, done: usize) -> bool {
+    range.start >= done
+        && range.end > range.start
+        && part_of(source, range.start, range.end) == Some(junk)
+}
+
 /// Each Junk of the tree stands in the source at the range of its error, behind the one before.
 fn junk_stands_in(source: &str, resource: &Resource, errors: &[ParserError]) -> bool {
     let mut ranges = errors.iter();
     let mut done = 0;
     for entry in resource.body.iter() {
         if let Entry::Junk { content } = entry {
-            let Some(range) = ranges.next() else {
-                return false;
-            };
-            if range.start < done || range.end <= range.start {
-                return false;
+            match ranges.next() {
+                Some(range) if stands_at(source, range, *content, done) => done = range.end,
+                _ => return false,
             }
-            let Some((front, _)) = source.split_at_checked(range.end) else {
-                return false;
-            };
-            let Some((_, junk)) = front.split_at_checked(range.start) else {
-                return false;
-            };
-            if junk != *content {
-                return false;
-            }
-            done = range.end;
         }
     }
     ranges.next().is_none()
@@ -54,21 +57,24 @@ fn is_read(alloc: Global, source: &str) -> Result<bool, Fail> {
     }
 }
 
-#[test]
-fn each_cut_is_read(rt: HostRuntime) -> Result<(), Fail> {
-    for source in [ORDINALS, MIXED] {
-        for end in 0..source.len() {
-            if let Some((cut, _)) = source.split_at_checked(end) {
-                assert!(rt; is_read(rt.alloc(), cut)?, "cut at {end}");
-            }
+/// Each cut of a source is read.
+fn are_read(rt: &impl Abort, alloc: Global, source: &str) -> Result<(), Fail> {
+    for end in 0..source.len() {
+        if let Some((cut, _)) = source.split_at_checked(end) {
+            assert!(rt; is_read(alloc, cut)?, "cut at {end}");
         }
     }
     Ok(())
 }
 
 #[test]
+fn each_cut_is_read(rt: HostRuntime) -> Result<(), Fail> {
+    are_read(&rt, rt.alloc(), ORDINALS)?;
+    are_read(&rt, rt.alloc(), MIXED)
+}
+
+#[test]
 fn the_whole_is_read(rt: HostRuntime) -> Result<(), Fail> {
-    assert_eq!(rt; shown(rt.alloc(), ORDINALS)?.as_str(), ORDINALS_TREE);
-    assert_eq!(rt; shown(rt.alloc(), MIXED)?.as_str(), MIXED_TREE);
-    Ok(())
+    is_tree(&rt, rt.alloc(), ORDINALS, ORDINALS_TREE)?;
+    is_tree(&rt, rt.alloc(), MIXED, MIXED_TREE)
 }

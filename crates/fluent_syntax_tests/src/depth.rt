@@ -1,5 +1,5 @@
 //! Placeables and argument lists stand in one another up to a depth of 100, counted together.
-use crate::shown::shown;
+use crate::shown::is_tree;
 use std::alloc::{AllocError, Global};
 use std::process::Abort;
 use std::test::Fail;
@@ -8,8 +8,8 @@ use std::test::Fail;
 type Nest = [&'static str; 5];
 
 /// A text that opens and closes so many times.
-fn nested(alloc: Global, nest: Nest, times: usize) -> Result<String, AllocError> {
-    let [front, open, inner, close, back] = nest;
+fn nested(alloc: Global, nest: &[&str; 5], times: usize) -> Result<String, AllocError> {
+    let [front, open, inner, close, back] = *nest;
     let mut out = String::from_str(alloc, front)?;
     for _ in 0..times {
         out.push_str(open)?;
@@ -23,7 +23,7 @@ fn nested(alloc: Global, nest: Nest, times: usize) -> Result<String, AllocError>
 }
 
 /// Sources of depth 100, with their trees.
-const DEEPEST: [(Nest, usize, Nest, usize); 5] = [
+const DEEPEST: &[(Nest, usize, Nest, usize)] = &[
     (
         ["d = ", "{", "\"x\"", "}", ""],
         100,
@@ -57,7 +57,7 @@ const DEEPEST: [(Nest, usize, Nest, usize); 5] = [
 ];
 
 /// Sources that go deeper by one.
-const DEEPER: [(Nest, usize); 6] = [
+const DEEPER: &[(Nest, usize)] = &[
     (["d = ", "{", "\"x\"", "}", ""], 101),
     (["d = { ", "F(", "", ")", " }"], 100),
     (["d = { ", "-t(", "$x", ")", " }"], 100),
@@ -68,11 +68,10 @@ const DEEPER: [(Nest, usize); 6] = [
 
 #[test]
 fn a_hundred_are_read(rt: HostRuntime) -> Result<(), Fail> {
-    for (nest, times, tree, tree_times) in DEEPEST {
-        let source = nested(rt.alloc(), nest, times)?;
-        let wanted = nested(rt.alloc(), tree, tree_times)?;
-        let found = shown(rt.alloc(), source.as_str())?;
-        assert_eq!(rt; found.as_str(), wanted.as_str());
+    for row in DEEPEST {
+        let source = nested(rt.alloc(), &row.0, row.1)?;
+        let tree = nested(rt.alloc(), &row.2, row.3)?;
+        is_tree(&rt, rt.alloc(), source.as_str(), tree.as_str())?;
     }
     Ok(())
 }
@@ -80,25 +79,25 @@ fn a_hundred_are_read(rt: HostRuntime) -> Result<(), Fail> {
 /// That a source is read as one Junk.
 fn is_junk(rt: &impl Abort, alloc: Global, text: &str) -> Result<(), Fail> {
     let wanted = format!(in alloc; "!({text}) 0..{}", text.len())?;
-    let found = shown(alloc, text)?;
-    assert_eq!(rt; found.as_str(), wanted.as_str());
-    Ok(())
+    is_tree(rt, alloc, text, wanted.as_str())
 }
 
 #[test]
 fn one_more_is_junk(rt: HostRuntime) -> Result<(), Fail> {
     for (nest, times) in DEEPER {
-        let source = nested(rt.alloc(), nest, times)?;
+        let source = nested(rt.alloc(), nest, *times)?;
         is_junk(&rt, rt.alloc(), source.as_str())?;
     }
     Ok(())
 }
 
+const UNCLOSED: &[&str] = &["{", "{ F(", "{ -t(", "{ \"x", "{ $b ->\n *[c] "];
+
 /// What opens and never closes is read in a time that grows with its length alone.
 #[test]
 fn unclosed_is_junk(rt: HostRuntime) -> Result<(), Fail> {
-    for open in ["{", "{ F(", "{ -t(", "{ \"x", "{ $b ->\n *[c] "] {
-        let source = nested(rt.alloc(), ["d = ", open, "", "", ""], 1000)?;
+    for open in UNCLOSED {
+        let source = nested(rt.alloc(), &["d = ", *open, "", "", ""], 1000)?;
         is_junk(&rt, rt.alloc(), source.as_str())?;
     }
     Ok(())

@@ -101,47 +101,85 @@ fn of_names_and_keys(rt: HostRuntime) {
     assert!(rt; one != VariantKey::Identifier { name: "1" });
 }
 
+fn same_calls(alloc: Global, one: &str, other: &str) -> Result<bool, AllocError> {
+    Ok(call(alloc, one, "1")? == call(alloc, other, "1")?)
+}
+
+fn same_selects(alloc: Global, one: &str, other: &str) -> Result<bool, AllocError> {
+    Ok(select(alloc, one)? == select(alloc, other)?)
+}
+
 #[test]
-fn of_expressions(rt: HostRuntime) -> Result<(), Fail> {
-    let alloc = rt.alloc();
+fn of_inline_expressions(rt: HostRuntime) {
     assert!(rt; number("1") == number("1"));
     assert!(rt; number("1") != number("1.0"));
-    assert!(rt; call(alloc, "n", "1")? == call(alloc, "n", "1")?);
-    assert!(rt; call(alloc, "n", "1")? != call(alloc, "m", "1")?);
     assert!(rt; argument("n", "1") == argument("n", "1"));
     assert!(rt; argument("n", "1") != argument("n", "2"));
     assert!(rt; Expression::Inline(number("1")) == Expression::Inline(number("1")));
-    assert!(rt; select(alloc, "1")? == select(alloc, "1")?);
-    assert!(rt; select(alloc, "1")? != select(alloc, "2")?);
-    Ok(())
 }
 
 #[test]
-fn of_patterns(rt: HostRuntime) -> Result<(), Fail> {
-    let alloc = rt.alloc();
+fn of_calls_and_selects(rt: HostRuntime) -> Result<(), AllocError> {
+    assert!(rt; same_calls(rt.alloc(), "n", "n")?);
+    assert!(rt; !same_calls(rt.alloc(), "n", "m")?);
+    assert!(rt; same_selects(rt.alloc(), "1", "1")?);
+    assert!(rt; !same_selects(rt.alloc(), "1", "2")?);
+    Ok(())
+}
+
+fn same_patterns(alloc: Global, one: &str, other: &str) -> Result<bool, AllocError> {
+    Ok(pattern(alloc, "x", number(one))? == pattern(alloc, "x", number(other))?)
+}
+
+fn same_variants(alloc: Global, one: bool, other: bool) -> Result<bool, AllocError> {
+    let key = VariantKey::Identifier { name: "a" };
+    Ok(variant(alloc, key, one)? == variant(alloc, key, other)?)
+}
+
+#[test]
+fn of_elements(rt: HostRuntime) {
     let text = PatternElement::TextElement { value: "x" };
     assert!(rt; text == PatternElement::TextElement { value: "x" });
     assert!(rt; text != PatternElement::TextElement { value: "y" });
-    assert!(rt; pattern(alloc, "x", number("1"))? == pattern(alloc, "x", number("1"))?);
-    assert!(rt; pattern(alloc, "x", number("1"))? != pattern(alloc, "x", number("2"))?);
-    let key = VariantKey::Identifier { name: "a" };
-    assert!(rt; variant(alloc, key, true)? == variant(alloc, key, true)?);
-    assert!(rt; variant(alloc, key, true)? != variant(alloc, key, false)?);
+}
+
+#[test]
+fn of_patterns(rt: HostRuntime) -> Result<(), AllocError> {
+    assert!(rt; same_patterns(rt.alloc(), "1", "1")?);
+    assert!(rt; !same_patterns(rt.alloc(), "1", "2")?);
+    assert!(rt; same_variants(rt.alloc(), true, true)?);
+    assert!(rt; !same_variants(rt.alloc(), true, false)?);
+    Ok(())
+}
+
+fn same_attributes(alloc: Global, one: &str, other: &str) -> Result<bool, AllocError> {
+    Ok(attribute(alloc, one)? == attribute(alloc, other)?)
+}
+
+fn same_messages(alloc: Global, one: &str, other: &str) -> Result<bool, AllocError> {
+    Ok(message(alloc, "m", one)? == message(alloc, "m", other)?)
+}
+
+fn same_terms(alloc: Global, one: &str, other: &str) -> Result<bool, AllocError> {
+    Ok(term(alloc, "x", one)? == term(alloc, "x", other)?)
+}
+
+#[test]
+fn of_entries(rt: HostRuntime) -> Result<(), AllocError> {
+    assert!(rt; same_attributes(rt.alloc(), "a", "a")?);
+    assert!(rt; !same_attributes(rt.alloc(), "a", "b")?);
+    assert!(rt; same_messages(rt.alloc(), "a", "a")?);
+    assert!(rt; !same_messages(rt.alloc(), "a", "b")?);
+    assert!(rt; same_terms(rt.alloc(), "a", "a")?);
+    assert!(rt; !same_terms(rt.alloc(), "a", "b")?);
     Ok(())
 }
 
 #[test]
-fn of_entries(rt: HostRuntime) -> Result<(), Fail> {
-    let alloc = rt.alloc();
-    assert!(rt; attribute(alloc, "a")? == attribute(alloc, "a")?);
-    assert!(rt; attribute(alloc, "a")? != attribute(alloc, "b")?);
-    assert!(rt; message(alloc, "m", "a")? == message(alloc, "m", "a")?);
-    assert!(rt; message(alloc, "m", "a")? != message(alloc, "m", "b")?);
-    assert!(rt; term(alloc, "x", "a")? == term(alloc, "x", "a")?);
-    assert!(rt; term(alloc, "x", "a")? != term(alloc, "x", "b")?);
+fn of_junk(rt: HostRuntime) -> Result<(), AllocError> {
     let junk = Entry::Junk { content: "?" };
     assert!(rt; junk == Entry::Junk { content: "?" });
-    assert!(rt; junk != Entry::Message(message(alloc, "m", "a")?));
+    assert!(rt; junk != Entry::Message(message(rt.alloc(), "m", "a")?));
     Ok(())
 }
 

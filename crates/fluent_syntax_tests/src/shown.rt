@@ -5,6 +5,7 @@ use fluent_syntax::ast::{
 };
 use fluent_syntax::{ParseFault, parse_runtime};
 use std::alloc::{AllocError, Global};
+use std::process::Abort;
 use std::test::Fail;
 
 /// What a source is read as. Its entries in order: `id=[..]` a message, `-id=[..]` a term, each with ` .id=[..]` for an
@@ -23,6 +24,13 @@ pub fn shown(alloc: Global, source: &str) -> Result<String, Fail> {
         }
         Err(ParseFault::Memory) => Err(Fail::from("no memory")),
     }
+}
+
+/// That a source is read as a tree.
+pub fn is_tree(rt: &impl Abort, alloc: Global, source: &str, tree: &str) -> Result<(), Fail> {
+    let found = shown(alloc, source)?;
+    assert!(rt; found.as_str() == tree, "of {source:?}");
+    Ok(())
 }
 
 fn entries(alloc: Global, body: &[Entry]) -> Result<String, AllocError> {

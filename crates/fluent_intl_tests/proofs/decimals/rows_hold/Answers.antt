@@ -1,7 +1,7 @@
 use Rattle.std.proofs.Common.{[], ◌∷◌, ◌*◌, ◌/◌, ◌^◌, refl, rules, inr, arith}
 use Rattle.std.specs.Fmt.{digits}
 use Rattle.fluent_intl.specs.Decimal.{decimal_text, significant_places}
-use Rattle.fluent_intl.proofs.decimal.tests.rows_hold.Goals as goal
+use Rattle.fluent_intl_tests.proofs.decimals.rows_hold.Goals as goal
 
 pub returns-clause-five : goal.returns-clause-five
 unfolding decimal_text significant_places digits

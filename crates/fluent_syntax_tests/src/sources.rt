@@ -9,7 +9,7 @@ mod placeable_lines;
 mod placeables;
 mod selects;
 
-use crate::shown::shown;
+use crate::shown::is_tree;
 use std::alloc::Global;
 use std::process::Abort;
 use std::test::Fail;
@@ -17,7 +17,7 @@ use std::test::Fail;
 /// Compares what each source is read as with the tree beside it.
 fn read_as(rt: &impl Abort, alloc: Global, rows: &[(&str, &str)]) -> Result<(), Fail> {
     for (source, tree) in rows {
-        assert_eq!(rt; shown(alloc, *source)?.as_str(), *tree, "of {source:?}");
+        is_tree(rt, alloc, *source, *tree)?;
     }
     Ok(())
 }

@@ -11,19 +11,40 @@ use std::io;
 use std::process::Abort;
 use std::test::Fail;
 
+fn of_chunks(source: &str) {
+    chunks_make_up(source);
+}
+
+fn of_ranges(source: &str) {
+    junk_ranges_in_order(source);
+}
+
+fn of_trees(source: &str) {
+    entries_are_well_formed(source);
+}
+
+fn of_slices(source: &str) {
+    texts_are_slices(source);
+}
+
+fn of_what_follows(source: &str) {
+    read_from_there_on(source);
+}
+
 #[test]
 fn laws_speak_of_any_source() {
-    chunks_make_up("a = 1\nb = {\n");
-    junk_ranges_in_order("a = 1\nb = {\n");
-    entries_are_well_formed("a = 1\nb = {\n");
-    texts_are_slices("a = 1\nb = {\n");
-    read_from_there_on("a = 1\nb = {\n");
+    let source = "a = 1\nb = {\n";
+    of_chunks(source);
+    of_ranges(source);
+    of_trees(source);
+    of_slices(source);
+    of_what_follows(source);
 }
 
 /// Takes at most `step` bytes a call, and fails at the call that follows the first `good` ones.
 #[derive(Drop)]
-struct Slow {
-    taken: Vec<u8>,
+pub struct Slow {
+    pub taken: Vec<u8>,
     step: usize,
     good: u64,
 }
@@ -46,7 +67,7 @@ impl io::Write for Slow {
     }
 }
 
-fn slow_writer(alloc: Global, step: usize, good: u64) -> Counting<Slow> {
+pub fn slow_writer(alloc: Global, step: usize, good: u64) -> Counting<Slow> {
     Counting::new(Slow {
         taken: Vec::new(alloc),
         step,

@@ -1,0 +1,17 @@
+//! Tests of the reader: sources with their trees, escapes, equality, and writers that fail.
+#![tactic(auto)]
+
+#[cfg(test)]
+mod cuts;
+#[cfg(test)]
+mod depth;
+#[cfg(test)]
+mod equality;
+#[cfg(test)]
+mod escapes;
+#[cfg(test)]
+mod shown;
+#[cfg(test)]
+mod sources;
+#[cfg(test)]
+mod writers;
