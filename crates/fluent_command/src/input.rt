@@ -22,7 +22,7 @@ pub struct Reads<R> {
 }
 
 /// Why an input was not read to its end.
-#[derive(Clone, Copy, Debug, PartialEq, Eq)]
+#[derive(Clone, Copy)]
 pub(crate) enum ReadFault {
     /// Memory was refused.
     Memory,
