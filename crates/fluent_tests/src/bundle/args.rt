@@ -1,76 +1,129 @@
 //! Each call once, also where memory is refused.
+use fluent_bundle::FluentArgs;
 use fluent_bundle::types::{FluentNumber, FluentValue, NoCustom};
-use fluent_bundle::{ArgsIntoIter, ArgsIter, FluentArgs};
+use std::alloc::{AllocError, Global};
 use std::borrow::CowStr;
 use std::process::Abort;
 use std::test::Fail;
 
 type Pair<'a> = (CowStr<'a>, FluentValue<'a, NoCustom>);
 
-fn is_number(value: &FluentValue<'_, NoCustom>, wanted: u8) -> bool {
-    value.same(&FluentValue::Number(FluentNumber::from(wanted)))
+fn is_number(value: Option<&FluentValue<'_, NoCustom>>, wanted: u8) -> bool {
+    match value {
+        Some(value) => value.same(&FluentValue::Number(FluentNumber::from(wanted))),
+        None => false,
+    }
 }
+
+const GIVEN: &[(&str, u8)] = &[("b", 1), ("a", 2), ("b", 3), ("B", 4), ("ab", 5)];
 
 fn pair<'a>(name: &'a str, value: u8) -> Pair<'a> {
     (CowStr::Borrowed(name), FluentValue::from(value))
 }
 
-fn pairs<'a>() -> [Pair<'a>; 5] {
-    [
-        pair("b", 1),
-        pair("a", 2),
-        pair("b", 3),
-        pair("B", 4),
-        pair("ab", 5),
-    ]
+fn pairs(alloc: Global) -> Result<Vec<Pair<'static>>, AllocError> {
+    let mut pairs = Vec::new(alloc);
+    for (name, value) in GIVEN {
+        pairs.push(pair(*name, *value))?;
+    }
+    Ok(pairs)
+}
+
+fn arguments(alloc: Global) -> Result<FluentArgs<'static, NoCustom>, AllocError> {
+    FluentArgs::try_from_iter(alloc, pairs(alloc)?.into_iter())
 }
 
 /// The names in the order of their bytes, each with the last value that it was given.
-const SET: [(&str, u8); 4] = [("B", 4), ("a", 2), ("ab", 5), ("b", 3)];
+const SET: &str = "B=4 a=2 ab=5 b=3 ";
 
-fn lends_in_order(rt: &impl Abort, mut lent: ArgsIter<'_, '_, NoCustom>) -> Result<(), Fail> {
-    for (wanted, number) in SET {
-        let (name, value) = lent.next().ok_or("no pair")?;
-        assert_eq!(rt; name, wanted);
-        assert!(rt; is_number(value, number), "{wanted}");
-    }
-    assert!(rt; lent.next().is_none());
-    assert!(rt; lent.next().is_none());
+fn show(
+    out: &mut String,
+    alloc: Global,
+    name: &str,
+    value: &FluentValue<'_, NoCustom>,
+) -> Result<(), Fail> {
+    let FluentValue::Number(number) = value else {
+        return Err("no number".into());
+    };
+    let text = number.as_string(alloc)?;
+    write!(out, "{name}={} ", text.as_str())?;
     Ok(())
 }
 
-fn gives_in_order(rt: &impl Abort, mut given: ArgsIntoIter<'_, NoCustom>) -> Result<(), Fail> {
-    for (wanted, number) in SET {
-        let (name, value) = given.next().ok_or("no pair")?;
-        assert_eq!(rt; name.as_str(), wanted);
-        assert!(rt; is_number(&value, number), "{wanted}");
+/// The pairs that arguments lend.
+fn lent(alloc: Global, args: &FluentArgs<'_, NoCustom>) -> Result<String, Fail> {
+    let mut out = String::new(alloc);
+    for (name, value) in args.iter() {
+        show(&mut out, alloc, name, value)?;
     }
-    assert!(rt; given.next().is_none());
+    Ok(out)
+}
+
+/// The pairs that arguments give.
+fn given(alloc: Global, args: FluentArgs<'_, NoCustom>) -> Result<String, Fail> {
+    let mut out = String::new(alloc);
+    for (name, value) in args.into_iter() {
+        show(&mut out, alloc, name.as_str(), &value)?;
+    }
+    Ok(out)
+}
+
+/// After so many pairs there is none, however often it is asked.
+fn ends_after(args: &FluentArgs<'_, NoCustom>, count: usize) -> bool {
+    let mut lent = args.iter();
+    for _ in 0..count {
+        if lent.next().is_none() {
+            return false;
+        }
+    }
+    lent.next().is_none() && lent.next().is_none()
+}
+
+#[test]
+fn names_are_lent_in_order_with_their_last_value(rt: HostRuntime) -> Result<(), Fail> {
+    let args = arguments(rt.alloc())?;
+    let text = lent(rt.alloc(), &args)?;
+    assert!(rt; text.as_str() == SET);
+    assert!(rt; ends_after(&args, 4));
     Ok(())
 }
 
 #[test]
-fn names_come_in_order_with_their_last_value(rt: HostRuntime) -> Result<(), Fail> {
-    let alloc = rt.alloc();
-    let args = FluentArgs::try_from_iter(alloc, pairs().into_iter())?;
-    lends_in_order(&rt, args.iter())?;
-    gives_in_order(&rt, args.into_iter())
+fn names_are_given_in_order_with_their_last_value(rt: HostRuntime) -> Result<(), Fail> {
+    let args = arguments(rt.alloc())?;
+    let text = given(rt.alloc(), args)?;
+    assert!(rt; text.as_str() == SET);
+    Ok(())
+}
+
+fn set_lent<'a>(
+    args: &mut FluentArgs<'a, NoCustom>,
+    name: &'a str,
+    value: u8,
+) -> Result<(), AllocError> {
+    args.set(CowStr::Borrowed(name), FluentValue::from(value))
+}
+
+fn set_owned(
+    args: &mut FluentArgs<'_, NoCustom>,
+    alloc: Global,
+    name: &str,
+    value: u8,
+) -> Result<(), AllocError> {
+    let name = String::from_str(alloc, name)?;
+    args.set(CowStr::Owned(name), FluentValue::from(value))
 }
 
 #[test]
 fn a_name_has_what_it_was_given_last(rt: HostRuntime) -> Result<(), Fail> {
-    let alloc = rt.alloc();
-    let mut args: FluentArgs<'_, NoCustom> = FluentArgs::with_capacity(alloc, usize::MAX)?;
+    let mut args: FluentArgs<'_, NoCustom> = FluentArgs::with_capacity(rt.alloc(), usize::MAX)?;
     assert!(rt; args.get("name").is_none());
-    assert!(rt; args.iter().next().is_none());
-    args.set(CowStr::Borrowed("name"), FluentValue::from(1u8))?;
-    args.set(
-        CowStr::Owned(String::from_str(alloc, "other")?),
-        FluentValue::from(2u8),
-    )?;
-    args.set(CowStr::Borrowed("name"), FluentValue::from(3u8))?;
-    assert!(rt; is_number(args.get("name").ok_or("no name")?, 3));
-    assert!(rt; is_number(args.get("other").ok_or("no other")?, 2));
+    assert!(rt; ends_after(&args, 0));
+    set_lent(&mut args, "name", 1)?;
+    set_owned(&mut args, rt.alloc(), "other", 2)?;
+    set_lent(&mut args, "name", 3)?;
+    assert!(rt; is_number(args.get("name"), 3));
+    assert!(rt; is_number(args.get("other"), 2));
     assert!(rt; args.get("nam").is_none());
     Ok(())
 }
@@ -79,20 +132,13 @@ fn a_name_has_what_it_was_given_last(rt: HostRuntime) -> Result<(), Fail> {
 /// when it is repeated; that of a name which is there is never refused.
 #[test]
 fn a_refused_set_can_be_repeated(rt: HostRuntime) -> Result<(), Fail> {
-    let alloc = rt.alloc();
-    let mut args: FluentArgs<'_, NoCustom> = FluentArgs::new(alloc);
-    if args
-        .set(CowStr::Borrowed("x"), FluentValue::from(1u8))
-        .is_err()
-    {
+    let mut args: FluentArgs<'_, NoCustom> = FluentArgs::new(rt.alloc());
+    if set_lent(&mut args, "x", 1).is_err() {
         assert!(rt; args.get("x").is_none());
-        args.set(CowStr::Borrowed("x"), FluentValue::from(1u8))?;
+        set_lent(&mut args, "x", 1)?;
     }
-    assert!(rt; is_number(args.get("x").ok_or("no x")?, 1));
-    assert!(rt;
-        args.set(CowStr::Borrowed("x"), FluentValue::from(2u8))
-            .is_ok()
-    );
-    assert!(rt; is_number(args.get("x").ok_or("no x")?, 2));
+    assert!(rt; is_number(args.get("x"), 1));
+    assert!(rt; set_lent(&mut args, "x", 2).is_ok());
+    assert!(rt; is_number(args.get("x"), 2));
     Ok(())
 }

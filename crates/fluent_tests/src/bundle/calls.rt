@@ -1,63 +1,28 @@
 //! What no clause says: that calls succeed, and the texts of errors.
-ghost use Rattle.std.specs.Prelude.{◌≡◌, ◌↔◌, IsTrue};
-ghost use Rattle.fluent_tree.specs.View.{attribute_view};
-ghost use Rattle.fluent_tree.specs.View as tree;
-
-use fluent_bundle::ast::{Attribute, Message, Pattern, PatternElement, Term};
+use crate::bundle::common::{
+    Plain, add, are, clean, default_bundle, empty, first_text, format, value_text, whole,
+};
+use fluent_bundle::ast::Term;
 use fluent_bundle::bundle::AddFault;
 use fluent_bundle::{
-    Call, FluentArgs, FluentAttribute, FluentBundle, FluentError, FluentFormatter, FluentFunction,
-    FluentMessage, FluentResource, FluentValue, FunctionRef, GetEntry, NoCustom, NoFormatter,
-    NoFunction, TryNewFault,
+    Call, FluentArgs, FluentBundle, FluentFormatter, FluentFunction, FluentResource, FluentValue,
+    FunctionRef, GetEntry, NoCustom, NoFormatter, NoFunction,
 };
 use fluent_intl::EnglishPlurals;
 use std::alloc::{AllocError, Global};
 use std::process::Abort;
 use std::test::Fail;
 
-type Plain<'r, 's> = FluentBundle<'r, 's, EnglishPlurals, NoCustom, NoFunction, NoFormatter>;
-
-/// A source without Junk, read a second time where memory is refused at the first.
-fn clean<'s>(alloc: Global, source: &'s str) -> Result<FluentResource<'s>, Fail> {
-    match FluentResource::try_new(alloc, source) {
-        Ok(resource) => Ok(resource),
-        Err(TryNewFault::Parser(_, _)) => Err("Junk".into()),
-        Err(TryNewFault::Memory) => match FluentResource::try_new(alloc, source) {
-            Ok(resource) => Ok(resource),
-            Err(_) => Err("not read".into()),
-        },
-    }
-}
-
-/// The errors of what was left.
-fn left(added: Result<(), AddFault>) -> Result<Vec<FluentError>, Fail> {
+/// That errors are reported, those of these lines.
+fn is_left(
+    rt: &impl Abort,
+    alloc: Global,
+    added: Result<(), AddFault>,
+    expected: &str,
+) -> Result<(), Fail> {
     match added {
-        Err(AddFault::Overriding(errors)) => Ok(errors),
+        Err(AddFault::Overriding(errors)) => are(rt, alloc, errors.as_slice(), expected),
         _ => Err("nothing overridden".into()),
-    }
-}
-
-fn whole(added: Result<(), AddFault>) -> Result<(), Fail> {
-    match added {
-        Ok(()) => Ok(()),
-        Err(_) => Err("not added".into()),
-    }
-}
-
-fn first_text<'x>(pattern: &'x Pattern<'_>) -> &'x str {
-    match pattern.elements.first() {
-        Some(PatternElement::TextElement { value }) => *value,
-        _ => "",
-    }
-}
-
-fn value_text<'x>(message: Option<FluentMessage<'x, '_>>) -> &'x str {
-    match message {
-        Some(message) => match message.value() {
-            Some(pattern) => first_text(pattern),
-            None => "",
-        },
-        None => "",
     }
 }
 
@@ -68,9 +33,39 @@ fn term_text<'x>(term: Option<&'x Term<'_>>) -> &'x str {
     }
 }
 
-fn reads(rt: &impl Abort, alloc: Global, error: &FluentError, expected: &str) -> Result<(), Fail> {
-    assert_eq!(rt; error.to_string(alloc)?.as_str(), expected);
-    Ok(())
+/// An id, the texts of the message and of the term that it means, empty for none, and whether it means a function.
+type Held = (&'static str, &'static str, &'static str, bool);
+
+fn is_message<F: FluentFunction<NoCustom>>(
+    bundle: &FluentBundle<'_, '_, EnglishPlurals, NoCustom, F, NoFormatter>,
+    id: &str,
+    text: &str,
+) -> bool {
+    let there = !text.is_empty();
+    bundle.has_message(id) == there
+        && bundle.get_entry_message(id).is_some() == there
+        && value_text(bundle.get_message(id)) == text
+}
+
+fn is_held<F: FluentFunction<NoCustom>>(
+    bundle: &FluentBundle<'_, '_, EnglishPlurals, NoCustom, F, NoFormatter>,
+    held: &Held,
+) -> bool {
+    let (id, message, term, function) = *held;
+    is_message(bundle, id, message)
+        && term_text(bundle.get_entry_term(id)) == term
+        && bundle.get_entry_function(id).is_some() == function
+}
+
+/// What each id means in a bundle.
+fn holds<F: FluentFunction<NoCustom>>(
+    rt: &impl Abort,
+    bundle: &FluentBundle<'_, '_, EnglishPlurals, NoCustom, F, NoFormatter>,
+    rows: &[Held],
+) {
+    for held in rows {
+        assert!(rt; is_held(bundle, held), "{}", held.0);
+    }
 }
 
 fn reports_in_order<'r, 's>(
@@ -78,33 +73,32 @@ fn reports_in_order<'r, 's>(
     alloc: Global,
     resource: &'r FluentResource<'s>,
 ) -> Result<(), Fail> {
-    let mut bundle: Plain<'_, '_> = FluentBundle::new_default(alloc)?;
-    let errors = left(bundle.add_resource(resource))?;
-    assert_eq!(rt; errors.len(), 2);
-    reads(
+    let mut bundle: Plain<'_, '_> = default_bundle(alloc)?;
+    let added = add(&mut bundle, resource);
+    holds(rt, &bundle, &[("a", "1", "", false), ("b", "", "", false)]);
+    is_left(
         rt,
         alloc,
-        &errors[0],
-        "Attempt to override an existing message: \"a\".",
-    )?;
-    reads(
-        rt,
-        alloc,
-        &errors[1],
-        "Attempt to override an existing term: \"a\".",
-    )?;
-    assert_eq!(rt; value_text(bundle.get_message("a")), "1");
-    assert!(rt; bundle.has_message("a"));
-    assert!(rt; !bundle.has_message("b"));
-    assert!(rt; bundle.get_entry_term("a").is_none());
-    Ok(())
+        added,
+        "Attempt to override an existing message: \"a\".\nAttempt to override an existing term: \"a\".\n",
+    )
 }
 
 #[test]
 fn what_is_left_is_reported_in_order(rt: HostRuntime) -> Result<(), Fail> {
-    let alloc = rt.alloc();
-    let resource = clean(alloc, "a = 1\na = 2\n-a = 3\n")?;
-    reports_in_order(&rt, alloc, &resource)
+    let resource = clean(rt.alloc(), "a = 1\na = 2\n-a = 3\n")?;
+    reports_in_order(&rt, rt.alloc(), &resource)
+}
+
+fn add_no_function(bundle: &mut Plain<'_, '_>, id: &str) -> Result<(), AddFault> {
+    bundle.add_function(id, NoFunction)
+}
+
+fn override_by<'r, 's>(
+    bundle: &mut Plain<'r, 's>,
+    resource: &'r FluentResource<'s>,
+) -> Result<(), AllocError> {
+    bundle.add_resource_overriding(resource)
 }
 
 fn overrides<'r, 's>(
@@ -113,26 +107,26 @@ fn overrides<'r, 's>(
     first: &'r FluentResource<'s>,
     second: &'r FluentResource<'s>,
 ) -> Result<(), Fail> {
-    let mut bundle: Plain<'_, '_> = FluentBundle::new_default(alloc)?;
-    whole(bundle.add_function("NUMBER", NoFunction))?;
-    whole(bundle.add_resource(first))?;
-    assert!(rt; bundle.has_message("foo"));
-    bundle.add_resource_overriding(second)?;
-    assert!(rt; !bundle.has_message("foo"));
-    assert_eq!(rt; term_text(bundle.get_entry_term("foo")), "c");
-    assert!(rt; bundle.get_entry_message("foo").is_none());
-    assert!(rt; bundle.get_entry_function("NUMBER").is_none());
-    assert_eq!(rt; value_text(bundle.get_message("NUMBER")), "e");
-    assert_eq!(rt; value_text(bundle.get_message("bar")), "b");
+    let mut bundle: Plain<'_, '_> = default_bundle(alloc)?;
+    whole(add_no_function(&mut bundle, "NUMBER"))?;
+    whole(add(&mut bundle, first))?;
+    holds(rt, &bundle, &[("foo", "a", "", false)]);
+    override_by(&mut bundle, second)?;
+    holds(rt, &bundle, OVERRIDDEN);
     Ok(())
 }
 
+const OVERRIDDEN: &[Held] = &[
+    ("foo", "", "c", false),
+    ("NUMBER", "e", "", false),
+    ("bar", "b", "", false),
+];
+
 #[test]
 fn overriding_wins(rt: HostRuntime) -> Result<(), Fail> {
-    let alloc = rt.alloc();
-    let first = clean(alloc, "foo = a\nbar = b\n")?;
-    let second = clean(alloc, "foo = d\n-foo = c\nNUMBER = e\n")?;
-    overrides(&rt, alloc, &first, &second)
+    let first = clean(rt.alloc(), "foo = a\nbar = b\n")?;
+    let second = clean(rt.alloc(), "foo = d\n-foo = c\nNUMBER = e\n")?;
+    overrides(&rt, rt.alloc(), &first, &second)
 }
 
 /// Functions of these tests.
@@ -161,8 +155,28 @@ impl FluentFunction<NoCustom> for Own {
     }
 }
 
-fn is_nothing(found: Option<FunctionRef<'_, Own>>) -> bool {
-    matches!(found, Some(FunctionRef::Own(Own::Nothing)))
+type WithOwn<'r, 's> = FluentBundle<'r, 's, EnglishPlurals, NoCustom, Own, NoFormatter>;
+
+fn add_own(bundle: &mut WithOwn<'_, '_>, own: Own) -> Result<(), AddFault> {
+    bundle.add_function("F", own)
+}
+
+fn add_beside<'r, 's>(
+    bundle: &mut WithOwn<'r, 's>,
+    resource: &'r FluentResource<'s>,
+) -> Result<(), AddFault> {
+    bundle.add_resource(resource)
+}
+
+fn has_nothing(bundle: &WithOwn<'_, '_>) -> bool {
+    matches!(
+        bundle.get_entry_function("F"),
+        Some(FunctionRef::Own(Own::Nothing))
+    )
+}
+
+fn own_bundle<'r, 's>(alloc: Global) -> Result<WithOwn<'r, 's>, AllocError> {
+    FluentBundle::new_default(alloc)
 }
 
 fn adds_functions<'r, 's>(
@@ -170,270 +184,219 @@ fn adds_functions<'r, 's>(
     alloc: Global,
     resource: &'r FluentResource<'s>,
 ) -> Result<(), Fail> {
-    let mut bundle: FluentBundle<'_, '_, EnglishPlurals, NoCustom, Own, NoFormatter> =
-        FluentBundle::new_default(alloc)?;
-    whole(bundle.add_function("F", Own::Nothing))?;
-    let errors = left(bundle.add_function("F", Own::Fault))?;
-    assert_eq!(rt; errors.len(), 1);
-    reads(
-        rt,
-        alloc,
-        &errors[0],
-        "Attempt to override an existing function: \"F\".",
-    )?;
-    assert!(rt; is_nothing(bundle.get_entry_function("F")));
-    let errors = left(bundle.add_resource(resource))?;
-    assert_eq!(rt; errors.len(), 1);
-    reads(
-        rt,
-        alloc,
-        &errors[0],
-        "Attempt to override an existing message: \"F\".",
-    )?;
-    assert!(rt; is_nothing(bundle.get_entry_function("F")));
-    assert!(rt; bundle.get_entry_function("G").is_none());
-    assert_eq!(rt; term_text(bundle.get_entry_term("G")), "2");
+    let mut bundle: WithOwn<'r, 's> = own_bundle(alloc)?;
+    whole(add_own(&mut bundle, Own::Nothing))?;
+    let left = "Attempt to override an existing function: \"F\".\n";
+    is_left(rt, alloc, add_own(&mut bundle, Own::Fault), left)?;
+    assert!(rt; has_nothing(&bundle));
+    let left = "Attempt to override an existing message: \"F\".\n";
+    is_left(rt, alloc, add_beside(&mut bundle, resource), left)?;
+    assert!(rt; has_nothing(&bundle));
+    holds(rt, &bundle, &[("F", "", "", true), ("G", "", "2", false)]);
     Ok(())
 }
 
 #[test]
 fn functions_share_the_ids(rt: HostRuntime) -> Result<(), Fail> {
-    let alloc = rt.alloc();
-    let resource = clean(alloc, "F = 1\n-G = 2\n")?;
-    adds_functions(&rt, alloc, &resource)
+    let resource = clean(rt.alloc(), "F = 1\n-G = 2\n")?;
+    adds_functions(&rt, rt.alloc(), &resource)
 }
 
-#[test]
-fn builtins_are_added_once(rt: HostRuntime) -> Result<(), Fail> {
-    let alloc = rt.alloc();
-    let mut bundle: Plain<'_, '_> = FluentBundle::new_default(alloc)?;
-    whole(bundle.add_builtins())?;
-    let errors = left(bundle.add_builtins())?;
-    assert_eq!(rt; errors.len(), 1);
-    reads(
-        &rt,
-        alloc,
-        &errors[0],
-        "Attempt to override an existing function: \"NUMBER\".",
-    )?;
-    assert!(rt;
-        matches!(
-            bundle.get_entry_function("NUMBER"),
-            Some(FunctionRef::Number)
-        )
-    );
-    Ok(())
+fn add_builtins(bundle: &mut Plain<'_, '_>) -> Result<(), AddFault> {
+    bundle.add_builtins()
 }
 
-/// The first message of a resource.
-fn message_of<'r, 's>(resource: &'r FluentResource<'s>) -> Result<&'r Message<'s>, Fail> {
-    match resource.get_entry(0) {
-        Some(fluent_bundle::ast::Entry::Message(message)) => Ok(message),
-        _ => Err("no message".into()),
-    }
-}
-
-#[test]
-fn the_first_attribute_of_a_name_is_found(rt: HostRuntime) -> Result<(), Fail> {
-    let alloc = rt.alloc();
-    let resource = clean(alloc, "m =\n    .x = one\n    .x = two\n")?;
-    let message = FluentMessage::from(message_of(&resource)?);
-    assert!(rt; message.value().is_none());
-    let attribute = message.get_attribute("x").ok_or("no x")?;
-    assert_eq!(rt; first_text(attribute.value()), "one");
-    assert!(rt; message.get_attribute("y").is_none());
-    assert_eq!(rt; message.attributes().count(), 2);
-    Ok(())
-}
-
-#[test]
-fn attributes_come_in_order(rt: HostRuntime) -> Result<(), Fail> {
-    let alloc = rt.alloc();
-    let resource = clean(
-        alloc,
-        "save = Save?\n    .yes = Save it\n    .no = Drop it\n    .key = S\n",
-    )?;
-    let message = FluentMessage::from(message_of(&resource)?);
-    let mut attributes = message.attributes();
-    for (name, text) in [("yes", "Save it"), ("no", "Drop it"), ("key", "S")] {
-        let attribute = attributes.next().ok_or("too few")?;
-        assert_eq!(rt; attribute.id(), name);
-        assert_eq!(rt; first_text(attribute.value()), text);
-        assert!(rt; message.get_attribute(name) == Some(attribute));
-    }
-    assert!(rt; attributes.next().is_none());
-    Ok(())
-}
-
-fn same_messages<'m, 's>(a: &'m Message<'s>, b: &'m Message<'s>) -> bool
-    ensures { IsTrue result ↔ (tree.message_view a.now ≡ tree.message_view b.now) }
-{
-    FluentMessage::from(a) == FluentMessage::from(b)
-}
-
-fn same_attributes<'m, 's>(a: &'m Attribute<'s>, b: &'m Attribute<'s>) -> bool
-    ensures { IsTrue result ↔ (attribute_view a.now ≡ attribute_view b.now) }
-{
-    FluentAttribute::from(a) == FluentAttribute::from(b)
-}
-
-#[test]
-fn equality_is_that_of_contents(rt: HostRuntime) -> Result<(), Fail> {
-    let alloc = rt.alloc();
-    let first = clean(alloc, "m = one\n    .x = two\n")?;
-    let again = clean(alloc, "m = one\n    .x = two\n")?;
-    let other = clean(alloc, "m = one\n    .x = three\n")?;
-    let message = message_of(&first)?;
-    assert!(rt; same_messages(message, message_of(&again)?));
-    assert!(rt; !same_messages(message, message_of(&other)?));
-    let attribute = message.attributes.first().ok_or("no x")?;
-    let same = message_of(&again)?.attributes.first().ok_or("no x")?;
-    let unlike = message_of(&other)?.attributes.first().ok_or("no x")?;
-    assert!(rt; same_attributes(attribute, same));
-    assert!(rt; !same_attributes(attribute, unlike));
-    Ok(())
-}
-
-/// Adds a resource, again where memory is refused, after which the bundle is as before.
-fn adds<'r, 's>(
-    rt: &impl Abort,
-    bundle: &mut Plain<'r, 's>,
-    resource: &'r FluentResource<'s>,
-) -> Result<(), Fail> {
-    if bundle.add_resource(resource).is_err() {
-        assert!(rt; !bundle.has_message("a"));
-        return whole(bundle.add_resource(resource));
-    }
-    Ok(())
-}
-
-/// Adds a resource of which one id is there, again where memory is refused.
-fn adds_the_rest<'r, 's>(
-    rt: &impl Abort,
-    bundle: &mut Plain<'r, 's>,
-    resource: &'r FluentResource<'s>,
-) -> Result<(), Fail> {
-    let mut added = bundle.add_resource(resource);
-    if let Err(AddFault::Memory) = added {
-        assert!(rt; !bundle.has_message("b"));
-        assert!(rt; !bundle.has_message("c"));
-        added = bundle.add_resource(resource);
-    }
-    assert_eq!(rt; left(added)?.len(), 1);
-    Ok(())
-}
-
-/// Adds one resource after another, each again where memory is refused.
-fn adds_again<'r, 's>(
-    rt: &impl Abort,
-    alloc: Global,
-    first: &'r FluentResource<'s>,
-    second: &'r FluentResource<'s>,
-) -> Result<(), Fail> {
-    let mut bundle: Plain<'_, '_> = FluentBundle::new(alloc, Vec::new(alloc), EnglishPlurals);
-    adds(rt, &mut bundle, first)?;
-    adds_the_rest(rt, &mut bundle, second)?;
-    assert_eq!(rt; value_text(bundle.get_message("a")), "one");
-    assert_eq!(rt; value_text(bundle.get_message("b")), "two");
-    if bundle.add_resource_overriding(second).is_err() {
-        assert_eq!(rt; value_text(bundle.get_message("a")), "one");
-        bundle.add_resource_overriding(second)?;
-    }
-    assert_eq!(rt; value_text(bundle.get_message("a")), "three");
-    assert_eq!(rt; value_text(bundle.get_message("c")), "four");
-    Ok(())
-}
-
-fn adds_a_function_again(rt: &impl Abort, alloc: Global) -> Result<(), Fail> {
-    let mut bundle: Plain<'_, '_> = FluentBundle::new(alloc, Vec::new(alloc), EnglishPlurals);
-    if bundle.add_function("F", NoFunction).is_err() {
-        assert!(rt; bundle.get_entry_function("F").is_none());
-        whole(bundle.add_function("F", NoFunction))?;
-    }
-    assert!(rt; matches!(bundle.get_entry_function("F"), Some(FunctionRef::Own(_))));
-    Ok(())
-}
-
-fn is_builtin(bundle: &Plain<'_, '_>) -> bool {
+fn has_builtin(bundle: &Plain<'_, '_>) -> bool {
     matches!(
         bundle.get_entry_function("NUMBER"),
         Some(FunctionRef::Number)
     )
 }
 
-fn adds_builtins_again(rt: &impl Abort, alloc: Global) -> Result<(), Fail> {
-    let mut bundle: Plain<'_, '_> = FluentBundle::new(alloc, Vec::new(alloc), EnglishPlurals);
-    if bundle.add_builtins().is_err() {
-        assert!(rt; !is_builtin(&bundle));
-        whole(bundle.add_builtins())?;
+#[test]
+fn builtins_are_added_once(rt: HostRuntime) -> Result<(), Fail> {
+    let mut bundle: Plain<'_, '_> = default_bundle(rt.alloc())?;
+    whole(add_builtins(&mut bundle))?;
+    let added = add_builtins(&mut bundle);
+    assert!(rt; has_builtin(&bundle));
+    let left = "Attempt to override an existing function: \"NUMBER\".\n";
+    is_left(&rt, rt.alloc(), added, left)
+}
+
+// ---- refused memory
+
+/// A call that adds.
+#[derive(Clone, Copy, Drop)]
+enum Adding<'r, 's> {
+    Resource(&'r FluentResource<'s>),
+    Function,
+    Builtins,
+}
+
+/// How many errors a call reports; `None` where memory is refused.
+fn reported<'r, 's>(bundle: &mut Plain<'r, 's>, call: Adding<'r, 's>) -> Option<usize> {
+    let added = match call {
+        Adding::Resource(resource) => add(bundle, resource),
+        Adding::Function => add_no_function(bundle, "F"),
+        Adding::Builtins => add_builtins(bundle),
+    };
+    match added {
+        Ok(()) => Some(0),
+        Err(AddFault::Overriding(errors)) => Some(errors.len()),
+        Err(AddFault::Memory) => None,
     }
-    let mut added = bundle.add_builtins();
-    if let Err(AddFault::Memory) = added {
-        added = bundle.add_builtins();
+}
+
+/// Makes a call that reports so many errors, again where memory is refused, after which the bundle is as before.
+fn adds<'r, 's>(
+    rt: &impl Abort,
+    bundle: &mut Plain<'r, 's>,
+    call: Adding<'r, 's>,
+    errors: usize,
+    before: &[Held],
+) -> Result<(), Fail> {
+    let mut found = reported(bundle, call);
+    if found.is_none() {
+        holds(rt, bundle, before);
+        found = reported(bundle, call);
     }
-    assert!(rt; left(added)?.len() == 1);
-    assert!(rt; is_builtin(&bundle));
+    assert!(rt; found.ok_or("not added")? == errors);
     Ok(())
 }
 
-/// Run with each allocation failing in turn: what is refused leaves all as before, and succeeds when it is repeated.
-#[test]
-fn refused_calls_can_be_repeated(rt: HostRuntime) -> Result<(), Fail> {
-    let alloc = rt.alloc();
-    let first = clean(alloc, "a = one\n")?;
-    let second = clean(alloc, "b = two\na = three\n-a-b = five\nc = four\n")?;
-    adds_again(&rt, alloc, &first, &second)?;
-    adds_a_function_again(&rt, alloc)?;
-    adds_builtins_again(&rt, alloc)
+fn overrides_again<'r, 's>(
+    rt: &impl Abort,
+    bundle: &mut Plain<'r, 's>,
+    resource: &'r FluentResource<'s>,
+) -> Result<(), Fail> {
+    if override_by(bundle, resource).is_err() {
+        holds(rt, bundle, &[("a", "one", "", false)]);
+        override_by(bundle, resource)?;
+    }
+    holds(
+        rt,
+        bundle,
+        &[("a", "three", "", false), ("c", "four", "", false)],
+    );
+    Ok(())
 }
 
-/// Whether the value of `c`, a text and a missing variable, is written with marks.
-fn isolates<'r, 's: 'r>(alloc: Global, bundle: &Plain<'r, 's>) -> Result<bool, Fail> {
-    let message = bundle.get_message("c").ok_or("no c")?;
-    let pattern = message.value().ok_or("no value")?;
-    let mut errors = Vec::new(alloc);
-    let text = bundle.format_pattern(pattern, None, &mut errors)?;
-    Ok(text.as_str() == "x\u{2068}{$y}\u{2069}")
-}
+const NEITHER: &[Held] = &[("b", "", "", false), ("c", "", "", false)];
 
-fn makes_calls<'r, 's: 'r>(
+const BOTH: &[Held] = &[("a", "one", "", false), ("b", "two", "", false)];
+
+/// Adds one resource after another.
+fn adds_resources<'r, 's>(
     rt: &impl Abort,
     alloc: Global,
     first: &'r FluentResource<'s>,
     second: &'r FluentResource<'s>,
 ) -> Result<(), Fail> {
-    let mut bundle: Plain<'_, '_> = FluentBundle::new_default(alloc)?;
+    let mut bundle: Plain<'r, 's> = empty(alloc);
+    let none = &[("a", "", "", false)];
+    adds(rt, &mut bundle, Adding::Resource(first), 0, none)?;
+    adds(rt, &mut bundle, Adding::Resource(second), 1, NEITHER)?;
+    holds(rt, &bundle, BOTH);
+    overrides_again(rt, &mut bundle, second)
+}
+
+fn has_own(bundle: &Plain<'_, '_>) -> bool {
+    matches!(bundle.get_entry_function("F"), Some(FunctionRef::Own(_)))
+}
+
+/// Adds functions, the built-in one twice.
+fn adds_both_functions(rt: &impl Abort, bundle: &mut Plain<'_, '_>) -> Result<(), Fail> {
+    adds(rt, bundle, Adding::Function, 0, &[("F", "", "", false)])?;
+    let none = &[("NUMBER", "", "", false)];
+    adds(rt, bundle, Adding::Builtins, 0, none)?;
+    adds(rt, bundle, Adding::Builtins, 1, &[])?;
+    assert!(rt; has_own(bundle));
+    assert!(rt; has_builtin(bundle));
+    Ok(())
+}
+
+/// Run with each allocation failing in turn: what is refused leaves all as before, and succeeds when it is repeated.
+#[test]
+fn refused_resources_can_be_added_again(rt: HostRuntime) -> Result<(), Fail> {
+    let first = clean(rt.alloc(), "a = one\n")?;
+    let second = clean(rt.alloc(), "b = two\na = three\n-a-b = five\nc = four\n")?;
+    adds_resources(&rt, rt.alloc(), &first, &second)
+}
+
+/// The same of functions.
+#[test]
+fn refused_functions_can_be_added_again(rt: HostRuntime) -> Result<(), Fail> {
+    let mut bundle = empty(rt.alloc());
+    adds_both_functions(&rt, &mut bundle)
+}
+
+// ---- calls as values
+
+/// Whether the value of `c`, a text and a missing variable, is written with marks.
+fn isolates(alloc: Global, bundle: &Plain<'_, '_>) -> Result<bool, Fail> {
+    let message = bundle.get_message("c").ok_or("no c")?;
+    let pattern = message.value().ok_or("no value")?;
+    let mut errors = Vec::new(alloc);
+    let text = format(bundle, pattern, None, &mut errors)?;
+    Ok(text.as_str() == "x\u{2068}{$y}\u{2069}")
+}
+
+fn make_first<'r, 's>(
+    bundle: &mut Plain<'r, 's>,
+    first: &'r FluentResource<'s>,
+    second: &'r FluentResource<'s>,
+) -> Result<(), AllocError> {
     bundle.make(&Call::AddResource(first))?;
     bundle.make_all(&[
         Call::AddResource(second),
         Call::SetUseIsolating(false),
         Call::AddBuiltins,
-    ])?;
-    assert_eq!(rt; value_text(bundle.get_message("a")), "one");
-    assert_eq!(rt; value_text(bundle.get_message("b")), "three");
-    assert!(rt; bundle.get_entry_function("NUMBER").is_some());
-    assert!(rt; !isolates(alloc, &bundle)?);
+    ])
+}
+
+fn make_last<'r, 's>(
+    bundle: &mut Plain<'r, 's>,
+    second: &'r FluentResource<'s>,
+) -> Result<(), AllocError> {
     bundle.make_all(&[
         Call::AddResourceOverriding(second),
         Call::SetUseIsolating(true),
-    ])?;
-    assert_eq!(rt; value_text(bundle.get_message("a")), "two");
+    ])
+}
+
+const FIRST: &[Held] = &[
+    ("a", "one", "", false),
+    ("b", "three", "", false),
+    ("NUMBER", "", "", true),
+];
+
+fn makes_calls<'r, 's>(
+    rt: &impl Abort,
+    alloc: Global,
+    first: &'r FluentResource<'s>,
+    second: &'r FluentResource<'s>,
+) -> Result<(), Fail> {
+    let mut bundle: Plain<'r, 's> = default_bundle(alloc)?;
+    make_first(&mut bundle, first, second)?;
+    holds(rt, &bundle, FIRST);
+    assert!(rt; !isolates(alloc, &bundle)?);
+    make_last(&mut bundle, second)?;
+    holds(rt, &bundle, &[("a", "two", "", false)]);
     assert!(rt; isolates(alloc, &bundle)?);
     Ok(())
 }
 
 #[test]
 fn calls_are_made_in_order(rt: HostRuntime) -> Result<(), Fail> {
-    let alloc = rt.alloc();
-    let first = clean(alloc, "a = one\n")?;
-    let second = clean(alloc, "a = two\nb = three\nc = x{ $y }\n")?;
-    makes_calls(&rt, alloc, &first, &second)
+    let first = clean(rt.alloc(), "a = one\n")?;
+    let second = clean(rt.alloc(), "a = two\nb = three\nc = x{ $y }\n")?;
+    makes_calls(&rt, rt.alloc(), &first, &second)
 }
 
 #[test]
 fn the_default_bundle_has_one_locale(rt: HostRuntime) -> Result<(), Fail> {
-    let bundle: Plain<'_, '_> = FluentBundle::new_default(rt.alloc())?;
-    assert_eq!(rt; bundle.locales.len(), 1);
+    let bundle: Plain<'_, '_> = default_bundle(rt.alloc())?;
+    assert!(rt; bundle.locales.len() == 1);
     assert!(rt; bundle.locales[0].language.is_none());
     Ok(())
 }

@@ -1,30 +1,37 @@
 //! What no clause says: that calls succeed, and the texts of errors.
+use crate::bundle::common::{Plain, add, default_bundle, value_text, whole};
 use fluent_bundle::ast::{Entry, Expression, InlineExpression, Pattern, PatternElement};
 use fluent_bundle::{
-    EntryKind, FluentBundle, FluentError, FluentMessage, FluentResource, NoCustom, NoFormatter,
-    NoFunction, ParserError, ReferenceKind, ResolverError, TryNewFault,
+    EntryKind, FluentError, FluentMessage, FluentResource, ParserError, ReferenceKind,
+    ResolverError, TryNewFault,
 };
-use fluent_intl::EnglishPlurals;
 use std::alloc::{AllocError, Global};
 use std::process::Abort;
 use std::test::Fail;
 
-type Plain<'r, 's> = FluentBundle<'r, 's, EnglishPlurals, NoCustom, NoFunction, NoFormatter>;
-
-fn text(alloc: Global, bytes: &str) -> Result<String, AllocError> {
-    String::from_str(alloc, bytes)
-}
-
-/// The expression in the first entry, a message of one placeable.
-fn expression_of<'x, 's>(resource: &'x FluentResource<'s>) -> Option<&'x InlineExpression<'s>> {
-    let Entry::Message(message) = resource.get_entry(0)? else {
-        return None;
-    };
-    match message.value.as_ref()?.elements.first()? {
+/// The expression of a pattern of one placeable.
+fn placed<'x, 's>(pattern: &'x Pattern<'s>) -> Option<&'x InlineExpression<'s>> {
+    match pattern.elements.first()? {
         PatternElement::Placeable {
             expression: Expression::Inline(expression),
         } => Some(expression),
         _ => None,
+    }
+}
+
+/// The expression in the first entry, a message of one placeable.
+fn expression_of<'x, 's>(resource: &'x FluentResource<'s>) -> Option<&'x InlineExpression<'s>> {
+    match resource.get_entry(0)? {
+        Entry::Message(message) => placed(message.value.as_ref()?),
+        _ => None,
+    }
+}
+
+/// The text of the error of a reference; nothing where the expression is none.
+fn lost_text(alloc: Global, expression: &InlineExpression<'_>) -> Result<String, AllocError> {
+    match ResolverError::of(alloc, expression)? {
+        Some(error) => error.to_string(alloc),
+        None => Ok(String::new(alloc)),
     }
 }
 
@@ -34,40 +41,105 @@ fn lost(rt: &impl Abort, alloc: Global, source: &str, expected: &str) -> Result<
         return Err("not read".into());
     };
     let expression = expression_of(&resource).ok_or("no expression")?;
-    match ResolverError::of(alloc, expression)? {
-        Some(error) => assert_eq!(rt; error.to_string(alloc)?.as_str(), expected),
-        None => assert_eq!(rt; expected, ""),
+    let found = lost_text(alloc, expression)?;
+    assert!(rt; found.as_str() == expected, "of {source}");
+    Ok(())
+}
+
+const LOST: &[(&str, &str)] = &[
+    ("a = { b }", "Unknown message: b"),
+    ("a = { b.c }", "Unknown attribute: b.c"),
+    ("a = { -b }", "Unknown term: -b"),
+    ("a = { F(1) }", "Unknown function: F()"),
+    ("a = { $b }", "Unknown variable: $b"),
+    ("a = { \"b\" }", ""),
+    ("a = { 1 }", ""),
+    ("a = { { $b } }", ""),
+];
+
+#[test]
+fn references_have_their_errors(rt: HostRuntime) -> Result<(), Fail> {
+    for (source, expected) in LOST {
+        lost(&rt, rt.alloc(), *source, *expected)?;
     }
     Ok(())
 }
 
-#[test]
-fn references_have_their_errors(rt: HostRuntime) -> Result<(), Fail> {
-    for (source, expected) in [
-        ("a = { b }", "Unknown message: b"),
-        ("a = { b.c }", "Unknown attribute: b.c"),
-        ("a = { -b }", "Unknown term: -b"),
-        ("a = { F(1) }", "Unknown function: F()"),
-        ("a = { $b }", "Unknown variable: $b"),
-        ("a = { \"b\" }", ""),
-        ("a = { 1 }", ""),
-        ("a = { { $b } }", ""),
-    ] {
-        lost(&rt, rt.alloc(), source, expected)?;
+// ---- the texts of errors
+
+/// What a reference is made of: the kinds, with the name of an attribute or without.
+#[derive(Clone, Copy, Drop)]
+enum To {
+    Function,
+    Message,
+    MessageAttribute,
+    Term,
+    TermAttribute,
+    Variable,
+}
+
+fn text(alloc: Global, bytes: &str) -> Result<String, AllocError> {
+    String::from_str(alloc, bytes)
+}
+
+/// The attribute's name, where a reference has one.
+fn name_in(alloc: Global, to: To) -> Result<Option<String>, AllocError> {
+    match to {
+        To::MessageAttribute | To::TermAttribute => Ok(Some(text(alloc, "attr")?)),
+        _ => Ok(None),
     }
+}
+
+fn reference(alloc: Global, to: To, id: &str) -> Result<ReferenceKind, AllocError> {
+    let attribute = name_in(alloc, to)?;
+    let id = text(alloc, id)?;
+    Ok(match to {
+        To::Function => ReferenceKind::Function { id },
+        To::Message | To::MessageAttribute => ReferenceKind::Message { id, attribute },
+        To::Term | To::TermAttribute => ReferenceKind::Term { id, attribute },
+        To::Variable => ReferenceKind::Variable { id },
+    })
+}
+
+/// That a text is as expected.
+fn reads(rt: &impl Abort, found: Result<String, AllocError>, expected: &str) -> Result<(), Fail> {
+    let found = found?;
+    assert!(rt; found.as_str() == expected);
     Ok(())
+}
+
+/// That a copy of a report is equal.
+fn is_copied(alloc: Global, report: &FluentError) -> Result<bool, AllocError> {
+    let copy = report.try_clone(alloc)?;
+    Ok(copy == *report)
 }
 
 /// The text of a report; a copy of it is equal.
 fn reported(
     rt: &impl Abort,
     alloc: Global,
-    report: FluentError,
+    report: &FluentError,
     expected: &str,
 ) -> Result<(), Fail> {
-    assert_eq!(rt; report.to_string(alloc)?.as_str(), expected);
-    assert!(rt; report.try_clone(alloc)? == report);
-    Ok(())
+    assert!(rt; is_copied(alloc, report)?);
+    reads(rt, report.to_string(alloc), expected)
+}
+
+/// That a copy of an error of the resolver is equal.
+fn is_repeated(alloc: Global, error: &ResolverError) -> Result<bool, AllocError> {
+    let copy = error.try_clone(alloc)?;
+    Ok(copy == *error)
+}
+
+/// The text of an error of the resolver, alone; a copy of it is equal.
+fn is_written(
+    rt: &impl Abort,
+    alloc: Global,
+    error: &ResolverError,
+    expected: &str,
+) -> Result<(), Fail> {
+    assert!(rt; is_repeated(alloc, error)?);
+    reads(rt, error.to_string(alloc), expected)
 }
 
 /// The text of an error of the resolver, alone and as a report.
@@ -77,69 +149,27 @@ fn written(
     error: ResolverError,
     expected: &str,
 ) -> Result<(), Fail> {
-    assert_eq!(rt; error.to_string(alloc)?.as_str(), expected);
-    assert!(rt; error.try_clone(alloc)? == error);
-    let mut line = text(alloc, "Resolver error: ")?;
-    line.push_str(expected)?;
-    reported(rt, alloc, FluentError::from(error), line.as_str())
+    is_written(rt, alloc, &error, expected)?;
+    let line = format!(in alloc; "Resolver error: {expected}")?;
+    reported(rt, alloc, &FluentError::from(error), line.as_str())
 }
 
-fn to_message(alloc: Global, attribute: Option<String>) -> Result<ResolverError, AllocError> {
-    let id = text(alloc, "id")?;
-    Ok(ResolverError::Reference(ReferenceKind::Message { id, attribute }))
-}
-
-fn to_term(alloc: Global, attribute: Option<String>) -> Result<ResolverError, AllocError> {
-    let id = text(alloc, "id")?;
-    Ok(ResolverError::Reference(ReferenceKind::Term { id, attribute }))
-}
-
-fn reference(
-    rt: &impl Abort,
-    alloc: Global,
-    reference: ReferenceKind,
-    expected: &str,
-) -> Result<(), Fail> {
-    written(rt, alloc, ResolverError::Reference(reference), expected)
-}
+const REFERENCES: &[(To, &str, &str)] = &[
+    (To::Function, "F", "Unknown function: F()"),
+    (To::Variable, "x", "Unknown variable: $x"),
+    (To::Message, "id", "Unknown message: id"),
+    (To::MessageAttribute, "id", "Unknown attribute: id.attr"),
+    (To::Term, "id", "Unknown term: -id"),
+    (To::TermAttribute, "id", "Unknown attribute: -id.attr"),
+];
 
 #[test]
-fn unknown_functions_and_variables_have_their_texts(rt: HostRuntime) -> Result<(), Fail> {
-    let alloc = rt.alloc();
-    let id = text(alloc, "F")?;
-    reference(
-        &rt,
-        alloc,
-        ReferenceKind::Function { id },
-        "Unknown function: F()",
-    )?;
-    let id = text(alloc, "x")?;
-    reference(
-        &rt,
-        alloc,
-        ReferenceKind::Variable { id },
-        "Unknown variable: $x",
-    )
-}
-
-#[test]
-fn unknown_messages_have_their_texts(rt: HostRuntime) -> Result<(), Fail> {
-    let alloc = rt.alloc();
-    let error = to_message(alloc, None)?;
-    written(&rt, alloc, error, "Unknown message: id")?;
-    let name = text(alloc, "attr")?;
-    let error = to_message(alloc, Some(name))?;
-    written(&rt, alloc, error, "Unknown attribute: id.attr")
-}
-
-#[test]
-fn unknown_terms_have_their_texts(rt: HostRuntime) -> Result<(), Fail> {
-    let alloc = rt.alloc();
-    let error = to_term(alloc, None)?;
-    written(&rt, alloc, error, "Unknown term: -id")?;
-    let name = text(alloc, "attr")?;
-    let error = to_term(alloc, Some(name))?;
-    written(&rt, alloc, error, "Unknown attribute: -id.attr")
+fn unknown_references_have_their_texts(rt: HostRuntime) -> Result<(), Fail> {
+    for (to, id, expected) in REFERENCES {
+        let error = ResolverError::Reference(reference(rt.alloc(), *to, *id)?);
+        written(&rt, rt.alloc(), error, *expected)?;
+    }
+    Ok(())
 }
 
 #[test]
@@ -161,29 +191,39 @@ fn an_unreadable_entry_is_named_by_its_bytes(rt: HostRuntime) -> Result<(), Fail
         start: 11,
         end: 109,
     };
-    assert_eq!(rt;
-        unreadable.to_string(alloc)?.as_str(),
-        "unreadable entry at bytes 11..109"
-    );
+    let found = unreadable.to_string(alloc)?;
+    assert!(rt; found.as_str() == "unreadable entry at bytes 11..109");
     let line = "Parser error: unreadable entry at bytes 11..109";
-    reported(&rt, alloc, FluentError::from(unreadable), line)
+    reported(&rt, alloc, &FluentError::from(unreadable), line)
 }
 
 fn overriding(rt: &impl Abort, alloc: Global, kind: EntryKind, expected: &str) -> Result<(), Fail> {
     let id = text(alloc, "id")?;
-    reported(rt, alloc, FluentError::Overriding { kind, id }, expected)
+    reported(rt, alloc, &FluentError::Overriding { kind, id }, expected)
 }
+
+const KINDS: &[(EntryKind, &str)] = &[
+    (
+        EntryKind::Message,
+        "Attempt to override an existing message: \"id\".",
+    ),
+    (
+        EntryKind::Term,
+        "Attempt to override an existing term: \"id\".",
+    ),
+    (
+        EntryKind::Function,
+        "Attempt to override an existing function: \"id\".",
+    ),
+];
 
 #[test]
 fn what_was_not_added_is_named_by_its_kind(rt: HostRuntime) -> Result<(), Fail> {
-    let alloc = rt.alloc();
-    let message = "Attempt to override an existing message: \"id\".";
-    overriding(&rt, alloc, EntryKind::Message, message)?;
-    let term = "Attempt to override an existing term: \"id\".";
-    overriding(&rt, alloc, EntryKind::Term, term)?;
-    let function = "Attempt to override an existing function: \"id\".";
-    overriding(&rt, alloc, EntryKind::Function, function)?;
-    assert_eq!(rt; EntryKind::Term.to_string(alloc)?.as_str(), "term");
+    for (kind, expected) in KINDS {
+        overriding(&rt, rt.alloc(), *kind, *expected)?;
+    }
+    let found = EntryKind::Term.to_string(rt.alloc())?;
+    assert!(rt; found.as_str() == "term");
     Ok(())
 }
 
@@ -196,17 +236,22 @@ fn id_of<'x>(entry: Option<&'x Entry<'_>>) -> &'x str {
     }
 }
 
+/// Entries that a resource holds by their ids, and no more.
+fn are_held(resource: &FluentResource<'_>, first: &str, second: &str) -> bool {
+    id_of(resource.get_entry(0)) == first
+        && id_of(resource.get_entry(1)) == second
+        && resource.get_entry(2).is_none()
+        && resource.entries().count() == 2
+}
+
 #[test]
 fn a_clean_source_is_read(rt: HostRuntime) -> Result<(), Fail> {
     let source = "hello = Hi\nbye = Bye\n";
     let Ok(resource) = FluentResource::try_new(rt.alloc(), source) else {
         return Err("not read".into());
     };
-    assert_eq!(rt; resource.source(), source);
-    assert_eq!(rt; resource.entries().count(), 2);
-    assert_eq!(rt; id_of(resource.get_entry(0)), "hello");
-    assert_eq!(rt; id_of(resource.get_entry(1)), "bye");
-    assert!(rt; resource.get_entry(2).is_none());
+    assert!(rt; resource.source() == source);
+    assert!(rt; are_held(&resource, "hello", "bye"));
     Ok(())
 }
 
@@ -217,37 +262,26 @@ fn junk_is_reported_and_kept(rt: HostRuntime) -> Result<(), Fail> {
     else {
         return Err("no Junk".into());
     };
-    assert_eq!(rt; resource.source(), source);
-    assert_eq!(rt;
-        errors.as_slice(),
-        [ParserError { start: 11, end: 19 }].as_slice()
-    );
-    assert_eq!(rt; resource.entries().count(), 2);
-    assert_eq!(rt; id_of(resource.get_entry(0)), "a");
-    assert_eq!(rt; id_of(resource.get_entry(1)), "b = { $x");
+    assert!(rt; errors.as_slice() == [ParserError { start: 11, end: 19 }].as_slice());
+    assert!(rt; resource.source() == source);
+    assert!(rt; are_held(&resource, "a", "b = { $x"));
     Ok(())
 }
 
-fn is_text(message: Option<FluentMessage<'_, '_>>, text: &str) -> bool {
+/// Whether a message's value is a variable.
+fn is_variable(message: Option<FluentMessage<'_, '_>>, name: &str) -> bool {
     let Some(message) = message else {
         return false;
     };
-    let Some(pattern) = message.value() else {
-        return false;
-    };
-    match pattern.elements.first() {
-        Some(PatternElement::TextElement { value }) => *value == text,
-        _ => false,
+    match message.value() {
+        Some(pattern) => refers_to(pattern, name),
+        None => false,
     }
 }
 
-fn is_variable(pattern: &Pattern<'_>, name: &str) -> bool {
-    match pattern.elements.first() {
-        Some(
-            PatternElement::Placeable {
-                expression: Expression::Inline(InlineExpression::VariableReference { id }),
-            },
-        ) => id.name == name,
+fn refers_to(pattern: &Pattern<'_>, name: &str) -> bool {
+    match placed(pattern) {
+        Some(InlineExpression::VariableReference { id }) => id.name == name,
         _ => false,
     }
 }
@@ -257,19 +291,11 @@ fn passes_junk_over<'r, 's>(
     alloc: Global,
     resource: &'r FluentResource<'s>,
 ) -> Result<(), Fail> {
-    let mut bundle: Plain<'_, '_> = FluentBundle::new_default(alloc)?;
-    if bundle.add_resource(resource).is_err() {
-        return Err("not added".into());
-    }
+    let mut bundle: Plain<'_, '_> = default_bundle(alloc)?;
+    whole(add(&mut bundle, resource))?;
     assert!(rt; !bundle.has_message("junk"));
-    assert!(rt; is_text(bundle.get_message("a"), "one"));
-    let Some(message) = bundle.get_message("b") else {
-        return Err("no message".into());
-    };
-    let Some(pattern) = message.value() else {
-        return Err("no value".into());
-    };
-    assert!(rt; is_variable(pattern, "name"));
+    assert!(rt; value_text(bundle.get_message("a")) == "one");
+    assert!(rt; is_variable(bundle.get_message("b"), "name"));
     Ok(())
 }
 

@@ -29,18 +29,34 @@ fn first<'a>(
     }
 }
 
+/// What a function answers without named arguments.
+fn answer_to<'a, F: FluentFunction<NoCustom>>(
+    alloc: Global,
+    function: &F,
+    positional: &[FluentValue<'a, NoCustom>],
+) -> Result<FluentValue<'a, NoCustom>, AllocError> {
+    let arguments = FluentArgs::new(alloc);
+    function.call(alloc, positional, &arguments)
+}
+
+fn a_and_b<'a>(alloc: Global) -> Result<Vec<FluentValue<'a, NoCustom>>, AllocError> {
+    let mut values = Vec::new(alloc);
+    values.push(FluentValue::from("a"))?;
+    values.push(FluentValue::from("b"))?;
+    Ok(values)
+}
+
 fn answers<F: FluentFunction<NoCustom>>(
     rt: &impl Abort,
     alloc: Global,
     function: &F,
     wanted: &FluentValue<'_, NoCustom>,
 ) -> Result<(), Fail> {
-    let arguments = FluentArgs::new(alloc);
-    let positional = [FluentValue::from("a"), FluentValue::from("b")];
-    let answer = function.call(alloc, &positional, &arguments)?;
-    assert_eq!(rt; answer.same(wanted), wanted.same(wanted));
-    let answer = function.call(alloc, &[], &arguments)?;
-    assert!(rt; matches!(answer, FluentValue::Error));
+    let positional = a_and_b(alloc)?;
+    let answer = answer_to(alloc, function, positional.as_slice())?;
+    assert!(rt; answer.same(wanted) == wanted.same(wanted));
+    let none = answer_to(alloc, function, &[])?;
+    assert!(rt; matches!(none, FluentValue::Error));
     Ok(())
 }
 

@@ -3,43 +3,30 @@ ghost use Rattle.std.specs.Prelude.{◌≡◌, is_some, true, IsTrue};
 ghost use Rattle.fluent_tree.specs.View.{pattern_view};
 ghost use Rattle.fluent_bundle.specs.Interim.{sole_text};
 
+use crate::bundle::common::{Plain, clean, default_bundle, format, value_of};
 use fluent_bundle::ast::Pattern;
-use fluent_bundle::{
-    Call, FluentBundle, FluentError, FluentMessage, FluentResource, NoCustom, NoFormatter,
-    NoFunction, TryNewFault,
-};
+use fluent_bundle::{Call, FluentBundle, FluentError, FluentResource};
 use fluent_intl::EnglishPlurals;
 use std::alloc::{AllocError, Global};
 use std::borrow::CowStr;
 use std::process::Abort;
 use std::test::Fail;
 
-type Plain<'r, 's> = FluentBundle<'r, 's, EnglishPlurals, NoCustom, NoFunction, NoFormatter>;
-
-/// A source without Junk.
-fn resource<'s>(alloc: Global, source: &'s str) -> Result<FluentResource<'s>, Fail> {
-    match FluentResource::try_new(alloc, source) {
-        Ok(resource) => Ok(resource),
-        Err(TryNewFault::Memory) => match FluentResource::try_new(alloc, source) {
-            Ok(resource) => Ok(resource),
-            Err(_) => Err("not read".into()),
-        },
-        Err(TryNewFault::Parser(_, _)) => Err("Junk".into()),
-    }
-}
-
-fn bundle<'r, 's>(alloc: Global) -> Result<Plain<'r, 's>, AllocError> {
-    match FluentBundle::new_default(alloc) {
-        Ok(bundle) => Ok(bundle),
-        Err(_) => FluentBundle::new_default(alloc),
-    }
-}
-
 #[test]
 fn a_default_bundle(rt: HostRuntime) -> Result<(), Fail> {
-    let made: Plain<'_, '_> = bundle(rt.alloc())?;
-    assert_eq!(rt; made.locales.len(), 1);
+    let made: Plain<'_, '_> = default_bundle(rt.alloc())?;
+    assert!(rt; made.locales.len() == 1);
     Ok(())
+}
+
+fn make_both<'r, 's>(
+    made: &mut Plain<'r, 's>,
+    resource: &'r FluentResource<'s>,
+) -> Result<(), AllocError> {
+    made.make_all(&[
+        Call::AddResource(resource),
+        Call::AddResourceOverriding(resource),
+    ])
 }
 
 /// Makes a list of calls, again where one is refused: those before it stand, and no other.
@@ -48,15 +35,10 @@ fn makes<'r, 's>(
     alloc: Global,
     resource: &'r FluentResource<'s>,
 ) -> Result<(), Fail> {
-    let mut made: Plain<'_, '_> = bundle(alloc)?;
-    let calls = [
-        Call::AddResource(resource),
-        Call::AddResourceOverriding(resource),
-    ];
-    if made.make_all(&calls).is_err() {
-        let has_a = made.has_message("a");
-        assert_eq!(rt; made.has_message("b"), has_a);
-        made.make_all(&calls)?;
+    let mut made: Plain<'r, 's> = default_bundle(alloc)?;
+    if make_both(&mut made, resource).is_err() {
+        assert!(rt; made.has_message("b") == made.has_message("a"));
+        make_both(&mut made, resource)?;
     }
     assert!(rt; made.has_message("a"));
     assert!(rt; made.has_message("b"));
@@ -65,40 +47,41 @@ fn makes<'r, 's>(
 
 #[test]
 fn a_list_of_calls(rt: HostRuntime) -> Result<(), Fail> {
-    let resource = resource(rt.alloc(), "a = one\nb = two\n")?;
+    let resource = clean(rt.alloc(), "a = one\nb = two\n")?;
     makes(&rt, rt.alloc(), &resource)
 }
 
-/// Formats a pattern whose variable is missing, again where it is refused: then its error was added or not.
+/// Formats a pattern whose variable is missing; `None` where it is refused, and then its error was added or not.
 fn formats<'p>(
     rt: &impl Abort,
-    alloc: Global,
+    made: &Plain<'_, '_>,
     pattern: &'p Pattern<'_>,
-) -> Result<CowStr<'p>, Fail> {
-    let made: Plain<'_, '_> = bundle(alloc)?;
-    let mut errors: Vec<FluentError> = Vec::new(alloc);
-    match made.format_pattern(pattern, None, &mut errors) {
+    errors: &mut Vec<FluentError>,
+) -> Option<CowStr<'p>> {
+    let wanted = errors.len().saturating_add(1);
+    match format(made, pattern, None, errors) {
         Ok(text) => {
-            assert_eq!(rt; errors.len(), 1);
-            return Ok(text);
+            assert!(rt; errors.len() == wanted);
+            Some(text)
         }
-        Err(_) => assert!(rt; errors.len() <= 1),
+        Err(_) => {
+            assert!(rt; errors.len() <= wanted);
+            None
+        }
     }
-    let before = errors.len();
-    let text = made.format_pattern(pattern, None, &mut errors)?;
-    assert_eq!(rt; errors.len(), before + 1);
-    Ok(text)
 }
 
 #[test]
 fn a_pattern_with_a_missing_variable(rt: HostRuntime) -> Result<(), Fail> {
-    let resource = resource(rt.alloc(), "a = Welcome, { $name }.")?;
-    let Some(fluent_bundle::ast::Entry::Message(message)) = resource.get_entry(0) else {
-        return Err("no message".into());
+    let resource = clean(rt.alloc(), "a = Welcome, { $name }.")?;
+    let made: Plain<'_, '_> = default_bundle(rt.alloc())?;
+    let mut errors = Vec::new(rt.alloc());
+    let pattern = value_of(&resource)?;
+    let text = match formats(&rt, &made, pattern, &mut errors) {
+        Some(text) => text,
+        None => formats(&rt, &made, pattern, &mut errors).ok_or("not formatted")?,
     };
-    let pattern = FluentMessage::from(message).value().ok_or("no value")?;
-    let text = formats(&rt, rt.alloc(), pattern)?;
-    assert_eq!(rt; text.as_str(), "Welcome, \u{2068}{$name}\u{2069}.");
+    assert!(rt; text.as_str() == "Welcome, \u{2068}{$name}\u{2069}.");
     Ok(())
 }
 
@@ -114,11 +97,7 @@ fn is_formatted(alloc: Global, pattern: &Pattern<'_>) -> bool
 
 #[test]
 fn a_pattern_of_one_text(rt: HostRuntime) -> Result<(), Fail> {
-    let resource = resource(rt.alloc(), "a = Welcome.")?;
-    let Some(fluent_bundle::ast::Entry::Message(message)) = resource.get_entry(0) else {
-        return Err("no message".into());
-    };
-    let pattern = FluentMessage::from(message).value().ok_or("no value")?;
-    assert!(rt; is_formatted(rt.alloc(), pattern));
+    let resource = clean(rt.alloc(), "a = Welcome.")?;
+    assert!(rt; is_formatted(rt.alloc(), value_of(&resource)?));
     Ok(())
 }

@@ -1,9 +1,9 @@
 //! What no clause says: that formatting succeeds, the rows of its texts, and what comes through odd writers.
+use crate::bundle::common::{Bundle, Plain, add, are, clean, default_bundle, empty, format, whole};
 use fluent_bundle::ast::{Expression, Identifier, InlineExpression, Pattern, PatternElement};
-use fluent_bundle::types::{FluentNumber, FluentNumberType};
 use fluent_bundle::{
-    Counting, FluentArgs, FluentBundle, FluentError, FluentFormatter, FluentResource, FluentValue,
-    NoCustom, NoFormatter, NoFunction, ResolverError, Scope, Transform, TryNewFault, WriteFault,
+    Counting, FluentArgs, FluentError, FluentFormatter, FluentResource, FluentValue, NoCustom,
+    Transform, TryNewFault, WriteFault,
 };
 use fluent_intl::EnglishPlurals;
 use std::alloc::{AllocError, Global};
@@ -13,7 +13,183 @@ use std::io::Write;
 use std::process::Abort;
 use std::test::Fail;
 
-type Bundle<'r, 's, G> = FluentBundle<'r, 's, EnglishPlurals, NoCustom, NoFunction, G>;
+/// The name of an argument and its text; none where the name is empty.
+type Given = (&'static str, &'static str);
+
+/// A source without Junk.
+fn read<'s>(alloc: Global, source: &'s str) -> Result<FluentResource<'s>, WriteFault> {
+    match FluentResource::try_new(alloc, source) {
+        Ok(resource) => Ok(resource),
+        Err(TryNewFault::Memory) => Err(WriteFault::Memory),
+        Err(TryNewFault::Parser(_, _)) => Err(WriteFault::Zero),
+    }
+}
+
+/// Arguments by their texts; a text that is a number is one.
+fn arguments(alloc: Global, given: Given) -> Result<FluentArgs<'static, NoCustom>, AllocError> {
+    let mut args = FluentArgs::new(alloc);
+    if !given.0.is_empty() {
+        args.set(CowStr::Borrowed(given.0), FluentValue::try_number(given.1))?;
+    }
+    Ok(args)
+}
+
+/// The value of the message `m` of a bundle.
+fn value_in<'r, 's, G: FluentFormatter<NoCustom, EnglishPlurals>>(
+    bundle: &Bundle<'r, 's, G>,
+) -> Option<&'r Pattern<'s>> {
+    bundle.get_message("m")?.value()
+}
+
+/// Writes a pattern.
+fn write<W: Write, G: FluentFormatter<NoCustom, EnglishPlurals>>(
+    bundle: &Bundle<'_, '_, G>,
+    pattern: &Pattern<'_>,
+    args: Option<&FluentArgs<'_, NoCustom>>,
+    w: &mut Counting<W>,
+    errors: &mut Vec<FluentError>,
+) -> Result<(), WriteFault> {
+    bundle.write_pattern(w, pattern, args, errors)
+}
+
+/// Writes the value of the message `m` of a resource.
+fn write_from<'r, 's, W: Write>(
+    bundle: &mut Plain<'r, 's>,
+    resource: &'r FluentResource<'s>,
+    args: &FluentArgs<'_, NoCustom>,
+    w: &mut Counting<W>,
+    errors: &mut Vec<FluentError>,
+) -> Result<(), WriteFault> {
+    if add(bundle, resource).is_err() {
+        return Err(WriteFault::Memory);
+    }
+    match value_in(bundle) {
+        Some(pattern) => write(bundle, pattern, Some(args), w, errors),
+        None => Err(WriteFault::Zero),
+    }
+}
+
+/// Writes the value of the message `m` of a source.
+fn write_message<W: Write>(
+    alloc: Global,
+    source: &str,
+    given: Given,
+    w: &mut Counting<W>,
+    errors: &mut Vec<FluentError>,
+) -> Result<(), WriteFault> {
+    let resource = read(alloc, source)?;
+    let args = arguments(alloc, given)?;
+    let mut bundle = default_bundle(alloc)?;
+    write_from(&mut bundle, &resource, &args, w, errors)
+}
+
+// ---- texts and errors
+
+fn written(
+    alloc: Global,
+    source: &str,
+    given: Given,
+    errors: &mut Vec<FluentError>,
+) -> Result<Vec<u8>, WriteFault> {
+    let mut w = Counting::new(Vec::new(alloc));
+    write_message(alloc, source, given, &mut w, errors)?;
+    Ok(w.into_inner())
+}
+
+/// The text and the errors of a message, written a second time where memory is refused at the first.
+fn row(
+    rt: &impl Abort,
+    alloc: Global,
+    source: &str,
+    given: Given,
+    text: &str,
+    expected: &str,
+) -> Result<(), Fail> {
+    let mut errors = Vec::new(alloc);
+    let bytes = match written(alloc, source, given, &mut errors) {
+        Ok(bytes) => bytes,
+        Err(_) => {
+            errors = Vec::new(alloc);
+            written(alloc, source, given, &mut errors)?
+        }
+    };
+    assert!(rt; bytes.as_slice() == text.as_bytes(), "of {source}");
+    are(rt, alloc, errors.as_slice(), expected)
+}
+
+/// A source, its argument, the text of its message `m`, and the lines of its errors.
+const ROWS: &[(&str, Given, &str, &str)] = &[
+    ("m = Hello, world!", ("", ""), "Hello, world!", ""),
+    (
+        "m = Welcome, { $name }.",
+        ("name", "John"),
+        "Welcome, \u{2068}John\u{2069}.",
+        "",
+    ),
+    (
+        "m = Welcome, { $name }.",
+        ("other", "John"),
+        "Welcome, \u{2068}{$name}\u{2069}.",
+        "Resolver error: Unknown variable: $name\n",
+    ),
+    ("m = { $n }  ", ("n", "z"), "z", ""),
+    ("m = { 5 }", ("", ""), "5", ""),
+    ("m = { 1.50 }", ("", ""), "1.50", ""),
+    ("m = { -0.0 }", ("", ""), "0.0", ""),
+    (
+        "m = { $n } apples",
+        ("n", "5"),
+        "\u{2068}5\u{2069} apples",
+        "",
+    ),
+];
+
+#[test]
+fn messages_are_written(rt: HostRuntime) -> Result<(), Fail> {
+    for (source, given, text, errors) in ROWS {
+        row(&rt, rt.alloc(), *source, *given, *text, *errors)?;
+    }
+    Ok(())
+}
+
+/// A text once, and another so many times.
+fn once_repeated(
+    alloc: Global,
+    start: &str,
+    piece: &str,
+    count: usize,
+) -> Result<String, AllocError> {
+    let mut text = String::from_str(alloc, start)?;
+    for _ in 0..count {
+        text.push_str(piece)?;
+    }
+    Ok(text)
+}
+
+/// The same, made a second time where memory is refused at the first.
+fn repeated(alloc: Global, start: &str, piece: &str, count: usize) -> Result<String, AllocError> {
+    match once_repeated(alloc, start, piece, count) {
+        Ok(text) => Ok(text),
+        Err(_) => once_repeated(alloc, start, piece, count),
+    }
+}
+
+#[test]
+fn the_limit_is_struck(rt: HostRuntime) -> Result<(), Fail> {
+    let source = repeated(rt.alloc(), "m = ", "{ $x }", 101)?;
+    let text = repeated(rt.alloc(), "", "\u{2068}a\u{2069}", 100)?;
+    let error = "Resolver error: Too many placeables\n";
+    row(
+        &rt,
+        rt.alloc(),
+        source.as_str(),
+        ("x", "a"),
+        text.as_str(),
+        error,
+    )
+}
+
+// ---- odd writers
 
 /// A writer that takes so many bytes at most in one write, and fails once it has taken all that it may.
 #[derive(Drop)]
@@ -49,211 +225,84 @@ fn make_slow(alloc: Global, at_once: usize, in_all: usize) -> Counting<Slow> {
     })
 }
 
-/// A source without Junk.
-fn read<'s>(alloc: Global, source: &'s str) -> Result<FluentResource<'s>, WriteFault> {
-    match FluentResource::try_new(alloc, source) {
-        Ok(resource) => Ok(resource),
-        Err(TryNewFault::Memory) => Err(WriteFault::Memory),
-        Err(TryNewFault::Parser(_, _)) => Err(WriteFault::Zero),
+/// How a call may end.
+#[derive(Clone, Copy, Drop, PartialEq, Eq)]
+enum End {
+    Whole,
+    Memory,
+    Writer,
+    Zero,
+}
+
+fn end_of(outcome: Result<(), WriteFault>) -> End {
+    match outcome {
+        Ok(()) => End::Whole,
+        Err(WriteFault::Memory) => End::Memory,
+        Err(WriteFault::Writer(_)) => End::Writer,
+        Err(WriteFault::Zero) => End::Zero,
     }
 }
 
-/// Arguments by their texts; a text that is a number is one.
-fn arguments<'v>(
-    alloc: Global,
-    values: &[(&'v str, &'v str)],
-) -> Result<FluentArgs<'v, NoCustom>, AllocError> {
-    let mut args = FluentArgs::new(alloc);
-    for (name, text) in values {
-        args.set(CowStr::Borrowed(*name), FluentValue::try_number(*text))?;
-    }
-    Ok(args)
+/// How many bytes a writer takes at once and in all, a source and its argument, how writing its message `m` ends, how
+/// often a write failed and took nothing, and what was taken.
+type Odd = (
+    (usize, usize),
+    (&'static str, Given),
+    End,
+    (u64, u64),
+    &'static str,
+);
+
+const ODD: &[Odd] = &[
+    (
+        (100, 9),
+        ("m = Welcome, { $name }.", ("", "")),
+        End::Writer,
+        (1, 0),
+        "Welcome, ",
+    ),
+    (
+        (1, 1000),
+        ("m = Welcome, { $name }.", ("name", "John")),
+        End::Whole,
+        (0, 0),
+        "Welcome, \u{2068}John\u{2069}.",
+    ),
+    (
+        (0, 1000),
+        ("m = { $name }", ("", "")),
+        End::Zero,
+        (0, 1),
+        "",
+    ),
+];
+
+/// That a writer has these faults and took these bytes.
+fn has_taken(w: Counting<Slow>, faults: (u64, u64), text: &str) -> bool {
+    w.failed() == faults.0
+        && w.empty() == faults.1
+        && w.into_inner().taken.as_slice() == text.as_bytes()
 }
 
-/// Writes the value of the message `m` of a resource.
-fn write_from<'r, 's: 'r, W: Write>(
-    alloc: Global,
-    resource: &'r FluentResource<'s>,
-    args: &FluentArgs<'_, NoCustom>,
-    w: &mut Counting<W>,
-    errors: &mut Vec<FluentError>,
-) -> Result<(), WriteFault> {
-    let mut bundle: Bundle<'r, 's, NoFormatter> = FluentBundle::new_default(alloc)?;
-    if bundle.add_resource(resource).is_err() {
-        return Err(WriteFault::Memory);
-    }
-    let Some(message) = bundle.get_message("m") else {
-        return Err(WriteFault::Zero);
-    };
-    match message.value() {
-        Some(pattern) => bundle.write_pattern(w, pattern, Some(args), errors),
-        None => Err(WriteFault::Zero),
-    }
-}
-
-/// Writes the value of the message `m` of a source.
-fn write_message<W: Write>(
-    alloc: Global,
-    source: &str,
-    values: &[(&str, &str)],
-    w: &mut Counting<W>,
-    errors: &mut Vec<FluentError>,
-) -> Result<(), WriteFault> {
-    let resource = read(alloc, source)?;
-    let args = arguments(alloc, values)?;
-    write_from(alloc, &resource, &args, w, errors)
-}
-
-fn same_errors(
-    rt: &impl Abort,
-    alloc: Global,
-    errors: &[FluentError],
-    expected: &[&str],
-) -> Result<(), Fail> {
-    assert_eq!(rt; errors.len(), expected.len());
-    for (error, text) in errors.iter().zip(expected) {
-        let shown = match error.to_string(alloc) {
-            Ok(shown) => shown,
-            Err(_) => error.to_string(alloc)?,
-        };
-        assert_eq!(rt; shown.as_str(), *text);
-    }
-    Ok(())
-}
-
-/// The text and the errors of a message, written a second time where memory is refused at the first.
-fn row(
-    rt: &impl Abort,
-    alloc: Global,
-    source: &str,
-    values: &[(&str, &str)],
-    text: &str,
-    expected: &[&str],
-) -> Result<(), Fail> {
+/// Writes through an odd writer, unless memory is refused.
+fn is_told(rt: &impl Abort, alloc: Global, odd: &Odd) {
+    let ((at_once, in_all), (source, given), wanted, faults, text) = *odd;
     let mut errors = Vec::new(alloc);
-    let mut w = Counting::new(Vec::new(alloc));
-    match write_message(alloc, source, values, &mut w, &mut errors) {
-        Ok(()) => {}
-        Err(WriteFault::Zero) => return Err("not written".into()),
-        Err(_) => {
-            errors = Vec::new(alloc);
-            w = Counting::new(Vec::new(alloc));
-            write_message(alloc, source, values, &mut w, &mut errors)?;
-        }
+    let mut w = make_slow(alloc, at_once, in_all);
+    let found = end_of(write_message(alloc, source, given, &mut w, &mut errors));
+    if found == End::Memory {
+        return;
     }
-    assert_eq!(rt; w.into_inner().as_slice(), text.as_bytes());
-    same_errors(rt, alloc, &errors, expected)
+    assert!(rt; found == wanted, "of {source}");
+    assert!(rt; found == End::Zero || errors.is_empty());
+    assert!(rt; has_taken(w, faults, text), "of {source}");
 }
 
 #[test]
-fn texts_are_written(rt: HostRuntime) -> Result<(), Fail> {
-    row(
-        &rt,
-        rt.alloc(),
-        "m = Hello, world!",
-        &[],
-        "Hello, world!",
-        &[],
-    )
-}
-
-#[test]
-fn a_value_stands_between_marks(rt: HostRuntime) -> Result<(), Fail> {
-    let source = "m = Welcome, { $name }.";
-    let text = "Welcome, \u{2068}John\u{2069}.";
-    row(&rt, rt.alloc(), source, &[("name", "John")], text, &[])
-}
-
-#[test]
-fn a_missing_variable_shows_its_name(rt: HostRuntime) -> Result<(), Fail> {
-    let source = "m = Welcome, { $name }.";
-    let text = "Welcome, \u{2068}{$name}\u{2069}.";
-    let error = "Resolver error: Unknown variable: $name";
-    row(
-        &rt,
-        rt.alloc(),
-        source,
-        &[("other", "John")],
-        text,
-        &[error],
-    )
-}
-
-#[test]
-fn one_element_alone_has_no_marks(rt: HostRuntime) -> Result<(), Fail> {
-    row(&rt, rt.alloc(), "m = { $n }  ", &[("n", "z")], "z", &[])
-}
-
-fn repeated(alloc: Global, start: &str, piece: &str, count: usize) -> Result<String, AllocError> {
-    let mut text = String::from_str(alloc, start)?;
-    for _ in 0..count {
-        text.push_str(piece)?;
+fn odd_writers_are_told(rt: HostRuntime) {
+    for odd in ODD {
+        is_told(&rt, rt.alloc(), odd);
     }
-    Ok(text)
-}
-
-#[test]
-fn the_limit_is_struck(rt: HostRuntime) -> Result<(), Fail> {
-    let alloc = rt.alloc();
-    let source = match repeated(alloc, "m = ", "{ $x }", 101) {
-        Ok(source) => source,
-        Err(_) => repeated(alloc, "m = ", "{ $x }", 101)?,
-    };
-    let text = match repeated(alloc, "", "\u{2068}a\u{2069}", 100) {
-        Ok(text) => text,
-        Err(_) => repeated(alloc, "", "\u{2068}a\u{2069}", 100)?,
-    };
-    let error = "Resolver error: Too many placeables";
-    row(&rt, alloc, &source, &[("x", "a")], &text, &[error])
-}
-
-#[test]
-fn a_failing_writer_is_told(rt: HostRuntime) -> Result<(), Fail> {
-    let alloc = rt.alloc();
-    let mut errors = Vec::new(alloc);
-    let mut w = make_slow(alloc, 100, 9);
-    let written = write_message(alloc, "m = Welcome, { $name }.", &[], &mut w, &mut errors);
-    if let Err(WriteFault::Memory) = written {
-        return Ok(());
-    }
-    assert!(rt; matches!(written, Err(WriteFault::Writer(_))));
-    assert_eq!(rt; w.failed(), 1);
-    assert_eq!(rt; w.empty(), 0);
-    assert_eq!(rt; errors.len(), 0);
-    assert_eq!(rt; w.into_inner().taken.as_slice(), b"Welcome, ".as_slice());
-    Ok(())
-}
-
-#[test]
-fn a_writer_may_take_a_byte_at_a_time(rt: HostRuntime) -> Result<(), Fail> {
-    let alloc = rt.alloc();
-    let mut errors = Vec::new(alloc);
-    let mut w = make_slow(alloc, 1, 1000);
-    let source = "m = Welcome, { $name }.";
-    let written = write_message(alloc, source, &[("name", "John")], &mut w, &mut errors);
-    if written.is_err() {
-        return Ok(());
-    }
-    assert_eq!(rt;
-        w.into_inner().taken.as_slice(),
-        "Welcome, \u{2068}John\u{2069}.".as_bytes()
-    );
-    Ok(())
-}
-
-#[test]
-fn a_writer_that_takes_nothing_is_told(rt: HostRuntime) -> Result<(), Fail> {
-    let alloc = rt.alloc();
-    let mut errors = Vec::new(alloc);
-    let mut w = make_slow(alloc, 0, 1000);
-    let written = write_message(alloc, "m = { $name }", &[], &mut w, &mut errors);
-    if let Err(WriteFault::Memory) = written {
-        return Ok(());
-    }
-    assert!(rt; matches!(written, Err(WriteFault::Zero)));
-    assert_eq!(rt; w.failed(), 0);
-    assert_eq!(rt; w.empty(), 1);
-    Ok(())
 }
 
 /// A pattern of a text and a reference to a message, made by hand.
@@ -271,95 +320,66 @@ fn hand_made(alloc: Global) -> Result<Pattern<'static>, AllocError> {
 
 #[test]
 fn what_is_not_resolved_shows_its_fallback(rt: HostRuntime) -> Result<(), Fail> {
-    let alloc = rt.alloc();
-    let pattern = match hand_made(alloc) {
+    let pattern = match hand_made(rt.alloc()) {
         Ok(pattern) => pattern,
-        Err(_) => hand_made(alloc)?,
+        Err(_) => hand_made(rt.alloc())?,
     };
-    let bundle: Bundle<'_, '_, NoFormatter> = FluentBundle::new(
-        alloc,
-        Vec::new(alloc),
-        EnglishPlurals,
-    );
-    let mut errors = Vec::new(alloc);
-    let mut w = make_slow(alloc, 1000, 1000);
-    if bundle
-        .write_pattern(&mut w, &pattern, None, &mut errors)
-        .is_err()
-    {
+    let bundle = empty(rt.alloc());
+    let mut errors = Vec::new(rt.alloc());
+    let mut w = make_slow(rt.alloc(), 1000, 1000);
+    if write(&bundle, &pattern, None, &mut w, &mut errors).is_err() {
         return Ok(());
     }
-    assert_eq!(rt;
-        w.into_inner().taken.as_slice(),
-        b"See {help.title}".as_slice()
-    );
-    assert_eq!(rt; errors.len(), 0);
+    assert!(rt; errors.is_empty());
+    assert!(rt; has_taken(w, (0, 0), "See {help.title}"));
     Ok(())
-}
-
-#[test]
-fn numbers_are_written(rt: HostRuntime) -> Result<(), Fail> {
-    let alloc = rt.alloc();
-    row(&rt, alloc, "m = { 5 }", &[], "5", &[])?;
-    row(&rt, alloc, "m = { 1.50 }", &[], "1.50", &[])?;
-    row(&rt, alloc, "m = { -0.0 }", &[], "0.0", &[])?;
-    let source = "m = { $n } apples";
-    let text = "\u{2068}5\u{2069} apples";
-    row(&rt, alloc, source, &[("n", "5")], text, &[])
 }
 
 // ---- both calls, with a formatter or a transform
 
-/// What the value of the message `m` of a bundle is written as, without an error.
-fn is_written<'r, 's: 'r, G: FluentFormatter<NoCustom, EnglishPlurals>>(
-    rt: &impl Abort,
+fn written_for_john<G: FluentFormatter<NoCustom, EnglishPlurals>>(
     alloc: Global,
-    bundle: &Bundle<'r, 's, G>,
+    bundle: &Bundle<'_, '_, G>,
     pattern: &Pattern<'_>,
-    text: &str,
-) -> Result<(), Fail> {
-    let args = arguments(alloc, &[("name", "John")])?;
-    let mut errors = Vec::new(alloc);
+    errors: &mut Vec<FluentError>,
+) -> Result<Vec<u8>, WriteFault> {
+    let args = arguments(alloc, ("name", "John"))?;
     let mut w = Counting::new(Vec::new(alloc));
-    bundle.write_pattern(&mut w, pattern, Some(&args), &mut errors)?;
-    assert_eq!(rt; w.into_inner().as_slice(), text.as_bytes());
-    assert!(rt; errors.is_empty());
-    Ok(())
+    write(bundle, pattern, Some(&args), &mut w, errors)?;
+    Ok(w.into_inner())
 }
 
-/// What it is formatted as, without an error.
-fn is_formatted<'r, 's: 'r, G: FluentFormatter<NoCustom, EnglishPlurals>>(
+fn formatted_for_john<'p, G: FluentFormatter<NoCustom, EnglishPlurals>>(
+    alloc: Global,
+    bundle: &Bundle<'_, '_, G>,
+    pattern: &'p Pattern<'_>,
+    errors: &mut Vec<FluentError>,
+) -> Result<CowStr<'p>, AllocError> {
+    let args = arguments(alloc, ("name", "John"))?;
+    format(bundle, pattern, Some(&args), errors)
+}
+
+/// What the value of the message `m` is written as and formatted as, without an error.
+fn both<G: FluentFormatter<NoCustom, EnglishPlurals>>(
     rt: &impl Abort,
     alloc: Global,
-    bundle: &Bundle<'r, 's, G>,
-    pattern: &Pattern<'_>,
+    bundle: &Bundle<'_, '_, G>,
     text: &str,
+    whole_text: &str,
 ) -> Result<(), Fail> {
-    let args = arguments(alloc, &[("name", "John")])?;
+    let pattern = value_in(bundle).ok_or("no value")?;
     let mut errors = Vec::new(alloc);
-    let formatted = bundle.format_pattern(pattern, Some(&args), &mut errors)?;
-    assert_eq!(rt; formatted.as_str(), text);
+    let bytes = written_for_john(alloc, bundle, pattern, &mut errors)?;
+    assert!(rt; bytes.as_slice() == text.as_bytes());
+    let formatted = formatted_for_john(alloc, bundle, pattern, &mut errors)?;
+    assert!(rt; formatted.as_str() == whole_text);
     assert!(rt; errors.is_empty());
     Ok(())
-}
-
-/// Both, of the value of the message `m`.
-fn both<'r, 's: 'r, G: FluentFormatter<NoCustom, EnglishPlurals>>(
-    rt: &impl Abort,
-    alloc: Global,
-    bundle: &Bundle<'r, 's, G>,
-    written: &str,
-    formatted: &str,
-) -> Result<(), Fail> {
-    let message = bundle.get_message("m").ok_or("no message")?;
-    let pattern = message.value().ok_or("no value")?;
-    is_written(rt, alloc, bundle, pattern, written)?;
-    is_formatted(rt, alloc, bundle, pattern, formatted)
 }
 
 /// Shows each text between brackets.
 #[derive(Clone, Copy, Drop)]
-struct Bracketed;
+pub struct Bracketed;
 
 impl FluentFormatter<NoCustom, EnglishPlurals> for Bracketed {
     ghost use Rattle.std.specs.Prelude.{◌++◌, codes, None, Some};
@@ -385,34 +405,39 @@ impl FluentFormatter<NoCustom, EnglishPlurals> for Bracketed {
     }
 }
 
-fn in_brackets<'r, 's: 'r>(
+fn set_brackets(bundle: &mut Bundle<'_, '_, Bracketed>, formatter: Option<Bracketed>) {
+    bundle.set_formatter(formatter);
+}
+
+fn in_brackets<'r, 's>(
     rt: &impl Abort,
     alloc: Global,
     resource: &'r FluentResource<'s>,
-    written: &str,
-    formatted: &str,
+    text: &str,
+    whole_text: &str,
 ) -> Result<(), Fail> {
-    let mut bundle: Bundle<'r, 's, Bracketed> = FluentBundle::new_default(alloc)?;
-    bundle.set_formatter(Some(Bracketed));
-    if bundle.add_resource(resource).is_err() {
-        return Err("not added".into());
-    }
-    both(rt, alloc, &bundle, written, formatted)
+    let mut bundle = default_bundle(alloc)?;
+    set_brackets(&mut bundle, Some(Bracketed));
+    whole(add(&mut bundle, resource))?;
+    both(rt, alloc, &bundle, text, whole_text)
 }
+
+/// A source, what it is written as, and what it is formatted as.
+const IN_BRACKETS: &[(&str, &str, &str)] = &[
+    ("m = Hello, world!", "Hello, world!", "[Hello, world!]"),
+    (
+        "m = Welcome, { $name }.",
+        "Welcome, \u{2068}[John]\u{2069}.",
+        "[Welcome, \u{2068}[John]\u{2069}.]",
+    ),
+    ("m = { 5 }", "5", "[5]"),
+];
 
 #[test]
 fn a_formatter_shows_values_and_whole_texts(rt: HostRuntime) -> Result<(), Fail> {
-    for (source, written, formatted) in [
-        ("m = Hello, world!", "Hello, world!", "[Hello, world!]"),
-        (
-            "m = Welcome, { $name }.",
-            "Welcome, \u{2068}[John]\u{2069}.",
-            "[Welcome, \u{2068}[John]\u{2069}.]",
-        ),
-        ("m = { 5 }", "5", "[5]"),
-    ] {
-        let resource = read(rt.alloc(), source)?;
-        in_brackets(&rt, rt.alloc(), &resource, written, formatted)?;
+    for (source, text, whole_text) in IN_BRACKETS {
+        let resource = clean(rt.alloc(), *source)?;
+        in_brackets(&rt, rt.alloc(), &resource, *text, *whole_text)?;
     }
     Ok(())
 }
@@ -431,163 +456,104 @@ impl Transform for Upper {
     }
 }
 
-fn in_upper_case<'r, 's: 'r>(
+fn set_upper<G: FluentFormatter<NoCustom, EnglishPlurals>>(
+    alloc: Global,
+    bundle: &mut Bundle<'_, '_, G>,
+) -> Result<(), AllocError> {
+    bundle.set_transform(Some(Box::new(alloc, Upper)?));
+    Ok(())
+}
+
+fn in_upper_case<'r, 's>(
     rt: &impl Abort,
     alloc: Global,
     resource: &'r FluentResource<'s>,
     text: &str,
 ) -> Result<(), Fail> {
-    let mut bundle: Bundle<'r, 's, NoFormatter> = FluentBundle::new_default(alloc)?;
-    bundle.set_transform(Some(Box::new(alloc, Upper)?));
-    if bundle.add_resource(resource).is_err() {
-        return Err("not added".into());
-    }
+    let mut bundle: Plain<'_, '_> = default_bundle(alloc)?;
+    set_upper(alloc, &mut bundle)?;
+    whole(add(&mut bundle, resource))?;
     both(rt, alloc, &bundle, text, text)
 }
 
+const IN_UPPER_CASE: &[(&str, &str)] = &[
+    ("m = Hello", "HELLO"),
+    ("m = Hello, { \"world\" }!", "HELLO, world!"),
+    ("m = Welcome, { $name }.", "WELCOME, \u{2068}John\u{2069}."),
+];
+
 #[test]
 fn a_transform_changes_text_elements_alone(rt: HostRuntime) -> Result<(), Fail> {
-    for (source, text) in [
-        ("m = Hello", "HELLO"),
-        ("m = Hello, { \"world\" }!", "HELLO, world!"),
-        ("m = Welcome, { $name }.", "WELCOME, \u{2068}John\u{2069}."),
-    ] {
-        let resource = read(rt.alloc(), source)?;
-        in_upper_case(&rt, rt.alloc(), &resource, text)?;
+    for (source, text) in IN_UPPER_CASE {
+        let resource = clean(rt.alloc(), *source)?;
+        in_upper_case(&rt, rt.alloc(), &resource, *text)?;
     }
     Ok(())
 }
 
-fn replaces_settings<'r, 's: 'r>(
+fn unset_transform(bundle: &mut Bundle<'_, '_, Bracketed>) {
+    bundle.set_transform(None);
+}
+
+fn replaces_settings(
+    rt: &impl Abort,
+    alloc: Global,
+    bundle: &mut Bundle<'_, '_, Bracketed>,
+) -> Result<(), Fail> {
+    set_brackets(bundle, Some(Bracketed));
+    set_upper(alloc, bundle)?;
+    both(rt, alloc, bundle, "HELLO", "[HELLO]")?;
+    unset_transform(bundle);
+    both(rt, alloc, bundle, "Hello", "[Hello]")?;
+    set_brackets(bundle, None);
+    both(rt, alloc, bundle, "Hello", "Hello")
+}
+
+fn settings_over<'r, 's>(
     rt: &impl Abort,
     alloc: Global,
     resource: &'r FluentResource<'s>,
 ) -> Result<(), Fail> {
-    let mut bundle: Bundle<'r, 's, Bracketed> = FluentBundle::new_default(alloc)?;
-    if bundle.add_resource(resource).is_err() {
-        return Err("not added".into());
-    }
-    bundle.set_formatter(Some(Bracketed));
-    bundle.set_transform(Some(Box::new(alloc, Upper)?));
-    both(rt, alloc, &bundle, "HELLO", "[HELLO]")?;
-    bundle.set_transform(None);
-    both(rt, alloc, &bundle, "Hello", "[Hello]")?;
-    bundle.set_formatter(None);
-    both(rt, alloc, &bundle, "Hello", "Hello")
+    let mut bundle = default_bundle(alloc)?;
+    whole(add(&mut bundle, resource))?;
+    replaces_settings(rt, alloc, &mut bundle)
 }
 
 #[test]
 fn settings_are_replaced(rt: HostRuntime) -> Result<(), Fail> {
-    let resource = read(rt.alloc(), "m = Hello")?;
-    replaces_settings(&rt, rt.alloc(), &resource)
+    let resource = clean(rt.alloc(), "m = Hello")?;
+    settings_over(&rt, rt.alloc(), &resource)
 }
 
-/// Formats the value of the message `m` without arguments.
-fn formats<'r, 's: 'r>(
+// ---- formatting without arguments
+
+/// What the value of the message `m` is formatted as, whether it is lent, and the lines of its errors.
+fn formats<'r, 's>(
     rt: &impl Abort,
     alloc: Global,
     resource: &'r FluentResource<'s>,
-    text: &str,
-    is_lent: bool,
-    expected: &[&str],
+    row: (&str, bool, &str),
 ) -> Result<(), Fail> {
-    let mut bundle: Bundle<'r, 's, NoFormatter> = FluentBundle::new_default(alloc)?;
-    if bundle.add_resource(resource).is_err() {
-        return Err("not added".into());
-    }
-    let message = bundle.get_message("m").ok_or("no message")?;
-    let pattern = message.value().ok_or("no value")?;
+    let mut bundle: Plain<'_, '_> = default_bundle(alloc)?;
+    whole(add(&mut bundle, resource))?;
+    let pattern = value_in(&bundle).ok_or("no value")?;
     let mut errors = Vec::new(alloc);
-    let formatted = bundle.format_pattern(pattern, None, &mut errors)?;
-    assert_eq!(rt; formatted.as_str(), text);
-    assert_eq!(rt; matches!(formatted, CowStr::Borrowed(_)), is_lent);
-    same_errors(rt, alloc, &errors, expected)
+    let formatted = format(&bundle, pattern, None, &mut errors)?;
+    assert!(rt; formatted.as_str() == row.0);
+    assert!(rt; matches!(formatted, CowStr::Borrowed(_)) == row.1);
+    are(rt, alloc, errors.as_slice(), row.2)
 }
 
 #[test]
 fn a_sole_text_is_lent(rt: HostRuntime) -> Result<(), Fail> {
-    let alloc = rt.alloc();
-    let resource = read(alloc, "m = Hello, world!")?;
-    formats(&rt, alloc, &resource, "Hello, world!", true, &[])
+    let resource = clean(rt.alloc(), "m = Hello, world!")?;
+    formats(&rt, rt.alloc(), &resource, ("Hello, world!", true, ""))
 }
 
 #[test]
 fn errors_are_reported_beside_the_text(rt: HostRuntime) -> Result<(), Fail> {
-    let alloc = rt.alloc();
-    let resource = read(alloc, "m = Welcome, { $name }.")?;
+    let resource = clean(rt.alloc(), "m = Welcome, { $name }.")?;
     let text = "Welcome, \u{2068}{$name}\u{2069}.";
-    let error = "Resolver error: Unknown variable: $name";
-    formats(&rt, alloc, &resource, text, false, &[error])
-}
-
-// ---- values and the scope of a call
-
-/// An ordinal number.
-fn ordinal<'v>(n: u8) -> FluentValue<'v, NoCustom> {
-    let mut number = FluentNumber::from(n);
-    number.options.number_type = FluentNumberType::Ordinal;
-    FluentValue::Number(number)
-}
-
-#[test]
-fn keys_match_selectors(rt: HostRuntime) -> Result<(), Fail> {
-    let alloc = rt.alloc();
-    let bundle: Bundle<'_, '_, NoFormatter> = FluentBundle::new_default(alloc)?;
-    let scope = Scope::new(&bundle, None, None);
-    for (key, selector, expected) in [
-        ("one", "1", true),
-        ("two", "100", false),
-        ("other", "100", true),
-        ("2", "2", true),
-        ("2", "3", false),
-        ("1", "1.0", false),
-        ("a", "a", true),
-        ("1", "one", false),
-    ] {
-        let key: FluentValue<'_, NoCustom> = FluentValue::try_number(key);
-        let selector = FluentValue::try_number(selector);
-        assert_eq!(rt; key.matches(&selector, &scope), expected);
-    }
-    assert!(rt; !FluentValue::from(1u8).matches(&ordinal(1), &scope));
-    assert!(rt; FluentValue::from("two").matches(&ordinal(2), &scope));
-    assert!(rt; !FluentValue::None.matches(&FluentValue::None, &scope));
-    Ok(())
-}
-
-#[test]
-fn a_value_is_written_as_it_is_shown(rt: HostRuntime) -> Result<(), Fail> {
-    let alloc = rt.alloc();
-    let mut bundle: Bundle<'_, '_, Bracketed> = FluentBundle::new_default(alloc)?;
-    bundle.set_formatter(Some(Bracketed));
-    let scope = Scope::new(&bundle, None, None);
-    let mut w = Counting::new(Vec::new(alloc));
-    for text in ["a", "1.0"] {
-        FluentValue::try_number(text).write(&mut w, &scope)?;
-    }
-    FluentValue::Error.write(&mut w, &scope)?;
-    assert_eq!(rt; w.into_inner().as_slice(), b"[a]1.0".as_slice());
-    Ok(())
-}
-
-#[test]
-fn a_scope_adds_to_its_list(rt: HostRuntime) -> Result<(), Fail> {
-    let alloc = rt.alloc();
-    let bundle: Bundle<'_, '_, NoFormatter> = FluentBundle::new_default(alloc)?;
-    let mut errors = Vec::new(alloc);
-    errors.push(FluentError::ResolverError(ResolverError::MissingDefault))?;
-    let mut scope = Scope::new(&bundle, None, Some(&mut errors));
-    scope.add_error(ResolverError::Cyclic)?;
-    assert!(rt; !scope.dirty());
-    assert!(rt; !scope.bundle().has_message("m"));
-    assert_eq!(rt; scope.errors().ok_or("no list")?.len(), 2);
-    drop(scope);
-    let expected = [
-        "Resolver error: No default",
-        "Resolver error: Cyclical dependency detected",
-    ];
-    same_errors(&rt, alloc, &errors, &expected)?;
-    let mut scope = Scope::new(&bundle, None, None);
-    scope.add_error(ResolverError::Cyclic)?;
-    assert!(rt; scope.errors().is_none());
-    Ok(())
+    let error = "Resolver error: Unknown variable: $name\n";
+    formats(&rt, rt.alloc(), &resource, (text, false, error))
 }

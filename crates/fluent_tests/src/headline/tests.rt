@@ -1,9 +1,8 @@
 //! A row written by hand.
 use crate::headline::{Asked, write_after};
-use fluent_bundle::{Counting, FluentArgs, FluentResource, NoCustom, ast};
-use std::alloc::Global;
+use fluent_bundle::{Counting, FluentArgs, FluentError, FluentResource, NoCustom, WriteFault, ast};
+use std::alloc::{AllocError, Global};
 use std::borrow::CowStr;
-use std::process::Abort;
 use std::test::Fail;
 
 /// The value of the first entry of a resource.
@@ -14,41 +13,42 @@ fn value_of<'x, 's>(resource: &'x FluentResource<'s>) -> Option<&'x ast::Pattern
     }
 }
 
-/// What the value of a message gives after the calls, where `n` is 3.
-fn row(
-    rt: &impl Abort,
-    alloc: Global,
-    asked: &[Asked<'_>],
-    message: &str,
-    expected: &str,
-) -> Result<(), Fail> {
-    let Ok(resource) = FluentResource::try_new(alloc, message) else {
-        return Err("not read".into());
-    };
-    let pattern = value_of(&resource).ok_or("no value")?;
+/// Arguments where `n` is 3.
+fn three(alloc: Global) -> Result<FluentArgs<'static, NoCustom>, AllocError> {
     let mut args: FluentArgs<'_, NoCustom> = FluentArgs::new(alloc);
     args.set(CowStr::Borrowed("n"), 3.into())?;
-    let mut w = Counting::new(Vec::new(alloc));
-    let mut errors = Vec::new(alloc);
-    write_after(alloc, asked, Some(&args), pattern, &mut w, &mut errors)?;
-    assert_eq!(rt; w.into_inner().as_slice(), expected.as_bytes());
-    assert!(rt; errors.is_empty());
-    Ok(())
+    Ok(args)
 }
+
+/// What a pattern gives after the calls, where `n` is 3.
+fn written(
+    alloc: Global,
+    asked: &[Asked<'_>],
+    pattern: &ast::Pattern<'_>,
+    errors: &mut Vec<FluentError>,
+) -> Result<Vec<u8>, WriteFault> {
+    let args = three(alloc)?;
+    let mut w = Counting::new(Vec::new(alloc));
+    write_after(alloc, asked, Some(&args), pattern, &mut w, errors)?;
+    Ok(w.into_inner())
+}
+
+const ASKED: &[Asked<'static>] = &[
+    Asked::AddResource("items = few items\nrest = none\n"),
+    Asked::AddResourceOverriding("items = { $n } items\n"),
+    Asked::AddBuiltins,
+    Asked::SetUseIsolating(false),
+];
 
 #[test]
 fn a_bundle_of_two_sources(rt: HostRuntime) -> Result<(), Fail> {
-    let asked = [
-        Asked::AddResource("items = few items\nrest = none\n"),
-        Asked::AddResourceOverriding("items = { $n } items\n"),
-        Asked::AddBuiltins,
-        Asked::SetUseIsolating(false),
-    ];
-    row(
-        &rt,
-        rt.alloc(),
-        &asked,
-        "m = You have { $n } items.\n",
-        "You have 3 items.",
-    )
+    let Ok(resource) = FluentResource::try_new(rt.alloc(), "m = You have { $n } items.\n") else {
+        return Err("not read".into());
+    };
+    let pattern = value_of(&resource).ok_or("no value")?;
+    let mut errors = Vec::new(rt.alloc());
+    let bytes = written(rt.alloc(), ASKED, pattern, &mut errors)?;
+    assert!(rt; bytes.as_slice() == "You have 3 items.".as_bytes());
+    assert!(rt; errors.is_empty());
+    Ok(())
 }
