@@ -75,13 +75,14 @@ fn reports_in_order<'r, 's>(
 ) -> Result<(), Fail> {
     let mut bundle: Plain<'_, '_> = default_bundle(alloc)?;
     let added = add(&mut bundle, resource);
-    holds(rt, &bundle, &[("a", "1", "", false), ("b", "", "", false)]);
     is_left(
         rt,
         alloc,
         added,
         "Attempt to override an existing message: \"a\".\nAttempt to override an existing term: \"a\".\n",
-    )
+    )?;
+    holds(rt, &bundle, &[("a", "1", "", false), ("b", "", "", false)]);
+    Ok(())
 }
 
 #[test]
