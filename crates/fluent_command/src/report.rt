@@ -146,7 +146,8 @@ pub(crate) fn report<'w, E: Write>(
 
 /// Writes the line of an ending alone, and gives the exit status: for a program that ends before it can call `run`.
 ///
-/// It is 3 also where standard error failed or took nothing. Memory is not asked for.
+/// It is 3 also where standard error failed or took nothing; what was written where it is 3, no clause says.
+/// Memory is not asked for.
 pub fn say<E: Write>(ending: Ending<'_>, err: &mut Counting<E>) -> u8
     ensures status { result ≢ 3 → result ≡ status (ending_view ending.entry) }
     ensures line { result ≢ 3 → Appends (E.contents err.old.inner) (E.contents err.new.inner)
