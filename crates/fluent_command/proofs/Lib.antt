@@ -2,3 +2,4 @@ pub mod Lines
 pub mod Adding
 pub mod Taking
 pub mod Coming
+pub mod Began

@@ -26,3 +26,10 @@ one_more errors i e within is =
 
 pub first_begin : (errors : List FluentError) (i : ℕ) → Begins (reported (take i errors)) (reported errors)
 first_begin errors i = (reported (drop i errors), ap reported (sym (take-append-drop i errors)) ∙ map-append error_view (take i errors) (drop i errors))
+
+-- the lines of the first errors, and those of the others
+pub lines_on : (errors : List FluentError) (i : ℕ) → error_lines (reported errors) ≡ error_lines (reported (take i errors)) ++ error_lines (reported (drop i errors))
+lines_on errors i =
+    ap (λ es. error_lines (reported es)) (sym (take-append-drop i errors))
+    ∙ ap error_lines (map-append error_view (take i errors) (drop i errors))
+    ∙ error_lines-append (reported (take i errors)) (reported (drop i errors))

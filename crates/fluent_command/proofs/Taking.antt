@@ -58,3 +58,11 @@ added_written (Err e) text errors held held' old new whole front = record {
   list = front.adds.adds.added;
   all = tt;
 }
+
+-- a beginning of a text is one of more, too
+pub front_short : (old new : Option Text) (s t : Text) → TookFront old new s → TookFront old new (s ++ t)
+front_short old new s t h = (h.0, h.1 ++ t, ap (λ w. w ++ t) h.2 ∙ append_assoc h.0 h.1 t, h.3)
+
+-- and a beginning after the whole of another
+pub front_then : (old mid new : Option Text) (s t : Text) → Appends old mid s → TookFront mid new t → TookFront old new (s ++ t)
+front_then old mid new s t whole h = (s ++ h.0, h.1, ap (λ w. s ++ w) h.2 ∙ sym (append_assoc s h.0 h.1), Appends-trans old mid new s h.0 whole h.3)

@@ -2,9 +2,9 @@
 use Rattle.std.specs.Prelude.{◌≡◌, ℕ, List, ◌++◌, ◌⊎◌, Option, IfSome}
 use Rattle.std.specs.Io.KnownBytes.{Appends}
 use Rattle.fluent_tree.specs.Tree.{Text}
-use Rattle.fluent_tree.specs.Taken.{raised}
+use Rattle.fluent_tree.specs.Taken.{raised, TookFront}
 use Rattle.fluent_meaning.specs.Errors.{Error}
-use Rattle.fluent_command.specs.Ending.{Ending, said, out_of_memory, reading_failed, writing_failed}
+use Rattle.fluent_command.specs.Ending.{Ending, said, status, out_of_memory, reading_failed, writing_failed}
 use Rattle.fluent_command.specs.Program.{Run, Answer}
 
 -- these are the bytes that a reader has left, where they are known
@@ -25,6 +25,11 @@ Rose failed empty failed' empty' = ((failed' ≡ raised failed) × (empty' ≡ e
 abbrev pub SaidOf : Run → Ending → Option Text → Option Text → Type 0
 SaidOf run ending err err' = (front : List Error) × (rest : List Error) × (run.errors ≡ front ++ rest) × Appends err err' (said front ending)
 
+-- standard error took a beginning of those lines: the ending is the run's own, or one of status 3
+abbrev pub BeganOf : Run → Option Text → Option Text → Type 0
+BeganOf run err err' =
+    (front : List Error) × (rest : List Error) × (ending : Ending) × (run.errors ≡ front ++ rest) × ((ending ≡ run.ending) ⊎ (status ending ≡ 3)) × TookFront err err' (said front ending)
+
 -- Why a run was stopped, and what it then said.
 pub data Stopped (run : Run) (unread out_rose err_rose : Type 0) (err err' : Option Text) : Type 0 where
   -- a read failed, or none was left
@@ -34,4 +39,4 @@ pub data Stopped (run : Run) (unread out_rose err_rose : Type 0) (err err' : Opt
   -- memory was refused, or so it is said
   by_memory : SaidOf run out_of_memory err err' → Stopped run unread out_rose err_rose err err'
   -- a write on standard error failed or took nothing
-  by_reporting : err_rose → Stopped run unread out_rose err_rose err err'
+  by_reporting : err_rose → BeganOf run err err' → Stopped run unread out_rose err_rose err err'

@@ -1,14 +1,14 @@
 //! What is said on standard error, and the status.
 
-ghost use Rattle.std.specs.Prelude.{◌≡◌, ◌≢◌, ◌⊎◌, map, Err, IfOk, OnOk, string_bytes};
+ghost use Rattle.std.specs.Prelude.{◌≡◌, ◌≢◌, ◌⊎◌, map, Err, IfOk, OnOk, OnErr, string_bytes};
 ghost use Rattle.std.specs.Io.KnownBytes.{Appends};
-ghost use Rattle.fluent_tree.specs.Taken.{Faulted};
+ghost use Rattle.fluent_tree.specs.Taken.{Faulted, TookFront};
 ghost use Rattle.fluent_meaning.specs.Errors.{error_text};
 ghost use Rattle.fluent_values.specs.View.{error_view};
 ghost use Rattle.fluent_command.specs.Ending.{status, line, no_message, ending_line};
 ghost use Rattle.fluent_command.specs.EndingView.{ending_view, reported};
 ghost use Rattle.fluent_command.specs.Outcome.{Rose};
-ghost use Rattle.fluent_command.specs.Said.{TookErrors, Says};
+ghost use Rattle.fluent_command.specs.Said.{BeganToSay, Says, TookErrors};
 
 use fluent_bundle::{Counting, FluentError, WriteFault};
 use fluent_syntax::counting::put;
@@ -88,6 +88,8 @@ fn put_errors<E: Write>(
 fn put_no_message<E: Write>(id: &str, err: &mut Counting<E>) -> Result<(), WriteFault>
     ensures line { OnOk result (Appends (E.contents err.old.inner) (E.contents err.new.inner)
         (ending_line (no_message id.now))) }
+    ensures front { OnErr result (TookFront (E.contents err.old.inner) (E.contents err.new.inner)
+        (ending_line (no_message id.now))) }
     ensures fault { Faulted err.old.failed err.old.empty err.new.failed err.new.empty result }
     ensures memory { result ≢ Err WriteFault.Memory }
 {
@@ -99,6 +101,8 @@ fn put_no_message<E: Write>(id: &str, err: &mut Counting<E>) -> Result<(), Write
 /// Writes the line of an ending, which takes no memory.
 fn put_ending<E: Write>(ending: Ending<'_>, err: &mut Counting<E>) -> Result<(), WriteFault>
     ensures line { OnOk result (Appends (E.contents err.old.inner) (E.contents err.new.inner)
+        (ending_line (ending_view ending.entry))) }
+    ensures front { OnErr result (TookFront (E.contents err.old.inner) (E.contents err.new.inner)
         (ending_line (ending_view ending.entry))) }
     ensures fault { Faulted err.old.failed err.old.empty err.new.failed err.new.empty result }
     ensures memory { result ≢ Err WriteFault.Memory }
@@ -122,7 +126,7 @@ fn put_ending<E: Write>(ending: Ending<'_>, err: &mut Counting<E>) -> Result<(),
 ///
 /// # Errors
 ///
-/// `Writer` or `Zero` of standard error, never `Memory`.
+/// `Writer` or `Zero` of standard error, never `Memory`: it then took a beginning of what was to be said.
 pub(crate) fn report<'w, E: Write>(
     alloc: Global,
     errors: &[FluentError],
@@ -131,6 +135,8 @@ pub(crate) fn report<'w, E: Write>(
 ) -> Result<Ending<'w>, WriteFault>
     ensures says { IfOk result (λ final.
         Says (reported errors.now) (ending_view ending.entry) (ending_view final)
+        (E.contents err.old.inner) (E.contents err.new.inner)) }
+    ensures front { OnErr result (BeganToSay (reported errors.now) (ending_view ending.entry)
         (E.contents err.old.inner) (E.contents err.new.inner)) }
     ensures fault { Faulted err.old.failed err.old.empty err.new.failed err.new.empty result }
     ensures memory { result ≢ Err WriteFault.Memory }
@@ -146,14 +152,17 @@ pub(crate) fn report<'w, E: Write>(
 
 /// Writes the line of an ending alone, and gives the exit status: for a program that ends before it can call `run`.
 ///
-/// It is 3 also where standard error failed or took nothing; what was written where it is 3, no clause says.
+/// It is 3 also where standard error failed or took nothing: that took a beginning of the line then.
 /// Memory is not asked for.
 pub fn say<E: Write>(ending: Ending<'_>, err: &mut Counting<E>) -> u8
     ensures status { result ≢ 3 → result ≡ status (ending_view ending.entry) }
     ensures line { result ≢ 3 → Appends (E.contents err.old.inner) (E.contents err.new.inner)
         (ending_line (ending_view ending.entry)) }
-    ensures cause { result ≡ 3 → (status (ending_view ending.entry) ≡ 3)
-        ⊎ Rose err.old.failed err.old.empty err.new.failed err.new.empty }
+    ensures said { result ≡ 3 →
+        ((status (ending_view ending.entry) ≡ 3) × Appends (E.contents err.old.inner) (E.contents err.new.inner)
+        (ending_line (ending_view ending.entry)))
+        ⊎ (Rose err.old.failed err.old.empty err.new.failed err.new.empty
+        × TookFront (E.contents err.old.inner) (E.contents err.new.inner) (ending_line (ending_view ending.entry))) }
 {
     match put_ending(ending, err) {
         Ok(()) => ending.status(),

@@ -73,8 +73,8 @@ fn attempt<'w, R: Read, W: Write>(
 /// Where the status is not 3, status, output and error text are those that `program` defines for the words and
 /// the bytes of the input. Where it is 3, a read failed or the reads were used up, a write failed or took
 /// nothing, or the error text says that memory was refused. The output then holds a beginning of what it should,
-/// and unless it was standard error that failed, the error text is the lines of the first errors and one that
-/// names the cause. Faults of usage are found before anything is read.
+/// and the error text is the lines of the first errors and one that names the cause or, where it was standard error
+/// that failed, a beginning of such lines. Faults of usage are found before anything is read.
 pub fn run<R: Read, W: Write, E: Write>(
     alloc: Global,
     words: &[String],

@@ -1,0 +1,33 @@
+use Rattle.std.proofs.Common.{rules, ◌≡◌, subst, Err}
+use Rattle.fluent_tree.specs.Taken.{TookFront}
+use Rattle.fluent_tree.specs.declared.counting.WriteFault.{WriteFault}
+use Rattle.fluent_tree.specs.declared.counting.WriteFault.TheVariants.{Memory}
+use Rattle.fluent_bundle.proofs.Running.{on_err}
+use Rattle.fluent_command.specs.Ending.{ending_line}
+use Rattle.fluent_command.specs.EndingView.{ending_view, reported}
+use Rattle.fluent_command.specs.declared.report.Ending.{Ending}
+use Rattle.fluent_command.specs.Said.{TookErrors}
+use Rattle.fluent_command.proofs.Began.{began_all, began_errors, began_some}
+use Rattle.fluent_command.proofs.report.report.Goals as goal
+use Rattle.fluent_command.proofs.report.report.Goals.{in-Ok, in-Err-Memory}
+
+pub returns-in-Err : goal.returns-in-Err
+returns-in-Err g c =
+    let not : ¬ (c.in-Err.fault ≡ Memory) = search rules in
+    record {
+      says = tt;
+      front = began_errors c.in-Err.fault _ _ _ _ not c.in-Err.ensures.lines;
+      fault = c.in-Err.ensures.fault;
+      memory = search rules;
+    }
+
+pub returns-in_err-put_ending-clause-front : goal.returns-in_err-put_ending-clause-front
+returns-in_err-put_ending-clause-front g c =
+    let to = λ (e : Ending). TookFront (g.E.Write.contents c.put_errors.new.err.inner) (g.E.Write.contents c.put_ending.new.err.inner) (ending_line (ending_view e)) in
+    let errors = reported c.args.errors.now in
+    let took = λ (f : WriteFault). TookErrors (Err f) errors (g.E.Write.contents c.args.err.now.inner) (g.E.Write.contents c.put_errors.new.err.inner) in
+    let ending = ending_view c.args.ending in
+    on_err c.from_residual.result (elim c.match-put_errors.branch [
+      | in-Ok w ↦ began_all errors ending _ _ _ w.in-Ok.ensures.lines (subst to w.ending-is c.in_err-put_ending.ensures.front)
+      | in-Err-Memory w ↦ began_some errors ending _ _ _ (subst took w.in-Err-Memory.field-0-is w.in-Err-Memory.ensures.lines) (subst to w.ending-is c.in_err-put_ending.ensures.front)
+    ])
