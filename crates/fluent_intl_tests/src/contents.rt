@@ -4,15 +4,14 @@ ghost use Rattle.fluent_intl.specs.declared.options.FluentNumberType.TheVariants
 ghost use Rattle.fluent_intl.specs.declared.options.FluentNumberStyle.TheVariants.{Decimal as DecimalStyle};
 ghost use Rattle.fluent_intl.specs.declared.options.FluentNumberCurrencyDisplayStyle.TheVariants.{Symbol};
 
-use crate::numbers::number;
+use crate::numbers::{value, with_minimum};
 use fluent_intl::{
     Decimal, FluentNumber, FluentNumberCurrencyDisplayStyle, FluentNumberOptions,
     FluentNumberStyle, FluentNumberType, LanguageIdentifier, PluralCategory, PluralOperands,
     PluralRuleType,
 };
-use std::alloc::Global;
+use std::alloc::{AllocError, Global};
 use std::hash::{DefaultHasher, Hash, Hasher};
-use std::test::Fail;
 
 fn same_decimals(one: &Decimal, other: &Decimal) -> bool
     ensures { IsTrue result ↔ (one.now ≡ other.now) }
@@ -20,37 +19,26 @@ fn same_decimals(one: &Decimal, other: &Decimal) -> bool
     one == other
 }
 
-fn same_types(one: FluentNumberType, other: FluentNumberType) -> bool
+/// One value of each type of an option.
+type Words = (
+    FluentNumberType,
+    FluentNumberStyle,
+    FluentNumberCurrencyDisplayStyle,
+);
+
+fn same_words(one: Words, other: Words) -> bool
     ensures { IsTrue result ↔ (one ≡ other) }
 {
-    one == other
+    one.0 == other.0 && one.1 == other.1 && one.2 == other.2
 }
 
-fn same_styles(one: FluentNumberStyle, other: FluentNumberStyle) -> bool
-    ensures { IsTrue result ↔ (one ≡ other) }
-{
-    one == other
-}
-
-fn same_displays(
-    one: FluentNumberCurrencyDisplayStyle,
-    other: FluentNumberCurrencyDisplayStyle,
+fn same_rules(
+    one: (PluralRuleType, PluralCategory),
+    other: (PluralRuleType, PluralCategory),
 ) -> bool
     ensures { IsTrue result ↔ (one ≡ other) }
 {
-    one == other
-}
-
-fn same_rule_types(one: PluralRuleType, other: PluralRuleType) -> bool
-    ensures { IsTrue result ↔ (one ≡ other) }
-{
-    one == other
-}
-
-fn same_categories(one: PluralCategory, other: PluralCategory) -> bool
-    ensures { IsTrue result ↔ (one ≡ other) }
-{
-    one == other
+    one.0 == other.0 && one.1 == other.1
 }
 
 fn same_operands(one: &PluralOperands, other: &PluralOperands) -> bool
@@ -59,11 +47,7 @@ fn same_operands(one: &PluralOperands, other: &PluralOperands) -> bool
     one == other
 }
 
-fn first_variants() -> (
-    FluentNumberType,
-    FluentNumberStyle,
-    FluentNumberCurrencyDisplayStyle,
-)
+fn first_variants() -> Words
     ensures { result ≡ (Cardinal, DecimalStyle, Symbol) }
 {
     (
@@ -73,22 +57,36 @@ fn first_variants() -> (
     )
 }
 
-#[test]
-fn operands_are_equal_by_content(rt: HostRuntime) {
+fn operands_by_content() -> bool {
     let one = PluralOperands::of(&Decimal::from_u64(1), None);
     let shown = PluralOperands::of(&Decimal::from_u64(1), Some(1));
-    assert!(rt; same_operands(&one, &one) && !same_operands(&one, &shown));
-    assert!(rt; same_decimals(&one.n, &shown.n) && !same_decimals(&one.n, &Decimal::from_u64(2)));
+    same_operands(&one, &one)
+        && !same_operands(&one, &shown)
+        && same_decimals(&one.n, &shown.n)
+        && !same_decimals(&one.n, &Decimal::from_u64(2))
 }
 
-#[test]
-fn words_are_equal_by_content(rt: HostRuntime) {
-    let (kind, style, display) = first_variants();
-    assert!(rt; same_types(kind, FluentNumberType::Cardinal));
-    assert!(rt; same_styles(style, FluentNumberStyle::Decimal));
-    assert!(rt; same_displays(display, FluentNumberCurrencyDisplayStyle::Symbol));
-    assert!(rt; !same_rule_types(PluralRuleType::CARDINAL, PluralRuleType::ORDINAL));
-    assert!(rt; !same_categories(PluralCategory::ZERO, PluralCategory::MANY));
+fn words_by_content() -> bool {
+    let written = (
+        FluentNumberType::Cardinal,
+        FluentNumberStyle::Decimal,
+        FluentNumberCurrencyDisplayStyle::Symbol,
+    );
+    same_words(first_variants(), written)
+}
+
+fn rules_by_content() -> bool {
+    let first = (PluralRuleType::CARDINAL, PluralCategory::ZERO);
+    !same_rules(first, (PluralRuleType::ORDINAL, PluralCategory::ZERO))
+        && !same_rules(first, (PluralRuleType::CARDINAL, PluralCategory::MANY))
+}
+
+fn is_undetermined(alloc: Global) -> bool {
+    let language = LanguageIdentifier::und(alloc);
+    language.language.is_none()
+        && language.script.is_none()
+        && language.region.is_none()
+        && language.variants.is_empty()
 }
 
 fn hash_of<T: Hash>(value: &T) -> u64 {
@@ -97,66 +95,71 @@ fn hash_of<T: Hash>(value: &T) -> u64 {
     state.finish()
 }
 
-fn in_euros(alloc: Global) -> Result<FluentNumber, Fail> {
+fn hash_alike<T: Hash>(one: &T, other: &T) -> bool {
+    hash_of(one) == hash_of(other)
+}
+
+fn words_hash_alike() -> bool {
+    let (kind, style, display) = first_variants();
+    hash_alike(&FluentNumberType::from("x"), &kind)
+        && hash_alike(&FluentNumberStyle::from("x"), &style)
+        && hash_alike(&FluentNumberCurrencyDisplayStyle::from("x"), &display)
+}
+
+fn zeros_hash_alike() -> bool {
+    match value("-0") {
+        Some(zero) => hash_alike(&zero, &Decimal::from_u64(0)),
+        None => false,
+    }
+}
+
+/// Five in a currency.
+fn price(alloc: Global, currency: &str) -> Result<FluentNumber, AllocError> {
     let mut options = FluentNumberOptions::default();
     options.style = FluentNumberStyle::Currency;
-    options.currency = Some(String::from_str(alloc, "EUR")?);
+    options.currency = Some(String::from_str(alloc, currency)?);
     Ok(FluentNumber::new(Decimal::from_u64(5), options))
 }
 
-#[test]
-fn copies_are_equal(rt: HostRuntime) -> Result<(), Fail> {
-    let price = in_euros(rt.alloc())?;
-    let copy = price.try_clone(rt.alloc())?;
-    assert!(rt; price == copy);
-    assert!(rt; hash_of(&price.options) == hash_of(&copy.options));
-    Ok(())
+/// Whether two numbers are equal, and their options are, and hash alike.
+fn agree(one: &FluentNumber, other: &FluentNumber) -> bool {
+    one == other && one.options == other.options && hash_alike(&one.options, &other.options)
+}
+
+fn differ(one: &FluentNumber, other: &FluentNumber) -> bool {
+    one != other && one.options != other.options
+}
+
+/// Copies agree, and numbers of other currencies differ.
+fn copies_agree(
+    alloc: Global,
+    euros: &FluentNumber,
+    dollars: &FluentNumber,
+) -> Result<bool, AllocError> {
+    let copy = euros.try_clone(alloc)?;
+    let options = euros.options.try_clone(alloc)?;
+    Ok(agree(euros, &copy) && options == euros.options && differ(euros, dollars))
+}
+
+fn prices_by_content(alloc: Global) -> Result<bool, AllocError> {
+    let euros = price(alloc, "EUR")?;
+    let dollars = price(alloc, "USD")?;
+    copies_agree(alloc, &euros, &dollars)
+}
+
+/// A number that is made of a whole one has the options by default, and its minimum counts.
+fn options_by_content() -> bool {
+    let five = Decimal::from_u64(5);
+    let made = FluentNumber::new(five, FluentNumberOptions::default());
+    made.options.use_grouping
+        && agree(&FluentNumber::from(5u8), &made)
+        && differ(&with_minimum(five, Some(1)), &made)
 }
 
 #[test]
-fn copies_of_options_are_equal(rt: HostRuntime) -> Result<(), Fail> {
-    let price = in_euros(rt.alloc())?;
-    let options = price.options.try_clone(rt.alloc())?;
-    assert!(rt; options == price.options);
+fn equality_is_that_of_contents(rt: HostRuntime) -> Result<(), AllocError> {
+    assert!(rt; operands_by_content() && words_by_content() && rules_by_content());
+    assert!(rt; words_hash_alike() && zeros_hash_alike() && options_by_content());
+    assert!(rt; is_undetermined(rt.alloc()) && prices_by_content(rt.alloc())?);
     Ok(())
-}
-
-#[test]
-fn other_currencies_differ(rt: HostRuntime) -> Result<(), Fail> {
-    let mut price = in_euros(rt.alloc())?;
-    price.options.currency = Some(String::from_str(rt.alloc(), "USD")?);
-    let other = in_euros(rt.alloc())?;
-    assert!(rt; price != other);
-    assert!(rt; price.options != other.options);
-    Ok(())
-}
-
-#[test]
-fn numbers_compare_with_their_options(rt: HostRuntime) -> Result<(), Fail> {
-    let default = FluentNumberOptions::default();
-    assert!(rt; default.use_grouping);
-    assert!(rt; FluentNumber::from(5u8) == FluentNumber::new(Decimal::from_u64(5), default));
-    assert!(rt; number("5.0")? != number("5")?);
-    Ok(())
-}
-
-#[test]
-fn hashes_agree(rt: HostRuntime) -> Result<(), Fail> {
-    let zero = number("-0")?.value;
-    assert!(rt; hash_of(&zero) == hash_of(&Decimal::from_u64(0)));
-    let kind = FluentNumberType::from("x");
-    assert!(rt; hash_of(&kind) == hash_of(&FluentNumberType::default()));
-    let style = FluentNumberStyle::from("x");
-    assert!(rt; hash_of(&style) == hash_of(&FluentNumberStyle::default()));
-    let display = FluentNumberCurrencyDisplayStyle::from("x");
-    let first = FluentNumberCurrencyDisplayStyle::default();
-    assert!(rt; hash_of(&display) == hash_of(&first));
-    Ok(())
-}
-
-#[test]
-fn undetermined_language(rt: HostRuntime) {
-    let und = LanguageIdentifier::und(rt.alloc());
-    assert!(rt; und.language.is_none() && und.script.is_none() && und.region.is_none());
-    assert!(rt; und.variants.is_empty());
 }

@@ -1,8 +1,8 @@
 //! Operands and English categories.
-use crate::numbers::number;
-use fluent_intl::{EnglishPlurals, MemoizerKind, PluralCategory, PluralOperands, PluralRuleType};
-use std::process::Abort;
-use std::test::Fail;
+use crate::numbers::{number, value, with_minimum};
+use fluent_intl::{
+    Decimal, EnglishPlurals, MemoizerKind, PluralCategory, PluralOperands, PluralRuleType,
+};
 
 /// A text and a minimum, and the operands n, i, v, w, f and t, the first as a text.
 type Operands = (
@@ -20,23 +20,21 @@ const OPERANDS: &[Operands] = &[
     ("2", Some(400), "2", (2, 18, 0, 0, 0)),
 ];
 
-fn has_operands(rt: &impl Abort, row: &Operands) -> Result<(), Fail> {
-    let (text, minimum, n, (i, v, w, f, t)) = *row;
-    let mut read = number(text)?;
-    read.options.minimum_fraction_digits = minimum;
-    let n = number(n)?.value;
-    let want = PluralOperands { n, i, v, w, f, t };
-    assert!(rt; PluralOperands::of(&read.value, minimum) == want, "{text}");
-    assert!(rt; PluralOperands::from(&read) == want, "{text}");
-    Ok(())
+fn operands_of(value: Decimal, minimum: Option<usize>) -> PluralOperands {
+    PluralOperands::of(&value, minimum)
 }
 
-#[test]
-fn operands_of_numbers(rt: HostRuntime) -> Result<(), Fail> {
-    for row in OPERANDS {
-        has_operands(&rt, row)?;
-    }
-    Ok(())
+fn operands_of_number(value: Decimal, minimum: Option<usize>) -> PluralOperands {
+    PluralOperands::from(&with_minimum(value, minimum))
+}
+
+fn has_operands(row: &Operands) -> bool {
+    let (text, minimum, n, (i, v, w, f, t)) = *row;
+    let (Some(read), Some(n)) = (value(text), value(n)) else {
+        return false;
+    };
+    let want = PluralOperands { n, i, v, w, f, t };
+    operands_of(read, minimum) == want && operands_of_number(read, minimum) == want
 }
 
 /// A number's category as a cardinal and as an ordinal.
@@ -57,14 +55,25 @@ const CATEGORIES: &[(&str, PluralCategory, PluralCategory)] = &[
     ("1.5", PluralCategory::OTHER, PluralCategory::OTHER),
 ];
 
+fn is_category(kind: PluralRuleType, operands: &PluralOperands, category: PluralCategory) -> bool {
+    EnglishPlurals.select(kind, operands) == category
+}
+
+fn has_categories(row: &(&str, PluralCategory, PluralCategory)) -> bool {
+    let Some(number) = number(row.0) else {
+        return false;
+    };
+    let operands = PluralOperands::from(&number);
+    is_category(PluralRuleType::CARDINAL, &operands, row.1)
+        && is_category(PluralRuleType::ORDINAL, &operands, row.2)
+}
+
 #[test]
-fn english_categories(rt: HostRuntime) -> Result<(), Fail> {
-    for (text, cardinal, ordinal) in CATEGORIES {
-        let operands = PluralOperands::from(&number(*text)?);
-        let found = EnglishPlurals.select(PluralRuleType::CARDINAL, &operands);
-        assert!(rt; found == *cardinal, "{text}");
-        let found = EnglishPlurals.select(PluralRuleType::ORDINAL, &operands);
-        assert!(rt; found == *ordinal, "{text}");
+fn operands_and_english_categories(rt: HostRuntime) {
+    for row in OPERANDS {
+        assert!(rt; has_operands(row), "at {}", row.0);
     }
-    Ok(())
+    for row in CATEGORIES {
+        assert!(rt; has_categories(row), "at {}", row.0);
+    }
 }

@@ -1,29 +1,40 @@
 //! Words of options.
 use fluent_intl::{FluentNumberCurrencyDisplayStyle, FluentNumberStyle, FluentNumberType};
+use std::process::Abort;
 
-#[test]
-fn words_of_types(rt: HostRuntime) {
-    assert!(rt; FluentNumberType::from("ordinal") == FluentNumberType::Ordinal);
-    assert!(rt; FluentNumberType::from("cardinal") == FluentNumberType::Cardinal);
-    assert!(rt; FluentNumberType::from("Ordinal") == FluentNumberType::default());
+const TYPES: &[(&str, FluentNumberType)] = &[
+    ("ordinal", FluentNumberType::Ordinal),
+    ("cardinal", FluentNumberType::Cardinal),
+    ("Ordinal", FluentNumberType::Cardinal),
+];
+
+const STYLES: &[(&str, FluentNumberStyle)] = &[
+    ("currency", FluentNumberStyle::Currency),
+    ("percent", FluentNumberStyle::Percent),
+    ("decimal", FluentNumberStyle::Decimal),
+    ("", FluentNumberStyle::Decimal),
+];
+
+const CURRENCY_DISPLAYS: &[(&str, FluentNumberCurrencyDisplayStyle)] = &[
+    ("symbol", FluentNumberCurrencyDisplayStyle::Symbol),
+    ("code", FluentNumberCurrencyDisplayStyle::Code),
+    ("name", FluentNumberCurrencyDisplayStyle::Name),
+    ("names", FluentNumberCurrencyDisplayStyle::Symbol),
+];
+
+/// That each word stands for the value beside it.
+fn stand_for<T: Copy + PartialEq + From<&'static str>>(
+    rt: &impl Abort,
+    rows: &[(&'static str, T)],
+) {
+    for (word, value) in rows {
+        assert!(rt; T::from(*word) == *value, "at {word}");
+    }
 }
 
 #[test]
-fn words_of_styles(rt: HostRuntime) {
-    assert!(rt; FluentNumberStyle::from("currency") == FluentNumberStyle::Currency);
-    assert!(rt; FluentNumberStyle::from("percent") == FluentNumberStyle::Percent);
-    assert!(rt; FluentNumberStyle::from("decimal") == FluentNumberStyle::Decimal);
-    assert!(rt; FluentNumberStyle::from("") == FluentNumberStyle::default());
-}
-
-#[test]
-fn words_of_currency_displays(rt: HostRuntime) {
-    let symbol = FluentNumberCurrencyDisplayStyle::from("symbol");
-    assert!(rt; symbol == FluentNumberCurrencyDisplayStyle::Symbol);
-    let code = FluentNumberCurrencyDisplayStyle::from("code");
-    assert!(rt; code == FluentNumberCurrencyDisplayStyle::Code);
-    let name = FluentNumberCurrencyDisplayStyle::from("name");
-    assert!(rt; name == FluentNumberCurrencyDisplayStyle::Name);
-    let other = FluentNumberCurrencyDisplayStyle::from("names");
-    assert!(rt; other == FluentNumberCurrencyDisplayStyle::default());
+fn words_stand_for_values(rt: HostRuntime) {
+    stand_for(&rt, TYPES);
+    stand_for(&rt, STYLES);
+    stand_for(&rt, CURRENCY_DISPLAYS);
 }

@@ -1,10 +1,10 @@
 //! Sources cut after each of their characters: each cut is read, and its Junk is what stands at its ranges.
+use crate::reading::read;
 use crate::shown::is_tree;
-use fluent_syntax::ast::{Entry, Resource};
-use fluent_syntax::{ParseFault, ParserError, parse_runtime};
-use std::alloc::Global;
+use fluent_syntax::ParserError;
+use fluent_syntax::ast::Entry;
+use std::alloc::{AllocError, Global};
 use std::process::Abort;
-use std::test::Fail;
 
 const ORDINALS: &str =
     "rank = { NUMBER($n, type: \"ordinal\") ->\n [1] first\n [2] second\n [3] third\n [one] {$n}st\n [two] {$n}nd\n [few] {$n}rd\n *[other] {$n}th\n}\nconfirm-modal = Are you sure?\n    .confirm = Yes\n    .cancel = No\n    .tooltip = Closing the window will lose all unsaved data.";
@@ -17,6 +17,9 @@ const MIXED: &str =
 
 const MIXED_TREE: &str =
     "!(\u{feff}a = b\r\n) -t=[(  x\u{1f602})(\n)(\n)(    ){$n}(\n)(y)] .at=[{\"\\u00e9\"}] !(? = }\r\n\n) m=[{-t(c:-1.5,)}( ){F({$b},d.e,)}] !( .x = y\n) z=[{{1}}] 6..16 77..85 126..134";
+
+/// The sources, with their trees.
+const SOURCES: &[(&str, &str)] = &[(ORDINALS, ORDINALS_TREE), (MIXED, MIXED_TREE)];
 
 /// The part of a source between two places.
 fn part_of<'x>(source: &'x str, start: usize, end: usize) -> Option<&'x str> {
@@ -33,10 +36,10 @@ fn stands_at(source: &str, range: &ParserError, junk: &str, done: usize) -> bool
 }
 
 /// Each Junk of the tree stands in the source at the range of its error, behind the one before.
-fn junk_stands_in(source: &str, resource: &Resource, errors: &[ParserError]) -> bool {
+fn junk_stands_in(source: &str, body: &[Entry], errors: &[ParserError]) -> bool {
     let mut ranges = errors.iter();
     let mut done = 0;
-    for entry in resource.body.iter() {
+    for entry in body {
         if let Entry::Junk { content } = entry {
             match ranges.next() {
                 Some(range) if stands_at(source, range, *content, done) => done = range.end,
@@ -47,34 +50,31 @@ fn junk_stands_in(source: &str, resource: &Resource, errors: &[ParserError]) -> 
     ranges.next().is_none()
 }
 
-fn is_read(alloc: Global, source: &str) -> Result<bool, Fail> {
-    match parse_runtime(alloc, source) {
-        Ok(resource) => Ok(junk_stands_in(source, &resource, &[])),
-        Err(ParseFault::Parser(resource, errors)) => {
-            Ok(!errors.is_empty() && junk_stands_in(source, &resource, errors.as_slice()))
-        }
-        Err(ParseFault::Memory) => Err(Fail::from("no memory")),
-    }
+fn is_read(alloc: Global, source: &str) -> Result<bool, AllocError> {
+    let (resource, errors) = read(alloc, source)?;
+    let body = resource.body.as_slice();
+    Ok(match &errors {
+        Some(errors) => !errors.is_empty() && junk_stands_in(source, body, errors.as_slice()),
+        None => junk_stands_in(source, body, &[]),
+    })
 }
 
 /// Each cut of a source is read.
-fn are_read(rt: &impl Abort, alloc: Global, source: &str) -> Result<(), Fail> {
+fn cuts_are_read(rt: &impl Abort, alloc: Global, source: &str) -> Result<(), AllocError> {
     for end in 0..source.len() {
         if let Some((cut, _)) = source.split_at_checked(end) {
-            assert!(rt; is_read(alloc, cut)?, "cut at {end}");
+            let holds = is_read(alloc, cut)?;
+            assert!(rt; holds, "cut at {end}");
         }
     }
     Ok(())
 }
 
 #[test]
-fn each_cut_is_read(rt: HostRuntime) -> Result<(), Fail> {
-    are_read(&rt, rt.alloc(), ORDINALS)?;
-    are_read(&rt, rt.alloc(), MIXED)
-}
-
-#[test]
-fn the_whole_is_read(rt: HostRuntime) -> Result<(), Fail> {
-    is_tree(&rt, rt.alloc(), ORDINALS, ORDINALS_TREE)?;
-    is_tree(&rt, rt.alloc(), MIXED, MIXED_TREE)
+fn each_cut_and_the_whole_are_read(rt: HostRuntime) -> Result<(), AllocError> {
+    for (source, tree) in SOURCES {
+        cuts_are_read(&rt, rt.alloc(), *source)?;
+        is_tree(&rt, rt.alloc(), *source, *tree)?;
+    }
+    Ok(())
 }

@@ -1,11 +1,9 @@
 //! Escapes of string literals: texts that the standard gives, and what becomes of a writer that fails.
-use crate::writers::{Slow, slow_writer};
+use crate::writers::{Slow, has_counts, slow_writer};
 use fluent_syntax::{Counting, WriteFault, unescape_unicode, unescape_unicode_to_string};
-use std::alloc::Global;
+use std::alloc::{AllocError, Global};
 use std::borrow::CowStr;
 use std::io;
-use std::process::Abort;
-use std::test::Fail;
 
 /// A quoted text, and what it means.
 const ESCAPES: &[(&str, &str)] = &[
@@ -35,31 +33,23 @@ const ESCAPES: &[(&str, &str)] = &[
 fn is_written(alloc: Global, text: &str, meaning: &str) -> bool {
     let mut w = slow_writer(alloc, 1, 1000);
     unescape_unicode(&mut w, text).is_ok()
-        && w.failed() == 0
-        && w.empty() == 0
+        && has_counts(&w, (0, 0))
         && w.into_inner().taken.as_slice() == meaning.as_bytes()
 }
 
-#[test]
-fn writes_what_escapes_mean(rt: HostRuntime) {
-    for (text, meaning) in ESCAPES {
-        assert!(rt; is_written(rt.alloc(), *text, *meaning), "of {text:?}");
-    }
-}
-
 /// That the text that is made is the meaning, lent where there is no backslash.
-fn is_made(rt: &impl Abort, alloc: Global, text: &str, meaning: &str) -> Result<(), Fail> {
+fn is_made(alloc: Global, text: &str, meaning: &str) -> Result<bool, AllocError> {
     let made = unescape_unicode_to_string(alloc, text)?;
-    assert!(rt; made.as_str() == meaning, "of {text:?}");
     let lent = matches!(&made, CowStr::Borrowed(_));
-    assert!(rt; lent != text.contains('\\'), "of {text:?}");
-    Ok(())
+    Ok(made.as_str() == meaning && lent != text.contains('\\'))
 }
 
 #[test]
-fn makes_the_same_text(rt: HostRuntime) -> Result<(), Fail> {
+fn texts_are_what_escapes_mean(rt: HostRuntime) -> Result<(), AllocError> {
     for (text, meaning) in ESCAPES {
-        is_made(&rt, rt.alloc(), *text, *meaning)?;
+        let written = is_written(rt.alloc(), *text, *meaning);
+        let made = is_made(rt.alloc(), *text, *meaning)?;
+        assert!(rt; written && made, "of {text:?}");
     }
     Ok(())
 }
@@ -72,13 +62,19 @@ fn is_refused(w: &mut Counting<Slow>) -> bool {
     }
 }
 
+/// That a writer fails after its good calls, with a front of the text.
+fn fails_after(alloc: Global, good: u64) -> bool {
+    let mut w = slow_writer(alloc, 1, good);
+    is_refused(&mut w)
+        && has_counts(&w, (1, 0))
+        && "a\\é"
+            .as_bytes()
+            .starts_with(w.into_inner().taken.as_slice())
+}
+
 #[test]
 fn a_writer_that_fails(rt: HostRuntime) {
     for good in 0..4 {
-        let mut w = slow_writer(rt.alloc(), 1, good);
-        assert!(rt; is_refused(&mut w));
-        assert!(rt; w.failed() == 1 && w.empty() == 0);
-        let taken = w.into_inner().taken;
-        assert!(rt; "a\\é".as_bytes().starts_with(taken.as_slice()));
+        assert!(rt; fails_after(rt.alloc(), good), "after {good}");
     }
 }

@@ -10,6 +10,8 @@ mod equality;
 #[cfg(test)]
 mod escapes;
 #[cfg(test)]
+mod reading;
+#[cfg(test)]
 mod shown;
 #[cfg(test)]
 mod sources;

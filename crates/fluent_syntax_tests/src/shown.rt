@@ -1,175 +1,213 @@
 //! A short form of what the reader gives.
+use crate::reading::read;
+use fluent_syntax::ParserError;
 use fluent_syntax::ast::{
-    Attribute, CallArguments, Entry, Expression, Identifier, InlineExpression, Pattern,
-    PatternElement, Variant, VariantKey,
+    Attribute, CallArguments, Entry, Expression, Identifier, InlineExpression, NamedArgument,
+    Pattern, PatternElement, Variant, VariantKey,
 };
-use fluent_syntax::{ParseFault, parse_runtime};
 use std::alloc::{AllocError, Global};
 use std::process::Abort;
-use std::test::Fail;
 
 /// What a source is read as. Its entries in order: `id=[..]` a message, `-id=[..]` a term, each with ` .id=[..]` for an
 /// attribute, `!(..)` Junk. In a pattern `(..)` is a text and `{..}` a placeable; a select is `selector->` and its
 /// variants, `key[..]`, with `*` before the default and `#` before a number. Each argument ends in a comma.
 /// At the end stands the byte range of each Junk.
-pub fn shown(alloc: Global, source: &str) -> Result<String, Fail> {
-    match parse_runtime(alloc, source) {
-        Ok(resource) => Ok(entries(alloc, resource.body.as_slice())?),
-        Err(ParseFault::Parser(resource, errors)) => {
-            let mut out = entries(alloc, resource.body.as_slice())?;
-            for e in errors.iter() {
-                write!(out, " {}..{}", e.start, e.end)?;
-            }
-            Ok(out)
+pub fn shown(alloc: Global, source: &str) -> Result<String, AllocError> {
+    let (resource, errors) = read(alloc, source)?;
+    let mut out = Text {
+        text: String::new(alloc),
+        refused: false,
+    };
+    entries(&mut out, resource.body.as_slice());
+    if let Some(errors) = &errors {
+        ranges(&mut out, errors.as_slice());
+    }
+    whole(out)
+}
+
+/// A text that grows, and whether memory for a part of it was refused.
+#[derive(Drop)]
+struct Text {
+    text: String,
+    refused: bool,
+}
+
+/// The text, where no memory was refused.
+fn whole(out: Text) -> Result<String, AllocError> {
+    let Text { text, refused } = out;
+    if refused { Err(AllocError) } else { Ok(text) }
+}
+
+fn put(out: &mut Text, text: &str) {
+    if out.text.push_str(text).is_err() {
+        out.refused = true;
+    }
+}
+
+/// Puts texts, one behind the other.
+fn add(out: &mut Text, texts: &[&str]) {
+    for text in texts {
+        put(out, *text);
+    }
+}
+
+fn ranges(out: &mut Text, errors: &[ParserError]) {
+    for e in errors {
+        if write!(out.text, " {}..{}", e.start, e.end).is_err() {
+            out.refused = true;
         }
-        Err(ParseFault::Memory) => Err(Fail::from("no memory")),
     }
 }
 
 /// That a source is read as a tree.
-pub fn is_tree(rt: &impl Abort, alloc: Global, source: &str, tree: &str) -> Result<(), Fail> {
+pub fn is_tree(rt: &impl Abort, alloc: Global, source: &str, tree: &str) -> Result<(), AllocError> {
     let found = shown(alloc, source)?;
-    assert!(rt; found.as_str() == tree, "of {source:?}");
+    is_same(rt, source, found.as_str(), tree);
     Ok(())
 }
 
-fn entries(alloc: Global, body: &[Entry]) -> Result<String, AllocError> {
-    let mut out = String::new(alloc);
-    for e in body.iter() {
-        if !out.is_empty() {
-            out.push_str(" ")?;
-        }
-        entry(&mut out, e)?;
-    }
-    Ok(out)
+fn is_same(rt: &impl Abort, source: &str, found: &str, tree: &str) {
+    assert!(rt; found == tree, "of {source:?}");
 }
 
-fn entry(out: &mut String, entry: &Entry) -> Result<(), AllocError> {
+fn entries(out: &mut Text, body: &[Entry]) {
+    let mut before = "";
+    for e in body {
+        put(out, before);
+        entry(out, e);
+        before = " ";
+    }
+}
+
+fn entry(out: &mut Text, entry: &Entry) {
     match entry {
         Entry::Message(m) => {
-            write!(out, "{}=", m.id.name)?;
+            add(out, &[m.id.name, "="]);
             if let Some(value) = &m.value {
-                pattern(out, value)?;
+                pattern(out, value);
             }
             attributes(out, m.attributes.as_slice())
         }
         Entry::Term(t) => {
-            write!(out, "-{}=", t.id.name)?;
-            pattern(out, &t.value)?;
+            add(out, &["-", t.id.name, "="]);
+            pattern(out, &t.value);
             attributes(out, t.attributes.as_slice())
         }
-        Entry::Junk { content } => write!(out, "!({content})"),
+        Entry::Junk { content } => add(out, &["!(", *content, ")"]),
     }
 }
 
-fn attributes(out: &mut String, attributes: &[Attribute]) -> Result<(), AllocError> {
-    for a in attributes.iter() {
-        write!(out, " .{}=", a.id.name)?;
-        pattern(out, &a.value)?;
+fn attributes(out: &mut Text, attributes: &[Attribute]) {
+    for a in attributes {
+        add(out, &[" .", a.id.name, "="]);
+        pattern(out, &a.value);
     }
-    Ok(())
 }
 
 #[cycle(shown)]
-fn pattern(out: &mut String, pattern: &Pattern) -> Result<(), AllocError> {
-    out.push_str("[")?;
+fn pattern(out: &mut Text, pattern: &Pattern) {
+    put(out, "[");
     for e in pattern.elements.iter() {
-        element(out, e)?;
+        element(out, e);
     }
-    out.push_str("]")
+    put(out, "]");
 }
 
 #[cycle(shown)]
-fn element(out: &mut String, element: &PatternElement) -> Result<(), AllocError> {
+fn element(out: &mut Text, element: &PatternElement) {
     match element {
-        PatternElement::TextElement { value } => write!(out, "({value})"),
-        PatternElement::Placeable { expression: x } => {
-            out.push_str("{")?;
-            expression(out, x)?;
-            out.push_str("}")
-        }
+        PatternElement::TextElement { value } => add(out, &["(", *value, ")"]),
+        PatternElement::Placeable { expression: x } => placeable(out, x),
     }
 }
 
 #[cycle(shown)]
-fn expression(out: &mut String, expression: &Expression) -> Result<(), AllocError> {
+fn placeable(out: &mut Text, inside: &Expression) {
+    put(out, "{");
+    expression(out, inside);
+    put(out, "}");
+}
+
+#[cycle(shown)]
+fn expression(out: &mut Text, expression: &Expression) {
     match expression {
         Expression::Inline(x) => inline(out, x),
         Expression::Select { selector, variants } => {
-            inline(out, selector)?;
-            out.push_str("->")?;
+            inline(out, selector);
+            put(out, "->");
             for v in variants.iter() {
-                variant(out, v)?;
+                variant(out, v);
             }
-            Ok(())
         }
     }
 }
 
 #[cycle(shown)]
-fn variant(out: &mut String, variant: &Variant) -> Result<(), AllocError> {
+fn variant(out: &mut Text, variant: &Variant) {
     if variant.default {
-        out.push_str("*")?;
+        put(out, "*");
     }
-    match &variant.key {
-        VariantKey::Identifier { name } => out.push_str(name)?,
-        VariantKey::NumberLiteral { value } => write!(out, "#{value}")?,
-    }
+    key(out, &variant.key);
     pattern(out, &variant.value)
 }
 
+fn key(out: &mut Text, key: &VariantKey) {
+    match key {
+        VariantKey::Identifier { name } => put(out, *name),
+        VariantKey::NumberLiteral { value } => add(out, &["#", *value]),
+    }
+}
+
 #[cycle(shown)]
-fn inline(out: &mut String, inline: &InlineExpression) -> Result<(), AllocError> {
+fn inline(out: &mut Text, inline: &InlineExpression) {
     match inline {
-        InlineExpression::StringLiteral { value } => write!(out, "\"{value}\""),
-        InlineExpression::NumberLiteral { value } => out.push_str(value),
+        InlineExpression::StringLiteral { value } => add(out, &["\"", *value, "\""]),
+        InlineExpression::NumberLiteral { value } => put(out, *value),
         InlineExpression::FunctionReference { id, arguments: a } => {
-            write!(out, "{}", id.name)?;
+            put(out, id.name);
             arguments(out, a)
         }
-        InlineExpression::MessageReference { id, attribute: a } => {
-            out.push_str(id.name)?;
-            attribute(out, a)
-        }
+        InlineExpression::MessageReference { id, attribute: a } => name(out, "", id, a),
         InlineExpression::TermReference {
             id,
             attribute: a,
             arguments: b,
         } => {
-            write!(out, "-{}", id.name)?;
-            attribute(out, a)?;
+            name(out, "-", id, a);
             match b {
                 Some(b) => arguments(out, b),
-                None => Ok(()),
+                None => {}
             }
         }
-        InlineExpression::VariableReference { id } => write!(out, "${}", id.name),
-        InlineExpression::Placeable { expression: x } => {
-            out.push_str("{")?;
-            expression(out, x)?;
-            out.push_str("}")
-        }
+        InlineExpression::VariableReference { id } => add(out, &["$", id.name]),
+        InlineExpression::Placeable { expression: x } => placeable(out, x),
     }
 }
 
-fn attribute(out: &mut String, attribute: &Option<Identifier>) -> Result<(), AllocError> {
+/// A name behind its sign, with the attribute.
+fn name(out: &mut Text, sign: &str, id: &Identifier, attribute: &Option<Identifier>) {
     match attribute {
-        Some(a) => write!(out, ".{}", a.name),
-        None => Ok(()),
+        Some(a) => add(out, &[sign, id.name, ".", a.name]),
+        None => add(out, &[sign, id.name]),
     }
 }
 
 #[cycle(shown)]
-fn arguments(out: &mut String, arguments: &CallArguments) -> Result<(), AllocError> {
-    out.push_str("(")?;
+fn arguments(out: &mut Text, arguments: &CallArguments) {
+    put(out, "(");
     for x in arguments.positional.iter() {
-        inline(out, x)?;
-        out.push_str(",")?;
+        inline(out, x);
+        put(out, ",");
     }
     for n in arguments.named.iter() {
-        write!(out, "{}:", n.name.name)?;
-        inline(out, &n.value)?;
-        out.push_str(",")?;
+        named(out, n);
     }
-    out.push_str(")")
+    put(out, ")");
+}
+
+#[cycle(shown)]
+fn named(out: &mut Text, argument: &NamedArgument) {
+    add(out, &[argument.name.name, ":"]);
+    inline(out, &argument.value);
+    put(out, ",");
 }

@@ -6,39 +6,17 @@ use fluent_syntax::laws::{
     texts_are_slices,
 };
 use fluent_syntax::{Counting, WriteFault};
-use std::alloc::{AllocError, Global};
+use std::alloc::Global;
 use std::io;
-use std::process::Abort;
-use std::test::Fail;
-
-fn of_chunks(source: &str) {
-    chunks_make_up(source);
-}
-
-fn of_ranges(source: &str) {
-    junk_ranges_in_order(source);
-}
-
-fn of_trees(source: &str) {
-    entries_are_well_formed(source);
-}
-
-fn of_slices(source: &str) {
-    texts_are_slices(source);
-}
-
-fn of_what_follows(source: &str) {
-    read_from_there_on(source);
-}
 
 #[test]
 fn laws_speak_of_any_source() {
     let source = "a = 1\nb = {\n";
-    of_chunks(source);
-    of_ranges(source);
-    of_trees(source);
-    of_slices(source);
-    of_what_follows(source);
+    chunks_make_up(source);
+    junk_ranges_in_order(source);
+    entries_are_well_formed(source);
+    texts_are_slices(source);
+    read_from_there_on(source);
 }
 
 /// Takes at most `step` bytes a call, and fails at the call that follows the first `good` ones.
@@ -75,33 +53,49 @@ pub fn slow_writer(alloc: Global, step: usize, good: u64) -> Counting<Slow> {
     })
 }
 
-#[test]
-fn writes_byte_by_byte(rt: HostRuntime) {
-    let mut w = slow_writer(rt.alloc(), 1, 100);
-    assert!(rt; put(&mut w, b"hello").is_ok());
-    assert!(rt; put(&mut w, b"").is_ok());
-    assert_eq!(rt; (w.failed(), w.empty()), (0, 0));
-    assert_eq!(rt; w.into_inner().taken.as_slice(), b"hello".as_slice());
+/// What a writer takes in a call, how many calls are good, what becomes of `hello`, what the writer has of it then, and
+/// the counts of calls that failed and that took nothing.
+type Row = (usize, u64, &'static str, &'static str, (u64, u64));
+
+const WRITERS: &[Row] = &[
+    (1, 100, "whole", "hello", (0, 0)),
+    (0, 100, "nothing taken", "", (0, 1)),
+    (2, 2, "broken", "hell", (1, 0)),
+];
+
+/// What becomes of a text.
+fn outcome(w: &mut Counting<Slow>, text: &[u8]) -> &'static str {
+    match &put(w, text) {
+        Ok(()) => "whole",
+        Err(WriteFault::Zero) => "nothing taken",
+        Err(WriteFault::Writer(e)) if e.kind() == io::ErrorKind::BrokenPipe => "broken",
+        Err(_) => "another fault",
+    }
+}
+
+pub fn has_counts(w: &Counting<Slow>, counts: (u64, u64)) -> bool {
+    w.failed() == counts.0 && w.empty() == counts.1
+}
+
+/// That `hello` is written as the row says, and then nothing, which needs no call.
+fn is_written(alloc: Global, row: &Row) -> bool {
+    let mut w = slow_writer(alloc, row.0, row.1);
+    outcome(&mut w, b"hello") == row.2
+        && outcome(&mut w, b"") == "whole"
+        && has_counts(&w, row.4)
+        && w.into_inner().taken.as_slice() == row.3.as_bytes()
+}
+
+/// That one write of no bytes counts as none that takes nothing.
+fn is_not_counted(alloc: Global) -> bool {
+    let mut w = slow_writer(alloc, 0, 100);
+    w.write(b"").is_ok() && has_counts(&w, (0, 0))
 }
 
 #[test]
-fn counts_a_write_that_takes_nothing(rt: HostRuntime) {
-    let mut w = slow_writer(rt.alloc(), 0, 100);
-    assert!(rt; matches!(&put(&mut w, b"hello"), Err(WriteFault::Zero)));
-    assert_eq!(rt; (w.failed(), w.empty()), (0, 1));
-    assert!(rt; w.write(b"").is_ok());
-    assert_eq!(rt; (w.failed(), w.empty()), (0, 1));
-}
-
-#[test]
-fn counts_a_write_that_fails(rt: HostRuntime) {
-    let mut w = slow_writer(rt.alloc(), 2, 2);
-    let outcome = put(&mut w, b"hello");
-    let broken = match &outcome {
-        Err(WriteFault::Writer(e)) => e.kind() == io::ErrorKind::BrokenPipe,
-        _ => false,
-    };
-    assert!(rt; broken);
-    assert_eq!(rt; (w.failed(), w.empty()), (1, 0));
-    assert_eq!(rt; w.into_inner().taken.as_slice(), b"hell".as_slice());
+fn writers_that_fail(rt: HostRuntime) {
+    for row in WRITERS {
+        assert!(rt; is_written(rt.alloc(), row), "at {}", row.2);
+    }
+    assert!(rt; is_not_counted(rt.alloc()));
 }

@@ -1,8 +1,5 @@
 //! Attributes and terms.
-use crate::sources::read_as;
-use std::test::Fail;
-
-const ROWS_1: [(&str, &str); 18] = [
+pub const ROWS: &[(&str, &str)] = &[
     ("a = b\n .c = d", "a=[(b)] .c=[(d)]"),
     ("a = b\n    .c = d\n    .e = f", "a=[(b)] .c=[(d)] .e=[(f)]"),
     ("a =\n .b = c", "a= .b=[(c)]"),
@@ -27,9 +24,6 @@ const ROWS_1: [(&str, &str); 18] = [
     ),
     ("a = b\n .c d", "a=[(b)] !( .c d) 6..11"),
     ("a = b\n . c = d", "a=[(b)] !( . c = d) 6..14"),
-];
-
-const ROWS_2: [(&str, &str); 18] = [
     ("a = b\n .1 = d", "a=[(b)] !( .1 = d) 6..13"),
     ("a =\n .b =", "!(a =\n .b =) 0..9"),
     ("a\n .b = c", "!(a\n .b = c) 0..9"),
@@ -49,13 +43,3 @@ const ROWS_2: [(&str, &str); 18] = [
     ("-a.b = c", "!(-a.b = c) 0..8"),
     ("a = b\n-a = c\nd = e", "a=[(b)] -a=[(c)] d=[(e)]"),
 ];
-
-#[test]
-fn attributes_1(rt: HostRuntime) -> Result<(), Fail> {
-    read_as(&rt, rt.alloc(), &ROWS_1)
-}
-
-#[test]
-fn attributes_2(rt: HostRuntime) -> Result<(), Fail> {
-    read_as(&rt, rt.alloc(), &ROWS_2)
-}

@@ -1,8 +1,5 @@
 //! Calls of functions and terms, and their arguments.
-use crate::sources::read_as;
-use std::test::Fail;
-
-const ROWS_1: [(&str, &str); 24] = [
+pub const ROWS: &[(&str, &str)] = &[
     ("a = { F() }", "a=[{F()}]"),
     ("a = {F( )}{F(\n)}", "a=[{F()}{F()}]"),
     ("a = { F () }{ F\n() }", "a=[{F()}{F()}]"),
@@ -42,9 +39,6 @@ const ROWS_1: [(&str, &str); 24] = [
     ("a = { \"b\"() }", "!(a = { \"b\"() }) 0..13"),
     ("a = { F(f()) }", "!(a = { F(f()) }) 0..14"),
     ("a = { F( }", "!(a = { F( }) 0..10"),
-];
-
-const ROWS_2: [(&str, &str); 24] = [
     ("a = { F(1 }", "!(a = { F(1 }) 0..11"),
     ("a = { F) }", "!(a = { F) }) 0..10"),
     ("a = { F()() }", "!(a = { F()() }) 0..13"),
@@ -76,13 +70,3 @@ const ROWS_2: [(&str, &str); 24] = [
         "!(a = { F($b ->\n *[c] d\n) }) 0..25",
     ),
 ];
-
-#[test]
-fn calls_1(rt: HostRuntime) -> Result<(), Fail> {
-    read_as(&rt, rt.alloc(), &ROWS_1)
-}
-
-#[test]
-fn calls_2(rt: HostRuntime) -> Result<(), Fail> {
-    read_as(&rt, rt.alloc(), &ROWS_2)
-}

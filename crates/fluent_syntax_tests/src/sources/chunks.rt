@@ -1,8 +1,5 @@
 //! Comments, blank lines and Junk, among entries and alone.
-use crate::sources::read_as;
-use std::test::Fail;
-
-const ROWS_1: [(&str, &str); 23] = [
+pub const ROWS: &[(&str, &str)] = &[
     ("\n", ""),
     ("   ", ""),
     (" \n  \n ", ""),
@@ -29,9 +26,6 @@ const ROWS_1: [(&str, &str); 23] = [
     ("?\na = b", "!(?\n) a=[(b)] 0..2"),
     ("a = b\n?", "a=[(b)] !(?) 6..7"),
     ("a = b\n?\nc = d", "a=[(b)] !(?\n) c=[(d)] 6..8"),
-];
-
-const ROWS_2: [(&str, &str); 22] = [
     (
         "?\na = b\n?\nc = d\n?",
         "!(?\n) a=[(b)] !(?\n) c=[(d)] !(?) 0..2 8..10 16..17",
@@ -61,13 +55,3 @@ const ROWS_2: [(&str, &str); 22] = [
     ("{ $a }\nb = c", "!({ $a }\n) b=[(c)] 0..7"),
     ("a = b\n{ $c }\nd = e", "a=[(b\n){$c}] d=[(e)]"),
 ];
-
-#[test]
-fn chunks_1(rt: HostRuntime) -> Result<(), Fail> {
-    read_as(&rt, rt.alloc(), &ROWS_1)
-}
-
-#[test]
-fn chunks_2(rt: HostRuntime) -> Result<(), Fail> {
-    read_as(&rt, rt.alloc(), &ROWS_2)
-}

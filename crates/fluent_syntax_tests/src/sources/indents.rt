@@ -1,8 +1,5 @@
 //! Values of several lines: indents, blank lines and both ends.
-use crate::sources::read_as;
-use std::test::Fail;
-
-const ROWS_1: [(&str, &str); 18] = [
+pub const ROWS: &[(&str, &str)] = &[
     ("a =\n  b", "a=[(b)]"),
     ("a =\n b\n c", "a=[(b\n)(c)]"),
     ("a = b\n    c", "a=[(b\n)(c)]"),
@@ -27,9 +24,6 @@ const ROWS_1: [(&str, &str); 18] = [
     ("a = b  \n  c  \n  d  ", "a=[(b  \n)(c  \n)(d)]"),
     ("a = b\n   ", "a=[(b)]"),
     ("a = b\n\n   \n\n", "a=[(b)]"),
-];
-
-const ROWS_2: [(&str, &str); 17] = [
     ("a = b\n\nc = d", "a=[(b)] c=[(d)]"),
     ("a = b\nc", "a=[(b)] !(c) 6..7"),
     ("a = b\n c = d", "a=[(b\n)(c = d)]"),
@@ -48,13 +42,3 @@ const ROWS_2: [(&str, &str); 17] = [
     ("a = b\n c\n[d", "a=[(b\n)(c)] !([d) 9..11"),
     ("a = é\n   ü\n  世", "a=[(é\n)( ü\n)(世)]"),
 ];
-
-#[test]
-fn indents_1(rt: HostRuntime) -> Result<(), Fail> {
-    read_as(&rt, rt.alloc(), &ROWS_1)
-}
-
-#[test]
-fn indents_2(rt: HostRuntime) -> Result<(), Fail> {
-    read_as(&rt, rt.alloc(), &ROWS_2)
-}

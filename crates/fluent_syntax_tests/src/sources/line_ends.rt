@@ -1,8 +1,5 @@
 //! Line ends, carriage returns, tabs and other characters that are text.
-use crate::sources::read_as;
-use std::test::Fail;
-
-const ROWS_1: [(&str, &str); 21] = [
+pub const ROWS: &[(&str, &str)] = &[
     ("a = b\r\n", "a=[(b)]"),
     ("a = b\r\nc = d\r\n", "a=[(b)] c=[(d)]"),
     ("a = b\r", "a=[(b\r)]"),
@@ -24,9 +21,6 @@ const ROWS_1: [(&str, &str); 21] = [
     ("a = b  \r\n", "a=[(b)]"),
     ("a = b\r  ", "a=[(b\r)]"),
     ("\r", "!(\r) 0..1"),
-];
-
-const ROWS_2: [(&str, &str); 20] = [
     ("\r\n", ""),
     ("\n\r\n\n", ""),
     ("a =\tb", "a=[(\tb)]"),
@@ -48,13 +42,3 @@ const ROWS_2: [(&str, &str); 20] = [
     ("\0", "!(\0) 0..1"),
     ("a = b\u{A0}", "a=[(b\u{A0})]"),
 ];
-
-#[test]
-fn line_ends_1(rt: HostRuntime) -> Result<(), Fail> {
-    read_as(&rt, rt.alloc(), &ROWS_1)
-}
-
-#[test]
-fn line_ends_2(rt: HostRuntime) -> Result<(), Fail> {
-    read_as(&rt, rt.alloc(), &ROWS_2)
-}

@@ -1,8 +1,5 @@
 //! Messages of one line: names, the equals sign, spaces.
-use crate::sources::read_as;
-use std::test::Fail;
-
-const ROWS_1: [(&str, &str); 17] = [
+pub const ROWS: &[(&str, &str)] = &[
     ("", ""),
     ("a = b", "a=[(b)]"),
     ("a=b", "a=[(b)]"),
@@ -20,9 +17,6 @@ const ROWS_1: [(&str, &str); 17] = [
     ("a = *b", "a=[(*b)]"),
     ("a = .b", "a=[(.b)]"),
     ("a = # b", "a=[(# b)]"),
-];
-
-const ROWS_2: [(&str, &str); 16] = [
     ("a = \"b\"", "a=[(\"b\")]"),
     ("a = $b -c 1", "a=[($b -c 1)]"),
     ("a", "!(a) 0..1"),
@@ -40,13 +34,3 @@ const ROWS_2: [(&str, &str); 16] = [
     ("a\n= b", "!(a\n= b) 0..5"),
     ("a =\nb = c", "!(a =\n) b=[(c)] 0..4"),
 ];
-
-#[test]
-fn messages_1(rt: HostRuntime) -> Result<(), Fail> {
-    read_as(&rt, rt.alloc(), &ROWS_1)
-}
-
-#[test]
-fn messages_2(rt: HostRuntime) -> Result<(), Fail> {
-    read_as(&rt, rt.alloc(), &ROWS_2)
-}

@@ -1,8 +1,5 @@
 //! What stands between braces: literals and references.
-use crate::sources::read_as;
-use std::test::Fail;
-
-const ROWS_1: [(&str, &str); 22] = [
+pub const ROWS: &[(&str, &str)] = &[
     ("a = {$b}", "a=[{$b}]"),
     ("a = {\n\n  $b\n\n}", "a=[{$b}]"),
     ("a = {\r\n$b\r\n}", "a=[{$b}]"),
@@ -28,9 +25,6 @@ const ROWS_1: [(&str, &str); 22] = [
     ("a = { \"b }", "!(a = { \"b }) 0..10"),
     ("a = { \"b\n\" }", "!(a = { \"b\n\" }) 0..12"),
     ("a = { \"b\r\n\" }", "!(a = { \"b\r\n\" }) 0..13"),
-];
-
-const ROWS_2: [(&str, &str); 22] = [
     ("a = { \"b\" }}", "!(a = { \"b\" }}) 0..12"),
     ("a = { \"b\" \"c\" }", "!(a = { \"b\" \"c\" }) 0..15"),
     (
@@ -56,9 +50,6 @@ const ROWS_2: [(&str, &str); 22] = [
     ("a = { - b }", "!(a = { - b }) 0..11"),
     ("a = { $B-1_ }", "a=[{$B-1_}]"),
     ("a = { $ b }", "!(a = { $ b }) 0..11"),
-];
-
-const ROWS_3: [(&str, &str); 20] = [
     ("a = { $1 }", "!(a = { $1 }) 0..10"),
     ("a = { $b.c }", "!(a = { $b.c }) 0..12"),
     ("a = { $b(1) }", "!(a = { $b(1) }) 0..13"),
@@ -80,18 +71,3 @@ const ROWS_3: [(&str, &str); 20] = [
     ("a = { { -b.c } }", "!(a = { { -b.c } }) 0..16"),
     ("a = { $b }\n { \"c", "a=[{$b}] !( { \"c) 11..16"),
 ];
-
-#[test]
-fn placeables_1(rt: HostRuntime) -> Result<(), Fail> {
-    read_as(&rt, rt.alloc(), &ROWS_1)
-}
-
-#[test]
-fn placeables_2(rt: HostRuntime) -> Result<(), Fail> {
-    read_as(&rt, rt.alloc(), &ROWS_2)
-}
-
-#[test]
-fn placeables_3(rt: HostRuntime) -> Result<(), Fail> {
-    read_as(&rt, rt.alloc(), &ROWS_3)
-}

@@ -1,8 +1,5 @@
 //! Selects: selectors, keys, defaults and the variants' texts.
-use crate::sources::read_as;
-use std::test::Fail;
-
-const ROWS_1: [(&str, &str); 19] = [
+pub const ROWS: &[(&str, &str)] = &[
     (
         "a = { $b ->\n [c] d\n *[e] f\n }",
         "a=[{$b->c[(d)]*e[(f)]}]",
@@ -55,9 +52,6 @@ const ROWS_1: [(&str, &str); 19] = [
         "a=[{$b->*c[{$d->*e[(f)]}]}]",
     ),
     ("a = x { $b ->\n *[c] d\n } y", "a=[(x ){$b->*c[(d)]}( y)]"),
-];
-
-const ROWS_2: [(&str, &str); 19] = [
     (
         "a =\n    { $b ->\n *[c] d\n }\n  e",
         "a=[(  ){$b->*c[(d)]}(\n)(e)]",
@@ -107,9 +101,6 @@ const ROWS_2: [(&str, &str); 19] = [
     ),
     ("a = { $b -> *[c] d\n }", "!(a = { $b -> *[c] d\n }) 0..21"),
     ("a = { $b ->\n *[c] d }", "!(a = { $b ->\n *[c] d }) 0..21"),
-];
-
-const ROWS_3: [(&str, &str); 19] = [
     ("a = { $b ->\n }", "!(a = { $b ->\n }) 0..14"),
     ("a = { $b -> }", "!(a = { $b -> }) 0..13"),
     (
@@ -175,18 +166,3 @@ const ROWS_3: [(&str, &str); 19] = [
         "!(a = { $b ->\n *[c] { -d.e }\n }) 0..29",
     ),
 ];
-
-#[test]
-fn selects_1(rt: HostRuntime) -> Result<(), Fail> {
-    read_as(&rt, rt.alloc(), &ROWS_1)
-}
-
-#[test]
-fn selects_2(rt: HostRuntime) -> Result<(), Fail> {
-    read_as(&rt, rt.alloc(), &ROWS_2)
-}
-
-#[test]
-fn selects_3(rt: HostRuntime) -> Result<(), Fail> {
-    read_as(&rt, rt.alloc(), &ROWS_3)
-}

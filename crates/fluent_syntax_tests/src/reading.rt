@@ -1,0 +1,16 @@
+//! The reader, called where no contract is seen: what it reads, with Junk or without.
+use fluent_syntax::ast::Resource;
+use fluent_syntax::{ParseFault, ParserError, parse_runtime};
+use std::alloc::{AllocError, Global};
+
+/// The tree of a source, and its errors where it has Junk.
+pub fn read<'s>(
+    alloc: Global,
+    source: &'s str,
+) -> Result<(Resource<'s>, Option<Vec<ParserError>>), AllocError> {
+    match parse_runtime(alloc, source) {
+        Ok(resource) => Ok((resource, None)),
+        Err(ParseFault::Parser(resource, errors)) => Ok((resource, Some(errors))),
+        Err(ParseFault::Memory) => Err(AllocError),
+    }
+}
