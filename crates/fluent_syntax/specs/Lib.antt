@@ -8,7 +8,6 @@ pub mod Pieces
 pub mod Progress
 pub mod Expressions
 pub mod Bare
-pub mod FrontLaws
 pub mod Gathering
 pub mod Nests
 pub mod WellFormed
@@ -16,8 +15,5 @@ pub mod Unescaped
 pub mod Entries
 pub mod ContentView
 pub mod Chunks
-pub mod ChunkLaws
-pub mod TreeLaws
-pub mod SliceLaws
 pub mod Parsed
 pub mod PartView

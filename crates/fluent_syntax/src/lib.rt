@@ -1,7 +1,6 @@
 //! The reader of FTL and the escapes of its string literals, over the tree of `fluent_tree`.
 #![tactic(auto)]
 
-pub mod laws;
 mod parser;
 mod unicode;
 

@@ -1,10 +1,10 @@
 //! What no clause of `fluent_syntax` says of writers that fail.
 
-use fluent_syntax::counting::put;
-use fluent_syntax::laws::{
+use fluent_laws::{
     chunks_make_up, entries_are_well_formed, junk_ranges_in_order, read_from_there_on,
     texts_are_slices,
 };
+use fluent_syntax::counting::put;
 use fluent_syntax::{Counting, WriteFault};
 use std::alloc::Global;
 use std::io;

@@ -2,10 +2,10 @@
 use Rattle.std.proofs.Common.{◌≡◌, ℕ, List, [], ◌∷◌, ◌++◌, length, Some, None, refl, sym, ap, ◌∙◌, append_assoc, arith}
 use Rattle.std.specs.Prelude.{codes}
 use Rattle.fluent_tree.specs.Tree.{Text, Entry, message_entry, Element, text, placeable, inline, message, no_attribute, pattern_of}
-use Rattle.fluent_syntax.specs.FrontLaws.{ReadByFront, EndsEntry, nothing_more, line_breaks, entry_line}
-use Rattle.fluent_syntax.proofs.Known.{lefts}
-use Rattle.fluent_syntax.proofs.Leads.{true_false}
-use Rattle.fluent_syntax.proofs.KnownEntries.{entry_before}
+use Rattle.fluent_laws.specs.FrontLaws.{ReadByFront, EndsEntry, nothing_more, line_breaks, entry_line}
+use Rattle.fluent_laws.proofs.Known.{lefts}
+use Rattle.fluent_laws.proofs.Leads.{true_false}
+use Rattle.fluent_laws.proofs.KnownEntries.{entry_before}
 use Rattle.std.proofs.lemmas.List.{append_cancel_right}
 use Rattle.fluent_tree.specs.Parser.{Read, many_from, byte, run1}
 use Rattle.fluent_tree.specs.Lexical.{identifier, blank_inline, line_break, line_end, blank_line, blank_block, blank_turn, blank, variable_reference}

@@ -8,7 +8,7 @@ use Rattle.fluent_syntax.specs.Expressions.{digits, attribute_access, level, str
 use Rattle.fluent_syntax.specs.Entries as n
 use Rattle.fluent_syntax.specs.Entries.{attribute, entry}
 use Rattle.fluent_syntax.specs.Chunks.{comment_line, junk_line, junk}
-use Rattle.fluent_syntax.specs.FrontLaws.{TakesFront}
+use Rattle.fluent_laws.specs.FrontLaws.{TakesFront}
 use Rattle.fluent_syntax.proofs.Fronts.{takes-run1, TakesTo, Takes, takes-bind, takes-then, takes-pure}
 use Rattle.fluent_syntax.proofs.LexicalFronts.{takes-attribute_access, takes-identifier, takes-blank_inline, takes-line_end, takes-blank, takes-blank_block, takes-string_literal, takes-number_literal, takes-variant_key, takes-arrow, takes-words_after, takes-block_text}
 use Rattle.fluent_syntax.proofs.Sound.{takes-sound, sound-provided, sound-bind, sound-pure}

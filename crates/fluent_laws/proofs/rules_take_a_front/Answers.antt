@@ -1,5 +1,5 @@
-use Rattle.fluent_syntax.proofs.RuleFronts.{select_front, pattern_front}
-use Rattle.fluent_syntax.proofs.laws.rules_take_a_front.Goals as goal
+use Rattle.fluent_laws.proofs.RuleFronts.{select_front, pattern_front}
+use Rattle.fluent_laws.proofs.rules_take_a_front.Goals as goal
 
 pub returns-clause-select : goal.returns-clause-select
 returns-clause-select g depth = select_front depth g.args.source.now

@@ -3,7 +3,7 @@ use Rattle.std.proofs.Common.{◌≡◌, ℕ, zero, suc, ◌-◌, Bool, true, fa
 use Rattle.fluent_tree.specs.Tree.{Text}
 use Rattle.fluent_tree.specs.Parser.{Read, Parser, ◌>>=◌, ◌>>◌, ◌<$>◌, ◌<|>◌, and_then, otherwise, pure, refuse, many_from, turn, go_on, run, run_len}
 use Rattle.fluent_syntax.specs.Expressions.{provided, taken, source_of}
-use Rattle.fluent_syntax.specs.SliceLaws.{IsSlice}
+use Rattle.fluent_laws.specs.SliceLaws.{IsSlice}
 use Rattle.fluent_syntax.proofs.Fronts.{TakesTo, Takes}
 
 -- ---- slices

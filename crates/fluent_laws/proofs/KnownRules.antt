@@ -8,11 +8,11 @@ use Rattle.fluent_tree.specs.Lexical.{is_letter, identifier, blank, variable_ref
 use Rattle.fluent_syntax.specs.Expressions.{Level, provided, string_literal, number_literal, literal, attribute_access, message_reference, is_function_name, function_reference, optional_call, term_reference, inline_expression, named_argument, Argument, positional, by_name, argument, Gathered, add, is_well_formed, arguments_of, comma, argument_comma, last_argument, argument_list, call_arguments}
 use Rattle.fluent_syntax.proofs.Fronts.{TakesTo, takes-then, takes-pure, takes-byte}
 use Rattle.fluent_syntax.proofs.LexicalFronts.{takes-blanks}
-use Rattle.fluent_syntax.proofs.Near.{closes, Near, near-byte, near-then, near-pure, shuts-map, is_read}
-use Rattle.fluent_syntax.proofs.NearRules.{near-identifier, near-attribute_access, near-message_reference, near-variable_reference, near-blanks, shuts-number_literal}
-use Rattle.fluent_syntax.proofs.NearStrings.{near-literal, near-named_argument}
-use Rattle.fluent_syntax.proofs.Known.{Behind, Closed, closed_behind, cut, Known, Stops, Anywhere, lefts, Clash, Gives_way, way-clash, never, enters-closed, Closing, closing-bind, closing-byte, closing-provided, Fixed, fixed-near, fixed-weaker, fixed-any, fixed-bind, fixed-then, fixed-pure, fixed-map, fixed-provided, fixed-byte, fixed-or, fixed-many}
-use Rattle.fluent_syntax.proofs.Leads.{first_read, either_read, true_false, fails_at, is_blank, next, next_first, keeps-blanks, Leads, leads-bind, leads-keep, leads-byte, Starts, starts-bind, starts-or, starts-byte, starts-weaker, starts-identifier, starts-number_literal, may_start_number, clash-start}
+use Rattle.fluent_laws.proofs.Near.{closes, Near, near-byte, near-then, near-pure, shuts-map, is_read}
+use Rattle.fluent_laws.proofs.NearRules.{near-identifier, near-attribute_access, near-message_reference, near-variable_reference, near-blanks, shuts-number_literal}
+use Rattle.fluent_laws.proofs.NearStrings.{near-literal, near-named_argument}
+use Rattle.fluent_laws.proofs.Known.{Behind, Closed, closed_behind, cut, Known, Stops, Anywhere, lefts, Clash, Gives_way, way-clash, never, enters-closed, Closing, closing-bind, closing-byte, closing-provided, Fixed, fixed-near, fixed-weaker, fixed-any, fixed-bind, fixed-then, fixed-pure, fixed-map, fixed-provided, fixed-byte, fixed-or, fixed-many}
+use Rattle.fluent_laws.proofs.Leads.{first_read, either_read, true_false, fails_at, is_blank, next, next_first, keeps-blanks, Leads, leads-bind, leads-keep, leads-byte, Starts, starts-bind, starts-or, starts-byte, starts-weaker, starts-identifier, starts-number_literal, may_start_number, clash-start}
 
 -- ---- what rules begin with, and what stands behind
 

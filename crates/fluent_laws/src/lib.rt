@@ -1,15 +1,17 @@
 //! Laws of the definitions that the reader's contract names. A function here does nothing: its contract is the law.
+#![tactic(auto)]
+
 ghost use Rattle.std.specs.Prelude.{ℕ, Bool, false, true};
-ghost use Rattle.fluent_syntax.specs.ChunkLaws.{MadeOfChunks, NoneEmpty, RangesWithin};
+ghost use Rattle.fluent_laws.specs.ChunkLaws.{MadeOfChunks, NoneEmpty, RangesWithin};
 ghost use Rattle.fluent_syntax.specs.Chunks.{comment_line, junk, junk_line};
 ghost use Rattle.fluent_syntax.specs.Entries as entries;
 ghost use Rattle.fluent_syntax.specs.Entries.{attribute, entry, name_of_value};
 ghost use Rattle.fluent_syntax.specs.Expressions.{argument, argument_list, attribute_access, digits, function_reference, inline_expression, level, literal, message_reference, named_argument, number_literal, select_expression, string_literal, term_reference, variant, variant_head, variant_key, variant_list};
-ghost use Rattle.fluent_syntax.specs.FrontLaws.{EndsMessage, EndsPattern, EntryReadBefore, ReadBefore, ReadByFront, ReadByFrontAlone, ReadFromThereOn, TakesFront};
+ghost use Rattle.fluent_laws.specs.FrontLaws.{EndsMessage, EndsPattern, EntryReadBefore, ReadBefore, ReadByFront, ReadByFrontAlone, ReadFromThereOn, TakesFront};
 ghost use Rattle.fluent_tree.specs.Lexical.{blank, blank_block, blank_inline, identifier, line_end, variable_reference};
 ghost use Rattle.fluent_syntax.specs.Pieces.{block_placeable, block_text, inline_text, pattern, pattern_element};
-ghost use Rattle.fluent_syntax.specs.SliceLaws.{AllSlices};
-ghost use Rattle.fluent_syntax.specs.TreeLaws.{AllWellFormed};
+ghost use Rattle.fluent_laws.specs.SliceLaws.{AllSlices};
+ghost use Rattle.fluent_laws.specs.TreeLaws.{AllWellFormed};
 
 /// Nothing of a source is lost: its chunks make it up, and each has a byte.
 #[tactic(auto, using(crate::proofs::ChunkLaws::chunk_laws))]

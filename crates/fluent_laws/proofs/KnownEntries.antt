@@ -11,15 +11,15 @@ use Rattle.fluent_syntax.specs.Pieces.{words_after, is_indented, indented_text, 
 use Rattle.fluent_syntax.specs.Expressions.{level}
 use Rattle.fluent_syntax.specs.Entries as n
 use Rattle.fluent_syntax.specs.Entries.{value, name_of_value, attribute, value_first, attributes_alone, entry}
-use Rattle.fluent_syntax.specs.FrontLaws.{behind_spaces, ends_indented, ends_flush, no_pattern, nothing_more, line_breaks, EndsBy, EndsPattern, EndsMessage, EndsEntry, ReadBefore, entry_line, EntryReadBefore}
+use Rattle.fluent_laws.specs.FrontLaws.{behind_spaces, ends_indented, ends_flush, no_pattern, nothing_more, line_breaks, EndsBy, EndsPattern, EndsMessage, EndsEntry, ReadBefore, entry_line, EntryReadBefore}
 use Rattle.fluent_syntax.proofs.Fronts.{TakesTo}
 use Rattle.fluent_syntax.proofs.LexicalFronts.{takes-line_break}
-use Rattle.fluent_syntax.proofs.Near.{closes, is_read, near-byte}
-use Rattle.fluent_syntax.proofs.NearRules.{near-line_end, near-blanks, near-name_of_value}
-use Rattle.fluent_syntax.proofs.Known.{Behind, closed_one, taken_one, Closed, closed_behind, cut, Known, Stops, Anywhere, lefts, Clash, way-clash, never, Enters, Fixed, fixed-near, fixed-bind, fixed-then, fixed-map, fixed-or, fixed-many}
-use Rattle.fluent_syntax.proofs.Leads.{first_read, either_read, true_false, fails_at, is_blank, next, next_is, Keeps, keep_of, keeps-bind, keeps-line_break, keeps-count, keeps-blank_line, keeps-blanks, keeps-line_end, pair_read, end_read, no_byte, line_end_text, spaces_next, Leads, leads-bind, leads-keep, leads-byte, Starts, starts-bind, starts-byte, starts-identifier, clash-start}
-use Rattle.fluent_syntax.proofs.KnownRules.{is}
-use Rattle.fluent_syntax.proofs.KnownPatterns.{Braces, braces_of, firm, NoElement, fixed-pattern, no_element, many_first, spaced, line_behind, spaces_behind, text_first, words_some, indented_read, text_piece, block_piece, hole_piece, brace_leads, leads-block_placeable}
+use Rattle.fluent_laws.proofs.Near.{closes, is_read, near-byte}
+use Rattle.fluent_laws.proofs.NearRules.{near-line_end, near-blanks, near-name_of_value}
+use Rattle.fluent_laws.proofs.Known.{Behind, closed_one, taken_one, Closed, closed_behind, cut, Known, Stops, Anywhere, lefts, Clash, way-clash, never, Enters, Fixed, fixed-near, fixed-bind, fixed-then, fixed-map, fixed-or, fixed-many}
+use Rattle.fluent_laws.proofs.Leads.{first_read, either_read, true_false, fails_at, is_blank, next, next_is, Keeps, keep_of, keeps-bind, keeps-line_break, keeps-count, keeps-blank_line, keeps-blanks, keeps-line_end, pair_read, end_read, no_byte, line_end_text, spaces_next, Leads, leads-bind, leads-keep, leads-byte, Starts, starts-bind, starts-byte, starts-identifier, clash-start}
+use Rattle.fluent_laws.proofs.KnownRules.{is}
+use Rattle.fluent_laws.proofs.KnownPatterns.{Braces, braces_of, firm, NoElement, fixed-pattern, no_element, many_first, spaced, line_behind, spaces_behind, text_first, words_some, indented_read, text_piece, block_piece, hole_piece, brace_leads, leads-block_placeable}
 
 is_feed : ℕ → ℕ → Bool
 is_feed c after = c == 10 || (c == 13 && after == 10)

@@ -10,8 +10,8 @@ use Rattle.fluent_syntax.specs.Expressions.{source_of, digits, number_parts, num
 use Rattle.fluent_syntax.specs.Pieces.{follows, words_after}
 use Rattle.fluent_syntax.specs.Entries.{name_of_value}
 use Rattle.fluent_syntax.specs.Chunks.{may_begin_entry, rest_of_line, comment_line, junk_line, junk}
-use Rattle.fluent_syntax.proofs.ChunkLaws.{IsRead, read-many, read-then, read-otherwise}
-use Rattle.fluent_syntax.proofs.Near.{closes, Heedless, Alike2, one_seen, two_seen, end_seen, Near, Shuts, Sees, near-bind, near-pure, near-then, near-map, near-or, near-ignore, near-skip, near-if, near-unless, near-run, near-run1, near-byte, near-count, near-source_of, shuts-map, shuts-ignore, shuts-or, shuts-if, shuts-run1, shuts-byte, sees_first, is_read, behind_one}
+use Rattle.fluent_laws.proofs.ChunkLaws.{IsRead, read-many, read-then, read-otherwise}
+use Rattle.fluent_laws.proofs.Near.{closes, Heedless, Alike2, one_seen, two_seen, end_seen, Near, Shuts, Sees, near-bind, near-pure, near-then, near-map, near-or, near-ignore, near-skip, near-if, near-unless, near-run, near-run1, near-byte, near-count, near-source_of, shuts-map, shuts-ignore, shuts-or, shuts-if, shuts-run1, shuts-byte, sees_first, is_read, behind_one}
 
 -- ---- runs that look at no byte behind a closing bracket
 

@@ -7,9 +7,9 @@ use Rattle.fluent_tree.specs.Parser.{Read, Parser, ◌>>=◌, ◌>>◌, ◌<$>�
 use Rattle.fluent_tree.specs.Lexical.{is_letter, is_space, is_text, is_identifier_byte, identifier, blank_inline, at_end, line_break, line_end, blank_line, blank_block, blank_turn, blank}
 use Rattle.fluent_syntax.specs.Pieces.{indent}
 use Rattle.fluent_syntax.specs.Expressions.{taken, digits, number_parts, number_literal}
-use Rattle.fluent_syntax.proofs.Near.{is_read}
-use Rattle.fluent_syntax.proofs.NearRules.{none_digits}
-use Rattle.fluent_syntax.proofs.Known.{Clash, lefts, taken_one}
+use Rattle.fluent_laws.proofs.Near.{is_read}
+use Rattle.fluent_laws.proofs.NearRules.{none_digits}
+use Rattle.fluent_laws.proofs.Known.{Clash, lefts, taken_one}
 
 -- ---- what was read of what
 

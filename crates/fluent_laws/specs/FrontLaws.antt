@@ -5,7 +5,7 @@ use Rattle.fluent_tree.specs.Parser.{Parser, ◌>>=◌, ◌>>◌, ◌<|>◌, pur
 use Rattle.fluent_tree.specs.Lexical.{is_space, line_break, blank_line}
 use Rattle.fluent_syntax.specs.Entries.{message, term, entry}
 use Rattle.fluent_syntax.specs.Chunks.{Chunk, chunks}
-use Rattle.fluent_syntax.specs.ChunkLaws.{bytes_of}
+use Rattle.fluent_laws.specs.ChunkLaws.{bytes_of}
 
 -- What a rule leaves of a text is its end: the rule takes a front.
 abbrev pub TakesFront : {A : Type 0} → Parser A → Text → Type 0

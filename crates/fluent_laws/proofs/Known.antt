@@ -6,7 +6,7 @@ use Rattle.fluent_tree.specs.Parser.{Read, Parser, ◌>>=◌, ◌>>◌, ◌<$>�
 use Rattle.fluent_syntax.specs.Expressions.{provided}
 use Rattle.fluent_syntax.proofs.Fronts.{TakesTo, Takes, takes-many, takes-bind, takes-pure, takes-map, takes-nothing, takes-byte, takes-or, takes-all}
 use Rattle.fluent_syntax.proofs.Turns.{more as a_turn}
-use Rattle.fluent_syntax.proofs.Near.{closes, shows, Alike2, behind_front, NearTo, Near, Shuts, is_read, none_left}
+use Rattle.fluent_laws.proofs.Near.{closes, shows, Alike2, behind_front, NearTo, Near, Shuts, is_read, none_left}
 
 -- ---- the texts that may stand behind
 

@@ -7,13 +7,13 @@ use Rattle.fluent_tree.specs.Lexical.{identifier, blank_inline, line_end, blank,
 use Rattle.fluent_syntax.specs.Entries as n
 use Rattle.fluent_syntax.specs.Entries.{value, name_of_value, attribute, value_first, attributes_alone, entry}
 use Rattle.fluent_syntax.specs.Chunks.{comment_line, junk, Part, part, entry_part, blank_part, junk_part, part_entry, Chunk, with_bytes, chunks, entries_of}
-use Rattle.fluent_syntax.specs.SliceLaws.{IsSlice, SlicesOfPattern, SlicesOfAttributes, SlicesOfValue, SlicesOfEntry, AllSlices}
+use Rattle.fluent_laws.specs.SliceLaws.{IsSlice, SlicesOfPattern, SlicesOfAttributes, SlicesOfValue, SlicesOfEntry, AllSlices}
 use Rattle.fluent_syntax.proofs.Fronts.{takes-byte}
 use Rattle.fluent_syntax.proofs.LexicalFronts.{takes-line_end, takes-blanks, takes-spaces, takes-blank_block}
-use Rattle.fluent_syntax.proofs.Slices.{EndOf, later, slice_here, Gives, Ended, Within, within-bind, within-then, within-pure, within-map, within-or, within-all}
-use Rattle.fluent_syntax.proofs.TreeSlices.{slice-identifier, slice-pattern_at}
+use Rattle.fluent_laws.proofs.Slices.{EndOf, later, slice_here, Gives, Ended, Within, within-bind, within-then, within-pure, within-map, within-or, within-all}
+use Rattle.fluent_laws.proofs.TreeSlices.{slice-identifier, slice-pattern_at}
 use Rattle.fluent_syntax.proofs.Chunked.{CutsTo, chunk-cuts, takes-comment_line, takes-junk, chunks-none, chunks-next, chunk_shorter}
-use Rattle.fluent_syntax.proofs.ChunkLaws.{by_chunk}
+use Rattle.fluent_laws.proofs.ChunkLaws.{by_chunk}
 
 abbrev OfAttribute : Text → Text × Pattern → Type 0
 OfAttribute w a = IsSlice w a.0 × SlicesOfPattern w a.1

@@ -5,8 +5,8 @@ use Rattle.std.specs.List.{prefix_len}
 use Rattle.std.proofs.lemmas.List.{replicate-append-replicate}
 use Rattle.fluent_tree.specs.Tree.{Text, Element, text, placeable, pattern_of}
 use Rattle.fluent_syntax.specs.Layout.{Words, Piece, line, words, hole, common_indent, dedented, feed, unless_empty, starts_line, joined, lines, is_feed, trim_front, trim_spaces, trimmed, trim_last, elements}
-use Rattle.fluent_syntax.specs.SliceLaws.{IsSlice, SlicesOfExpression, SlicesOfElement, SlicesOfPattern}
-use Rattle.fluent_syntax.proofs.Slices.{slice_end, slice_front, slice_take}
+use Rattle.fluent_laws.specs.SliceLaws.{IsSlice, SlicesOfExpression, SlicesOfElement, SlicesOfPattern}
+use Rattle.fluent_laws.proofs.Slices.{slice_end, slice_front, slice_take}
 
 abbrev pub OfElements : Text → List Element → Type 0
 OfElements w es = SlicesOfPattern w (pattern_of es)

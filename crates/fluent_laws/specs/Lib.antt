@@ -1,0 +1,4 @@
+pub mod FrontLaws
+pub mod ChunkLaws
+pub mod TreeLaws
+pub mod SliceLaws
