@@ -11,8 +11,8 @@ use Rattle.fluent_meaning.specs.Bundle.{Bundle}
 use Rattle.fluent_meaning.specs.Meaning.{Ran, left, within_budget}
 use Rattle.fluent_meaning.specs.Walk.{has_one}
 use Rattle.fluent_bundle.specs.Formatted.{AddsAll, AddsFront, WritesAll, WritesFront, Writes}
-use Rattle.fluent_bundle.specs.Interim.{budgeted, ran, substituted, elements}
-use Rattle.fluent_bundle.specs.Scoped.{Status, Walk, Wrote, from_here, given, reported}
+use Rattle.fluent_resolver.specs.Interim.{budgeted, ran, substituted, elements}
+use Rattle.fluent_resolver.specs.Scoped.{Status, Walk, Wrote, from_here, given, reported}
 use Rattle.fluent_values.specs.Written.{Sink, writer, at}
 use Rattle.fluent_values.specs.declared.errors.FluentError.{FluentError}
 use Rattle.fluent_tree.specs.declared.counting.Counting.{Counting}

@@ -9,8 +9,8 @@ use Rattle.fluent_meaning.specs.Arguments.{Map}
 use Rattle.fluent_meaning.specs.Bundle.{Bundle, unless_formatted}
 use Rattle.fluent_meaning.specs.Result.{formatted}
 use Rattle.fluent_bundle.specs.Formatted.{AddsAll, Gives}
-use Rattle.fluent_bundle.specs.Interim.{budgeted, substituted, sole_text, elements}
-use Rattle.fluent_bundle.specs.Scoped.{reported}
+use Rattle.fluent_resolver.specs.Interim.{budgeted, substituted, sole_text, elements}
+use Rattle.fluent_resolver.specs.Scoped.{reported}
 use Rattle.fluent_values.specs.declared.errors.FluentError.{FluentError}
 use Rattle.fluent_bundle.proofs.Limits.{within}
 

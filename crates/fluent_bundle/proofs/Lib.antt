@@ -1,7 +1,3 @@
-pub mod Along
-pub mod Cases
-pub mod Views
-pub mod Elements
 pub mod Related
 pub mod Limits
 pub mod Soles

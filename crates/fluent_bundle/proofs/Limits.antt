@@ -5,7 +5,7 @@ use Rattle.fluent_bundle.specs.Agree.{AgreesWithin}
 use Rattle.fluent_meaning.specs.Value.{Value}
 use Rattle.fluent_meaning.specs.Arguments.{Map}
 use Rattle.fluent_meaning.specs.Meaning.{Outcome, by_substitution, first_mark, last_mark, Budget, left, struck, Ran, after_text, closed, ending, within_budget, opening}
-use Rattle.fluent_bundle.specs.Interim.{substituted, ran}
+use Rattle.fluent_resolver.specs.Interim.{substituted, ran}
 use Rattle.fluent_meaning.specs.Bundle.{Bundle}
 use Rattle.fluent_bundle.proofs.Related.{Relation, whole_related}
 

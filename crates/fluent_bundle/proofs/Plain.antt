@@ -9,8 +9,8 @@ use Rattle.fluent_meaning.specs.Walk as whole
 use Rattle.fluent_meaning.specs.Walk.{Environment, application, Steps, is_marked, has_one, inner, deep}
 use Rattle.fluent_meaning.specs.Meaning as both
 use Rattle.fluent_meaning.specs.Meaning.{Budget, left, struck, within_budget, by_substitution, run, meaning}
-use Rattle.fluent_bundle.specs.Interim as today
-use Rattle.fluent_bundle.specs.Interim.{substituted, ran}
+use Rattle.fluent_resolver.specs.Interim as today
+use Rattle.fluent_resolver.specs.Interim.{substituted, ran}
 use Rattle.fluent_bundle.specs.Plain.{IsPlain, IsPlainElement, IsPlainExpression, IsPlainInline}
 
 module _ {C : Type 0} (S : Steps) (b : Bundle C) (below : Environment C → List Pattern → Pattern → S.M Text) (env : Map (Value C)) where

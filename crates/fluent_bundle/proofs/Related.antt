@@ -6,7 +6,7 @@ use Rattle.fluent_meaning.specs.Arguments.{Map, get}
 use Rattle.fluent_meaning.specs.Errors.{ResolverError}
 use Rattle.fluent_meaning.specs.Bundle.{Bundle}
 use Rattle.fluent_meaning.specs.Walk.{Steps, has_one}
-use Rattle.fluent_bundle.specs.Interim.{elements, part, inline_text, expression_text, variable_text, whole}
+use Rattle.fluent_resolver.specs.Interim.{elements, part, inline_text, expression_text, variable_text, whole}
 
 pub record Relation (S T : Steps) : Type 1 where
   pub At : S.M Text → T.M Text → Type 0

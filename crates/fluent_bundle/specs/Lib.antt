@@ -2,10 +2,10 @@ pub use Rattle.fluent_meaning.specs.Errors
 pub use Rattle.fluent_meaning.specs.Bundle
 pub use Rattle.fluent_meaning.specs.Walk
 pub use Rattle.fluent_meaning.specs.Meaning
+pub use Rattle.fluent_resolver.specs.Interim
+pub use Rattle.fluent_resolver.specs.Scoped
 pub mod BundleView
-pub mod Interim
 pub mod Plain
-pub mod Scoped
 pub mod Agree
 pub mod Formatted
 pub mod Adding

@@ -6,7 +6,7 @@ use Rattle.fluent_meaning.specs.Arguments.{Map}
 use Rattle.fluent_meaning.specs.Bundle.{Bundle}
 use Rattle.fluent_meaning.specs.Walk.{application}
 use Rattle.fluent_meaning.specs.Meaning.{Budget, meaning, run}
-use Rattle.fluent_bundle.specs.Interim.{substituted, ran}
+use Rattle.fluent_resolver.specs.Interim.{substituted, ran}
 
 abbrev mutual
   -- nothing but texts, variables, literals and nested placeables of these

@@ -7,15 +7,14 @@ ghost use Rattle.fluent_tree.specs.View.{pattern_view};
 ghost use Rattle.fluent_meaning.specs.Result.{formatted};
 ghost use Rattle.fluent_bundle.specs.BundleView.{meant};
 ghost use Rattle.fluent_bundle.specs.Formatted.{AddsAll, AddsFront, Gives, Writes, WritesAll, WritesFront};
-ghost use Rattle.fluent_bundle.specs.Interim.{budgeted, sole_text, substituted, IsText};
-ghost use Rattle.fluent_bundle.specs.Scoped.{arguments_view};
+ghost use Rattle.fluent_resolver.specs.Interim.{budgeted, sole_text, substituted, IsText};
+ghost use Rattle.fluent_resolver.specs.Scoped.{arguments_view};
 ghost use Rattle.fluent_values.specs.Written.{sink};
 
 use crate::bundle::FluentBundle;
 use crate::resolver::answers::formatted;
-use crate::resolver::frame::Frame;
-use crate::resolver::pattern::write_elements;
 use fluent_intl::MemoizerKind;
+use fluent_resolver::{Frame, write_elements};
 use fluent_syntax::ast::{Pattern, PatternElement};
 use fluent_syntax::{Counting, WriteFault};
 use fluent_values::resolver::output::Output;

@@ -6,7 +6,7 @@ ghost use Rattle.fluent_meaning.specs.Bundle.{Bundle};
 ghost use Rattle.fluent_meaning.specs.Meaning.{left, struck};
 ghost use Rattle.fluent_meaning.specs.Value.{Value};
 ghost use Rattle.fluent_bundle.specs.Agree.{AgreesWithin};
-ghost use Rattle.fluent_bundle.specs.Interim.{ran, substituted};
+ghost use Rattle.fluent_resolver.specs.Interim.{ran, substituted};
 ghost use Rattle.fluent_bundle.specs.Plain.{MeansTheWhole};
 
 /// The two meanings of a pattern go together, whatever the bundle, the arguments, the pattern and the limit:

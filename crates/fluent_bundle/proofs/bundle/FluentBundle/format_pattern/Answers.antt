@@ -3,7 +3,7 @@ use Rattle.std.specs.Option.{option_map}
 use Rattle.fluent_tree.specs.View.{pattern_view}
 use Rattle.fluent_meaning.specs.Bundle.{transform_of, formatter_of}
 use Rattle.fluent_bundle.specs.BundleView.{meant}
-use Rattle.fluent_bundle.specs.Scoped.{arguments_view}
+use Rattle.fluent_resolver.specs.Scoped.{arguments_view}
 use Rattle.fluent_bundle.proofs.Givings.{gives_within, lent_where, sole_formatted, none_added}
 use Rattle.fluent_bundle.proofs.bundle.FluentBundle.format_pattern.Goals as goal
 

@@ -1,7 +1,7 @@
 use Rattle.std.proofs.Common.{rules, ap}
 use Rattle.fluent_tree.specs.View.{pattern_view}
 use Rattle.fluent_bundle.specs.BundleView.{meant, is_plain}
-use Rattle.fluent_bundle.specs.Scoped.{arguments_view, reported, status}
+use Rattle.fluent_resolver.specs.Scoped.{arguments_view, reported, status}
 use Rattle.fluent_bundle.proofs.Formats.{fresh, writes_of}
 use Rattle.fluent_bundle.proofs.bundle.FluentBundle.write_out.Goals as goal
 

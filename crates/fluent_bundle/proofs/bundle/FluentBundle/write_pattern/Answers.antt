@@ -1,7 +1,7 @@
 use Rattle.std.proofs.Common.{rules}
 use Rattle.fluent_tree.specs.View.{pattern_view}
 use Rattle.fluent_bundle.specs.BundleView.{meant}
-use Rattle.fluent_bundle.specs.Scoped.{arguments_view}
+use Rattle.fluent_resolver.specs.Scoped.{arguments_view}
 use Rattle.fluent_bundle.proofs.Formats.{substituted_of, written_by}
 use Rattle.fluent_bundle.proofs.bundle.FluentBundle.write_pattern.Goals as goal
 

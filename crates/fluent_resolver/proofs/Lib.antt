@@ -1,0 +1,4 @@
+pub mod Along
+pub mod Cases
+pub mod Views
+pub mod Elements
