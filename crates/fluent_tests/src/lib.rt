@@ -1,4 +1,4 @@
-//! Tests of values and of the bundle, of what no contract says, and one statement from end to end: what a bundle writes after a list of calls.
+//! Tests of the bundle, of what no contract says, and one statement from end to end: what a bundle writes after a list of calls.
 #![tactic(auto)]
 
 #[cfg(test)]

@@ -3,8 +3,9 @@ ghost use Rattle.std.specs.Prelude.{◌≡◌, [], map, unwrap_or, slice_get, If
 ghost use Rattle.fluent_meaning.specs.Value.{error_value};
 ghost use Rattle.fluent_values.specs.View.{value_view};
 
-use fluent_bundle::types::{FluentValue, NoCustom};
-use fluent_bundle::{AnswerRule, Answering, FluentArgs, FluentFunction, FunctionOf, NoFunction};
+use crate::common::{Given, is_shown, values};
+use fluent_values::types::{FluentValue, NoCustom};
+use fluent_values::{AnswerRule, Answering, FluentArgs, FluentFunction, FunctionOf, NoFunction};
 use std::alloc::{AllocError, Global};
 use std::process::Abort;
 use std::test::Fail;
@@ -29,34 +30,30 @@ fn first<'a>(
     }
 }
 
-/// What a function answers without named arguments.
-fn answer_to<'a, F: FluentFunction<NoCustom>>(
+/// That a function answers a row without named arguments with the value that is shown so.
+fn answers<F: FluentFunction<NoCustom>>(
     alloc: Global,
     function: &F,
-    positional: &[FluentValue<'a, NoCustom>],
-) -> Result<FluentValue<'a, NoCustom>, AllocError> {
+    positional: &[Given],
+    text: &str,
+) -> Result<bool, AllocError> {
+    let positional = values(alloc, positional)?;
     let arguments = FluentArgs::new(alloc);
-    function.call(alloc, positional, &arguments)
+    let answer = function.call(alloc, positional.as_slice(), &arguments)?;
+    is_shown(alloc, &answer, text)
 }
 
-fn a_and_b<'a>(alloc: Global) -> Result<Vec<FluentValue<'a, NoCustom>>, AllocError> {
-    let mut values = Vec::new(alloc);
-    values.push(FluentValue::from("a"))?;
-    values.push(FluentValue::from("b"))?;
-    Ok(values)
-}
+const BOTH: &[Given] = &[Given::Text("a"), Given::Text("b")];
 
-fn answers<F: FluentFunction<NoCustom>>(
+/// Two positional values have this answer, and none have an error.
+fn answers_both<F: FluentFunction<NoCustom>>(
     rt: &impl Abort,
     alloc: Global,
     function: &F,
-    wanted: &FluentValue<'_, NoCustom>,
+    text: &str,
 ) -> Result<(), Fail> {
-    let positional = a_and_b(alloc)?;
-    let answer = answer_to(alloc, function, positional.as_slice())?;
-    assert!(rt; answer.same(wanted) == wanted.same(wanted));
-    let none = answer_to(alloc, function, &[])?;
-    assert!(rt; matches!(none, FluentValue::Error));
+    assert!(rt; answers(alloc, function, BOTH, text)?);
+    assert!(rt; answers(alloc, function, &[], "error")?);
     Ok(())
 }
 
@@ -68,15 +65,13 @@ fn kept_answers<K: Answering<NoCustom, FirstValue> + Drop>(
     requires { K.ready closure }
 {
     let function = FunctionOf::<NoCustom, K, FirstValue>::new(closure);
-    answers(rt, alloc, &function, &FluentValue::from("a"))
+    answers_both(rt, alloc, &function, "\"a\"")
 }
 
 #[test]
-fn a_kept_function_answers_by_its_rule(rt: HostRuntime) -> Result<(), Fail> {
-    kept_answers(&rt, rt.alloc(), first)
-}
-
-#[test]
-fn no_function_answers_an_error(rt: HostRuntime) -> Result<(), Fail> {
-    answers(&rt, rt.alloc(), &NoFunction, &FluentValue::Error)
+fn a_kept_function_answers_by_its_rule_and_no_function_an_error(
+    rt: HostRuntime,
+) -> Result<(), Fail> {
+    kept_answers(&rt, rt.alloc(), first)?;
+    answers_both(&rt, rt.alloc(), &NoFunction, "error")
 }

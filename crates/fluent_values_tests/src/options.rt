@@ -1,0 +1,123 @@
+//! The options that arguments give, and the built-in function.
+use crate::common::{Given, Named, arguments, is_shown, values};
+use fluent_values::builtins::NUMBER;
+use fluent_values::types::{
+    FluentNumberCurrencyDisplayStyle, FluentNumberOptions, FluentNumberStyle, FluentNumberType,
+    MergeArgs,
+};
+use std::alloc::{AllocError, Global};
+use std::test::Fail;
+
+/// An argument for each option, of the right kind.
+const ALL: &[Named] = &[
+    ("type", Given::Text("ordinal")),
+    ("style", Given::Text("percent")),
+    ("currency", Given::Text("EUR")),
+    ("currencyDisplay", Given::Text("name")),
+    ("useGrouping", Given::Text("false")),
+    ("minimumIntegerDigits", Given::Number(1)),
+    ("minimumFractionDigits", Given::Number(2)),
+    ("maximumFractionDigits", Given::Number(3)),
+    ("minimumSignificantDigits", Given::Number(4)),
+    ("maximumSignificantDigits", Given::Number(5)),
+];
+
+fn all_options(alloc: Global) -> Result<FluentNumberOptions, AllocError> {
+    Ok(FluentNumberOptions {
+        number_type: FluentNumberType::Ordinal,
+        style: FluentNumberStyle::Percent,
+        currency: Some(String::from_str(alloc, "EUR")?),
+        currency_display: FluentNumberCurrencyDisplayStyle::Name,
+        use_grouping: false,
+        minimum_integer_digits: Some(1),
+        minimum_fraction_digits: Some(2),
+        maximum_fraction_digits: Some(3),
+        minimum_significant_digits: Some(4),
+        maximum_significant_digits: Some(5),
+    })
+}
+
+/// Arguments of other kinds, and one of another name.
+const OTHERS: &[Named] = &[
+    ("type", Given::Number(1)),
+    ("style", Given::Number(1)),
+    ("currency", Given::Number(1)),
+    ("currencyDisplay", Given::Number(1)),
+    ("useGrouping", Given::Number(1)),
+    ("minimumIntegerDigits", Given::Text("1")),
+    ("minimumFractionDigits", Given::Text("1")),
+    ("Type", Given::Text("1")),
+    ("maximumFractionDigits", Given::Nothing),
+];
+
+fn merge(
+    alloc: Global,
+    options: &mut FluentNumberOptions,
+    row: &[Named],
+) -> Result<(), AllocError> {
+    let args = arguments(alloc, row)?;
+    options.merge(alloc, &args)
+}
+
+fn are_default(options: &FluentNumberOptions) -> bool {
+    *options == FluentNumberOptions::default()
+}
+
+fn are_all(alloc: Global, options: &FluentNumberOptions) -> Result<bool, AllocError> {
+    Ok(*options == all_options(alloc)?)
+}
+
+/// Run with each allocation failing in turn: refused options are as they were.
+#[test]
+fn each_option_has_its_argument(rt: HostRuntime) -> Result<(), Fail> {
+    let mut options = FluentNumberOptions::default();
+    merge(rt.alloc(), &mut options, OTHERS)?;
+    assert!(rt; are_default(&options));
+    if merge(rt.alloc(), &mut options, ALL).is_err() {
+        assert!(rt; are_default(&options));
+        merge(rt.alloc(), &mut options, ALL)?;
+    }
+    assert!(rt; are_all(rt.alloc(), &options)?);
+    Ok(())
+}
+
+/// Positional values, options, and how the answer is shown: a minimum of digits counts as 18 at most; what is no
+/// number is an error; the first positional value is the number.
+const ANSWERS: &[(&[Given], &[Named], &str)] = &[
+    (
+        &[Given::Number(5)],
+        &[("minimumFractionDigits", Given::Number(-3))],
+        "5.",
+    ),
+    (
+        &[Given::Number(5)],
+        &[("minimumFractionDigits", Given::Number(400))],
+        "5.000000000000000000",
+    ),
+    (&[], &[], "error"),
+    (&[Given::Text("5"), Given::Number(5)], &[], "error"),
+    (&[Given::Number(5), Given::Text("x")], &[], "5"),
+];
+
+fn answers(
+    alloc: Global,
+    positional: &[Given],
+    options: &[Named],
+    text: &str,
+) -> Result<bool, AllocError> {
+    let positional = values(alloc, positional)?;
+    let args = arguments(alloc, options)?;
+    let answer = NUMBER(alloc, positional.as_slice(), &args)?;
+    is_shown(alloc, &answer, text)
+}
+
+#[test]
+fn numbers_have_their_options(rt: HostRuntime) -> Result<(), Fail> {
+    for (positional, options, text) in ANSWERS {
+        assert!(rt;
+            answers(rt.alloc(), *positional, *options, *text)?,
+            "{text}"
+        );
+    }
+    Ok(())
+}

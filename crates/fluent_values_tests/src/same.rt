@@ -1,0 +1,98 @@
+//! Which values are the same, and copies of them.
+use fluent_values::types::{FluentType, FluentValue};
+use std::alloc::{AllocError, Global};
+use std::test::Fail;
+
+/// A value of the application's own, of which there are as many as bytes.
+#[derive(Drop)]
+struct Shade(u8);
+
+impl FluentType for Shade {
+    ghost use Rattle.std.specs.Prelude.{[], ◌∷◌};
+    ghost use Rattle.fluent_meaning.specs.Number.{is_text};
+
+    ghost content = { λ shade. shade.0 ∷ [] };
+
+    ghost shown = { λ _. [] };
+
+    ghost alike = { is_text };
+
+    fn duplicate(&self, _alloc: Global) -> Result<Shade, AllocError> {
+        Ok(Shade(self.0))
+    }
+
+    fn same(&self, other: &Shade) -> bool {
+        self.0 == other.0
+    }
+
+    fn as_string(&self, alloc: Global) -> Result<String, AllocError> {
+        Ok(String::new(alloc))
+    }
+}
+
+/// Values that differ in kind or in content; of the last two each is the same as nothing.
+fn value_at<'s>(i: usize) -> FluentValue<'s, Shade> {
+    match i {
+        0 => FluentValue::from("a"),
+        1 => FluentValue::from("b"),
+        2 => FluentValue::from("one"),
+        3 => FluentValue::try_number("1"),
+        4 => FluentValue::try_number("1."),
+        5 => FluentValue::try_number("1.0"),
+        6 => FluentValue::try_number("2"),
+        7 => FluentValue::Custom(Shade(1)),
+        8 => FluentValue::Custom(Shade(2)),
+        9 => FluentValue::None,
+        _ => FluentValue::Error,
+    }
+}
+
+/// How many values there are, and how many of them are the same as themselves.
+const ALL: usize = 11;
+
+const ALONE: usize = 9;
+
+fn are_same(i: usize, j: usize) -> bool {
+    value_at(i).same(&value_at(j))
+}
+
+/// That a value is the same as the one at its place, where that isn't one of the last two, and as no other.
+fn is_alone(i: usize) -> bool {
+    for j in 0..ALL {
+        if are_same(i, j) != (i == j && i < ALONE) {
+            return false;
+        }
+    }
+    true
+}
+
+#[test]
+fn equal_content_of_one_kind_is_the_same(rt: HostRuntime) {
+    for i in 0..ALL {
+        assert!(rt; is_alone(i), "at {i}");
+    }
+}
+
+/// That a value which was copied is the one at a place.
+fn is_at(value: FluentValue<'_, Shade>, i: usize) -> bool {
+    value.same(&value_at(i)) == (i < ALONE)
+}
+
+/// That copies of a value are the same.
+fn is_copied(alloc: Global, i: usize) -> Result<bool, AllocError> {
+    let value = value_at(i);
+    Ok(is_at(value.try_clone(alloc)?, i) && is_at(value.into_owned(alloc)?, i))
+}
+
+/// Run with each allocation failing in turn: a copy that is refused can be made again.
+#[test]
+fn copies_are_the_same(rt: HostRuntime) -> Result<(), Fail> {
+    for i in 0..ALL {
+        let copied = match is_copied(rt.alloc(), i) {
+            Ok(copied) => copied,
+            Err(AllocError) => is_copied(rt.alloc(), i)?,
+        };
+        assert!(rt; copied, "at {i}");
+    }
+    Ok(())
+}
