@@ -4,6 +4,7 @@ use fluent_values::FluentArgs;
 use fluent_values::types::{FluentValue, NoCustom};
 use std::alloc::{AllocError, Global};
 use std::borrow::CowStr;
+use std::process::Abort;
 use std::test::Fail;
 
 const GIVEN: &[Named] = &[
@@ -76,70 +77,71 @@ fn names_come_in_order_with_their_last_value(rt: HostRuntime) -> Result<(), Fail
     Ok(())
 }
 
-fn set_lent<'a>(
-    args: &mut FluentArgs<'a, NoCustom>,
-    name: &'a str,
-    number: i32,
-) -> Result<(), AllocError> {
-    args.set(CowStr::Borrowed(name), FluentValue::from(number))
-}
+/// A name, whether it is owned, what it has before, and what it is given.
+type Set = (&'static str, bool, Given, Given);
 
-fn set_owned(
-    args: &mut FluentArgs<'_, NoCustom>,
-    alloc: Global,
-    name: &str,
-    number: i32,
-) -> Result<(), AllocError> {
-    let name = String::from_str(alloc, name)?;
-    args.set(CowStr::Owned(name), FluentValue::from(number))
-}
+/// One name is set twice and another once, then a third twice.
+const SETS: &[Set] = &[
+    ("name", false, Given::Nothing, Given::Number(1)),
+    ("other", true, Given::Nothing, Given::Number(2)),
+    ("name", false, Given::Number(1), Given::Number(3)),
+    ("x", false, Given::Nothing, Given::Number(1)),
+    ("x", false, Given::Number(1), Given::Number(2)),
+];
 
-/// Sets one name twice and another once.
-fn set_names(alloc: Global, args: &mut FluentArgs<'_, NoCustom>) -> Result<(), AllocError> {
-    set_lent(args, "name", 1)?;
-    set_owned(args, alloc, "other", 2)?;
-    set_lent(args, "name", 3)
-}
-
-/// What each name has; a name that has nothing isn't there.
-fn have(args: &FluentArgs<'_, NoCustom>, rows: &[Named]) -> bool {
-    for (name, given) in rows {
-        if !is_given(args.get(*name), *given) {
-            return false;
-        }
-    }
-    true
-}
-
-const NONE: &[Named] = &[("name", Given::Nothing), ("x", Given::Nothing)];
-
+/// What each name has then; a name that has nothing isn't there.
 const HELD: &[Named] = &[
     ("name", Given::Number(3)),
     ("other", Given::Number(2)),
     ("nam", Given::Nothing),
 ];
 
-#[test]
-fn a_name_has_what_it_was_given_last(rt: HostRuntime) -> Result<(), Fail> {
-    let mut args: FluentArgs<'_, NoCustom> = FluentArgs::with_capacity(rt.alloc(), usize::MAX)?;
-    assert!(rt; have(&args, NONE));
-    assert!(rt; lend(&args, &[]));
-    set_names(rt.alloc(), &mut args)?;
-    assert!(rt; have(&args, HELD));
+fn name(alloc: Global, text: &'static str, owned: bool) -> Result<CowStr<'static>, AllocError> {
+    if owned {
+        return Ok(CowStr::Owned(String::from_str(alloc, text)?));
+    }
+    Ok(CowStr::Borrowed(text))
+}
+
+fn set(
+    args: &mut FluentArgs<'static, NoCustom>,
+    alloc: Global,
+    row: &Set,
+) -> Result<(), AllocError> {
+    args.set(name(alloc, row.0, row.1)?, value(row.3))
+}
+
+fn has(args: &FluentArgs<'_, NoCustom>, name: &str, given: Given) -> bool {
+    is_given(args.get(name), given)
+}
+
+/// A refused `set` leaves the arguments as they were, and succeeds when it is repeated; that of a name which is there
+/// is never refused.
+fn is_set(
+    rt: &impl Abort,
+    alloc: Global,
+    args: &mut FluentArgs<'static, NoCustom>,
+    row: &Set,
+) -> Result<(), AllocError> {
+    assert!(rt; has(args, row.0, row.2));
+    if set(args, alloc, row).is_err() {
+        assert!(rt; matches!(row.2, Given::Nothing) && has(args, row.0, row.2));
+        set(args, alloc, row)?;
+    }
+    assert!(rt; has(args, row.0, row.3));
     Ok(())
 }
 
-/// Run with each allocation failing in turn: a refused `set` leaves the arguments as they were, and succeeds
-/// when it is repeated; that of a name which is there is never refused.
+/// Run with each allocation failing in turn.
 #[test]
-fn a_refused_set_can_be_repeated(rt: HostRuntime) -> Result<(), Fail> {
-    let mut args: FluentArgs<'_, NoCustom> = FluentArgs::new(rt.alloc());
-    if set_lent(&mut args, "x", 1).is_err() {
-        assert!(rt; have(&args, NONE));
-        set_lent(&mut args, "x", 1)?;
+fn a_name_has_what_it_was_given_last(rt: HostRuntime) -> Result<(), Fail> {
+    let mut args: FluentArgs<'_, NoCustom> = FluentArgs::with_capacity(rt.alloc(), usize::MAX)?;
+    assert!(rt; lend(&args, &[]));
+    for row in SETS {
+        is_set(&rt, rt.alloc(), &mut args, row)?;
     }
-    assert!(rt; have(&args, &[("x", Given::Number(1))]));
-    assert!(rt; set_lent(&mut args, "x", 2).is_ok());
-    assert!(rt; have(&args, &[("x", Given::Number(2))]));
+    for (name, given) in HELD {
+        assert!(rt; has(&args, *name, *given));
+    }
     Ok(())
 }

@@ -6,6 +6,7 @@ ghost use Rattle.fluent_values.specs.View.{value_view};
 
 use crate::common::is_shown;
 use fluent_values::types::{FluentNumber, FluentValue, NoCustom};
+use std::alloc::{AllocError, Global};
 use std::borrow::CowStr;
 use std::test::Fail;
 
@@ -60,24 +61,30 @@ fn made<'s>(i: usize) -> Row<'s> {
     }
 }
 
+/// Of strings, lent and owned.
+fn given<'s>(alloc: Global, i: usize, lent: &'s String) -> Result<Row<'s>, AllocError> {
+    let value = match i {
+        0 => FluentValue::from(lent),
+        1 => FluentValue::from(Some(CowStr::Borrowed("a"))),
+        _ => FluentValue::from(Some(String::from_str(alloc, "a")?)),
+    };
+    Ok((value, "\"a\""))
+}
+
+fn row<'s>(alloc: Global, i: usize, lent: &'s String) -> Result<Row<'s>, AllocError> {
+    match i {
+        0..4 => Ok(read(i)),
+        4..12 => Ok(made(i - 4)),
+        _ => given(alloc, i - 12, lent),
+    }
+}
+
 #[test]
 fn values_are_made_of_texts_and_numbers(rt: HostRuntime) -> Result<(), Fail> {
-    for i in 0..12 {
-        let (value, text) = if i < 4 { read(i) } else { made(i - 4) };
+    let lent = String::from_str(rt.alloc(), "a")?;
+    for i in 0..15 {
+        let (value, text) = row(rt.alloc(), i, &lent)?;
         assert!(rt; is_shown(rt.alloc(), &value, text)?, "{text}");
     }
-    Ok(())
-}
-
-fn is_a(value: &FluentValue<'_, NoCustom>) -> bool {
-    value.same(&FluentValue::from("a"))
-}
-
-#[test]
-fn values_are_made_of_strings(rt: HostRuntime) -> Result<(), Fail> {
-    let text = String::from_str(rt.alloc(), "a")?;
-    assert!(rt; is_a(&FluentValue::from(&text)));
-    assert!(rt; is_a(&FluentValue::from(Some(CowStr::Borrowed("a")))));
-    assert!(rt; is_a(&FluentValue::from(Some(text))));
     Ok(())
 }

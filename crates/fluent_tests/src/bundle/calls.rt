@@ -1,28 +1,27 @@
-//! What no clause says: that calls succeed, and the texts of errors.
-use crate::bundle::common::{
-    Plain, add, are, clean, default_bundle, empty, first_text, format, value_text, whole,
-};
+//! Lists of calls that add, what each reports, and what the ids mean after it.
+use crate::bundle::common::{Bundle, add, are, empty, first_text, read};
+use crate::bundle::own::Own;
 use fluent_bundle::ast::Term;
 use fluent_bundle::bundle::AddFault;
-use fluent_bundle::{
-    Call, FluentArgs, FluentBundle, FluentFormatter, FluentFunction, FluentResource, FluentValue,
-    FunctionRef, GetEntry, NoCustom, NoFormatter, NoFunction,
-};
-use fluent_intl::EnglishPlurals;
+use fluent_bundle::{FluentError, FluentMessage, FluentResource, FunctionRef, GetEntry};
 use std::alloc::{AllocError, Global};
 use std::process::Abort;
 use std::test::Fail;
 
-/// That errors are reported, those of these lines.
-fn is_left(
-    rt: &impl Abort,
-    alloc: Global,
-    added: Result<(), AddFault>,
-    expected: &str,
-) -> Result<(), Fail> {
-    match added {
-        Err(AddFault::Overriding(errors)) => are(rt, alloc, errors.as_slice(), expected),
-        _ => Err("nothing overridden".into()),
+// ---- what ids mean
+
+/// An id, and what it means: what a message and a term begin with, and the name of a function; nothing where there is
+/// none.
+pub type Held = (&'static str, &'static str, &'static str, &'static str);
+
+/// What a message's value begins with; nothing where there is no message.
+fn value_text<'x>(message: Option<FluentMessage<'x, '_>>) -> &'x str {
+    let Some(message) = message else {
+        return "";
+    };
+    match message.value() {
+        Some(pattern) => first_text(pattern),
+        None => "",
     }
 }
 
@@ -33,371 +32,284 @@ fn term_text<'x>(term: Option<&'x Term<'_>>) -> &'x str {
     }
 }
 
-/// An id, the texts of the message and of the term that it means, empty for none, and whether it means a function.
-type Held = (&'static str, &'static str, &'static str, bool);
+fn function_name(function: Option<FunctionRef<'_, Own>>) -> &'static str {
+    match function {
+        Some(FunctionRef::Own(Own::Nothing)) => "nothing",
+        Some(FunctionRef::Own(Own::Fault)) => "fault",
+        Some(FunctionRef::Number) => "NUMBER",
+        None => "",
+    }
+}
 
-fn is_message<F: FluentFunction<NoCustom>>(
-    bundle: &FluentBundle<'_, '_, EnglishPlurals, NoCustom, F, NoFormatter>,
-    id: &str,
-    text: &str,
-) -> bool {
+fn is_message(bundle: &Bundle<'_, '_>, id: &str, text: &str) -> bool {
     let there = !text.is_empty();
     bundle.has_message(id) == there
         && bundle.get_entry_message(id).is_some() == there
         && value_text(bundle.get_message(id)) == text
 }
 
-fn is_held<F: FluentFunction<NoCustom>>(
-    bundle: &FluentBundle<'_, '_, EnglishPlurals, NoCustom, F, NoFormatter>,
-    held: &Held,
-) -> bool {
+fn is_held(bundle: &Bundle<'_, '_>, held: &Held) -> bool {
     let (id, message, term, function) = *held;
     is_message(bundle, id, message)
         && term_text(bundle.get_entry_term(id)) == term
-        && bundle.get_entry_function(id).is_some() == function
+        && function_name(bundle.get_entry_function(id)) == function
 }
 
 /// What each id means in a bundle.
-fn holds<F: FluentFunction<NoCustom>>(
-    rt: &impl Abort,
-    bundle: &FluentBundle<'_, '_, EnglishPlurals, NoCustom, F, NoFormatter>,
-    rows: &[Held],
-) {
+pub fn holds(rt: &impl Abort, bundle: &Bundle<'_, '_>, rows: &[Held]) {
     for held in rows {
         assert!(rt; is_held(bundle, held), "{}", held.0);
     }
 }
 
-fn reports_in_order<'r, 's>(
-    rt: &impl Abort,
-    alloc: Global,
-    resource: &'r FluentResource<'s>,
-) -> Result<(), Fail> {
-    let mut bundle: Plain<'_, '_> = default_bundle(alloc)?;
-    let added = add(&mut bundle, resource);
-    is_left(
-        rt,
-        alloc,
-        added,
-        "Attempt to override an existing message: \"a\".\nAttempt to override an existing term: \"a\".\n",
-    )?;
-    holds(rt, &bundle, &[("a", "1", "", false), ("b", "", "", false)]);
-    Ok(())
-}
+// ---- calls
 
-#[test]
-fn what_is_left_is_reported_in_order(rt: HostRuntime) -> Result<(), Fail> {
-    let resource = clean(rt.alloc(), "a = 1\na = 2\n-a = 3\n")?;
-    reports_in_order(&rt, rt.alloc(), &resource)
-}
-
-fn add_no_function(bundle: &mut Plain<'_, '_>, id: &str) -> Result<(), AddFault> {
-    bundle.add_function(id, NoFunction)
+/// A call on a bundle, of the first source or of the second where it has one.
+#[derive(Clone, Copy, Drop)]
+enum Step {
+    AddFirst,
+    AddSecond,
+    OverrideBySecond,
+    AddFunction(&'static str, Own),
+    AddBuiltins,
 }
 
 fn override_by<'r, 's>(
-    bundle: &mut Plain<'r, 's>,
+    bundle: &mut Bundle<'r, 's>,
     resource: &'r FluentResource<'s>,
-) -> Result<(), AllocError> {
-    bundle.add_resource_overriding(resource)
-}
-
-fn overrides<'r, 's>(
-    rt: &impl Abort,
-    alloc: Global,
-    first: &'r FluentResource<'s>,
-    second: &'r FluentResource<'s>,
-) -> Result<(), Fail> {
-    let mut bundle: Plain<'_, '_> = default_bundle(alloc)?;
-    whole(add_no_function(&mut bundle, "NUMBER"))?;
-    whole(add(&mut bundle, first))?;
-    holds(rt, &bundle, &[("foo", "a", "", false)]);
-    override_by(&mut bundle, second)?;
-    holds(rt, &bundle, OVERRIDDEN);
-    Ok(())
-}
-
-const OVERRIDDEN: &[Held] = &[
-    ("foo", "", "c", false),
-    ("NUMBER", "e", "", false),
-    ("bar", "b", "", false),
-];
-
-#[test]
-fn overriding_wins(rt: HostRuntime) -> Result<(), Fail> {
-    let first = clean(rt.alloc(), "foo = a\nbar = b\n")?;
-    let second = clean(rt.alloc(), "foo = d\n-foo = c\nNUMBER = e\n")?;
-    overrides(&rt, rt.alloc(), &first, &second)
-}
-
-/// Functions of these tests.
-#[derive(Clone, Copy, Debug, Drop)]
-enum Own {
-    Nothing,
-    Fault,
-}
-
-impl FluentFunction<NoCustom> for Own {
-    ghost use Rattle.fluent_meaning.specs.Value.{no_value, error_value};
-    ghost use Rattle.fluent_tests.specs.declared.bundle.calls.Own.TheVariants as own;
-
-    ghost answer = { λ f _ _. elim f [ own.Nothing ↦ no_value | own.Fault ↦ error_value ] };
-
-    fn call<'a>(
-        &self,
-        _alloc: Global,
-        _positional: &[FluentValue<'a, NoCustom>],
-        _arguments: &FluentArgs<'a, NoCustom>,
-    ) -> Result<FluentValue<'a, NoCustom>, AllocError> {
-        match self {
-            Own::Nothing => Ok(FluentValue::None),
-            Own::Fault => Ok(FluentValue::Error),
-        }
+) -> Result<(), AddFault> {
+    match bundle.add_resource_overriding(resource) {
+        Ok(()) => Ok(()),
+        Err(AllocError) => Err(AddFault::Memory),
     }
 }
 
-type WithOwn<'r, 's> = FluentBundle<'r, 's, EnglishPlurals, NoCustom, Own, NoFormatter>;
-
-fn add_own(bundle: &mut WithOwn<'_, '_>, own: Own) -> Result<(), AddFault> {
-    bundle.add_function("F", own)
+fn add_function(bundle: &mut Bundle<'_, '_>, id: &str, own: Own) -> Result<(), AddFault> {
+    bundle.add_function(id, own)
 }
 
-fn add_beside<'r, 's>(
-    bundle: &mut WithOwn<'r, 's>,
-    resource: &'r FluentResource<'s>,
-) -> Result<(), AddFault> {
-    bundle.add_resource(resource)
-}
-
-fn has_nothing(bundle: &WithOwn<'_, '_>) -> bool {
-    matches!(
-        bundle.get_entry_function("F"),
-        Some(FunctionRef::Own(Own::Nothing))
-    )
-}
-
-fn own_bundle<'r, 's>(alloc: Global) -> Result<WithOwn<'r, 's>, AllocError> {
-    FluentBundle::new_default(alloc)
-}
-
-fn adds_functions<'r, 's>(
-    rt: &impl Abort,
-    alloc: Global,
-    resource: &'r FluentResource<'s>,
-) -> Result<(), Fail> {
-    let mut bundle: WithOwn<'r, 's> = own_bundle(alloc)?;
-    whole(add_own(&mut bundle, Own::Nothing))?;
-    let left = "Attempt to override an existing function: \"F\".\n";
-    is_left(rt, alloc, add_own(&mut bundle, Own::Fault), left)?;
-    assert!(rt; has_nothing(&bundle));
-    let left = "Attempt to override an existing message: \"F\".\n";
-    is_left(rt, alloc, add_beside(&mut bundle, resource), left)?;
-    assert!(rt; has_nothing(&bundle));
-    holds(rt, &bundle, &[("F", "", "", true), ("G", "", "2", false)]);
-    Ok(())
-}
-
-#[test]
-fn functions_share_the_ids(rt: HostRuntime) -> Result<(), Fail> {
-    let resource = clean(rt.alloc(), "F = 1\n-G = 2\n")?;
-    adds_functions(&rt, rt.alloc(), &resource)
-}
-
-fn add_builtins(bundle: &mut Plain<'_, '_>) -> Result<(), AddFault> {
+fn add_builtins(bundle: &mut Bundle<'_, '_>) -> Result<(), AddFault> {
     bundle.add_builtins()
 }
 
-fn has_builtin(bundle: &Plain<'_, '_>) -> bool {
-    matches!(
-        bundle.get_entry_function("NUMBER"),
-        Some(FunctionRef::Number)
-    )
+/// What a bundle is made over: two sources.
+type Sources<'r, 's> = (&'r FluentResource<'s>, &'r FluentResource<'s>);
+
+fn take<'r, 's>(
+    bundle: &mut Bundle<'r, 's>,
+    sources: Sources<'r, 's>,
+    step: Step,
+) -> Result<(), AddFault> {
+    match step {
+        Step::AddFirst => add(bundle, sources.0),
+        Step::AddSecond => add(bundle, sources.1),
+        Step::OverrideBySecond => override_by(bundle, sources.1),
+        Step::AddFunction(id, own) => add_function(bundle, id, own),
+        Step::AddBuiltins => add_builtins(bundle),
+    }
 }
 
-#[test]
-fn builtins_are_added_once(rt: HostRuntime) -> Result<(), Fail> {
-    let mut bundle: Plain<'_, '_> = default_bundle(rt.alloc())?;
-    whole(add_builtins(&mut bundle))?;
-    let added = add_builtins(&mut bundle);
-    assert!(rt; has_builtin(&bundle));
-    let left = "Attempt to override an existing function: \"NUMBER\".\n";
-    is_left(&rt, rt.alloc(), added, left)
-}
-
-// ---- refused memory
-
-/// A call that adds.
-#[derive(Clone, Copy, Drop)]
-enum Adding<'r, 's> {
-    Resource(&'r FluentResource<'s>),
-    Function,
-    Builtins,
-}
-
-/// How many errors a call reports; `None` where memory is refused.
-fn reported<'r, 's>(bundle: &mut Plain<'r, 's>, call: Adding<'r, 's>) -> Option<usize> {
-    let added = match call {
-        Adding::Resource(resource) => add(bundle, resource),
-        Adding::Function => add_no_function(bundle, "F"),
-        Adding::Builtins => add_builtins(bundle),
-    };
+/// The errors that a call reports.
+fn reported(alloc: Global, added: Result<(), AddFault>) -> Result<Vec<FluentError>, AllocError> {
     match added {
-        Ok(()) => Some(0),
-        Err(AddFault::Overriding(errors)) => Some(errors.len()),
-        Err(AddFault::Memory) => None,
+        Ok(()) => Ok(Vec::new(alloc)),
+        Err(AddFault::Overriding(errors)) => Ok(errors),
+        Err(AddFault::Memory) => Err(AllocError),
     }
 }
 
-/// Makes a call that reports so many errors, again where memory is refused, after which the bundle is as before.
-fn adds<'r, 's>(
-    rt: &impl Abort,
-    bundle: &mut Plain<'r, 's>,
-    call: Adding<'r, 's>,
-    errors: usize,
-    before: &[Held],
-) -> Result<(), Fail> {
-    let mut found = reported(bundle, call);
-    if found.is_none() {
-        holds(rt, bundle, before);
-        found = reported(bundle, call);
-    }
-    assert!(rt; found.ok_or("not added")? == errors);
-    Ok(())
-}
+/// A call, the lines of its errors, and what ids mean after it.
+type Row = (Step, &'static str, &'static [Held]);
 
-fn overrides_again<'r, 's>(
-    rt: &impl Abort,
-    bundle: &mut Plain<'r, 's>,
-    resource: &'r FluentResource<'s>,
-) -> Result<(), Fail> {
-    if override_by(bundle, resource).is_err() {
-        holds(rt, bundle, &[("a", "one", "", false)]);
-        override_by(bundle, resource)?;
-    }
-    holds(
-        rt,
-        bundle,
-        &[("a", "three", "", false), ("c", "four", "", false)],
-    );
-    Ok(())
-}
+/// Two sources, what ids mean in an empty bundle, and the calls on it in order.
+type List = (&'static str, &'static str, &'static [Held], &'static [Row]);
 
-const NEITHER: &[Held] = &[("b", "", "", false), ("c", "", "", false)];
-
-const BOTH: &[Held] = &[("a", "one", "", false), ("b", "two", "", false)];
-
-/// Adds one resource after another.
-fn adds_resources<'r, 's>(
+/// Makes a call, again where memory is refused, after which the bundle is as before.
+fn makes<'r, 's>(
     rt: &impl Abort,
     alloc: Global,
-    first: &'r FluentResource<'s>,
-    second: &'r FluentResource<'s>,
+    bundle: &mut Bundle<'r, 's>,
+    sources: Sources<'r, 's>,
+    row: &Row,
+    before: &[Held],
 ) -> Result<(), Fail> {
-    let mut bundle: Plain<'r, 's> = empty(alloc);
-    let none = &[("a", "", "", false)];
-    adds(rt, &mut bundle, Adding::Resource(first), 0, none)?;
-    adds(rt, &mut bundle, Adding::Resource(second), 1, NEITHER)?;
-    holds(rt, &bundle, BOTH);
-    overrides_again(rt, &mut bundle, second)
-}
-
-fn has_own(bundle: &Plain<'_, '_>) -> bool {
-    matches!(bundle.get_entry_function("F"), Some(FunctionRef::Own(_)))
-}
-
-/// Adds functions, the built-in one twice.
-fn adds_both_functions(rt: &impl Abort, bundle: &mut Plain<'_, '_>) -> Result<(), Fail> {
-    adds(rt, bundle, Adding::Function, 0, &[("F", "", "", false)])?;
-    let none = &[("NUMBER", "", "", false)];
-    adds(rt, bundle, Adding::Builtins, 0, none)?;
-    adds(rt, bundle, Adding::Builtins, 1, &[])?;
-    assert!(rt; has_own(bundle));
-    assert!(rt; has_builtin(bundle));
+    let errors = match reported(alloc, take(bundle, sources, row.0)) {
+        Ok(errors) => errors,
+        Err(AllocError) => {
+            holds(rt, bundle, before);
+            reported(alloc, take(bundle, sources, row.0))?
+        }
+    };
+    are(rt, alloc, errors.as_slice(), row.1)?;
+    holds(rt, bundle, row.2);
     Ok(())
 }
+
+fn makes_all<'r, 's>(
+    rt: &impl Abort,
+    alloc: Global,
+    sources: Sources<'r, 's>,
+    list: &List,
+) -> Result<(), Fail> {
+    let mut bundle: Bundle<'r, 's> = empty(alloc);
+    let mut before = list.2;
+    holds(rt, &bundle, before);
+    for row in list.3 {
+        makes(rt, alloc, &mut bundle, sources, row, before)?;
+        before = row.2;
+    }
+    Ok(())
+}
+
+fn is_made(rt: &impl Abort, alloc: Global, list: &List) -> Result<(), Fail> {
+    let first = read(alloc, list.0)?;
+    let second = read(alloc, list.1)?;
+    makes_all(rt, alloc, (&first, &second), list)
+}
+
+/// What is left is reported in order.
+const LEFT: List = (
+    "a = 1\na = 2\n-a = 3\n",
+    "",
+    &[("a", "", "", ""), ("b", "", "", "")],
+    &[(
+        Step::AddFirst,
+        "Attempt to override an existing message: \"a\".\nAttempt to override an existing term: \"a\".\n",
+        &[("a", "1", "", ""), ("b", "", "", "")],
+    )],
+);
+
+/// Overriding wins.
+const OVERRIDDEN: List = (
+    "foo = a\nbar = b\n",
+    "foo = d\n-foo = c\nNUMBER = e\n",
+    &[],
+    &[
+        (
+            Step::AddFunction("NUMBER", Own::Nothing),
+            "",
+            &[("foo", "", "", "")],
+        ),
+        (Step::AddFirst, "", &[("foo", "a", "", "")]),
+        (
+            Step::OverrideBySecond,
+            "",
+            &[
+                ("foo", "", "c", ""),
+                ("NUMBER", "e", "", ""),
+                ("bar", "b", "", ""),
+            ],
+        ),
+    ],
+);
+
+/// Functions share the ids.
+const FUNCTIONS: List = (
+    "F = 1\n-G = 2\n",
+    "",
+    &[("F", "", "", "")],
+    &[
+        (
+            Step::AddFunction("F", Own::Nothing),
+            "",
+            &[("F", "", "", "nothing")],
+        ),
+        (
+            Step::AddFunction("F", Own::Fault),
+            "Attempt to override an existing function: \"F\".\n",
+            &[("F", "", "", "nothing"), ("G", "", "", "")],
+        ),
+        (
+            Step::AddFirst,
+            "Attempt to override an existing message: \"F\".\n",
+            &[("F", "", "", "nothing"), ("G", "", "2", "")],
+        ),
+    ],
+);
+
+/// Built-in functions are added once, beside those of the application.
+const BUILTINS: List = (
+    "",
+    "",
+    &[("F", "", "", ""), ("NUMBER", "", "", "")],
+    &[
+        (
+            Step::AddFunction("F", Own::Nothing),
+            "",
+            &[("F", "", "", "nothing"), ("NUMBER", "", "", "")],
+        ),
+        (
+            Step::AddBuiltins,
+            "",
+            &[("F", "", "", "nothing"), ("NUMBER", "", "", "NUMBER")],
+        ),
+        (
+            Step::AddBuiltins,
+            "Attempt to override an existing function: \"NUMBER\".\n",
+            &[("F", "", "", "nothing"), ("NUMBER", "", "", "NUMBER")],
+        ),
+    ],
+);
+
+/// One source is added after another, and overrides it then.
+const RESOURCES: List = (
+    "a = one\n",
+    "b = two\na = three\n-a-b = five\nc = four\n",
+    &[("a", "", "", "")],
+    &[
+        (
+            Step::AddFirst,
+            "",
+            &[("a", "one", "", ""), ("b", "", "", ""), ("c", "", "", "")],
+        ),
+        (
+            Step::AddSecond,
+            "Attempt to override an existing message: \"a\".\n",
+            &[("a", "one", "", ""), ("b", "two", "", "")],
+        ),
+        (
+            Step::OverrideBySecond,
+            "",
+            &[("a", "three", "", ""), ("c", "four", "", "")],
+        ),
+    ],
+);
+
+/// Two messages of one source are added.
+const TWO: List = (
+    "a = one\nb = two\n",
+    "",
+    &[("a", "", "", ""), ("b", "", "", "")],
+    &[(
+        Step::AddFirst,
+        "",
+        &[("a", "one", "", ""), ("b", "two", "", "")],
+    )],
+);
+
+/// Junk is passed over.
+const JUNK: List = (
+    "junk\na = one\nb = { $name }\n",
+    "",
+    &[],
+    &[(
+        Step::AddFirst,
+        "",
+        &[
+            ("junk", "", "", ""),
+            ("a", "one", "", ""),
+            ("b", "name", "", ""),
+        ],
+    )],
+);
+
+const LISTS: &[List] = &[LEFT, OVERRIDDEN, FUNCTIONS, BUILTINS, RESOURCES, TWO, JUNK];
 
 /// Run with each allocation failing in turn: what is refused leaves all as before, and succeeds when it is repeated.
 #[test]
-fn refused_resources_can_be_added_again(rt: HostRuntime) -> Result<(), Fail> {
-    let first = clean(rt.alloc(), "a = one\n")?;
-    let second = clean(rt.alloc(), "b = two\na = three\n-a-b = five\nc = four\n")?;
-    adds_resources(&rt, rt.alloc(), &first, &second)
-}
-
-/// The same of functions.
-#[test]
-fn refused_functions_can_be_added_again(rt: HostRuntime) -> Result<(), Fail> {
-    let mut bundle = empty(rt.alloc());
-    adds_both_functions(&rt, &mut bundle)
-}
-
-// ---- calls as values
-
-/// Whether the value of `c`, a text and a missing variable, is written with marks.
-fn isolates(alloc: Global, bundle: &Plain<'_, '_>) -> Result<bool, Fail> {
-    let message = bundle.get_message("c").ok_or("no c")?;
-    let pattern = message.value().ok_or("no value")?;
-    let mut errors = Vec::new(alloc);
-    let text = format(bundle, pattern, None, &mut errors)?;
-    Ok(text.as_str() == "x\u{2068}{$y}\u{2069}")
-}
-
-fn make_first<'r, 's>(
-    bundle: &mut Plain<'r, 's>,
-    first: &'r FluentResource<'s>,
-    second: &'r FluentResource<'s>,
-) -> Result<(), AllocError> {
-    bundle.make(&Call::AddResource(first))?;
-    bundle.make_all(&[
-        Call::AddResource(second),
-        Call::SetUseIsolating(false),
-        Call::AddBuiltins,
-    ])
-}
-
-fn make_last<'r, 's>(
-    bundle: &mut Plain<'r, 's>,
-    second: &'r FluentResource<'s>,
-) -> Result<(), AllocError> {
-    bundle.make_all(&[
-        Call::AddResourceOverriding(second),
-        Call::SetUseIsolating(true),
-    ])
-}
-
-const FIRST: &[Held] = &[
-    ("a", "one", "", false),
-    ("b", "three", "", false),
-    ("NUMBER", "", "", true),
-];
-
-fn makes_calls<'r, 's>(
-    rt: &impl Abort,
-    alloc: Global,
-    first: &'r FluentResource<'s>,
-    second: &'r FluentResource<'s>,
-) -> Result<(), Fail> {
-    let mut bundle: Plain<'r, 's> = default_bundle(alloc)?;
-    make_first(&mut bundle, first, second)?;
-    holds(rt, &bundle, FIRST);
-    assert!(rt; !isolates(alloc, &bundle)?);
-    make_last(&mut bundle, second)?;
-    holds(rt, &bundle, &[("a", "two", "", false)]);
-    assert!(rt; isolates(alloc, &bundle)?);
-    Ok(())
-}
-
-#[test]
-fn calls_are_made_in_order(rt: HostRuntime) -> Result<(), Fail> {
-    let first = clean(rt.alloc(), "a = one\n")?;
-    let second = clean(rt.alloc(), "a = two\nb = three\nc = x{ $y }\n")?;
-    makes_calls(&rt, rt.alloc(), &first, &second)
-}
-
-#[test]
-fn the_default_bundle_has_one_locale(rt: HostRuntime) -> Result<(), Fail> {
-    let bundle: Plain<'_, '_> = default_bundle(rt.alloc())?;
-    assert!(rt; bundle.locales.len() == 1);
-    assert!(rt; bundle.locales[0].language.is_none());
+fn calls_report_what_is_left(rt: HostRuntime) -> Result<(), Fail> {
+    for list in LISTS {
+        is_made(&rt, rt.alloc(), list)?;
+    }
     Ok(())
 }

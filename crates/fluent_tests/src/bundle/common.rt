@@ -1,10 +1,10 @@
 //! What the tests of the bundle share. A call that stands here without a contract keeps what the bundle's contract
 //! says from the tests, which rest on none of it.
-use fluent_bundle::ast::{Entry, Message, Pattern, PatternElement};
+use crate::bundle::own::{Bracketed, Own};
+use fluent_bundle::ast::{Entry, Expression, InlineExpression, Message, Pattern, PatternElement};
 use fluent_bundle::bundle::AddFault;
 use fluent_bundle::{
-    FluentArgs, FluentBundle, FluentError, FluentFormatter, FluentMessage, FluentResource,
-    NoCustom, NoFormatter, NoFunction, TryNewFault,
+    FluentArgs, FluentBundle, FluentError, FluentResource, FluentValue, NoCustom, TryNewFault,
 };
 use fluent_intl::EnglishPlurals;
 use std::alloc::{AllocError, Global};
@@ -12,21 +12,23 @@ use std::borrow::CowStr;
 use std::process::Abort;
 use std::test::Fail;
 
-/// A bundle in English with a formatter of the application.
-pub type Bundle<'r, 's, G> = FluentBundle<'r, 's, EnglishPlurals, NoCustom, NoFunction, G>;
+/// A bundle in English.
+pub type Bundle<'r, 's> = FluentBundle<'r, 's, EnglishPlurals, NoCustom, Own, Bracketed>;
 
-/// A bundle in English with nothing of the application.
-pub type Plain<'r, 's> = Bundle<'r, 's, NoFormatter>;
-
-/// A source without Junk, read a second time where memory is refused at the first.
-pub fn clean<'s>(alloc: Global, source: &'s str) -> Result<FluentResource<'s>, Fail> {
+/// A source as it is read, with Junk or without.
+fn read_once<'s>(alloc: Global, source: &'s str) -> Result<FluentResource<'s>, AllocError> {
     match FluentResource::try_new(alloc, source) {
         Ok(resource) => Ok(resource),
-        Err(TryNewFault::Parser(_, _)) => Err("Junk".into()),
-        Err(TryNewFault::Memory) => match FluentResource::try_new(alloc, source) {
-            Ok(resource) => Ok(resource),
-            Err(_) => Err("not read".into()),
-        },
+        Err(TryNewFault::Parser(resource, _)) => Ok(resource),
+        Err(TryNewFault::Memory) => Err(AllocError),
+    }
+}
+
+/// The same, read a second time where memory is refused at the first.
+pub fn read<'s>(alloc: Global, source: &'s str) -> Result<FluentResource<'s>, AllocError> {
+    match read_once(alloc, source) {
+        Ok(resource) => Ok(resource),
+        Err(AllocError) => read_once(alloc, source),
     }
 }
 
@@ -46,34 +48,26 @@ pub fn value_of<'r, 's>(resource: &'r FluentResource<'s>) -> Result<&'r Pattern<
     }
 }
 
-/// The text that a pattern begins with.
+/// The text that a pattern begins with, or the name of the variable.
 pub fn first_text<'x>(pattern: &'x Pattern<'_>) -> &'x str {
     match pattern.elements.first() {
         Some(PatternElement::TextElement { value }) => *value,
+        Some(
+            PatternElement::Placeable {
+                expression: Expression::Inline(InlineExpression::VariableReference { id }),
+            },
+        ) => id.name,
         _ => "",
     }
 }
 
-/// The text that a message's value begins with; nothing where there is no message.
-pub fn value_text<'x>(message: Option<FluentMessage<'x, '_>>) -> &'x str {
-    let Some(message) = message else {
-        return "";
-    };
-    match message.value() {
-        Some(pattern) => first_text(pattern),
-        None => "",
-    }
-}
-
 /// A bundle with nothing in it.
-pub fn empty<'r, 's>(alloc: Global) -> Plain<'r, 's> {
+pub fn empty<'r, 's>(alloc: Global) -> Bundle<'r, 's> {
     FluentBundle::new(alloc, Vec::new(alloc), EnglishPlurals)
 }
 
 /// A default bundle, made a second time where memory is refused at the first.
-pub fn default_bundle<'r, 's, G: FluentFormatter<NoCustom, EnglishPlurals>>(
-    alloc: Global,
-) -> Result<Bundle<'r, 's, G>, AllocError> {
+pub fn default_bundle<'r, 's>(alloc: Global) -> Result<Bundle<'r, 's>, AllocError> {
     match FluentBundle::new_default(alloc) {
         Ok(bundle) => Ok(bundle),
         Err(_) => FluentBundle::new_default(alloc),
@@ -81,19 +75,11 @@ pub fn default_bundle<'r, 's, G: FluentFormatter<NoCustom, EnglishPlurals>>(
 }
 
 /// Adds a resource.
-pub fn add<'r, 's, G: FluentFormatter<NoCustom, EnglishPlurals>>(
-    bundle: &mut Bundle<'r, 's, G>,
+pub fn add<'r, 's>(
+    bundle: &mut Bundle<'r, 's>,
     resource: &'r FluentResource<'s>,
 ) -> Result<(), AddFault> {
     bundle.add_resource(resource)
-}
-
-/// That a call added all.
-pub fn whole(added: Result<(), AddFault>) -> Result<(), Fail> {
-    match added {
-        Ok(()) => Ok(()),
-        Err(_) => Err("not added".into()),
-    }
 }
 
 /// The texts of errors, each with a line feed.
@@ -120,9 +106,21 @@ pub fn are(
     Ok(())
 }
 
+/// The name of an argument and its text; none where the name is empty.
+pub type Given = (&'static str, &'static str);
+
+/// Arguments by their texts; a text that is a number is one.
+pub fn arguments(alloc: Global, given: Given) -> Result<FluentArgs<'static, NoCustom>, AllocError> {
+    let mut args = FluentArgs::new(alloc);
+    if !given.0.is_empty() {
+        args.set(CowStr::Borrowed(given.0), FluentValue::try_number(given.1))?;
+    }
+    Ok(args)
+}
+
 /// Formats a pattern.
-pub fn format<'p, G: FluentFormatter<NoCustom, EnglishPlurals>>(
-    bundle: &Bundle<'_, '_, G>,
+pub fn format<'p>(
+    bundle: &Bundle<'_, '_>,
     pattern: &'p Pattern<'_>,
     args: Option<&FluentArgs<'_, NoCustom>>,
     errors: &mut Vec<FluentError>,

@@ -1,9 +1,8 @@
-//! What sources are read as, Junk too, and the errors of references that they hold.
-use crate::bundle::common::{Plain, add, default_bundle, value_text, whole};
+//! What sources are read as, Junk too, and the errors of the references that they hold.
+use crate::bundle::common::{read, value_of};
 use fluent_bundle::ast::{Entry, Expression, InlineExpression, Pattern, PatternElement};
-use fluent_bundle::{FluentMessage, FluentResource, ParserError, ResolverError, TryNewFault};
+use fluent_bundle::{FluentResource, ParserError, ResolverError, TryNewFault};
 use std::alloc::{AllocError, Global};
-use std::process::Abort;
 use std::test::Fail;
 
 /// The expression of a pattern of one placeable.
@@ -12,14 +11,6 @@ fn placed<'x, 's>(pattern: &'x Pattern<'s>) -> Option<&'x InlineExpression<'s>> 
         PatternElement::Placeable {
             expression: Expression::Inline(expression),
         } => Some(expression),
-        _ => None,
-    }
-}
-
-/// The expression in the first entry, a message of one placeable.
-fn expression_of<'x, 's>(resource: &'x FluentResource<'s>) -> Option<&'x InlineExpression<'s>> {
-    match resource.get_entry(0)? {
-        Entry::Message(message) => placed(message.value.as_ref()?),
         _ => None,
     }
 }
@@ -33,14 +24,10 @@ fn lost_text(alloc: Global, expression: &InlineExpression<'_>) -> Result<String,
 }
 
 /// The error of the reference that a message of one placeable holds; no text where it holds none.
-fn lost(rt: &impl Abort, alloc: Global, source: &str, expected: &str) -> Result<(), Fail> {
-    let Ok(resource) = FluentResource::try_new(alloc, source) else {
-        return Err("not read".into());
-    };
-    let expression = expression_of(&resource).ok_or("no expression")?;
-    let found = lost_text(alloc, expression)?;
-    assert!(rt; found.as_str() == expected, "of {source}");
-    Ok(())
+fn is_lost(alloc: Global, source: &str, expected: &str) -> Result<bool, Fail> {
+    let resource = read(alloc, source)?;
+    let expression = placed(value_of(&resource)?).ok_or("no expression")?;
+    Ok(lost_text(alloc, expression)?.as_str() == expected)
 }
 
 const LOST: &[(&str, &str)] = &[
@@ -54,15 +41,23 @@ const LOST: &[(&str, &str)] = &[
     ("a = { { $b } }", ""),
 ];
 
-#[test]
-fn references_have_their_errors(rt: HostRuntime) -> Result<(), Fail> {
-    for (source, expected) in LOST {
-        lost(&rt, rt.alloc(), *source, *expected)?;
-    }
-    Ok(())
-}
+/// A source, its two entries by their ids or as Junk, and its errors.
+type Source = (
+    &'static str,
+    &'static str,
+    &'static str,
+    &'static [ParserError],
+);
 
-// ---- what is read
+const SOURCES: &[Source] = &[
+    ("hello = Hi\nbye = Bye\n", "hello", "bye", &[]),
+    (
+        "a = 1\n\n# c\nb = { $x",
+        "a",
+        "b = { $x",
+        &[ParserError { start: 11, end: 19 }],
+    ),
+];
 
 fn id_of<'x>(entry: Option<&'x Entry<'_>>) -> &'x str {
     match entry {
@@ -73,7 +68,7 @@ fn id_of<'x>(entry: Option<&'x Entry<'_>>) -> &'x str {
     }
 }
 
-/// Entries that a resource holds by their ids, and no more.
+/// That a resource holds two entries by their ids, and no more.
 fn are_held(resource: &FluentResource<'_>, first: &str, second: &str) -> bool {
     id_of(resource.get_entry(0)) == first
         && id_of(resource.get_entry(1)) == second
@@ -81,66 +76,25 @@ fn are_held(resource: &FluentResource<'_>, first: &str, second: &str) -> bool {
         && resource.entries().count() == 2
 }
 
-#[test]
-fn a_clean_source_is_read(rt: HostRuntime) -> Result<(), Fail> {
-    let source = "hello = Hi\nbye = Bye\n";
-    let Ok(resource) = FluentResource::try_new(rt.alloc(), source) else {
-        return Err("not read".into());
-    };
-    assert!(rt; resource.source() == source);
-    assert!(rt; are_held(&resource, "hello", "bye"));
-    Ok(())
+fn is(resource: &FluentResource<'_>, errors: &[ParserError], row: &Source) -> bool {
+    resource.source() == row.0 && are_held(resource, row.1, row.2) && errors == row.3
 }
 
-#[test]
-fn junk_is_reported_and_kept(rt: HostRuntime) -> Result<(), Fail> {
-    let source = "a = 1\n\n# c\nb = { $x";
-    let Err(TryNewFault::Parser(resource, errors)) = FluentResource::try_new(rt.alloc(), source)
-    else {
-        return Err("no Junk".into());
-    };
-    assert!(rt; errors.as_slice() == [ParserError { start: 11, end: 19 }].as_slice());
-    assert!(rt; resource.source() == source);
-    assert!(rt; are_held(&resource, "a", "b = { $x"));
-    Ok(())
-}
-
-/// Whether a message's value is a variable.
-fn is_variable(message: Option<FluentMessage<'_, '_>>, name: &str) -> bool {
-    let Some(message) = message else {
-        return false;
-    };
-    match message.value() {
-        Some(pattern) => refers_to(pattern, name),
-        None => false,
+fn is_read(alloc: Global, row: &Source) -> Result<bool, AllocError> {
+    match FluentResource::try_new(alloc, row.0) {
+        Ok(resource) => Ok(is(&resource, &[], row)),
+        Err(TryNewFault::Parser(resource, errors)) => Ok(is(&resource, errors.as_slice(), row)),
+        Err(TryNewFault::Memory) => Err(AllocError),
     }
 }
 
-fn refers_to(pattern: &Pattern<'_>, name: &str) -> bool {
-    match placed(pattern) {
-        Some(InlineExpression::VariableReference { id }) => id.name == name,
-        _ => false,
-    }
-}
-
-fn passes_junk_over<'r, 's>(
-    rt: &impl Abort,
-    alloc: Global,
-    resource: &'r FluentResource<'s>,
-) -> Result<(), Fail> {
-    let mut bundle: Plain<'_, '_> = default_bundle(alloc)?;
-    whole(add(&mut bundle, resource))?;
-    assert!(rt; !bundle.has_message("junk"));
-    assert!(rt; value_text(bundle.get_message("a")) == "one");
-    assert!(rt; is_variable(bundle.get_message("b"), "name"));
-    Ok(())
-}
-
 #[test]
-fn junk_is_passed_over(rt: HostRuntime) -> Result<(), Fail> {
-    let alloc = rt.alloc();
-    match FluentResource::try_new(alloc, "junk\na = one\nb = { $name }\n") {
-        Err(TryNewFault::Parser(resource, _)) => passes_junk_over(&rt, alloc, &resource),
-        _ => Err("no Junk".into()),
+fn sources_are_read_and_references_have_their_errors(rt: HostRuntime) -> Result<(), Fail> {
+    for row in SOURCES {
+        assert!(rt; is_read(rt.alloc(), row)?, "{}", row.0);
     }
+    for (source, expected) in LOST {
+        assert!(rt; is_lost(rt.alloc(), *source, *expected)?, "{source}");
+    }
+    Ok(())
 }

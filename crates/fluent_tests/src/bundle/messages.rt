@@ -3,53 +3,76 @@ ghost use Rattle.std.specs.Prelude.{◌≡◌, ◌↔◌, IsTrue};
 ghost use Rattle.fluent_tree.specs.View.{attribute_view};
 ghost use Rattle.fluent_tree.specs.View as tree;
 
-use crate::bundle::common::{clean, first_text, message_of};
+use crate::bundle::common::{first_text, message_of, read};
 use fluent_bundle::ast::{Attribute, Message};
 use fluent_bundle::{FluentAttribute, FluentMessage};
-use std::alloc::{AllocError, Global};
-use std::process::Abort;
+use std::alloc::Global;
 use std::test::Fail;
 
-#[test]
-fn the_first_attribute_of_a_name_is_found(rt: HostRuntime) -> Result<(), Fail> {
-    let resource = clean(rt.alloc(), "m =\n    .x = one\n    .x = two\n")?;
-    let message = FluentMessage::from(message_of(&resource)?);
-    assert!(rt; message.value().is_none());
-    let attribute = message.get_attribute("x").ok_or("no x")?;
-    assert!(rt; first_text(attribute.value()) == "one");
-    assert!(rt; message.get_attribute("y").is_none());
-    assert!(rt; message.attributes().count() == 2);
-    Ok(())
-}
+/// The name of an attribute and its text.
+type Named = (&'static str, &'static str);
 
-/// The names and texts of attributes, each with a line feed.
-fn lines(alloc: Global, message: FluentMessage<'_, '_>) -> Result<String, AllocError> {
-    let mut out = String::new(alloc);
-    for attribute in message.attributes() {
-        let text = first_text(attribute.value());
-        write!(out, "{}={text}\n", attribute.id())?;
+/// That an attribute has this name and this text; both are empty where there is none.
+fn is_named(attribute: Option<FluentAttribute<'_, '_>>, row: &Named) -> bool {
+    match attribute {
+        Some(attribute) => attribute.id() == row.0 && first_text(attribute.value()) == row.1,
+        None => row.1.is_empty(),
     }
-    Ok(out)
 }
 
-/// That each attribute is the one that its name finds.
-fn are_found(message: FluentMessage<'_, '_>) -> bool {
-    for attribute in message.attributes() {
-        if message.get_attribute(attribute.id()) != Some(attribute) {
+/// That a message has these attributes, in this order.
+fn are_in_order(message: FluentMessage<'_, '_>, rows: &[Named]) -> bool {
+    let mut attributes = message.attributes();
+    for row in rows {
+        if !is_named(attributes.next(), row) {
+            return false;
+        }
+    }
+    attributes.next().is_none()
+}
+
+/// That each name finds this attribute.
+fn are_found(message: FluentMessage<'_, '_>, rows: &[Named]) -> bool {
+    for row in rows {
+        if !is_named(message.get_attribute(row.0), row) {
             return false;
         }
     }
     true
 }
 
+/// A source, whether its first message has a value, the message's attributes, and what names find.
+type Row = (&'static str, bool, &'static [Named], &'static [Named]);
+
+const ROWS: &[Row] = &[
+    (
+        "m =\n    .x = one\n    .x = two\n",
+        false,
+        &[("x", "one"), ("x", "two")],
+        &[("x", "one"), ("y", "")],
+    ),
+    (
+        "save = Save?\n    .yes = Save it\n    .no = Drop it\n    .key = S\n",
+        true,
+        &[("yes", "Save it"), ("no", "Drop it"), ("key", "S")],
+        &[("yes", "Save it"), ("no", "Drop it"), ("key", "S")],
+    ),
+];
+
+fn has(message: FluentMessage<'_, '_>, row: &Row) -> bool {
+    message.value().is_some() == row.1 && are_in_order(message, row.2) && are_found(message, row.3)
+}
+
+fn is_row(alloc: Global, row: &Row) -> Result<bool, Fail> {
+    let resource = read(alloc, row.0)?;
+    Ok(has(FluentMessage::from(message_of(&resource)?), row))
+}
+
 #[test]
-fn attributes_come_in_order(rt: HostRuntime) -> Result<(), Fail> {
-    let source = "save = Save?\n    .yes = Save it\n    .no = Drop it\n    .key = S\n";
-    let resource = clean(rt.alloc(), source)?;
-    let message = FluentMessage::from(message_of(&resource)?);
-    let text = lines(rt.alloc(), message)?;
-    assert!(rt; text.as_str() == "yes=Save it\nno=Drop it\nkey=S\n");
-    assert!(rt; are_found(message));
+fn attributes_come_in_order_and_the_first_of_a_name_is_found(rt: HostRuntime) -> Result<(), Fail> {
+    for row in ROWS {
+        assert!(rt; is_row(rt.alloc(), row)?);
+    }
     Ok(())
 }
 
@@ -66,24 +89,35 @@ fn same_attributes<'m, 's>(a: &'m Attribute<'s>, b: &'m Attribute<'s>) -> bool
 }
 
 /// That messages and their first attributes are the same, or that neither are.
-fn compare<'m, 's>(
-    rt: &impl Abort,
-    one: &'m Message<'s>,
-    other: &'m Message<'s>,
-    same: bool,
-) -> Result<(), Fail> {
-    assert!(rt; same_messages(one, other) == same);
-    let attribute = one.attributes.first().ok_or("no attribute")?;
-    let beside = other.attributes.first().ok_or("no attribute")?;
-    assert!(rt; same_attributes(attribute, beside) == same);
-    Ok(())
+fn compare<'m, 's>(one: &'m Message<'s>, other: &'m Message<'s>, same: bool) -> bool {
+    match (one.attributes.first(), other.attributes.first()) {
+        (Some(attribute), Some(beside)) => {
+            same_messages(one, other) == same && same_attributes(attribute, beside) == same
+        }
+        _ => false,
+    }
+}
+
+/// Two sources, and whether their messages are the same.
+const SAME: &[(&str, &str, bool)] = &[
+    ("m = one\n    .x = two\n", "m = one\n    .x = two\n", true),
+    (
+        "m = one\n    .x = two\n",
+        "m = one\n    .x = three\n",
+        false,
+    ),
+];
+
+fn is_same(alloc: Global, one: &str, other: &str, same: bool) -> Result<bool, Fail> {
+    let first = read(alloc, one)?;
+    let second = read(alloc, other)?;
+    Ok(compare(message_of(&first)?, message_of(&second)?, same))
 }
 
 #[test]
 fn equality_is_that_of_contents(rt: HostRuntime) -> Result<(), Fail> {
-    let first = clean(rt.alloc(), "m = one\n    .x = two\n")?;
-    let again = clean(rt.alloc(), "m = one\n    .x = two\n")?;
-    let other = clean(rt.alloc(), "m = one\n    .x = three\n")?;
-    compare(&rt, message_of(&first)?, message_of(&again)?, true)?;
-    compare(&rt, message_of(&first)?, message_of(&other)?, false)
+    for (one, other, same) in SAME {
+        assert!(rt; is_same(rt.alloc(), *one, *other, *same)?);
+    }
+    Ok(())
 }

@@ -1,70 +1,67 @@
 //! Values as keys and selectors, and the scope of a call.
-use crate::bundle::common::{Bundle, Plain, are, default_bundle};
-use crate::bundle::resolver::Bracketed;
+use crate::bundle::common::{Bundle, are, default_bundle};
+use crate::bundle::own::Bracketed;
 use fluent_bundle::types::{FluentNumber, FluentNumberType};
 use fluent_bundle::{
     Counting, FluentError, FluentValue, NoCustom, ResolverError, Scope, WriteFault,
 };
-use std::alloc::AllocError;
+use std::alloc::{AllocError, Global};
 use std::process::Abort;
 use std::test::Fail;
 
-/// An ordinal number.
+/// A key or a selector: a text, of which one that is a number is one, an ordinal number, or nothing.
+#[derive(Clone, Copy, Drop)]
+enum Side {
+    Text(&'static str),
+    Ordinal(u8),
+    Nothing,
+}
+
 fn ordinal<'v>(n: u8) -> FluentValue<'v, NoCustom> {
     let mut number = FluentNumber::from(n);
     number.options.number_type = FluentNumberType::Ordinal;
     FluentValue::Number(number)
 }
 
+fn value<'v>(side: Side) -> FluentValue<'v, NoCustom> {
+    match side {
+        Side::Text(text) => FluentValue::try_number(text),
+        Side::Ordinal(n) => ordinal(n),
+        Side::Nothing => FluentValue::None,
+    }
+}
+
 /// Whether a key matches a selector.
-fn meets<'v>(
-    bundle: &Plain<'_, '_>,
-    key: &FluentValue<'v, NoCustom>,
-    selector: &FluentValue<'v, NoCustom>,
-) -> bool {
+fn meets(bundle: &Bundle<'_, '_>, key: Side, selector: Side) -> bool {
     let scope = Scope::new(bundle, None, None);
-    key.matches(selector, &scope)
+    value(key).matches(&value(selector), &scope)
 }
 
-/// The same of texts; one that is a number is one.
-fn texts_meet(bundle: &Plain<'_, '_>, key: &str, selector: &str) -> bool {
-    let key = FluentValue::try_number(key);
-    let selector = FluentValue::try_number(selector);
-    meets(bundle, &key, &selector)
-}
-
-const KEYS: &[(&str, &str, bool)] = &[
-    ("one", "1", true),
-    ("two", "100", false),
-    ("other", "100", true),
-    ("2", "2", true),
-    ("2", "3", false),
-    ("1", "1.0", false),
-    ("a", "a", true),
-    ("1", "one", false),
+const KEYS: &[(Side, Side, bool)] = &[
+    (Side::Text("one"), Side::Text("1"), true),
+    (Side::Text("two"), Side::Text("100"), false),
+    (Side::Text("other"), Side::Text("100"), true),
+    (Side::Text("2"), Side::Text("2"), true),
+    (Side::Text("2"), Side::Text("3"), false),
+    (Side::Text("1"), Side::Text("1.0"), false),
+    (Side::Text("a"), Side::Text("a"), true),
+    (Side::Text("1"), Side::Text("one"), false),
+    (Side::Text("1"), Side::Ordinal(1), false),
+    (Side::Text("two"), Side::Ordinal(2), true),
+    (Side::Nothing, Side::Nothing, false),
 ];
 
 #[test]
 fn keys_match_selectors(rt: HostRuntime) -> Result<(), Fail> {
     let bundle = default_bundle(rt.alloc())?;
-    for (key, selector, expected) in KEYS {
-        let found = texts_meet(&bundle, *key, *selector);
-        assert!(rt; found == *expected, "{key} and {selector}");
+    for (i, (key, selector, expected)) in KEYS.iter().enumerate() {
+        assert!(rt; meets(&bundle, *key, *selector) == *expected, "at {i}");
     }
     Ok(())
 }
 
-#[test]
-fn keys_match_ordinals_by_their_category(rt: HostRuntime) -> Result<(), Fail> {
-    let bundle = default_bundle(rt.alloc())?;
-    assert!(rt; !meets(&bundle, &FluentValue::from(1u8), &ordinal(1)));
-    assert!(rt; meets(&bundle, &FluentValue::from("two"), &ordinal(2)));
-    assert!(rt; !meets(&bundle, &FluentValue::None, &FluentValue::None));
-    Ok(())
-}
-
 fn write_value(
-    bundle: &Bundle<'_, '_, Bracketed>,
+    bundle: &Bundle<'_, '_>,
     w: &mut Counting<Vec<u8>>,
     value: &FluentValue<'_, NoCustom>,
 ) -> Result<(), WriteFault> {
@@ -72,42 +69,54 @@ fn write_value(
     value.write(w, &scope)
 }
 
+/// What a text, a number and an error are written as.
+fn written(alloc: Global, bundle: &Bundle<'_, '_>) -> Result<Vec<u8>, WriteFault> {
+    let mut w = Counting::new(Vec::new(alloc));
+    write_value(bundle, &mut w, &FluentValue::try_number("a"))?;
+    write_value(bundle, &mut w, &FluentValue::try_number("1.0"))?;
+    write_value(bundle, &mut w, &FluentValue::Error)?;
+    Ok(w.into_inner())
+}
+
+fn set_brackets(bundle: &mut Bundle<'_, '_>) {
+    bundle.set_formatter(Some(Bracketed));
+}
+
 #[test]
 fn a_value_is_written_as_it_is_shown(rt: HostRuntime) -> Result<(), Fail> {
-    let mut bundle: Bundle<'_, '_, Bracketed> = default_bundle(rt.alloc())?;
-    bundle.set_formatter(Some(Bracketed));
-    let mut w = Counting::new(Vec::new(rt.alloc()));
-    write_value(&bundle, &mut w, &FluentValue::try_number("a"))?;
-    write_value(&bundle, &mut w, &FluentValue::try_number("1.0"))?;
-    write_value(&bundle, &mut w, &FluentValue::Error)?;
-    assert!(rt; w.into_inner().as_slice() == b"[a]1.0".as_slice());
+    let mut bundle = default_bundle(rt.alloc())?;
+    set_brackets(&mut bundle);
+    assert!(rt; written(rt.alloc(), &bundle)?.as_slice() == b"[a]1.0".as_slice());
     Ok(())
 }
 
-/// Adds an error to a list that has one.
-fn adds_beside(bundle: &Plain<'_, '_>, errors: &mut Vec<FluentError>) -> Result<bool, AllocError> {
-    let mut scope: Scope<'_, '_, '_, NoCustom, _> = Scope::new(bundle, None, Some(errors));
+/// Adds an error to a list, where there is one, which then has so many.
+fn adds(
+    bundle: &Bundle<'_, '_>,
+    errors: Option<&mut Vec<FluentError>>,
+    count: Option<usize>,
+) -> Result<bool, AllocError> {
+    let mut scope: Scope<'_, '_, '_, NoCustom, _> = Scope::new(bundle, None, errors);
     scope.add_error(ResolverError::Cyclic)?;
-    let Some(list) = scope.errors() else {
-        return Ok(false);
+    let found = match scope.errors() {
+        Some(list) => Some(list.len()),
+        None => None,
     };
-    Ok(list.len() == 2 && !scope.dirty() && !scope.bundle().has_message("m"))
+    Ok(found == count && !scope.dirty() && !scope.bundle().has_message("m"))
 }
 
-/// Adds an error where there is no list.
-fn adds_nowhere(bundle: &Plain<'_, '_>) -> Result<bool, AllocError> {
-    let mut scope: Scope<'_, '_, '_, NoCustom, _> = Scope::new(bundle, None, None);
-    scope.add_error(ResolverError::Cyclic)?;
-    Ok(scope.errors().is_none())
+/// Adds an error to a list that has one.
+fn adds_beside(rt: &impl Abort, alloc: Global, bundle: &Bundle<'_, '_>) -> Result<(), Fail> {
+    let mut errors = Vec::new(alloc);
+    errors.push(FluentError::ResolverError(ResolverError::MissingDefault))?;
+    assert!(rt; adds(bundle, Some(&mut errors), Some(2))?);
+    let expected = "Resolver error: No default\nResolver error: Cyclical dependency detected\n";
+    are(rt, alloc, errors.as_slice(), expected)
 }
 
 #[test]
 fn a_scope_adds_to_its_list(rt: HostRuntime) -> Result<(), Fail> {
     let bundle = default_bundle(rt.alloc())?;
-    let mut errors = Vec::new(rt.alloc());
-    errors.push(FluentError::ResolverError(ResolverError::MissingDefault))?;
-    assert!(rt; adds_beside(&bundle, &mut errors)?);
-    assert!(rt; adds_nowhere(&bundle)?);
-    let expected = "Resolver error: No default\nResolver error: Cyclical dependency detected\n";
-    are(&rt, rt.alloc(), errors.as_slice(), expected)
+    assert!(rt; adds(&bundle, None, None)?);
+    adds_beside(&rt, rt.alloc(), &bundle)
 }
