@@ -51,13 +51,11 @@ const KEYS: &[(Side, Side, bool)] = &[
     (Side::Nothing, Side::Nothing, false),
 ];
 
-#[test]
-fn keys_match_selectors(rt: HostRuntime) -> Result<(), Fail> {
-    let bundle = default_bundle(rt.alloc())?;
+/// That each key matches its selector, or does not.
+fn match_selectors(rt: &impl Abort, bundle: &Bundle<'_, '_>) {
     for (i, (key, selector, expected)) in KEYS.iter().enumerate() {
-        assert!(rt; meets(&bundle, *key, *selector) == *expected, "at {i}");
+        assert!(rt; meets(bundle, *key, *selector) == *expected, "at {i}");
     }
-    Ok(())
 }
 
 fn write_value(
@@ -69,25 +67,17 @@ fn write_value(
     value.write(w, &scope)
 }
 
-/// What a text, a number and an error are written as.
-fn written(alloc: Global, bundle: &Bundle<'_, '_>) -> Result<Vec<u8>, WriteFault> {
+/// That a text, a number and an error are written as they are shown.
+fn is_written(alloc: Global, bundle: &Bundle<'_, '_>) -> Result<bool, WriteFault> {
     let mut w = Counting::new(Vec::new(alloc));
     write_value(bundle, &mut w, &FluentValue::try_number("a"))?;
     write_value(bundle, &mut w, &FluentValue::try_number("1.0"))?;
     write_value(bundle, &mut w, &FluentValue::Error)?;
-    Ok(w.into_inner())
+    Ok(w.into_inner().as_slice() == b"[a]1.0".as_slice())
 }
 
 fn set_brackets(bundle: &mut Bundle<'_, '_>) {
     bundle.set_formatter(Some(Bracketed));
-}
-
-#[test]
-fn a_value_is_written_as_it_is_shown(rt: HostRuntime) -> Result<(), Fail> {
-    let mut bundle = default_bundle(rt.alloc())?;
-    set_brackets(&mut bundle);
-    assert!(rt; written(rt.alloc(), &bundle)?.as_slice() == b"[a]1.0".as_slice());
-    Ok(())
 }
 
 /// Adds an error to a list, where there is one, which then has so many.
@@ -115,8 +105,12 @@ fn adds_beside(rt: &impl Abort, alloc: Global, bundle: &Bundle<'_, '_>) -> Resul
 }
 
 #[test]
-fn a_scope_adds_to_its_list(rt: HostRuntime) -> Result<(), Fail> {
-    let bundle = default_bundle(rt.alloc())?;
+fn keys_match_values_are_written_and_errors_are_added(rt: HostRuntime) -> Result<(), Fail> {
+    let mut bundle = default_bundle(rt.alloc())?;
+    match_selectors(&rt, &bundle);
     assert!(rt; adds(&bundle, None, None)?);
-    adds_beside(&rt, rt.alloc(), &bundle)
+    adds_beside(&rt, rt.alloc(), &bundle)?;
+    set_brackets(&mut bundle);
+    assert!(rt; is_written(rt.alloc(), &bundle)?);
+    Ok(())
 }
