@@ -156,18 +156,6 @@ const ODD: &[(&str, Given, Told<'static>)] = &[
     ),
 ];
 
-/// Run with each allocation failing in turn.
-#[test]
-fn messages_are_written(rt: HostRuntime) -> Result<(), Fail> {
-    for (source, given, text, errors) in ROWS {
-        row(&rt, rt.alloc(), *source, *given, &all(*text, *errors))?;
-    }
-    for (source, given, told) in ODD {
-        row(&rt, rt.alloc(), *source, *given, told)?;
-    }
-    Ok(())
-}
-
 /// A text once, and another so many times.
 fn once_repeated(
     alloc: Global,
@@ -190,12 +178,12 @@ fn repeated(alloc: Global, start: &str, piece: &str, count: usize) -> Result<Str
     }
 }
 
-#[test]
-fn the_limit_is_struck(rt: HostRuntime) -> Result<(), Fail> {
-    let source = repeated(rt.alloc(), "m = ", "{ $x }", 101)?;
-    let text = repeated(rt.alloc(), "", "\u{2068}a\u{2069}", 100)?;
+/// The limit is struck by one placeable more.
+fn strikes_the_limit(rt: &impl Abort, alloc: Global) -> Result<(), Fail> {
+    let source = repeated(alloc, "m = ", "{ $x }", 101)?;
+    let text = repeated(alloc, "", "\u{2068}a\u{2069}", 100)?;
     let told = all(text.as_str(), "Resolver error: Too many placeables\n");
-    row(&rt, rt.alloc(), source.as_str(), ("x", "a"), &told)
+    row(rt, alloc, source.as_str(), ("x", "a"), &told)
 }
 
 /// A pattern of a text and a reference to a message, made by hand.
@@ -211,12 +199,25 @@ fn hand_made(alloc: Global) -> Result<Pattern<'static>, AllocError> {
     Ok(Pattern { elements })
 }
 
-#[test]
-fn what_is_not_resolved_shows_its_fallback(rt: HostRuntime) -> Result<(), Fail> {
-    let pattern = hand_made(rt.alloc())?;
-    let bundle = empty(rt.alloc());
+/// What is not resolved shows its fallback.
+fn shows_a_fallback(rt: &impl Abort, alloc: Global) -> Result<(), Fail> {
+    let pattern = hand_made(alloc)?;
+    let bundle = empty(alloc);
     let told = all("See {help.title}", "");
-    writes(&rt, rt.alloc(), &bundle, &pattern, ("", ""), &told)
+    writes(rt, alloc, &bundle, &pattern, ("", ""), &told)
+}
+
+/// Run with each allocation failing in turn.
+#[test]
+fn messages_are_written(rt: HostRuntime) -> Result<(), Fail> {
+    for (source, given, text, errors) in ROWS {
+        row(&rt, rt.alloc(), *source, *given, &all(*text, *errors))?;
+    }
+    for (source, given, told) in ODD {
+        row(&rt, rt.alloc(), *source, *given, told)?;
+    }
+    strikes_the_limit(&rt, rt.alloc())?;
+    shows_a_fallback(&rt, rt.alloc())
 }
 
 // ---- formatting
