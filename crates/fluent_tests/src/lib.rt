@@ -1,6 +1,25 @@
-//! Tests of the bundle, of what no contract says, and one statement from end to end: what a bundle writes after a list of calls.
+//! Tests of the bundle: that calls succeed, the texts of errors, odd writers, refused memory, and a row from end to end.
 #![tactic(auto)]
 
 #[cfg(test)]
-mod bundle;
-pub mod headline;
+mod calls;
+#[cfg(test)]
+mod common;
+#[cfg(test)]
+mod errors;
+#[cfg(test)]
+mod headline;
+#[cfg(test)]
+mod made;
+#[cfg(test)]
+mod messages;
+#[cfg(test)]
+mod own;
+#[cfg(test)]
+mod resolver;
+#[cfg(test)]
+mod scope;
+#[cfg(test)]
+mod settings;
+#[cfg(test)]
+mod writers;

@@ -1,6 +1,6 @@
 //! What the tests of the bundle share. A call that stands here without a contract keeps what the bundle's contract
 //! says from the tests, which rest on none of it.
-use crate::bundle::own::{Bracketed, Own};
+use crate::own::{Bracketed, Own};
 use fluent_bundle::ast::{Entry, Expression, InlineExpression, Message, Pattern, PatternElement};
 use fluent_bundle::bundle::AddFault;
 use fluent_bundle::{

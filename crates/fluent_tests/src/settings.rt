@@ -1,8 +1,8 @@
 //! Both calls with a formatter and a transform, which are set, replaced and unset.
-use crate::bundle::common::{Bundle, default_bundle, read, value_of};
-use crate::bundle::own::{Bracketed, Upper};
-use crate::bundle::resolver::{formats, writes};
-use crate::bundle::writers::all;
+use crate::common::{Bundle, default_bundle, read, value_of};
+use crate::own::{Bracketed, Upper};
+use crate::resolver::{formats, writes};
+use crate::writers::all;
 use fluent_bundle::ast::Pattern;
 use std::alloc::{AllocError, Global};
 use std::process::Abort;

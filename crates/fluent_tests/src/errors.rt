@@ -1,5 +1,5 @@
 //! What sources are read as, Junk too, and the errors of the references that they hold.
-use crate::bundle::common::{read, value_of};
+use crate::common::{read, value_of};
 use fluent_bundle::ast::{Entry, Expression, InlineExpression, Pattern, PatternElement};
 use fluent_bundle::{FluentResource, ParserError, ResolverError, TryNewFault};
 use std::alloc::{AllocError, Global};

@@ -1,6 +1,6 @@
 //! Values as keys and selectors, and the scope of a call.
-use crate::bundle::common::{Bundle, are, default_bundle};
-use crate::bundle::own::Bracketed;
+use crate::common::{Bundle, are, default_bundle};
+use crate::own::Bracketed;
 use fluent_bundle::types::{FluentNumber, FluentNumberType};
 use fluent_bundle::{
     Counting, FluentError, FluentValue, NoCustom, ResolverError, Scope, WriteFault,

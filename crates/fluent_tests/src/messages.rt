@@ -3,7 +3,7 @@ ghost use Rattle.std.specs.Prelude.{◌≡◌, ◌↔◌, IsTrue};
 ghost use Rattle.fluent_tree.specs.View.{attribute_view};
 ghost use Rattle.fluent_tree.specs.View as tree;
 
-use crate::bundle::common::{first_text, message_of, read};
+use crate::common::{first_text, message_of, read};
 use fluent_bundle::ast::{Attribute, Message};
 use fluent_bundle::{FluentAttribute, FluentMessage};
 use std::alloc::Global;

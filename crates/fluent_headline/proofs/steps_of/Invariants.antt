@@ -1,6 +1,6 @@
 use Rattle.std.proofs.Common.{◌≡◌, take, map}
-use Rattle.fluent_tests.specs.Headline.{step, step_view}
-use Rattle.fluent_tests.proofs.headline.steps_of.Given as goal
+use Rattle.fluent_headline.specs.Headline.{step, step_view}
+use Rattle.fluent_headline.proofs.steps_of.Given as goal
 
 -- the steps so far are of the calls so far
 abbrev pub invariant-loop-call : goal.invariant-loop-call

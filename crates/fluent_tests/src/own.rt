@@ -13,7 +13,7 @@ pub enum Own {
 
 impl FluentFunction<NoCustom> for Own {
     ghost use Rattle.fluent_meaning.specs.Value.{no_value, error_value};
-    ghost use Rattle.fluent_tests.specs.declared.bundle.own.Own.TheVariants as own;
+    ghost use Rattle.fluent_tests.specs.declared.own.Own.TheVariants as own;
 
     ghost answer = { λ f _ _. elim f [ own.Nothing ↦ no_value | own.Fault ↦ error_value ] };
 

@@ -12,10 +12,10 @@ use Rattle.fluent_values.specs.declared.formatter.NoFormatter.{NoFormatter}
 use Rattle.fluent_values.specs.declared.function.NoFunction.{NoFunction}
 use Rattle.fluent_values.specs.declared.transform.NoTransform.{NoTransform}
 use Rattle.fluent_values.specs.declared.types.custom.NoCustom.{NoCustom}
-use Rattle.fluent_tests.specs.declared.headline.Asked.{Asked}
-use Rattle.fluent_tests.specs.declared.headline.Asked.TheVariants as asked
-use Rattle.fluent_tests.specs.declared.headline.Step.{Step}
-use Rattle.fluent_tests.specs.declared.headline.Step.TheVariants as steps
+use Rattle.fluent_headline.specs.declared.Asked.{Asked}
+use Rattle.fluent_headline.specs.declared.Asked.TheVariants as asked
+use Rattle.fluent_headline.specs.declared.Step.{Step}
+use Rattle.fluent_headline.specs.declared.Step.TheVariants as steps
 
 -- what is asked for adds the entries that the grammar reads in its source
 abbrev pub step : Asked → Call Text

@@ -1,7 +1,7 @@
 //! Calls as values, made in order, also where memory is refused.
-use crate::bundle::calls::{Held, holds};
-use crate::bundle::common::{Bundle, default_bundle, read};
-use crate::bundle::resolver::formats;
+use crate::calls::{Held, holds};
+use crate::common::{Bundle, default_bundle, read};
+use crate::resolver::formats;
 use fluent_bundle::ast::Pattern;
 use fluent_bundle::{Call, FluentResource};
 use std::alloc::{AllocError, Global};

@@ -1,6 +1,6 @@
 //! Lists of calls that add, what each reports, and what the ids mean after it.
-use crate::bundle::common::{Bundle, add, are, empty, first_text, read};
-use crate::bundle::own::Own;
+use crate::common::{Bundle, add, are, empty, first_text, read};
+use crate::own::Own;
 use fluent_bundle::ast::Term;
 use fluent_bundle::bundle::AddFault;
 use fluent_bundle::{FluentError, FluentMessage, FluentResource, FunctionRef, GetEntry};
