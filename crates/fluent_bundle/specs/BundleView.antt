@@ -1,11 +1,10 @@
 -- The content of resources, messages and bundles of the code.
-use Rattle.std.specs.Prelude.{Bool, not, is_some, List, map, Option, Some, None, Result, Ok, Err, ◌≡◌, ◌≢◌, [], ◌∷◌, ◌++◌, if◌then◌else◌}
+use Rattle.std.specs.Prelude.{Bool, not, is_some, List, map, Option, Some, None, Result, Ok, Err, ◌≡◌, ◌≢◌, [], ◌∷◌, ◌++◌}
 use Rattle.std.specs.Option.{option_map}
 use Rattle.std.specs.Cow.{cow_str_bytes}
 use Rattle.std.specs.HashMap.{HashMap}
 use Rattle.std.specs.HashSet.{HashSet, contains_by}
 use Rattle.std.specs.Str.{bytes_eq}
-use Rattle.std.specs.Slice.Iter.{iter_rest}
 use Rattle.std.specs.declared.borrow.CowStr.{CowStr}
 use Rattle.std.proofs.Common.{Bor, Global}
 use Rattle.fluent_tree.specs.Tree as t
@@ -14,21 +13,17 @@ use Rattle.fluent_tree.specs.View as view
 use Rattle.fluent_tree.specs.View.{attribute_view, pattern_view, resource_view}
 use Rattle.fluent_syntax.specs.Chunks.{entries, junk_ranges}
 use Rattle.fluent_syntax.specs.Parsed.{error_range}
-use Rattle.fluent_tree.specs.declared.ast.Message.{Message}
 use Rattle.fluent_tree.specs.declared.ast.Term.{Term}
 use Rattle.fluent_intl.specs.declared.language.LanguageIdentifier.{LanguageIdentifier}
-use Rattle.fluent_meaning.specs.Number.{is_text}
 use Rattle.fluent_meaning.specs.Value.{Value, Plurals}
 use Rattle.fluent_meaning.specs.Arguments.{Map, get, number_function}
 use Rattle.fluent_meaning.specs.Bundle.{Bundle, Function, a_message, a_term, a_function, number_builtin, transform_of, formatter_of, Call, after, after_all, answered}
 use Rattle.fluent_meaning.specs.Bundle as m
 use Rattle.fluent_values.specs.View.{error_view, by_name}
+use Rattle.fluent_values.specs.MessageView.{Content}
 use Rattle.fluent_bundle.specs.declared.resource.FluentResource.{FluentResource}
 use Rattle.fluent_bundle.specs.declared.resource.TryNewFault.{TryNewFault}
 use Rattle.fluent_bundle.specs.declared.resource.TryNewFault.TheVariants as refused
-use Rattle.fluent_bundle.specs.declared.message.FluentMessage.{FluentMessage}
-use Rattle.fluent_bundle.specs.declared.message.FluentAttribute.{FluentAttribute}
-use Rattle.fluent_bundle.specs.declared.message.Attributes.{Attributes as IteratedAttributes}
 use Rattle.fluent_bundle.specs.declared.entry.Entry.{Entry}
 use Rattle.fluent_bundle.specs.declared.entry.Entry.TheVariants as entry
 use Rattle.fluent_bundle.specs.declared.entry.FunctionRef.{FunctionRef}
@@ -50,34 +45,6 @@ abbrev pub Tried : Text → Result FluentResource TryNewFault → Type 0
 Tried source (Ok r) = IsRead source r × (junk_ranges source ≡ [])
 Tried source (Err (refused.Parser r errors)) = IsRead source r × (map error_range errors.items ≡ junk_ranges source) × (junk_ranges source ≢ [])
 Tried source (Err refused.Memory) = Unit {0}
-
--- a message without its id: a value, attributes, or both
-pub record Content : Type 0 where
-  pub value : Option Pattern
-  pub attributes : Attributes
-
-abbrev pub content_of : Message → Content
-content_of m = record { value = view.value_view m.value; attributes = map attribute_view m.attributes.items }
-
-abbrev pub message_view : FluentMessage → Content
-message_view m = content_of m.node.now
-
--- a message with its id, as `==` compares it
-abbrev pub entry_seen : FluentMessage → t.Entry
-entry_seen m = view.message_view m.node.now
-
--- an attribute: its name and its value
-abbrev pub attribute_content : FluentAttribute → Text × Pattern
-attribute_content a = attribute_view a.node.now
-
--- the attributes that an iterator has still to give
-abbrev pub attributes_left : IteratedAttributes → Attributes
-attributes_left a = map attribute_view (iter_rest a.rest)
-
--- the first attribute of a name
-abbrev pub first_named : Text → Attributes → Option (Text × Pattern)
-first_named name [] = None
-first_named name (a ∷ as') = if is_text a.0 name then Some a else first_named name as'
 
 -- ---- what ids name
 

@@ -4,7 +4,8 @@ ghost use Rattle.std.specs.Option.{option_map};
 ghost use Rattle.fluent_tree.specs.Tree.{Text};
 ghost use Rattle.fluent_meaning.specs.Bundle.{Function, function_found};
 ghost use Rattle.fluent_meaning.specs.Bundle as m;
-ghost use Rattle.fluent_bundle.specs.BundleView.{content_of, message_content, term_content_of, term_content, function_of};
+ghost use Rattle.fluent_bundle.specs.BundleView.{message_content, term_content_of, term_content, function_of};
+ghost use Rattle.fluent_values.specs.MessageView.{content_of};
 
 use fluent_syntax::ast;
 

@@ -8,7 +8,6 @@ mod entry;
 mod formatting;
 mod ids;
 pub mod laws;
-mod message;
 pub mod resolver;
 mod resource;
 
@@ -18,11 +17,11 @@ pub use entry::{Entry, FunctionRef, GetEntry};
 pub use fluent_intl::{EnglishPlurals, LanguageIdentifier, MemoizerKind};
 pub use fluent_syntax::{Counting, ParserError, WriteFault, ast};
 pub use fluent_values::{
-    AnswerRule, Answering, ArgsIntoIter, ArgsIter, EntryKind, FluentArgs, FluentError,
-    FluentFormatter, FluentFunction, FluentNumber, FluentNumberOptions, FluentType, FluentValue,
+    AnswerRule, Answering, ArgsIntoIter, ArgsIter, Attributes, EntryKind, FluentArgs,
+    FluentAttribute, FluentError,
+    FluentFormatter, FluentFunction, FluentMessage, FluentNumber, FluentNumberOptions, FluentType, FluentValue,
     FunctionOf, MergeArgs, NoCustom, NoFormatter, NoFunction, NoTransform, ReferenceKind,
     Transform, builtins, memoizer, types,
 };
-pub use message::{Attributes, FluentAttribute, FluentMessage};
 pub use resolver::{Context, ResolverError, Scope};
 pub use resource::{Entries, FluentResource, TryNewFault};

@@ -6,3 +6,4 @@ pub mod Ended
 pub mod ScopeView
 pub mod Written
 pub mod Free
+pub mod MessageView

@@ -1,4 +1,4 @@
-//! Values, arguments and errors of Fluent, and what an application hands to a bundle: functions, formatters, transforms.
+//! Values, arguments, messages and errors of Fluent, and what an application hands to a bundle: functions, formatters, transforms.
 #![tactic(auto)]
 
 mod args;
@@ -7,6 +7,7 @@ mod errors;
 mod formatter;
 mod function;
 pub mod memoizer;
+mod message;
 pub mod resolver;
 mod transform;
 pub mod types;
@@ -15,6 +16,7 @@ pub use args::{ArgsIntoIter, ArgsIter, FluentArgs};
 pub use errors::{EntryKind, FluentError};
 pub use formatter::{FluentFormatter, NoFormatter};
 pub use function::{AnswerRule, Answering, FluentFunction, FunctionOf, NoFunction};
+pub use message::{Attributes, FluentAttribute, FluentMessage};
 pub use resolver::{Context, ReferenceKind, ResolverError, Scope};
 pub use transform::{NoTransform, Transform};
 pub use types::{FluentNumber, FluentNumberOptions, FluentType, FluentValue, MergeArgs, NoCustom};

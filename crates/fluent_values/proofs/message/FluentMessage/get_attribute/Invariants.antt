@@ -1,7 +1,7 @@
 use Rattle.std.proofs.Common.{◌≡◌, drop, map}
 use Rattle.fluent_tree.specs.View.{attribute_view}
-use Rattle.fluent_bundle.specs.BundleView.{first_named}
-use Rattle.fluent_bundle.proofs.message.FluentMessage.get_attribute.Given as goal
+use Rattle.fluent_values.specs.MessageView.{first_named}
+use Rattle.fluent_values.proofs.message.FluentMessage.get_attribute.Given as goal
 
 -- the first of that name among those left is the first of all
 abbrev pub invariant-loop-attribute : goal.invariant-loop-attribute

@@ -2,9 +2,9 @@
 ghost use Rattle.std.specs.Prelude.{◌≡◌};
 ghost use Rattle.std.specs.Option.{option_map};
 ghost use Rattle.fluent_tree.specs.View.{pattern_view};
-ghost use Rattle.fluent_bundle.specs.BundleView.{message_view, attribute_content, attributes_left, first_named};
+ghost use Rattle.fluent_values.specs.MessageView.{message_view, attribute_content, attributes_left, first_named};
 
-use fluent_syntax::ast;
+use fluent_tree::ast;
 use std::slice::Iter;
 
 /// A message of a resource. Two are equal where their contents are, their ids among them.
@@ -49,7 +49,7 @@ impl<'m, 's> FluentMessage<'m, 's> {
 impl<'m, 's> From<&'m ast::Message<'s>> for FluentMessage<'m, 's> {
     ghost use Rattle.std.specs.Prelude.{◌≡◌};
     ghost use Rattle.fluent_tree.specs.View as tree;
-    ghost use Rattle.fluent_bundle.specs.BundleView.{content_of, message_view, entry_seen};
+    ghost use Rattle.fluent_values.specs.MessageView.{content_of, message_view, entry_seen};
 
     ghost from_gives = { λ m result. (message_view result ≡ content_of m.now) × (entry_seen result ≡ tree.message_view m.now) };
 
@@ -62,7 +62,7 @@ impl<'m, 's> PartialEq for FluentMessage<'m, 's> {
     ghost use Rattle.std.specs.Cmp.{partial_equiv_from_equiv};
     ghost use Rattle.fluent_tree.specs.Tree.{is_yes};
     ghost use Rattle.fluent_tree.specs.Same.{equivalent, entry_same};
-    ghost use Rattle.fluent_bundle.specs.BundleView.{entry_seen};
+    ghost use Rattle.fluent_values.specs.MessageView.{entry_seen};
 
     ghost eq = { λ a b. is_yes (entry_same (entry_seen a) (entry_seen b)) };
 
@@ -75,7 +75,7 @@ impl<'m, 's> PartialEq for FluentMessage<'m, 's> {
 
 impl<'m, 's> Eq for FluentMessage<'m, 's> {
     ghost use Rattle.fluent_tree.specs.Same.{equivalent, entry_same};
-    ghost use Rattle.fluent_bundle.specs.BundleView.{entry_seen};
+    ghost use Rattle.fluent_values.specs.MessageView.{entry_seen};
 
     ghost laws = { equivalent entry_seen entry_same };
 }
@@ -106,7 +106,7 @@ impl<'m, 's> FluentAttribute<'m, 's> {
 impl<'m, 's> From<&'m ast::Attribute<'s>> for FluentAttribute<'m, 's> {
     ghost use Rattle.std.specs.Prelude.{◌≡◌};
     ghost use Rattle.fluent_tree.specs.View.{attribute_view};
-    ghost use Rattle.fluent_bundle.specs.BundleView.{attribute_content};
+    ghost use Rattle.fluent_values.specs.MessageView.{attribute_content};
 
     ghost from_gives = { λ a result. attribute_content result ≡ attribute_view a.now };
 
@@ -119,7 +119,7 @@ impl<'m, 's> PartialEq for FluentAttribute<'m, 's> {
     ghost use Rattle.std.specs.Cmp.{partial_equiv_from_equiv};
     ghost use Rattle.fluent_tree.specs.Tree.{is_yes};
     ghost use Rattle.fluent_tree.specs.Same.{equivalent, attribute_same};
-    ghost use Rattle.fluent_bundle.specs.BundleView.{attribute_content};
+    ghost use Rattle.fluent_values.specs.MessageView.{attribute_content};
 
     ghost eq = { λ a b. is_yes (attribute_same (attribute_content a) (attribute_content b)) };
 
@@ -132,7 +132,7 @@ impl<'m, 's> PartialEq for FluentAttribute<'m, 's> {
 
 impl<'m, 's> Eq for FluentAttribute<'m, 's> {
     ghost use Rattle.fluent_tree.specs.Same.{equivalent, attribute_same};
-    ghost use Rattle.fluent_bundle.specs.BundleView.{attribute_content};
+    ghost use Rattle.fluent_values.specs.MessageView.{attribute_content};
 
     ghost laws = { equivalent attribute_content attribute_same };
 }
@@ -148,7 +148,7 @@ impl<'m, 's> Iterator for Attributes<'m, 's> {
     ghost use Rattle.std.specs.Option.{option_map};
     ghost use Rattle.std.specs.List.{slice_get};
     ghost use Rattle.std.specs.Iterator.{at_most};
-    ghost use Rattle.fluent_bundle.specs.BundleView.{attribute_content, attributes_left};
+    ghost use Rattle.fluent_values.specs.MessageView.{attribute_content, attributes_left};
 
     type Item = FluentAttribute<'m, 's>;
 
