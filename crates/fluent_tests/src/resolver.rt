@@ -3,9 +3,7 @@ ghost use Rattle.std.specs.Prelude.{◌≡◌, is_some, true, IsTrue};
 ghost use Rattle.fluent_tree.specs.View.{pattern_view};
 ghost use Rattle.fluent_bundle.specs.Interim.{sole_text};
 
-use crate::common::{
-    Bundle, Given, are, arguments, default_bundle, empty, format, read, value_of,
-};
+use crate::common::{Bundle, Given, are, arguments, default_bundle, empty, format, read, value_of};
 use crate::writers::{End, Slow, Told, all, end_of, has_taken, writer};
 use fluent_bundle::ast::{Expression, Identifier, InlineExpression, Pattern, PatternElement};
 use fluent_bundle::{Counting, FluentArgs, FluentBundle, FluentError, NoCustom, WriteFault};
