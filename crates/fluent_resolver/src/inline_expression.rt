@@ -14,8 +14,9 @@ ghost use Rattle.fluent_values.specs.Written.{sink, Took};
 
 use crate::fallback::{put_in_braces, put_variable};
 use crate::frame::Frame;
-use fluent_syntax::ast::{Expression, InlineExpression};
-use fluent_syntax::{WriteFault, unescape_unicode, unescape_unicode_to_string};
+use fluent_escapes::{unescape_unicode, unescape_unicode_to_string};
+use fluent_tree::WriteFault;
+use fluent_tree::ast::{Expression, InlineExpression};
 use fluent_values::resolver::Context;
 use fluent_values::resolver::output::{Output, put_text};
 use fluent_values::resolver::value::put_value;

@@ -9,7 +9,7 @@ use Rattle.fluent_syntax.specs.Layout.{Piece, words, unless_empty, trim_spaces, 
 use Rattle.fluent_syntax.specs.Progress.{closes_pattern, Ends}
 use Rattle.fluent_syntax.specs.Pieces.{follows, is_indented, indented_text, words_after, block_text, indent, block_placeable, pattern_element, pieces, pattern}
 use Rattle.fluent_syntax.specs.Expressions.{level, inline_placeable}
-use Rattle.fluent_syntax.proofs.Turns.{none, done}
+use Rattle.fluent_tree.proofs.Turns.{none, done}
 
 -- behind a run no other begins
 pub stops : (p : ℕ → ℕ → Bool) (s : List ℕ) → run_len p (drop (run_len p s) s) ≡ 0

@@ -12,8 +12,8 @@ use Rattle.fluent_syntax.specs.Layout.{Words, Piece, line, words, hole, unless_e
 use Rattle.fluent_syntax.specs.Pieces.{pattern, follows, is_indented, indented_text, words_after, inline_text, block_text, indent, block_placeable, pattern_element, pieces}
 use Rattle.fluent_syntax.specs.Expressions.{level, expression, inline_placeable}
 use Rattle.fluent_syntax.specs.Progress.{goes_on, Reached, ended, piece_of, text_pieces, hole_pieces}
-use Rattle.fluent_syntax.proofs.Runs.{run_len-le}
-use Rattle.fluent_syntax.proofs.Turns.{more}
+use Rattle.fluent_tree.proofs.Runs.{run_len-le}
+use Rattle.fluent_tree.proofs.Turns.{more}
 use Rattle.fluent_syntax.proofs.OneLine.{stops, stays, not_placeable, no_words, some_words, no_feed}
 use Rattle.fluent_syntax.proofs.Fronts.{Takes, takes-bind, takes-then, takes-byte, takes-pure, takes-if, Lessens, Eats, eats-bind, eats-then, eats-map, eats-or, eats-byte, eats-run1}
 use Rattle.fluent_syntax.proofs.LexicalFronts.{takes-blanks, takes-blank_inline, takes-words_after, takes-indent}

@@ -11,7 +11,6 @@ pub mod Bare
 pub mod Gathering
 pub mod Nests
 pub mod WellFormed
-pub mod Unescaped
 pub mod Entries
 pub mod ContentView
 pub mod Chunks

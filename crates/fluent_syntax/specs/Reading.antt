@@ -1,21 +1,11 @@
 -- How a result stands to what the grammar gives.
-use Rattle.std.specs.Prelude.{◌≡◌, ℕ, ◌<◌, ◌≤◌, length, drop, slice_index, List, map, Option, Some, None, Result, Ok, Err, Vec}
+use Rattle.std.specs.Prelude.{◌≡◌, ℕ, ◌<◌, ◌≤◌, length, drop, slice_index, List, map, Some, None, Result, Ok, Err, Vec}
 use Rattle.std.specs.Borrow.{Bor}
 use Rattle.std.specs.declared.alloc.Global.{Global}
 use Rattle.fluent_syntax.specs.declared.parser.stop.Stop.{Stop}
 use Rattle.fluent_syntax.specs.declared.parser.stop.Stop.TheVariants.{Absent, Memory}
 use Rattle.fluent_tree.specs.Parser.{Read, run_len}
 use Rattle.fluent_tree.specs.Lexical.{is_space}
-
--- what was found, by its content, and the rest without where it lies in memory
-abbrev pub found : {A B : Type 0} → (A → B) → Option (A × Bor (List ℕ)) → Read B
-found view None = None
-found view (Some p) = Some (view p.0, p.1.now)
-
--- the same of a part that has no value
-abbrev pub passed : Option (Bor (List ℕ)) → Read (Unit {0})
-passed None = None
-passed (Some s) = Some (tt, s.now)
 
 -- the result is what the grammar gives, unless memory ran out
 abbrev pub Gives : {A B : Type 0} → (A → B) → Result (A × Bor (List ℕ)) Stop → Read B → Type 0

@@ -1,4 +1,6 @@
 pub mod Front
+pub mod Runs
+pub mod Turns
 mod Lists
 mod Inverse
 mod Alike

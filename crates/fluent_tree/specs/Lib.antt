@@ -3,6 +3,7 @@ pub mod View
 pub mod Fallback
 pub mod Taken
 pub mod Parser
+pub mod Reading
 pub mod Lexical
 pub mod Escapes
 pub mod Same

@@ -3,7 +3,7 @@ ghost use Rattle.std.specs.Prelude.{◌≡◌, ◌+◌, ◌<◌, ◌≤◌, Some
 ghost use Rattle.fluent_tree.specs.Parser as parser;
 ghost use Rattle.fluent_tree.specs.Lexical as spec;
 ghost use Rattle.fluent_syntax.specs.Classes.{class_test};
-ghost use Rattle.fluent_syntax.specs.Reading.{passed};
+ghost use Rattle.fluent_tree.specs.Reading.{passed};
 
 use crate::parser::text::text_len;
 
@@ -20,8 +20,6 @@ pub enum Class {
     Quoted,
     /// The name of a function.
     Function,
-    /// All but a backslash.
-    Plain,
 }
 
 /// The byte at `index`, or 0 past the end.
@@ -60,7 +58,6 @@ fn is_in(class: Class, byte: u8, next: u8) -> bool
         Class::Space => byte == b' ',
         Class::Digit => byte.is_ascii_digit(),
         Class::Inside => byte != b'\n',
-        Class::Plain => byte != b'\\',
         Class::Function => {
             byte.is_ascii_uppercase() || byte.is_ascii_digit() || byte == b'_' || byte == b'-'
         }
@@ -75,7 +72,7 @@ fn is_in(class: Class, byte: u8, next: u8) -> bool
 
 /// How many bytes at the front are of the class.
 #[inline(always)]
-#[tactic(auto, using(crate::proofs::Runs::the_runs))]
+#[tactic(auto, using(fluent_tree::proofs::Runs::the_runs))]
 pub fn run_len(s: &str, class: Class) -> usize
     ensures len { result ≡ parser.run_len (class_test class) s.now }
     ensures within { result ≤ length s.now }

@@ -2,7 +2,8 @@
 ghost use Rattle.std.specs.Prelude.{◌≡◌, length};
 ghost use Rattle.fluent_syntax.specs.Entries as spec;
 ghost use Rattle.fluent_tree.specs.Parser as parser;
-ghost use Rattle.fluent_syntax.specs.Reading.{found, Gives, all};
+ghost use Rattle.fluent_tree.specs.Reading.{found};
+ghost use Rattle.fluent_syntax.specs.Reading.{Gives, all};
 ghost use Rattle.fluent_syntax.specs.ContentView.{content_view};
 ghost use Rattle.fluent_tree.specs.View.{name_view, pattern_view, attribute_view, entry_view};
 
@@ -110,7 +111,7 @@ fn term<'s>(alloc: Global, s: &'s str) -> Result<(Entry<'s>, &'s str), Stop>
 }
 
 /// Adds the attributes that come next.
-#[tactic(auto, using(crate::proofs::Turns::turns))]
+#[tactic(auto, using(fluent_tree::proofs::Turns::turns))]
 fn attributes<'s>(
     alloc: Global,
     s: &'s str,

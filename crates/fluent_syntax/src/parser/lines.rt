@@ -2,7 +2,8 @@
 ghost use Rattle.std.specs.Prelude.{◌≡◌, ◌<◌, ◌≤◌, Some, length, IfSome};
 ghost use Rattle.fluent_tree.specs.Parser as parser;
 ghost use Rattle.fluent_tree.specs.Lexical as spec;
-ghost use Rattle.fluent_syntax.specs.Reading.{found, passed, IsIndent};
+ghost use Rattle.fluent_tree.specs.Reading.{found, passed};
+ghost use Rattle.fluent_syntax.specs.Reading.{IsIndent};
 ghost use Rattle.fluent_tree.specs.View.{name_view, inline_view};
 
 use crate::parser::bytes::{Class, byte_at, eat, split_run};
@@ -101,7 +102,7 @@ fn blank(s: &str) -> Option<&str>
     Some(rest)
 }
 
-#[tactic(auto, using(crate::proofs::Turns::turns))]
+#[tactic(auto, using(fluent_tree::proofs::Turns::turns))]
 fn more_blanks(s: &str) -> (usize, &str)
     ensures { parser.count spec.blank_turn s.now ≡ Some (result.0, result.1.now) }
 {
@@ -149,7 +150,7 @@ pub fn blank_block(s: &str) -> Option<(usize, &str)>
     Some((more + 1, rest))
 }
 
-#[tactic(auto, using(crate::proofs::Turns::turns))]
+#[tactic(auto, using(fluent_tree::proofs::Turns::turns))]
 fn more_lines(s: &str) -> (usize, &str)
     ensures count { parser.count spec.blank_line s.now ≡ Some (result.0, result.1.now) }
     ensures within { result.0 ≤ length s.now }

@@ -2,7 +2,8 @@
 ghost use Rattle.std.specs.Prelude.{◌≡◌, ◌-◌, ◌≤◌, Some, length, take, drop};
 ghost use Rattle.fluent_tree.specs.Parser as parser;
 ghost use Rattle.fluent_syntax.specs.Expressions as spec;
-ghost use Rattle.fluent_syntax.specs.Reading.{found, passed, text_view};
+ghost use Rattle.fluent_tree.specs.Reading.{found, passed};
+ghost use Rattle.fluent_syntax.specs.Reading.{text_view};
 
 use crate::parser::bytes::{Class, byte_at, eat, split_run};
 
@@ -68,7 +69,7 @@ fn quoted_turn(s: &str) -> Option<&str>
     escape(s)
 }
 
-#[tactic(auto, using(crate::proofs::Turns::turns))]
+#[tactic(auto, using(fluent_tree::proofs::Turns::turns))]
 fn quoted(s: &str) -> (usize, &str)
     ensures { parser.count spec.quoted_turn s.now ≡ Some (result.0, result.1.now) }
 {

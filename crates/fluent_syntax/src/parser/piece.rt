@@ -2,7 +2,7 @@
 ghost use Rattle.std.specs.Prelude.{None, ◌≡◌, ◌+◌, ◌<◌, ◌≤◌, ℕ, true, false, Some, length, drop, slice_index, unwrap_or, IfSome, MatchOption, [], ◌∷◌, ◌++◌};
 ghost use Rattle.fluent_syntax.specs.Layout.{dedented};
 ghost use Rattle.fluent_syntax.specs.Pieces as spec;
-ghost use Rattle.fluent_syntax.specs.Reading.{found};
+ghost use Rattle.fluent_tree.specs.Reading.{found};
 
 use crate::parser::bytes::{Class, byte_at, run_len};
 use crate::parser::lines::{blank_block, blank_inline};
@@ -10,7 +10,7 @@ use fluent_tree::ast::Expression;
 use std::marker::Model;
 
 /// Text of one line, behind its indent where it stands at the start of the line.
-#[derive(Debug, Drop)]
+#[derive(Drop)]
 pub struct Slice<'s> {
     indent: Option<usize>,
     /// The indent and the text.
@@ -100,7 +100,7 @@ impl<'s> Slice<'s> {
 }
 
 /// What a pattern is read into before its text is laid out.
-#[derive(Debug, Drop)]
+#[derive(Drop)]
 pub enum Piece<'s> {
     /// So many line ends.
     Line(usize),

@@ -1,0 +1,3 @@
+mod Hexadecimal
+mod Unescapes
+mod EscapeRows
