@@ -2,7 +2,7 @@
 use std::alloc::Global;
 
 /// What the rules that nest are given, so that each stands by itself.
-#[derive(Clone, Copy)]
+#[derive(Drop)]
 pub struct Inner<F, G> {
     pub alloc: Global,
     /// How deep placeables and argument lists may still nest.
