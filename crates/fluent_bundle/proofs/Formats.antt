@@ -4,13 +4,12 @@ use Rattle.std.specs.Io.KnownBytes.{Appends}
 use Rattle.std.specs.Prelude.{◌≤◌}
 use Rattle.fluent_tree.specs.Tree.{Text, Pattern}
 use Rattle.fluent_tree.specs.declared.counting.WriteFault.{WriteFault}
-use Rattle.fluent_meaning.specs.Errors.{Error}
 use Rattle.fluent_meaning.specs.Value.{Value}
 use Rattle.fluent_meaning.specs.Arguments.{Map}
 use Rattle.fluent_meaning.specs.Bundle.{Bundle}
 use Rattle.fluent_meaning.specs.Meaning.{Ran, left, within_budget}
 use Rattle.fluent_meaning.specs.Walk.{has_one}
-use Rattle.fluent_bundle.specs.Formatted.{AddsAll, AddsFront, WritesAll, WritesFront, Writes}
+use Rattle.fluent_bundle.specs.Formatted.{AddsAll, WritesAll, Writes}
 use Rattle.fluent_resolver.specs.Interim.{budgeted, ran, substituted, elements}
 use Rattle.fluent_resolver.specs.Scoped.{Status, Walk, Wrote, from_here, given, reported}
 use Rattle.fluent_values.specs.Written.{Sink, writer, at}

@@ -1,9 +1,8 @@
 -- What formatting answers as a text.
-use Rattle.std.proofs.Common.{rules, ◌≡◌, refl, sym, ap, subst, ◌∙◌, ℕ, List, [], ◌++◌, append-nil, Bool, true, false, Option, Some, None, Result, Ok, Err, OnOk, Global}
+use Rattle.std.proofs.Common.{rules, ◌≡◌, refl, sym, ap, subst, ◌∙◌, List, [], ◌++◌, append-nil, Option, Some, None, Result, Global}
 use Rattle.std.specs.Prelude.{◌≤◌, ◌&&◌, not, is_some, if◌then◌else◌}
 use Rattle.std.specs.declared.borrow.CowStr.{CowStr}
 use Rattle.fluent_tree.specs.Tree.{Text, Pattern, nothing, more, text, placeable}
-use Rattle.fluent_meaning.specs.Errors.{Error}
 use Rattle.fluent_meaning.specs.Value.{Value, text_value}
 use Rattle.fluent_meaning.specs.Arguments.{Map}
 use Rattle.fluent_meaning.specs.Bundle.{Bundle, unless_formatted}

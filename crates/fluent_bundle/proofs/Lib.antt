@@ -4,6 +4,4 @@ pub mod Soles
 pub mod Plain
 pub mod Formats
 pub mod Givings
-pub mod ByName
-pub mod Added
 pub mod Running

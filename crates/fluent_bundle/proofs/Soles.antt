@@ -1,5 +1,5 @@
 -- Patterns of one text.
-use Rattle.std.proofs.Common.{◌≡◌, refl, ℕ, ◌<◌, List, [], ◌∷◌, length, map, None, arith}
+use Rattle.std.proofs.Common.{◌≡◌, refl, List, [], ◌∷◌, length, map, None}
 use Rattle.fluent_tree.specs.Tree.{Element, text, placeable, more, pattern_of}
 use Rattle.fluent_tree.specs.View.{element_view}
 use Rattle.fluent_tree.specs.declared.ast.PatternElement.{PatternElement}

@@ -1,6 +1,6 @@
 -- Patterns that are resolved whole today, and what they mean by fluent_meaning.
 use Rattle.std.specs.Prelude.{◌≡◌, [], ⊤}
-use Rattle.fluent_tree.specs.Tree.{Text, Pattern, nothing, more, Element, text, placeable, Expression, inline, select, Inline, string, number, variable, nested}
+use Rattle.fluent_tree.specs.Tree.{Pattern, nothing, more, Element, text, placeable, Expression, inline, select, Inline, string, number, variable, nested}
 use Rattle.fluent_meaning.specs.Value.{Value}
 use Rattle.fluent_meaning.specs.Arguments.{Map}
 use Rattle.fluent_meaning.specs.Bundle.{Bundle}

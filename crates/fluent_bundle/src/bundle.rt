@@ -4,22 +4,18 @@ ghost use Rattle.std.specs.Option.{option_map};
 ghost use Rattle.fluent_intl.specs.Plurals.{english};
 ghost use Rattle.fluent_meaning.specs.Bundle.{empty_bundle, after, answered, add_resource, add_resource_overriding, add_function, add_builtins, set_use_isolating, set_transform, set_formatter};
 ghost use Rattle.fluent_values.specs.View.{error_view};
-ghost use Rattle.fluent_bundle.specs.BundleView.{meant, entries_of, message_at, Adds, AreUndetermined, Kept};
-ghost use Rattle.fluent_values.specs.MessageView.{message_view};
+ghost use Rattle.fluent_bundle.specs.BundleView.{meant, entries_of, message_at, message_entry_at, Adds, AreUndetermined, Kept};
+ghost use Rattle.fluent_values.specs.MessageView.{entry_seen, message_view};
 ghost use Rattle.fluent_bundle.specs.Adding.{answer_of};
 
-use crate::adding;
-use crate::adding::{add_all, look, override_all};
-use crate::entry::{Entry, FunctionRef, GetEntry};
-use crate::ids::{Ids, make_room, named};
 use crate::resource::FluentResource;
+use fluent_entries::{Entry, FunctionRef, GetEntry, Ids};
 use fluent_intl::{EnglishPlurals, LanguageIdentifier, MemoizerKind};
 use fluent_syntax::ast;
 use fluent_values::types::FluentType;
 use fluent_values::{FluentError, FluentFormatter, FluentFunction, FluentMessage, Transform};
 use std::alloc::{AllocError, Global};
 use std::borrow::CowStr;
-use std::collections::HashMap;
 use std::marker::PhantomData;
 
 /// Messages by id, from one resource or many, and the settings under which patterns are resolved.
@@ -66,7 +62,7 @@ impl<
     {
         FluentBundle {
             locales,
-            entries: HashMap::new(alloc),
+            entries: Ids::new(alloc),
             use_isolating: true,
             transform: None,
             formatter: None,
@@ -127,11 +123,7 @@ impl<
         ensures err { let of = meant M.category C.shown C.alike F.answer G.formatted T.changed in OnErr result (of self.new ≡ of self.old) }
         ensures kept { Kept self.old self.new }
     {
-        let entries = resource.all();
-        let errors = look(self.alloc, &self.entries, entries)?;
-        make_room(&mut self.entries, entries.len())?;
-        add_all(&mut self.entries, entries);
-        Ok(errors)
+        self.entries.add_entries(self.alloc, resource.all())
     }
 
     /// Adds the messages and terms of a resource in order, each in place of what had its id, a function too. Junk
@@ -148,10 +140,7 @@ impl<
         ensures err { let of = meant M.category C.shown C.alike F.answer G.formatted T.changed in OnErr result (of self.new ≡ of self.old) }
         ensures kept { Kept self.old self.new }
     {
-        let entries = resource.all();
-        make_room(&mut self.entries, entries.len())?;
-        override_all(&mut self.entries, entries);
-        Ok(())
+        self.entries.override_entries(resource.all())
     }
 
     /// Adds a function of the application under an id, which is copied.
@@ -175,7 +164,7 @@ impl<
         ensures kept { Kept self.old self.new }
     {
         let id = CowStr::Owned(String::from_str(self.alloc, id)?);
-        adding::add_function(&mut self.entries, self.alloc, id, Entry::Function(function))
+        self.entries.add_function(self.alloc, id, function)
     }
 
     /// Adds the function `NUMBER`, which gives a number the options in its named arguments.
@@ -189,7 +178,7 @@ impl<
         ensures kept { Kept self.old self.new }
     {
         let id = CowStr::Borrowed("NUMBER");
-        all_added(adding::add_function(&mut self.entries, self.alloc, id, Entry::Number))
+        all_added(self.entries.add_number(self.alloc, id))
     }
 
     /// Whether the id names a message. Takes no memory.
@@ -201,9 +190,10 @@ impl<
 
     /// The message that the id names, or `None`. Takes no memory.
     pub fn get_message(&self, id: &str) -> Option<FluentMessage<'r, 's>>
-        ensures { let of = meant M.category C.shown C.alike F.answer G.formatted T.changed in option_map message_view result ≡ message_at id.now (of self.now) }
+        ensures content { let of = meant M.category C.shown C.alike F.answer G.formatted T.changed in option_map message_view result ≡ message_at id.now (of self.now) }
+        ensures whole { let of = meant M.category C.shown C.alike F.answer G.formatted T.changed in option_map entry_seen result ≡ message_entry_at id.now (of self.now) }
     {
-        match named(&self.entries, id) {
+        match self.entries.named(id) {
             Some(Entry::Message(node)) => Some(FluentMessage::from(*node)),
             _ => None,
         }
@@ -244,7 +234,7 @@ impl<
     T: Transform,
 > GetEntry<'s, F> for FluentBundle<'r, 's, M, C, F, G, T> {
     ghost use Rattle.fluent_meaning.specs.Arguments.{get};
-    ghost use Rattle.fluent_bundle.specs.BundleView.{ids};
+    ghost use Rattle.fluent_entries.specs.EntryView.{ids};
 
     // The ids of what the bundle means.
     ghost named = { λ b id. get id (ids F.answer b.entries) };
@@ -252,21 +242,21 @@ impl<
     ghost answer = { F.answer };
 
     fn get_entry_message(&self, id: &str) -> Option<&ast::Message<'s>> {
-        match named(&self.entries, id) {
+        match self.entries.named(id) {
             Some(Entry::Message(message)) => Some(*message),
             _ => None,
         }
     }
 
     fn get_entry_term(&self, id: &str) -> Option<&ast::Term<'s>> {
-        match named(&self.entries, id) {
+        match self.entries.named(id) {
             Some(Entry::Term(term)) => Some(*term),
             _ => None,
         }
     }
 
     fn get_entry_function(&self, id: &str) -> Option<FunctionRef<'_, F>> {
-        match named(&self.entries, id) {
+        match self.entries.named(id) {
             Some(Entry::Function(function)) => Some(FunctionRef::Own(function)),
             Some(Entry::Number) => Some(FunctionRef::Number),
             _ => None,

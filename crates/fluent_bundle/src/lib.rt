@@ -1,19 +1,16 @@
 //! Resources and bundles of Fluent, and what they report.
 #![tactic(auto)]
 
-mod adding;
 pub mod bundle;
 mod calls;
-mod entry;
 mod formatting;
-mod ids;
 pub mod laws;
 pub mod resolver;
 mod resource;
 
 pub use bundle::{AddFault, FluentBundle};
 pub use calls::Call;
-pub use entry::{Entry, FunctionRef, GetEntry};
+pub use fluent_entries::{Entry, FunctionRef, GetEntry};
 pub use fluent_intl::{EnglishPlurals, LanguageIdentifier, MemoizerKind};
 pub use fluent_syntax::{Counting, ParserError, WriteFault, ast};
 pub use fluent_values::{

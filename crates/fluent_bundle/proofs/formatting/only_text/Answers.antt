@@ -1,4 +1,4 @@
-use Rattle.std.proofs.Common.{◌≡◌, sym, ap, ◌∙◌, length, None, arith, rules}
+use Rattle.std.proofs.Common.{◌≡◌, sym, ap, ◌∙◌, length, rules}
 use Rattle.fluent_resolver.specs.Interim.{sole_text}
 use Rattle.fluent_resolver.proofs.Views.{view_pattern}
 use Rattle.fluent_bundle.proofs.Soles.{sole_none}

@@ -1,0 +1,3 @@
+pub mod ByName
+pub mod Own
+mod Added
