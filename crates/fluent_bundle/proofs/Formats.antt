@@ -3,7 +3,7 @@ use Rattle.std.proofs.Common.{◌≡◌, ℕ, Bool, true, false, String, string_
 use Rattle.std.specs.Io.KnownBytes.{Appends}
 use Rattle.std.specs.Prelude.{◌≤◌}
 use Rattle.fluent_tree.specs.Tree.{Text, Pattern}
-use Rattle.fluent_tree.specs.declared.counting.WriteFault.{WriteFault}
+use Rattle.fluent_text.specs.declared.counting.WriteFault.{WriteFault}
 use Rattle.fluent_meaning.specs.Value.{Value}
 use Rattle.fluent_meaning.specs.Arguments.{Map}
 use Rattle.fluent_meaning.specs.Bundle.{Bundle}
@@ -14,7 +14,7 @@ use Rattle.fluent_resolver.specs.Interim.{budgeted, ran, substituted, elements}
 use Rattle.fluent_resolver.specs.Scoped.{Status, Walk, Wrote, from_here, given, reported}
 use Rattle.fluent_values.specs.Written.{Sink, writer, at}
 use Rattle.fluent_values.specs.declared.errors.FluentError.{FluentError}
-use Rattle.fluent_tree.specs.declared.counting.Counting.{Counting}
+use Rattle.fluent_text.specs.declared.counting.Counting.{Counting}
 use Rattle.fluent_bundle.proofs.Limits.{within}
 use Rattle.fluent_values.proofs.Outputs.{still}
 

@@ -2,7 +2,7 @@
 ghost use Rattle.std.specs.Prelude.{◌≡◌, ◌≢◌, ◌≤◌, ◌++◌, ◌&&◌, not, if◌then◌else◌, is_some, None, false, Err, IfOk, OnOk, IsOk, true, string_bytes};
 ghost use Rattle.std.specs.Option.{option_map};
 ghost use Rattle.fluent_meaning.specs.Value.{text_value};
-ghost use Rattle.fluent_tree.specs.Taken.{Faulted};
+ghost use Rattle.fluent_text.specs.Taken.{Faulted};
 ghost use Rattle.fluent_tree.specs.View.{pattern_view};
 ghost use Rattle.fluent_meaning.specs.Result.{formatted};
 ghost use Rattle.fluent_bundle.specs.BundleView.{meant};

@@ -9,8 +9,8 @@ use Rattle.fluent_tree.specs.Tree.{Text}
 use Rattle.fluent_values.specs.declared.errors.FluentError.{FluentError}
 use Rattle.fluent_command.specs.Words.{Asked}
 use Rattle.fluent_command.specs.Ending.{Ending, shown, no_message, bad_usage, not_utf8, out_of_memory, reading_failed, writing_failed, status, said}
-use Rattle.fluent_tree.specs.declared.counting.WriteFault.{WriteFault}
-use Rattle.fluent_tree.specs.declared.counting.WriteFault.TheVariants.{Memory, Writer, Zero}
+use Rattle.fluent_text.specs.declared.counting.WriteFault.{WriteFault}
+use Rattle.fluent_text.specs.declared.counting.WriteFault.TheVariants.{Memory, Writer, Zero}
 use Rattle.fluent_command.specs.EndingView.{reported, ending_of}
 use Rattle.fluent_command.specs.Program.{Run, only, run_source, run_input}
 use Rattle.fluent_command.specs.Said.{Says}

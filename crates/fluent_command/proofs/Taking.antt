@@ -4,7 +4,7 @@ use Rattle.std.specs.Result.{OnOk, OnErr}
 use Rattle.std.specs.Io.KnownBytes.{Appends}
 use Rattle.std.proofs.KnownBytes.{Appends-trans}
 use Rattle.fluent_tree.specs.Tree.{Text}
-use Rattle.fluent_tree.specs.Taken.{TookFront}
+use Rattle.fluent_text.specs.Taken.{TookFront}
 use Rattle.fluent_meaning.specs.Errors.{Error}
 use Rattle.fluent_bundle.specs.Formatted.{WritesAll, WritesFront}
 use Rattle.fluent_values.specs.declared.errors.FluentError.{FluentError}

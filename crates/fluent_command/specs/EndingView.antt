@@ -5,8 +5,8 @@ use Rattle.fluent_values.specs.View.{error_view}
 use Rattle.fluent_values.specs.declared.errors.FluentError.{FluentError}
 use Rattle.fluent_command.specs.Ending as e
 use Rattle.fluent_command.specs.Ending.{shown, no_message, bad_usage, not_utf8, out_of_memory, reading_failed, writing_failed}
-use Rattle.fluent_tree.specs.declared.counting.WriteFault as faults
-use Rattle.fluent_tree.specs.declared.counting.WriteFault.TheVariants as fault
+use Rattle.fluent_text.specs.declared.counting.WriteFault as faults
+use Rattle.fluent_text.specs.declared.counting.WriteFault.TheVariants as fault
 use Rattle.fluent_command.specs.declared.report.Ending.{Ending}
 use Rattle.fluent_command.specs.declared.report.Ending.TheVariants.{Shown, NoMessage, Usage, NotUtf8, Memory, Reading, Writing}
 

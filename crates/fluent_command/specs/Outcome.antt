@@ -2,7 +2,7 @@
 use Rattle.std.specs.Prelude.{◌≡◌, ℕ, List, ◌++◌, ◌⊎◌, Option, IfSome}
 use Rattle.std.specs.Io.KnownBytes.{Appends}
 use Rattle.fluent_tree.specs.Tree.{Text}
-use Rattle.fluent_tree.specs.Taken.{raised, TookFront}
+use Rattle.fluent_text.specs.Taken.{raised, TookFront}
 use Rattle.fluent_meaning.specs.Errors.{Error}
 use Rattle.fluent_command.specs.Ending.{Ending, said, status, out_of_memory, reading_failed, writing_failed}
 use Rattle.fluent_command.specs.Program.{Run, Answer}

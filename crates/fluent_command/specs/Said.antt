@@ -2,9 +2,9 @@
 use Rattle.std.specs.Prelude.{◌≡◌, List, ◌++◌, ◌⊎◌, Option, Result, Ok, Err}
 use Rattle.std.specs.Io.KnownBytes.{Appends}
 use Rattle.fluent_tree.specs.Tree.{Text}
-use Rattle.fluent_tree.specs.Taken.{TookFront}
-use Rattle.fluent_tree.specs.declared.counting.WriteFault.{WriteFault}
-use Rattle.fluent_tree.specs.declared.counting.WriteFault.TheVariants.{Memory, Writer, Zero}
+use Rattle.fluent_text.specs.Taken.{TookFront}
+use Rattle.fluent_text.specs.declared.counting.WriteFault.{WriteFault}
+use Rattle.fluent_text.specs.declared.counting.WriteFault.TheVariants.{Memory, Writer, Zero}
 use Rattle.fluent_meaning.specs.Errors.{Error}
 use Rattle.fluent_command.specs.Ending.{Ending, out_of_memory, error_lines, said}
 

@@ -2,7 +2,7 @@
 
 ghost use Rattle.std.specs.Prelude.{◌≡◌, ◌≢◌, ◌⊎◌, map, Err, IfOk, OnOk, OnErr, string_bytes};
 ghost use Rattle.std.specs.Io.KnownBytes.{Appends};
-ghost use Rattle.fluent_tree.specs.Taken.{Faulted, TookFront};
+ghost use Rattle.fluent_text.specs.Taken.{Faulted, TookFront};
 ghost use Rattle.fluent_meaning.specs.Errors.{error_text};
 ghost use Rattle.fluent_values.specs.View.{error_view};
 ghost use Rattle.fluent_command.specs.Ending.{status, line, no_message, ending_line};

@@ -2,7 +2,7 @@
 
 ghost use Rattle.std.specs.Prelude.{◌≡◌, ◌≢◌, ◌⊎◌, ◌≤◌, ℕ, List, [], map, None, IsTrue, string_bytes};
 ghost use Rattle.std.specs.Str.{is_utf8};
-ghost use Rattle.fluent_tree.specs.Taken.{TookFront};
+ghost use Rattle.fluent_text.specs.Taken.{TookFront};
 ghost use Rattle.fluent_command.specs.Words.{asked_by};
 ghost use Rattle.fluent_command.specs.WordsView.{asked_view};
 ghost use Rattle.fluent_command.specs.Ending.{reading_failed};

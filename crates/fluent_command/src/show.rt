@@ -3,7 +3,7 @@
 ghost use Rattle.std.specs.Prelude.{◌≡◌, ◌++◌, ◌∷◌, [], map, IfOk, string_bytes};
 ghost use Rattle.fluent_syntax.specs.Chunks.{entries, junk_ranges};
 ghost use Rattle.fluent_syntax.specs.Parsed.{error_range};
-ghost use Rattle.fluent_tree.specs.Taken.{Faulted};
+ghost use Rattle.fluent_text.specs.Taken.{Faulted};
 ghost use Rattle.fluent_tree.specs.View.{pattern_view};
 ghost use Rattle.fluent_meaning.specs.Bundle.{answered, add_resource};
 ghost use Rattle.fluent_bundle.specs.BundleView.{entries_of};

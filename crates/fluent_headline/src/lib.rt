@@ -3,7 +3,7 @@
 
 ghost use Rattle.std.specs.Prelude.{◌≡◌, ◌≤◌, [], map, IfOk, OnOk};
 ghost use Rattle.fluent_syntax.specs.Chunks.{entries};
-ghost use Rattle.fluent_tree.specs.Taken.{Faulted};
+ghost use Rattle.fluent_text.specs.Taken.{Faulted};
 ghost use Rattle.fluent_tree.specs.View.{pattern_view};
 ghost use Rattle.fluent_bundle.specs.BundleView.{entries_of, meant};
 ghost use Rattle.fluent_bundle.specs.Calls.{asked};

@@ -1,7 +1,7 @@
 -- The laws of chunks.
 use Rattle.std.proofs.Common.{◌≡◌, ℕ, zero, suc, ◌+◌, ◌<◌, ◌≤◌, List, [], ◌∷◌, ◌++◌, length, Some, None, All, refl, sym, ap, ◌∙◌, subst, arith, zero-add}
-use Rattle.fluent_tree.specs.Parser.{Read, Parser, ◌>>◌, ◌<$>◌, and_then, otherwise, pure, ignore, skip, many_from, turn, go_on, count, one_more, run, byte}
-use Rattle.fluent_tree.specs.Lexical.{is_inside, blank_block}
+use Rattle.fluent_text.specs.Parser.{Read, Parser, ◌>>◌, ◌<$>◌, and_then, otherwise, pure, ignore, skip, many_from, turn, go_on, count, one_more, run, byte}
+use Rattle.fluent_text.specs.Lexical.{is_inside, blank_block}
 use Rattle.fluent_syntax.specs.Entries.{entry}
 use Rattle.fluent_syntax.specs.Chunks.{rest_of_line, comment_line, junk_line, junk, Part, part, entry_part, blank_part, junk_part, Chunk, chunk, with_bytes, chunks, part_range, ranges_from, junk_ranges}
 use Rattle.fluent_laws.specs.ChunkLaws.{bytes_of, MadeOfChunks, NoneEmpty, InOrder, RangesWithin}

@@ -1,9 +1,9 @@
 -- Every text in the entries of a source is a slice of it.
 use Rattle.std.proofs.Common.{ℕ, zero, suc, ◌≤◌, [], ◌∷◌, ◌++◌, length, Option, Some, None, All, refl, sym, subst, arith}
 use Rattle.std.proofs.lemmas.List.Elements.{All-nil, All-cons, All-append}
-use Rattle.fluent_tree.specs.Parser.{Read, ◌<|>◌, pure, skip, many, push, byte}
+use Rattle.fluent_text.specs.Parser.{Read, ◌<|>◌, pure, skip, many, push, byte}
 use Rattle.fluent_tree.specs.Tree.{Text, Pattern, Attributes, message_entry, term_entry}
-use Rattle.fluent_tree.specs.Lexical.{identifier, blank_inline, line_end, blank, blank_block}
+use Rattle.fluent_text.specs.Lexical.{identifier, blank_inline, line_end, blank, blank_block}
 use Rattle.fluent_syntax.specs.Entries as n
 use Rattle.fluent_syntax.specs.Entries.{value, name_of_value, attribute, value_first, attributes_alone, entry}
 use Rattle.fluent_syntax.specs.Chunks.{comment_line, junk, Part, part, entry_part, blank_part, junk_part, part_entry, Chunk, with_bytes, chunks, entries_of}

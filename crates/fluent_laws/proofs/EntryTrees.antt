@@ -1,9 +1,9 @@
 -- Every entry of a source is well-formed, and its placeables and argument lists stand no deeper than 100.
 use Rattle.std.proofs.Common.{ℕ, zero, suc, ◌<◌, ◌≤◌, List, [], ◌∷◌, ◌++◌, length, Option, Some, None, All, sym, subst, arith}
 use Rattle.std.proofs.lemmas.List.Elements.{All-nil, All-cons, All-append}
-use Rattle.fluent_tree.specs.Parser.{Read, ◌<|>◌, pure, skip, many, push, byte}
+use Rattle.fluent_text.specs.Parser.{Read, ◌<|>◌, pure, skip, many, push, byte}
 use Rattle.fluent_tree.specs.Tree.{Text, Pattern, Attributes, message_entry, term_entry}
-use Rattle.fluent_tree.specs.Lexical.{line_end, blank, blank_block}
+use Rattle.fluent_text.specs.Lexical.{line_end, blank, blank_block}
 use Rattle.fluent_syntax.specs.Expressions.{level}
 use Rattle.fluent_syntax.specs.Entries as n
 use Rattle.fluent_syntax.specs.Entries.{value, name_of_value, attribute, value_first, attributes_alone, entry}

@@ -1,8 +1,8 @@
 -- What the tree of a part depends on.
 use Rattle.std.proofs.Common.{◌≡◌, ℕ, List, [], ◌∷◌, ◌++◌, length, Bool, None, sym, ap, ◌∙◌, subst, arith}
-use Rattle.fluent_tree.specs.Parser.{Parser}
-use Rattle.fluent_tree.specs.Lexical.{identifier, blank, variable_reference}
-use Rattle.fluent_syntax.specs.Expressions.{literal, named_argument, message_reference, variant_head}
+use Rattle.fluent_text.specs.Parser.{Parser}
+use Rattle.fluent_text.specs.Lexical.{identifier, blank}
+use Rattle.fluent_syntax.specs.Expressions.{literal, named_argument, message_reference, variant_head, variable_reference}
 use Rattle.fluent_syntax.specs.Pieces.{inline_text}
 use Rattle.fluent_syntax.specs.Entries.{name_of_value}
 use Rattle.fluent_syntax.specs.Chunks.{Chunk, chunks, comment_line, junk}

@@ -7,8 +7,9 @@ use Rattle.fluent_laws.proofs.Known.{lefts}
 use Rattle.fluent_laws.proofs.Leads.{true_false}
 use Rattle.fluent_laws.proofs.KnownEntries.{entry_before}
 use Rattle.std.proofs.lemmas.List.{append_cancel_right}
-use Rattle.fluent_tree.specs.Parser.{Read, many_from, byte, run1}
-use Rattle.fluent_tree.specs.Lexical.{identifier, blank_inline, line_break, line_end, blank_line, blank_block, blank_turn, blank, variable_reference}
+use Rattle.fluent_text.specs.Parser.{Read, many_from, byte, run1}
+use Rattle.fluent_text.specs.Lexical.{identifier, blank_inline, line_break, line_end, blank_line, blank_block, blank_turn, blank}
+use Rattle.fluent_syntax.specs.Expressions.{variable_reference}
 use Rattle.fluent_syntax.specs.Layout as y
 use Rattle.fluent_syntax.specs.Pieces as t
 use Rattle.fluent_syntax.specs.Expressions as e

@@ -4,8 +4,8 @@ use Rattle.std.specs.Prelude.{not}
 use Rattle.std.proofs.lemmas.Bool.{cases_Bool}
 use Rattle.std.proofs.lemmas.Bool.Decides.{nat_tests}
 use Rattle.fluent_tree.specs.Tree.{Text, Pattern, Entry, Expression, message_entry, term_entry}
-use Rattle.fluent_tree.specs.Parser.{and_then, otherwise, Read, Parser, ◌>>◌, ◌<$>◌, ◌<|>◌, pure, skip, many_from, turn, go_on, count, one_more, push, run_len, run, run1, byte, first}
-use Rattle.fluent_tree.specs.Lexical.{is_letter, is_text, is_space, identifier, blank_inline, at_end, line_break, line_end, blank_line, blank_block, blank}
+use Rattle.fluent_text.specs.Parser.{and_then, otherwise, Read, Parser, ◌>>◌, ◌<$>◌, ◌<|>◌, pure, skip, many_from, turn, go_on, count, one_more, push, run_len, run, run1, byte, first}
+use Rattle.fluent_text.specs.Lexical.{is_letter, is_text, is_space, identifier, blank_inline, at_end, line_break, line_end, blank_line, blank_block, blank}
 use Rattle.fluent_syntax.specs.Layout.{Words, Piece}
 use Rattle.fluent_syntax.specs.Pieces.{words_after, is_indented, indented_text, block_text, block_placeable, pattern_element, pieces, pattern}
 use Rattle.fluent_syntax.specs.Expressions.{level}

@@ -4,8 +4,8 @@ use Rattle.std.specs.Prelude.{not, unwrap_or}
 use Rattle.std.proofs.lemmas.Bool.{cases_Bool}
 use Rattle.std.proofs.lemmas.Bool.Decides.{nat_tests}
 use Rattle.fluent_tree.specs.Tree.{Variant, Inline, Expression, inline, select, variants_of, pattern_of}
-use Rattle.fluent_tree.specs.Parser.{Read, Parser, ◌>>=◌, ◌>>◌, ◌<$>◌, ◌<|>◌, and_then, otherwise, pure, skip, optional, many_from, turn, count, one_more, push, run_len, run, run1, byte, first}
-use Rattle.fluent_tree.specs.Lexical.{is_text, is_space, blank_inline, line_end, blank_line, blank_block, blank}
+use Rattle.fluent_text.specs.Parser.{Read, Parser, ◌>>=◌, ◌>>◌, ◌<$>◌, ◌<|>◌, and_then, otherwise, pure, skip, optional, many_from, turn, count, one_more, push, run_len, run, run1, byte, first}
+use Rattle.fluent_text.specs.Lexical.{is_text, is_space, blank_inline, line_end, blank_line, blank_block, blank}
 use Rattle.fluent_syntax.specs.Layout.{Words, Piece, line, words, hole, elements}
 use Rattle.fluent_syntax.specs.Pieces.{words_after, inline_text, is_indented, indented_text, block_text, indent, block_placeable, pattern_element, pieces, pattern}
 use Rattle.fluent_syntax.specs.Expressions.{Level, level, provided, inline_expression, variant_key, star, variant_head, variant, variant_list, is_selector, arrow, selector, select_expression, stands_alone, alone, expression, inline_placeable}

@@ -3,9 +3,9 @@ use Rattle.std.proofs.Common.{◌≡◌, ◌==◌, ◌||◌, ℕ, Bool, true, fa
 use Rattle.std.proofs.lemmas.Bool.{cases_Bool}
 use Rattle.std.proofs.lemmas.Bool.Decides.{nat_tests}
 use Rattle.fluent_tree.specs.Tree.{Text, Inline, Arguments, no_call, call, no_attribute, string, number, message, term, function, nested}
-use Rattle.fluent_tree.specs.Parser.{Read, Parser, ◌>>=◌, ◌>>◌, ◌<$>◌, ◌<|>◌, and_then, otherwise, pure, skip, byte, first}
-use Rattle.fluent_tree.specs.Lexical.{is_letter, identifier, blank, variable_reference}
-use Rattle.fluent_syntax.specs.Expressions.{Level, provided, string_literal, number_literal, literal, attribute_access, message_reference, is_function_name, function_reference, optional_call, term_reference, inline_expression, named_argument, Argument, positional, by_name, argument, Gathered, add, is_well_formed, arguments_of, comma, argument_comma, last_argument, argument_list, call_arguments}
+use Rattle.fluent_text.specs.Parser.{Read, Parser, ◌>>=◌, ◌>>◌, ◌<$>◌, ◌<|>◌, and_then, otherwise, pure, skip, byte, first}
+use Rattle.fluent_text.specs.Lexical.{is_letter, identifier, blank}
+use Rattle.fluent_syntax.specs.Expressions.{Level, provided, string_literal, number_literal, literal, attribute_access, message_reference, is_function_name, function_reference, optional_call, term_reference, inline_expression, named_argument, Argument, positional, by_name, argument, Gathered, add, is_well_formed, arguments_of, comma, argument_comma, last_argument, argument_list, call_arguments, variable_reference}
 use Rattle.fluent_syntax.proofs.Fronts.{TakesTo, takes-then, takes-pure, takes-byte}
 use Rattle.fluent_syntax.proofs.LexicalFronts.{takes-blanks}
 use Rattle.fluent_laws.proofs.Near.{closes, Near, near-byte, near-then, near-pure, shuts-map, is_read}

@@ -3,8 +3,8 @@ use Rattle.std.proofs.Common.{◌≡◌, ◌==◌, ◌||◌, ◌&&◌, ℕ, zero
 use Rattle.std.proofs.lemmas.Bool.{cases_Bool}
 use Rattle.std.proofs.lemmas.Bool.Decides.{nat_tests}
 use Rattle.std.specs.Char.{is_ascii_digit}
-use Rattle.fluent_tree.specs.Parser.{Read, Parser, ◌>>=◌, ◌>>◌, ◌<$>◌, ◌<|>◌, and_then, otherwise, pure, ignore, skip, optional, many_from, turn, go_on, count, one_more, run_len, run, run1, byte, first}
-use Rattle.fluent_tree.specs.Lexical.{is_letter, is_space, is_text, is_identifier_byte, identifier, blank_inline, at_end, line_break, line_end, blank_line, blank_block, blank_turn, blank}
+use Rattle.fluent_text.specs.Parser.{Read, Parser, ◌>>=◌, ◌>>◌, ◌<$>◌, ◌<|>◌, and_then, otherwise, pure, ignore, skip, optional, many_from, turn, go_on, count, one_more, run_len, run, run1, byte, first}
+use Rattle.fluent_text.specs.Lexical.{is_letter, is_space, is_text, is_identifier_byte, identifier, blank_inline, at_end, line_break, line_end, blank_line, blank_block, blank_turn, blank}
 use Rattle.fluent_syntax.specs.Pieces.{indent}
 use Rattle.fluent_syntax.specs.Expressions.{taken, digits, number_parts, number_literal}
 use Rattle.fluent_laws.proofs.Near.{is_read}

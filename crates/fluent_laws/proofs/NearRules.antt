@@ -4,9 +4,9 @@ use Rattle.std.proofs.lemmas.Bool.Decides.{nat_tests}
 use Rattle.std.specs.Char.{is_ascii_digit}
 use Rattle.std.specs.Prelude.{◌||◌}
 use Rattle.fluent_tree.specs.Tree.{variable, no_attribute, attribute, message, name_key, number_key}
-use Rattle.fluent_tree.specs.Parser.{Read, Parser, ◌>>=◌, ◌>>◌, ◌<$>◌, and_then, otherwise, pure, ignore, skip, count, one_more, first, byte, run_len, run, run1}
-use Rattle.fluent_tree.specs.Lexical.{is_letter, is_space, is_digit, is_inside, is_text, is_quoted, is_identifier_byte, identifier, blank_inline, at_end, line_break, line_end, blank_turn, blank, variable_reference}
-use Rattle.fluent_syntax.specs.Expressions.{source_of, digits, number_parts, number_literal, attribute_access, message_reference, key_inside, variant_key, star, variant_head, taken}
+use Rattle.fluent_text.specs.Parser.{Read, Parser, ◌>>=◌, ◌>>◌, ◌<$>◌, and_then, otherwise, pure, ignore, skip, count, one_more, first, byte, run_len, run, run1}
+use Rattle.fluent_text.specs.Lexical.{is_letter, is_space, is_digit, is_inside, is_text, is_quoted, is_identifier_byte, identifier, blank_inline, at_end, line_break, line_end, blank_turn, blank}
+use Rattle.fluent_syntax.specs.Expressions.{source_of, digits, number_parts, number_literal, attribute_access, message_reference, key_inside, variant_key, star, variant_head, taken, variable_reference}
 use Rattle.fluent_syntax.specs.Pieces.{follows, words_after}
 use Rattle.fluent_syntax.specs.Entries.{name_of_value}
 use Rattle.fluent_syntax.specs.Chunks.{may_begin_entry, rest_of_line, comment_line, junk_line, junk}

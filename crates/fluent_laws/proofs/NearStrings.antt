@@ -2,8 +2,8 @@
 use Rattle.std.proofs.Common.{◌≡◌, ◌==◌, length, ℕ, zero, suc, List, [], ◌∷◌, ◌++◌, drop, true, false, Bool, Some, None, refl, sym, ap, ◌∙◌, if◌then◌else◌, arith, eqb-true}
 use Rattle.std.specs.Char.{is_ascii_hexdigit}
 use Rattle.fluent_tree.specs.Tree.{string, number}
-use Rattle.fluent_tree.specs.Parser.{Read, Parser, ◌>>=◌, ◌>>◌, ◌<$>◌, ◌<|>◌, and_then, otherwise, pure, ignore, skip, count, one_more, many_from, first, byte, run1}
-use Rattle.fluent_tree.specs.Lexical.{is_quoted, identifier, blank}
+use Rattle.fluent_text.specs.Parser.{Read, Parser, ◌>>=◌, ◌>>◌, ◌<$>◌, ◌<|>◌, and_then, otherwise, pure, ignore, skip, count, one_more, many_from, first, byte, run1}
+use Rattle.fluent_text.specs.Lexical.{is_quoted, identifier, blank}
 use Rattle.fluent_syntax.specs.Expressions.{taken, source_of, hex_digit, hex_digits, escape, quoted_turn, string_literal, number_literal, number_parts, digits, literal, named_argument}
 use Rattle.fluent_laws.proofs.Near.{shows, one_seen, end_seen, behind_front, Near, NearTo, ShutsAt, NearMany, after, near_turns, near-bind, near-map, near-pure, near-then, near-or, near-ignore, near-if, near-run1, near-byte, shuts-ignore, shuts-run1, shuts-byte, sees_first, is_read, behind_one, sourced}
 use Rattle.fluent_laws.proofs.NearRules.{heedless-quoted, near-identifier, near-blanks, near-number_literal}

@@ -5,14 +5,14 @@ use Rattle.std.proofs.lemmas.List.{length-replicate}
 use Rattle.std.proofs.lemmas.Bool.{cases_Bool}
 use Rattle.std.proofs.lemmas.Bool.Decides.{nat_tests}
 use Rattle.fluent_tree.specs.Tree.{Text, Expression, pattern_of}
-use Rattle.fluent_tree.specs.Parser.{Parser, ◌>>=◌, ◌>>◌, ◌<$>◌, and_then, pure, optional, skip, first, byte, run, run1, run_len}
-use Rattle.fluent_tree.specs.Lexical.{is_space, is_text, blank_inline, at_end, line_break, line_end, blank_line, blank_block}
+use Rattle.fluent_text.specs.Parser.{Parser, ◌>>=◌, ◌>>◌, ◌<$>◌, and_then, pure, optional, skip, first, byte, run, run1, run_len}
+use Rattle.fluent_text.specs.Lexical.{is_space, is_text, blank_inline, at_end, line_break, line_end, blank_line, blank_block}
 use Rattle.fluent_syntax.specs.Layout.{Words, Piece, line, words, hole}
 use Rattle.fluent_syntax.specs.Layout as y
 use Rattle.fluent_syntax.specs.Pieces.{follows, words_after, is_indented, indented_text, block_text, indent, block_placeable, pattern_element, pieces, pattern}
 use Rattle.fluent_laws.specs.SliceLaws.{IsSlice, SlicesOfExpression, SlicesOfPattern}
 use Rattle.fluent_syntax.proofs.Fronts.{takes-byte}
-use Rattle.fluent_tree.proofs.Runs.{run_len-le}
+use Rattle.fluent_text.proofs.Runs.{run_len-le}
 use Rattle.fluent_syntax.proofs.LexicalFronts.{takes-spaces, more_lines, takes-more_lines}
 use Rattle.fluent_laws.proofs.Slices.{EndOf, later, slice_here, Gives, gives-bind, gives-or, gives-so, Behind, gives-takes, Ended, Within, within-bind, within-map, within-or, within-all}
 use Rattle.fluent_laws.proofs.LayoutSlices.{ending, blanks, spaces, OfPiece, OfPieces, pieces_append, slices_laid_out}

@@ -1,10 +1,10 @@
 -- Every rule of the grammar takes a front of its text.
 use Rattle.std.proofs.Common.{ℕ, List, Bool, subst}
 use Rattle.fluent_tree.specs.Tree.{select, variants_of}
-use Rattle.fluent_tree.specs.Parser.{run1, Parser, pure}
-use Rattle.fluent_tree.specs.Lexical.{is_digit, identifier, blank_inline, line_end, blank_block, blank, variable_reference}
+use Rattle.fluent_text.specs.Parser.{run1, Parser, pure}
+use Rattle.fluent_text.specs.Lexical.{is_digit, identifier, blank_inline, line_end, blank_block, blank}
 use Rattle.fluent_syntax.specs.Pieces.{inline_text, block_text, block_placeable, pattern_element, pattern}
-use Rattle.fluent_syntax.specs.Expressions.{digits, attribute_access, level, string_literal, number_literal, message_reference, function_reference, term_reference, inline_expression, named_argument, argument, argument_list, variant_key, variant, variant_list, selector, arrow, select_expression}
+use Rattle.fluent_syntax.specs.Expressions.{digits, attribute_access, level, string_literal, number_literal, message_reference, function_reference, term_reference, inline_expression, named_argument, argument, argument_list, variant_key, variant, variant_list, selector, arrow, select_expression, variable_reference}
 use Rattle.fluent_syntax.specs.Entries as n
 use Rattle.fluent_syntax.specs.Entries.{attribute, entry}
 use Rattle.fluent_syntax.specs.Chunks.{comment_line, junk_line, junk}

@@ -1,7 +1,7 @@
 -- Slices of a text, and rules that are read at its end: what they give holds a fact.
 use Rattle.std.proofs.Common.{◌≡◌, ℕ, zero, suc, ◌-◌, Bool, true, false, [], ◌++◌, length, take, drop, Some, None, if◌then◌else◌, sym, ap, ◌∙◌, append_assoc, append-nil, take-append-drop, nat_lt}
 use Rattle.fluent_tree.specs.Tree.{Text}
-use Rattle.fluent_tree.specs.Parser.{Read, Parser, ◌>>=◌, ◌>>◌, ◌<$>◌, ◌<|>◌, and_then, otherwise, pure, refuse, many_from, turn, go_on, run, run_len}
+use Rattle.fluent_text.specs.Parser.{Read, Parser, ◌>>=◌, ◌>>◌, ◌<$>◌, ◌<|>◌, and_then, otherwise, pure, refuse, many_from, turn, go_on, run, run_len}
 use Rattle.fluent_syntax.specs.Expressions.{provided, taken, source_of}
 use Rattle.fluent_laws.specs.SliceLaws.{IsSlice}
 use Rattle.fluent_syntax.proofs.Fronts.{TakesTo, Takes}

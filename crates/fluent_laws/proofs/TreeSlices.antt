@@ -1,10 +1,10 @@
 -- Every text in a tree that is read is a slice of the source.
 use Rattle.std.proofs.Common.{◌≡◌, ℕ, zero, suc, Bool, true, false, None, List, [], ◌∷◌, ◌++◌, refl}
 use Rattle.fluent_tree.specs.Tree.{Text, Named, Variant, name_key, number_key, no_attribute, attribute, inline, select, Inline, string, number, function, message, term, variable, nested, no_call, call, variants_of, inlines_of, nameds_of}
-use Rattle.fluent_tree.specs.Parser.{◌>>=◌, ◌>>◌, pure, skip, many, count, push, byte, run, first}
-use Rattle.fluent_tree.specs.Lexical.{is_letter, is_identifier_byte, identifier, blank_inline, line_end, blank, variable_reference}
+use Rattle.fluent_text.specs.Parser.{◌>>=◌, ◌>>◌, pure, skip, many, count, push, byte, run, first}
+use Rattle.fluent_text.specs.Lexical.{is_letter, is_identifier_byte, identifier, blank_inline, line_end, blank}
 use Rattle.fluent_syntax.specs.Pieces.{pattern}
-use Rattle.fluent_syntax.specs.Expressions.{Level, level, quoted_turn, string_literal, number_parts, number_literal, literal, attribute_access, message_reference, is_function_name, function_reference, optional_call, term_reference, inline_expression, named_argument, Argument, positional, by_name, argument, Gathered, add, is_well_formed, arguments_of, comma, argument_comma, last_argument, argument_list, call_arguments, key_inside, variant_key, star, variant_head, variant, variant_list, is_selector, arrow, selector, select_expression, stands_alone, alone, expression, inline_placeable}
+use Rattle.fluent_syntax.specs.Expressions.{Level, level, quoted_turn, string_literal, number_parts, number_literal, literal, attribute_access, message_reference, is_function_name, function_reference, optional_call, term_reference, inline_expression, named_argument, Argument, positional, by_name, argument, Gathered, add, is_well_formed, arguments_of, comma, argument_comma, last_argument, argument_list, call_arguments, key_inside, variant_key, star, variant_head, variant, variant_list, is_selector, arrow, selector, select_expression, stands_alone, alone, expression, inline_placeable, variable_reference}
 use Rattle.fluent_laws.specs.SliceLaws.{IsSlice, SlicesOfKey, SlicesOfAttribute, SlicesOfPattern, SlicesOfExpression, SlicesOfVariants, SlicesOfInline, SlicesOfCall, SlicesOfArguments, SlicesOfInlines, SlicesOfNameds}
 use Rattle.fluent_syntax.proofs.Fronts.{takes-byte, takes-count}
 use Rattle.fluent_syntax.proofs.Literals.{takes-quoted_turn, takes-number_parts}

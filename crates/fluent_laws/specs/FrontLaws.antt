@@ -1,8 +1,8 @@
 -- What the tree of a part depends on.
 use Rattle.std.specs.Prelude.{◌≡◌, ◌==◌, ◌&&◌, ◌||◌, ℕ, Bool, true, not, List, ◌∷◌, ◌++◌, take, drop, Some, if◌then◌else◌}
 use Rattle.fluent_tree.specs.Tree.{Text, Entry}
-use Rattle.fluent_tree.specs.Parser.{Parser, ◌>>=◌, ◌>>◌, ◌<|>◌, pure, count, run_len, first}
-use Rattle.fluent_tree.specs.Lexical.{is_space, line_break, blank_line}
+use Rattle.fluent_text.specs.Parser.{Parser, ◌>>=◌, ◌>>◌, ◌<|>◌, pure, count, run_len, first}
+use Rattle.fluent_text.specs.Lexical.{is_space, line_break, blank_line}
 use Rattle.fluent_syntax.specs.Entries.{message, term, entry}
 use Rattle.fluent_syntax.specs.Chunks.{Chunk, chunks}
 use Rattle.fluent_laws.specs.ChunkLaws.{bytes_of}

@@ -6,9 +6,9 @@ ghost use Rattle.fluent_laws.specs.ChunkLaws.{MadeOfChunks, NoneEmpty, RangesWit
 ghost use Rattle.fluent_syntax.specs.Chunks.{comment_line, junk, junk_line};
 ghost use Rattle.fluent_syntax.specs.Entries as entries;
 ghost use Rattle.fluent_syntax.specs.Entries.{attribute, entry, name_of_value};
-ghost use Rattle.fluent_syntax.specs.Expressions.{argument, argument_list, attribute_access, digits, function_reference, inline_expression, level, literal, message_reference, named_argument, number_literal, select_expression, string_literal, term_reference, variant, variant_head, variant_key, variant_list};
+ghost use Rattle.fluent_syntax.specs.Expressions.{argument, argument_list, attribute_access, digits, function_reference, inline_expression, level, literal, message_reference, named_argument, number_literal, select_expression, string_literal, term_reference, variant, variant_head, variant_key, variant_list, variable_reference};
 ghost use Rattle.fluent_laws.specs.FrontLaws.{EndsMessage, EndsPattern, EntryReadBefore, ReadBefore, ReadByFront, ReadByFrontAlone, ReadFromThereOn, TakesFront};
-ghost use Rattle.fluent_tree.specs.Lexical.{blank, blank_block, blank_inline, identifier, line_end, variable_reference};
+ghost use Rattle.fluent_text.specs.Lexical.{blank, blank_block, blank_inline, identifier, line_end};
 ghost use Rattle.fluent_syntax.specs.Pieces.{block_placeable, block_text, inline_text, pattern, pattern_element};
 ghost use Rattle.fluent_laws.specs.SliceLaws.{AllSlices};
 ghost use Rattle.fluent_laws.specs.TreeLaws.{AllWellFormed};

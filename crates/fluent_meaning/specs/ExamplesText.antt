@@ -1,7 +1,7 @@
 -- Worked examples: texts, variables, literals, numbers, selects, formatters and transforms.
 use Rattle.std.specs.Prelude.{◌≡◌, ℕ, zero, suc, ℤ, pos, negsuc, ◌*◌, ◌^◌, ◌-◌, [], ◌∷◌, ◌++◌, Bool, true, false, Some, None, codes}
 use Rattle.fluent_tree.specs.Tree.{Text, Pattern, pattern_of}
-use Rattle.fluent_tree.specs.Escapes.{unescaped}
+use Rattle.fluent_text.specs.Escapes.{unescaped}
 use Rattle.fluent_intl.specs.Number.{number_with}
 use Rattle.fluent_intl.specs.Plurals.{english}
 use Rattle.fluent_meaning.specs.Number.{read_number}

@@ -1,7 +1,7 @@
 -- Which texts bring no marks of isolation, and that as many opening as closing marks are written where nothing else brings any.
 use Rattle.std.specs.Prelude.{◌≡◌, ℕ, ◌+◌, ◌==◌, ◌&&◌, not, List, [], ◌∷◌, Bool, true, false, Some, if◌then◌else◌}
 use Rattle.fluent_tree.specs.Tree.{Text, Attribute, no_attribute, attribute, Pattern, nothing, more, Element, text, placeable, Expression, inline, select, Variants, no_variants, variant, Inline, string, number, function, message, term, variable, nested, Call, no_call, call, Arguments, arguments, Inlines, no_inlines, argument, Nameds, no_nameds, named_argument}
-use Rattle.fluent_tree.specs.Escapes.{unescaped}
+use Rattle.fluent_text.specs.Escapes.{unescaped}
 use Rattle.fluent_meaning.specs.Value.{Value, value_text}
 use Rattle.fluent_meaning.specs.Arguments.{Map, get}
 use Rattle.fluent_meaning.specs.Bundle.{Bundle, a_function, Function, stored}

@@ -2,7 +2,7 @@
 use Rattle.std.specs.Prelude.{ℕ, zero, suc, List, [], ◌∷◌, ◌++◌, length, Bool, true, false, ◌&&◌, not, Option, Some, None, if◌then◌else◌}
 use Rattle.fluent_tree.specs.Tree.{Text, is_yes, pattern_same, Pattern, nothing, more, Element, text, placeable, Expression, inline, select, Variants, no_variants, variant, Inline, string, number, function, message, term, variable, nested, Call, no_call, call, Arguments, arguments, Inlines, no_inlines, argument, Nameds, no_nameds, named_argument}
 use Rattle.fluent_tree.specs.Fallback.{fallback, fallback_of, in_braces}
-use Rattle.fluent_tree.specs.Escapes.{unescaped}
+use Rattle.fluent_text.specs.Escapes.{unescaped}
 use Rattle.fluent_meaning.specs.Errors.{ResolverError, lost, no_value, missing_default, cyclic, Reference, reference_of}
 use Rattle.fluent_meaning.specs.Value.{Value, text_value, error_value, try_number}
 use Rattle.fluent_meaning.specs.Arguments.{Map, get, set_all}

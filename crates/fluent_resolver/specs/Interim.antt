@@ -2,7 +2,7 @@
 use Rattle.std.specs.Prelude.{ℕ, Bool, [], Option, Some, None, ⊤}
 use Rattle.fluent_tree.specs.Tree.{Text, Pattern, nothing, more, Element, text, placeable, Expression, inline, string, number, variable, Inline, nested, select}
 use Rattle.fluent_tree.specs.Fallback.{fallback, fallback_of, in_braces}
-use Rattle.fluent_tree.specs.Escapes.{unescaped}
+use Rattle.fluent_text.specs.Escapes.{unescaped}
 use Rattle.fluent_meaning.specs.Errors.{lost, to_variable}
 use Rattle.fluent_meaning.specs.Value.{Value, try_number}
 use Rattle.fluent_meaning.specs.Arguments.{Map, get}

@@ -4,8 +4,8 @@ use Rattle.std.specs.Option.{option_map}
 use Rattle.std.specs.Borrow.{Bor}
 use Rattle.std.specs.Io.KnownBytes.{Appends}
 use Rattle.fluent_tree.specs.Tree.{Text}
-use Rattle.fluent_tree.specs.Taken.{Faulted}
-use Rattle.fluent_tree.specs.declared.counting.WriteFault.{WriteFault}
+use Rattle.fluent_text.specs.Taken.{Faulted}
+use Rattle.fluent_text.specs.declared.counting.WriteFault.{WriteFault}
 use Rattle.fluent_meaning.specs.Errors.{Error, ResolverError, resolver_error}
 use Rattle.fluent_meaning.specs.Value.{Value}
 use Rattle.fluent_meaning.specs.Arguments.{Map}

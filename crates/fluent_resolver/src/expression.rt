@@ -12,7 +12,7 @@ ghost use Rattle.fluent_values.specs.Written.{sink};
 use crate::fallback::put_in_braces;
 use crate::frame::Frame;
 use crate::inline_expression::write_inline;
-use fluent_tree::WriteFault;
+use fluent_text::WriteFault;
 use fluent_tree::ast::{Expression, InlineExpression};
 use fluent_values::resolver::Context;
 use fluent_values::resolver::output::Output;

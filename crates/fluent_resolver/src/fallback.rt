@@ -6,7 +6,7 @@ ghost use Rattle.fluent_tree.specs.Tree.{variable};
 ghost use Rattle.fluent_tree.specs.View.{inline_view, attribute_of};
 ghost use Rattle.fluent_values.specs.Written.{sink, Took};
 
-use fluent_tree::WriteFault;
+use fluent_text::WriteFault;
 use fluent_tree::ast::{Expression, Identifier, InlineExpression};
 use fluent_values::resolver::output::{Output, put_text};
 use std::io::Write;

@@ -1,7 +1,7 @@
 //! Inline expressions.
 
 ghost use Rattle.std.specs.Prelude.{◌≡◌};
-ghost use Rattle.fluent_tree.specs.Escapes.{unescaped};
+ghost use Rattle.fluent_text.specs.Escapes.{unescaped};
 ghost use Rattle.fluent_tree.specs.View.{inline_view};
 ghost use Rattle.fluent_meaning.specs.Arguments.{get};
 ghost use Rattle.fluent_meaning.specs.Bundle.{shown};
@@ -14,8 +14,7 @@ ghost use Rattle.fluent_values.specs.Written.{sink, Took};
 
 use crate::fallback::{put_in_braces, put_variable};
 use crate::frame::Frame;
-use fluent_escapes::{unescape_unicode, unescape_unicode_to_string};
-use fluent_tree::WriteFault;
+use fluent_text::{WriteFault, unescape_unicode, unescape_unicode_to_string};
 use fluent_tree::ast::{Expression, InlineExpression};
 use fluent_values::resolver::Context;
 use fluent_values::resolver::output::{Output, put_text};

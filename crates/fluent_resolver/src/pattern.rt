@@ -14,7 +14,7 @@ ghost use Rattle.fluent_values.specs.Written.{sink, Took};
 use crate::expression::{is_bare, shown_part, write_expression};
 use crate::fallback::put_in_braces;
 use crate::frame::Frame;
-use fluent_tree::WriteFault;
+use fluent_text::WriteFault;
 use fluent_tree::ast::{Expression, Pattern, PatternElement};
 use fluent_values::ResolverError;
 use fluent_values::resolver::output::{Output, put_text};

@@ -5,11 +5,11 @@ use Rattle.std.proofs.lemmas.Str.{IsCharBoundary-at_seam}
 use Rattle.std.specs.Str.{IsCharBoundary}
 use Rattle.std.proofs.lemmas.Bool.Decides.{nat_tests}
 use Rattle.fluent_tree.specs.Tree.{Entry}
-use Rattle.fluent_tree.specs.Parser.{Read, ◌>>◌, ◌<$>◌, pure, ignore, skip, count, run_len, run, byte, first}
-use Rattle.fluent_tree.specs.Lexical.{is_inside, blank_block}
+use Rattle.fluent_text.specs.Parser.{Read, ◌>>◌, ◌<$>◌, pure, ignore, skip, count, run_len, run, byte, first}
+use Rattle.fluent_text.specs.Lexical.{is_inside, blank_block}
 use Rattle.fluent_syntax.specs.Entries.{entry}
 use Rattle.fluent_syntax.specs.Chunks.{may_begin_entry, rest_of_line, comment_line, junk_line, junk, Part, part, entry_part, blank_part, junk_part, Chunk, chunk, with_bytes, taken, followed_by, chunks_within, chunks, entry_of, entries_of, junk_range, ranges_from}
-use Rattle.fluent_tree.proofs.Runs.{run_len-stops}
+use Rattle.fluent_text.proofs.Runs.{run_len-stops}
 use Rattle.fluent_syntax.proofs.Fronts.{TakesTo, Takes, takes-then, takes-map, takes-or, takes-pure, takes-ignore, takes-skip, takes-unless, takes-count, takes-run, takes-byte, Lessens, Eats, eats-then, eats-map, eats-or, eats-byte, run_less, then_less, no_longer}
 use Rattle.fluent_syntax.proofs.LexicalFronts.{takes-blank_block}
 use Rattle.fluent_syntax.proofs.Rules.{eats-blank_block, takes-entry, eats-entry}

@@ -2,8 +2,8 @@
 use Rattle.std.proofs.Common.{◌≡◌, ℕ, zero, suc, [], ◌∷◌, length, Some, None, true, false, ◌==◌, refl, sym, ap, ◌∙◌, arith}
 use Rattle.std.proofs.lemmas.Bool.Decides.{nat_tests}
 use Rattle.fluent_tree.specs.Tree.{Text, Expression, inline, no_attribute, message, nested, function, Inline, Arguments, arguments, no_inlines, argument, no_nameds}
-use Rattle.fluent_tree.specs.Parser.{many_from, byte, run1}
-use Rattle.fluent_tree.specs.Lexical as l
+use Rattle.fluent_text.specs.Parser.{many_from, byte, run1}
+use Rattle.fluent_text.specs.Lexical as l
 use Rattle.fluent_syntax.specs.Expressions as e
 use Rattle.fluent_syntax.specs.Expressions.{Level, level, Gathered, Argument, positional, add, argument_list, call_arguments, comma, arrow, inline_expression, expression, inline_placeable}
 use Rattle.fluent_syntax.proofs.Gathers.{starts, gathers-none, gathers-last}
@@ -28,11 +28,11 @@ begins zero rest = (120 ∷ 125 ∷ rest, refl)
 begins (suc n) rest = (braced n (125 ∷ rest), refl)
 
 inline_reads : (g : Level) (t : Text) (x : Expression) (rest : Text) → g.braces (123 ∷ t) ≡ Some (x, rest) → inline_expression g (123 ∷ t) ≡ Some (nested x, rest)
-unfolding many_from byte run1 e.hex_digit e.hex_digits e.escape e.quoted_turn e.string_literal e.digits e.number_parts e.number_literal e.literal e.attribute_access e.message_reference e.function_reference e.optional_call e.term_reference inline_expression e.named_argument e.argument l.identifier l.blank_inline l.line_break l.line_end l.blank_turn l.blank l.variable_reference
+unfolding many_from byte run1 e.hex_digit e.hex_digits e.escape e.quoted_turn e.string_literal e.digits e.number_parts e.number_literal e.literal e.attribute_access e.message_reference e.function_reference e.optional_call e.term_reference inline_expression e.named_argument e.argument l.identifier l.blank_inline l.line_break l.line_end l.blank_turn l.blank e.variable_reference
 inline_reads g t x rest h = rw h
 
 inline_refused : (g : Level) (t : Text) → g.braces (123 ∷ t) ≡ None → inline_expression g (123 ∷ t) ≡ None
-unfolding many_from byte run1 e.hex_digit e.hex_digits e.escape e.quoted_turn e.string_literal e.digits e.number_parts e.number_literal e.literal e.attribute_access e.message_reference e.function_reference e.optional_call e.term_reference inline_expression e.named_argument e.argument l.identifier l.blank_inline l.line_break l.line_end l.blank_turn l.blank l.variable_reference
+unfolding many_from byte run1 e.hex_digit e.hex_digits e.escape e.quoted_turn e.string_literal e.digits e.number_parts e.number_literal e.literal e.attribute_access e.message_reference e.function_reference e.optional_call e.term_reference inline_expression e.named_argument e.argument l.identifier l.blank_inline l.line_break l.line_end l.blank_turn l.blank e.variable_reference
 inline_refused g t h = rw h
 
 nested_alone : (g : Level) (s : Text) (x : Expression) (rest : Text) → inline_expression g s ≡ Some (nested x, rest) → expression g s ≡ Some (inline (nested x), rest)
@@ -60,7 +60,7 @@ brace_refused g s t b h =
     ap (λ u. inline_placeable g (123 ∷ u)) b ∙ placeable_refused g t (no_expression g (123 ∷ t) (inline_refused g t (ap g.braces (sym b) ∙ h)))
 
 pub braces_read : (n : ℕ) (rest : Text) → (level (suc n)).braces (braced n rest) ≡ Some (nested_tree n, rest)
-unfolding braced nested_tree many_from byte run1 e.hex_digit e.hex_digits e.escape e.quoted_turn e.string_literal e.digits e.number_parts e.number_literal e.literal e.attribute_access e.message_reference e.function_reference e.optional_call e.term_reference inline_expression e.named_argument e.argument l.identifier l.blank_inline l.line_break l.line_end l.blank_turn l.blank l.variable_reference expression inline_placeable level
+unfolding braced nested_tree many_from byte run1 e.hex_digit e.hex_digits e.escape e.quoted_turn e.string_literal e.digits e.number_parts e.number_literal e.literal e.attribute_access e.message_reference e.function_reference e.optional_call e.term_reference inline_expression e.named_argument e.argument l.identifier l.blank_inline l.line_break l.line_end l.blank_turn l.blank e.variable_reference expression inline_placeable level
 braces_read zero rest = rw (some_left 120 (125 ∷ rest), some_left 125 rest)
 braces_read (suc n) rest = let b = begins n (125 ∷ rest) in brace_reads (level (suc n)) (braced n (125 ∷ rest)) b.0 (nested_tree n) rest b.1 (braces_read n (125 ∷ rest))
 
@@ -93,11 +93,11 @@ lists zero rest = (41 ∷ rest, refl)
 lists (suc n) rest = (70 ∷ listed n (41 ∷ rest), refl)
 
 call_reads : (g : Level) (t : Text) (a : Arguments) (rest : Text) → g.brackets (40 ∷ t) ≡ Some (a, rest) → inline_expression g (70 ∷ 40 ∷ t) ≡ Some (function (70 ∷ []) a, rest)
-unfolding many_from byte run1 e.hex_digit e.hex_digits e.escape e.quoted_turn e.string_literal e.digits e.number_parts e.number_literal e.literal e.attribute_access e.message_reference e.function_reference e.optional_call e.term_reference inline_expression e.named_argument e.argument l.identifier l.blank_inline l.line_break l.line_end l.blank_turn l.blank l.variable_reference
+unfolding many_from byte run1 e.hex_digit e.hex_digits e.escape e.quoted_turn e.string_literal e.digits e.number_parts e.number_literal e.literal e.attribute_access e.message_reference e.function_reference e.optional_call e.term_reference inline_expression e.named_argument e.argument l.identifier l.blank_inline l.line_break l.line_end l.blank_turn l.blank e.variable_reference
 call_reads g t a rest h = rw h
 
 call_refused : (g : Level) (t : Text) → g.brackets (40 ∷ t) ≡ None → inline_expression g (70 ∷ 40 ∷ t) ≡ Some (message (70 ∷ []) no_attribute, 40 ∷ t)
-unfolding many_from byte run1 e.hex_digit e.hex_digits e.escape e.quoted_turn e.string_literal e.digits e.number_parts e.number_literal e.literal e.attribute_access e.message_reference e.function_reference e.optional_call e.term_reference inline_expression e.named_argument e.argument l.identifier l.blank_inline l.line_break l.line_end l.blank_turn l.blank l.variable_reference
+unfolding many_from byte run1 e.hex_digit e.hex_digits e.escape e.quoted_turn e.string_literal e.digits e.number_parts e.number_literal e.literal e.attribute_access e.message_reference e.function_reference e.optional_call e.term_reference inline_expression e.named_argument e.argument l.identifier l.blank_inline l.line_break l.line_end l.blank_turn l.blank e.variable_reference
 call_refused g t h = rw h
 
 not_named : (t : Text) → e.named_argument (70 ∷ 40 ∷ t) ≡ None
@@ -126,7 +126,7 @@ no_braces zero rest = refl
 no_braces (suc n) rest = refl
 
 nothing_there : (g : Level) (rest : Text) → g.braces (41 ∷ rest) ≡ None → e.argument g (41 ∷ rest) ≡ None
-unfolding many_from byte run1 e.hex_digit e.hex_digits e.escape e.quoted_turn e.string_literal e.digits e.number_parts e.number_literal e.literal e.attribute_access e.message_reference e.function_reference e.optional_call e.term_reference inline_expression e.named_argument e.argument l.identifier l.blank_inline l.line_break l.line_end l.blank_turn l.blank l.variable_reference
+unfolding many_from byte run1 e.hex_digit e.hex_digits e.escape e.quoted_turn e.string_literal e.digits e.number_parts e.number_literal e.literal e.attribute_access e.message_reference e.function_reference e.optional_call e.term_reference inline_expression e.named_argument e.argument l.identifier l.blank_inline l.line_break l.line_end l.blank_turn l.blank e.variable_reference
 nothing_there g rest h = rw h
 
 no_argument : (n : ℕ) (rest : Text) → argument_list (level n) (41 ∷ rest) ≡ Some (([], [], true), 41 ∷ rest)

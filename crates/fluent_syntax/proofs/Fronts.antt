@@ -2,9 +2,9 @@
 use Rattle.std.proofs.Common.{◌≡◌, ◌==◌, ℕ, zero, suc, ◌-◌, ◌<◌, ◌≤◌, Bool, true, false, cond, List, [], ◌++◌, length, take, drop, Some, None, if◌then◌else◌, refl, sym, ap, ◌∙◌, subst, append_assoc, nat_lt, take-append-drop, arith, length-append, length-drop}
 use Rattle.std.proofs.Math.Seq.{drop-append_seam}
 use Rattle.std.proofs.lemmas.Bool.Decides.{nat_tests}
-use Rattle.fluent_tree.specs.Parser.{Read, Parser, ◌>>=◌, ◌>>◌, ◌<$>◌, ◌<|>◌, and_then, otherwise, pure, refuse, ignore, skip, optional, many_from, turn, go_on, count, one_more, run_len, run, run1, byte, first}
+use Rattle.fluent_text.specs.Parser.{Read, Parser, ◌>>=◌, ◌>>◌, ◌<$>◌, ◌<|>◌, and_then, otherwise, pure, refuse, ignore, skip, optional, many_from, turn, go_on, count, one_more, run_len, run, run1, byte, first}
 use Rattle.fluent_syntax.specs.Expressions.{taken, source_of}
-use Rattle.fluent_tree.proofs.Runs.{run_len-le}
+use Rattle.fluent_text.proofs.Runs.{run_len-le}
 
 abbrev pub TakesTo : {A : Type 0} → List ℕ → Read A → Type 0
 TakesTo s None = Unit {0}

@@ -2,8 +2,8 @@
 use Rattle.std.proofs.Common.{◌==◌, ◌+◌, length, ℕ, [], true, false, Bool, Option, Some, None, refl}
 use Rattle.std.specs.Prelude.{unwrap_or}
 use Rattle.fluent_tree.specs.Tree.{no_attribute, attribute, name_key, number_key}
-use Rattle.fluent_tree.specs.Parser.{Parser, ◌>>=◌, ◌>>◌, pure, optional, ignore, skip, count, first, byte, run, run1}
-use Rattle.fluent_tree.specs.Lexical.{is_letter, is_space, is_identifier_byte, identifier, blank_inline, at_end, line_break, line_end, blank_line, blank_block, blank_turn, blank, is_text}
+use Rattle.fluent_text.specs.Parser.{Parser, ◌>>=◌, ◌>>◌, pure, optional, ignore, skip, count, first, byte, run, run1}
+use Rattle.fluent_text.specs.Lexical.{is_letter, is_space, is_identifier_byte, identifier, blank_inline, at_end, line_break, line_end, blank_line, blank_block, blank_turn, blank, is_text}
 use Rattle.fluent_syntax.specs.Expressions.{quoted_turn, number_parts, string_literal, number_literal, attribute_access, comma, key_inside, variant_key, star, variant_head, arrow}
 use Rattle.fluent_syntax.specs.Pieces.{follows, words_after, is_indented, indented_text, block_text, indent}
 use Rattle.fluent_syntax.proofs.Fronts.{Takes, takes-bind, takes-pure, takes-then, takes-map, takes-ignore, takes-or, takes-skip, takes-count, takes-run, takes-run1, takes-byte, takes-test, takes-nothing, takes-source_of, takes-optional, takes-if}

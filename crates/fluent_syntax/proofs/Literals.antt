@@ -1,8 +1,8 @@
 -- The parts of literals: fronts and turns.
 use Rattle.std.proofs.Common.{◌≡◌, ℕ, zero, suc, ◌-◌, ◌<◌, List, Some, None, ap, ◌∙◌, arith}
 use Rattle.std.specs.Char.{is_ascii_hexdigit}
-use Rattle.fluent_tree.specs.Parser.{◌>>◌, byte, ignore, run1, skip, first}
-use Rattle.fluent_tree.specs.Lexical.{is_quoted, is_digit}
+use Rattle.fluent_text.specs.Parser.{◌>>◌, byte, ignore, run1, skip, first}
+use Rattle.fluent_text.specs.Lexical.{is_quoted, is_digit}
 use Rattle.fluent_syntax.specs.Expressions.{hex_digit, hex_digits, escape, quoted_turn, digits, number_parts}
 use Rattle.fluent_syntax.proofs.Fronts.{Takes, takes-pure, takes-then, takes-or, takes-skip, takes-ignore, takes-run1, takes-byte, takes-test, takes-drop, takes-nothing}
 

@@ -2,14 +2,14 @@
 use Rattle.std.proofs.Common.{◌≡◌, ◌==◌, ℕ, zero, suc, ◌+◌, ◌<◌, Bool, true, false, List, [], ◌∷◌, ◌++◌, length, take, drop, if◌then◌else◌, Option, Some, None, refl, ap, ◌∙◌, subst, arith, inl, inr, length-take}
 use Rattle.std.proofs.lemmas.Bool.{cases_Bool, cases_lt}
 use Rattle.std.proofs.lemmas.Bool.Decides.{nat_tests}
-use Rattle.fluent_tree.specs.Parser.{Read, Parser, many_from, run, run1, run_len, byte, first}
+use Rattle.fluent_text.specs.Parser.{Read, Parser, many_from, run, run1, run_len, byte, first}
 use Rattle.fluent_tree.specs.Tree.{Text, pattern_of}
-use Rattle.fluent_tree.specs.Lexical.{is_text, is_space, blank_inline, blank_block}
+use Rattle.fluent_text.specs.Lexical.{is_text, is_space, blank_inline, blank_block}
 use Rattle.fluent_syntax.specs.Layout.{Piece, words, unless_empty, trim_spaces, lines, elements}
 use Rattle.fluent_syntax.specs.Progress.{closes_pattern, Ends}
 use Rattle.fluent_syntax.specs.Pieces.{follows, is_indented, indented_text, words_after, block_text, indent, block_placeable, pattern_element, pieces, pattern}
 use Rattle.fluent_syntax.specs.Expressions.{level, inline_placeable}
-use Rattle.fluent_tree.proofs.Turns.{none, done}
+use Rattle.fluent_text.proofs.Turns.{none, done}
 
 -- behind a run no other begins
 pub stops : (p : ℕ → ℕ → Bool) (s : List ℕ) → run_len p (drop (run_len p s) s) ≡ 0

@@ -5,15 +5,15 @@ use Rattle.std.proofs.lemmas.Bool.Decides.{nat_tests}
 use Rattle.std.proofs.lemmas.List.{map-append, length-map}
 use Rattle.std.specs.List.{prefix_len}
 use Rattle.std.specs.Str.{bytes_eq}
-use Rattle.fluent_tree.specs.Parser.{Read, Parser, ◌<$>◌, ◌<|>◌, otherwise, pure, skip, many_from, turn, go_on, run, run1, run_len, byte, first}
+use Rattle.fluent_text.specs.Parser.{Read, Parser, ◌<$>◌, ◌<|>◌, otherwise, pure, skip, many_from, turn, go_on, run, run1, run_len, byte, first}
 use Rattle.fluent_tree.specs.Tree.{Text, Expression, Element, text, placeable, pattern_of}
-use Rattle.fluent_tree.specs.Lexical.{is_text, blank, blank_inline, at_end, line_break, line_end, blank_line, blank_block}
+use Rattle.fluent_text.specs.Lexical.{is_text, blank, blank_inline, at_end, line_break, line_end, blank_line, blank_block}
 use Rattle.fluent_syntax.specs.Layout.{Words, Piece, line, words, hole, unless_empty, lines, smallest_indent, is_feed, trim_last, elements}
 use Rattle.fluent_syntax.specs.Pieces.{pattern, follows, is_indented, indented_text, words_after, inline_text, block_text, indent, block_placeable, pattern_element, pieces}
 use Rattle.fluent_syntax.specs.Expressions.{level, expression, inline_placeable}
 use Rattle.fluent_syntax.specs.Progress.{goes_on, Reached, ended, piece_of, text_pieces, hole_pieces}
-use Rattle.fluent_tree.proofs.Runs.{run_len-le}
-use Rattle.fluent_tree.proofs.Turns.{more}
+use Rattle.fluent_text.proofs.Runs.{run_len-le}
+use Rattle.fluent_text.proofs.Turns.{more}
 use Rattle.fluent_syntax.proofs.OneLine.{stops, stays, not_placeable, no_words, some_words, no_feed}
 use Rattle.fluent_syntax.proofs.Fronts.{Takes, takes-bind, takes-then, takes-byte, takes-pure, takes-if, Lessens, Eats, eats-bind, eats-then, eats-map, eats-or, eats-byte, eats-run1}
 use Rattle.fluent_syntax.proofs.LexicalFronts.{takes-blanks, takes-blank_inline, takes-words_after, takes-indent}

@@ -1,6 +1,6 @@
 -- A rule takes a front of the text, and what it gives holds a fact.
 use Rattle.std.proofs.Common.{◌≡◌, ℕ, zero, suc, Bool, true, false, List, [], ◌++◌, length, Some, None, refl, sym, ap, ◌∙◌, append_assoc, nat_lt, subst}
-use Rattle.fluent_tree.specs.Parser.{Read, Parser, ◌>>=◌, ◌>>◌, ◌<$>◌, ◌<|>◌, and_then, otherwise, pure, refuse, many_from, turn, go_on}
+use Rattle.fluent_text.specs.Parser.{Read, Parser, ◌>>=◌, ◌>>◌, ◌<$>◌, ◌<|>◌, and_then, otherwise, pure, refuse, many_from, turn, go_on}
 use Rattle.fluent_syntax.specs.Expressions.{provided}
 use Rattle.fluent_syntax.proofs.Fronts.{TakesTo, Takes}
 

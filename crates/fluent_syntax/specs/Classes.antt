@@ -2,7 +2,7 @@
 use Rattle.std.specs.Prelude.{ℕ, Bool}
 use Rattle.fluent_syntax.specs.declared.parser.bytes.Class.{Class}
 use Rattle.fluent_syntax.specs.declared.parser.bytes.Class.TheVariants.{Identifier, Space, Text, Digit, Inside, Quoted, Function}
-use Rattle.fluent_tree.specs.Lexical.{is_identifier_byte, is_space, is_text, is_digit, is_inside, is_quoted, is_function_byte}
+use Rattle.fluent_text.specs.Lexical.{is_identifier_byte, is_space, is_text, is_digit, is_inside, is_quoted, is_function_byte}
 
 abbrev pub class_test : Class → ℕ → ℕ → Bool
 class_test Identifier = is_identifier_byte

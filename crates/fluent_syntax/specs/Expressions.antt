@@ -4,8 +4,8 @@ use Rattle.std.specs.Char.{is_ascii_uppercase, is_ascii_hexdigit}
 use Rattle.std.specs.Str.{bytes_eq}
 use Rattle.std.specs.Set.{is_member}
 use Rattle.fluent_tree.specs.Tree.{Text, Attribute, no_attribute, attribute, Key, name_key, number_key, Expression, inline, select, Inline, string, number, function, message, term, variable, nested, Call, no_call, call, Arguments, arguments, Named, Variant, variants_of, inlines_of, nameds_of}
-use Rattle.fluent_tree.specs.Parser.{Read, Parser, ◌>>=◌, ◌>>◌, ◌<$>◌, ◌<|>◌, pure, refuse, ignore, skip, many, many_from, count, push, first, byte, run_len, run1}
-use Rattle.fluent_tree.specs.Lexical.{is_digit, is_quoted, is_function_byte, identifier, blank_inline, line_end, blank, variable_reference}
+use Rattle.fluent_text.specs.Parser.{Read, Parser, ◌>>=◌, ◌>>◌, ◌<$>◌, ◌<|>◌, pure, refuse, ignore, skip, many, many_from, count, push, first, byte, run_len, run1}
+use Rattle.fluent_text.specs.Lexical.{is_digit, is_quoted, is_function_byte, identifier, blank_inline, line_end, blank}
 use Rattle.fluent_syntax.specs.Pieces.{pattern}
 
 -- ---- literals
@@ -110,6 +110,10 @@ term_reference g = do
   a ← attribute_access
   c ← optional_call g
   pure (term id a c)
+
+-- VariableReference ::= "$" Identifier
+unfoldable pub variable_reference : Parser Inline
+variable_reference = variable <$> (byte 36 >> identifier)
 
 -- InlineExpression ::= StringLiteral | NumberLiteral | FunctionReference | MessageReference | TermReference | VariableReference | inline_placeable
 unfoldable pub inline_expression : Level → Parser Inline

@@ -3,7 +3,7 @@ use Rattle.std.specs.Prelude.{ℕ, List, Result}
 use Rattle.std.specs.Borrow.{Bor}
 use Rattle.std.specs.declared.alloc.Global.{Global}
 use Rattle.fluent_syntax.specs.declared.parser.stop.Stop.{Stop}
-use Rattle.fluent_tree.specs.Parser.{Parser}
+use Rattle.fluent_text.specs.Parser.{Parser}
 use Rattle.fluent_syntax.specs.Reading.{Gives}
 
 pub record Reads {A B : Type 0} (view : A → B) (rule : Parser B) (depth : ℕ) (pre : Global → Bor (List ℕ) → ℕ → Type 0)

@@ -1,9 +1,9 @@
 -- How far a pattern was read.
 use Rattle.std.specs.Prelude.{◌≡◌, ℕ, Bool, false, ◌||◌, ◌==◌, List, [], ◌∷◌, ◌++◌, length, map, Some, None, Result, Ok, Err}
 use Rattle.std.specs.Borrow.{Bor}
-use Rattle.fluent_tree.specs.Parser.{Read, Parser, ◌<$>◌, ◌<|>◌, many_from, first, run_len}
+use Rattle.fluent_text.specs.Parser.{Read, Parser, ◌<$>◌, ◌<|>◌, many_from, first, run_len}
 use Rattle.fluent_tree.specs.Tree.{Expression, Element, text, placeable}
-use Rattle.fluent_tree.specs.Lexical.{is_text}
+use Rattle.fluent_text.specs.Lexical.{is_text}
 use Rattle.fluent_syntax.specs.Layout.{Piece, line, words, hole, elements, trim_last}
 use Rattle.fluent_syntax.specs.Pieces.{inline_text, block_text, block_placeable, pattern_element, pieces}
 use Rattle.fluent_syntax.specs.Expressions.{level}

@@ -4,8 +4,8 @@ use Rattle.std.specs.Borrow.{Bor}
 use Rattle.std.specs.declared.alloc.Global.{Global}
 use Rattle.fluent_syntax.specs.declared.parser.stop.Stop.{Stop}
 use Rattle.fluent_syntax.specs.declared.parser.stop.Stop.TheVariants.{Absent, Memory}
-use Rattle.fluent_tree.specs.Parser.{Read, run_len}
-use Rattle.fluent_tree.specs.Lexical.{is_space}
+use Rattle.fluent_text.specs.Parser.{Read, run_len}
+use Rattle.fluent_text.specs.Lexical.{is_space}
 
 -- the result is what the grammar gives, unless memory ran out
 abbrev pub Gives : {A B : Type 0} → (A → B) → Result (A × Bor (List ℕ)) Stop → Read B → Type 0

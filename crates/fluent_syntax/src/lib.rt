@@ -3,6 +3,8 @@
 
 mod parser;
 
-pub use fluent_escapes::{unescape_unicode, unescape_unicode_to_string};
-pub use fluent_tree::{Counting, ParserError, WriteFault, ast, counting};
+pub use fluent_text::{
+    Counting, WriteFault, counting, unescape_unicode, unescape_unicode_to_string,
+};
+pub use fluent_tree::{ParserError, ast};
 pub use parser::{ParseFault, parse_runtime};

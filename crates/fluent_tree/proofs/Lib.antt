@@ -1,6 +1,3 @@
-pub mod Front
-pub mod Runs
-pub mod Turns
 mod Lists
 mod Inverse
 mod Alike

@@ -1,10 +1,5 @@
 pub mod Tree
 pub mod View
 pub mod Fallback
-pub mod Taken
-pub mod Parser
-pub mod Reading
-pub mod Lexical
-pub mod Escapes
 pub mod Same
 pub mod ParserError

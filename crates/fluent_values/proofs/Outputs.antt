@@ -2,9 +2,9 @@
 use Rattle.std.proofs.Common.{rules, ◌≡◌, refl, sym, ap, subst, ◌∙◌, ℕ, [], ◌++◌, Bool, true, false, Option, Some, None, Result, Ok, Err, OnOk, OnErr, Global, String, string_bytes}
 use Rattle.std.specs.Io.KnownBytes.{Appends}
 use Rattle.fluent_tree.specs.Tree.{Text}
-use Rattle.fluent_tree.specs.Taken.{Faulted, TookFront}
-use Rattle.fluent_tree.specs.declared.counting.Counting.{Counting}
-use Rattle.fluent_tree.specs.declared.counting.WriteFault.{WriteFault}
+use Rattle.fluent_text.specs.Taken.{Faulted, TookFront}
+use Rattle.fluent_text.specs.declared.counting.Counting.{Counting}
+use Rattle.fluent_text.specs.declared.counting.WriteFault.{WriteFault}
 use Rattle.fluent_values.specs.Written.{Sink, Took, writer, at}
 use Rattle.fluent_values.proofs.Took.{took_by, took_whole}
 

@@ -2,9 +2,9 @@
 use Rattle.std.proofs.Common.{◌≡◌, refl, sym, ap, subst, ◌∙◌, ℕ, [], ◌++◌, append-nil, append_assoc, Option, Some, None, Result, Ok, Err, OnOk, OnErr}
 use Rattle.std.specs.Io.KnownBytes.{Appends}
 use Rattle.fluent_tree.specs.Tree.{Text}
-use Rattle.fluent_tree.specs.Taken.{Faulted, TookFront}
-use Rattle.fluent_tree.specs.declared.counting.WriteFault.{WriteFault}
-use Rattle.fluent_tree.specs.declared.counting.WriteFault.TheVariants.{Memory}
+use Rattle.fluent_text.specs.Taken.{Faulted, TookFront}
+use Rattle.fluent_text.specs.declared.counting.WriteFault.{WriteFault}
+use Rattle.fluent_text.specs.declared.counting.WriteFault.TheVariants.{Memory}
 use Rattle.fluent_values.specs.Written.{Sink, Took}
 
 -- known bytes that grow twice grow by both

@@ -3,9 +3,9 @@ use Rattle.std.specs.Prelude.{◌≡◌, ℕ, Bool, true, false, [], ◌++◌, O
 use Rattle.std.specs.Io.KnownBytes.{Appends}
 use Rattle.std.proofs.Common.{Global}
 use Rattle.fluent_tree.specs.Tree.{Text}
-use Rattle.fluent_tree.specs.Taken.{Faulted}
-use Rattle.fluent_tree.specs.declared.counting.Counting.{Counting}
-use Rattle.fluent_tree.specs.declared.counting.WriteFault.{WriteFault}
+use Rattle.fluent_text.specs.Taken.{Faulted}
+use Rattle.fluent_text.specs.declared.counting.Counting.{Counting}
+use Rattle.fluent_text.specs.declared.counting.WriteFault.{WriteFault}
 use Rattle.fluent_values.specs.declared.resolver.output.Output.{Output}
 
 -- what is known of where a text goes: the bytes that it holds, the writer's two counts, where a buffer takes the text what the writer beside it holds, and which borrows these are

@@ -1,7 +1,7 @@
 //! The arguments of a call.
 ghost use Rattle.std.specs.Prelude.{◌≡◌, map, OnOk, IfOk};
 ghost use Rattle.fluent_syntax.specs.Expressions as spec;
-ghost use Rattle.fluent_tree.specs.Reading.{found, passed};
+ghost use Rattle.fluent_text.specs.Reading.{found, passed};
 ghost use Rattle.fluent_syntax.specs.Reading.{Gives};
 ghost use Rattle.fluent_syntax.specs.Gathering.{argument_view, gathered_view};
 ghost use Rattle.fluent_syntax.specs.Nests.{Reads};

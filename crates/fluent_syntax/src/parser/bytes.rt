@@ -1,9 +1,9 @@
 //! Runs of bytes.
 ghost use Rattle.std.specs.Prelude.{◌≡◌, ◌+◌, ◌<◌, ◌≤◌, Some, length, drop, slice_index, IfSome};
-ghost use Rattle.fluent_tree.specs.Parser as parser;
-ghost use Rattle.fluent_tree.specs.Lexical as spec;
+ghost use Rattle.fluent_text.specs.Parser as parser;
+ghost use Rattle.fluent_text.specs.Lexical as spec;
 ghost use Rattle.fluent_syntax.specs.Classes.{class_test};
-ghost use Rattle.fluent_tree.specs.Reading.{passed};
+ghost use Rattle.fluent_text.specs.Reading.{passed};
 
 use crate::parser::text::text_len;
 
@@ -35,7 +35,7 @@ pub fn byte_at(s: &str, index: usize) -> u8
 
 /// What follows this byte, which is ASCII.
 #[inline(always)]
-#[tactic(auto, unfolding(fluent_tree::specs::Parser::byte))]
+#[tactic(auto, unfolding(fluent_text::specs::Parser::byte))]
 pub fn eat(s: &str, byte: u8) -> Option<&str>
     requires some { 0 < byte }
     requires ascii { byte < 128 }
@@ -72,7 +72,7 @@ fn is_in(class: Class, byte: u8, next: u8) -> bool
 
 /// How many bytes at the front are of the class.
 #[inline(always)]
-#[tactic(auto, using(fluent_tree::proofs::Runs::the_runs))]
+#[tactic(auto, using(fluent_text::proofs::Runs::the_runs))]
 pub fn run_len(s: &str, class: Class) -> usize
     ensures len { result ≡ parser.run_len (class_test class) s.now }
     ensures within { result ≤ length s.now }

@@ -1,8 +1,8 @@
 //! Messages and terms, with their attributes.
 ghost use Rattle.std.specs.Prelude.{◌≡◌, length};
 ghost use Rattle.fluent_syntax.specs.Entries as spec;
-ghost use Rattle.fluent_tree.specs.Parser as parser;
-ghost use Rattle.fluent_tree.specs.Reading.{found};
+ghost use Rattle.fluent_text.specs.Parser as parser;
+ghost use Rattle.fluent_text.specs.Reading.{found};
 ghost use Rattle.fluent_syntax.specs.Reading.{Gives, all};
 ghost use Rattle.fluent_syntax.specs.ContentView.{content_view};
 ghost use Rattle.fluent_tree.specs.View.{name_view, pattern_view, attribute_view, entry_view};
@@ -111,7 +111,7 @@ fn term<'s>(alloc: Global, s: &'s str) -> Result<(Entry<'s>, &'s str), Stop>
 }
 
 /// Adds the attributes that come next.
-#[tactic(auto, using(fluent_tree::proofs::Turns::turns))]
+#[tactic(auto, using(fluent_text::proofs::Turns::turns))]
 fn attributes<'s>(
     alloc: Global,
     s: &'s str,

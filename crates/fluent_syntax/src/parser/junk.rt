@@ -1,8 +1,8 @@
 //! Comments and Junk.
 ghost use Rattle.std.specs.Prelude.{◌≡◌, Some};
 ghost use Rattle.fluent_syntax.specs.Chunks as spec;
-ghost use Rattle.fluent_tree.specs.Parser as parser;
-ghost use Rattle.fluent_tree.specs.Reading.{passed};
+ghost use Rattle.fluent_text.specs.Parser as parser;
+ghost use Rattle.fluent_text.specs.Reading.{passed};
 
 use crate::parser::bytes::{Class, byte_at, eat, split_run};
 
@@ -35,7 +35,7 @@ fn rest_of_line(s: &str) -> &str
     }
 }
 
-#[tactic(auto, using(fluent_tree::proofs::Turns::turns))]
+#[tactic(auto, using(fluent_text::proofs::Turns::turns))]
 fn more_junk(s: &str) -> (usize, &str)
     ensures { parser.count spec.junk_line s.now ≡ Some (result.0, result.1.now) }
 {

@@ -1,8 +1,9 @@
 //! Identifiers, blanks and line ends.
 ghost use Rattle.std.specs.Prelude.{◌≡◌, ◌<◌, ◌≤◌, Some, length, IfSome};
-ghost use Rattle.fluent_tree.specs.Parser as parser;
-ghost use Rattle.fluent_tree.specs.Lexical as spec;
-ghost use Rattle.fluent_tree.specs.Reading.{found, passed};
+ghost use Rattle.fluent_text.specs.Parser as parser;
+ghost use Rattle.fluent_text.specs.Lexical as spec;
+ghost use Rattle.fluent_syntax.specs.Expressions as expression;
+ghost use Rattle.fluent_text.specs.Reading.{found, passed};
 ghost use Rattle.fluent_syntax.specs.Reading.{IsIndent};
 ghost use Rattle.fluent_tree.specs.View.{name_view, inline_view};
 
@@ -10,7 +11,7 @@ use crate::parser::bytes::{Class, byte_at, eat, split_run};
 use fluent_tree::ast::{Identifier, InlineExpression};
 
 #[inline(always)]
-#[tactic(auto, unfolding(fluent_tree::specs::Lexical::identifier))]
+#[tactic(auto, unfolding(fluent_text::specs::Lexical::identifier))]
 pub fn identifier<'s>(s: &'s str) -> Option<(Identifier<'s>, &'s str)>
     ensures { found name_view result ≡ spec.identifier s.now }
 {
@@ -22,7 +23,7 @@ pub fn identifier<'s>(s: &'s str) -> Option<(Identifier<'s>, &'s str)>
 }
 
 #[inline(always)]
-#[tactic(auto, unfolding(fluent_tree::specs::Lexical::blank_inline, fluent_tree::specs::Parser::run1))]
+#[tactic(auto, unfolding(fluent_text::specs::Lexical::blank_inline, fluent_text::specs::Parser::run1))]
 pub fn blank_inline(s: &str) -> Option<(usize, &str)>
     ensures gives { found (λ n. n) result ≡ spec.blank_inline s.now }
     ensures indent { IfSome result (λ p. IsIndent s.now p.0 p.1.now) }
@@ -37,7 +38,7 @@ pub fn blank_inline(s: &str) -> Option<(usize, &str)>
 
 /// What follows a line feed, or a carriage return and a line feed.
 #[inline(always)]
-#[tactic(auto, unfolding(fluent_tree::specs::Lexical::line_break))]
+#[tactic(auto, unfolding(fluent_text::specs::Lexical::line_break))]
 pub fn line_break(s: &str) -> Option<&str>
     ensures { passed result ≡ spec.line_break s.now }
 {
@@ -50,7 +51,7 @@ pub fn line_break(s: &str) -> Option<&str>
 }
 
 #[inline(always)]
-#[tactic(auto, unfolding(fluent_tree::specs::Lexical::line_end))]
+#[tactic(auto, unfolding(fluent_text::specs::Lexical::line_end))]
 pub fn line_end(s: &str) -> Option<&str>
     ensures { passed result ≡ spec.line_end s.now }
 {
@@ -93,7 +94,7 @@ fn after_lines(s: &str) -> &str
     }
 }
 
-#[tactic(auto, unfolding(fluent_tree::specs::Lexical::blank))]
+#[tactic(auto, unfolding(fluent_text::specs::Lexical::blank))]
 fn blank(s: &str) -> Option<&str>
     ensures { passed result ≡ spec.blank s.now }
 {
@@ -102,7 +103,7 @@ fn blank(s: &str) -> Option<&str>
     Some(rest)
 }
 
-#[tactic(auto, using(fluent_tree::proofs::Turns::turns))]
+#[tactic(auto, using(fluent_text::proofs::Turns::turns))]
 fn more_blanks(s: &str) -> (usize, &str)
     ensures { parser.count spec.blank_turn s.now ≡ Some (result.0, result.1.now) }
 {
@@ -122,7 +123,7 @@ fn more_blanks(s: &str) -> (usize, &str)
 }
 
 #[inline(always)]
-#[tactic(auto, unfolding(fluent_tree::specs::Lexical::blank_turn))]
+#[tactic(auto, unfolding(fluent_text::specs::Lexical::blank_turn))]
 fn blank_turn(s: &str) -> Option<&str>
     ensures { passed result ≡ spec.blank_turn s.now }
 {
@@ -133,7 +134,7 @@ fn blank_turn(s: &str) -> Option<&str>
 }
 
 #[inline(always)]
-#[tactic(auto, unfolding(fluent_tree::specs::Lexical::blank_line))]
+#[tactic(auto, unfolding(fluent_text::specs::Lexical::blank_line))]
 pub fn blank_line(s: &str) -> Option<&str>
     ensures { passed result ≡ spec.blank_line s.now }
 {
@@ -141,7 +142,7 @@ pub fn blank_line(s: &str) -> Option<&str>
 }
 
 /// How many line ends.
-#[tactic(auto, unfolding(fluent_tree::specs::Lexical::blank_block))]
+#[tactic(auto, unfolding(fluent_text::specs::Lexical::blank_block))]
 pub fn blank_block(s: &str) -> Option<(usize, &str)>
     ensures { found (λ n. n) result ≡ spec.blank_block s.now }
 {
@@ -150,7 +151,7 @@ pub fn blank_block(s: &str) -> Option<(usize, &str)>
     Some((more + 1, rest))
 }
 
-#[tactic(auto, using(fluent_tree::proofs::Turns::turns))]
+#[tactic(auto, using(fluent_text::proofs::Turns::turns))]
 fn more_lines(s: &str) -> (usize, &str)
     ensures count { parser.count spec.blank_line s.now ≡ Some (result.0, result.1.now) }
     ensures within { result.0 ≤ length s.now }
@@ -171,9 +172,9 @@ fn more_lines(s: &str) -> (usize, &str)
 }
 
 #[inline(always)]
-#[tactic(auto, unfolding(fluent_tree::specs::Lexical::variable_reference))]
+#[tactic(auto, unfolding(crate::specs::Expressions::variable_reference))]
 pub fn variable_reference<'s>(s: &'s str) -> Option<(InlineExpression<'s>, &'s str)>
-    ensures { found inline_view result ≡ spec.variable_reference s.now }
+    ensures { found inline_view result ≡ expression.variable_reference s.now }
 {
     let (id, rest) = identifier(eat(s, b'$')?)?;
     Some((InlineExpression::VariableReference { id }, rest))

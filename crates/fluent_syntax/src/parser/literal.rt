@@ -1,8 +1,8 @@
 //! String and number literals, which are kept as the source has them.
 ghost use Rattle.std.specs.Prelude.{◌≡◌, ◌-◌, ◌≤◌, Some, length, take, drop};
-ghost use Rattle.fluent_tree.specs.Parser as parser;
+ghost use Rattle.fluent_text.specs.Parser as parser;
 ghost use Rattle.fluent_syntax.specs.Expressions as spec;
-ghost use Rattle.fluent_tree.specs.Reading.{found, passed};
+ghost use Rattle.fluent_text.specs.Reading.{found, passed};
 ghost use Rattle.fluent_syntax.specs.Reading.{text_view};
 
 use crate::parser::bytes::{Class, byte_at, eat, split_run};
@@ -16,7 +16,7 @@ fn before<'s>(whole: &'s str, rest: &str) -> &'s str
     &whole[..whole.len() - rest.len()]
 }
 
-#[tactic(auto, unfolding(crate::specs::Expressions::hex_digit, fluent_tree::specs::Parser::byte))]
+#[tactic(auto, unfolding(crate::specs::Expressions::hex_digit, fluent_text::specs::Parser::byte))]
 fn hex_digit(s: &str) -> Option<&str>
     ensures { passed result ≡ spec.hex_digit s.now }
 {
@@ -58,7 +58,7 @@ fn escape(s: &str) -> Option<&str>
     hex_digits(eat(rest, b'U')?, 6)
 }
 
-#[tactic(auto, unfolding(crate::specs::Expressions::quoted_turn, fluent_tree::specs::Parser::run1))]
+#[tactic(auto, unfolding(crate::specs::Expressions::quoted_turn, fluent_text::specs::Parser::run1))]
 fn quoted_turn(s: &str) -> Option<&str>
     ensures { passed result ≡ spec.quoted_turn s.now }
 {
@@ -69,7 +69,7 @@ fn quoted_turn(s: &str) -> Option<&str>
     escape(s)
 }
 
-#[tactic(auto, using(fluent_tree::proofs::Turns::turns))]
+#[tactic(auto, using(fluent_text::proofs::Turns::turns))]
 fn quoted(s: &str) -> (usize, &str)
     ensures { parser.count spec.quoted_turn s.now ≡ Some (result.0, result.1.now) }
 {
@@ -99,7 +99,7 @@ pub fn string_literal<'s>(s: &'s str) -> Option<(&'s str, &'s str)>
     Some((before(body, end), rest))
 }
 
-#[tactic(auto, unfolding(crate::specs::Expressions::digits, fluent_tree::specs::Parser::run1))]
+#[tactic(auto, unfolding(crate::specs::Expressions::digits, fluent_text::specs::Parser::run1))]
 fn digits(s: &str) -> Option<&str>
     ensures { passed result ≡ parser.ignore spec.digits s.now }
 {

@@ -2,7 +2,7 @@
 ghost use Rattle.std.specs.Prelude.{None, ◌≡◌, ◌+◌, ◌<◌, ◌≤◌, ℕ, true, false, Some, length, drop, slice_index, unwrap_or, IfSome, MatchOption, [], ◌∷◌, ◌++◌};
 ghost use Rattle.fluent_syntax.specs.Layout.{dedented};
 ghost use Rattle.fluent_syntax.specs.Pieces as spec;
-ghost use Rattle.fluent_tree.specs.Reading.{found};
+ghost use Rattle.fluent_text.specs.Reading.{found};
 
 use crate::parser::bytes::{Class, byte_at, run_len};
 use crate::parser::lines::{blank_block, blank_inline};
@@ -36,7 +36,7 @@ impl<'s> Model for Slice<'s> {
 impl<'s> Slice<'s> {
     /// The text at the front of `text`, which follows the indent in `line`.
     #[inline(always)]
-    #[tactic(auto, unfolding(crate::specs::Pieces::words_after, fluent_tree::specs::Parser::run1))]
+    #[tactic(auto, unfolding(crate::specs::Pieces::words_after, fluent_text::specs::Parser::run1))]
     fn read(line: &'s str, indent: Option<usize>, text: &'s str) -> Option<(Slice<'s>, &'s str)>
         requires within { unwrap_or indent 0 ≤ length line.now }
         requires spaces { (k : ℕ) → k < unwrap_or indent 0 → slice_index line.now k ≡ 32 }

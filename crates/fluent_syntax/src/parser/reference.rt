@@ -1,7 +1,7 @@
 //! References to messages, terms and functions, and the expressions that are no select.
 ghost use Rattle.std.specs.Prelude.{◌≡◌, Some, length};
 ghost use Rattle.fluent_syntax.specs.Expressions as spec;
-ghost use Rattle.fluent_tree.specs.Reading.{found};
+ghost use Rattle.fluent_text.specs.Reading.{found};
 ghost use Rattle.fluent_syntax.specs.Reading.{Gives};
 ghost use Rattle.fluent_syntax.specs.Nests.{Reads};
 ghost use Rattle.fluent_tree.specs.View.{inline_view, expression_view, arguments_view, attribute_of, call_view};

@@ -1,8 +1,8 @@
 //! Selects: keys, variants and lists of them.
 ghost use Rattle.std.specs.Prelude.{◌≡◌, false, length};
 ghost use Rattle.fluent_syntax.specs.Expressions as spec;
-ghost use Rattle.fluent_tree.specs.Parser as parser;
-ghost use Rattle.fluent_tree.specs.Reading.{found, passed};
+ghost use Rattle.fluent_text.specs.Parser as parser;
+ghost use Rattle.fluent_text.specs.Reading.{found, passed};
 ghost use Rattle.fluent_syntax.specs.Reading.{Gives, all};
 ghost use Rattle.fluent_syntax.specs.Nests.{Reads};
 ghost use Rattle.fluent_tree.specs.View.{key_view, inline_view, variant_view, expression_view};
@@ -111,7 +111,7 @@ impl<
     }
 
     /// Adds the variants that come next, none of which is the default.
-    #[tactic(auto, using(fluent_tree::proofs::Turns::turns))]
+    #[tactic(auto, using(fluent_text::proofs::Turns::turns))]
     fn variants(
         &self,
         s: &'s str,

@@ -1,7 +1,7 @@
 //! How far the text of a line goes.
 ghost use Rattle.std.specs.Prelude.{◌≡◌};
-ghost use Rattle.fluent_tree.specs.Parser as parser;
-ghost use Rattle.fluent_tree.specs.Lexical.{is_text};
+ghost use Rattle.fluent_text.specs.Parser as parser;
+ghost use Rattle.fluent_text.specs.Lexical.{is_text};
 
 use crate::parser::bytes::byte_at;
 use memchr::memchr3;

@@ -2,8 +2,8 @@
 ghost use Rattle.std.specs.Prelude.{◌≡◌, ◌≢◌, Err, false};
 ghost use Rattle.fluent_values.specs.Written.{sink, Took};
 
-use fluent_tree::counting::put;
-use fluent_tree::{Counting, WriteFault};
+use fluent_text::counting::put;
+use fluent_text::{Counting, WriteFault};
 use std::io::Write;
 
 /// A writer, and a buffer beside it, which takes the text in its place where that is wanted.

@@ -11,7 +11,7 @@ use super::context::Context;
 use super::output::{Output, put_text};
 use super::scope::Scope;
 use crate::types::{FluentType, FluentValue};
-use fluent_tree::{Counting, WriteFault};
+use fluent_text::{Counting, WriteFault};
 use std::alloc::AllocError;
 use std::borrow::CowStr;
 use std::io::Write;

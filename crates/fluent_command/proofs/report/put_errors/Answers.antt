@@ -1,7 +1,7 @@
 use Rattle.std.proofs.Common.{rules, ◌≡◌, ◌+◌, sym, ap, subst, Err, take}
 use Rattle.std.proofs.KnownBytes.{Appends-trans}
-use Rattle.fluent_tree.specs.declared.counting.WriteFault.TheVariants.{Memory}
-use Rattle.fluent_tree.specs.Taken.{TookFront}
+use Rattle.fluent_text.specs.declared.counting.WriteFault.TheVariants.{Memory}
+use Rattle.fluent_text.specs.Taken.{TookFront}
 use Rattle.fluent_command.specs.Ending.{error_lines}
 use Rattle.fluent_command.specs.EndingView.{reported}
 use Rattle.fluent_command.proofs.Began.{took_fault}

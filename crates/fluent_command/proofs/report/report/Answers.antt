@@ -1,7 +1,7 @@
 use Rattle.std.proofs.Common.{rules, ◌≡◌, subst, Err}
-use Rattle.fluent_tree.specs.Taken.{TookFront}
-use Rattle.fluent_tree.specs.declared.counting.WriteFault.{WriteFault}
-use Rattle.fluent_tree.specs.declared.counting.WriteFault.TheVariants.{Memory}
+use Rattle.fluent_text.specs.Taken.{TookFront}
+use Rattle.fluent_text.specs.declared.counting.WriteFault.{WriteFault}
+use Rattle.fluent_text.specs.declared.counting.WriteFault.TheVariants.{Memory}
 use Rattle.fluent_bundle.proofs.Running.{on_err}
 use Rattle.fluent_command.specs.Ending.{ending_line}
 use Rattle.fluent_command.specs.EndingView.{ending_view, reported}

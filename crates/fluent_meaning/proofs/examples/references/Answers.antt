@@ -1,8 +1,8 @@
 use lib.Utf8.{encode}
 use Rattle.std.proofs.Common.{refl}
 use Rattle.std.specs.Fmt.{digits}
-use Rattle.fluent_tree.specs.Escapes as e
-use Rattle.fluent_tree.specs.Parser.{many_from, byte, run1}
+use Rattle.fluent_text.specs.Escapes as e
+use Rattle.fluent_text.specs.Parser.{many_from, byte, run1}
 use Rattle.fluent_tree.specs.Tree.{pattern_same, text_same}
 use Rattle.fluent_intl.specs.Decimal.{decimal_text, significant_places}
 use Rattle.fluent_intl.specs.Operands.{operands_of}

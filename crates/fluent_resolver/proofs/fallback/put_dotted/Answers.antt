@@ -2,7 +2,7 @@ use Rattle.std.proofs.Common.{rules, ap, sym, ◌∷◌, ◌≡◌, Result, Err}
 use Rattle.fluent_tree.specs.Fallback.{dotted}
 use Rattle.fluent_tree.specs.Tree.{Text, Attribute, no_attribute, attribute}
 use Rattle.fluent_tree.specs.View.{attribute_of}
-use Rattle.fluent_tree.specs.declared.counting.WriteFault.{WriteFault}
+use Rattle.fluent_text.specs.declared.counting.WriteFault.{WriteFault}
 use Rattle.fluent_values.specs.Written.{Sink, Took}
 use Rattle.fluent_values.proofs.Took.{took_on, took_stops, took_fails, took_same, took_done}
 use Rattle.fluent_resolver.proofs.fallback.put_dotted.Goals as goal

@@ -1,6 +1,6 @@
 use Rattle.std.proofs.Common.{sym, ◌∙◌, subst}
 use Rattle.fluent_syntax.specs.Bare.{IsBare}
-use Rattle.fluent_tree.specs.Parser.{first}
+use Rattle.fluent_text.specs.Parser.{first}
 use Rattle.fluent_syntax.proofs.OneLine.{is_other}
 use Rattle.fluent_syntax.proofs.References.{bare_variable, bare_message, bare_term}
 use Rattle.fluent_syntax.proofs.Views.{view_variable, view_message, view_term}

@@ -1,5 +1,5 @@
 use Rattle.std.proofs.Common.{◌≡◌, ◌+◌, drop}
-use Rattle.fluent_tree.specs.Parser as parser
+use Rattle.fluent_text.specs.Parser as parser
 use Rattle.fluent_syntax.specs.Classes.{class_test}
 use Rattle.fluent_syntax.proofs.parser.bytes.run_len.Given as goal
 

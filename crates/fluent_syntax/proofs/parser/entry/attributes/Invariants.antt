@@ -2,7 +2,7 @@ use Rattle.std.proofs.Common.{◌-◌, ◌≡◌, length}
 use denote.Shadow.{shadow}
 use denote.Text.{Utf8}
 use Rattle.fluent_tree.specs.View.{attribute_view}
-use Rattle.fluent_tree.specs.Parser.{many_from, push}
+use Rattle.fluent_text.specs.Parser.{many_from, push}
 use Rattle.fluent_syntax.specs.Entries.{attribute}
 use Rattle.fluent_syntax.specs.Reading.{all}
 use Rattle.fluent_syntax.proofs.parser.entry.attributes.Given as goal

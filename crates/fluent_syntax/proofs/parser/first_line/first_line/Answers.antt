@@ -1,5 +1,5 @@
 use Rattle.std.proofs.Common.{◌≡◌, ◌==◌, ◌++◌, ◌∷◌, [], true, None, Err, sym, ap, ◌∙◌, subst, map, rules}
-use Rattle.fluent_tree.specs.Parser.{first}
+use Rattle.fluent_text.specs.Parser.{first}
 use Rattle.fluent_syntax.specs.Expressions.{level}
 use Rattle.fluent_syntax.specs.Layout.{unless_empty}
 use Rattle.fluent_tree.specs.Tree.{placeable}

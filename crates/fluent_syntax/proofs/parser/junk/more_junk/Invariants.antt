@@ -1,5 +1,5 @@
 use Rattle.std.proofs.Common.{◌≡◌, ◌-◌, ◌≤◌}
-use Rattle.fluent_tree.specs.Parser.{many_from, one_more, count}
+use Rattle.fluent_text.specs.Parser.{many_from, one_more, count}
 use Rattle.fluent_syntax.specs.Chunks.{junk_line}
 use Rattle.fluent_syntax.proofs.parser.junk.more_junk.Given as goal
 use denote.Shadow.{shadow}

@@ -1,5 +1,5 @@
 use Rattle.std.proofs.Common.{◌<◌, arith}
-use Rattle.fluent_tree.specs.Parser.{first}
+use Rattle.fluent_text.specs.Parser.{first}
 use Rattle.fluent_syntax.proofs.Spaces.{only_spaces}
 use Rattle.fluent_syntax.proofs.parser.lines.after_blank.Goals as goal
 

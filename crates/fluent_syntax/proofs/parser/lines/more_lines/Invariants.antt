@@ -1,6 +1,6 @@
 use Rattle.std.proofs.Common.{◌≡◌, ◌-◌, ◌≤◌}
-use Rattle.fluent_tree.specs.Parser.{many_from, one_more, count}
-use Rattle.fluent_tree.specs.Lexical.{blank_line}
+use Rattle.fluent_text.specs.Parser.{many_from, one_more, count}
+use Rattle.fluent_text.specs.Lexical.{blank_line}
 use Rattle.fluent_syntax.proofs.parser.lines.more_lines.Given as goal
 use denote.Shadow.{shadow}
 use denote.Text.{Utf8}

@@ -1,5 +1,5 @@
 use Rattle.std.proofs.Common.{◌≡◌, ◌-◌, ◌≤◌}
-use Rattle.fluent_tree.specs.Parser.{many_from, one_more, count}
+use Rattle.fluent_text.specs.Parser.{many_from, one_more, count}
 use Rattle.fluent_syntax.specs.Expressions.{quoted_turn}
 use Rattle.fluent_syntax.proofs.parser.literal.quoted.Given as goal
 use denote.Shadow.{shadow}

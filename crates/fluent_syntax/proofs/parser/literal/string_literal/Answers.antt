@@ -1,5 +1,5 @@
 use Rattle.std.proofs.Common.{}
-use Rattle.fluent_tree.specs.Parser.{count}
+use Rattle.fluent_text.specs.Parser.{count}
 use Rattle.fluent_syntax.specs.Expressions.{quoted_turn}
 use Rattle.fluent_syntax.proofs.Fronts.{left_within, left_end, takes-count}
 use Rattle.fluent_syntax.proofs.Literals.{takes-quoted_turn}

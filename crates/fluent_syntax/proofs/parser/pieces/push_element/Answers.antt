@@ -1,5 +1,5 @@
 use Rattle.std.proofs.Common.{◌≡◌, None, Err, sym, ap, ◌∙◌, subst}
-use Rattle.fluent_tree.specs.Parser.{otherwise}
+use Rattle.fluent_text.specs.Parser.{otherwise}
 use Rattle.fluent_syntax.specs.Progress.{Adds, text_pieces, hole_pieces}
 use Rattle.fluent_syntax.specs.Expressions.{level}
 use Rattle.fluent_syntax.specs.Pieces.{pattern_element}

@@ -1,9 +1,9 @@
 use Rattle.std.proofs.Common.{◌-◌, ◌+◌, ◌∙◌, false, length, arith, rules}
 use Rattle.fluent_tree.specs.View.{variant_view}
-use Rattle.fluent_tree.specs.Parser.{push}
+use Rattle.fluent_text.specs.Parser.{push}
 use Rattle.fluent_syntax.specs.Expressions.{variant, level}
 use Rattle.fluent_syntax.specs.Reading.{all}
-use Rattle.fluent_tree.proofs.Turns.{pushed, empty}
+use Rattle.fluent_text.proofs.Turns.{pushed, empty}
 use Rattle.fluent_syntax.proofs.parser.inner.Inner.variants.Goals as goal
 
 pub variants-preserved : goal.variants-preserved

@@ -1,3 +1,0 @@
-mod Hexadecimal
-mod Unescapes
-mod EscapeRows

@@ -1,8 +1,0 @@
-use Rattle.std.proofs.Common.{arith}
-use Rattle.std.proofs.lemmas.Bool.Decides.{nat_tests}
-use Rattle.fluent_tree.specs.Lexical.{is_plain}
-use Rattle.fluent_tree.proofs.Runs.{boundary-wide}
-use Rattle.fluent_escapes.proofs.bytes.split_plain.Goals as goal
-
-pub split_at-requires : goal.split_at-requires
-split_at-requires c = rw c.plain_len.ensures.len (boundary-wide is_plain c.args.s.now (λ b next e. grind (arith, nat_tests)))

@@ -1,9 +1,0 @@
-use Rattle.std.proofs.Common.{◌≡◌, ◌-◌, ◌<◌, ◌≤◌, ◌^◌, length}
-use denote.Shadow.{shadow}
-use denote.Text.{Utf8}
-use Rattle.fluent_tree.specs.Escapes.{hex_number}
-use Rattle.fluent_escapes.proofs.unicode.hex_number.Given as goal
-
-abbrev pub invariant-digits : goal.invariant-digits
-invariant-digits l =
-    shadow (Utf8 l.rest) × (hex_number l.count 0 l.fn.text ≡ hex_number (l.count - l._turn) l.number l.rest) × (l.number < 16 ^ l._turn) × (length l.rest ≤ length l.fn.text)

@@ -1,0 +1,95 @@
+-- The parts of a quoted text, one after the other.
+use Rattle.std.proofs.Common.{◌≡◌, ◌≢◌, ℕ, zero, suc, ◌-◌, ◌<◌, ◌==◌, List, [], ◌∷◌, ◌++◌, length, take, drop, Option, Some, None, ap, sym, ◌∙◌, append_assoc, append-nil, length-drop, arith, refl, nat_lt, true, false, Bool, Result, Ok, Err, OnErr, inl, inr}
+use Rattle.std.specs.Io.KnownBytes.{Appends}
+use Rattle.std.proofs.lemmas.Bool.Decides.{nat_tests}
+use Rattle.fluent_text.specs.Parser.{Text}
+use Rattle.fluent_text.specs.Taken.{TookFront}
+use Rattle.fluent_text.specs.Lexical.{is_plain}
+use Rattle.fluent_text.specs.Parser.{Read, Parser, many_from, turn, go_on, run, run1, run_len, byte}
+use Rattle.fluent_text.specs.Escapes.{value_of, part, unescaped}
+use Rattle.fluent_text.proofs.Front.{appends_twice}
+use Rattle.fluent_text.proofs.Runs.{run_len-stops}
+use Rattle.std.specs.List.{All}
+use Rattle.std.proofs.lemmas.List.{take_all}
+use Rattle.std.proofs.lemmas.Bool.{cases_lt}
+use Rattle.fluent_text.proofs.Turns.{more}
+
+-- what is added to a text stays behind it
+abbrev pub Grows : (Text → Parser Text) → Type 0
+Grows step = (acc : Text) (s : List ℕ) → (rest : Text) × (value_of (step acc s) ≡ acc ++ rest)
+
+gone : (step : Text → Parser Text) → Grows step → (acc : Text) (s : List ℕ) (p : Text × List ℕ) (b : Bool) → (rest : Text) × (value_of (go_on ◌++◌ step acc s p b) ≡ acc ++ rest)
+gone step h acc s p false = ([], sym (append-nil acc))
+gone step h acc s p true = let next = h (acc ++ p.0) p.1 in (p.0 ++ next.0, next.1 ∙ append_assoc acc p.0 next.0)
+
+turned : (step : Text → Parser Text) → Grows step → (acc : Text) (s : List ℕ) (r : Read Text) → (rest : Text) × (value_of (turn ◌++◌ step acc s r) ≡ acc ++ rest)
+turned step h acc s None = ([], sym (append-nil acc))
+turned step h acc s (Some p) = gone step h acc s p (nat_lt (length p.1) (length s))
+
+pub grows : (p : Parser Text) (k : ℕ) → Grows (many_from ◌++◌ p k)
+unfolding many_from
+grows p zero = λ acc s. ([], sym (append-nil acc))
+grows p (suc k) = let h = grows p k in λ acc s. turned (many_from ◌++◌ p k) h acc s (p s)
+
+-- a beginning of one part more is a beginning of the whole
+pub began : (whole front piece : Text) (k : ℕ) (s rest : List ℕ) (old mid new : Option (List ℕ)) → whole ≡ value_of (many_from ◌++◌ part k (front ++ piece) rest)
+    → Appends old mid front → TookFront mid new piece → TookFront old new whole
+began whole front piece k s rest old mid new e a t =
+    let g = grows part k (front ++ piece) rest in (
+      front ++ t.0,
+      t.1 ++ g.0,
+      e ∙ (g.1 ∙ (ap (λ w. (front ++ w) ++ g.0) t.2 ∙ (ap (λ w. w ++ g.0) (sym (append_assoc front t.0 t.1)) ∙ append_assoc (front ++ t.0) t.1 g.0))),
+      appends_twice old mid new front t.0 a t.3,
+    )
+
+pub on_err : {T E : Type 0} (r : Result T E) (P : Type 0) → P → OnErr r P
+on_err (Ok x) P p = tt
+on_err (Err e) P p = p
+
+nothing_left : (s : List ℕ) → length s ≡ 0 → s ≡ []
+nothing_left [] h = refl
+nothing_left (b ∷ s) h = absurd (omega arith)
+
+at_end : (acc : Text) (k : ℕ) → many_from ◌++◌ part k acc [] ≡ Some (acc, [])
+unfolding many_from part run1 byte
+at_end acc zero = refl
+at_end acc (suc k) = refl
+
+-- a text without a backslash is what it means
+pub plain_alone : (t front rest : Text) → run is_plain t ≡ Some (front, rest) → length rest ≡ 0 → front ≡ unescaped t
+unfolding part run1 many_from
+plain_alone [] front rest e h = let f : ◌≡◌ {A = Text × Text} ([], []) (front, rest) = cc in ap (λ p. p.0) (sym f)
+plain_alone (b ∷ t) front rest e h =
+    let n = run_len is_plain (b ∷ t) in
+    let both : ◌≡◌ {A = Text × Text} (take n (b ∷ t), drop n (b ∷ t)) (front, rest) = cc in
+    let r : drop n (b ∷ t) ≡ rest = ap (λ p. p.1) both in
+    let l : length (b ∷ t) - n ≡ 0 = sym (length-drop n (b ∷ t)) ∙ (ap length r ∙ h) in
+    let some : 0 < length (b ∷ t) = omega arith in
+    let test : (n == 0) ≡ false = grind (arith, nat_tests, some, l) in
+    let one : part (b ∷ t) ≡ Some (front, rest) = rw test (rw e) in
+    let shorter : length rest < length (b ∷ t) = omega arith in
+    let turns = more ◌++◌ part (length (b ∷ t)) (length t) [] (b ∷ t) front rest refl one shorter in
+    sym (ap value_of (turns ∙ (ap (λ w. many_from ◌++◌ part (length t) front w) (nothing_left rest h) ∙ at_end front (length t))))
+
+parted : (t front rest : Text) → run is_plain t ≡ Some (front, rest) → ◌≡◌ {A = Text × Text} (take (run_len is_plain t) t, drop (run_len is_plain t) t) (front, rest)
+parted t front rest e = cc
+
+-- a text without a backslash is one run
+pub all_plain : (t front rest : Text) → run is_plain t ≡ Some (front, rest) → All (λ c. c ≢ 92) t → length rest ≡ 0
+all_plain t front rest e h =
+    let n = run_len is_plain t in
+    let r : drop n t ≡ rest = ap (λ p. p.1) (parted t front rest e) in
+    let l : length t - n ≡ length rest = sym (length-drop n t) ∙ ap length r in
+    elim (cases_lt n (length t)) [
+      | inl less ↦ let stop = run_len-stops is_plain t less in let other = h n 0 less in absurd (grind (arith, nat_tests, stop, other))
+      | inr past ↦ omega arith
+    ]
+
+-- and that run is the text
+pub whole_run : (t front rest : Text) → run is_plain t ≡ Some (front, rest) → length rest ≡ 0 → front ≡ t
+whole_run t front rest e h =
+    let n = run_len is_plain t in
+    let both = parted t front rest e in
+    let r : drop n t ≡ rest = ap (λ p. p.1) both in
+    let l : length t - n ≡ 0 = sym (length-drop n t) ∙ (ap length r ∙ h) in
+    sym (ap (λ p. p.0) both) ∙ take_all n t (omega arith)

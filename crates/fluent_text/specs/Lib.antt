@@ -1,0 +1,6 @@
+pub mod Taken
+pub mod Parser
+pub mod Reading
+pub mod Lexical
+pub mod Escapes
+pub mod Unescaped

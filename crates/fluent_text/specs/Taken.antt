@@ -1,0 +1,34 @@
+-- What a writer took, and how a count rises.
+use Rattle.std.specs.Prelude.{◌≡◌, ℕ, ◌+◌, ◌-◌, ◌^◌, min, List, [], ◌∷◌, ◌++◌, Bool, true, false, suc, zero, Option, Result, Ok, Err}
+use Rattle.std.specs.Io.KnownBytes.{Appends}
+use Rattle.fluent_text.specs.declared.counting.WriteFault.{WriteFault}
+use Rattle.fluent_text.specs.declared.counting.WriteFault.TheVariants.{Memory, Writer, Zero}
+
+-- a count goes up by one, and stands still at the largest number of 64 bits
+abbrev pub raised : ℕ → ℕ
+raised n = min (n + 1) (2 ^ 64 - 1)
+
+-- a write of a nonempty piece that took no byte
+abbrev pub took_nothing : {E : Type 0} → Result ℕ E → List ℕ → Bool
+took_nothing (Ok zero) (b ∷ bs) = true
+took_nothing (Ok zero) [] = false
+took_nothing (Ok (suc n)) piece = false
+took_nothing (Err e) piece = false
+
+-- of a piece some front was taken
+abbrev pub TookFront : Option (List ℕ) → Option (List ℕ) → List ℕ → Type 0
+TookFront old new piece = (front : List ℕ) × (rest : List ℕ) × (piece ≡ front ++ rest) × Appends old new front
+
+-- which count a fault raised, from the counts before and after
+abbrev pub Faulted : {T : Type 0} → ℕ → ℕ → ℕ → ℕ → Result T WriteFault → Type 0
+Faulted failed empty failed' empty' (Ok x) = (failed' ≡ failed) × (empty' ≡ empty)
+Faulted failed empty failed' empty' (Err (Writer e)) = (failed' ≡ raised failed) × (empty' ≡ empty)
+Faulted failed empty failed' empty' (Err Zero) = (failed' ≡ failed) × (empty' ≡ raised empty)
+Faulted failed empty failed' empty' (Err Memory) = (failed' ≡ failed) × (empty' ≡ empty)
+
+-- if there was a fault it was the writer's
+abbrev pub ByWriter : {T : Type 0} → Result T WriteFault → Type 0
+ByWriter (Ok x) = Unit {0}
+ByWriter (Err (Writer e)) = Unit {0}
+ByWriter (Err Zero) = Unit {0}
+ByWriter (Err Memory) = ⊥
