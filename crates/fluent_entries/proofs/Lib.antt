@@ -1,3 +1,3 @@
 pub mod ByName
-pub mod Own
+mod Own
 mod Added

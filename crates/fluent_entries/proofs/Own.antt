@@ -1,18 +1,13 @@
 -- What stands under an id has that id, whatever is put into the map.
-use Rattle.std.specs.Prelude.{◌≡◌, List, Bool, true, false, cond, Option, Some, None, IsTrue, IfSome, Result, Ok, Err, OnOk, OnErr, map, refl}
+use Rattle.std.specs.Prelude.{◌≡◌, List, Bool, true, false, cond, Option, Some, None, IsTrue, IfSome, Result, Ok, Err, OnOk, OnErr, refl}
 use Rattle.std.specs.Cow.{cow_str_bytes}
 use Rattle.std.specs.Str.{bytes_eq}
 use Rattle.std.specs.declared.borrow.CowStr.{CowStr}
-use Rattle.std.specs.Option.{option_map, option_copied}
-use Rattle.std.proofs.Common.{Global, Bor, sym, subst, ap}
+use Rattle.std.specs.Option.{option_copied}
+use Rattle.std.proofs.Common.{Global, Bor, sym, subst}
 use Rattle.std.proofs.lemmas.Slice.Eq.{bytes_eq-Decides}
-use Rattle.fluent_tree.specs.Tree.{Text, message_entry}
-use Rattle.fluent_tree.specs.View.{attribute_view, message_view, value_view}
-use Rattle.fluent_tree.specs.declared.ast.Message.{Message}
-use Rattle.fluent_meaning.specs.Bundle.{a_message}
-use Rattle.fluent_meaning.specs.Bundle as m
+use Rattle.fluent_tree.specs.Tree.{Text}
 use Rattle.fluent_entries.specs.declared.entry.Entry.{Entry}
-use Rattle.fluent_entries.specs.EntryView.{message_content}
 use Rattle.fluent_entries.specs.Named.{is_named, is_found_named, under, AreNamed}
 use Rattle.fluent_entries.proofs.ByName.{as_key}
 
@@ -21,9 +16,9 @@ module _ {F : Type 0} where
   pub same_own : (es fs : List (CowStr Global × Entry F)) → ((q : CowStr Global) → under (cow_str_bytes q) fs ≡ under (cow_str_bytes q) es) → AreNamed es → AreNamed fs
   same_own es fs h own = λ id. subst (λ o. IsTrue (is_found_named id o)) (sym (h (as_key id))) (own id)
 
-  either : (b : Bool) (k id : Text) (x : Entry F) (o : Option (Entry F)) → (b ≡ true → IsTrue (is_named id x)) → IsTrue (is_found_named id o) → IsTrue (is_found_named id (cond b (Some x) o))
-  either true k id x o new old = new refl
-  either false k id x o new old = old
+  either : (b : Bool) (id : Text) (x : Entry F) (o : Option (Entry F)) → (b ≡ true → IsTrue (is_named id x)) → IsTrue (is_found_named id o) → IsTrue (is_found_named id (cond b (Some x) o))
+  either true id x o new old = new refl
+  either false id x o new old = old
 
   -- what is put under its own id
   pub put_own : (es fs : List (CowStr Global × Entry F)) (k : Text) (x : Entry F)
@@ -31,7 +26,7 @@ module _ {F : Type 0} where
       → IsTrue (is_named k x) → AreNamed es → AreNamed fs
   put_own es fs k x h own all = λ id.
       subst (λ o. IsTrue (is_found_named id o)) (sym (h (as_key id)))
-      (either (bytes_eq k id) k id x (under id es) (λ e. subst (λ t. IsTrue (is_named t x)) ((bytes_eq-Decides k id).0 e) own) (all id))
+      (either (bytes_eq k id) id x (under id es) (λ e. subst (λ t. IsTrue (is_named t x)) ((bytes_eq-Decides k id).0 e) own) (all id))
 
   -- and what may have been put there
   pub inserted_own : {T E : Type 0} (r : Result T E) (es fs : List (CowStr Global × Entry F)) (k : Text) (x : Entry F)
@@ -44,12 +39,3 @@ module _ {F : Type 0} where
   pub found_own : (r : Option (Bor (Entry F))) (es : List (CowStr Global × Entry F)) (id : Text) → option_copied r ≡ under id es → AreNamed es → IfSome r (λ e. IsTrue (is_named id e.now))
   found_own None es id is own = tt
   found_own (Some e) es id is own = subst (λ o. IsTrue (is_found_named id o)) (sym is) (own id)
-
--- a message under its own id, with that id
-pub whole_message : (id : Text) (x : Message) (o : Option (m.Entry Text)) → Some (a_message (value_view x.value) (map attribute_view x.attributes.items)) ≡ o → bytes_eq x.id.name.now id ≡ true
-    → Some (message_view x) ≡ option_map (λ c. message_entry id c.value c.attributes) (message_content o)
-whole_message id x o is own =
-    subst (λ o. Some (message_view x) ≡ option_map (λ c. message_entry id c.value c.attributes) (message_content o)) is
-    (ap (λ t. Some (message_entry t (value_view x.value) (map attribute_view x.attributes.items))) ((bytes_eq-Decides x.id.name.now id).0 own))
-
-pub ruleset owns = (bytes_eq-Decides)

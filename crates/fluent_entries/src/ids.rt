@@ -32,7 +32,7 @@ impl<'r, 's, F> Ids<'r, 's, F> {
         }
     }
 
-    /// What an id names.
+    /// What an id names, or `None`. Takes no memory.
     pub fn named<'m>(&'m self, id: &str) -> Option<&'m Entry<'r, 's, F>>
         ensures content { (answer : F → Function Text) → option_map (λ e. entry_of answer e.now) result ≡ get id.now (ids answer self.now) }
         ensures own { IfSome result (λ e. IsTrue (is_named id.now e.now)) }
