@@ -1,8 +1,9 @@
 -- An entry looks on: its front and the two bytes behind it don't say what is read. Its front alone does, before what ends it.
-use Rattle.std.proofs.Common.{◌≡◌, ℕ, List, [], ◌∷◌, ◌++◌, length, Some, None, refl, sym, ap, ◌∙◌, append_assoc, arith}
+use Rattle.std.proofs.Common.{◌≡◌, ℕ, true, List, [], ◌∷◌, ◌++◌, length, Some, None, refl, sym, ap, ◌∙◌, append_assoc, arith}
 use Rattle.std.specs.Prelude.{codes}
 use Rattle.fluent_tree.specs.Tree.{Text, Entry, message_entry, Element, text, placeable, inline, message, no_attribute, pattern_of}
 use Rattle.fluent_laws.specs.FrontLaws.{ReadByFront, EndsEntry, nothing_more, line_breaks, entry_line}
+use Rattle.fluent_laws.specs.ReadLaws.{TreeOfFront}
 use Rattle.fluent_laws.proofs.Known.{lefts}
 use Rattle.fluent_laws.proofs.Leads.{true_false}
 use Rattle.fluent_laws.proofs.KnownEntries.{entry_before}
@@ -78,3 +79,10 @@ alone other h =
     let (front, e, more) = entry_before (codes "a = b\nc = d") (message_of (codes "a") (text (codes "b") ∷ [])) (codes "c = d") before_entry before_next in
     let same : codes "a = b\n" ≡ front = append_cancel_right (codes "a = b\n") front (codes "c = d") e in
     ap (λ u. n.entry (u ++ other)) same ∙ more other h
+
+-- ---- what is no part of a tree
+
+-- A text notes that a line feed follows it. So of the text with its note the law doesn't hold: `a` before a line feed and at the end.
+text_notes : TreeOfFront t.inline_text → ⊥
+unfolding run1 t.words_after
+text_notes h = true_false true refl (ap (λ w. w.fed) (h (codes "a") (codes "\n") [] _ _ refl refl))

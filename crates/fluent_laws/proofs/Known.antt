@@ -47,7 +47,7 @@ kept false y q z e = absurd (is_read z (sym e))
 abbrev pub Clash : {A B : Type 0} → (List ℕ → Type 0) → Parser A → Parser B → Type 0
 Clash {A = A} {B = B} ends p q = (t : List ℕ) (y : A × List ℕ) (x : B) (r : List ℕ) → p t ≡ Some y → q t ≡ Some (x, r) → ends r → ⊥
 
-unread : {A : Type 0} (r : Read A) → ((y : A × List ℕ) → r ≡ Some y → ⊥) → r ≡ None
+pub unread : {A : Type 0} (r : Read A) → ((y : A × List ℕ) → r ≡ Some y → ⊥) → r ≡ None
 unread None h = refl
 unread (Some y) h = absurd (h y refl)
 

@@ -159,25 +159,25 @@ broken_text t (inr (r, pair)) = ap (run_len is_text) pair
 abbrev B : Parser Expression
 B = (level 100).braces
 
-leads-attribute : Leads (is 46) attribute
+pub leads-attribute : Leads (is 46) attribute
 unfolding attribute
 leads-attribute = leads-keep (is 46) line_end _ keeps-line_end (λ _. leads-keep (is 46) (skip blank) _ keeps-blanks (λ _. leads-bind (is 46) (byte 46) _ (leads-byte (is 46) 46 refl (λ n. refl) refl)))
 
-abbrev attributes_from : List (Text × Pattern) → Parser (List (Text × Pattern))
+abbrev pub attributes_from : List (Text × Pattern) → Parser (List (Text × Pattern))
 attributes_from found = λ s. many_from push attribute (length s) found s
 
-value_element : (t : List ℕ) (z : Pattern × List ℕ) → value t ≡ Some z → (q : List Piece × List ℕ) × (pattern_element B t ≡ Some q)
+pub value_element : (t : List ℕ) (z : Pattern × List ℕ) → value t ≡ Some z → (q : List Piece × List ℕ) × (pattern_element B t ≡ Some q)
 unfolding value pieces
 value_element t z e =
     let (q, f, k) = first_read (pieces B t) _ z e in
     let (p, g, l) = first_read (pattern_element B t) _ q f in
     (p, g)
 
-starts-message : Starts is_letter n.message
+pub starts-message : Starts is_letter n.message
 unfolding n.message name_of_value
 starts-message = starts-bind is_letter name_of_value _ (starts-bind is_letter identifier _ starts-identifier)
 
-starts-term : Starts (is 45) n.term
+pub starts-term : Starts (is 45) n.term
 unfolding n.term
 starts-term = starts-bind (is 45) (byte 45) _ (starts-byte (is 45) 45 refl refl)
 

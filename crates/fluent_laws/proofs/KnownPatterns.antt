@@ -20,7 +20,7 @@ use Rattle.fluent_laws.proofs.KnownRules.{Ahead, End, is, ends_inline, ahead, wa
 
 -- ---- single texts
 
-text_read : (s : List ℕ) (b : Bool) (z : List ℕ × List ℕ) → ◌≡◌ {A = Read (List ℕ)} (if b then None else run is_text s) (Some z) → b ≡ false
+pub text_read : (s : List ℕ) (b : Bool) (z : List ℕ × List ℕ) → ◌≡◌ {A = Read (List ℕ)} (if b then None else run is_text s) (Some z) → b ≡ false
 text_read s true z e = absurd (is_read z (sym e))
 text_read s false z e = refl
 
@@ -62,14 +62,14 @@ abbrev pub block_rest : ℕ → Parser (ℕ × Words)
 block_rest ends = blank_inline >>= (λ n. indented_text n >>= (λ w. pure (ends, w)))
 
 -- where an indented text is, no blank line is
-text_line : (ends : ℕ) (s : List ℕ) (y : Unit {0} × List ℕ) (z : (ℕ × Words) × List ℕ) → block_rest ends s ≡ Some z → blank_line s ≡ Some y → ⊥
+pub text_line : (ends : ℕ) (s : List ℕ) (y : Unit {0} × List ℕ) (z : (ℕ × Words) × List ℕ) → block_rest ends s ≡ Some z → blank_line s ≡ Some y → ⊥
 unfolding spaced
 text_line ends s y z e f =
     let (q, g, k) = first_read (blank_inline s) _ z e in
     let (t, i, j) = first_read (indented_text q.0 q.1) _ z k in
     line_end_words (Some q.0) q.1 y t (line_behind s y (Some q) g f) (indented_read q.0 q.1 (is_indented q.1) t i).1
 
-abbrev placeable_rest : Parser Expression → ℕ → Parser (List Piece)
+abbrev pub placeable_rest : Parser Expression → ℕ → Parser (List Piece)
 placeable_rest b ends = indent >>= (λ w. b >>= (λ x. pure (line ends ∷ words w ∷ hole x ∷ [])))
 
 -- what an indent leaves
@@ -181,16 +181,16 @@ leads-default_head : Leads (is 42) (variant_head true)
 unfolding variant_head
 leads-default_head = leads-keep (is 42) line_end _ keeps-line_end (λ _. leads-keep (is 42) (skip blank) _ keeps-blanks (λ _. leads-bind (is 42) (byte 42) _ (leads-byte (is 42) 42 refl (λ n. refl) refl)))
 
-leads-variant : (g : Level) → Leads (is 91) (variant g false)
+pub leads-variant : (g : Level) → Leads (is 91) (variant g false)
 unfolding variant
 leads-variant g = leads-bind (is 91) (variant_head false) _ leads-head
 
-leads-default : (g : Level) → Leads (is 42) (variant g true)
+pub leads-default : (g : Level) → Leads (is 42) (variant g true)
 unfolding variant
 leads-default g = leads-bind (is 42) (variant_head true) _ leads-default_head
 
 -- a line end stands before each variant
-variant_line : (g : Level) (d : Bool) (s : List ℕ) (z : Variant × List ℕ) → variant g d s ≡ Some z → (q : Unit {0} × List ℕ) × (line_end s ≡ Some q)
+pub variant_line : (g : Level) (d : Bool) (s : List ℕ) (z : Variant × List ℕ) → variant g d s ≡ Some z → (q : Unit {0} × List ℕ) × (line_end s ≡ Some q)
 unfolding variant variant_head
 variant_line g d s z e =
     let (q, f, k) = first_read (variant_head d s) _ z e in
@@ -206,16 +206,16 @@ many_first {A = A} add p (suc n) acc t z e = by (p t) refl e
     by None f g = inl (lefts acc z.0 t z.1 g)
     by (Some q) f g = inr (q, f)
 
-abbrev over : List Variant → Parser (List Variant)
+abbrev pub over : List Variant → Parser (List Variant)
 over all = line_end >> pure all
 
-abbrev others : Level → List Variant → Variant → Parser (List Variant)
+abbrev pub others : Level → List Variant → Variant → Parser (List Variant)
 others g before d = (λ s. many_from push (variant g false) (length s) (before ++ d ∷ []) s) >>= over
 
-over_next : (all : List Variant) (t : List ℕ) (z : List Variant × List ℕ) → over all t ≡ Some z → next t ≡ next z.1
+pub over_next : (all : List Variant) (t : List ℕ) (z : List Variant × List ℕ) → over all t ≡ Some z → next t ≡ next z.1
 over_next all t z e = keep_of (over all) t z (keeps-bind line_end _ keeps-line_end (λ _. keeps-pure all)) e
 
-over_line : (all : List Variant) (t : List ℕ) (z : List Variant × List ℕ) → over all t ≡ Some z → (q : Unit {0} × List ℕ) × (line_end t ≡ Some q)
+pub over_line : (all : List Variant) (t : List ℕ) (z : List Variant × List ℕ) → over all t ≡ Some z → (q : Unit {0} × List ℕ) × (line_end t ≡ Some q)
 over_line all t z e = let (q, f, k) = first_read (line_end t) (λ _. pure all) z e in (q, f)
 
 others_line : (g : Level) (before : List Variant) (d : Variant) (t : List ℕ) (z : List Variant × List ℕ) → others g before d t ≡ Some z → (q : Unit {0} × List ℕ) × (line_end t ≡ Some q)
@@ -241,10 +241,10 @@ near-arrow : Near arrow
 unfolding arrow
 near-arrow = near-then (skip blank) _ near-blanks (near-then (byte 45) _ (near-byte 45 refl) (near-then (byte 62) (skip blank_inline) (near-byte 62 refl) near-spaces))
 
-abbrev selects : Level → Inline → Parser Expression
+abbrev pub selects : Level → Inline → Parser Expression
 selects g x = arrow >> (variant_list g >>= (λ vs. pure (select x (variants_of vs))))
 
-leads-selects : (g : Level) (x : Inline) → Leads (is 45) (selects g x)
+pub leads-selects : (g : Level) (x : Inline) → Leads (is 45) (selects g x)
 unfolding arrow
 leads-selects g x = leads-bind (is 45) arrow _ (leads-keep (is 45) (skip blank) _ keeps-blanks (λ _. leads-bind (is 45) (byte 45) _ (leads-byte (is 45) 45 refl (λ n. refl) refl)))
 
@@ -293,7 +293,7 @@ module _ (T : Behind) where
       let (x, i, j) = first_read (b q.1) _ z k in
       ap (λ t. first t == 123) (indent_behind s (blank_inline s) q refl f) ∙ h.1.start q.1 x i
 
-  placeable_line : (b : Parser Expression) → Braces b → (ends : ℕ) (s : List ℕ) (y : Unit {0} × List ℕ) (z : List Piece × List ℕ) → placeable_rest b ends s ≡ Some z → blank_line s ≡ Some y → ⊥
+  pub placeable_line : (b : Parser Expression) → Braces b → (ends : ℕ) (s : List ℕ) (y : Unit {0} × List ℕ) (z : List Piece × List ℕ) → placeable_rest b ends s ≡ Some z → blank_line s ≡ Some y → ⊥
   placeable_line b h ends s y z e f =
       let t = spaced s (blank_inline s) in
       true_false (first t == 123) (brace_behind b h ends s z e) (line_end_brace t y (line_behind s y (blank_inline s) refl f))
@@ -307,7 +307,7 @@ module _ (T : Behind) where
 
   -- ---- elements of patterns
 
-  clash-hole : (b : Parser Expression) → Braces b → Clash Anywhere (hole_piece b) (block_placeable b)
+  pub clash-hole : (b : Parser Expression) → Braces b → Clash Anywhere (hole_piece b) (block_placeable b)
   unfolding block_placeable
   clash-hole b h t y x r e f here =
       let (p, g, k) = first_read (b t) _ y e in
@@ -322,7 +322,7 @@ module _ (T : Behind) where
       let brace : (first q.1 == 123) ≡ true = ap (λ r. first (spaced s r) == 123) (sym g) ∙ brace_behind b h n s z f in
       true_false (first q.1 == 123) brace (text_brace q.1 (words_some (Some q.0) q.1 t (indented_read q.0 q.1 (is_indented q.1) t i).1))
 
-  clash-block : (b : Parser Expression) → Braces b → Clash Anywhere block_piece (hole_piece b <|> block_placeable b)
+  pub clash-block : (b : Parser Expression) → Braces b → Clash Anywhere block_piece (hole_piece b <|> block_placeable b)
   unfolding block_text block_placeable
   clash-block b h t y x r e f here =
       let (p, g, k) = first_read (block_text t) _ y e in

@@ -23,39 +23,39 @@ is c n = n == c
 abbrev pub ends_inline : ℕ → Bool
 ends_inline n = (n == 125 || n == 41) || (n == 44 || n == 45)
 
-abbrev from_nested : Level → Parser Inline
+abbrev pub from_nested : Level → Parser Inline
 from_nested g = nested <$> g.braces
 
-abbrev from_variable : Level → Parser Inline
+abbrev pub from_variable : Level → Parser Inline
 from_variable g = variable_reference <|> from_nested g
 
-abbrev from_term : Level → Parser Inline
+abbrev pub from_term : Level → Parser Inline
 from_term g = term_reference g <|> from_variable g
 
-abbrev from_message : Level → Parser Inline
+abbrev pub from_message : Level → Parser Inline
 from_message g = message_reference <|> from_term g
 
-abbrev from_function : Level → Parser Inline
+abbrev pub from_function : Level → Parser Inline
 from_function g = function_reference g <|> from_message g
 
-abbrev is_variable : ℕ → Bool
+abbrev pub is_variable : ℕ → Bool
 is_variable c = c == 36 || c == 123
 
-abbrev is_term : ℕ → Bool
+abbrev pub is_term : ℕ → Bool
 is_term c = c == 45 || is_variable c
 
-abbrev no_literal : ℕ → Bool
+abbrev pub no_literal : ℕ → Bool
 no_literal c = is_letter c || is_term c
 
-starts-term : (g : Level) → Starts (is 45) (term_reference g)
+pub starts-term : (g : Level) → Starts (is 45) (term_reference g)
 unfolding term_reference
 starts-term g = starts-bind (is 45) (byte 45) _ (starts-byte (is 45) 45 refl refl)
 
-starts-variable : Starts (is 36) variable_reference
+pub starts-variable : Starts (is 36) variable_reference
 unfolding variable_reference
 starts-variable = starts-bind (is 36) (byte 36 >> identifier) _ (starts-bind (is 36) (byte 36) _ (starts-byte (is 36) 36 refl refl))
 
-starts-message : Starts is_letter message_reference
+pub starts-message : Starts is_letter message_reference
 unfolding message_reference
 starts-message = starts-bind is_letter identifier _ starts-identifier
 
@@ -68,7 +68,7 @@ no_access : (t : List ℕ) → (first t == 46) ≡ false → attribute_access t 
 unfolding attribute_access byte
 no_access t e = rw e refl
 
-no_point : (c : ℕ) (t : List ℕ) → (next t == c) ≡ true → (46 == c) ≡ false → (first t == 46) ≡ false
+pub no_point : (c : ℕ) (t : List ℕ) → (next t == c) ≡ true → (46 == c) ≡ false → (first t == 46) ≡ false
 no_point c t e f =
     elim (cases_Bool (first t == 46)) [
       | inl point ↦
@@ -81,7 +81,7 @@ no_point c t e f =
 abbrev named_by : (g : Level) → Text → Parser Inline
 named_by g id = attribute_access >>= (λ a. pure (message id a))
 
-message_alone : (g : Level) (s : List ℕ) (id : Text) (t : List ℕ) (x : Inline) (r : List ℕ) → identifier s ≡ Some (id, t) → (first t == 46) ≡ false → from_message g s ≡ Some (x, r) → t ≡ r
+pub message_alone : (g : Level) (s : List ℕ) (id : Text) (t : List ℕ) (x : Inline) (r : List ℕ) → identifier s ≡ Some (id, t) → (first t == 46) ≡ false → from_message g s ≡ Some (x, r) → t ≡ r
 unfolding message_reference
 message_alone g s id t x r e n f =
     let m : message_reference s ≡ Some (message id no_attribute, t) = ap (λ z. and_then z (λ id. attribute_access >>= (λ a. pure (message id a)))) e ∙ ap (λ z. and_then z (λ a. pure (message id a))) (no_access t n) in
@@ -97,17 +97,17 @@ pub shuts_literal : (s t : List ℕ) → (first t == 34) ≡ false → (number <
 unfolding literal string_literal byte
 shuts_literal s t e f = rw (e, f) refl
 
-second_none : {A : Type 0} (r : Read A) (q : Parser A) (s : List ℕ) → otherwise r q s ≡ None → q s ≡ None
+pub second_none : {A : Type 0} (r : Read A) (q : Parser A) (s : List ℕ) → otherwise r q s ≡ None → q s ≡ None
 second_none None q s e = e
 second_none (Some z) q s e = absurd (is_read z e)
 
-no_quote : (c : ℕ) → no_literal c ≡ true → (c == 34) ≡ false
+pub no_quote : (c : ℕ) → no_literal c ≡ true → (c == 34) ≡ false
 no_quote c e = grind (arith, nat_tests)
 
-abbrev may_start_literal : ℕ → Bool
+abbrev pub may_start_literal : ℕ → Bool
 may_start_literal c = c == 34 || may_start_number c
 
-starts-literal : Starts may_start_literal literal
+pub starts-literal : Starts may_start_literal literal
 unfolding literal string_literal
 starts-literal =
     starts-or may_start_literal (string <$> string_literal) (number <$> number_literal)
@@ -117,17 +117,17 @@ starts-literal =
 leads-colon : (name : Text) → Leads {A = Text × Inline} (is 58) (skip blank >> (byte 58 >> (skip blank >> (literal >>= (λ v. pure (name, v))))))
 leads-colon name = leads-keep (is 58) (skip blank) _ keeps-blanks (λ _. leads-bind (is 58) (byte 58) _ (leads-byte (is 58) 58 refl (λ n. refl) refl))
 
-named_read : (s : List ℕ) (z : (Text × Inline) × List ℕ) → named_argument s ≡ Some z → (q : Text × List ℕ) × (identifier s ≡ Some q) × ((next q.1 == 58) ≡ true)
+pub named_read : (s : List ℕ) (z : (Text × Inline) × List ℕ) → named_argument s ≡ Some z → (q : Text × List ℕ) × (identifier s ≡ Some q) × ((next q.1 == 58) ≡ true)
 unfolding named_argument
 named_read s z e = let (q, f, k) = first_read (identifier s) _ z e in (q, f, (leads-colon q.0).lead q.1 z k)
 
-same_read : {A : Type 0} (r : Read A) (q p : A × List ℕ) → r ≡ Some q → r ≡ Some p → q.1 ≡ p.1
+pub same_read : {A : Type 0} (r : Read A) (q p : A × List ℕ) → r ≡ Some q → r ≡ Some p → q.1 ≡ p.1
 same_read r q p e f = lefts q.0 p.0 q.1 p.1 (sym e ∙ f)
 
-abbrev may_start_argument : ℕ → Bool
+abbrev pub may_start_argument : ℕ → Bool
 may_start_argument c = may_start_literal c || no_literal c
 
-starts-named : Starts is_letter named_argument
+pub starts-named : Starts is_letter named_argument
 unfolding named_argument
 starts-named = starts-bind is_letter identifier _ starts-identifier
 
@@ -137,7 +137,7 @@ solid_argument c n e = grind (arith, nat_tests)
 no_bracket : (c : ℕ) → may_start_argument c ≡ true → (c == 41) ≡ false
 no_bracket c e = grind (arith, nat_tests)
 
-leads-comma : (a : Argument) → Leads (is 44) (comma >> pure a)
+pub leads-comma : (a : Argument) → Leads (is 44) (comma >> pure a)
 unfolding comma
 leads-comma a = leads-bind (is 44) comma _ (leads-keep (is 44) (skip blank) _ keeps-blanks (λ _. leads-bind (is 44) (byte 44) _ (leads-byte (is 44) 44 refl (λ n. refl) refl)))
 
@@ -225,19 +225,19 @@ module _ (T : Behind) where
 
   -- ---- inline expressions
 
-  starts-nested : (g : Level) → Firm g → Starts (is 123) (from_nested g)
+  pub starts-nested : (g : Level) → Firm g → Starts (is 123) (from_nested g)
   starts-nested g h = starts-bind (is 123) g.braces _ h.brace
 
-  starts-from_variable : (g : Level) → Firm g → Starts is_variable (from_variable g)
+  pub starts-from_variable : (g : Level) → Firm g → Starts is_variable (from_variable g)
   starts-from_variable g h = starts-or is_variable variable_reference (from_nested g) (starts-weaker (is 36) is_variable variable_reference (λ c e. grind (arith, nat_tests)) starts-variable) (starts-weaker (is 123) is_variable (from_nested g) (λ c e. grind (arith, nat_tests)) (starts-nested g h))
 
-  starts-from_term : (g : Level) → Firm g → Starts is_term (from_term g)
+  pub starts-from_term : (g : Level) → Firm g → Starts is_term (from_term g)
   starts-from_term g h = starts-or is_term (term_reference g) (from_variable g) (starts-weaker (is 45) is_term (term_reference g) (λ c e. grind (arith, nat_tests)) (starts-term g)) (starts-weaker is_variable is_term (from_variable g) (λ c e. grind (arith, nat_tests)) (starts-from_variable g h))
 
-  starts-from_message : (g : Level) → Firm g → Starts no_literal (from_message g)
+  pub starts-from_message : (g : Level) → Firm g → Starts no_literal (from_message g)
   starts-from_message g h = starts-or no_literal message_reference (from_term g) (starts-weaker is_letter no_literal message_reference (λ c e. grind (arith, nat_tests)) starts-message) (starts-weaker is_term no_literal (from_term g) (λ c e. grind (arith, nat_tests)) (starts-from_term g h))
 
-  starts-from_function : (g : Level) → Firm g → Starts no_literal (from_function g)
+  pub starts-from_function : (g : Level) → Firm g → Starts no_literal (from_function g)
   starts-from_function g h = starts-or no_literal (function_reference g) (from_message g) (starts-weaker is_letter no_literal (function_reference g) (λ c e. grind (arith, nat_tests)) (starts-function g)) (starts-from_message g h)
 
   fixed-from_variable : (g : Level) → Firm g → (Fixed T) (End ends_inline) (from_variable g)
@@ -257,7 +257,7 @@ module _ (T : Behind) where
 
   -- ---- a name before which no call stands is a reference
 
-  function_read : (g : Level) → Firm g → (s : List ℕ) (z : Inline × List ℕ) → function_reference g s ≡ Some z → (q : Text × List ℕ) × (identifier s ≡ Some q) × ((next q.1 == 40) ≡ true)
+  pub function_read : (g : Level) → Firm g → (s : List ℕ) (z : Inline × List ℕ) → function_reference g s ≡ Some z → (q : Text × List ℕ) × (identifier s ≡ Some q) × ((next q.1 == 40) ≡ true)
   unfolding function_reference
   function_read g h s z e =
       let (q, f, k) = first_read (identifier s) _ z e in
@@ -322,7 +322,7 @@ module _ (T : Behind) where
   starts-inline g h =
       starts-or may_start_argument literal (from_function g) (starts-weaker may_start_literal may_start_argument literal (λ c e. grind (arith, nat_tests)) starts-literal) (starts-weaker no_literal may_start_argument (from_function g) (λ c e. grind (arith, nat_tests)) (starts-from_function g h))
 
-  starts-argument : (g : Level) → Firm g → Starts may_start_argument (argument g)
+  pub starts-argument : (g : Level) → Firm g → Starts may_start_argument (argument g)
   unfolding argument
   starts-argument g h =
       starts-or may_start_argument (by_name <$> named_argument) (positional <$> inline_expression g) (starts-weaker is_letter may_start_argument (by_name <$> named_argument) (λ c e. grind (arith, nat_tests)) (starts-bind is_letter named_argument _ starts-named)) (starts-bind may_start_argument (inline_expression g) _ (starts-inline g h))

@@ -16,3 +16,9 @@ mod PieceSlices
 mod TreeSlices
 mod EntrySlices
 mod FrontRows
+mod Alone
+mod AloneRules
+mod AloneInlines
+mod AlonePieces
+mod AloneEntries
+mod ReadLaws

@@ -131,7 +131,7 @@ IsRead (Some p) = Unit {0}
 pub is_read : {A : Type 0} (p : A × List ℕ) → ◌≡◌ {A = Read A} (Some p) None → ⊥
 is_read p e = subst IsRead e tt
 
-none_of : {A B : Type 0} (f : A → B) (r : Read A) → and_then r (λ x. pure (f x)) ≡ None → r ≡ None
+pub none_of : {A B : Type 0} (f : A → B) (r : Read A) → and_then r (λ x. pure (f x)) ≡ None → r ≡ None
 none_of f None e = refl
 none_of f (Some p) e = absurd (is_read (f p.0, p.1) e)
 
@@ -316,7 +316,7 @@ unfolding many_from
 none_taken add p zero acc s x e = refl
 none_taken add p (suc m) acc s x e = let t : nat_lt (length s) (length s) ≡ false = grind (arith, nat_tests) in rw (e, t) refl
 
-nothing_left : {A B : Type 0} (add : B → A → B) (p : Parser A) (m : ℕ) (acc : B) → many_from add p m acc [] ≡ Some (acc, [])
+pub nothing_left : {A B : Type 0} (add : B → A → B) (p : Parser A) (m : ℕ) (acc : B) → many_from add p m acc [] ≡ Some (acc, [])
 unfolding many_from
 nothing_left add p zero acc = refl
 nothing_left add p (suc m) acc = by (p [])

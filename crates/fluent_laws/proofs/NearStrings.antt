@@ -93,7 +93,7 @@ unfolding quoted_turn
 near-quoted_turn = near-or (ignore (run1 is_quoted)) escape (near-ignore (run1 is_quoted) (near-run1 is_quoted heedless-quoted)) (shuts-ignore (run1 is_quoted) (shuts-run1 is_quoted heedless-quoted)) near-escape
 
 -- at the quotation mark
-no_turn : (t : List ℕ) → first t ≡ 34 → quoted_turn t ≡ None
+pub no_turn : (t : List ℕ) → first t ≡ 34 → quoted_turn t ≡ None
 unfolding quoted_turn run1 escape byte
 no_turn [] e = absurd (omega (arith, e))
 no_turn (a ∷ t) e = rw e refl
@@ -101,7 +101,7 @@ no_turn (a ∷ t) e = rw e refl
 shuts-quoted_turn : ShutsAt (λ t. first t ≡ 34) quoted_turn
 shuts-quoted_turn = record { shut_at = λ s t here same e. no_turn t (sym (one_seen s t same) ∙ here) }
 
-abbrev to_quote : List ℕ → Parser (List ℕ)
+abbrev pub to_quote : List ℕ → Parser (List ℕ)
 to_quote t = byte 34 >> pure t
 
 near-inside : Near (source_of (count quoted_turn) >>= to_quote)

@@ -10,6 +10,7 @@ ghost use Rattle.fluent_syntax.specs.Expressions.{argument, argument_list, attri
 ghost use Rattle.fluent_laws.specs.FrontLaws.{EndsMessage, EndsPattern, EntryReadBefore, ReadBefore, ReadByFront, ReadByFrontAlone, ReadFromThereOn, TakesFront};
 ghost use Rattle.fluent_text.specs.Lexical.{blank, blank_block, blank_inline, identifier, line_end};
 ghost use Rattle.fluent_syntax.specs.Pieces.{block_placeable, block_text, inline_text, pattern, pattern_element};
+ghost use Rattle.fluent_laws.specs.ReadLaws.{TreeOfFront, block_taken, element_taken, text_taken};
 ghost use Rattle.fluent_laws.specs.SliceLaws.{AllSlices};
 ghost use Rattle.fluent_laws.specs.TreeLaws.{AllWellFormed};
 
@@ -99,6 +100,50 @@ pub fn rules_take_a_front(source: &str)
 {
     let _ = source;
 }
+
+/// The tree that a rule of the grammar reads is said by the bytes that it takes, at whatever depth: where it takes the
+/// same front of two texts, whatever stands behind it in each, both trees are equal. Whether it takes that front, what
+/// stands behind it may decide. Lines of text and elements of patterns also note whether a line feed follows them at
+/// once; the law is of what they take, and the tree of a pattern has no such note. Line ends, blanks, comments and Junk
+/// read no tree.
+#[tactic(auto, using(crate::proofs::ReadLaws::rules_by_tree))]
+pub fn read_what_is_taken()
+    ensures identifier { TreeOfFront identifier }
+    ensures blank_inline { TreeOfFront blank_inline }
+    ensures line_end { TreeOfFront line_end }
+    ensures blank_block { TreeOfFront blank_block }
+    ensures blank { TreeOfFront blank }
+    ensures string { TreeOfFront string_literal }
+    ensures number { TreeOfFront number_literal }
+    ensures digits { TreeOfFront digits }
+    ensures accessor { TreeOfFront attribute_access }
+    ensures variable { TreeOfFront variable_reference }
+    ensures message_reference { TreeOfFront message_reference }
+    ensures function_reference { (depth : ℕ) → TreeOfFront (function_reference (level depth)) }
+    ensures term_reference { (depth : ℕ) → TreeOfFront (term_reference (level depth)) }
+    ensures inline_expression { (depth : ℕ) → TreeOfFront (inline_expression (level depth)) }
+    ensures named_argument { TreeOfFront named_argument }
+    ensures argument { (depth : ℕ) → TreeOfFront (argument (level depth)) }
+    ensures argument_list { (depth : ℕ) → TreeOfFront (argument_list (level depth)) }
+    ensures call_arguments { (depth : ℕ) → TreeOfFront (level depth).brackets }
+    ensures variant_key { TreeOfFront variant_key }
+    ensures variant { (depth : ℕ) (default : Bool) → TreeOfFront (variant (level depth) default) }
+    ensures variant_list { (depth : ℕ) → TreeOfFront (variant_list (level depth)) }
+    ensures select { (depth : ℕ) → TreeOfFront (select_expression (level depth)) }
+    ensures placeable { (depth : ℕ) → TreeOfFront (level depth).braces }
+    ensures inline_text { TreeOfFront text_taken }
+    ensures block_text { TreeOfFront block_taken }
+    ensures block_placeable { (depth : ℕ) → TreeOfFront (block_placeable (level depth).braces) }
+    ensures pattern_element { (depth : ℕ) → TreeOfFront (element_taken (level depth).braces) }
+    ensures pattern { (depth : ℕ) → TreeOfFront (pattern (level depth).braces) }
+    ensures attribute { TreeOfFront attribute }
+    ensures message { TreeOfFront entries.message }
+    ensures term { TreeOfFront entries.term }
+    ensures entry { TreeOfFront entry }
+    ensures comment { TreeOfFront comment_line }
+    ensures junk_line { TreeOfFront junk_line }
+    ensures junk { TreeOfFront junk }
+{}
 
 /// These rules take a front of a text, and what they read depends on that front and the two bytes behind it alone. Two,
 /// since a carriage return is text or begins a line end by the byte behind it, and a point belongs to a number by the
