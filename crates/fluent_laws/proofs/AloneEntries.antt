@@ -1,23 +1,23 @@
 -- Variants, selects, attributes, messages, terms and entries read the same where what stands behind them is taken away.
 use Rattle.std.proofs.Common.{◌≡◌, ◌==◌, ◌||◌, ℕ, Bool, true, false, List, [], ◌∷◌, ◌++◌, length, Some, None, refl, sym, ap, ◌∙◌, subst, arith, eqb-true, ◌⊎◌, inl, inr}
 use Rattle.std.proofs.lemmas.Bool.Decides.{nat_tests}
-use Rattle.fluent_tree.specs.Tree.{Text, Inline, Key, Variant, Pattern, select, variants_of, name_key, number_key, message_entry, term_entry}
+use Rattle.fluent_tree.specs.Tree.{Text, Inline, Expression, inline, Key, Variant, Pattern, select, variants_of, name_key, number_key, message_entry, term_entry}
 use Rattle.fluent_text.specs.Parser.{Parser, ◌>>=◌, ◌>>◌, ◌<$>◌, ◌<|>◌, pure, skip, many_from, push, run_len, run1, byte, first}
 use Rattle.fluent_text.specs.Lexical.{is_letter, is_text, identifier, blank_inline, line_break, line_end, blank_line, blank_block, blank}
 use Rattle.fluent_syntax.specs.Layout.{Piece}
 use Rattle.fluent_syntax.specs.Pieces.{block_text, block_placeable, inline_text, indent, pattern_element, pattern}
-use Rattle.fluent_syntax.specs.Expressions.{level, number_literal, inline_expression, key_inside, variant_key, star, variant_head, variant, variant_list, is_selector, arrow, selector, select_expression}
+use Rattle.fluent_syntax.specs.Expressions.{level, number_literal, inline_expression, key_inside, variant_key, star, variant_head, variant, variant_list, is_selector, arrow, selector, select_expression, provided, stands_alone, alone, expression}
 use Rattle.fluent_syntax.specs.Entries as n
 use Rattle.fluent_syntax.specs.Entries.{value, name_of_value, attribute, value_first, attributes_alone, entry}
 use Rattle.fluent_laws.proofs.Near.{is_read}
 use Rattle.fluent_laws.proofs.Known.{lefts, kept, unread}
-use Rattle.fluent_laws.proofs.Leads.{first_read, either_read, true_false, next, line_end_read, line_end_text, no_byte, Starts, starts-bind, starts-or, starts-byte, starts-weaker, starts-identifier, starts-number_literal, may_start_number}
+use Rattle.fluent_laws.proofs.Leads.{first_read, either_read, true_false, fails_at, next, line_end_read, line_end_text, no_byte, Starts, starts-bind, starts-or, starts-byte, starts-weaker, starts-identifier, starts-number_literal, may_start_number}
 use Rattle.fluent_laws.proofs.KnownRules.{is}
 use Rattle.fluent_laws.proofs.KnownPatterns.{block_rest, placeable_rest, text_piece, block_piece, hole_piece, words_some, no_element, ends_pattern, leads-variant, leads-default, variant_line, over, others, selects, leads-selects, many_first}
 use Rattle.fluent_laws.proofs.KnownEntries.{leads-attribute, attributes_from, value_element, starts-message, starts-term}
 use Rattle.fluent_laws.proofs.Alone.{Seam, Any, Whole, Alone, alone-any, alone-bind, alone-then, alone-pure, alone-map, alone-provided, alone-or, way-clash, Rests, alone-many, alone-byte}
 use Rattle.fluent_laws.proofs.AloneRules.{nowhere, way-starts, alone-identifier, alone-spaces, alone-line_end, alone-behind, alone-behind_byte, is_over, alone-number_literal}
-use Rattle.fluent_laws.proofs.AloneInlines.{free, Free, alone-inline}
+use Rattle.fluent_laws.proofs.AloneInlines.{free, Free, whole_free, alone-inline}
 use Rattle.fluent_laws.proofs.AlonePieces.{B, braced, NoCut, Over, alone-pattern}
 
 -- ---- where a line ends
@@ -132,7 +132,7 @@ alone-star : (default : Bool) → Alone Any (skip blank >> (star default >> key_
 alone-star true = alone-behind_byte Any 42 key_and_spaces refl refl refl alone-key_and_spaces
 alone-star false = alone-behind Any (is 91) key_and_spaces (starts-bind (is 91) variant_key _ starts-variant_key) (is_over 91 refl) alone-key_and_spaces
 
-alone-variant_head : (default : Bool) → Alone Any (variant_head default)
+pub alone-variant_head : (default : Bool) → Alone Any (variant_head default)
 unfolding variant_head
 alone-variant_head default = alone-then Any line_end _ alone-line_end (λ _. alone-star default)
 
@@ -206,9 +206,31 @@ alone-select m =
     alone-bind Free Whole (selector (level m)) (selects (level m)) (alone-selector m) (alone-selects m)
     (λ a x t v w e g here. ap free (eqb-true (next t) 45 ((leads-selects (level m) a).lead t (x, v) g)))
 
+-- where an expression stands alone, no arrow is behind it
+no_arrow : (m : ℕ) (t : List ℕ) (y z : Expression × List ℕ) → select_expression (level m) t ≡ Some y → (inline_expression (level m) >>= alone) t ≡ Some z → z.1 ≡ [] → ⊥
+unfolding next
+no_arrow m t y z e f none =
+    let (q, a, b) = first_read (selector (level m) t) (selects (level m)) y e in
+    let (p, c, d) = first_read (inline_expression (level m) t) (λ x. provided (is_selector x) >> pure x) q a in
+    let (r, i, j) = first_read (inline_expression (level m) t) alone z f in
+    let before : q.1 ≡ p.1 = sym (lefts p.0 q.0 p.1 q.1 (kept (is_selector p.0) p.0 p.1 q d).1) in
+    let behind : r.1 ≡ z.1 = lefts (inline r.0) z.0 r.1 z.1 (kept (stands_alone r.0) (inline r.0) r.1 z j).1 in
+    fails_at 45 (is 0) (next q.1) ((leads-selects (level m) q.0).lead q.1 y b) refl (ap (λ k. next k == 0) (before ∙ (lefts p.0 r.0 p.1 r.1 (sym c ∙ i) ∙ (behind ∙ none))))
+
+alone-inline_alone : (m : ℕ) → Alone Whole (inline_expression (level m) >>= alone)
+alone-inline_alone m =
+    alone-bind Free Whole (inline_expression (level m)) alone (alone-inline m) (λ x. alone-provided Whole (stands_alone x) _ (alone-pure Whole (inline x)))
+    (λ a x t v w e g here. whole_free t w (lefts (inline a) x t v (kept (stands_alone a) (inline a) t (x, v) g).1 ∙ here))
+
+pub alone-expression : (m : ℕ) → Alone Whole (expression (level m))
+unfolding expression
+alone-expression m =
+    alone-or Whole (select_expression (level m)) (inline_expression (level m) >>= alone) (alone-select m) (alone-inline_alone m)
+    (λ s x v w here e g. unread (select_expression (level m) s) (λ y f. no_arrow m s y (x, v) f g here))
+
 -- ---- attributes
 
-alone-name_of_value : Alone Any name_of_value
+pub alone-name_of_value : Alone Any name_of_value
 unfolding name_of_value
 alone-name_of_value = alone-then Any identifier _ alone-identifier (λ id. alone-then Any (skip blank_inline) _ alone-spaces (λ _. alone-then Any (byte 61) _ (alone-byte 61 refl) (λ _. alone-then Any (skip blank_inline) _ alone-spaces (λ _. alone-pure Any id))))
 

@@ -5,18 +5,18 @@ use Rattle.fluent_text.specs.Parser.{Parser, ◌<$>◌, pure}
 use Rattle.fluent_text.specs.Lexical.{identifier, blank_inline, line_end, blank_block, blank}
 use Rattle.fluent_syntax.specs.Layout.{Piece, line, words, hole}
 use Rattle.fluent_syntax.specs.Pieces.{inline_text, block_text, block_placeable, pattern_element, pattern}
-use Rattle.fluent_syntax.specs.Expressions.{level, digits, string_literal, number_literal, attribute_access, message_reference, function_reference, term_reference, variable_reference, inline_expression, named_argument, argument, argument_list, variant_key, variant, variant_list, select_expression}
+use Rattle.fluent_syntax.specs.Expressions.{level, digits, string_literal, number_literal, literal, attribute_access, message_reference, function_reference, term_reference, variable_reference, inline_expression, named_argument, argument, argument_list, variant_key, variant_head, variant, variant_list, select_expression, expression}
 use Rattle.fluent_syntax.specs.Entries as n
-use Rattle.fluent_syntax.specs.Entries.{attribute, entry}
+use Rattle.fluent_syntax.specs.Entries.{name_of_value, attribute, entry}
 use Rattle.fluent_syntax.specs.Chunks.{comment_line, junk_line, junk}
 use Rattle.fluent_laws.specs.ReadLaws.{TreeOfFront, taken_words, taken_piece, text_taken, block_taken, element_taken}
 use Rattle.fluent_laws.proofs.Known.{lefts, values}
 use Rattle.fluent_laws.proofs.Leads.{first_read}
 use Rattle.fluent_laws.proofs.Alone.{Seam, Any, Whole, Alone}
-use Rattle.fluent_laws.proofs.AloneRules.{alone-identifier, alone-blank_inline, alone-digits, alone-string_literal, alone-number_literal, alone-attribute_access, alone-message_reference, alone-function, alone-term_reference, alone-variable_reference, alone-braces, alone-brackets}
+use Rattle.fluent_laws.proofs.AloneRules.{alone-identifier, alone-blank_inline, alone-digits, alone-string_literal, alone-number_literal, alone-literal, alone-attribute_access, alone-message_reference, alone-function, alone-term_reference, alone-variable_reference, alone-braces, alone-brackets}
 use Rattle.fluent_laws.proofs.AloneInlines.{whole_free, alone-inline, alone-named_argument, alone-argument, alone-argument_list}
 use Rattle.fluent_laws.proofs.AlonePieces.{NoCut, Over, AloneBy, quieted, quiet_at, hushed, hushed_block, by-words_after, by-block_text, by-element, alone-blank_block, alone-block_placeable, alone-pattern}
-use Rattle.fluent_laws.proofs.AloneEntries.{alone-variant_key, alone-variant, alone-variant_list, alone-select, alone-attribute, ended_whole, alone-message, alone-term, alone-entry}
+use Rattle.fluent_laws.proofs.AloneEntries.{alone-variant_key, alone-variant_head, alone-expression, alone-name_of_value, alone-variant, alone-variant_list, alone-select, alone-attribute, ended_whole, alone-message, alone-term, alone-entry}
 
 -- both trees are the one that is read of the front alone
 by_alone : {A : Type 0} (at : Seam) (p : Parser A) → Alone at p → ((v w : List ℕ) → Whole v w → at v w) → TreeOfFront p
@@ -73,6 +73,9 @@ string_tree = by_any string_literal alone-string_literal
 
 pub number_tree : TreeOfFront number_literal
 number_tree = by_any number_literal alone-number_literal
+
+pub literal_tree : TreeOfFront literal
+literal_tree = by_any literal alone-literal
 
 pub digits_tree : TreeOfFront digits
 digits_tree = by_any digits alone-digits
@@ -150,6 +153,9 @@ placeable_tree m = by_any (level m).braces (alone-braces m)
 pub variant_key_tree : TreeOfFront variant_key
 variant_key_tree = by_any variant_key alone-variant_key
 
+pub variant_head_tree : (default : Bool) → TreeOfFront (variant_head default)
+variant_head_tree default = by_any (variant_head default) (alone-variant_head default)
+
 pub variant_tree : (m : ℕ) (default : Bool) → TreeOfFront (variant (level m) default)
 variant_tree m default = by_alone _ (variant (level m) default) (alone-variant m default) (over_whole m)
 
@@ -159,7 +165,13 @@ variant_list_tree m = by_whole (variant_list (level m)) (alone-variant_list m)
 pub select_tree : (m : ℕ) → TreeOfFront (select_expression (level m))
 select_tree m = by_whole (select_expression (level m)) (alone-select m)
 
+pub expression_tree : (m : ℕ) → TreeOfFront (expression (level m))
+expression_tree m = by_whole (expression (level m)) (alone-expression m)
+
 -- ---- entries
+
+pub name_of_value_tree : TreeOfFront name_of_value
+name_of_value_tree = by_any name_of_value alone-name_of_value
 
 pub attribute_tree : TreeOfFront attribute
 attribute_tree = by_alone _ attribute alone-attribute (over_whole 100)
@@ -182,4 +194,4 @@ junk_line_tree = λ front one other x y e f. refl
 pub junk_tree : TreeOfFront junk
 junk_tree = λ front one other x y e f. refl
 
-pub ruleset rules_by_tree = (identifier_tree, blank_inline_tree, line_end_tree, blank_block_tree, blank_tree, string_tree, number_tree, digits_tree, accessor_tree, variable_tree, message_reference_tree, function_tree, term_reference_tree, inline_expression_tree, named_argument_tree, argument_tree, argument_list_tree, call_arguments_tree, inline_text_tree, block_text_tree, block_placeable_tree, pattern_element_tree, pattern_tree, placeable_tree, variant_key_tree, variant_tree, variant_list_tree, select_tree, attribute_tree, message_tree, term_tree, entry_tree, comment_tree, junk_line_tree, junk_tree)
+pub ruleset rules_by_tree = (literal_tree, variant_head_tree, expression_tree, name_of_value_tree, identifier_tree, blank_inline_tree, line_end_tree, blank_block_tree, blank_tree, string_tree, number_tree, digits_tree, accessor_tree, variable_tree, message_reference_tree, function_tree, term_reference_tree, inline_expression_tree, named_argument_tree, argument_tree, argument_list_tree, call_arguments_tree, inline_text_tree, block_text_tree, block_placeable_tree, pattern_element_tree, pattern_tree, placeable_tree, variant_key_tree, variant_tree, variant_list_tree, select_tree, attribute_tree, message_tree, term_tree, entry_tree, comment_tree, junk_line_tree, junk_tree)

@@ -6,7 +6,7 @@ ghost use Rattle.fluent_laws.specs.ChunkLaws.{MadeOfChunks, NoneEmpty, RangesWit
 ghost use Rattle.fluent_syntax.specs.Chunks.{comment_line, junk, junk_line};
 ghost use Rattle.fluent_syntax.specs.Entries as entries;
 ghost use Rattle.fluent_syntax.specs.Entries.{attribute, entry, name_of_value};
-ghost use Rattle.fluent_syntax.specs.Expressions.{argument, argument_list, attribute_access, digits, function_reference, inline_expression, level, literal, message_reference, named_argument, number_literal, select_expression, string_literal, term_reference, variant, variant_head, variant_key, variant_list, variable_reference};
+ghost use Rattle.fluent_syntax.specs.Expressions.{argument, argument_list, attribute_access, digits, expression, function_reference, inline_expression, level, literal, message_reference, named_argument, number_literal, select_expression, string_literal, term_reference, variant, variant_head, variant_key, variant_list, variable_reference};
 ghost use Rattle.fluent_laws.specs.FrontLaws.{EndsMessage, EndsPattern, EntryReadBefore, ReadBefore, ReadByFront, ReadByFrontAlone, ReadFromThereOn, TakesFront};
 ghost use Rattle.fluent_text.specs.Lexical.{blank, blank_block, blank_inline, identifier, line_end};
 ghost use Rattle.fluent_syntax.specs.Pieces.{block_placeable, block_text, inline_text, pattern, pattern_element};
@@ -115,6 +115,7 @@ pub fn read_what_is_taken()
     ensures blank { TreeOfFront blank }
     ensures string { TreeOfFront string_literal }
     ensures number { TreeOfFront number_literal }
+    ensures literal { TreeOfFront literal }
     ensures digits { TreeOfFront digits }
     ensures accessor { TreeOfFront attribute_access }
     ensures variable { TreeOfFront variable_reference }
@@ -127,15 +128,18 @@ pub fn read_what_is_taken()
     ensures argument_list { (depth : ℕ) → TreeOfFront (argument_list (level depth)) }
     ensures call_arguments { (depth : ℕ) → TreeOfFront (level depth).brackets }
     ensures variant_key { TreeOfFront variant_key }
+    ensures before_variant { (default : Bool) → TreeOfFront (variant_head default) }
     ensures variant { (depth : ℕ) (default : Bool) → TreeOfFront (variant (level depth) default) }
     ensures variant_list { (depth : ℕ) → TreeOfFront (variant_list (level depth)) }
     ensures select { (depth : ℕ) → TreeOfFront (select_expression (level depth)) }
+    ensures expression { (depth : ℕ) → TreeOfFront (expression (level depth)) }
     ensures placeable { (depth : ℕ) → TreeOfFront (level depth).braces }
     ensures inline_text { TreeOfFront text_taken }
     ensures block_text { TreeOfFront block_taken }
     ensures block_placeable { (depth : ℕ) → TreeOfFront (block_placeable (level depth).braces) }
     ensures pattern_element { (depth : ℕ) → TreeOfFront (element_taken (level depth).braces) }
     ensures pattern { (depth : ℕ) → TreeOfFront (pattern (level depth).braces) }
+    ensures before_value { TreeOfFront name_of_value }
     ensures attribute { TreeOfFront attribute }
     ensures message { TreeOfFront entries.message }
     ensures term { TreeOfFront entries.term }
