@@ -31,7 +31,7 @@ no_cut t w q e f g = is_read q (sym e ∙ ap line_end f)
 abbrev pub IsBreak : List ℕ → Type 0
 IsBreak t = (t ≡ []) ⊎ ((t ≡ 10 ∷ []) ⊎ (t ≡ 13 ∷ 10 ∷ []))
 
-break_here : (t : List ℕ) (q : Unit {0} × List ℕ) → line_end t ≡ Some q → q.1 ≡ [] → IsBreak t
+pub break_here : (t : List ℕ) (q : Unit {0} × List ℕ) → line_end t ≡ Some q → q.1 ≡ [] → IsBreak t
 break_here t q e none =
     elim (line_end_read t q e) [
       | inl pair ↦ inr (inr (pair ∙ ap (λ r. 13 ∷ 10 ∷ r) none))

@@ -170,7 +170,7 @@ B n = (level n).braces
 pub braced : (n : ℕ) → Braces nowhere (B n)
 braced n = braces_of nowhere (level n) (firm nowhere n)
 
-alone-indent : Alone Any indent
+pub alone-indent : Alone Any indent
 unfolding indent
 alone-indent = alone-map Any _ (optional blank_inline) (alone-or Any (Some <$> blank_inline) (pure None) (alone-map Any Some blank_inline alone-blank_inline) (alone-pure Any None) (way-lasts Any (Some <$> blank_inline) (pure None) (lasts-map Some blank_inline lasts-blank_inline)))
 

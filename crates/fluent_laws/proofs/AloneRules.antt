@@ -39,7 +39,7 @@ none_first (Some q) f h e = absurd (h q.0 q.1 e)
 lasts-total : {A B : Type 0} (p : Parser A) (f : A → Parser B) → Lasts p → ((a : A) (t : List ℕ) → f a t ≡ None → ⊥) → Lasts (p >>= f)
 lasts-total p f h total = record { lasts = λ s w e. ap (λ r. and_then r f) (h.lasts s w (none_first (p (s ++ w)) f total e)) }
 
-skip_some : {A : Type 0} (p : Parser A) (s : List ℕ) → skip p s ≡ None → ⊥
+pub skip_some : {A : Type 0} (p : Parser A) (s : List ℕ) → skip p s ≡ None → ⊥
 skip_some {A = A} p s e = by (p s) e
   where
     by : (r : Read A) → otherwise (and_then r (λ _. pure (tt {0}))) (pure tt) s ≡ None → ⊥

@@ -21,4 +21,6 @@ mod AloneRules
 mod AloneInlines
 mod AlonePieces
 mod AloneEntries
+mod Solid
+mod AloneChunks
 mod ReadLaws

@@ -16,6 +16,7 @@ use Rattle.fluent_laws.proofs.Alone.{Seam, Any, Whole, Alone}
 use Rattle.fluent_laws.proofs.AloneRules.{alone-identifier, alone-blank_inline, alone-digits, alone-string_literal, alone-number_literal, alone-literal, alone-attribute_access, alone-message_reference, alone-function, alone-term_reference, alone-variable_reference, alone-braces, alone-brackets}
 use Rattle.fluent_laws.proofs.AloneInlines.{whole_free, alone-inline, alone-named_argument, alone-argument, alone-argument_list}
 use Rattle.fluent_laws.proofs.AlonePieces.{NoCut, Over, AloneBy, quieted, quiet_at, hushed, hushed_block, by-words_after, by-block_text, by-element, alone-blank_block, alone-block_placeable, alone-pattern}
+use Rattle.fluent_laws.proofs.AloneChunks.{chunk_tree}
 use Rattle.fluent_laws.proofs.AloneEntries.{alone-variant_key, alone-variant_head, alone-expression, alone-name_of_value, alone-variant, alone-variant_list, alone-select, alone-attribute, ended_whole, alone-message, alone-term, alone-entry}
 
 -- both trees are the one that is read of the front alone
@@ -194,4 +195,4 @@ junk_line_tree = λ front one other x y e f. refl
 pub junk_tree : TreeOfFront junk
 junk_tree = λ front one other x y e f. refl
 
-pub ruleset rules_by_tree = (literal_tree, variant_head_tree, expression_tree, name_of_value_tree, identifier_tree, blank_inline_tree, line_end_tree, blank_block_tree, blank_tree, string_tree, number_tree, digits_tree, accessor_tree, variable_tree, message_reference_tree, function_tree, term_reference_tree, inline_expression_tree, named_argument_tree, argument_tree, argument_list_tree, call_arguments_tree, inline_text_tree, block_text_tree, block_placeable_tree, pattern_element_tree, pattern_tree, placeable_tree, variant_key_tree, variant_tree, variant_list_tree, select_tree, attribute_tree, message_tree, term_tree, entry_tree, comment_tree, junk_line_tree, junk_tree)
+pub ruleset rules_by_tree = (literal_tree, variant_head_tree, expression_tree, name_of_value_tree, identifier_tree, blank_inline_tree, line_end_tree, blank_block_tree, blank_tree, string_tree, number_tree, digits_tree, accessor_tree, variable_tree, message_reference_tree, function_tree, term_reference_tree, inline_expression_tree, named_argument_tree, argument_tree, argument_list_tree, call_arguments_tree, inline_text_tree, block_text_tree, block_placeable_tree, pattern_element_tree, pattern_tree, placeable_tree, variant_key_tree, variant_tree, variant_list_tree, select_tree, attribute_tree, message_tree, term_tree, entry_tree, comment_tree, junk_line_tree, junk_tree, chunk_tree)

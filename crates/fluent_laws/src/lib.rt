@@ -3,7 +3,7 @@
 
 ghost use Rattle.std.specs.Prelude.{ℕ, Bool, false, true};
 ghost use Rattle.fluent_laws.specs.ChunkLaws.{MadeOfChunks, NoneEmpty, RangesWithin};
-ghost use Rattle.fluent_syntax.specs.Chunks.{comment_line, junk, junk_line};
+ghost use Rattle.fluent_syntax.specs.Chunks.{chunk, comment_line, junk, junk_line};
 ghost use Rattle.fluent_syntax.specs.Entries as entries;
 ghost use Rattle.fluent_syntax.specs.Entries.{attribute, entry, name_of_value};
 ghost use Rattle.fluent_syntax.specs.Expressions.{argument, argument_list, attribute_access, digits, expression, function_reference, inline_expression, level, literal, message_reference, named_argument, number_literal, select_expression, string_literal, term_reference, variant, variant_head, variant_key, variant_list, variable_reference};
@@ -105,7 +105,7 @@ pub fn rules_take_a_front(source: &str)
 /// same front of two texts, whatever stands behind it in each, both trees are equal. Whether it takes that front, what
 /// stands behind it may decide. Lines of text and elements of patterns also note whether a line feed follows them at
 /// once; the law is of what they take, and the tree of a pattern has no such note. Line ends, blanks, comments and Junk
-/// read no tree.
+/// lines read no tree. What a chunk is, an entry, a comment, blank lines or Junk, is its tree.
 #[tactic(auto, using(crate::proofs::ReadLaws::rules_by_tree))]
 pub fn read_what_is_taken()
     ensures identifier { TreeOfFront identifier }
@@ -147,6 +147,7 @@ pub fn read_what_is_taken()
     ensures comment { TreeOfFront comment_line }
     ensures junk_line { TreeOfFront junk_line }
     ensures junk { TreeOfFront junk }
+    ensures chunk { TreeOfFront chunk }
 {}
 
 /// These rules take a front of a text, and what they read depends on that front and the two bytes behind it alone. Two,
