@@ -15,7 +15,7 @@ use Rattle.fluent_syntax.specs.Layout as y
 use Rattle.fluent_syntax.specs.Pieces as t
 use Rattle.fluent_syntax.specs.Expressions as e
 use Rattle.fluent_syntax.specs.Entries as n
-use Rattle.fluent_syntax.specs.Chunks.{rest_of_line, comment_line, junk_line, junk, part, chunks_within}
+use Rattle.fluent_syntax.specs.Chunks.{rest_of_line, comment_line, junk_line, junk, entry_part, junk_part, part, chunks_within}
 
 -- a message without attributes
 abbrev message_of : Text → List Element → Entry
@@ -86,3 +86,15 @@ alone other h =
 text_notes : TreeOfFront t.inline_text → ⊥
 unfolding run1 t.words_after
 text_notes h = true_false true refl (ap (λ w. w.fed) (h (codes "a") (codes "\n") [] _ _ refl refl))
+
+-- ---- a chunk's bytes by themselves
+
+-- what is Junk before an entry that fails further on
+junk_before : part (codes "a = b\n {\nc}x}") ≡ Some (junk_part, codes "c}x}")
+unfolding many_from byte run1 identifier blank_inline line_break line_end blank_line blank_block blank_turn blank variable_reference e.hex_digit e.hex_digits e.escape e.quoted_turn e.string_literal e.digits e.number_parts e.number_literal e.literal e.attribute_access e.message_reference e.function_reference e.optional_call e.term_reference e.inline_expression e.named_argument e.argument e.comma e.argument_comma e.argument_list e.call_arguments e.key_inside e.variant_key e.variant_head e.variant e.variant_list e.arrow e.expression e.inline_placeable e.level t.words_after t.block_text t.indent t.block_placeable t.pattern_element t.pieces y.lines y.elements n.value n.name_of_value n.attribute n.value_first n.attributes_alone n.message n.term n.entry rest_of_line comment_line junk_line junk part chunks_within
+junk_before = refl
+
+-- is an entry and Junk by itself
+entry_alone : part (codes "a = b\n {\n") ≡ Some (entry_part (message_of (codes "a") (text (codes "b") ∷ [])), codes " {\n")
+unfolding many_from byte run1 identifier blank_inline line_break line_end blank_line blank_block blank_turn blank variable_reference e.hex_digit e.hex_digits e.escape e.quoted_turn e.string_literal e.digits e.number_parts e.number_literal e.literal e.attribute_access e.message_reference e.function_reference e.optional_call e.term_reference e.inline_expression e.named_argument e.argument e.comma e.argument_comma e.argument_list e.call_arguments e.key_inside e.variant_key e.variant_head e.variant e.variant_list e.arrow e.expression e.inline_placeable e.level t.words_after t.block_text t.indent t.block_placeable t.pattern_element t.pieces y.lines y.elements n.value n.name_of_value n.attribute n.value_first n.attributes_alone n.message n.term n.entry rest_of_line comment_line junk_line junk part chunks_within
+entry_alone = refl
