@@ -85,12 +85,16 @@ AreQuiet change (p ∷ ps) = IsQuiet change p × AreQuiet change ps
 abbrev pub IsQuietMap : {C : Type 0} → Bundle C → Map (Value C) → Type 0
 IsQuietMap {C} b m = (name : Text) (v : Value C) → get name m ≡ Some v → IsBalanced (value_text b.custom v)
 
--- no stored pattern, function, custom value or formatter brings marks out of balance
+-- values whose texts are in balance
+abbrev pub IsQuietList : {C : Type 0} → Bundle C → List (Value C) → Type 0
+IsQuietList b [] = Unit {0}
+IsQuietList b (v ∷ vs) = IsBalanced (value_text b.custom v) × IsQuietList b vs
+
+-- No stored pattern brings marks out of balance, and functions and formatter answer in balance where what they are given is.
 pub record BringsNoMarks {C : Type 0} (b : Bundle C) : Type 0 where
   pub patterns : AreQuiet b.transform (stored b)
-  pub functions : (id : Text) (f : Function C) → get id b.ids ≡ Some (a_function f) → (vs : List (Value C)) (m : Map (Value C)) → IsBalanced (value_text b.custom (f vs m))
-  pub custom : (x : C) → IsBalanced (b.custom.text x)
-  pub formatter : (v : Value C) (t : Text) → b.formatter v ≡ Some t → IsBalanced t
+  pub functions : (id : Text) (f : Function C) → get id b.ids ≡ Some (a_function f) → (vs : List (Value C)) (m : Map (Value C)) → IsQuietList b vs → IsQuietMap b m → IsBalanced (value_text b.custom (f vs m))
+  pub formatter : (v : Value C) (t : Text) → IsBalanced (value_text b.custom v) → b.formatter v ≡ Some t → IsBalanced t
 
 abbrev pub MarksAreBalanced : Type 0 → Type 0
 MarksAreBalanced C = (b : Bundle C) (args : Map (Value C)) (p : Pattern) → BringsNoMarks b → IsQuietMap b args → IsQuiet b.transform p →
