@@ -1,5 +1,6 @@
 -- Which texts bring no marks of isolation, and that as many opening as closing marks are written where nothing else brings any.
 use Rattle.std.specs.Prelude.{◌≡◌, ℕ, ◌+◌, ◌==◌, ◌&&◌, not, List, [], ◌∷◌, Bool, true, false, Some, if◌then◌else◌}
+use Rattle.std.specs.Str.{IsUtf8}
 use Rattle.fluent_tree.specs.Tree.{Text, Attribute, no_attribute, attribute, Pattern, nothing, more, Element, text, placeable, Expression, inline, select, Variants, no_variants, variant, Inline, string, number, function, message, term, variable, nested, Call, no_call, call, Arguments, arguments, Inlines, no_inlines, argument, Nameds, no_nameds, named_argument}
 use Rattle.fluent_text.specs.Escapes.{unescaped}
 use Rattle.fluent_meaning.specs.Value.{Value, value_text}
@@ -26,6 +27,10 @@ cut_off _ = false
 abbrev pub is_whole : Text → Bool
 is_whole [] = true
 is_whole (b ∷ t) = not (cut_off (b ∷ t)) && is_whole t
+
+-- Every text of characters is whole.
+abbrev pub TextsAreWhole : Type 0
+TextsAreWhole = (t : Text) → IsUtf8 t → is_whole t ≡ true
 
 -- as many U+2068 as U+2069, as in a text that holds neither
 pub record IsBalanced (t : Text) : Type 0 where

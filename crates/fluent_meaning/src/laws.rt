@@ -1,6 +1,7 @@
 //! Laws of the meanings.
 
-ghost use Rattle.fluent_meaning.specs.Marks.{MarksAreBalanced};
+ghost use Rattle.std.specs.Prelude.{◌≡◌, true};
+ghost use Rattle.fluent_meaning.specs.Marks.{MarksAreBalanced, TextsAreWhole, is_whole};
 ghost use Rattle.fluent_meaning.specs.Users.{IsMap, MeansOneThing, AddingKeeps, LastWins, CutsAlike, NothingIsSame, TermsAreClosed, StrikesOnce, AlikeGiveTheSame, ReadsAsDefined};
 ghost use Rattle.fluent_meaning.specs.Laws.{RunsByItself, CountsByItself, NeverAdds, IsSettled, StrikesBeyond, SameWithin, StrikeBeginsBoth, WorkIsBounded};
 
@@ -43,6 +44,16 @@ pub fn users_rely_on<C>()
 /// As many opening as closing marks are written, where nothing else brings any.
 pub fn marks_are_balanced<C>()
     ensures { MarksAreBalanced C }
+{}
+
+/// No text of characters ends in the front of a mark.
+pub fn texts_are_whole()
+    ensures { TextsAreWhole }
+{}
+
+/// So it is with this one.
+pub fn is_a_whole_text(text: &str)
+    ensures { is_whole text.now ≡ true }
 {}
 
 /// Numbers are read as the decimals' definition says.
