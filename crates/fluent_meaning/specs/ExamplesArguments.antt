@@ -40,6 +40,7 @@ selects = bundle (add_resource (term_entry (codes "t") (pattern_of (say "v" ∷ 
     ∷ entry "after_the_default" (choose (str "a") (default "o" (say "y" ∷ []) ∷ case "a" (say "x" ∷ []) ∷ []) ∷ [])
     ∷ entry "second_default" (choose (str "c") (default "b" (say "1" ∷ []) ∷ default "c" (say "2" ∷ []) ∷ []) ∷ [])
     ∷ entry "alone" (say "x" ∷ choose (str "a") (case "a" (put (var "n") ∷ []) ∷ default "o" [] ∷ []) ∷ [])
+    ∷ entry "two_by_default" (choose (str "a") (default "o" (say "y" ∷ put (var "n") ∷ []) ∷ []) ∷ [])
     ∷ entry "alone_by_default" (say "x" ∷ choose (str "a") (default "o" (put (var "n") ∷ []) ∷ []) ∷ []) ∷ []) ∷ [])
 
 -- what a select goes to
@@ -60,6 +61,7 @@ pub record Selectors : Type 0 where
   pub after_the_default : Gives selects [] "after_the_default" (codes "x") []
   pub second_default : Gives selects [] "second_default" (codes "2") []
   pub alone_in_a_variant : Gives selects (with "n" (whole 9)) "alone" (codes "x" ++ (F ++ (codes "9" ++ P))) []
+  pub two_by_default : Gives selects (with "n" (whole 9)) "two_by_default" (codes "y" ++ (F ++ (codes "9" ++ P))) []
   pub alone_by_default : Gives selects (with "n" (whole 9)) "alone_by_default" (codes "x" ++ (F ++ (codes "9" ++ P))) []
 
 -- ---- arguments
@@ -89,6 +91,7 @@ calls = bundle (add_function (codes "FIRST") first_argument ∷ add_function (co
     ∷ entry "message" (first_of (msg "m")) ∷ entry "attribute" (first_of (msg_attribute "m" "a")) ∷ entry "marks" (first_of (msg "marked"))
     ∷ entry "unknown" (first_of (msg "zz")) ∷ entry "without_value" (first_of (msg "empty")) ∷ entry "itself" (first_of (msg "itself"))
     ∷ entry "term" (first_of (own "v")) ∷ entry "term_with" (first_of (own_with "v" [] (named "n" (num "1") ∷ []))) ∷ entry "inside" (put (own "w") ∷ [])
+    ∷ entry "term_with_another" (put (own_with "v" [] (named "x" (num "1") ∷ [])) ∷ [])
     ∷ entry "outer" (put (own_with "v" [] (named "n" (var "n") ∷ [])) ∷ [])
     ∷ entry "nested" (first_of (nested (inline (str "x")))) ∷ entry "nested_number" (put (fun "LENGTH" (nested (inline (num "12345")) ∷ []) []) ∷ [])
     ∷ entry "nested_select" (first_of (nested (select (var "n") (variants_of (case_number "9" (say "nine" ∷ []) ∷ default "o" (say "other" ∷ []) ∷ [])))))
@@ -115,6 +118,7 @@ pub record Handed : Type 0 where
   pub itself : Gives calls [] "itself" (codes "{itself}") (cyclic ∷ [])
   pub term : Gives calls (with "n" (whole 9)) "term" (codes "{$n}") []
   pub term_with_arguments : Gives calls (with "n" (whole 9)) "term_with" (codes "1") []
+  pub term_with_another : Gives calls (with "n" (whole 9)) "term_with_another" (codes "{$n}") []
   pub missing_inside_a_term : Gives calls (with "n" (whole 9)) "inside" (codes "FIRST()") []
   pub to_a_term : Gives calls (with "n" (whole 9)) "outer" (codes "9") []
   pub nested : Gives calls [] "nested" (codes "x") []
@@ -127,7 +131,7 @@ pub record Handed : Type 0 where
   pub positional_first : Gives calls [] "positional_first" (codes "FIRST()") (unknown_variable "p" ∷ unknown_variable "q" ∷ [])
   pub named_in_order : Gives calls [] "named" (codes "X()") (unknown_variable "p" ∷ unknown_variable "q" ∷ [])
   pub last_of_a_name : Gives calls [] "last" (codes "2") []
-  pub by_its_name : Gives calls [] "other_name" (codes "X()") []
+  pub by_its_name : Gives calls (with "x" (whole 9)) "other_name" (codes "X()") []
 
 -- ---- options of a number
 

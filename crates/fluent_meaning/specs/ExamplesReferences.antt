@@ -30,6 +30,10 @@ prefixed = source (entry "foo" (say "x" ∷ put (msg "foo") ∷ []) ∷ [])
 abbrev pub below : Bundle NoCustom
 below = source (entry "a" (put (msg "b") ∷ []) ∷ entry "b" (say "x" ∷ put (msg "c") ∷ []) ∷ entry "c" (say "y" ∷ put (msg "b") ∷ []) ∷ entry "d" (put (msg "a") ∷ []) ∷ [])
 
+-- v has the content of a variant of top
+abbrev pub variants : Bundle NoCustom
+variants = source (entry "top" (choose (str "x") (default "x" (put (msg "w") ∷ []) ∷ []) ∷ []) ∷ entry "other" (choose (str "y") (default "x" (put (msg "w") ∷ []) ∷ []) ∷ []) ∷ entry "w" (say "q" ∷ put (msg "v") ∷ []) ∷ entry "v" (put (msg "w") ∷ []) ∷ [])
+
 -- patterns that refer to themselves, by their content
 pub record Cycles : Type 0 where
   pub itself : Gives itself [] "foo" (codes "{foo}") (cyclic ∷ [])
@@ -38,6 +42,8 @@ pub record Cycles : Type 0 where
   pub by_hand : Writes prefixed [] (pattern_of (say "x" ∷ put (msg "foo") ∷ [])) (codes "x{foo}") (cyclic ∷ [])
   pub below_the_first : Gives below [] "a" (codes "xy{b}") (cyclic ∷ [])
   pub below_the_second : Gives below [] "d" (codes "xy{b}") (cyclic ∷ [])
+  pub variant_not_on_the_path : Gives variants [] "top" (codes "q{w}") (cyclic ∷ [])
+  pub default_not_on_the_path : Gives variants [] "other" (codes "q{w}") (cyclic ∷ [])
   pub other_content : Writes prefixed [] (pattern_of (say "x" ∷ say "" ∷ put (msg "foo") ∷ [])) (codes "xx{foo}") (cyclic ∷ [])
 
 abbrev pub terms : Bundle NoCustom

@@ -1,6 +1,6 @@
 -- Worked examples: texts, variables, literals, numbers, selects, formatters and transforms.
 use Rattle.std.specs.Prelude.{◌≡◌, ℕ, zero, suc, ℤ, pos, negsuc, ◌*◌, ◌^◌, ◌-◌, ◌==◌, List, [], ◌∷◌, ◌++◌, map, Bool, true, false, Option, Some, None, codes}
-use Rattle.fluent_tree.specs.Tree.{Text, Pattern, pattern_of}
+use Rattle.fluent_tree.specs.Tree.{Text, Pattern, nested, inline, pattern_of}
 use Rattle.fluent_text.specs.Escapes.{unescaped}
 use Rattle.fluent_intl.specs.Number.{number_with}
 use Rattle.fluent_intl.specs.Plurals.{english}
@@ -44,8 +44,9 @@ of_each_kind no_value = Some (codes "none")
 of_each_kind error_value = Some (codes "error")
 
 abbrev pub kinds : Bundle NoCustom
-kinds = bundle (set_formatter (Some of_each_kind) ∷ add_function (codes "F") (answers error_value) ∷ add_resource (entry "text" (say "x" ∷ []) ∷ entry "string" (put (str "x") ∷ []) ∷ entry "number" (put (num "5") ∷ []) ∷ entry "word" (put (num "abc") ∷ [])
-    ∷ entry "variable" (put (var "v") ∷ []) ∷ entry "function" (put (fun "F" [] []) ∷ []) ∷ []) ∷ [])
+kinds = bundle (set_formatter (Some of_each_kind) ∷ add_function (codes "F") (answers error_value) ∷ add_function (codes "G") (answers (words "x")) ∷ add_resource (entry "text" (say "x" ∷ []) ∷ entry "string" (put (str "x") ∷ []) ∷ entry "number" (put (num "5") ∷ []) ∷ entry "word" (put (num "abc") ∷ [])
+    ∷ entry "nested" (put (nested (inline (str "x"))) ∷ [])
+    ∷ entry "variable" (put (var "v") ∷ []) ∷ entry "function" (put (fun "F" [] []) ∷ []) ∷ entry "answer" (put (fun "G" [] []) ∷ []) ∷ []) ∷ [])
 
 -- a formatter and a transform that are taken back
 abbrev pub taken_back : Bundle NoCustom
@@ -77,6 +78,8 @@ pub record Settings : Type 0 where
   pub custom_asked : Gives kinds (with "v" (custom_value only)) "variable" (codes "C") []
   pub none_asked : Gives kinds (with "v" no_value) "variable" (codes "none") []
   pub error_asked : Gives kinds (with "v" error_value) "variable" (codes "error") []
+  pub nested_not_asked : Gives kinds [] "nested" (codes "x") []
+  pub answer_asked : Gives kinds [] "answer" (codes "T") []
   pub answer_of_error_not_asked : Gives kinds [] "function" (codes "F()") []
   pub no_transform_again : Gives taken_back [] "p" (codes "x") []
   pub no_formatter_again : Gives taken_back (with "v" (words "x")) "v" (codes "x") []

@@ -1,4 +1,4 @@
--- Worked examples: what stands at the strike, the work of a run and the sizes that bound it, and the calls of a scope.
+-- Worked examples: what is meant without a limit, what stands at the strike, the work of a run and the sizes that bound it, and the calls of a scope.
 use Prim.Native.String.{String}
 use Rattle.std.specs.Prelude.{◌≡◌, ℕ, List, [], ◌∷◌, ◌++◌, map, Some, None, codes}
 use Rattle.fluent_tree.specs.Tree as t
@@ -7,7 +7,7 @@ use Rattle.fluent_meaning.specs.Errors.{Error, resolver_error, too_many_placeabl
 use Rattle.fluent_meaning.specs.Value.{error_value}
 use Rattle.fluent_meaning.specs.Bundle.{Bundle, add_resource, add_function, stored}
 use Rattle.fluent_meaning.specs.Walk.{application, local}
-use Rattle.fluent_meaning.specs.Meaning.{Budget, Ran, left, struck}
+use Rattle.fluent_meaning.specs.Meaning.{Budget, Outcome, Ran, left, struck, meaning}
 use Rattle.fluent_meaning.specs.Strike.{Until, passed, stopped, up_to_strike}
 use Rattle.fluent_meaning.specs.Work.{work, nodes, largest, most_nodes}
 use Rattle.fluent_meaning.specs.Result.{tracked, maybe_tracked, arguments_of}
@@ -26,6 +26,27 @@ small = bundle (add_function (codes "FIRST") first_argument ∷ add_resource (pr
 
 abbrev pub missing : Error
 missing = resolver_error (lost (to_variable (codes "q")))
+
+-- ---- without a limit
+
+-- a, then b, then c, each stored
+abbrev pub chain : Bundle NoCustom
+chain = bundle (add_resource (entry "a" (put (msg "b") ∷ []) ∷ entry "b" (put (msg "c") ∷ []) ∷ entry "c" (put (str "x") ∷ []) ∷ []) ∷ [])
+
+abbrev pub means : Bundle NoCustom → Pattern → Outcome Text
+means b p = meaning b (application []) [] p
+
+abbrev pub outcome : Text → List Error → ℕ → Outcome Text
+outcome t es n = record { value = t; errors = es; opened = n }
+
+-- texts, errors and how many placeables are opened, by substitution
+pub record Substituted : Type 0 where
+  pub opened : means small (value_of small "n") ≡ outcome (codes "xaaay") [] 4
+  pub marked : means small (value_of small "nested") ≡ outcome (codes "u" ++ (F ++ (codes "xaaay" ++ P))) [] 5
+  pub unknown : means small (value_of small "missing") ≡ outcome (F ++ (codes "{$q}" ++ (P ++ codes "aaa"))) (missing ∷ []) 5
+  pub itself : means small (value_of small "foo") ≡ outcome (codes "{foo}") (resolver_error cyclic ∷ []) 1
+  pub arguments : means small (value_of small "arguments") ≡ outcome (codes "x" ++ (F ++ (codes "FIRST()" ++ P))) (missing ∷ []) 4
+  pub each_stored_once : means chain (pattern_of (put (msg "a") ∷ [])) ≡ outcome (codes "x") [] 4
 
 -- ---- up to the strike
 

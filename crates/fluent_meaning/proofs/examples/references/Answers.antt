@@ -12,7 +12,7 @@ use Rattle.fluent_meaning.proofs.examples.references.Goals as goal
 
 pub returns-clause-cycles : goal.returns-clause-cycles
 unfolding elements ran digits pattern_same text_same decimal_text significant_places operands_of e.hex_digit e.hex_number e.numbered e.escape e.part many_from byte run1 encode
-returns-clause-cycles c = record { itself = refl; same_content = refl; added_again = refl; by_hand = refl; below_the_first = refl; below_the_second = refl; other_content = refl }
+returns-clause-cycles c = record { itself = refl; same_content = refl; added_again = refl; by_hand = refl; below_the_first = refl; below_the_second = refl; variant_not_on_the_path = refl; default_not_on_the_path = refl; other_content = refl }
 
 pub returns-clause-terms : goal.returns-clause-terms
 unfolding elements ran digits pattern_same text_same decimal_text significant_places operands_of e.hex_digit e.hex_number e.numbered e.escape e.part many_from byte run1 encode

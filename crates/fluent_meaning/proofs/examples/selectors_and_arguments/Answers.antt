@@ -12,11 +12,11 @@ use Rattle.fluent_meaning.proofs.examples.selectors_and_arguments.Goals as goal
 
 pub returns-clause-selectors : goal.returns-clause-selectors
 unfolding elements ran digits pattern_same text_same decimal_text significant_places operands_of e.hex_digit e.hex_number e.numbered e.escape e.part many_from byte run1 encode
-returns-clause-selectors c = record { number_key = refl; text_and_number_key = refl; one = refl; two = refl; word_and_number_key = refl; escaped = refl; attribute = refl; no_attribute = refl; message = refl; nested = refl; nested_number = refl; missing = refl; missing_in_a_term = refl; after_the_default = refl; second_default = refl; alone_in_a_variant = refl; alone_by_default = refl }
+returns-clause-selectors c = record { number_key = refl; text_and_number_key = refl; one = refl; two = refl; word_and_number_key = refl; escaped = refl; attribute = refl; no_attribute = refl; message = refl; nested = refl; nested_number = refl; missing = refl; missing_in_a_term = refl; after_the_default = refl; second_default = refl; alone_in_a_variant = refl; two_by_default = refl; alone_by_default = refl }
 
 pub returns-clause-handed : goal.returns-clause-handed
 unfolding elements ran digits pattern_same text_same decimal_text significant_places operands_of e.hex_digit e.hex_number e.numbered e.escape e.part many_from byte run1 encode
-returns-clause-handed c = record { escaped = refl; number = refl; number_is_no_text = refl; variable = refl; missing = refl; message = refl; attribute = refl; marks = refl; unknown = refl; without_value = refl; itself = refl; term = refl; term_with_arguments = refl; missing_inside_a_term = refl; to_a_term = refl; nested = refl; nested_number_is_a_text = refl; nested_select = refl; function = refl; no_function = refl; in_order = refl; errors_in_order = refl; positional_first = refl; named_in_order = refl; last_of_a_name = refl; by_its_name = refl }
+returns-clause-handed c = record { escaped = refl; number = refl; number_is_no_text = refl; variable = refl; missing = refl; message = refl; attribute = refl; marks = refl; unknown = refl; without_value = refl; itself = refl; term = refl; term_with_arguments = refl; term_with_another = refl; missing_inside_a_term = refl; to_a_term = refl; nested = refl; nested_number_is_a_text = refl; nested_select = refl; function = refl; no_function = refl; in_order = refl; errors_in_order = refl; positional_first = refl; named_in_order = refl; last_of_a_name = refl; by_its_name = refl }
 
 pub returns-clause-options : goal.returns-clause-options
 unfolding elements ran digits pattern_same text_same decimal_text significant_places operands_of e.hex_digit e.hex_number e.numbered e.escape e.part many_from byte run1 encode
