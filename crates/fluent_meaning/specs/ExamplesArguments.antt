@@ -30,6 +30,7 @@ selects = bundle (add_resource (term_entry (codes "t") (pattern_of (say "v" ∷ 
     ∷ private "missing" (yes_or_no (var "n") "a")
     ∷ entry "number" (choose (var "n") (case_number "1" (say "x" ∷ []) ∷ default "other" (say "y" ∷ []) ∷ []) ∷ [])
     ∷ entry "word" (choose (var "n") (case "one" (say "x" ∷ []) ∷ default "other" (say "y" ∷ []) ∷ []) ∷ [])
+    ∷ entry "name" (yes_or_no (var "n") "1")
     ∷ entry "literal" (choose (str "one") (case_number "1" (say "a" ∷ []) ∷ case "one" (say "b" ∷ []) ∷ default "other" (say "c" ∷ []) ∷ []) ∷ [])
     ∷ entry "escaped" (yes_or_no (str "\\u0041") "A")
     ∷ entry "attribute" (yes_or_no (own_attribute (codes "a")) "w") ∷ entry "no_attribute" (yes_or_no (own_attribute (codes "b")) "v")
@@ -47,6 +48,8 @@ selects = bundle (add_resource (term_entry (codes "t") (pattern_of (say "v" ∷ 
 pub record Selectors : Type 0 where
   pub number_key : Gives selects (with "n" (whole 1)) "number" (codes "x") []
   pub text_and_number_key : Gives selects (with "n" (words "1")) "number" (codes "y") []
+  pub number_and_name_key : Gives selects (with "n" (whole 1)) "name" (codes "no") []
+  pub text_and_name_key : Gives selects (with "n" (words "1")) "name" (codes "yes") []
   pub one : Gives selects (with "n" (whole 1)) "word" (codes "x") []
   pub two : Gives selects (with "n" (whole 2)) "word" (codes "y") []
   pub word_and_number_key : Gives selects [] "literal" (codes "b") []

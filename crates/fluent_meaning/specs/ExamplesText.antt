@@ -13,7 +13,7 @@ use Rattle.fluent_meaning.specs.Bundle.{Bundle, add_resource, add_function, set_
 use Rattle.fluent_meaning.specs.Examples.{NoCustom, only, say, put, var, str, num, msg, fun, named, case, case_number, default, choose, entry, bundle, source, whole, with, words, times, answers, bracketed, upper, F, P, many, unknown_variable, too_many, Writes, Gives, Formats}
 
 abbrev pub greeting : Bundle NoCustom
-greeting = source (entry "hello" (say "Hello, world!" ∷ []) ∷ entry "intro" (say "Welcome, " ∷ put (var "name") ∷ say "." ∷ []) ∷ entry "one" (put (var "name") ∷ []) ∷ entry "alone" (times 101 (put (var "x"))) ∷ [])
+greeting = source (entry "hello" (say "Hello, world!" ∷ []) ∷ entry "intro" (say "Welcome, " ∷ put (var "name") ∷ say "." ∷ []) ∷ entry "one" (put (var "name") ∷ []) ∷ entry "two" (put (var "p") ∷ put (var "q") ∷ []) ∷ entry "alone" (times 101 (put (var "x"))) ∷ [])
 
 abbrev pub many_marked : ℕ → Text
 many_marked zero = []
@@ -24,6 +24,7 @@ pub record Variables : Type 0 where
   pub text_alone : Gives greeting [] "hello" (codes "Hello, world!") []
   pub there : Gives greeting (with "name" (words "John")) "intro" (codes "Welcome, " ++ (F ++ (codes "John" ++ (P ++ codes ".")))) []
   pub missing : Gives greeting [] "intro" (codes "Welcome, " ++ (F ++ (codes "{$name}" ++ (P ++ codes ".")))) (unknown_variable "name" ∷ [])
+  pub missing_in_order : Gives greeting [] "two" (F ++ (codes "{$p}" ++ (P ++ (F ++ (codes "{$q}" ++ P))))) (unknown_variable "p" ∷ unknown_variable "q" ∷ [])
   pub one_element : Gives greeting (with "name" (words "z")) "one" (codes "z") []
   pub too_many_of_them : Gives greeting (with "x" (words "a")) "alone" (many_marked 100) (too_many ∷ [])
   pub number_in_text : Gives greeting (with "name" (try_number (codes "007"))) "intro" (codes "Welcome, " ++ (F ++ (codes "7" ++ (P ++ codes ".")))) []

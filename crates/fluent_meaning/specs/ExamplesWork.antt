@@ -18,14 +18,18 @@ small = bundle (add_function (codes "FIRST") first_argument ∷ add_resource (pr
     ∷ entry "m" (times 3 (put (str "a"))) ∷ entry "n" (say "x" ∷ put (msg "m") ∷ say "y" ∷ [])
     ∷ entry "nested" (say "u" ∷ put (nested (inline (msg "n"))) ∷ [])
     ∷ entry "missing" (put (var "q") ∷ put (msg "m") ∷ [])
+    ∷ entry "two" (put (var "q") ∷ put (var "r") ∷ []) ∷ entry "two_arguments" (put (fun "FIRST" (var "q" ∷ var "r" ∷ []) []) ∷ [])
     ∷ entry "argument" (say "x" ∷ put (fun "FIRST" (msg "n" ∷ []) []) ∷ say "y" ∷ [])
     ∷ entry "arguments" (say "x" ∷ put (fun "FIRST" (var "q" ∷ msg "m" ∷ []) []) ∷ [])
     ∷ entry "twice" (put (own "u") ∷ put (own "u") ∷ []) ∷ entry "again" (put (fun "FIRST" (msg "m" ∷ msg "m" ∷ []) []) ∷ [])
     ∷ entry "select" (choose (str "a") (case "a" (say "x" ∷ put (msg "m") ∷ []) ∷ default "o" (say "y" ∷ []) ∷ []) ∷ [])
     ∷ entry "default" (choose (str "b") (case "a" (say "x" ∷ []) ∷ default "o" (put (msg "m") ∷ []) ∷ []) ∷ []) ∷ []) ∷ [])
 
+abbrev pub without : String → Error
+without name = resolver_error (lost (to_variable (codes name)))
+
 abbrev pub missing : Error
-missing = resolver_error (lost (to_variable (codes "q")))
+missing = without "q"
 
 -- ---- without a limit
 
@@ -46,6 +50,8 @@ pub record Substituted : Type 0 where
   pub unknown : means small (value_of small "missing") ≡ outcome (F ++ (codes "{$q}" ++ (P ++ codes "aaa"))) (missing ∷ []) 5
   pub itself : means small (value_of small "foo") ≡ outcome (codes "{foo}") (resolver_error cyclic ∷ []) 1
   pub arguments : means small (value_of small "arguments") ≡ outcome (codes "x" ++ (F ++ (codes "FIRST()" ++ P))) (missing ∷ []) 4
+  pub in_order : means small (value_of small "two") ≡ outcome (F ++ (codes "{$q}" ++ (P ++ (F ++ (codes "{$r}" ++ P))))) (missing ∷ without "r" ∷ []) 2
+  pub arguments_in_order : means small (value_of small "two_arguments") ≡ outcome (codes "FIRST()") (missing ∷ without "r" ∷ []) 1
   pub each_stored_once : means chain (pattern_of (put (msg "a") ∷ [])) ≡ outcome (codes "x") [] 4
 
 -- ---- up to the strike
@@ -65,6 +71,9 @@ pub record Strikes : Type 0 where
   pub in_an_argument : stops "argument" 3 ≡ stopped (codes "x" ++ F) [] (codes "{FIRST()}" ++ P)
   pub error_of_an_argument : stops "arguments" 2 ≡ stopped (codes "x" ++ F) (missing ∷ []) (codes "{FIRST()}" ++ P)
 
+abbrev pub result : {A : Type 0} → A → List Error → Budget → Ran A
+result x es budget = record { value = x; errors = es; budget = budget }
+
 -- ---- the work of a run
 
 -- placeables opened, the longest path, patterns entered
@@ -79,6 +88,7 @@ pub record Counts : Type 0 where
   pub one_after_the_other : counts "twice" 10 ≡ (2, (2, 3))
   pub variant : counts "select" 10 ≡ (5, (2, 3))
   pub default_variant : counts "default" 10 ≡ (5, (2, 3))
+  pub beside_the_run : (work small (application []) [] (value_of small "n") (left 3)).ran ≡ result (codes "xaa{m}") (resolver_error too_many_placeables ∷ []) struck
   pub after_the_strike : counts "again" 1 ≡ (1, (2, 3))
 
 -- ---- sizes
@@ -132,9 +142,6 @@ pub record Sizes : Type 0 where
   pub all_stored : stored patterns ≡ map (λ s. pattern_of (say s ∷ [])) ("4" ∷ "5" ∷ "6" ∷ "3" ∷ "1" ∷ "2" ∷ [])
 
 -- ---- the calls of a scope
-
-abbrev pub result : {A : Type 0} → A → List Error → Budget → Ran A
-result x es budget = record { value = x; errors = es; budget = budget }
 
 abbrev pub value : String → Pattern
 value = value_of small

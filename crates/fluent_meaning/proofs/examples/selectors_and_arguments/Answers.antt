@@ -12,7 +12,7 @@ use Rattle.fluent_meaning.proofs.examples.selectors_and_arguments.Goals as goal
 
 pub returns-clause-selectors : goal.returns-clause-selectors
 unfolding elements ran digits pattern_same text_same decimal_text significant_places operands_of e.hex_digit e.hex_number e.numbered e.escape e.part many_from byte run1 encode
-returns-clause-selectors c = record { number_key = refl; text_and_number_key = refl; one = refl; two = refl; word_and_number_key = refl; escaped = refl; attribute = refl; no_attribute = refl; message = refl; nested = refl; nested_number = refl; missing = refl; missing_in_a_term = refl; after_the_default = refl; second_default = refl; alone_in_a_variant = refl; two_by_default = refl; alone_by_default = refl }
+returns-clause-selectors c = record { number_key = refl; text_and_number_key = refl; number_and_name_key = refl; text_and_name_key = refl; one = refl; two = refl; word_and_number_key = refl; escaped = refl; attribute = refl; no_attribute = refl; message = refl; nested = refl; nested_number = refl; missing = refl; missing_in_a_term = refl; after_the_default = refl; second_default = refl; alone_in_a_variant = refl; two_by_default = refl; alone_by_default = refl }
 
 pub returns-clause-handed : goal.returns-clause-handed
 unfolding elements ran digits pattern_same text_same decimal_text significant_places operands_of e.hex_digit e.hex_number e.numbered e.escape e.part many_from byte run1 encode

@@ -12,7 +12,7 @@ use Rattle.fluent_meaning.proofs.examples.texts_and_values.Goals as goal
 
 pub returns-clause-variables : goal.returns-clause-variables
 unfolding elements ran digits pattern_same text_same decimal_text significant_places operands_of e.hex_digit e.hex_number e.numbered e.escape e.part many_from byte run1 encode
-returns-clause-variables c = record { text_alone = refl; there = refl; missing = refl; one_element = refl; too_many_of_them = refl; number_in_text = refl; number_with_zeros = refl; number_with_sign = refl }
+returns-clause-variables c = record { text_alone = refl; there = refl; missing = refl; missing_in_order = refl; one_element = refl; too_many_of_them = refl; number_in_text = refl; number_with_zeros = refl; number_with_sign = refl }
 
 pub returns-clause-settings : goal.returns-clause-settings
 unfolding elements ran digits pattern_same text_same decimal_text significant_places operands_of e.hex_digit e.hex_number e.numbered e.escape e.part many_from byte run1 encode

@@ -15,7 +15,7 @@ use Rattle.fluent_meaning.proofs.examples.work_and_scopes.Goals as goal
 
 pub returns-clause-substituted : goal.returns-clause-substituted
 unfolding elements ran digits pattern_same text_same decimal_text significant_places operands_of e.hex_digit e.hex_number e.numbered e.escape e.part many_from byte run1 encode substituted until worked
-returns-clause-substituted c = record { opened = refl; marked = refl; unknown = refl; itself = refl; arguments = refl; each_stored_once = refl }
+returns-clause-substituted c = record { opened = refl; marked = refl; unknown = refl; itself = refl; arguments = refl; in_order = refl; arguments_in_order = refl; each_stored_once = refl }
 
 pub returns-clause-strikes : goal.returns-clause-strikes
 unfolding elements ran digits pattern_same text_same decimal_text significant_places operands_of e.hex_digit e.hex_number e.numbered e.escape e.part many_from byte run1 encode substituted until worked
@@ -23,7 +23,7 @@ returns-clause-strikes c = record { all_opened = refl; some_left = refl; below =
 
 pub returns-clause-counts : goal.returns-clause-counts
 unfolding elements ran digits pattern_same text_same decimal_text significant_places operands_of e.hex_digit e.hex_number e.numbered e.escape e.part many_from byte run1 encode substituted until worked
-returns-clause-counts c = record { not_struck = refl; struck_below = refl; struck_at_once = refl; one_below_the_other = refl; one_after_the_other = refl; variant = refl; default_variant = refl; after_the_strike = refl }
+returns-clause-counts c = record { not_struck = refl; struck_below = refl; struck_at_once = refl; one_below_the_other = refl; one_after_the_other = refl; variant = refl; default_variant = refl; beside_the_run = refl; after_the_strike = refl }
 
 pub returns-clause-sizes : goal.returns-clause-sizes
 unfolding elements ran digits pattern_same text_same decimal_text significant_places operands_of e.hex_digit e.hex_number e.numbered e.escape e.part many_from byte run1 encode substituted until worked
