@@ -66,6 +66,7 @@ pub record Settings : Type 0 where
   pub past_literals : Gives uppercase [] "a" (codes "Xx") []
   pub whole_text : Formats in_brackets [] "hello" (codes "[Hello, world!]")
   pub value_and_whole_text : Formats in_brackets (with "name" (words "John")) "intro" (codes "[Welcome, " ++ (F ++ (codes "[John]" ++ (P ++ codes ".]"))))
+  pub without_formatter : Formats greeting [] "hello" (codes "Hello, world!")
   pub only_written : Gives in_brackets [] "hello" (codes "Hello, world!") []
   pub value_written : Gives in_brackets (with "name" (words "John")) "intro" (codes "Welcome, " ++ (F ++ (codes "[John]" ++ (P ++ codes ".")))) []
   pub number_written : Gives in_brackets [] "p" (codes "5") []

@@ -157,6 +157,7 @@ pub record Scopes : Type 0 where
   pub on_the_path : tracks (value "n" ∷ []) "n" 5 ≡ result (codes "{n}") (resolver_error cyclic ∷ []) (left 5)
   pub not_on_the_path : tracks (value "n" ∷ []) "m" 5 ≡ result (codes "aaa") [] (left 2)
   pub then_on_the_path : tracks (value "n" ∷ []) "foo" 5 ≡ result (codes "{foo}") (resolver_error cyclic ∷ []) (left 4)
+  pub below_the_path : tracks (value "n" ∷ []) "nested" 5 ≡ result (codes "u" ++ (F ++ (codes "{n}" ++ P))) (resolver_error cyclic ∷ []) (left 4)
   pub within : maybe_tracks [] "n" "m" (left 5) ≡ result (codes "aaa") [] (left 2)
   pub struck_there : maybe_tracks [] "n" "m" (left 2) ≡ result (codes "aa{m}") (resolver_error too_many_placeables ∷ []) struck
   pub struck_before : maybe_tracks [] "n" "m" struck ≡ result (codes "{m}") [] struck
@@ -167,3 +168,4 @@ pub record Scopes : Type 0 where
   pub arguments : arguments_of small (application (with "v" (whole 9))) [] (t.arguments (inlines_of (var "v" ∷ str "a" ∷ [])) (nameds_of (named "y" (num "1") ∷ named "x" (str "b") ∷ []))) (left 5)
       ≡ result (whole 9 ∷ words "a" ∷ [], with "x" (words "b") ++ with "y" (whole 1)) [] (left 5)
   pub from_the_budget : arguments_of small (application []) [] (t.arguments (inlines_of (msg "m" ∷ var "q" ∷ [])) (nameds_of [])) (left 5) ≡ result (words "aaa" ∷ error_value ∷ [], []) (missing ∷ []) (left 2)
+  pub arguments_below_the_path : arguments_of small (application []) (value "n" ∷ []) (t.arguments (inlines_of (msg "n" ∷ [])) (nameds_of [])) (left 5) ≡ result (words "{n}" ∷ [], []) (resolver_error cyclic ∷ []) (left 5)

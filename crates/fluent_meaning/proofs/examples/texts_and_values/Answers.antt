@@ -16,7 +16,7 @@ returns-clause-variables c = record { text_alone = refl; there = refl; missing =
 
 pub returns-clause-settings : goal.returns-clause-settings
 unfolding elements ran digits pattern_same text_same decimal_text significant_places operands_of e.hex_digit e.hex_number e.numbered e.escape e.part many_from byte run1 encode
-returns-clause-settings c = record { not_isolated = refl; transformed = refl; past_literals = refl; whole_text = refl; value_and_whole_text = refl; only_written = refl; value_written = refl; number_written = refl; number_formatted = refl; nothing_written = refl; nothing_formatted = refl; text_not_asked = refl; literal_not_asked = refl; number_asked = refl; word_asked = refl; custom_asked = refl; none_asked = refl; error_asked = refl; nested_not_asked = refl; answer_asked = refl; answer_of_error_not_asked = refl; no_transform_again = refl; no_formatter_again = refl; error_shown = refl; none_shown = refl; number_and_message = refl }
+returns-clause-settings c = record { not_isolated = refl; transformed = refl; past_literals = refl; whole_text = refl; value_and_whole_text = refl; without_formatter = refl; only_written = refl; value_written = refl; number_written = refl; number_formatted = refl; nothing_written = refl; nothing_formatted = refl; text_not_asked = refl; literal_not_asked = refl; number_asked = refl; word_asked = refl; custom_asked = refl; none_asked = refl; error_asked = refl; nested_not_asked = refl; answer_asked = refl; answer_of_error_not_asked = refl; no_transform_again = refl; no_formatter_again = refl; error_shown = refl; none_shown = refl; number_and_message = refl }
 
 pub returns-clause-escapes : goal.returns-clause-escapes
 unfolding elements ran digits pattern_same text_same decimal_text significant_places operands_of e.hex_digit e.hex_number e.numbered e.escape e.part many_from byte run1 encode

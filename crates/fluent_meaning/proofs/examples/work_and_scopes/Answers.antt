@@ -31,4 +31,4 @@ returns-clause-sizes c = record { single = refl; call = refl; calls_in_a_call = 
 
 pub returns-clause-scopes : goal.returns-clause-scopes
 unfolding elements ran digits pattern_same text_same decimal_text significant_places operands_of e.hex_digit e.hex_number e.numbered e.escape e.part many_from byte run1 encode substituted until worked
-returns-clause-scopes c = record { on_the_path = refl; not_on_the_path = refl; then_on_the_path = refl; within = refl; struck_there = refl; struck_before = refl; under_itself = refl; under_another = refl; of_a_term = refl; missing_in_a_term = refl; arguments = refl; from_the_budget = refl }
+returns-clause-scopes c = record { on_the_path = refl; not_on_the_path = refl; then_on_the_path = refl; below_the_path = refl; within = refl; struck_there = refl; struck_before = refl; under_itself = refl; under_another = refl; of_a_term = refl; missing_in_a_term = refl; arguments = refl; from_the_budget = refl; arguments_below_the_path = refl }
