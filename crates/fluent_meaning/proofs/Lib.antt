@@ -9,5 +9,6 @@ pub mod Maps
 pub mod Added
 pub mod Answers
 pub mod Marked
+pub mod Whole
 pub mod Quiet
 pub mod Readings

@@ -53,7 +53,7 @@ marks_append last (a ∷ s) t h =
     let front = ap {B = ℕ} (λ x. (if x then 1 else 0)) (front_append last a s t (not_true _ (and_left _ _ h))) in
     omega (arith, rest, front)
 
-whole_append : (s t : Text) → is_whole s ≡ true → is_whole t ≡ true → is_whole (s ++ t) ≡ true
+pub whole_append : (s t : Text) → is_whole s ≡ true → is_whole t ≡ true → is_whole (s ++ t) ≡ true
 whole_append [] t h j = j
 whole_append (a ∷ s) t h j =
     ap (λ x. not x && is_whole (s ++ t)) (cut_append a s t (not_true _ (and_left _ _ h))) ∙ whole_append s t (and_right _ _ h) j

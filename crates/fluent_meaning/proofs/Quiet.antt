@@ -13,6 +13,9 @@ use Rattle.fluent_meaning.specs.Walk.{Environment, application, local, variables
 use Rattle.fluent_meaning.specs.Meaning.{Budget, left, struck, Ran, ending, first_mark, last_mark, within_budget, opening, unless_struck, ran}
 use Rattle.fluent_meaning.specs.Result.{written_pattern}
 use Rattle.fluent_meaning.specs.Users.{last_of}
+use Rattle.fluent_tree.specs.Tree.{Inlines, no_inlines, argument}
+use Rattle.fluent_meaning.specs.Marks.{IsQuietList, QuietPositional}
+use Rattle.fluent_meaning.specs.Walk.{called, positional, named, resolved}
 use Rattle.fluent_meaning.specs.Marks.{marks, IsBalanced, IsQuiet, QuietExpression, QuietVariants, QuietInline, QuietCall, QuietNamed, AreQuiet, IsQuietMap, BringsNoMarks}
 use Rattle.fluent_meaning.proofs.Marked.{joined, empty, number_balanced, braced, dotted_balanced, quoted, with_byte, called_balanced, marked_balanced}
 use Rattle.fluent_meaning.proofs.Maps.{last_stands}
@@ -83,7 +86,7 @@ module _ {C : Type 0} (b : Bundle C) (quiet : BringsNoMarks b) where
     where
       by : (o : Option Text) → b.formatter v ≡ o → IsBalanced (unless_formatted o (value_text b.custom v))
       by None e = h
-      by (Some t) e = quiet.formatter v t e
+      by (Some t) e = quiet.formatter v t h e
 
   read_quiet : (t : Text) → IsBalanced t → (o : Option (ℤ × Option ℕ)) → IsQuietValue (read_value t o)
   read_quiet t h None = h
@@ -97,12 +100,12 @@ module _ {C : Type 0} (b : Bundle C) (quiet : BringsNoMarks b) where
   number_quiet (values.no_value ∷ vs) m = empty
   number_quiet (error_value ∷ vs) m = empty
 
-  function_quiet : (id : Text) (e : Option (Entry C)) → get id b.ids ≡ e → (f : Function C) → function_found e ≡ Some f → (vs : List (Value C)) (m : Map (Value C)) → IsQuietValue (f vs m)
-  function_quiet id None e f h vs m = absurd cc
-  function_quiet id (Some (a_message v as')) e f h vs m = absurd cc
-  function_quiet id (Some (a_term p as')) e f h vs m = absurd cc
-  function_quiet id (Some (a_function g)) e f h vs m = subst (λ k. IsQuietValue (k vs m)) (let same : g ≡ f = cc in same) (quiet.functions id g e vs m)
-  function_quiet id (Some number_builtin) e f h vs m = subst (λ k. IsQuietValue (k vs m)) (let same : number_function ≡ f = cc in same) (number_quiet vs m)
+  function_quiet : (id : Text) (e : Option (Entry C)) → get id b.ids ≡ e → (f : Function C) → function_found e ≡ Some f → (vs : List (Value C)) (m : Map (Value C)) → IsQuietList b vs → IsQuietMap b m → IsQuietValue (f vs m)
+  function_quiet id None e f h vs m hv hm = absurd cc
+  function_quiet id (Some (a_message v as')) e f h vs m hv hm = absurd cc
+  function_quiet id (Some (a_term p as')) e f h vs m hv hm = absurd cc
+  function_quiet id (Some (a_function g)) e f h vs m hv hm = subst (λ k. IsQuietValue (k vs m)) (let same : g ≡ f = cc in same) (quiet.functions id g e vs m hv hm)
+  function_quiet id (Some number_builtin) e f h vs m hv hm = subst (λ k. IsQuietValue (k vs m)) (let same : number_function ≡ f = cc in same) (number_quiet vs m)
 
   module _ (f : Environment C → List Pattern → Pattern → Budget → Ran Text) (env : Environment C) (known : IsQuietMap b (variables env))
       (below : (env' : Environment C) (path : List Pattern) (p : Pattern) → IsQuietMap b (variables env') → IsQuiet b.transform p → Writes (f env' path p)) where
@@ -138,13 +141,13 @@ module _ {C : Type 0} (b : Bundle C) (quiet : BringsNoMarks b) where
     answer_quiet x values.no_value h k budget = shown_quiet values.no_value k
     answer_quiet x error_value h k budget = h
 
-    function_text_quiet : (x : Inline) (o : Option (Function C)) → IsBalanced (fallback x) → ((g : Function C) → o ≡ Some g → (vs : List (Value C)) (m : Map (Value C)) → IsQuietValue (g vs m)) → (vs : List (Value C)) (m : Map (Value C)) → Writes (function_text within_budget b f env x o vs m)
-    function_text_quiet x None h k vs m budget = loses_quiet (reference_of x) _ (braced (fallback x) h) budget
-    function_text_quiet x (Some g) h k vs m budget = answer_quiet x (g vs m) h (k g refl vs m) budget
+    function_text_quiet : (x : Inline) (o : Option (Function C)) → IsBalanced (fallback x) → (vs : List (Value C)) (m : Map (Value C)) → ((g : Function C) → o ≡ Some g → IsQuietValue (g vs m)) → Writes (function_text within_budget b f env x o vs m)
+    function_text_quiet x None h vs m k budget = loses_quiet (reference_of x) _ (braced (fallback x) h) budget
+    function_text_quiet x (Some g) h vs m k budget = answer_quiet x (g vs m) h (k g refl) budget
 
-    function_value_quiet : (o : Option (Function C)) → ((g : Function C) → o ≡ Some g → (vs : List (Value C)) (m : Map (Value C)) → IsQuietValue (g vs m)) → (vs : List (Value C)) (m : Map (Value C)) → IsQuietValue (function_value within_budget b f env o vs m)
-    function_value_quiet None k vs m = empty
-    function_value_quiet (Some g) k vs m = k g refl vs m
+    function_value_quiet : (o : Option (Function C)) → (vs : List (Value C)) (m : Map (Value C)) → ((g : Function C) → o ≡ Some g → IsQuietValue (g vs m)) → IsQuietValue (function_value within_budget b f env o vs m)
+    function_value_quiet None vs m k = empty
+    function_value_quiet (Some g) vs m k = k g refl
 
     mutual
       unfolding elements
@@ -174,8 +177,11 @@ module _ {C : Type 0} (b : Bundle C) (quiet : BringsNoMarks b) where
       written_quiet : (path : List Pattern) (x : Inline) → QuietInline b.transform x → Writes (written within_budget b f env path x)
       written_quiet path (string t) h = λ budget. h.1
       written_quiet path (number t) h = λ budget. shown_quiet (try_number t) (read_quiet t h (read_number t))
-      written_quiet path (function k a) h = λ budget. let c = called within_budget b f env path a budget in
-          function_text_quiet (function k a) (function_found (get k b.ids)) (fallback_balanced b.transform (function k a) h) (function_quiet k (get k b.ids) refl) c.value.0 c.value.1 c.budget
+      written_quiet path (function k (arguments ps ns)) h = λ budget. let c = called within_budget b f env path (arguments ps ns) budget in
+          let vs = positional within_budget b f env path ps budget in
+          let hv = positional_quiet path ps h.1.0 budget in
+          let hm = map_quiet (named within_budget b f env path ns vs.budget).value (named_quiet path ns h.1.1 vs.budget) in
+          function_text_quiet (function k (arguments ps ns)) (function_found (get k b.ids)) (fallback_balanced b.transform (function k (arguments ps ns)) h) c.value.0 c.value.1 (λ g e. function_quiet k (get k b.ids) refl g e c.value.0 c.value.1 hv hm) c.budget
       written_quiet path (message m a) h = follow_quiet env path (message m a) m (message_target (get m b.ids) a) known (fallback_balanced b.transform (message m a) h) h.0 (message_is_stored b a m)
       written_quiet path (term t a c) h = λ budget. let l = local_of within_budget b f env path c budget in
           follow_quiet (local l.value) path (term t a c) t (term_target (get t b.ids) a) (local_quiet path c h.2 budget) (fallback_balanced b.transform (term t a c) h) h.0 (term_is_stored b a t) l.budget
@@ -185,8 +191,11 @@ module _ {C : Type 0} (b : Bundle C) (quiet : BringsNoMarks b) where
       resolved_quiet : (path : List Pattern) (x : Inline) → QuietInline b.transform x → Holds IsQuietValue (resolved within_budget b f env path x)
       resolved_quiet path (string t) h = λ budget. h.1
       resolved_quiet path (number t) h = λ budget. read_quiet t h (read_number t)
-      resolved_quiet path (function k a) h = λ budget. let c = called within_budget b f env path a budget in
-          function_value_quiet (function_found (get k b.ids)) (function_quiet k (get k b.ids) refl) c.value.0 c.value.1
+      resolved_quiet path (function k (arguments ps ns)) h = λ budget. let c = called within_budget b f env path (arguments ps ns) budget in
+          let vs = positional within_budget b f env path ps budget in
+          let hv = positional_quiet path ps h.1.0 budget in
+          let hm = map_quiet (named within_budget b f env path ns vs.budget).value (named_quiet path ns h.1.1 vs.budget) in
+          function_value_quiet (function_found (get k b.ids)) c.value.0 c.value.1 (λ g e. function_quiet k (get k b.ids) refl g e c.value.0 c.value.1 hv hm)
       resolved_quiet path (message m a) h = follow_quiet env path (message m a) m (message_target (get m b.ids) a) known (fallback_balanced b.transform (message m a) h) h.0 (message_is_stored b a m)
       resolved_quiet path (term t a c) h = λ budget. let l = local_of within_budget b f env path c budget in
           follow_quiet (local l.value) path (term t a c) t (term_target (get t b.ids) a) (local_quiet path c h.2 budget) (fallback_balanced b.transform (term t a c) h) h.0 (term_is_stored b a t) l.budget
@@ -196,6 +205,10 @@ module _ {C : Type 0} (b : Bundle C) (quiet : BringsNoMarks b) where
       local_quiet : (path : List Pattern) (c : Call) → QuietCall b.transform c → Holds (IsQuietMap b) (local_of within_budget b f env path c)
       local_quiet path no_call h = λ budget name v e. absurd cc
       local_quiet path (call (arguments ps ns)) h = λ budget. let vs = positional within_budget b f env path ps budget in map_quiet (named within_budget b f env path ns vs.budget).value (named_quiet path ns h.1 vs.budget)
+
+      positional_quiet : (path : List Pattern) (xs : Inlines) → QuietPositional b.transform xs → Holds (IsQuietList b) (positional within_budget b f env path xs)
+      positional_quiet path no_inlines h = λ budget. tt
+      positional_quiet path (argument x xs) h = λ budget. (resolved_quiet path x h.0 budget, positional_quiet path xs h.1 (resolved within_budget b f env path x budget).budget)
 
       named_quiet : (path : List Pattern) (ns : Nameds) → QuietNamed b.transform ns → Holds AreQuietValues (named within_budget b f env path ns)
       named_quiet path no_nameds h = λ budget. tt

@@ -57,6 +57,7 @@ pub record Limits : Type 0 where
   pub one : (bundle (set_placeable_limit 1 ∷ [])).limit ≡ 1
   pub most : (bundle (set_placeable_limit 10000 ∷ [])).limit ≡ 10000
   pub more : (bundle (set_placeable_limit 10000 ∷ set_placeable_limit 10001 ∷ [])).limit ≡ 10000
+  pub more_at_first : (bundle (set_placeable_limit 10001 ∷ [])).limit ≡ 100
   pub one_more : Gives (limited 101 long) [] "m" (many 101 "a") []
   pub one_alone : Gives (limited 1 long) [] "n" (codes "x{m}") (too_many ∷ [])
   pub all_laughs : Gives (limited 1110 laughing) [] "d" (many 1000 "lol") []

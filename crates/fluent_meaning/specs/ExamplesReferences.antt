@@ -1,7 +1,7 @@
 -- Worked examples: references, environments, paths, functions, and the calls of a bundle.
-use Rattle.std.specs.Prelude.{◌≡◌, List, [], ◌∷◌, ◌++◌, Bool, true, false, None, codes}
+use Rattle.std.specs.Prelude.{◌≡◌, List, [], ◌∷◌, ◌++◌, map, Bool, true, false, None, codes}
 use Rattle.fluent_tree.specs.Tree as t
-use Rattle.fluent_tree.specs.Tree.{Text, Element, Pattern, nothing, no_attribute, attribute, pattern_of, text, message_entry, term_entry, string}
+use Rattle.fluent_tree.specs.Tree.{Text, Element, Pattern, nothing, no_attribute, attribute, pattern_of, text, message_entry, term_entry, junk_entry, string, term, nested, inline, no_call}
 use Rattle.fluent_tree.specs.Fallback.{fallback, in_braces}
 use Rattle.fluent_meaning.specs.Value.{custom_value, no_value, error_value}
 use Rattle.fluent_meaning.specs.Arguments.{get}
@@ -26,12 +26,24 @@ twins = source (entry "a" twin ∷ private "t" twin ∷ [])
 abbrev pub prefixed : Bundle NoCustom
 prefixed = source (entry "foo" (say "x" ∷ put (msg "foo") ∷ []) ∷ [])
 
+-- b and c refer to each other
+abbrev pub below : Bundle NoCustom
+below = source (entry "a" (put (msg "b") ∷ []) ∷ entry "b" (say "x" ∷ put (msg "c") ∷ []) ∷ entry "c" (say "y" ∷ put (msg "b") ∷ []) ∷ entry "d" (put (msg "a") ∷ []) ∷ [])
+
+-- v has the content of a variant of top
+abbrev pub variants : Bundle NoCustom
+variants = source (entry "top" (choose (str "x") (default "x" (put (msg "w") ∷ []) ∷ []) ∷ []) ∷ entry "other" (choose (str "y") (default "x" (put (msg "w") ∷ []) ∷ []) ∷ []) ∷ entry "w" (say "q" ∷ put (msg "v") ∷ []) ∷ entry "v" (put (msg "w") ∷ []) ∷ [])
+
 -- patterns that refer to themselves, by their content
 pub record Cycles : Type 0 where
   pub itself : Gives itself [] "foo" (codes "{foo}") (cyclic ∷ [])
   pub same_content : Gives twins (with "n" (whole 2)) "a" (codes "{-t}") (cyclic ∷ [])
   pub added_again : Gives (after (add_resource_overriding (private "t" twin ∷ [])) twins) (with "n" (whole 2)) "a" (codes "{-t}") (cyclic ∷ [])
   pub by_hand : Writes prefixed [] (pattern_of (say "x" ∷ put (msg "foo") ∷ [])) (codes "x{foo}") (cyclic ∷ [])
+  pub below_the_first : Gives below [] "a" (codes "xy{b}") (cyclic ∷ [])
+  pub below_the_second : Gives below [] "d" (codes "xy{b}") (cyclic ∷ [])
+  pub variant_not_on_the_path : Gives variants [] "top" (codes "q{w}") (cyclic ∷ [])
+  pub default_not_on_the_path : Gives variants [] "other" (codes "q{w}") (cyclic ∷ [])
   pub other_content : Writes prefixed [] (pattern_of (say "x" ∷ say "" ∷ put (msg "foo") ∷ [])) (codes "xx{foo}") (cyclic ∷ [])
 
 abbrev pub terms : Bundle NoCustom
@@ -55,7 +67,7 @@ pub record Terms : Type 0 where
 
 abbrev pub attributes : Bundle NoCustom
 attributes = source (message_entry (codes "k") None ((codes "x", pattern_of (say "v" ∷ [])) ∷ []) ∷ entry "a" (put (msg "k") ∷ []) ∷ entry "b" (put (msg_attribute "k" "x") ∷ []) ∷ entry "c" (put (msg_attribute "k" "y") ∷ [])
-    ∷ entry "d" (put (fun "F" (var "q" ∷ []) []) ∷ []) ∷ [])
+    ∷ entry "d" (put (fun "F" (var "q" ∷ []) []) ∷ []) ∷ entry "e" (put (own "zz") ∷ []) ∷ entry "f" (put (own "k") ∷ []) ∷ entry "g" (put (msg_attribute "zz" "x") ∷ []) ∷ entry "h" (put (term (codes "zz") (attribute (codes "x")) no_call) ∷ []) ∷ [])
 
 -- what can't be found
 pub record Lost : Type 0 where
@@ -63,8 +75,12 @@ pub record Lost : Type 0 where
   pub attribute : Gives attributes [] "b" (codes "v") []
   pub no_attribute : Gives attributes [] "c" (codes "{k.y}") (error (codes "Unknown attribute: k.y") ∷ [])
   pub function : Gives attributes [] "d" (codes "{F()}") (unknown_variable "q" ∷ error (codes "Unknown function: F()") ∷ [])
+  pub term : Gives attributes [] "e" (codes "{-zz}") (error (codes "Unknown term: -zz") ∷ [])
+  pub message_is_no_term : Gives attributes [] "f" (codes "{-k}") (error (codes "Unknown term: -k") ∷ [])
+  pub attribute_of_no_message : Gives attributes [] "g" (codes "{zz.x}") (error (codes "Unknown attribute: zz.x") ∷ [])
+  pub attribute_of_no_term : Gives attributes [] "h" (codes "{-zz.x}") (error (codes "Unknown attribute: -zz.x") ∷ [])
   pub no_reference : in_braces (fallback (str "x")) ≡ codes "{\"x\"}"
-  pub no_error : reference_of (str "x") ≡ None
+  pub no_error : map reference_of (str "x" ∷ num "1" ∷ nested (inline (msg "m")) ∷ []) ≡ None ∷ None ∷ None ∷ []
 
 abbrev pub with_function : Function NoCustom → Bundle NoCustom
 with_function f = bundle (add_function (codes "F") f ∷ add_resource (entry "p" (say "a" ∷ put (fun "F" [] []) ∷ say "b" ∷ [])
@@ -136,6 +152,13 @@ pub record Adding : Type 0 where
   pub message_later : Gives (bundle (add_resource (entry "a" (put (msg "b") ∷ []) ∷ []) ∷ add_resource (entry "b" (say "1" ∷ []) ∷ []) ∷ [])) [] "a" (codes "1") []
   pub message_overridden : Gives (bundle (add_resource (entry "a" (put (msg "b") ∷ []) ∷ []) ∷ add_resource (entry "b" (say "1" ∷ []) ∷ []) ∷ add_resource_overriding (entry "b" (say "2" ∷ []) ∷ []) ∷ [])) [] "a" (codes "2") []
   pub no_longer : Gives (added_later (add_resource_overriding (private "foo" (say "y" ∷ []) ∷ []))) [] "b" (codes "{foo}") (error (codes "Unknown message: foo") ∷ [])
+  pub function_taken : texts (answered (add_function (codes "foo") first_argument) (after foos empty)) ≡ codes "Attempt to override an existing function: \"foo\"." ∷ []
+  pub function_dropped : ids_of (after (add_function (codes "foo") first_argument) (after foos empty)) ≡ true ∷ false ∷ false ∷ []
+  pub function_added : ids_of (after (add_function (codes "foo") first_argument) empty) ≡ false ∷ false ∷ true ∷ []
+  pub function_answers_nothing : answered (add_function (codes "foo") first_argument) empty ≡ []
+  pub overriding_answers_nothing : answered (add_resource_overriding three) (after foos empty) ≡ []
+  pub junk_passed_over : ids_of (bundle (add_resource (junk_entry (codes "foo") ∷ entry "foo" (say "a" ∷ []) ∷ []) ∷ [])) ≡ true ∷ false ∷ false ∷ []
+  pub junk_answers_nothing : answered (add_resource (junk_entry (codes "foo") ∷ [])) (after foos empty) ≡ []
   pub nothing_named : is_message (get (codes "F") (source []).ids) ≡ false
   pub no_function : is_function (get (codes "F") (source []).ids) ≡ false
 

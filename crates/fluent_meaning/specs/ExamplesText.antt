@@ -1,17 +1,19 @@
 -- Worked examples: texts, variables, literals, numbers, selects, formatters and transforms.
-use Rattle.std.specs.Prelude.{◌≡◌, ℕ, zero, suc, ℤ, pos, negsuc, ◌*◌, ◌^◌, ◌-◌, [], ◌∷◌, ◌++◌, Bool, true, false, Some, None, codes}
-use Rattle.fluent_tree.specs.Tree.{Text, Pattern, pattern_of}
+use Rattle.std.specs.Prelude.{◌≡◌, ℕ, zero, suc, ℤ, pos, negsuc, ◌*◌, ◌^◌, ◌-◌, ◌==◌, List, [], ◌∷◌, ◌++◌, map, Bool, true, false, Option, Some, None, codes}
+use Rattle.fluent_tree.specs.Tree.{Text, Pattern, nested, inline, pattern_of}
 use Rattle.fluent_text.specs.Escapes.{unescaped}
 use Rattle.fluent_intl.specs.Number.{number_with}
 use Rattle.fluent_intl.specs.Plurals.{english}
+use Rattle.fluent_intl.specs.declared.plurals.PluralCategory.{PluralCategory}
+use Rattle.fluent_intl.specs.declared.plurals.PluralCategory.TheVariants.{ZERO, ONE, TWO, FEW, MANY, OTHER}
 use Rattle.fluent_meaning.specs.Number.{read_number}
-use Rattle.fluent_meaning.specs.Value.{Value, text_value, number_value, no_value, Custom, matches, same, try_number, value_text}
+use Rattle.fluent_meaning.specs.Value.{Value, text_value, number_value, custom_value, no_value, error_value, Custom, matches, same, try_number, value_text}
 use Rattle.fluent_meaning.specs.Arguments.{number_function, set_all}
-use Rattle.fluent_meaning.specs.Bundle.{Bundle, add_resource, set_use_isolating, set_transform, set_formatter}
-use Rattle.fluent_meaning.specs.Examples.{NoCustom, say, put, var, str, num, fun, named, case, case_number, default, choose, entry, bundle, source, whole, with, words, times, bracketed, upper, F, P, many, unknown_variable, too_many, Writes, Gives, Formats}
+use Rattle.fluent_meaning.specs.Bundle.{Bundle, add_resource, add_function, set_use_isolating, set_transform, set_formatter}
+use Rattle.fluent_meaning.specs.Examples.{NoCustom, only, say, put, var, str, num, msg, fun, named, case, case_number, default, choose, entry, bundle, source, whole, with, words, times, answers, bracketed, upper, F, P, many, unknown_variable, too_many, Writes, Gives, Formats}
 
 abbrev pub greeting : Bundle NoCustom
-greeting = source (entry "hello" (say "Hello, world!" ∷ []) ∷ entry "intro" (say "Welcome, " ∷ put (var "name") ∷ say "." ∷ []) ∷ entry "one" (put (var "name") ∷ []) ∷ entry "alone" (times 101 (put (var "x"))) ∷ [])
+greeting = source (entry "hello" (say "Hello, world!" ∷ []) ∷ entry "intro" (say "Welcome, " ∷ put (var "name") ∷ say "." ∷ []) ∷ entry "one" (put (var "name") ∷ []) ∷ entry "two" (put (var "p") ∷ put (var "q") ∷ []) ∷ entry "alone" (times 101 (put (var "x"))) ∷ [])
 
 abbrev pub many_marked : ℕ → Text
 many_marked zero = []
@@ -22,6 +24,7 @@ pub record Variables : Type 0 where
   pub text_alone : Gives greeting [] "hello" (codes "Hello, world!") []
   pub there : Gives greeting (with "name" (words "John")) "intro" (codes "Welcome, " ++ (F ++ (codes "John" ++ (P ++ codes ".")))) []
   pub missing : Gives greeting [] "intro" (codes "Welcome, " ++ (F ++ (codes "{$name}" ++ (P ++ codes ".")))) (unknown_variable "name" ∷ [])
+  pub missing_in_order : Gives greeting [] "two" (F ++ (codes "{$p}" ++ (P ++ (F ++ (codes "{$q}" ++ P))))) (unknown_variable "p" ∷ unknown_variable "q" ∷ [])
   pub one_element : Gives greeting (with "name" (words "z")) "one" (codes "z") []
   pub too_many_of_them : Gives greeting (with "x" (words "a")) "alone" (many_marked 100) (too_many ∷ [])
   pub number_in_text : Gives greeting (with "name" (try_number (codes "007"))) "intro" (codes "Welcome, " ++ (F ++ (codes "7" ++ (P ++ codes ".")))) []
@@ -34,6 +37,25 @@ letters = bundle (set_use_isolating false ∷ add_resource (entry "msg-key" (say
 abbrev pub uppercase : Bundle NoCustom
 uppercase = bundle (set_transform (Some upper) ∷ add_resource (entry "intro" (say "Welcome, " ∷ put (var "name") ∷ say "." ∷ []) ∷ entry "a" (say "x" ∷ put (str "x") ∷ []) ∷ []) ∷ [])
 
+abbrev pub of_each_kind : Value NoCustom → Option Text
+of_each_kind (text_value t) = Some (codes "T")
+of_each_kind (number_value n) = Some (codes "N")
+of_each_kind (custom_value x) = Some (codes "C")
+of_each_kind no_value = Some (codes "none")
+of_each_kind error_value = Some (codes "error")
+
+abbrev pub kinds : Bundle NoCustom
+kinds = bundle (set_formatter (Some of_each_kind) ∷ add_function (codes "F") (answers error_value) ∷ add_function (codes "G") (answers (words "x")) ∷ add_resource (entry "text" (say "x" ∷ []) ∷ entry "string" (put (str "x") ∷ []) ∷ entry "number" (put (num "5") ∷ []) ∷ entry "word" (put (num "abc") ∷ [])
+    ∷ entry "nested" (put (nested (inline (str "x"))) ∷ [])
+    ∷ entry "variable" (put (var "v") ∷ []) ∷ entry "function" (put (fun "F" [] []) ∷ []) ∷ entry "answer" (put (fun "G" [] []) ∷ []) ∷ []) ∷ [])
+
+-- a formatter and a transform that are taken back
+abbrev pub taken_back : Bundle NoCustom
+taken_back = bundle (set_formatter (Some of_each_kind) ∷ set_transform (Some upper) ∷ set_formatter None ∷ set_transform None ∷ add_resource (entry "p" (say "x" ∷ []) ∷ entry "v" (put (var "v") ∷ []) ∷ []) ∷ [])
+
+abbrev pub isolated_again : Bundle NoCustom
+isolated_again = bundle (set_use_isolating false ∷ set_use_isolating true ∷ add_resource (entry "p" (say "x" ∷ put (num "1") ∷ put (msg "q") ∷ []) ∷ entry "q" (say "y" ∷ []) ∷ []) ∷ [])
+
 abbrev pub in_brackets : Bundle NoCustom
 in_brackets = bundle (set_formatter (Some bracketed) ∷ add_resource (entry "hello" (say "Hello, world!" ∷ []) ∷ entry "intro" (say "Welcome, " ∷ put (var "name") ∷ say "." ∷ []) ∷ entry "p" (put (num "5") ∷ []) ∷ entry "empty" [] ∷ []) ∷ [])
 
@@ -44,12 +66,28 @@ pub record Settings : Type 0 where
   pub past_literals : Gives uppercase [] "a" (codes "Xx") []
   pub whole_text : Formats in_brackets [] "hello" (codes "[Hello, world!]")
   pub value_and_whole_text : Formats in_brackets (with "name" (words "John")) "intro" (codes "[Welcome, " ++ (F ++ (codes "[John]" ++ (P ++ codes ".]"))))
+  pub without_formatter : Formats greeting [] "hello" (codes "Hello, world!")
   pub only_written : Gives in_brackets [] "hello" (codes "Hello, world!") []
   pub value_written : Gives in_brackets (with "name" (words "John")) "intro" (codes "Welcome, " ++ (F ++ (codes "[John]" ++ (P ++ codes ".")))) []
   pub number_written : Gives in_brackets [] "p" (codes "5") []
   pub number_formatted : Formats in_brackets [] "p" (codes "[5]")
   pub nothing_written : Gives in_brackets [] "empty" [] []
   pub nothing_formatted : Formats in_brackets [] "empty" (codes "[]")
+  pub text_not_asked : Gives kinds [] "text" (codes "x") []
+  pub literal_not_asked : Gives kinds [] "string" (codes "x") []
+  pub number_asked : Gives kinds [] "number" (codes "N") []
+  pub word_asked : Gives kinds [] "word" (codes "T") []
+  pub custom_asked : Gives kinds (with "v" (custom_value only)) "variable" (codes "C") []
+  pub none_asked : Gives kinds (with "v" no_value) "variable" (codes "none") []
+  pub error_asked : Gives kinds (with "v" error_value) "variable" (codes "error") []
+  pub nested_not_asked : Gives kinds [] "nested" (codes "x") []
+  pub answer_asked : Gives kinds [] "answer" (codes "T") []
+  pub answer_of_error_not_asked : Gives kinds [] "function" (codes "F()") []
+  pub no_transform_again : Gives taken_back [] "p" (codes "x") []
+  pub no_formatter_again : Gives taken_back (with "v" (words "x")) "v" (codes "x") []
+  pub error_shown : Gives taken_back (with "v" error_value) "v" [] []
+  pub none_shown : Gives taken_back (with "v" no_value) "v" [] []
+  pub number_and_message : Gives isolated_again [] "p" (codes "x" ++ (F ++ (codes "1" ++ (P ++ codes "y")))) []
 
 -- A, U+1F602, a backslash, a quote, U+FFFD
 pub record Escapes : Type 0 where
@@ -57,6 +95,8 @@ pub record Escapes : Type 0 where
   pub unknown_letter : unescaped (codes "\\q") ≡ 0xef ∷ 0xbf ∷ 0xbd ∷ 113 ∷ []
   pub too_short : unescaped (codes "\\u00") ≡ 0xef ∷ 0xbf ∷ 0xbd ∷ 117 ∷ 48 ∷ 48 ∷ []
   pub at_the_end : unescaped (codes "\\") ≡ 0xef ∷ 0xbf ∷ 0xbd ∷ []
+  pub literal : Gives (source (entry "p" (put (str "\\u0041") ∷ []) ∷ [])) [] "p" (codes "A") []
+  pub not_a_text : Gives (source (entry "p" (say "\\u0041" ∷ []) ∷ [])) [] "p" (codes "\\u0041") []
 
 abbrev pub half : ℤ
 half = pos (5 * 10 ^ 17)
@@ -84,6 +124,17 @@ goes v w = matches english v w
 abbrev pub equals : Value NoCustom → Value NoCustom → Bool
 equals v w = same own_text v w
 
+-- custom values that are numbers of bytes, with a byte as text
+abbrev pub bytes : Custom ℕ
+bytes = record { text = λ n. n ∷ []; same = λ m n. m == n }
+
+abbrev pub always : PluralCategory → Text → Bool
+always c word = matches {C = NoCustom} (λ kind o. c) (text_value word) (whole 7)
+
+-- whether the word of each category matches a number of this one
+abbrev pub of_category : PluralCategory → List Bool
+of_category c = map (always c) (map (λ s. codes s) ("zero" ∷ "one" ∷ "two" ∷ "few" ∷ "many" ∷ "other" ∷ []))
+
 -- values that match, and that are the same
 pub record Values : Type 0 where
   pub number : try_number {C = NoCustom} (codes "3.141569") ≡ number_value (number_with (pos (3141569 * 10 ^ 12)) (Some 6))
@@ -93,7 +144,24 @@ pub record Values : Type 0 where
   pub two_and_two : goes (whole 2) (whole 2) ≡ true
   pub two_and_three : goes (whole 2) (whole 3) ≡ false
   pub word_and_hundred : goes (words "two") (whole 100) ≡ false
+  pub number_and_word : goes (whole 1) (words "one") ≡ false
+  pub custom_matches_nothing : goes (custom_value only) (custom_value only) ≡ false
+  pub none_matches_nothing : goes no_value no_value ≡ false
+  pub error_matches_nothing : goes error_value error_value ≡ false
+  pub categories : map of_category (ZERO ∷ ONE ∷ TWO ∷ FEW ∷ MANY ∷ OTHER ∷ []) ≡ (true ∷ false ∷ false ∷ false ∷ false ∷ false ∷ []) ∷ (false ∷ true ∷ false ∷ false ∷ false ∷ false ∷ []) ∷ (false ∷ false ∷ true ∷ false ∷ false ∷ false ∷ []) ∷ (false ∷ false ∷ false ∷ true ∷ false ∷ false ∷ []) ∷ (false ∷ false ∷ false ∷ false ∷ true ∷ false ∷ []) ∷ (false ∷ false ∷ false ∷ false ∷ false ∷ true ∷ []) ∷ []
   pub none : equals no_value no_value ≡ false
+  pub error : equals error_value error_value ≡ false
+  pub equal_texts : equals (words "ab") (words "ab") ≡ true
+  pub longer_text : equals (words "ab") (words "abc") ≡ false
+  pub equal_numbers : equals (whole 2) (whole 2) ≡ true
+  pub other_number : equals (whole 2) (whole 3) ≡ false
+  pub text_and_number : equals (words "1") (whole 1) ≡ false
+  pub word_and_number : equals (words "one") (whole 1) ≡ false
+  pub equal_custom : same bytes (custom_value 65) (custom_value 65) ≡ true
+  pub other_custom : same bytes (custom_value 65) (custom_value 66) ≡ false
+  pub custom_text : value_text bytes (custom_value 65) ≡ codes "A"
+  pub text_of_none : value_text bytes no_value ≡ []
+  pub text_of_error : value_text bytes error_value ≡ []
   pub other_options : equals (whole 1) (number_value (number_with (pos (10 ^ 18)) (Some 0))) ≡ false
   pub below_zero_is_zero : value_text own_text (number_function (whole 5 ∷ []) (set_all (with "minimumFractionDigits" (number_value (number_with (negsuc (3 * 10 ^ 18 - 1)) None))) [])) ≡ codes "5."
 

@@ -14,4 +14,6 @@ pub mod Marks
 pub mod Examples
 pub mod ExamplesText
 pub mod ExamplesReferences
+pub mod ExamplesArguments
 pub mod ExamplesLimit
+pub mod ExamplesWork

@@ -1,5 +1,6 @@
 -- Which texts bring no marks of isolation, and that as many opening as closing marks are written where nothing else brings any.
 use Rattle.std.specs.Prelude.{◌≡◌, ℕ, ◌+◌, ◌==◌, ◌&&◌, not, List, [], ◌∷◌, Bool, true, false, Some, if◌then◌else◌}
+use Rattle.std.specs.Str.{IsUtf8}
 use Rattle.fluent_tree.specs.Tree.{Text, Attribute, no_attribute, attribute, Pattern, nothing, more, Element, text, placeable, Expression, inline, select, Variants, no_variants, variant, Inline, string, number, function, message, term, variable, nested, Call, no_call, call, Arguments, arguments, Inlines, no_inlines, argument, Nameds, no_nameds, named_argument}
 use Rattle.fluent_text.specs.Escapes.{unescaped}
 use Rattle.fluent_meaning.specs.Value.{Value, value_text}
@@ -26,6 +27,10 @@ cut_off _ = false
 abbrev pub is_whole : Text → Bool
 is_whole [] = true
 is_whole (b ∷ t) = not (cut_off (b ∷ t)) && is_whole t
+
+-- Every text of characters is whole.
+abbrev pub TextsAreWhole : Type 0
+TextsAreWhole = (t : Text) → IsUtf8 t → is_whole t ≡ true
 
 -- as many U+2068 as U+2069, as in a text that holds neither
 pub record IsBalanced (t : Text) : Type 0 where
@@ -85,12 +90,16 @@ AreQuiet change (p ∷ ps) = IsQuiet change p × AreQuiet change ps
 abbrev pub IsQuietMap : {C : Type 0} → Bundle C → Map (Value C) → Type 0
 IsQuietMap {C} b m = (name : Text) (v : Value C) → get name m ≡ Some v → IsBalanced (value_text b.custom v)
 
--- no stored pattern, function, custom value or formatter brings marks out of balance
+-- values whose texts are in balance
+abbrev pub IsQuietList : {C : Type 0} → Bundle C → List (Value C) → Type 0
+IsQuietList b [] = Unit {0}
+IsQuietList b (v ∷ vs) = IsBalanced (value_text b.custom v) × IsQuietList b vs
+
+-- No stored pattern brings marks out of balance, and functions and formatter answer in balance where what they are given is.
 pub record BringsNoMarks {C : Type 0} (b : Bundle C) : Type 0 where
   pub patterns : AreQuiet b.transform (stored b)
-  pub functions : (id : Text) (f : Function C) → get id b.ids ≡ Some (a_function f) → (vs : List (Value C)) (m : Map (Value C)) → IsBalanced (value_text b.custom (f vs m))
-  pub custom : (x : C) → IsBalanced (b.custom.text x)
-  pub formatter : (v : Value C) (t : Text) → b.formatter v ≡ Some t → IsBalanced t
+  pub functions : (id : Text) (f : Function C) → get id b.ids ≡ Some (a_function f) → (vs : List (Value C)) (m : Map (Value C)) → IsQuietList b vs → IsQuietMap b m → IsBalanced (value_text b.custom (f vs m))
+  pub formatter : (v : Value C) (t : Text) → IsBalanced (value_text b.custom v) → b.formatter v ≡ Some t → IsBalanced t
 
 abbrev pub MarksAreBalanced : Type 0 → Type 0
 MarksAreBalanced C = (b : Bundle C) (args : Map (Value C)) (p : Pattern) → BringsNoMarks b → IsQuietMap b args → IsQuiet b.transform p →

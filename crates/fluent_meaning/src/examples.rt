@@ -2,7 +2,9 @@
 
 ghost use Rattle.fluent_meaning.specs.ExamplesText as texts;
 ghost use Rattle.fluent_meaning.specs.ExamplesReferences as references;
+ghost use Rattle.fluent_meaning.specs.ExamplesArguments as arguments;
 ghost use Rattle.fluent_meaning.specs.ExamplesLimit as limits;
+ghost use Rattle.fluent_meaning.specs.ExamplesWork as work;
 
 /// Texts, variables, escapes, numbers and values.
 pub fn texts_and_values()
@@ -24,8 +26,24 @@ pub fn references()
     ensures errors { references.ErrorTexts }
 {}
 
+/// Expressions as selectors and as arguments, and the options that arguments give to a number.
+pub fn selectors_and_arguments()
+    ensures selectors { arguments.Selectors }
+    ensures handed { arguments.Handed }
+    ensures options { arguments.Options }
+{}
+
 /// The limit on placeables.
 pub fn limits()
     ensures hundred { limits.Hundred }
     ensures others { limits.Limits }
+{}
+
+/// What is meant without a limit, what stands at the strike, the work of a run and the sizes that bound it, and the calls of a scope.
+pub fn work_and_scopes()
+    ensures substituted { work.Substituted }
+    ensures strikes { work.Strikes }
+    ensures counts { work.Counts }
+    ensures sizes { work.Sizes }
+    ensures scopes { work.Scopes }
 {}

@@ -1,6 +1,12 @@
 //! Laws of the meanings.
+//!
+//! A crate above has a law by a call of its function, which does nothing. `C` is what custom values
+//! stand by: for lists of bytes it is `LinkedList<u8>`, which means such a list itself.
 
-ghost use Rattle.fluent_meaning.specs.Marks.{MarksAreBalanced};
+ghost use Rattle.std.specs.Prelude.{◌≡◌, true};
+ghost use Rattle.fluent_meaning.specs.Value.{Value};
+ghost use Rattle.fluent_meaning.specs.Bundle.{Entry};
+ghost use Rattle.fluent_meaning.specs.Marks.{MarksAreBalanced, TextsAreWhole, is_whole};
 ghost use Rattle.fluent_meaning.specs.Users.{IsMap, MeansOneThing, AddingKeeps, LastWins, CutsAlike, NothingIsSame, TermsAreClosed, StrikesOnce, AlikeGiveTheSame, ReadsAsDefined};
 ghost use Rattle.fluent_meaning.specs.Laws.{RunsByItself, CountsByItself, NeverAdds, IsSettled, StrikesBeyond, SameWithin, StrikeBeginsBoth, WorkIsBounded};
 
@@ -45,12 +51,25 @@ pub fn marks_are_balanced<C>()
     ensures { MarksAreBalanced C }
 {}
 
+/// No text of characters ends in the front of a mark.
+pub fn texts_are_whole()
+    ensures { TextsAreWhole }
+{}
+
+/// So it is with this one.
+pub fn is_a_whole_text(text: &str)
+    ensures { is_whole text.now ≡ true }
+{}
+
 /// Numbers are read as the decimals' definition says.
 pub fn numbers_read_as_defined()
     ensures { ReadsAsDefined }
 {}
 
-/// Maps by texts: what is set last stands, each key once and in order, and look-ups tell a map.
-pub fn maps_are_told_by_look_ups<A>()
-    ensures { IsMap A }
+/// Maps by texts, as arguments and ids stand in: what is set last stands, each key once and in
+/// order, and look-ups tell a map.
+pub fn maps_are_told_by_look_ups<C>()
+    ensures any { IsMap C }
+    ensures arguments { IsMap (Value C) }
+    ensures ids { IsMap (Entry C) }
 {}

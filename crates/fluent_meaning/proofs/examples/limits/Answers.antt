@@ -16,4 +16,4 @@ returns-clause-hundred c = record { struck_at_the_end = refl; not_struck = refl;
 
 pub returns-clause-others : goal.returns-clause-others
 unfolding elements ran digits pattern_same text_same decimal_text significant_places operands_of e.hex_digit e.hex_number e.numbered e.escape e.part many_from byte run1 encode
-returns-clause-others c = record { at_first = refl; none = refl; one = refl; most = refl; more = refl; one_more = refl; one_alone = refl; all_laughs = refl; last_laugh = refl }
+returns-clause-others c = record { at_first = refl; none = refl; one = refl; most = refl; more = refl; more_at_first = refl; one_more = refl; one_alone = refl; all_laughs = refl; last_laugh = refl }

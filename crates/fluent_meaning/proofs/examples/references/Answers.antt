@@ -12,7 +12,7 @@ use Rattle.fluent_meaning.proofs.examples.references.Goals as goal
 
 pub returns-clause-cycles : goal.returns-clause-cycles
 unfolding elements ran digits pattern_same text_same decimal_text significant_places operands_of e.hex_digit e.hex_number e.numbered e.escape e.part many_from byte run1 encode
-returns-clause-cycles c = record { itself = refl; same_content = refl; added_again = refl; by_hand = refl; other_content = refl }
+returns-clause-cycles c = record { itself = refl; same_content = refl; added_again = refl; by_hand = refl; below_the_first = refl; below_the_second = refl; variant_not_on_the_path = refl; default_not_on_the_path = refl; other_content = refl }
 
 pub returns-clause-terms : goal.returns-clause-terms
 unfolding elements ran digits pattern_same text_same decimal_text significant_places operands_of e.hex_digit e.hex_number e.numbered e.escape e.part many_from byte run1 encode
@@ -20,7 +20,7 @@ returns-clause-terms c = record { outer_stands_again = refl; missing = refl; bel
 
 pub returns-clause-lost : goal.returns-clause-lost
 unfolding elements ran digits pattern_same text_same decimal_text significant_places operands_of e.hex_digit e.hex_number e.numbered e.escape e.part many_from byte run1 encode
-returns-clause-lost c = record { without_value = refl; attribute = refl; no_attribute = refl; function = refl; no_reference = refl; no_error = refl }
+returns-clause-lost c = record { without_value = refl; attribute = refl; no_attribute = refl; function = refl; term = refl; message_is_no_term = refl; attribute_of_no_message = refl; attribute_of_no_term = refl; no_reference = refl; no_error = refl }
 
 pub returns-clause-functions : goal.returns-clause-functions
 unfolding elements ran digits pattern_same text_same decimal_text significant_places operands_of e.hex_digit e.hex_number e.numbered e.escape e.part many_from byte run1 encode
@@ -28,7 +28,7 @@ returns-clause-functions c = record { none = refl; error = refl; length = refl; 
 
 pub returns-clause-adding : goal.returns-clause-adding
 unfolding elements ran digits pattern_same text_same decimal_text significant_places operands_of e.hex_digit e.hex_number e.numbered e.escape e.part many_from byte run1 encode
-returns-clause-adding c = record { taken = refl; first_stands = refl; term_wins = refl; builtins_twice = refl; builtins_stay = refl; message_taken = refl; message_stands = refl; greeting = refl; in_order = refl; first_of_three = refl; no_message = refl; a_term = refl; no_value = refl; first_attribute = refl; over_a_function = refl; its_message = refl; function_later = refl; message_not_yet = refl; message_later = refl; message_overridden = refl; no_longer = refl; nothing_named = refl; no_function = refl }
+returns-clause-adding c = record { taken = refl; first_stands = refl; term_wins = refl; builtins_twice = refl; builtins_stay = refl; message_taken = refl; message_stands = refl; greeting = refl; in_order = refl; first_of_three = refl; no_message = refl; a_term = refl; no_value = refl; first_attribute = refl; over_a_function = refl; its_message = refl; function_later = refl; message_not_yet = refl; message_later = refl; message_overridden = refl; no_longer = refl; function_taken = refl; function_dropped = refl; function_added = refl; function_answers_nothing = refl; overriding_answers_nothing = refl; junk_passed_over = refl; junk_answers_nothing = refl; nothing_named = refl; no_function = refl }
 
 pub returns-clause-errors : goal.returns-clause-errors
 unfolding elements ran digits pattern_same text_same decimal_text significant_places operands_of e.hex_digit e.hex_number e.numbered e.escape e.part many_from byte run1 encode
