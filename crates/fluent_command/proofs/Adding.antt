@@ -3,11 +3,13 @@ use Rattle.std.proofs.Common.{◌≡◌, ◌∙◌, sym, ap, subst, refl, false,
 use Rattle.std.specs.Result.{OnOk}
 use Rattle.std.proofs.Math.Seq.{take-suc}
 use Rattle.std.proofs.lemmas.List.{take-append-drop, map-append}
+use Rattle.fluent_text.specs.declared.counting.WriteFault.{WriteFault}
+use Rattle.fluent_text.specs.declared.counting.WriteFault.TheVariants.{Memory, Writer, Zero}
 use Rattle.fluent_meaning.specs.Errors.{Error}
 use Rattle.fluent_values.specs.View.{error_view}
 use Rattle.fluent_values.specs.declared.errors.FluentError.{FluentError}
 use Rattle.fluent_command.specs.EndingView.{reported}
-use Rattle.fluent_command.specs.Far.{Added}
+use Rattle.fluent_command.specs.Far.{Added, AddedFirst}
 
 pub always : {T E P : Type 0} (r : Result T E) → P → OnOk r P
 always (Ok x) p = p
@@ -94,3 +96,37 @@ added_short r (Err e) xs ys old new faulted h = record {
 pub added_kept : {T E T' E' : Type 0} (r : Result T E) (r' : Result T' E') (x : T) (errors : List Error) (old new : List FluentError) → r ≡ Ok x
     → Added r errors old new → Added r' errors old new
 added_kept r r' x errors old new was h = record { front = h.front; rest = h.rest; begins = h.begins; list = h.list; all = always r' (subst (λ w. OnOk w (h.rest ≡ [])) was h.all) }
+
+-- ---- what was added before a writer faulted
+
+-- whatever is answered
+first_in_any_case : {T : Type 0} (r : Result T WriteFault) (xs others : List Error) (old new : List FluentError) → reported new ≡ reported old ++ (xs ++ others) → AddedFirst r xs old new
+first_in_any_case (Ok x) xs others old new e = tt
+first_in_any_case (Err Memory) xs others old new e = tt
+first_in_any_case (Err (Writer f)) xs others old new e = (others, e)
+first_in_any_case (Err Zero) xs others old new e = (others, e)
+
+-- a call that was Ok added all of its own
+whole_added : {T E : Type 0} (r : Result T E) (x : T) (xs : List Error) (old new : List FluentError) → r ≡ Ok x → Added r xs old new → reported new ≡ reported old ++ xs
+whole_added r x xs old new was h =
+    let all : h.rest ≡ [] = subst (λ w. OnOk w (h.rest ≡ [])) was h.all in
+    h.list ∙ ap (λ w. reported old ++ w) (sym (h.begins ∙ ap (λ w. h.front ++ w) all ∙ append-nil h.front))
+
+-- those of a call that was Ok
+pub first_of_ok : {T E T' : Type 0} (r : Result T E) (r' : Result T' WriteFault) (x : T) (xs ys : List Error) (old mid new : List FluentError) → r ≡ Ok x
+    → Added r xs old mid → Added r' ys mid new → AddedFirst r' xs old new
+first_of_ok r r' x xs ys old mid new was first second =
+    first_in_any_case r' xs second.front old new
+    (second.list ∙ ap (λ w. w ++ second.front) (whole_added r x xs old mid was first) ∙ append_assoc (reported old) xs second.front)
+
+behind : (xs ys zs : List Error) (old mid new : List FluentError) → reported mid ≡ reported old ++ xs → reported new ≡ reported mid ++ (ys ++ zs) → reported new ≡ reported old ++ ((xs ++ ys) ++ zs)
+behind xs ys zs old mid new first second =
+    second ∙ ap (λ w. w ++ (ys ++ zs)) first ∙ append_assoc (reported old) xs (ys ++ zs) ∙ ap (λ w. reported old ++ w) (sym (append_assoc xs ys zs))
+
+-- those, and the first ones of the next call
+pub first_of_both : {T E T' : Type 0} (r : Result T E) (r' : Result T' WriteFault) (x : T) (xs ys : List Error) (old mid new : List FluentError) → r ≡ Ok x
+    → Added r xs old mid → AddedFirst r' ys mid new → AddedFirst r' (xs ++ ys) old new
+first_of_both r (Ok y) x xs ys old mid new was first second = tt
+first_of_both r (Err Memory) x xs ys old mid new was first second = tt
+first_of_both r (Err (Writer f)) x xs ys old mid new was first second = (second.0, behind xs ys second.0 old mid new (whole_added r x xs old mid was first) second.1)
+first_of_both r (Err Zero) x xs ys old mid new was first second = (second.0, behind xs ys second.0 old mid new (whole_added r x xs old mid was first) second.1)

@@ -1,18 +1,15 @@
--- What standard error took of a report that it did not take whole.
-use Rattle.std.proofs.Common.{◌≡◌, ◌∙◌, sym, ap, refl, List, [], ◌++◌, append_assoc, append-nil, inl, inr, Option, Result, Err}
+-- What standard error took of a report.
+use Rattle.std.proofs.Common.{◌≡◌, ◌∙◌, ap, subst, refl, ℕ, List, inl, inr, Option, Result, Ok, Err}
 use Rattle.std.specs.Io.KnownBytes.{Appends}
 use Rattle.fluent_tree.specs.Tree.{Text}
-use Rattle.fluent_text.specs.Taken.{TookFront}
+use Rattle.fluent_text.specs.Taken.{Faulted, TookFront}
 use Rattle.fluent_text.specs.declared.counting.WriteFault.{WriteFault}
 use Rattle.fluent_text.specs.declared.counting.WriteFault.TheVariants.{Memory, Writer, Zero}
 use Rattle.fluent_meaning.specs.Errors.{Error}
-use Rattle.fluent_values.specs.declared.errors.FluentError.{FluentError}
-use Rattle.fluent_command.specs.Ending.{Ending, out_of_memory, status, ending_line, error_lines}
-use Rattle.fluent_command.specs.EndingView.{reported}
-use Rattle.fluent_command.specs.Said.{Begins, BeganToSay, TookErrors}
-use Rattle.fluent_command.specs.Program.{Run}
-use Rattle.fluent_command.specs.Far.{Came}
-use Rattle.fluent_command.specs.Outcome.{BeganOf}
+use Rattle.fluent_command.specs.Ending.{Ending, status, out_of_memory, ending_line, error_lines}
+use Rattle.fluent_command.specs.Outcome.{Reports, whole, short, whole_begun, short_begun}
+use Rattle.fluent_command.specs.Outlet.{Outlet, Rose}
+use Rattle.fluent_command.specs.Said.{Precedes, Says, BeganToSay, TookErrors}
 use Rattle.fluent_command.proofs.Taking.{front_short, front_then}
 
 -- a writer that faulted took a beginning of the lines
@@ -26,30 +23,41 @@ took_fault r Zero errors old new is not h = rw is h
 pub began_errors : (fault : WriteFault) (errors : List Error) (ending : Ending) (old new : Option Text) → ¬ (fault ≡ Memory)
     → TookErrors (Err fault) errors old new → BeganToSay errors ending old new
 began_errors Memory errors ending old new not h = absurd (not refl)
-began_errors (Writer e) errors ending old new not h = (errors, ending, ([], sym (append-nil errors)), inl refl, front_short old new (error_lines errors) (ending_line ending) h)
-began_errors Zero errors ending old new not h = (errors, ending, ([], sym (append-nil errors)), inl refl, front_short old new (error_lines errors) (ending_line ending) h)
+began_errors (Writer e) errors ending old new not h = inl (front_short old new (error_lines errors) (ending_line ending) h)
+began_errors Zero errors ending old new not h = inl (front_short old new (error_lines errors) (ending_line ending) h)
 
 -- in the ending's line, behind those of all errors
 pub began_all : (errors : List Error) (ending : Ending) (old mid new : Option Text) → Appends old mid (error_lines errors) → TookFront mid new (ending_line ending) → BeganToSay errors ending old new
-began_all errors ending old mid new whole h = (errors, ending, ([], sym (append-nil errors)), inl refl, front_then old mid new (error_lines errors) (ending_line ending) whole h)
+began_all errors ending old mid new lines h = inl (front_then old mid new (error_lines errors) (ending_line ending) lines h)
 
 -- in the line that says that memory was refused, behind those of the first errors
-pub began_some : (errors : List Error) (ending : Ending) (old mid new : Option Text) → (front : List Error) × Begins front errors × Appends old mid (error_lines front)
+pub began_some : (errors : List Error) (ending : Ending) (old mid new : Option Text) → (front : List Error) × Precedes front errors × Appends old mid (error_lines front)
     → TookFront mid new (ending_line out_of_memory) → BeganToSay errors ending old new
-began_some errors ending old mid new lines h = (lines.0, out_of_memory, lines.1, inr refl, front_then old mid new (error_lines lines.0) (ending_line out_of_memory) lines.2 h)
+began_some errors ending old mid new lines h = inr (lines.0, lines.1, front_then old mid new (error_lines lines.0) (ending_line out_of_memory) lines.2 h)
 
--- the report of a run
-pub began : (run : Run) (ending : Ending) (held held' : Option Text) (old errors slice : List FluentError) (err err' : Option Text) → old ≡ [] → slice ≡ errors
-    → Came ending run held held' old errors → BeganToSay (reported slice) ending err err' → BeganOf run err err'
-began run ending held held' old errors slice err err' none same came b =
-    let list : reported slice ≡ came.front = ap reported same ∙ came.list ∙ ap (λ es. reported es ++ came.front) none in (
-      b.0,
-      b.2.0 ++ came.rest,
-      b.1,
-      came.errors ∙ ap (λ w. w ++ came.rest) (sym list ∙ b.2.1) ∙ append_assoc b.0 b.2.0 came.rest,
-      elim b.3 [
-        | inl e ↦ elim came.whole [ inl s ↦ inr (ap status e ∙ s) | inr w ↦ inl (e ∙ w.2) ]
-        | inr e ↦ inr (ap status e)
-      ],
-      b.4,
-    )
+-- ---- the report of a run
+
+-- it was said
+pub reports_said : {T : Type 0} (r : Result T WriteFault) (errors : List Error) (ending final : Ending) (x : T) (err err' : Outlet) (result : ℕ) → r ≡ Ok x → result ≡ status final
+    → Says errors ending final err.held err'.held → Faulted err.failed err.empty err'.failed err'.empty r → Reports errors ending err err' result
+reports_said r errors ending final x err err' result was is says fault =
+    let stood = subst (λ w. Faulted err.failed err.empty err'.failed err'.empty w) was fault in
+    elim says [
+      | inl h ↦ whole (is ∙ ap status h.0) (record { taken = h.1; failed = stood.0; empty = stood.1 })
+      | inr h ↦ short (is ∙ ap status h.2) h.0 h.1 (record { taken = h.3; failed = stood.0; empty = stood.1 })
+    ]
+
+begun_by : (errors : List Error) (ending : Ending) (err err' : Outlet) → Rose err.failed err.empty err'.failed err'.empty → BeganToSay errors ending err.held err'.held → Reports errors ending err err' 3
+begun_by errors ending err err' rose began = elim began [
+  | inl h ↦ whole_begun refl (record { taken = h; rose = rose })
+  | inr h ↦ short_begun refl h.0 h.1 (record { taken = h.2; rose = rose })
+]
+
+-- standard error faulted
+pub reports_begun : {T : Type 0} (r : Result T WriteFault) (errors : List Error) (ending : Ending) (fault : WriteFault) (err err' : Outlet) → r ≡ Err fault → ¬ (fault ≡ Memory)
+    → BeganToSay errors ending err.held err'.held → Faulted err.failed err.empty err'.failed err'.empty r → Reports errors ending err err' 3
+reports_begun r errors ending Memory err err' was not began fault = absurd (not refl)
+reports_begun r errors ending (Writer e) err err' was not began fault =
+    begun_by errors ending err err' (inl (subst (λ w. Faulted err.failed err.empty err'.failed err'.empty w) was fault)) began
+reports_begun r errors ending Zero err err' was not began fault =
+    begun_by errors ending err err' (inr (subst (λ w. Faulted err.failed err.empty err'.failed err'.empty w) was fault)) began

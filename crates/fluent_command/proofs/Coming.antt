@@ -1,89 +1,85 @@
--- How far a run came, from how far its call did.
-use Rattle.std.proofs.Common.{◌≡◌, ◌∙◌, sym, ap, subst, refl, ℕ, Bool, true, false, List, [], ◌++◌, append_assoc, append-nil, inl, inr, Option, Some, None, Result, Ok}
+-- How a run ends, from what its calls answered.
+use Rattle.std.proofs.Common.{if◌then◌else◌, ◌≡◌, ◌≢◌, ◌∙◌, sym, ap, subst, refl, ℕ, Bool, true, false, List, [], ◌++◌, append-nil, inl, inr, Option, Some, None, Result, Ok, Err}
 use Rattle.std.specs.Result.{OnOk}
 use Rattle.std.specs.Str.{IsUtf8, is_utf8}
 use Rattle.std.specs.Io.KnownBytes.{Appends}
 use Rattle.std.proofs.KnownBytes.{Appends-nil}
 use Rattle.std.proofs.lemmas.Str.{IsUtf8-from_is_utf8, is_utf8-from_IsUtf8}
-use Rattle.fluent_tree.specs.Tree.{Text}
-use Rattle.fluent_values.specs.declared.errors.FluentError.{FluentError}
-use Rattle.fluent_command.specs.Words.{Asked}
-use Rattle.fluent_command.specs.Ending.{Ending, shown, no_message, bad_usage, not_utf8, out_of_memory, reading_failed, writing_failed, status, said}
+use Rattle.fluent_tree.specs.Tree.{Text, Pattern}
+use Rattle.fluent_syntax.specs.Chunks.{entries}
+use Rattle.fluent_meaning.specs.Bundle.{Bundle}
+use Rattle.fluent_text.specs.Taken.{Faulted}
 use Rattle.fluent_text.specs.declared.counting.WriteFault.{WriteFault}
 use Rattle.fluent_text.specs.declared.counting.WriteFault.TheVariants.{Memory, Writer, Zero}
+use Rattle.fluent_meaning.specs.Errors.{Error}
+use Rattle.fluent_values.specs.declared.errors.FluentError.{FluentError}
+use Rattle.fluent_command.specs.Words.{Asked, asked_by}
+use Rattle.fluent_command.specs.Ending.{Ending, shown, no_message, bad_usage, not_utf8, out_of_memory, reading_failed, writing_failed}
 use Rattle.fluent_command.specs.EndingView.{reported, ending_of}
-use Rattle.fluent_command.specs.Program.{Run, only, run_source, run_input}
-use Rattle.fluent_command.specs.Said.{Says}
-use Rattle.fluent_command.specs.Far.{Added, Took, Came, Blames}
-use Rattle.fluent_command.specs.Outcome.{Rose, AreLeft, SaidOf, Stopped, by_reading, by_writing, by_memory}
+use Rattle.fluent_command.specs.Input.{ReadFor}
+use Rattle.fluent_command.specs.Program.{Run, only, bundle_of, value_at, run_value, run_source, run_input, run_asked, run_of}
+use Rattle.fluent_command.specs.Far.{Added, AddedFirst, Took}
+use Rattle.fluent_command.specs.Outlet.{Outlet, Takes}
+use Rattle.fluent_command.specs.Outcome.{AreLeft, Ends, as_defined, by_reading, by_writing, by_memory}
+use Rattle.fluent_command.specs.declared.input.InputState.TheVariants.{AtEnd}
+use Rattle.fluent_command.specs.declared.input.Reads.{Reads}
 
--- a call that faulted
-pub came_part : {T E : Type 0} (r : Result T E) (ending : Ending) (run : Run) (held held' : Option Text) (old new : List FluentError) → status ending ≡ 3
-    → Took r run.output held held' → Added r run.errors old new → Came ending run held held' old new
-came_part r ending run held held' old new fault took added = record {
-  text = took.front;
-  text_rest = took.rest;
-  output = took.begins;
-  taken = took.held;
-  front = added.front;
-  rest = added.rest;
-  errors = added.begins;
-  list = added.list;
-  whole = inl fault;
-}
+-- a writer that was left alone
+pub takes_none : (w : Outlet) → Takes [] w w
+takes_none w = record { taken = Appends-nil w.held; failed = refl; empty = refl }
 
--- a call that did all
-pub came_whole : {T E : Type 0} (r : Result T E) (x : T) (ending : Ending) (run : Run) (held held' : Option Text) (old new : List FluentError) → r ≡ Ok x → ending ≡ run.ending
-    → Took r run.output held held' → Added r run.errors old new → Came ending run held held' old new
-came_whole r x ending run held held' old new was ends took added = record {
-  text = took.front;
-  text_rest = took.rest;
-  output = took.begins;
-  taken = took.held;
-  front = added.front;
-  rest = added.rest;
-  errors = added.begins;
-  list = added.list;
-  whole = inr (subst (λ w. OnOk w (took.rest ≡ [])) was took.all, subst (λ w. OnOk w (added.rest ≡ [])) was added.all, ends);
-}
+-- the errors of a list that was empty
+added_to_none : (old new : List FluentError) (front : List Error) → old ≡ [] → reported new ≡ reported old ++ front → reported new ≡ front
+added_to_none old new front none list = list ∙ ap (λ es. reported es ++ front) none
 
--- a run that was stopped before anything
-pub came_not : (ending : Ending) (run : Run) (held : Option Text) (old : List FluentError) → status ending ≡ 3 → Came ending run held held old old
-came_not ending run held old fault = record {
-  text = [];
-  text_rest = run.output;
-  output = refl;
-  taken = Appends-nil held;
-  front = [];
-  rest = run.errors;
-  errors = refl;
-  list = sym (append-nil (reported old));
-  whole = inl fault;
-}
+module _ {T : Type 0} (run : Run) (first : List Error) (out out' : Outlet) (old new : List FluentError) (none : old ≡ []) where
+  -- a call that did all
+  pub ends_whole : (r : Result T WriteFault) (x : T) (ending : Ending) → r ≡ Ok x → ending ≡ run.ending → Took r run.output out.held out'.held → Added r run.errors old new
+      → Faulted out.failed out.empty out'.failed out'.empty r → Ends run first out out' ending (reported new)
+  ends_whole r x ending was ends took added fault =
+      let text : took.rest ≡ [] = subst (λ w. OnOk w (took.rest ≡ [])) was took.all in
+      let errors : added.rest ≡ [] = subst (λ w. OnOk w (added.rest ≡ [])) was added.all in
+      let stood = subst (λ w. Faulted out.failed out.empty out'.failed out'.empty w) was fault in
+      as_defined ends
+      (added_to_none old new added.front none added.list ∙ sym (added.begins ∙ ap (λ w. added.front ++ w) errors ∙ append-nil added.front))
+      (record { taken = subst (λ w. Appends out.held out'.held w) (sym (took.begins ∙ ap (λ w. took.front ++ w) text ∙ append-nil took.front)) took.held; failed = stood.0; empty = stood.1 })
+
+  -- a call that faulted
+  pub ends_fault : (r : Result T WriteFault) (fault : WriteFault) (ending : Ending) → r ≡ Err fault → ending ≡ ending_of fault → Took r run.output out.held out'.held → Added r run.errors old new
+      → AddedFirst r first old new → Faulted out.failed out.empty out'.failed out'.empty r → Ends run first out out' ending (reported new)
+  ends_fault r Memory ending was ends took added before fault =
+      let stood = subst (λ w. Faulted out.failed out.empty out'.failed out'.empty w) was fault in
+      by_memory ends (added.rest, added.begins ∙ ap (λ w. w ++ added.rest) (sym (added_to_none old new added.front none added.list))) took.front took.rest took.begins
+      (record { taken = took.held; failed = stood.0; empty = stood.1 })
+  ends_fault r (Writer e) ending was ends took added before fault =
+      let others = subst (λ w. AddedFirst w first old new) was before in
+      by_writing ends (others.0, added_to_none old new (first ++ others.0) none others.1)
+      (added.rest, added.begins ∙ ap (λ w. w ++ added.rest) (sym (added_to_none old new added.front none added.list)))
+      (record { taken = (took.front, took.rest, took.begins, took.held); rose = inl (subst (λ w. Faulted out.failed out.empty out'.failed out'.empty w) was fault) })
+  ends_fault r Zero ending was ends took added before fault =
+      let others = subst (λ w. AddedFirst w first old new) was before in
+      by_writing ends (others.0, added_to_none old new (first ++ others.0) none others.1)
+      (added.rest, added.begins ∙ ap (λ w. w ++ added.rest) (sym (added_to_none old new added.front none added.list)))
+      (record { taken = (took.front, took.rest, took.begins, took.held); rose = inr (subst (λ w. Faulted out.failed out.empty out'.failed out'.empty w) was fault) })
 
 -- a run that shows and reports nothing
-pub came_only : (ending : Ending) (run : Run) (held : Option Text) (old : List FluentError) → run ≡ only ending → Came ending run held held old old
-came_only ending run held old is = record {
-  text = [];
-  text_rest = [];
-  output = ap (λ r. r.output) is;
-  taken = Appends-nil held;
-  front = [];
-  rest = [];
-  errors = ap (λ r. r.errors) is;
-  list = sym (append-nil (reported old));
-  whole = inr (refl, refl, sym (ap (λ r. r.ending) is));
-}
+pub ends_only : (ending : Ending) (run : Run) (first : List Error) (out : Outlet) (errors : List FluentError) → errors ≡ [] → run ≡ only ending → Ends run first out out ending (reported errors)
+ends_only ending run first out errors none is =
+    as_defined (sym (ap (λ r. r.ending) is)) (ap reported none ∙ sym (ap (λ r. r.errors) is)) (subst (λ t. Takes t out out) (sym (ap (λ r. r.output) is)) (takes_none out))
+
+-- a run whose input was not read to its end
+pub ends_unread : (run : Run) (first : List Error) (out : Outlet) (errors : List FluentError) → errors ≡ [] → Ends run first out out reading_failed (reported errors)
+ends_unread run first out errors none = by_reading refl (ap reported none) (takes_none out)
+
+-- a run that got no memory to read into
+pub ends_no_memory : (run : Run) (first : List Error) (out : Outlet) (errors : List FluentError) → errors ≡ [] → Ends run first out out out_of_memory (reported errors)
+ends_no_memory run first out errors none = by_memory refl (run.errors, ap (λ es. es ++ run.errors) (sym (ap reported none))) [] run.output refl (takes_none out)
 
 -- ---- which run it is
 
-pub came_of : (ending : Ending) (run run' : Run) (held held' : Option Text) (old new : List FluentError) → run ≡ run' → Came ending run held held' old new → Came ending run' held held' old new
-came_of ending run run' held held' old new is came = subst (λ r. Came ending r held held' old new) is came
-
-pub fault_status : (fault : WriteFault) → status (ending_of fault) ≡ 3
-fault_status Memory = refl
-fault_status (Writer e) = refl
-fault_status Zero = refl
+pub ends_of : (run run' : Run) (first first' : List Error) (out out' : Outlet) (ending : Ending) (errors : List Error) → run ≡ run' → first ≡ first'
+    → Ends run first out out' ending errors → Ends run' first' out out' ending errors
+ends_of run run' first first' out out' ending errors is same h = subst (λ r. Ends r first' out out' ending errors) is (subst (λ es. Ends run es out out' ending errors) same h)
 
 pub of_text : (asked : Asked) (bytes source : List ℕ) → IsUtf8 bytes → source ≡ bytes → run_source asked source ≡ run_input asked bytes
 of_text asked bytes source utf8 same = rw (is_utf8-from_IsUtf8 bytes utf8) (ap (run_source asked) same)
@@ -100,26 +96,34 @@ pub some_left : (known : Option (List ℕ)) → (bytes : List ℕ) × AreLeft kn
 some_left None = ([], tt)
 some_left (Some bytes) = (bytes, refl)
 
--- ---- a run that was stopped
+-- an input that was read to its end fits every ending but one
+pub read_for : {R : Type 0} (ending : Ending) (input : Reads R) → ending ≢ reading_failed → input.state ≡ AtEnd → ReadFor ending input
+read_for shown input not is = is
+read_for (no_message id) input not is = is
+read_for bad_usage input not is = tt
+read_for not_utf8 input not is = is
+read_for out_of_memory input not is = λ failed. cc
+read_for reading_failed input not is = absurd (not refl)
+read_for writing_failed input not is = is
 
-module _ (run : Run) (spent : Type 0) (failed empty failed' empty' : ℕ) (err_rose : Type 0) (err err' : Option Text) where
-  abbrev Stop : Type 0
-  Stop = Stopped run spent (Rose failed empty failed' empty') err_rose err err'
+-- ---- a run whose words ask for something ends in another way than by a fault of usage
 
-  by_ending : (ending : Ending) → status ending ≡ 3 → (ending ≡ reading_failed → spent) → Blames ending failed empty failed' empty' → SaidOf run ending err err' → Stop
-  by_ending shown is read blames says = cc
-  by_ending (no_message id) is read blames says = cc
-  by_ending bad_usage is read blames says = cc
-  by_ending not_utf8 is read blames says = cc
-  by_ending out_of_memory is read blames says = by_memory says
-  by_ending reading_failed is read blames says = by_reading (read refl) says
-  by_ending writing_failed is read blames says = by_writing blames says
+no_usage_of_value : (asked : Asked) (bundle : Bundle Text) (value : Option Pattern) → (run_value asked bundle value).ending ≢ bad_usage
+no_usage_of_value asked bundle None = λ e. cc
+no_usage_of_value asked bundle (Some pattern) = λ e. cc
 
-  pub stopped : (ending final : Ending) (held held' : Option Text) (old errors slice : List FluentError) → old ≡ [] → slice ≡ errors → status final ≡ 3 → (ending ≡ reading_failed → spent)
-      → Blames ending failed empty failed' empty' → Came ending run held held' old errors → Says (reported slice) ending final err err' → Stop
-  stopped ending final held held' old errors slice none same is read blames came says =
-      let list : reported slice ≡ came.front = ap reported same ∙ came.list ∙ ap (λ es. reported es ++ came.front) none in
-      elim says [
-        | inl h ↦ by_ending ending (sym (ap status h.0) ∙ is) read blames (came.front, came.rest, came.errors, subst (λ es. Appends err err' (said es ending)) list h.1)
-        | inr h ↦ by_memory (h.0, h.1.0 ++ came.rest, came.errors ∙ ap (λ w. w ++ came.rest) (sym list ∙ h.1.1) ∙ append_assoc h.0 h.1.0 came.rest, h.3)
-      ]
+no_usage : (asked : Asked) (bytes : List ℕ) → (run_input asked bytes).ending ≢ bad_usage
+no_usage asked bytes = cases (is_utf8 bytes)
+  where
+    cases : (b : Bool) → (if b then run_source asked bytes else only not_utf8).ending ≢ bad_usage
+    cases true =
+        let bundle = bundle_of asked.isolate (entries bytes) in
+        no_usage_of_value asked bundle (value_at asked.id bundle)
+    cases false = λ e. cc
+
+pub none_asked : (words : List Text) (bytes : List ℕ) → (run_of words bytes).ending ≡ bad_usage → asked_by words ≡ None
+none_asked words bytes = cases (asked_by words)
+  where
+    cases : (a : Option Asked) → (run_asked a bytes).ending ≡ bad_usage → a ≡ None
+    cases None e = refl
+    cases (Some asked) e = absurd (no_usage asked bytes e)

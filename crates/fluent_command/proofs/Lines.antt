@@ -1,5 +1,5 @@
 -- Lines of errors, one more at a time.
-use Rattle.std.proofs.Common.{◌≡◌, ◌∙◌, sym, ap, refl, ℕ, ◌+◌, ◌<◌, List, [], ◌∷◌, ◌++◌, take, drop, length, get_or, append_assoc, append-nil, add-one}
+use Rattle.std.proofs.Common.{◌≡◌, ◌∙◌, sym, ap, refl, ℕ, suc, ◌+◌, ◌<◌, List, [], ◌∷◌, ◌++◌, take, drop, length, get_or, append_assoc, append-nil, add-one}
 use Rattle.std.proofs.Math.Seq.{take-suc}
 use Rattle.std.proofs.lemmas.List.{take-append-drop, map-append}
 use Rattle.fluent_meaning.specs.Errors.{Error, error_text}
@@ -7,7 +7,7 @@ use Rattle.fluent_values.specs.View.{error_view}
 use Rattle.fluent_values.specs.declared.errors.FluentError.{FluentError}
 use Rattle.fluent_command.specs.Ending.{line, error_lines}
 use Rattle.fluent_command.specs.EndingView.{reported}
-use Rattle.fluent_command.specs.Said.{Begins}
+use Rattle.fluent_command.specs.Said.{Precedes}
 
 error_lines-append : (xs ys : List Error) → error_lines (xs ++ ys) ≡ error_lines xs ++ error_lines ys
 error_lines-append [] ys = refl
@@ -24,8 +24,17 @@ one_more errors i e within is =
     ∙ ap (λ t. error_lines (reported (take i errors)) ++ t) (append-nil (line (error_text (error_view (get_or errors i e)))))
     ∙ ap (λ x. error_lines (reported (take i errors)) ++ line (error_text (error_view x))) (sym is)
 
-pub first_begin : (errors : List FluentError) (i : ℕ) → Begins (reported (take i errors)) (reported errors)
-first_begin errors i = (reported (drop i errors), ap reported (sym (take-append-drop i errors)) ∙ map-append error_view (take i errors) (drop i errors))
+-- the errors before the one at an index
+pub first_precede : (errors : List FluentError) (i : ℕ) (e : FluentError) → i < length errors → Precedes (reported (take i errors)) (reported errors)
+first_precede errors i e within = (
+  error_view (get_or errors i e),
+  reported (drop (suc i) errors),
+  ap reported (sym (take-append-drop (suc i) errors))
+      ∙ map-append error_view (take (suc i) errors) (drop (suc i) errors)
+      ∙ ap (λ es. reported es ++ reported (drop (suc i) errors)) (take-suc errors i e within)
+      ∙ ap (λ es. es ++ reported (drop (suc i) errors)) (map-append error_view (take i errors) (get_or errors i e ∷ []))
+      ∙ append_assoc (reported (take i errors)) (error_view (get_or errors i e) ∷ []) (reported (drop (suc i) errors)),
+)
 
 -- the lines of the first errors, and those of the others
 pub lines_on : (errors : List FluentError) (i : ℕ) → error_lines (reported errors) ≡ error_lines (reported (take i errors)) ++ error_lines (reported (drop i errors))

@@ -66,3 +66,8 @@ front_short old new s t h = (h.0, h.1 ++ t, ap (λ w. w ++ t) h.2 ∙ append_ass
 -- and a beginning after the whole of another
 pub front_then : (old mid new : Option Text) (s t : Text) → Appends old mid s → TookFront mid new t → TookFront old new (s ++ t)
 front_then old mid new s t whole h = (s ++ h.0, h.1, ap (λ w. s ++ w) h.2 ∙ sym (append_assoc s h.0 h.1), Appends-trans old mid new s h.0 whole h.3)
+
+-- what holds in any case
+pub on_err : {T E P : Type 0} (r : Result T E) → P → OnErr r P
+on_err (Ok x) p = tt
+on_err (Err e) p = p

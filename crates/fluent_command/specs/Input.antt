@@ -1,8 +1,28 @@
--- Reads that are bounded in number.
-use Rattle.std.specs.Prelude.{◌≡◌, ℕ, List, Option, Some, None, length, take, ◌<◌}
-use Rattle.std.specs.Io.KnownBytes.{Consumes, Keeps, IsAtEnd}
+-- What the reads of an input showed, and how many there were.
+use Rattle.std.specs.Prelude.{◌≡◌, ◌≢◌, ◌≤◌, ◌⊎◌, ℕ, zero, suc, length, Result, Ok, Err}
+use Rattle.fluent_command.specs.Limits.{most_reads, least_room}
+use Rattle.fluent_command.specs.Ending.{Ending, bad_usage, out_of_memory, reading_failed}
+use Rattle.fluent_command.specs.declared.input.InputState.{InputState}
+use Rattle.fluent_command.specs.declared.input.InputState.TheVariants.{Open, AtEnd, Failed}
+use Rattle.fluent_command.specs.declared.input.Reads.{Reads}
 
--- a single read took the bytes that it gave, and none only at the end; one that gave nothing back took nothing
-abbrev pub ReadGives : Option (List ℕ) → Option (List ℕ) → Option ℕ → List ℕ → Type 0
-ReadGives old new None room = Keeps old new
-ReadGives old new (Some n) room = Consumes old new (take n room) × (n ≡ 0 → 0 < length room → IsAtEnd new)
+-- what a single read shows: the end, where it gives no byte
+abbrev pub state_after : {E : Type 0} → Result ℕ E → InputState
+state_after (Ok zero) = AtEnd
+state_after (Ok (suc n)) = Open
+state_after (Err e) = Failed
+
+-- no more reads were made than a run may make, and each had its room
+abbrev pub IsBounded : {R : Type 0} → Reads R → Type 0
+IsBounded input = (input.made ≤ most_reads) × (least_room ≤ length input.room)
+
+-- a read failed, or all were made and none showed the end
+abbrev pub IsUnread : {R : Type 0} → Reads R → Type 0
+IsUnread input = (input.state ≡ Failed) ⊎ ((input.state ≡ Open) × (input.made ≡ most_reads))
+
+-- what the reads of a run showed that ends so; where the words are not of the form, it makes none
+abbrev pub ReadFor : {R : Type 0} → Ending → Reads R → Type 0
+ReadFor bad_usage input = Unit {0}
+ReadFor reading_failed input = IsUnread input
+ReadFor out_of_memory input = input.state ≢ Failed
+ReadFor ending input = input.state ≡ AtEnd

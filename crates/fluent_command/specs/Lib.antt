@@ -1,5 +1,7 @@
 pub mod Words
+pub mod Limits
 pub mod Input
+pub mod Outlet
 pub mod WordsView
 pub mod Ending
 pub mod EndingView

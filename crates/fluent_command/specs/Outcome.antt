@@ -1,42 +1,49 @@
 -- What a run of the program came to.
-use Rattle.std.specs.Prelude.{◌≡◌, ℕ, List, ◌++◌, ◌⊎◌, Option, IfSome}
-use Rattle.std.specs.Io.KnownBytes.{Appends}
+use Rattle.std.specs.Prelude.{◌≡◌, ℕ, List, [], ◌++◌, Option, IfSome}
 use Rattle.fluent_tree.specs.Tree.{Text}
-use Rattle.fluent_text.specs.Taken.{raised, TookFront}
 use Rattle.fluent_meaning.specs.Errors.{Error}
-use Rattle.fluent_command.specs.Ending.{Ending, said, status, out_of_memory, reading_failed, writing_failed}
+use Rattle.fluent_command.specs.Ending.{Ending, said, status, bad_usage, out_of_memory, reading_failed, writing_failed}
+use Rattle.fluent_command.specs.Input.{ReadFor}
+use Rattle.fluent_command.specs.Outlet.{Outlet, Takes, Faults}
 use Rattle.fluent_command.specs.Program.{Run, Answer}
+use Rattle.fluent_command.specs.Said.{Begins, Precedes}
+use Rattle.fluent_command.specs.declared.input.Reads.{Reads}
 
 -- these are the bytes that a reader has left, where they are known
 abbrev pub AreLeft : Option (List ℕ) → List ℕ → Type 0
 AreLeft known bytes = IfSome known (λ left. bytes ≡ left)
 
 -- A run that was not stopped: status, output and error text are those of the program.
-pub record Gives (answer : Answer) (result : ℕ) (out out' err err' : Option Text) : Type 0 where
+pub record Gives (answer : Answer) (result : ℕ) (out out' err err' : Outlet) : Type 0 where
   pub status : result ≡ answer.status
-  pub output : Appends out out' answer.output
-  pub errors : Appends err err' answer.errors
+  pub output : Takes answer.output out out'
+  pub errors : Takes answer.errors err err'
 
--- one of a writer's two counts went up: that of the writes that failed, or that of those that took nothing
-abbrev pub Rose : ℕ → ℕ → ℕ → ℕ → Type 0
-Rose failed empty failed' empty' = ((failed' ≡ raised failed) × (empty' ≡ empty)) ⊎ ((failed' ≡ failed) × (empty' ≡ raised empty))
-
--- standard error took the lines of the first errors of the run, and then that of the ending
-abbrev pub SaidOf : Run → Ending → Option Text → Option Text → Type 0
-SaidOf run ending err err' = (front : List Error) × (rest : List Error) × (run.errors ≡ front ++ rest) × Appends err err' (said front ending)
-
--- standard error took a beginning of those lines: the ending is the run's own, or one of status 3
-abbrev pub BeganOf : Run → Option Text → Option Text → Type 0
-BeganOf run err err' =
-    (front : List Error) × (rest : List Error) × (ending : Ending) × (run.errors ≡ front ++ rest) × ((ending ≡ run.ending) ⊎ (status ending ≡ 3)) × TookFront err err' (said front ending)
-
--- Why a run was stopped, and what it then said.
-pub data Stopped (run : Run) (unread out_rose err_rose : Type 0) (err err' : Option Text) : Type 0 where
-  -- a read failed, or none was left
-  by_reading : unread → SaidOf run reading_failed err err' → Stopped run unread out_rose err_rose err err'
-  -- a write on the output failed or took nothing
-  by_writing : out_rose → SaidOf run writing_failed err err' → Stopped run unread out_rose err_rose err err'
+-- How a run ends before it reports, and the errors that it has then. The first errors are those that it finds before it writes.
+pub data Ends (run : Run) (first : List Error) (out out' : Outlet) (ending : Ending) (errors : List Error) : Type 0 where
+  -- as it should
+  as_defined : ending ≡ run.ending → errors ≡ run.errors → Takes run.output out out' → Ends run first out out' ending errors
+  -- a read failed, or none of all showed the end: nothing was found and written
+  by_reading : ending ≡ reading_failed → errors ≡ [] → Takes [] out out' → Ends run first out out' ending errors
+  -- a write failed or took nothing: the first errors had been found
+  by_writing : ending ≡ writing_failed → Begins first errors → Begins errors run.errors → Faults run.output out out' → Ends run first out out' ending errors
   -- memory was refused, or so it is said
-  by_memory : SaidOf run out_of_memory err err' → Stopped run unread out_rose err_rose err err'
-  -- a write on standard error failed or took nothing
-  by_reporting : err_rose → BeganOf run err err' → Stopped run unread out_rose err_rose err err'
+  by_memory : ending ≡ out_of_memory → Begins errors run.errors → (front rest : Text) → run.output ≡ front ++ rest → Takes front out out' → Ends run first out out' ending errors
+
+-- What is said of these errors and this ending, and the status.
+pub data Reports (errors : List Error) (ending : Ending) (err err' : Outlet) (result : ℕ) : Type 0 where
+  -- all of it
+  whole : result ≡ status ending → Takes (said errors ending) err err' → Reports errors ending err err' result
+  -- that memory was refused for the line of an error, behind the lines before it
+  short : result ≡ 3 → (front : List Error) → Precedes front errors → Takes (said front out_of_memory) err err' → Reports errors ending err err' result
+  -- a beginning of the one or the other: a write failed or took nothing
+  whole_begun : result ≡ 3 → Faults (said errors ending) err err' → Reports errors ending err err' result
+  short_begun : result ≡ 3 → (front : List Error) → Precedes front errors → Faults (said front out_of_memory) err err' → Reports errors ending err err' result
+
+-- A run that comes to these errors: how it ends, what its reads showed for that, and what is said of it. Where the words are not of the form, nothing else can stop it.
+pub record Ran {R : Type 0} (run : Run) (first errors : List Error) (input : Reads R) (out out' err err' : Outlet) (result : ℕ) : Type 0 where
+  pub ending : Ending
+  pub ends : Ends run first out out' ending errors
+  pub usage : run.ending ≡ bad_usage → ending ≡ bad_usage
+  pub reads : ReadFor ending input
+  pub reports : Reports errors ending err err' result

@@ -1,6 +1,6 @@
 -- What the program shows and says, as a function of its words and the bytes of its input.
 use Rattle.std.specs.Prelude.{ℕ, Bool, true, List, [], ◌∷◌, ◌++◌, map, Option, Some, None, if◌then◌else◌}
-use Rattle.std.specs.Option.{option_and_then}
+use Rattle.std.specs.Option.{option_and_then, option_map_or}
 use Rattle.std.specs.Str.{is_utf8}
 use Rattle.fluent_tree.specs.Tree.{Text, Pattern, Entry}
 use Rattle.fluent_syntax.specs.Chunks.{entries, junk_ranges}
@@ -85,6 +85,14 @@ run_asked (Some asked) bytes = run_input asked bytes
 
 abbrev pub run_of : List Text → List ℕ → Run
 run_of words bytes = run_asked (asked_by words) bytes
+
+-- ---- what is wrong with a source itself, which a run finds before it writes
+
+abbrev pub source_errors : Asked → Text → List Error
+source_errors asked source = map error_at (junk_ranges source) ++ answered (add_resource (entries source)) (start asked.isolate)
+
+abbrev pub first_errors : List Text → List ℕ → List Error
+first_errors words bytes = option_map_or (λ asked. source_errors asked bytes) (asked_by words) []
 
 -- ---- what a caller sees
 

@@ -1,5 +1,5 @@
 -- What standard error took of a report.
-use Rattle.std.specs.Prelude.{◌≡◌, List, ◌++◌, ◌⊎◌, Option, Result, Ok, Err}
+use Rattle.std.specs.Prelude.{◌≡◌, List, ◌∷◌, ◌++◌, ◌⊎◌, Option, Result, Ok, Err}
 use Rattle.std.specs.Io.KnownBytes.{Appends}
 use Rattle.fluent_tree.specs.Tree.{Text}
 use Rattle.fluent_text.specs.Taken.{TookFront}
@@ -12,20 +12,24 @@ use Rattle.fluent_command.specs.Ending.{Ending, out_of_memory, error_lines, said
 abbrev pub Begins : List Error → List Error → Type 0
 Begins front all = (rest : List Error) × (all ≡ front ++ rest)
 
--- The lines of all errors were taken; where memory was refused those of the first ones, and where the writer faulted a beginning of them all.
+-- these are the errors before one of the others
+abbrev pub Precedes : List Error → List Error → Type 0
+Precedes front all = (e : Error) × (rest : List Error) × (all ≡ front ++ e ∷ rest)
+
+-- The lines of all errors were taken; where memory was refused for the line of one, those before it; where the writer faulted, a beginning of them all.
 abbrev pub TookErrors : Result (Unit {0}) WriteFault → List Error → Option Text → Option Text → Type 0
 TookErrors (Ok u) errors old new = Appends old new (error_lines errors)
-TookErrors (Err Memory) errors old new = (front : List Error) × Begins front errors × Appends old new (error_lines front)
+TookErrors (Err Memory) errors old new = (front : List Error) × Precedes front errors × Appends old new (error_lines front)
 TookErrors (Err (Writer e)) errors old new = TookFront old new (error_lines errors)
 TookErrors (Err Zero) errors old new = TookFront old new (error_lines errors)
 
--- All errors and the ending were said, or where memory was refused the first ones and that.
+-- All errors and the ending were said as they were handed; or memory was refused for the line of an error, which was said behind the lines before it.
 abbrev pub Says : List Error → Ending → Ending → Option Text → Option Text → Type 0
 Says errors ending final old new =
     ((final ≡ ending) × Appends old new (said errors ending))
-    ⊎ ((front : List Error) × Begins front errors × (final ≡ out_of_memory) × Appends old new (said front out_of_memory))
+    ⊎ ((front : List Error) × Precedes front errors × (final ≡ out_of_memory) × Appends old new (said front out_of_memory))
 
--- Where the writer faulted: a beginning was taken of the lines of errors and that of the ending, or of the first errors and that memory was refused.
+-- Where the writer faulted: of one of these two a beginning was taken.
 abbrev pub BeganToSay : List Error → Ending → Option Text → Option Text → Type 0
 BeganToSay errors ending old new =
-    (front : List Error) × (final : Ending) × Begins front errors × ((final ≡ ending) ⊎ (final ≡ out_of_memory)) × TookFront old new (said front final)
+    TookFront old new (said errors ending) ⊎ ((front : List Error) × Precedes front errors × TookFront old new (said front out_of_memory))

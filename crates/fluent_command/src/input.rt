@@ -1,24 +1,38 @@
 //! The bytes of an input, by a bounded number of single reads.
 
-ghost use Rattle.std.specs.Prelude.{◌≡◌, ◌+◌, ◌-◌, ◌≤◌, ◌<◌, ◌⊎◌, length, IsTrue, IsNone, IfOk, IfErr, OnOk, OnErr, IfSome, false};
-ghost use Rattle.std.specs.Io.KnownBytes.{Consumes, IsAtEnd};
-ghost use Rattle.fluent_command.specs.Input.{ReadGives};
+ghost use Rattle.std.specs.Prelude.{◌≡◌, ◌+◌, ◌≤◌, ◌<◌, IfOk, IfErr, OnOk};
+ghost use Rattle.std.specs.Io.KnownBytes.{Consumes, IsAtEnd, ReadConsumes};
+ghost use Rattle.fluent_command.specs.Input.{state_after, IsBounded, IsUnread};
+ghost use Rattle.fluent_command.specs.Limits.{most_reads};
 
 use std::alloc::{AllocError, Global};
+use std::io;
 use std::io::Read;
 
-/// How many single reads an input is given at most.
+/// How many single reads a run makes at most.
 pub const MOST_READS: u32 = 1_000_000;
 
 /// How many bytes each of them has room for.
 const ROOM: usize = 4096;
 
-/// A reader with the number of single reads that it may still make. It knows whether one of them failed.
+/// What the reads of an input showed.
+#[derive(Clone, Copy)]
+pub enum InputState {
+    /// Bytes alone, or none was made yet.
+    Open,
+    /// The last one showed the end.
+    AtEnd,
+    /// The last one failed.
+    Failed,
+}
+
+/// A reader with the room for a single read, how many a run made, and what they showed.
 #[derive(Drop)]
 pub struct Reads<R> {
     inner: R,
-    left: u32,
-    failed: bool,
+    room: [u8; ROOM],
+    made: u32,
+    state: InputState,
 }
 
 /// Why an input was not read to its end.
@@ -26,7 +40,7 @@ pub struct Reads<R> {
 pub(crate) enum ReadFault {
     /// Memory was refused.
     Memory,
-    /// A read failed, also where it was interrupted, or no read was left.
+    /// A read failed, also where it was interrupted, or all were made and none showed the end.
     Reading,
 }
 
@@ -41,16 +55,17 @@ impl From<AllocError> for ReadFault {
 }
 
 impl<R: Read> Reads<R> {
-    /// A reader for one call of `run`, with all its reads left.
+    /// A reader of which nothing was read.
     pub fn new(inner: R) -> Reads<R>
         ensures inner { result.inner ≡ inner }
-        ensures left { result.left ≡ MOST_READS }
-        ensures failed { result.failed ≡ false }
+        ensures made { result.made ≡ 0 }
+        ensures state { result.state ≡ InputState.Open }
     {
         Reads {
             inner,
-            left: MOST_READS,
-            failed: false,
+            room: [0; ROOM],
+            made: 0,
+            state: InputState::Open,
         }
     }
 
@@ -60,31 +75,43 @@ impl<R: Read> Reads<R> {
     {
         let Reads {
             inner,
-            left: _,
-            failed: _,
+            room: _,
+            made: _,
+            state: _,
         } = self;
         inner
     }
 
-    /// One single read; `None` where it failed, or where none is left.
-    fn read(&mut self, room: &mut [u8]) -> Option<usize>
-        ensures bytes { ReadGives (R.remaining self.old.inner) (R.remaining self.new.inner)
-            result room.new }
-        ensures bound { IfSome result (λ n. n ≤ length room.old) }
-        ensures fewer { IfSome result (λ _. self.new.left + 1 ≡ self.old.left) }
-        ensures cause { IsNone result → IsTrue self.new.failed ⊎ (self.new.left ≡ 0) }
+    /// Counts the reads of a run from its beginning.
+    fn begin(&mut self)
+        ensures inner { self.new.inner ≡ self.old.inner }
+        ensures bounded { IsBounded self.new }
+        ensures made { self.new.made ≡ 0 }
+        ensures state { self.new.state ≡ InputState.Open }
     {
-        if self.left == 0 {
-            return None;
-        }
-        self.left -= 1;
-        match self.inner.read(room) {
-            Ok(n) => Some(n),
-            Err(_) => {
-                self.failed = true;
-                None
-            }
-        }
+        self.made = 0;
+        self.state = InputState::Open;
+    }
+
+    /// One single read into the room: how many bytes it gave, or why it failed. It is not tried again.
+    fn read(&mut self) -> io::Result<usize>
+        requires open { self.old.state ≡ InputState.Open }
+        requires left { self.old.made < most_reads }
+        ensures bytes { ReadConsumes (R.remaining self.old.inner) (R.remaining self.new.inner)
+            result self.new.room }
+        ensures bound { IfOk result (λ n. n ≤ ROOM) }
+        ensures bounded { IsBounded self.new }
+        ensures made { self.new.made ≡ self.old.made + 1 }
+        ensures state { self.new.state ≡ state_after result }
+    {
+        let outcome = self.inner.read(&mut self.room);
+        self.made += 1;
+        self.state = match &outcome {
+            Ok(0) => InputState::AtEnd,
+            Ok(_) => InputState::Open,
+            Err(_) => InputState::Failed,
+        };
+        outcome
     }
 }
 
@@ -92,22 +119,26 @@ impl<R: Read> Reads<R> {
 ///
 /// # Errors
 ///
-/// `Reading` where a read failed or the reads were used up, `Memory` where memory was refused. What was read is
-/// lost then.
+/// `Reading` where a read failed or none of all showed the end, `Memory` where memory was refused. What was read
+/// is lost then.
 pub(crate) fn read_all<R: Read>(alloc: Global, input: &mut Reads<R>) -> Result<Vec<u8>, ReadFault>
     ensures bytes { IfOk result (λ bytes.
         Consumes (R.remaining input.old.inner) (R.remaining input.new.inner) bytes.items) }
     ensures end { OnOk result (IsAtEnd (R.remaining input.new.inner)) }
-    ensures cause { IfErr result (λ fault.
-        fault ≡ ReadFault.Reading → IsTrue input.new.failed ⊎ (input.new.left ≡ 0)) }
+    ensures bounded { IsBounded input.new }
+    ensures shown { OnOk result (input.new.state ≡ InputState.AtEnd) }
+    ensures unread { IfErr result (λ fault. fault ≡ ReadFault.Reading → IsUnread input.new) }
+    ensures memory { IfErr result (λ fault.
+        fault ≡ ReadFault.Memory → input.new.state ≡ InputState.Open) }
 {
     let mut bytes = Vec::new(alloc);
-    let mut room = [0u8; ROOM];
-    while let Some(n) = input.read(&mut room) {
-        if n == 0 {
-            return Ok(bytes);
+    input.begin();
+    while input.made < MOST_READS {
+        match input.read() {
+            Ok(0) => return Ok(bytes),
+            Ok(n) => bytes.extend_from_slice(&input.room[..n])?,
+            Err(_) => return Err(ReadFault::Reading),
         }
-        bytes.extend_from_slice(&room[..n])?;
     }
     Err(ReadFault::Reading)
 }

@@ -7,7 +7,7 @@ ghost use Rattle.fluent_meaning.specs.Errors.{error_text};
 ghost use Rattle.fluent_values.specs.View.{error_view};
 ghost use Rattle.fluent_command.specs.Ending.{status, line, no_message, ending_line};
 ghost use Rattle.fluent_command.specs.EndingView.{ending_view, reported};
-ghost use Rattle.fluent_command.specs.Outcome.{Rose};
+ghost use Rattle.fluent_command.specs.Outlet.{Rose};
 ghost use Rattle.fluent_command.specs.Said.{BeganToSay, Says, TookErrors};
 
 use fluent_bundle::{Counting, FluentError, WriteFault};
@@ -28,7 +28,7 @@ pub enum Ending<'w> {
     NotUtf8,
     /// Memory was refused.
     Memory,
-    /// A read failed, or the input did not end.
+    /// A read failed, or none of all showed the end.
     Reading,
     /// A write on the output failed, or took nothing.
     Writing,
@@ -121,8 +121,8 @@ fn put_ending<E: Write>(ending: Ending<'_>, err: &mut Counting<E>) -> Result<(),
     }
 }
 
-/// Writes the errors and the ending, one a line, and gives the ending that was said: where memory is
-/// refused for the line of an error, that is said in place of all that is still to say.
+/// Writes the errors and the ending, one a line, and gives the ending that was said. That is the one it was handed,
+/// but where memory is refused for the line of an error: then that is said in place of all that is still to say.
 ///
 /// # Errors
 ///

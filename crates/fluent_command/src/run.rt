@@ -1,15 +1,15 @@
 //! The program over any reader and writers.
 
-ghost use Rattle.std.specs.Prelude.{◌≡◌, ◌≢◌, ◌⊎◌, ◌≤◌, ℕ, List, [], map, None, IsTrue, string_bytes};
-ghost use Rattle.std.specs.Str.{is_utf8};
-ghost use Rattle.fluent_text.specs.Taken.{TookFront};
+ghost use Rattle.std.specs.Prelude.{◌≡◌, ◌≢◌, ◌≤◌, ℕ, List, [], map, None, string_bytes};
+ghost use Rattle.fluent_meaning.specs.Errors.{Error};
 ghost use Rattle.fluent_command.specs.Words.{asked_by};
 ghost use Rattle.fluent_command.specs.WordsView.{asked_view};
-ghost use Rattle.fluent_command.specs.Ending.{reading_failed};
-ghost use Rattle.fluent_command.specs.EndingView.{ending_view};
-ghost use Rattle.fluent_command.specs.Program.{run_input, run_of, program};
-ghost use Rattle.fluent_command.specs.Far.{Blames, Came};
-ghost use Rattle.fluent_command.specs.Outcome.{AreLeft, Gives, Rose, Stopped};
+ghost use Rattle.fluent_command.specs.Ending.{bad_usage, reading_failed};
+ghost use Rattle.fluent_command.specs.EndingView.{ending_view, reported};
+ghost use Rattle.fluent_command.specs.Program.{run_input, run_of, first_errors, source_errors, program};
+ghost use Rattle.fluent_command.specs.Input.{IsBounded, ReadFor};
+ghost use Rattle.fluent_command.specs.Outlet.{outlet};
+ghost use Rattle.fluent_command.specs.Outcome.{AreLeft, Ends, Gives, Ran};
 
 use crate::input::{ReadFault, Reads, read_all};
 use crate::report::{Ending, report};
@@ -28,9 +28,11 @@ fn show_bytes<'w, W: Write>(
     out: &mut Counting<W>,
     errors: &mut Vec<FluentError>,
 ) -> Ending<'w>
-    ensures came { Came (ending_view result) (run_input (asked_view request.entry) bytes.now)
-        (W.contents out.old.inner) (W.contents out.new.inner) errors.old.items errors.new.items }
-    ensures blames { Blames (ending_view result) out.old.failed out.old.empty out.new.failed out.new.empty }
+    requires { errors.old.items ≡ [] }
+    ensures ends { let asked = asked_view request.entry in
+        Ends (run_input asked bytes.now) (source_errors asked bytes.now)
+        (outlet W.contents out.old) (outlet W.contents out.new)
+        (ending_view result) (reported errors.new.items) }
     ensures read { ending_view result ≢ reading_failed }
 {
     match str::from_utf8(bytes) {
@@ -50,12 +52,16 @@ fn attempt<'w, R: Read, W: Write>(
     out: &mut Counting<W>,
     errors: &mut Vec<FluentError>,
 ) -> Ending<'w>
-    ensures came { (bytes : List ℕ) × AreLeft (R.remaining input.old.inner) bytes
-        × Came (ending_view result) (run_of (map string_bytes words.now) bytes)
-        (W.contents out.old.inner) (W.contents out.new.inner) errors.old.items errors.new.items }
-    ensures blames { Blames (ending_view result) out.old.failed out.old.empty out.new.failed out.new.empty }
-    ensures spent { ending_view result ≡ reading_failed → IsTrue input.new.failed ⊎ (input.new.left ≡ 0) }
+    requires { errors.old.items ≡ [] }
+    ensures ends { let asked = map string_bytes words.now in
+        (bytes : List ℕ) × AreLeft (R.remaining input.old.inner) bytes
+        × Ends (run_of asked bytes) (first_errors asked bytes)
+        (outlet W.contents out.old) (outlet W.contents out.new)
+        (ending_view result) (reported errors.new.items) }
+    ensures usage { asked_by (map string_bytes words.now) ≡ None → ending_view result ≡ bad_usage }
+    ensures reads { ReadFor (ending_view result) input.new }
     ensures unread { asked_by (map string_bytes words.now) ≡ None → input.new ≡ input.old }
+    ensures bounded { asked_by (map string_bytes words.now) ≢ None → IsBounded input.new }
 {
     let Some(request) = Request::of(words) else {
         return Ending::Usage;
@@ -67,11 +73,36 @@ fn attempt<'w, R: Read, W: Write>(
     }
 }
 
+/// Runs the program with a list for its errors. All that stand in it at the end were to be reported.
+fn run_with<R: Read, W: Write, E: Write>(
+    alloc: Global,
+    words: &[String],
+    input: &mut Reads<R>,
+    out: &mut Counting<W>,
+    err: &mut Counting<E>,
+    errors: &mut Vec<FluentError>,
+) -> u8
+    requires { errors.old.items ≡ [] }
+    ensures ran { let asked = map string_bytes words.now in
+        (bytes : List ℕ) × AreLeft (R.remaining input.old.inner) bytes
+        × Ran (run_of asked bytes) (first_errors asked bytes) (reported errors.new.items) input.new
+        (outlet W.contents out.old) (outlet W.contents out.new)
+        (outlet E.contents err.old) (outlet E.contents err.new) result }
+    ensures unread { asked_by (map string_bytes words.now) ≡ None → input.new ≡ input.old }
+    ensures bounded { asked_by (map string_bytes words.now) ≢ None → IsBounded input.new }
+{
+    let ending = attempt(alloc, words, input, out, errors);
+    match report(alloc, errors.as_slice(), ending, err) {
+        Ok(ending) => ending.status(),
+        Err(_) => 3,
+    }
+}
+
 /// Runs the program on its words, its input and its two outputs, and gives the exit status. It returns for
 /// every reader, also one that never ends, and for all writers.
 ///
 /// Where the status is not 3, status, output and error text are those that `program` defines for the words and
-/// the bytes of the input. Where it is 3, a read failed or the reads were used up, a write failed or took
+/// the bytes of the input. Where it is 3, a read failed or none of all showed the end, a write failed or took
 /// nothing, or the error text says that memory was refused. The output then holds a beginning of what it should,
 /// and the error text is the lines of the first errors and one that names the cause or, where it was standard error
 /// that failed, a beginning of such lines. Faults of usage are found before anything is read.
@@ -82,25 +113,20 @@ pub fn run<R: Read, W: Write, E: Write>(
     out: &mut Counting<W>,
     err: &mut Counting<E>,
 ) -> u8
-    ensures works { result ≢ 3 → (bytes : List ℕ) × AreLeft (R.remaining input.old.inner) bytes
-        × Gives (program (map string_bytes words.now) bytes) result
-        (W.contents out.old.inner) (W.contents out.new.inner)
-        (E.contents err.old.inner) (E.contents err.new.inner) }
-    ensures stops { result ≡ 3 → (bytes : List ℕ) × AreLeft (R.remaining input.old.inner) bytes
-        × TookFront (W.contents out.old.inner) (W.contents out.new.inner)
-        (program (map string_bytes words.now) bytes).output
-        × Stopped (run_of (map string_bytes words.now) bytes)
-        (IsTrue input.new.failed ⊎ (input.new.left ≡ 0))
-        (Rose out.old.failed out.old.empty out.new.failed out.new.empty)
-        (Rose err.old.failed err.old.empty err.new.failed err.new.empty)
-        (E.contents err.old.inner) (E.contents err.new.inner) }
+    ensures works { let asked = map string_bytes words.now in
+        result ≢ 3 → (bytes : List ℕ) × AreLeft (R.remaining input.old.inner) bytes
+        × Gives (program asked bytes) result
+        (outlet W.contents out.old) (outlet W.contents out.new)
+        (outlet E.contents err.old) (outlet E.contents err.new) }
+    ensures ran { let asked = map string_bytes words.now in
+        (bytes : List ℕ) × AreLeft (R.remaining input.old.inner) bytes × (errors : List Error)
+        × Ran (run_of asked bytes) (first_errors asked bytes) errors input.new
+        (outlet W.contents out.old) (outlet W.contents out.new)
+        (outlet E.contents err.old) (outlet E.contents err.new) result }
     ensures unread { asked_by (map string_bytes words.now) ≡ None → input.new ≡ input.old }
-    ensures bound { result ≤ 3 }
+    ensures bounded { asked_by (map string_bytes words.now) ≢ None → IsBounded input.new }
+    ensures status { result ≤ 3 }
 {
     let mut errors = Vec::new(alloc);
-    let ending = attempt(alloc, words, input, out, &mut errors);
-    match report(alloc, errors.as_slice(), ending, err) {
-        Ok(ending) => ending.status(),
-        Err(_) => 3,
-    }
+    run_with(alloc, words, input, out, err, &mut errors)
 }

@@ -12,8 +12,8 @@ ghost use Rattle.fluent_command.specs.WordsView.{asked_view};
 ghost use Rattle.fluent_command.specs.EndingView.{ending_view};
 ghost use Rattle.fluent_bundle.specs.Interim.{budgeted};
 ghost use Rattle.fluent_command.specs.BundleView.{arguments_view, bundle_view};
-ghost use Rattle.fluent_command.specs.Program.{arguments_of, error_at, start, bundle_of, value_at, run_text, run_value, run_entries, run_source};
-ghost use Rattle.fluent_command.specs.Far.{Added, Took};
+ghost use Rattle.fluent_command.specs.Program.{arguments_of, error_at, start, bundle_of, value_at, run_text, run_value, run_entries, run_source, source_errors};
+ghost use Rattle.fluent_command.specs.Far.{Added, AddedFirst, Took};
 
 use crate::report::Ending;
 use crate::request::{Request, name_and_value};
@@ -179,6 +179,9 @@ fn show_resource<'w, W: Write>(
         Took result run.output (W.contents out.old.inner) (W.contents out.new.inner) }
     ensures errors { let run = run_entries (asked_view request.entry) (entries_of resource.now) in
         Added result run.errors errors.old.items errors.new.items }
+    ensures first { let isolate = request.entry.isolate in
+        AddedFirst result (answered (add_resource (entries_of resource.now)) (start isolate))
+        errors.old.items errors.new.items }
     ensures ending { let run = run_entries (asked_view request.entry) (entries_of resource.now) in
         IfOk result (λ ending. ending_view ending ≡ run.ending) }
     ensures fault { Faulted out.old.failed out.old.empty out.new.failed out.new.empty result }
@@ -191,7 +194,8 @@ fn show_resource<'w, W: Write>(
 ///
 /// # Errors
 ///
-/// What was written and added so far begins what should have been.
+/// What was written and added so far begins what should have been. Before a write can fail, all that is wrong with
+/// the source itself was added.
 pub fn show<'w, W: Write>(
     alloc: Global,
     request: Request<'w>,
@@ -203,6 +207,8 @@ pub fn show<'w, W: Write>(
         Took result run.output (W.contents out.old.inner) (W.contents out.new.inner) }
     ensures errors { let run = run_source (asked_view request.entry) source.now in
         Added result run.errors errors.old.items errors.new.items }
+    ensures first { AddedFirst result (source_errors (asked_view request.entry) source.now)
+        errors.old.items errors.new.items }
     ensures ending { let run = run_source (asked_view request.entry) source.now in
         IfOk result (λ ending. ending_view ending ≡ run.ending) }
     ensures fault { Faulted out.old.failed out.old.empty out.new.failed out.new.empty result }

@@ -1,53 +1,12 @@
-//! Readers that give pieces, fail or never end, and writers that take little or fail.
+//! Writers that take little or fail.
 
-use crate::outcome::{expect_outcome, expect_run, run_over};
+use crate::outcome::{expect_outcome, run_over};
 use std::alloc::Global;
 use std::io;
-use std::io::{Read, Write};
+use std::io::Write;
 use std::test::Fail;
 
 const INTRO: &[u8] = b"intro = Welcome, { $name }.";
-
-/// Gives a text in pieces of at most so many bytes, and then faults or ends.
-#[derive(Drop)]
-struct Pieces<'x> {
-    rest: &'x [u8],
-    size: usize,
-    fails: bool,
-}
-
-impl Read for Pieces<'_> {
-    fn read(&mut self, buf: &mut [u8]) -> io::Result<usize> {
-        let n = self.rest.len().min(self.size).min(buf.len());
-        if n == 0 && self.fails {
-            return Err(io::Error::from(io::ErrorKind::Interrupted));
-        }
-        buf[..n].copy_from_slice(&self.rest[..n]);
-        self.rest = &self.rest[n..];
-        Ok(n)
-    }
-}
-
-/// Gives one byte at each read and never ends.
-#[derive(Drop)]
-struct Endless {
-    reads: u64,
-    room: usize,
-}
-
-impl Read for Endless {
-    fn read(&mut self, buf: &mut [u8]) -> io::Result<usize> {
-        self.reads = self.reads.saturating_add(1);
-        self.room = buf.len();
-        match buf.first_mut() {
-            Some(byte) => {
-                *byte = b'#';
-                Ok(1)
-            }
-            None => Ok(0),
-        }
-    }
-}
 
 /// Takes so many bytes, and then fails or takes none.
 #[derive(Drop)]
@@ -81,44 +40,6 @@ fn of_room(alloc: Global, room: usize, fails: bool) -> Narrow {
     }
 }
 
-const SIZES: &[usize] = &[1, 2, 3, 100];
-
-#[test]
-fn reads_in_any_pieces(rt: HostRuntime) -> Result<(), Fail> {
-    let want = (0, "Welcome, \u{2068}John\u{2069}.\n", "");
-    for size in SIZES {
-        let input = Pieces {
-            rest: INTRO,
-            size: *size,
-            fails: false,
-        };
-        expect_run(&rt, rt.alloc(), &["intro", "name=John"], input, want)?;
-    }
-    Ok(())
-}
-
-const UNREAD: (u8, &str, &str) = (3, "", "fluent_show: reading failed\n");
-
-#[test]
-fn stops_where_reading_fails(rt: HostRuntime) -> Result<(), Fail> {
-    let input = Pieces {
-        rest: INTRO,
-        size: 100,
-        fails: true,
-    };
-    expect_run(&rt, rt.alloc(), &["intro"], input, UNREAD)?;
-    Ok(())
-}
-
-#[test]
-fn stops_reading_what_never_ends(rt: HostRuntime) -> Result<(), Fail> {
-    let input = Endless { reads: 0, room: 0 };
-    let reader = expect_run(&rt, rt.alloc(), &["intro"], input, UNREAD)?;
-    assert_eq!(rt; reader.reads, 1_000_000);
-    assert!(rt; reader.room >= 4096);
-    Ok(())
-}
-
 /// The room of an output, whether it fails when it is full, and what it takes of the text without arguments.
 const ROOMS: &[(usize, bool, &str)] = &[
     (12, true, "Welcome, \u{2068}"),
@@ -146,14 +67,37 @@ fn stops_where_writing_fails(rt: HostRuntime) -> Result<(), Fail> {
     Ok(())
 }
 
+/// What an output without room leaves to report of a source that has errors of its own.
+const SOURCE_LINES: &str =
+    "Parser error: unreadable entry at bytes 51..59\nAttempt to override an existing message: \"intro\".\nfluent_show: writing failed\n";
+
 #[test]
-fn gives_the_status_where_nothing_can_be_said(rt: HostRuntime) -> Result<(), Fail> {
+fn reports_the_source_where_writing_fails(rt: HostRuntime) -> Result<(), Fail> {
     let alloc = rt.alloc();
+    let source = b"intro = Welcome, { $name }.\nintro = Hi, { $name }.\nb = { $x";
     for fails in &[true, false] {
-        let err = of_room(alloc, 0, *fails);
-        let left = run_over(alloc, &["intro"], INTRO, Vec::new(alloc), err)?;
-        assert_eq!(rt; left.status, 3);
-        assert!(rt; left.err.taken.is_empty());
+        let out = of_room(alloc, 0, *fails);
+        let left = run_over(alloc, &["intro"], source.as_slice(), out, Vec::new(alloc))?;
+        let output = left.out.taken.as_slice();
+        let want = (3, "", SOURCE_LINES);
+        expect_outcome(&rt, left.status, output, left.err.as_slice(), want);
+    }
+    Ok(())
+}
+
+/// The room of standard error, and what it takes of the line of the one error.
+const SAID: &[(usize, &str)] = &[(0, ""), (8, "Resolver")];
+
+#[test]
+fn gives_the_status_where_not_all_can_be_said(rt: HostRuntime) -> Result<(), Fail> {
+    let alloc = rt.alloc();
+    for (room, said) in SAID {
+        for fails in &[true, false] {
+            let err = of_room(alloc, *room, *fails);
+            let left = run_over(alloc, &["intro"], INTRO, Vec::new(alloc), err)?;
+            assert_eq!(rt; left.status, 3);
+            assert_eq!(rt; left.err.taken.as_slice(), said.as_bytes());
+        }
     }
     Ok(())
 }

@@ -6,4 +6,6 @@ mod faults;
 #[cfg(test)]
 mod outcome;
 #[cfg(test)]
+mod reads;
+#[cfg(test)]
 mod rows;

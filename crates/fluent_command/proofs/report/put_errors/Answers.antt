@@ -5,14 +5,14 @@ use Rattle.fluent_text.specs.Taken.{TookFront}
 use Rattle.fluent_command.specs.Ending.{error_lines}
 use Rattle.fluent_command.specs.EndingView.{reported}
 use Rattle.fluent_command.proofs.Began.{took_fault}
-use Rattle.fluent_command.proofs.Lines.{one_more, first_begin, lines_on}
+use Rattle.fluent_command.proofs.Lines.{one_more, first_precede, lines_on}
 use Rattle.fluent_command.proofs.Taking.{front_short, front_then}
 use Rattle.fluent_command.proofs.report.put_errors.Goals as goal
 
 pub returns-in_err-line-clause-lines : goal.returns-in_err-line-clause-lines
 returns-in_err-line-clause-lines g c =
     let e : c.from_residual.result ≡ Err Memory = search rules in
-    rw e (reported (take c.loop-error.error-index c.args.errors.now), first_begin c.args.errors.now c.loop-error.error-index, c.loop-error.invariant.0)
+    rw e (reported (take c.loop-error.error-index c.args.errors.now), first_precede c.args.errors.now c.loop-error.error-index c.error-item.result c.loop-error-test.true, c.loop-error.invariant.0)
 
 pub loop-error-preserved : goal.loop-error-preserved
 loop-error-preserved g c =

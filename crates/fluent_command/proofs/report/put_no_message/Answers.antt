@@ -1,8 +1,7 @@
 use Rattle.std.proofs.Common.{[], ◌∷◌}
 use Rattle.std.proofs.KnownBytes.{Appends-trans}
 use Rattle.std.proofs.lemmas.Result.{on_ok_weaker, on_err_weaker}
-use Rattle.fluent_bundle.proofs.Running.{on_err}
-use Rattle.fluent_command.proofs.Taking.{front_short, front_then}
+use Rattle.fluent_command.proofs.Taking.{front_short, front_then, on_err}
 use Rattle.fluent_command.proofs.report.put_no_message.Goals as goal
 
 pub returns-clause-line : goal.returns-clause-line

@@ -1,20 +1,20 @@
-use Rattle.std.proofs.Common.{◌≡◌, ◌∙◌, ap}
+use Rattle.std.proofs.Common.{rules, ap}
+use Rattle.fluent_command.specs.Program.{source_errors}
 use Rattle.fluent_command.specs.WordsView.{asked_view}
-use Rattle.fluent_command.specs.Ending.{status}
-use Rattle.fluent_command.specs.EndingView.{ending_view}
-use Rattle.fluent_command.proofs.Coming.{came_part, came_whole, came_only, came_of, of_text, of_no_text, fault_status}
+use Rattle.fluent_command.proofs.Coming.{ends_whole, ends_fault, ends_only, ends_of, of_text, of_no_text}
 use Rattle.fluent_command.proofs.run.show_bytes.Goals as goal
 
-pub returns-in-Ok-show-clause-came : goal.returns-in-Ok-show-clause-came
-returns-in-Ok-show-clause-came g c =
-    came_of _ _ _ _ _ _ _ (of_text (asked_view c.args.request) c.args.bytes.now c.in-Ok.source.now c.in-Ok.ensures.cases.1 c.in-Ok.ensures.cases.0)
-    (came_whole c.show.result c.in-Ok-show.ending _ _ _ _ _ _ c.in-Ok-show.is c.in-Ok-show.ensures.ending c.show.ensures.text c.show.ensures.errors)
+pub returns-in-Ok-show-clause-ends : goal.returns-in-Ok-show-clause-ends
+returns-in-Ok-show-clause-ends g c =
+    let asked = asked_view c.args.request in
+    ends_of _ _ _ _ _ _ _ _ (of_text asked c.args.bytes.now c.in-Ok.source.now c.in-Ok.ensures.cases.1 c.in-Ok.ensures.cases.0) (ap (source_errors asked) c.in-Ok.ensures.cases.0)
+    (ends_whole _ _ _ _ _ _ c.requires c.show.result c.in-Ok-show.ending _ c.in-Ok-show.is c.in-Ok-show.ensures.ending c.show.ensures.text c.show.ensures.errors c.show.ensures.fault)
 
-pub returns-in-Err-show-clause-came : goal.returns-in-Err-show-clause-came
-returns-in-Err-show-clause-came g c =
-    let fault : status (ending_view c.from.result) ≡ 3 = ap status c.from.ensures ∙ fault_status c.in-Err-show.fault in
-    came_of _ _ _ _ _ _ _ (of_text (asked_view c.args.request) c.args.bytes.now c.in-Ok.source.now c.in-Ok.ensures.cases.1 c.in-Ok.ensures.cases.0)
-    (came_part c.show.result _ _ _ _ _ _ fault c.show.ensures.text c.show.ensures.errors)
+pub returns-in-Err-show-clause-ends : goal.returns-in-Err-show-clause-ends
+returns-in-Err-show-clause-ends g c =
+    let asked = asked_view c.args.request in
+    ends_of _ _ _ _ _ _ _ _ (of_text asked c.args.bytes.now c.in-Ok.source.now c.in-Ok.ensures.cases.1 c.in-Ok.ensures.cases.0) (ap (source_errors asked) c.in-Ok.ensures.cases.0)
+    (ends_fault _ _ _ _ _ _ c.requires c.show.result c.in-Err-show.fault _ (search rules) c.from.ensures c.show.ensures.text c.show.ensures.errors c.show.ensures.first c.show.ensures.fault)
 
-pub returns-in-Err-clause-came : goal.returns-in-Err-clause-came
-returns-in-Err-clause-came g c = came_only _ _ _ _ (of_no_text (asked_view c.args.request) c.args.bytes.now c.in-Err.ensures.cases.0)
+pub returns-in-Err-clause-ends : goal.returns-in-Err-clause-ends
+returns-in-Err-clause-ends g c = ends_only _ _ _ _ _ c.requires (of_no_text (asked_view c.args.request) c.args.bytes.now c.in-Err.ensures.cases.0)

@@ -7,7 +7,7 @@ use Rattle.fluent_command.specs.Words.{Asked}
 use Rattle.fluent_command.specs.WordsView.{asked_view}
 use Rattle.fluent_command.specs.Program.{start, bundle_of, value_at, run_value, run_entries}
 use Rattle.fluent_command.specs.Far.{Added}
-use Rattle.fluent_command.proofs.Adding.{added_then}
+use Rattle.fluent_command.proofs.Adding.{added_then, first_of_ok}
 use Rattle.fluent_command.proofs.show.show_resource.Goals as goal
 
 -- what was added over a bundle, which is that of the entries
@@ -19,3 +19,6 @@ pub returns-clause-errors : goal.returns-clause-errors
 returns-clause-errors g c =
     over c.show_value.result (asked_view c.args.request) (entries_of c.args.resource.now) _ _ _ c.in_ok-bundle.ensures.bundle
     (added_then c.bundle_of.result c.show_value.result _ _ _ _ _ _ c.in_ok-bundle.was c.bundle_of.ensures.errors c.show_value.ensures.errors)
+
+pub returns-clause-first : goal.returns-clause-first
+returns-clause-first g c = first_of_ok c.bundle_of.result c.show_value.result _ _ _ _ _ _ c.in_ok-bundle.was c.bundle_of.ensures.errors c.show_value.ensures.errors

@@ -1,0 +1,30 @@
+-- A writer that counts its faults, as the contracts of a run see it.
+use Rattle.std.specs.Prelude.{◌≡◌, ℕ, ◌⊎◌, Option}
+use Rattle.std.specs.Io.KnownBytes.{Appends}
+use Rattle.fluent_tree.specs.Tree.{Text}
+use Rattle.fluent_text.specs.Taken.{raised, TookFront}
+use Rattle.fluent_text.specs.declared.counting.Counting.{Counting}
+
+-- What it holds, where that is known, and how many of its writes failed and took nothing.
+pub record Outlet : Type 0 where
+  pub held : Option Text
+  pub failed : ℕ
+  pub empty : ℕ
+
+abbrev pub outlet : {W : Type 0} → (W → Option Text) → Counting W → Outlet
+outlet contents w = record { held = contents w.inner; failed = w.failed; empty = w.empty }
+
+-- one of two counts went up: that of the writes that failed, or that of those that took nothing
+abbrev pub Rose : ℕ → ℕ → ℕ → ℕ → Type 0
+Rose failed empty failed' empty' = ((failed' ≡ raised failed) × (empty' ≡ empty)) ⊎ ((failed' ≡ failed) × (empty' ≡ raised empty))
+
+-- it took this text, and no write failed or took nothing
+pub record Takes (text : Text) (old new : Outlet) : Type 0 where
+  pub taken : Appends old.held new.held text
+  pub failed : new.failed ≡ old.failed
+  pub empty : new.empty ≡ old.empty
+
+-- a write failed or took nothing, and it took a beginning of this text
+pub record Faults (text : Text) (old new : Outlet) : Type 0 where
+  pub taken : TookFront old.held new.held text
+  pub rose : Rose old.failed old.empty new.failed new.empty
