@@ -78,7 +78,8 @@ where
         Global,
         &[FluentValue<'a, NoCustom>],
         &FluentArgs<'a, NoCustom>,
-    ) -> Result<FluentValue<'a, NoCustom>, AllocError> + Drop,
+    ) -> Result<FluentValue<'a, NoCustom>, AllocError>
+        + Drop,
     requires { ⟦<K as Answering<NoCustom, N>>⟧.ready closure }
 {
     kept_answers::<K, N>(alloc, closure, text, none)
