@@ -11,7 +11,10 @@ mod resource;
 pub use bundle::{AddFault, FluentBundle};
 pub use calls::Call;
 pub use fluent_entries::{Entry, FunctionRef, GetEntry};
-pub use fluent_intl::{EnglishPlurals, LanguageIdentifier, MemoizerKind};
+pub use fluent_intl::{
+    EnglishPlurals, LanguageIdentifier, MemoizerKind, NotANumber, OutOfRange, PluralCategory,
+    PluralOperands, PluralRuleType,
+};
 pub use fluent_syntax::{Counting, ParserError, WriteFault, ast};
 pub use fluent_values::{
     AnswerRule, Answering, ArgsIntoIter, ArgsIter, Attributes, EntryKind, FluentArgs,

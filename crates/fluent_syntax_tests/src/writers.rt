@@ -99,3 +99,27 @@ fn writers_that_fail(rt: HostRuntime) {
     }
     assert!(rt; is_not_counted(rt.alloc()));
 }
+
+/// What one write of a piece answers: how many bytes it took, or none where it was broken.
+fn answer(w: &mut Counting<Slow>, piece: &[u8]) -> Option<usize> {
+    match &w.write(piece) {
+        Ok(n) => Some(*n),
+        Err(e) if e.kind() == io::ErrorKind::BrokenPipe => None,
+        Err(_) => Some(usize::MAX),
+    }
+}
+
+/// That each write is one of the writer within, of which two are good and take two bytes each.
+fn are_single(alloc: Global) -> bool {
+    let mut w = slow_writer(alloc, 2, 2);
+    answer(&mut w, b"hello") == Some(2)
+        && answer(&mut w, b"llo") == Some(2)
+        && answer(&mut w, b"o") == None
+        && has_counts(&w, (1, 0))
+        && w.into_inner().taken.as_slice() == b"hell".as_slice()
+}
+
+#[test]
+fn each_write_is_one_write_within(rt: HostRuntime) {
+    assert!(rt; are_single(rt.alloc()));
+}

@@ -19,8 +19,8 @@ fn written(
 }
 
 const ASKED: &[Asked<'static>] = &[
-    Asked::AddResource("items = few items\nrest = none\n"),
-    Asked::AddResourceOverriding("items = { $n } items\n"),
+    Asked::AddResource("junk\nitems = few items\nrest = none\n"),
+    Asked::AddResourceOverriding("items = { $n } items\njunk\n"),
     Asked::AddBuiltins,
     Asked::SetUseIsolating(false),
 ];

@@ -4,6 +4,8 @@
 #[cfg(test)]
 mod calls;
 #[cfg(test)]
+mod closure;
+#[cfg(test)]
 mod common;
 #[cfg(test)]
 mod errors;
@@ -15,6 +17,8 @@ mod made;
 mod messages;
 #[cfg(test)]
 mod own;
+#[cfg(test)]
+mod plenty;
 #[cfg(test)]
 mod resolver;
 #[cfg(test)]

@@ -108,6 +108,7 @@ const ROWS: &[(&str, Given, &str, &str)] = &[
     ("m = { $n }  ", ("n", "z"), "z", ""),
     ("m = { 5 }", ("", ""), "5", ""),
     ("m = { 1.50 }", ("", ""), "1.50", ""),
+    ("m = { 1.0000000 }", ("", ""), "1.0000000", ""),
     ("m = { -0.0 }", ("", ""), "0.0", ""),
     (
         "m = { $n } apples",
@@ -117,7 +118,8 @@ const ROWS: &[(&str, Given, &str, &str)] = &[
     ),
 ];
 
-/// A source, its argument, and what an odd writer is told.
+/// A source, its argument, and what an odd writer is told. The second is full where the fallback begins: the error
+/// stands in the list by then.
 const ODD: &[(&str, Given, Told<'static>)] = &[
     (
         "m = Welcome, { $name }.",
@@ -128,6 +130,17 @@ const ODD: &[(&str, Given, Told<'static>)] = &[
             faults: (1, 0),
             text: "Welcome, ",
             errors: "",
+        },
+    ),
+    (
+        "m = Welcome, { $name }.",
+        ("", ""),
+        Told {
+            takes: (100, 12),
+            end: End::Writer,
+            faults: (1, 0),
+            text: "Welcome, \u{2068}",
+            errors: "Resolver error: Unknown variable: $name\n",
         },
     ),
     (

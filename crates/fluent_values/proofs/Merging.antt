@@ -1,7 +1,7 @@
 -- To merge arguments in the order of their names is to look each option's name up.
 use Rattle.std.proofs.Common.{◌≡◌, ℕ, [], ◌∷◌, Bool, true, false, cond, not, min, Option, Some, None, T, codes, if◌then◌else◌, refl, sym, ap, subst, ◌∙◌}
 use Rattle.std.specs.Ordering.{is_eq}
-use Rattle.std.specs.Cmp.Lexicographic.{bytes_decides, nat_list_eq_equiv}
+use Rattle.std.specs.Cmp.Lexicographic.{bytes_decides, nat_list_eq_equiv, texts_ties}
 use Rattle.std.specs.FinMap.{find, is_sorted}
 use Rattle.fluent_tree.specs.Tree.{Text}
 use Rattle.fluent_intl.specs.Options.{Options, type_named, style_named, currency_display_named}
@@ -11,7 +11,6 @@ use Rattle.fluent_intl.specs.declared.options.FluentNumberCurrencyDisplayStyle.{
 use Rattle.fluent_meaning.specs.Number.{as_count, is_text}
 use Rattle.fluent_meaning.specs.Value.{Value, text_value, number_value, custom_value, no_value, error_value}
 use Rattle.fluent_meaning.specs.Arguments.{Map, merge, merge_one, merge_text, merge_count}
-use Rattle.fluent_meaning.proofs.Maps.{same_key_is_text}
 use Rattle.fluent_values.specs.Merging.{by_text, by_count, with_argument, with_currency, with_kinds, with_digits}
 use Rattle.fluent_values.proofs.Ordered.{bytes_cmp, front_of, rest_of, not_below_itself}
 
@@ -22,7 +21,7 @@ abbrev Steps : {A : Type 0} → (Options → A) → Text → (Value Text → A �
 Steps field name step = (k : Text) (v : Value Text) (o : Options) → field (merge_one k v o) ≡ (if is_text k name then step v (field o) else field o)
 
 same_test : (k name : Text) (b : Bool) → is_eq (bytes_cmp name k) ≡ b → is_text k name ≡ b
-same_test k name b h = nat_list_eq_equiv.symm k name ∙ sym (same_key_is_text name k) ∙ h
+same_test k name b h = nat_list_eq_equiv.symm k name ∙ texts_ties name k ∙ h
 
 looked_up : {A : Type 0} (field : Options → A) (name : Text) (step : Value Text → A → A) → Steps field name step
     → (m : Map (Value Text)) → T (is_sorted bytes_cmp m) → (o : Options) → field (merge m o) ≡ with_argument step (find bytes_cmp name m) (field o)

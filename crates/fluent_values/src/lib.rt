@@ -6,6 +6,7 @@ pub mod builtins;
 mod errors;
 mod formatter;
 mod function;
+pub mod laws;
 pub mod memoizer;
 mod message;
 pub mod resolver;

@@ -1,5 +1,5 @@
 //! Each call once, also where memory is refused.
-use crate::common::{Given, Named, arguments, value};
+use crate::common::{Given, MANY, Named, arguments, many, nth_name, value};
 use fluent_values::FluentArgs;
 use fluent_values::types::{FluentValue, NoCustom};
 use std::alloc::{AllocError, Global};
@@ -142,6 +142,24 @@ fn a_name_has_what_it_was_given_last(rt: HostRuntime) -> Result<(), Fail> {
     }
     for (name, given) in HELD {
         assert!(rt; has(&args, *name, *given));
+    }
+    Ok(())
+}
+
+/// That arguments have for a name its place.
+fn has_nth(alloc: Global, args: &FluentArgs<'_, NoCustom>, i: usize) -> Result<bool, AllocError> {
+    match args.get(nth_name(alloc, i)?.as_str()) {
+        Some(found) => Ok(found.same(&FluentValue::from(i))),
+        None => Ok(false),
+    }
+}
+
+/// No name is refused for being one of many.
+#[test]
+fn many_names_are_taken(rt: HostRuntime) -> Result<(), Fail> {
+    let args = many(rt.alloc())?;
+    for i in 0..MANY {
+        assert!(rt; has_nth(rt.alloc(), &args, i)?, "n{i}");
     }
     Ok(())
 }

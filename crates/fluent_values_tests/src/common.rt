@@ -57,6 +57,23 @@ pub fn arguments(
     FluentArgs::try_from_iter(alloc, pairs(alloc, row)?.into_iter())
 }
 
+/// How many arguments `many` makes.
+pub const MANY: usize = 51;
+
+/// The name of an argument by its place.
+pub fn nth_name(alloc: Global, i: usize) -> Result<String, AllocError> {
+    format!(in alloc; "n{i}")
+}
+
+/// Arguments that have each its place for a value.
+pub fn many(alloc: Global) -> Result<FluentArgs<'static, NoCustom>, AllocError> {
+    let mut args = FluentArgs::new(alloc);
+    for i in 0..MANY {
+        args.set(CowStr::Owned(nth_name(alloc, i)?), FluentValue::from(i))?;
+    }
+    Ok(args)
+}
+
 /// A text in quotes.
 fn quoted(alloc: Global, text: &str) -> Result<CowStr<'static>, AllocError> {
     Ok(CowStr::Owned(format!(in alloc; "\"{text}\"")?))

@@ -1,6 +1,6 @@
 //! A function of an application, kept with its fact.
-ghost use Rattle.std.specs.Prelude.{◌≡◌, [], map, unwrap_or, slice_get, IfOk};
-ghost use Rattle.fluent_meaning.specs.Value.{error_value};
+ghost use Rattle.std.specs.Prelude.{◌≡◌, [], map, unwrap_or, slice_get, codes, IfOk};
+ghost use Rattle.fluent_meaning.specs.Value.{text_value, error_value};
 ghost use Rattle.fluent_values.specs.View.{value_view};
 
 use crate::common::{Given, is_shown, values};
@@ -53,21 +53,74 @@ fn answers_both<F: FluentFunction<NoCustom>>(
     Ok(answers(alloc, function, BOTH, text)? && answers(alloc, function, &[], "error")?)
 }
 
-fn kept_answers<K: Answering<NoCustom, FirstValue> + Drop>(
+/// That what answers by a rule and is kept answers so, and no positional values with another text.
+fn kept_answers<K: Answering<NoCustom, N> + Drop, N: AnswerRule<NoCustom>>(
     alloc: Global,
     closure: K,
+    text: &str,
+    none: &str,
 ) -> Result<bool, AllocError>
     requires { K.ready closure }
 {
-    let function = FunctionOf::<NoCustom, K, FirstValue>::new(closure);
-    answers_both(alloc, &function, "\"a\"")
+    let function = FunctionOf::<NoCustom, K, N>::new(closure);
+    Ok(answers(alloc, &function, BOTH, text)? && answers(alloc, &function, &[], none)?)
+}
+
+/// The same of a closure, whose shape the bound gives it.
+fn closure_answers<K, N: AnswerRule<NoCustom>>(
+    alloc: Global,
+    closure: K,
+    text: &str,
+    none: &str,
+) -> Result<bool, AllocError>
+where
+    K: for<'a> Fn(
+        Global,
+        &[FluentValue<'a, NoCustom>],
+        &FluentArgs<'a, NoCustom>,
+    ) -> Result<FluentValue<'a, NoCustom>, AllocError>
+        + Drop,
+    requires { ⟦<K as Answering<NoCustom, N>>⟧.ready closure }
+{
+    kept_answers::<K, N>(alloc, closure, text, none)
+}
+
+/// Always the text `hello`.
+struct Greeting;
+
+impl AnswerRule<NoCustom> for Greeting {
+    ghost answer = { λ _ _. text_value (codes "hello") };
+}
+
+fn first_of_closure(alloc: Global) -> Result<bool, AllocError> {
+    closure_answers::<_, FirstValue>(
+        alloc,
+        |alloc, positional, _arguments| match positional.first() {
+            Some(value) => value.try_clone(alloc),
+            None => Ok(FluentValue::Error),
+        },
+        "\"a\"",
+        "error",
+    )
+}
+
+fn captured(alloc: Global) -> Result<bool, AllocError> {
+    let greeting = "hello";
+    closure_answers::<_, Greeting>(
+        alloc,
+        move |_alloc, _positional, _arguments| Ok(FluentValue::from(greeting)),
+        "\"hello\"",
+        "\"hello\"",
+    )
 }
 
 #[test]
 fn a_kept_function_answers_by_its_rule_and_no_function_an_error(
     rt: HostRuntime,
 ) -> Result<(), Fail> {
-    assert!(rt; kept_answers(rt.alloc(), first)?);
+    assert!(rt; kept_answers::<_, FirstValue>(rt.alloc(), first, "\"a\"", "error")?);
+    assert!(rt; first_of_closure(rt.alloc())?);
+    assert!(rt; captured(rt.alloc())?);
     assert!(rt; answers_both(rt.alloc(), &NoFunction, "error")?);
     Ok(())
 }

@@ -1,5 +1,5 @@
 //! The options that arguments give, and the built-in function.
-use crate::common::{Given, Named, arguments, is_shown, values};
+use crate::common::{Given, Named, arguments, is_shown, many, values};
 use fluent_values::builtins::NUMBER;
 use fluent_values::types::{
     FluentNumberCurrencyDisplayStyle, FluentNumberOptions, FluentNumberStyle, FluentNumberType,
@@ -94,6 +94,11 @@ const ANSWERS: &[(&[Given], &[Named], &str)] = &[
         &[("minimumFractionDigits", Given::Number(400))],
         "5.000000000000000000",
     ),
+    (
+        &[Given::Number(5)],
+        &[("minimumFractionDigits", Given::Number(7))],
+        "5.0000000",
+    ),
     (&[], &[], "error"),
     (&[Given::Text("5"), Given::Number(5)], &[], "error"),
     (&[Given::Number(5), Given::Text("x")], &[], "5"),
@@ -119,5 +124,18 @@ fn numbers_have_their_options(rt: HostRuntime) -> Result<(), Fail> {
             "{text}"
         );
     }
+    Ok(())
+}
+
+/// A number that is asked for with arguments of other names, however many, is itself.
+fn is_itself(alloc: Global) -> Result<bool, AllocError> {
+    let positional = values(alloc, &[Given::Number(5)])?;
+    let args = many(alloc)?;
+    is_shown(alloc, &NUMBER(alloc, positional.as_slice(), &args)?, "5")
+}
+
+#[test]
+fn many_other_names_change_no_number(rt: HostRuntime) -> Result<(), Fail> {
+    assert!(rt; is_itself(rt.alloc())?);
     Ok(())
 }

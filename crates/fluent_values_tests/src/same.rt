@@ -1,6 +1,7 @@
 //! Which values are the same, and copies of them.
 use fluent_values::types::{FluentType, FluentValue};
 use std::alloc::{AllocError, Global};
+use std::borrow::CowStr;
 use std::test::Fail;
 
 /// A value of the application's own, of which there are as many as bytes.
@@ -94,5 +95,17 @@ fn copies_are_the_same(rt: HostRuntime) -> Result<(), Fail> {
         };
         assert!(rt; copied, "at {i}");
     }
+    Ok(())
+}
+
+/// That a copy of a text that is lent is lent.
+fn stays_lent(alloc: Global) -> Result<bool, AllocError> {
+    let copy = value_at(0).try_clone(alloc)?;
+    Ok(matches!(copy, FluentValue::String(CowStr::Borrowed(_))))
+}
+
+#[test]
+fn lent_texts_stay_lent(rt: HostRuntime) -> Result<(), Fail> {
+    assert!(rt; stays_lent(rt.alloc())?);
     Ok(())
 }

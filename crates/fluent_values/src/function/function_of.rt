@@ -59,6 +59,27 @@ where
 
 /// A function of the application with the fact that it may be called on all arguments and answers by the rule
 /// that `N` names.
+///
+/// What is done with one stands in a function that is generic in `K`, here `kept`. It is called with the name of a
+/// function, which needs nothing else. A closure is handed to it by a second function, whose bound gives the closure
+/// its shape, here `closure`: the call is `closure(|alloc, positional, named| ..)`.
+///
+/// ```text
+/// fn kept<K: Answering<C, N> + Drop>(answers: K)
+///     requires { K.ready answers }
+/// {
+///     let function = FunctionOf::<C, K, N>::new(answers); // and all that is done with it
+/// }
+///
+/// fn closure<K>(answers: K)
+/// where
+///     K: for<'a> Fn(Global, &[FluentValue<'a, C>], &FluentArgs<'a, C>)
+///             -> Result<FluentValue<'a, C>, AllocError> + Drop,
+///     requires { ⟦<K as Answering<C, N>>⟧.ready answers }
+/// {
+///     kept(answers)
+/// }
+/// ```
 #[derive(Drop)]
 pub struct FunctionOf<C: FluentType, K: Answering<C, N>, N: AnswerRule<C>> {
     closure: K,

@@ -6,6 +6,7 @@ ghost use Rattle.fluent_values.specs.Free.{IsLent, IsTextless};
 
 use crate::types::FluentType;
 use fluent_intl::FluentNumber;
+use fluent_meaning::laws::numbers_read_as_defined;
 use std::alloc::{AllocError, Global};
 use std::borrow::CowStr;
 use std::str::FromStr;
@@ -31,6 +32,7 @@ impl<'s, C: FluentType> FluentValue<'s, C> {
     pub fn try_number(text: &'s str) -> FluentValue<'s, C>
         ensures { value_view C.content result ≡ meaning.try_number text.now }
     {
+        numbers_read_as_defined();
         match FluentNumber::from_str(text) {
             Ok(number) => FluentValue::Number(number),
             Err(_) => FluentValue::String(CowStr::Borrowed(text)),
