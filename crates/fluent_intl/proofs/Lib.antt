@@ -7,3 +7,7 @@ pub mod DecimalText
 pub mod DecimalWhole
 pub mod Remainders
 pub mod OneOperands
+mod RuleRuns
+mod RuleValues
+mod RuleLines
+mod RuleDigits

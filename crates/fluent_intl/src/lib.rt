@@ -9,6 +9,7 @@ pub mod number;
 pub mod operands;
 pub mod options;
 pub mod plurals;
+pub mod rule_texts;
 
 pub use decimal::{
     Decimal, NotANumber, OutOfRange, each_number_has_one_text, each_text_is_one_number,
@@ -22,3 +23,4 @@ pub use options::{
     FluentNumberCurrencyDisplayStyle, FluentNumberOptions, FluentNumberStyle, FluentNumberType,
 };
 pub use plurals::{EnglishPlurals, MemoizerKind, PluralCategory, PluralRuleType};
+pub use rule_texts::{RuleFault, RuleTexts};
