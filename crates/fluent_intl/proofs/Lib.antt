@@ -11,3 +11,5 @@ mod RuleRuns
 mod RuleValues
 mod RuleLines
 mod RuleDigits
+mod RuleRows
+pub mod EnglishRules

@@ -9,3 +9,4 @@ pub mod RuleGrammar
 pub mod RuleMeaning
 pub mod RuleReading
 pub mod RuleTexts
+pub mod EnglishRules

@@ -23,4 +23,4 @@ pub use options::{
     FluentNumberCurrencyDisplayStyle, FluentNumberOptions, FluentNumberStyle, FluentNumberType,
 };
 pub use plurals::{EnglishPlurals, MemoizerKind, PluralCategory, PluralRuleType};
-pub use rule_texts::{RuleFault, RuleTexts};
+pub use rule_texts::{RuleFault, RuleTexts, english_agrees_with_its_rules};

@@ -5,6 +5,7 @@
 mod condition;
 mod fault;
 mod holds;
+mod laws;
 mod lexical;
 mod line;
 mod lines;
@@ -18,6 +19,7 @@ use crate::operands::PluralOperands;
 use crate::plurals::{MemoizerKind, PluralCategory, PluralRuleType};
 pub use fault::RuleFault;
 use holds::category_by;
+pub use laws::english_agrees_with_its_rules;
 use lines::read_rules;
 use std::alloc::Global;
 use std::marker::Model;
