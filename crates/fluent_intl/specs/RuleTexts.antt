@@ -1,5 +1,6 @@
 -- What the reading of two rule texts answers.
-use Rattle.std.specs.Prelude.{◌≡◌, ℕ, Result, Ok, Err, IsOk}
+use Rattle.std.specs.Prelude.{◌≡◌, ℕ, ◌++◌, codes, Result, Ok, Err, IsOk}
+use Rattle.std.specs.Fmt.{decimal}
 use Rattle.fluent_text.specs.Parser.{Text}
 use Rattle.fluent_intl.specs.declared.operands.PluralOperands.{PluralOperands}
 use Rattle.fluent_intl.specs.declared.plurals.PluralCategory.{PluralCategory}
@@ -21,6 +22,12 @@ abbrev pub IsParse : Text → Text → Result Rules RuleFault → Type 0
 IsParse cardinal ordinal (Ok texts) = (rules cardinal ≡ Ok texts.cardinal) × (rules ordinal ≡ Ok texts.ordinal)
 IsParse cardinal ordinal (Err (Syntax kind at)) = IsFault cardinal ordinal kind at
 IsParse cardinal ordinal (Err Memory) = Unit {0}
+
+-- what a fault says
+abbrev pub fault_text : RuleFault → Text
+fault_text (Syntax CARDINAL at) = codes "unreadable cardinal rule at byte " ++ decimal at
+fault_text (Syntax ORDINAL at) = codes "unreadable ordinal rule at byte " ++ decimal at
+fault_text Memory = codes "out of memory"
 
 -- the category of the operands under the rules of this kind
 abbrev pub category_of : Rules → PluralRuleType → PluralOperands → PluralCategory

@@ -16,7 +16,7 @@ pub use decimal::{
     whole_numbers_are_kept,
 };
 pub use language::LanguageIdentifier;
-pub use laws::equal_values_hash_alike;
+pub use laws::{equal_values_hash_alike, same_operands, same_rule_faults};
 pub use number::FluentNumber;
 pub use operands::PluralOperands;
 pub use options::{

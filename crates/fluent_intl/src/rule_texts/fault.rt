@@ -15,6 +15,11 @@ pub enum RuleFault {
 }
 
 impl fmt::Display for RuleFault {
+    ghost use Rattle.std.specs.Prelude.{Some};
+    ghost use Rattle.fluent_intl.specs.RuleTexts.{fault_text};
+
+    ghost output = { λ fault. Some (fault_text fault) };
+
     fn fmt<W: fmt::Write>(&self, f: &mut fmt::Formatter<W>) -> fmt::Result {
         match self {
             RuleFault::Syntax(PluralRuleType::CARDINAL, at) => {
