@@ -10,3 +10,4 @@ pub mod RuleMeaning
 pub mod RuleReading
 pub mod RuleTexts
 pub mod EnglishRules
+pub mod RuleRelations
