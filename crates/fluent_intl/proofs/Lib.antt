@@ -7,3 +7,10 @@ pub mod DecimalText
 pub mod DecimalWhole
 pub mod Remainders
 pub mod OneOperands
+mod RuleRuns
+mod RuleValues
+mod RuleLines
+mod RuleDigits
+mod RuleRows
+pub mod EnglishRules
+pub mod RuleRelations

@@ -4,3 +4,10 @@ pub mod SameContent
 pub mod Number
 pub mod Operands
 pub mod Plurals
+pub mod RuleTree
+pub mod RuleGrammar
+pub mod RuleMeaning
+pub mod RuleReading
+pub mod RuleTexts
+pub mod EnglishRules
+pub mod RuleRelations

@@ -9,16 +9,20 @@ pub mod number;
 pub mod operands;
 pub mod options;
 pub mod plurals;
+pub mod rule_texts;
 
 pub use decimal::{
     Decimal, NotANumber, OutOfRange, each_number_has_one_text, each_text_is_one_number,
     whole_numbers_are_kept,
 };
 pub use language::LanguageIdentifier;
-pub use laws::equal_values_hash_alike;
+pub use laws::{equal_values_hash_alike, same_operands, same_rule_faults};
 pub use number::FluentNumber;
 pub use operands::PluralOperands;
 pub use options::{
     FluentNumberCurrencyDisplayStyle, FluentNumberOptions, FluentNumberStyle, FluentNumberType,
 };
 pub use plurals::{EnglishPlurals, MemoizerKind, PluralCategory, PluralRuleType};
+pub use rule_texts::{
+    RuleFault, RuleTexts, english_agrees_with_its_rules, rules_select_the_first_that_holds,
+};
