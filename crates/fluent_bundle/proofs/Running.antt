@@ -13,7 +13,7 @@ on_err (Err e) p = p
 
 -- kept twice
 pub kept_on : {M C F G X : Type 0} (a b c : FluentBundle M C F G X) → Kept a b → Kept b c → Kept a c
-kept_on a b c h k = record { locales = k.locales ∙ h.locales; transform = k.transform ∙ h.transform; formatter = k.formatter ∙ h.formatter }
+kept_on a b c h k = record { beside = record { locales = k.beside.locales ∙ h.beside.locales; intls = k.beside.intls ∙ h.beside.intls }; transform = k.transform ∙ h.transform; formatter = k.formatter ∙ h.formatter }
 
 module _ {C : Type 0} where
   after_one_more : (calls : List (Call C)) (call : Call C) (b : Bundle C) → after_all (calls ++ call ∷ []) b ≡ after call (after_all calls b)

@@ -43,7 +43,7 @@ meant category shown alike answer formatted changed b = record {
   formatter = formatter_of (option_map (λ g v. formatted g v b.intls) b.formatter);
   plurals = category b.intls;
   custom = record { text = shown; same = alike };
-  limit = 100;
+  limit = b.placeable_limit;
 }
 
 -- one locale, which has no part
@@ -78,8 +78,13 @@ BegunBy {C = C} calls old new = (made : List (Call C)) × (left : List (Call C))
 abbrev pub is_plain : {M C F G X : Type 0} → FluentBundle M C F G X → Bool
 is_plain b = not (is_some b.transform)
 
--- What a bundle's meaning does not show is as before: its locales, and which transform and formatter it holds.
-pub record Kept {M C F G X : Type 0} (b b' : FluentBundle M C F G X) : Type 0 where
+-- What a bundle's meaning does not show is as before, but for its transform and its formatter: its locales and its plural source.
+pub record KeptBeside {M C F G X : Type 0} (b b' : FluentBundle M C F G X) : Type 0 where
   pub locales : b'.locales ≡ b.locales
+  pub intls : b'.intls ≡ b.intls
+
+-- The same, and it holds the transform and the formatter that it held.
+pub record Kept {M C F G X : Type 0} (b b' : FluentBundle M C F G X) : Type 0 where
+  pub beside : KeptBeside b b'
   pub transform : b'.transform ≡ b.transform
   pub formatter : b'.formatter ≡ b.formatter

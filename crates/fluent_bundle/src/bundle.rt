@@ -1,10 +1,10 @@
 //! The bundle: messages, terms and functions by id, and its settings.
-ghost use Rattle.std.specs.Prelude.{◌≡◌, map, is_some, None, IfOk, OnOk, OnErr};
+ghost use Rattle.std.specs.Prelude.{◌≡◌, ◌≤◌, ◌↔◌, map, is_some, None, IfOk, OnOk, OnErr, IsTrue};
 ghost use Rattle.std.specs.Option.{option_map};
 ghost use Rattle.fluent_intl.specs.Plurals.{english};
-ghost use Rattle.fluent_meaning.specs.Bundle.{empty_bundle, after, answered, add_resource, add_resource_overriding, add_function, add_builtins, set_use_isolating, set_transform, set_formatter};
+ghost use Rattle.fluent_meaning.specs.Bundle.{empty_bundle, after, answered, add_resource, add_resource_overriding, add_function, add_builtins, set_use_isolating, set_transform, set_formatter, set_placeable_limit};
 ghost use Rattle.fluent_values.specs.View.{error_view};
-ghost use Rattle.fluent_bundle.specs.BundleView.{meant, entries_of, message_at, message_entry_at, Adds, AreUndetermined, Kept};
+ghost use Rattle.fluent_bundle.specs.BundleView.{meant, entries_of, message_at, message_entry_at, Adds, AreUndetermined, Kept, KeptBeside};
 ghost use Rattle.fluent_values.specs.MessageView.{entry_seen, message_view};
 ghost use Rattle.fluent_bundle.specs.Adding.{answer_of};
 
@@ -12,11 +12,18 @@ use crate::resource::FluentResource;
 use fluent_entries::{Entry, FunctionRef, GetEntry, Ids};
 use fluent_intl::{EnglishPlurals, LanguageIdentifier, MemoizerKind};
 use fluent_syntax::ast;
+use fluent_values::resolver::Context;
 use fluent_values::types::FluentType;
 use fluent_values::{FluentError, FluentFormatter, FluentFunction, FluentMessage, Transform};
 use std::alloc::{AllocError, Global};
 use std::borrow::CowStr;
 use std::marker::PhantomData;
+
+/// How many placeables one formatting call opens, where nothing else is set.
+const DEFAULT_PLACEABLE_LIMIT: u32 = 100;
+
+/// The largest limit on placeables that can be set.
+const MAX_PLACEABLE_LIMIT: usize = 10_000;
 
 /// Messages by id, from one resource or many, and the settings under which patterns are resolved.
 ///
@@ -32,6 +39,7 @@ pub struct FluentBundle<'r, 's, M, C, F, G, T = Box<dyn Transform>> {
     pub(crate) transform: Option<T>,
     pub(crate) formatter: Option<G>,
     pub(crate) intls: M,
+    pub(crate) placeable_limit: u32,
     pub(crate) custom: PhantomData<C>,
     pub(crate) alloc: Global,
 }
@@ -56,7 +64,7 @@ impl<
 > FluentBundle<'r, 's, M, C, F, G, T> {
     /// Makes a bundle with no messages, with isolation on, without transform and formatter. It keeps the allocator and takes no memory yet.
     pub fn new(alloc: Global, locales: Vec<LanguageIdentifier>, intls: M) -> Self
-        ensures locales { result.locales ≡ locales }
+        ensures kept { (result.locales ≡ locales) × (result.intls ≡ intls) }
         ensures unset { (result.transform ≡ None) × (result.formatter ≡ None) }
         ensures empty { let of = meant M.category C.shown C.alike F.answer G.formatted T.changed in of result ≡ empty_bundle (M.category intls) (record { text = C.shown; same = C.alike }) }
     {
@@ -67,6 +75,7 @@ impl<
             transform: None,
             formatter: None,
             intls,
+            placeable_limit: DEFAULT_PLACEABLE_LIMIT,
             custom: PhantomData,
             alloc,
         }
@@ -84,7 +93,8 @@ impl<
     pub fn set_transform(&mut self, transform: Option<T>)
         ensures step { let of = meant M.category C.shown C.alike F.answer G.formatted T.changed in of self.new ≡ after (set_transform (option_map T.changed transform)) (of self.old) }
         ensures set { self.new.transform ≡ transform }
-        ensures kept { (self.new.locales ≡ self.old.locales) × (self.new.formatter ≡ self.old.formatter) }
+        ensures kept { KeptBeside self.old self.new }
+        ensures formatter { self.new.formatter ≡ self.old.formatter }
     {
         self.transform = transform;
     }
@@ -94,9 +104,24 @@ impl<
     pub fn set_formatter(&mut self, formatter: Option<G>)
         ensures step { let of = meant M.category C.shown C.alike F.answer G.formatted T.changed in of self.new ≡ after (set_formatter (option_map (λ g v. G.formatted g v self.old.intls) formatter)) (of self.old) }
         ensures set { self.new.formatter ≡ formatter }
-        ensures kept { (self.new.locales ≡ self.old.locales) × (self.new.transform ≡ self.old.transform) }
+        ensures kept { KeptBeside self.old self.new }
+        ensures transform { self.new.transform ≡ self.old.transform }
     {
         self.formatter = formatter;
+    }
+
+    /// Sets how many placeables one formatting call opens, 100 at first, and says whether that was done: a limit
+    /// of 1 to 10,000 is set, any other leaves the bundle as it was.
+    pub fn set_placeable_limit(&mut self, limit: usize) -> bool
+        ensures step { let of = ⟦<Self as Context<C>>⟧.meant in of self.new ≡ after (set_placeable_limit limit) (of self.old) }
+        ensures set { IsTrue result ↔ ((1 ≤ limit) × (limit ≤ 10000)) }
+        ensures kept { Kept self.old self.new }
+    {
+        let is_allowed = limit >= 1 && limit <= MAX_PLACEABLE_LIMIT;
+        if is_allowed {
+            self.placeable_limit = limit as u32;
+        }
+        is_allowed
     }
 
     /// Adds the messages and terms of a resource in order. An entry whose id is there is left and reported. Junk is

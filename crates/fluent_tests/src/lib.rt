@@ -6,9 +6,13 @@ mod calls;
 #[cfg(test)]
 mod common;
 #[cfg(test)]
+mod composing;
+#[cfg(test)]
 mod errors;
 #[cfg(test)]
 mod headline;
+#[cfg(test)]
+mod limit;
 #[cfg(test)]
 mod made;
 #[cfg(test)]
