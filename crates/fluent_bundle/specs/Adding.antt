@@ -1,5 +1,5 @@
 -- What an adding call answers.
-use Rattle.std.specs.Prelude.{[], ◌∷◌, Result, Ok, Err}
+use Rattle.std.specs.Prelude.{[], ◌∷◌, Result, Ok, Err, alloc_error}
 use Rattle.std.proofs.Common.{Global}
 use Rattle.std.specs.declared.vec.Vec.{Vec}
 use Rattle.std.specs.declared.alloc.AllocError.{AllocError}
@@ -11,3 +11,8 @@ use Rattle.fluent_bundle.specs.declared.bundle.AddFault.TheVariants as fault
 abbrev pub answer_of : Result (Vec FluentError Global) AllocError → Result (Unit {0}) AddFault
 answer_of (Err e) = Err fault.Memory
 answer_of (Ok errors) = elim errors.items [ [] ↦ Ok tt | ◌∷◌ e es ↦ Err (fault.Overriding errors) ]
+
+-- by what an adding call answers, where what it left is no failure
+abbrev pub unless_refused : Result (Unit {0}) AddFault → Result (Unit {0}) AllocError
+unless_refused (Err fault.Memory) = Err alloc_error
+unless_refused _ = Ok tt

@@ -1,5 +1,5 @@
 -- The content of resources, messages and bundles of the code.
-use Rattle.std.specs.Prelude.{Bool, not, is_some, List, map, Option, None, Result, Ok, Err, ◌≡◌, ◌≢◌, [], ◌∷◌, ◌++◌}
+use Rattle.std.specs.Prelude.{Bool, not, is_some, List, map, Option, None, Result, Ok, Err, ◌≡◌, ◌≢◌, [], ◌∷◌}
 use Rattle.std.specs.Option.{option_map}
 use Rattle.fluent_tree.specs.Tree as t
 use Rattle.fluent_tree.specs.Tree.{Text}
@@ -7,9 +7,9 @@ use Rattle.fluent_tree.specs.View.{resource_view}
 use Rattle.fluent_syntax.specs.Chunks.{entries, junk_ranges}
 use Rattle.fluent_syntax.specs.Parsed.{error_range}
 use Rattle.fluent_intl.specs.declared.language.LanguageIdentifier.{LanguageIdentifier}
-use Rattle.fluent_meaning.specs.Value.{Value, Plurals}
+use Rattle.fluent_meaning.specs.Value.{Value, Plurals, Custom}
 use Rattle.fluent_meaning.specs.Arguments.{get}
-use Rattle.fluent_meaning.specs.Bundle.{Bundle, Function, transform_of, formatter_of, Call, after, after_all, answered}
+use Rattle.fluent_meaning.specs.Bundle.{Bundle, Function, transform_of, formatter_of, Call, after, answered}
 use Rattle.fluent_values.specs.View.{error_view}
 use Rattle.fluent_values.specs.MessageView.{Content}
 use Rattle.fluent_entries.specs.EntryView.{ids, message_content}
@@ -34,6 +34,10 @@ Tried source (Ok r) = IsRead source r × (junk_ranges source ≡ [])
 Tried source (Err (refused.Parser r errors)) = IsRead source r × (map error_range errors.items ≡ junk_ranges source) × (junk_ranges source ≢ [])
 Tried source (Err refused.Memory) = Unit {0}
 
+-- what the values of an application are, by what their type states
+abbrev pub custom_by : (Text → Text) → (Text → Text → Bool) → Custom Text
+custom_by shown alike = record { text = shown; same = alike }
+
 -- The content of a bundle, by what the types of its parts state: its plural source, custom values, functions, formatter and transform.
 abbrev pub meant : {M C F G X : Type 0} → (M → Plurals) → (Text → Text) → (Text → Text → Bool) → (F → Function Text) → (G → Value Text → M → Option Text) → (X → Text → Text) → FluentBundle M C F G X → Bundle Text
 meant category shown alike answer formatted changed b = record {
@@ -42,8 +46,8 @@ meant category shown alike answer formatted changed b = record {
   transform = transform_of (option_map changed b.transform);
   formatter = formatter_of (option_map (λ g v. formatted g v b.intls) b.formatter);
   plurals = category b.intls;
-  custom = record { text = shown; same = alike };
-  limit = 100;
+  custom = custom_by shown alike;
+  limit = b.placeable_limit;
 }
 
 -- one locale, which has no part
@@ -70,16 +74,17 @@ Adds old call new (Ok u) = (new ≡ after call old) × (answered call old ≡ []
 Adds old call new (Err (fault.Overriding errors)) = (new ≡ after call old) × (map error_view errors.items ≡ answered call old) × (answered call old ≢ [])
 Adds old call new (Err fault.Memory) = new ≡ old
 
--- from old, some of the calls from the front on led to new
-abbrev pub BegunBy : {C : Type 0} → List (Call C) → Bundle C → Bundle C → Type 0
-BegunBy {C = C} calls old new = (made : List (Call C)) × (left : List (Call C)) × (calls ≡ made ++ left) × (new ≡ after_all made old)
-
 -- whether a bundle changes no text
 abbrev pub is_plain : {M C F G X : Type 0} → FluentBundle M C F G X → Bool
 is_plain b = not (is_some b.transform)
 
--- What a bundle's meaning does not show is as before: its locales, and which transform and formatter it holds.
-pub record Kept {M C F G X : Type 0} (b b' : FluentBundle M C F G X) : Type 0 where
+-- What a bundle's meaning does not show is as before, but for its transform and its formatter: its locales and its plural source.
+pub record KeptBeside {M C F G X : Type 0} (b b' : FluentBundle M C F G X) : Type 0 where
   pub locales : b'.locales ≡ b.locales
+  pub intls : b'.intls ≡ b.intls
+
+-- The same, and it holds the transform and the formatter that it held.
+pub record Kept {M C F G X : Type 0} (b b' : FluentBundle M C F G X) : Type 0 where
+  pub beside : KeptBeside b b'
   pub transform : b'.transform ≡ b.transform
   pub formatter : b'.formatter ≡ b.formatter

@@ -1,17 +1,63 @@
--- Calls as values, by what they ask for.
-use Rattle.std.specs.Prelude.{⊤}
+-- Calls as values: what they ask for, and what a list of them makes of a bundle.
+use Rattle.std.specs.Prelude.{◌≡◌, List, [], ◌∷◌, ◌++◌, map, Option, ⊤}
+use Rattle.std.specs.Option.{option_map}
+use Rattle.fluent_tree.specs.Tree.{Text}
+use Rattle.fluent_meaning.specs.Value.{Value}
 use Rattle.fluent_meaning.specs.Bundle as m
-use Rattle.fluent_bundle.specs.BundleView.{entries_of}
+use Rattle.fluent_meaning.specs.Bundle.{Bundle, Function, after_all}
+use Rattle.fluent_bundle.specs.BundleView.{entries_of, KeptBeside}
+use Rattle.fluent_bundle.specs.declared.bundle.FluentBundle.{FluentBundle}
 use Rattle.fluent_bundle.specs.declared.calls.Call.{Call}
 use Rattle.fluent_bundle.specs.declared.calls.Call.TheVariants as call
 
-abbrev pub asked : {C : Type 0} → Call → m.Call C
-asked (call.AddResource r) = m.add_resource (entries_of r.now)
-asked (call.AddResourceOverriding r) = m.add_resource_overriding (entries_of r.now)
-asked call.AddBuiltins = m.add_builtins
-asked (call.SetUseIsolating on) = m.set_use_isolating on
+-- By what functions answer, what formatters show under a plural source, and what transforms change a text to.
+abbrev pub asked : {M F G X : Type 0} → (F → Function Text) → (G → Value Text → M → Option Text) → (X → Text → Text) → M → Call F G X → m.Call Text
+asked answer formatted changed intls (call.AddResource r) = m.add_resource (entries_of r.now)
+asked answer formatted changed intls (call.AddResourceOverriding r) = m.add_resource_overriding (entries_of r.now)
+asked answer formatted changed intls (call.AddFunction id f) = m.add_function id.now (answer f)
+asked answer formatted changed intls call.AddBuiltins = m.add_builtins
+asked answer formatted changed intls (call.SetUseIsolating on) = m.set_use_isolating on
+asked answer formatted changed intls (call.SetTransform t) = m.set_transform (option_map changed t)
+asked answer formatted changed intls (call.SetFormatter g) = m.set_formatter (option_map (λ f v. formatted f v intls) g)
+asked answer formatted changed intls (call.SetPlaceableLimit n) = m.set_placeable_limit n
 
--- a call that only sets the isolation, and takes no memory
-abbrev pub SetsIsolation : Call → Type 0
-SetsIsolation (call.SetUseIsolating on) = ⊤
-SetsIsolation _ = ⊥
+-- the transform that is held after a call
+abbrev pub transform_after : {F G X : Type 0} → Call F G X → Option X → Option X
+transform_after (call.SetTransform t) held = t
+transform_after _ held = held
+
+-- the formatter that is held after a call
+abbrev pub formatter_after : {F G X : Type 0} → Call F G X → Option G → Option G
+formatter_after (call.SetFormatter g) held = g
+formatter_after _ held = held
+
+-- after calls in order
+abbrev pub transform_after_all : {F G X : Type 0} → List (Call F G X) → Option X → Option X
+transform_after_all [] held = held
+transform_after_all (c ∷ cs) held = transform_after_all cs (transform_after c held)
+
+abbrev pub formatter_after_all : {F G X : Type 0} → List (Call F G X) → Option G → Option G
+formatter_after_all [] held = held
+formatter_after_all (c ∷ cs) held = formatter_after_all cs (formatter_after c held)
+
+-- From old, the calls led to new: by what bundles mean and calls ask for, and in each field that a bundle's meaning does not show.
+pub record Makes {M C F G X : Type 0} (of : FluentBundle M C F G X → Bundle Text) (ask : Call F G X → m.Call Text) (calls : List (Call F G X)) (old new : FluentBundle M C F G X) : Type 0 where
+  pub meaning : of new ≡ after_all (map ask calls) (of old)
+  pub beside : KeptBeside old new
+  pub transform : new.transform ≡ transform_after_all calls old.transform
+  pub formatter : new.formatter ≡ formatter_after_all calls old.formatter
+
+-- From old, some of the calls from the front on led to new.
+pub record BegunBy {M C F G X : Type 0} (of : FluentBundle M C F G X → Bundle Text) (ask : Call F G X → m.Call Text) (calls : List (Call F G X)) (old new : FluentBundle M C F G X) : Type 0 where
+  pub made : List (Call F G X)
+  pub left : List (Call F G X)
+  pub whole : calls ≡ made ++ left
+  pub makes : Makes of ask made old new
+
+-- a call that sets, and takes no memory
+abbrev pub TakesNoMemory : {F G X : Type 0} → Call F G X → Type 0
+TakesNoMemory (call.SetUseIsolating on) = ⊤
+TakesNoMemory (call.SetTransform t) = ⊤
+TakesNoMemory (call.SetFormatter g) = ⊤
+TakesNoMemory (call.SetPlaceableLimit n) = ⊤
+TakesNoMemory _ = ⊥

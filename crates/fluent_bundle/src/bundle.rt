@@ -1,10 +1,10 @@
 //! The bundle: messages, terms and functions by id, and its settings.
-ghost use Rattle.std.specs.Prelude.{◌≡◌, map, is_some, None, IfOk, OnOk, OnErr};
+ghost use Rattle.std.specs.Prelude.{◌≡◌, ◌≤◌, ◌↔◌, map, is_some, None, IfOk, OnOk, OnErr, IsTrue};
 ghost use Rattle.std.specs.Option.{option_map};
 ghost use Rattle.fluent_intl.specs.Plurals.{english};
-ghost use Rattle.fluent_meaning.specs.Bundle.{empty_bundle, after, answered, add_resource, add_resource_overriding, add_function, add_builtins, set_use_isolating, set_transform, set_formatter};
+ghost use Rattle.fluent_meaning.specs.Bundle.{empty_bundle, after, answered, add_resource, add_resource_overriding, add_function, add_builtins, set_use_isolating, set_transform, set_formatter, set_placeable_limit};
 ghost use Rattle.fluent_values.specs.View.{error_view};
-ghost use Rattle.fluent_bundle.specs.BundleView.{meant, entries_of, message_at, message_entry_at, Adds, AreUndetermined, Kept};
+ghost use Rattle.fluent_bundle.specs.BundleView.{custom_by, entries_of, message_at, message_entry_at, Adds, AreUndetermined, Kept, KeptBeside};
 ghost use Rattle.fluent_values.specs.MessageView.{entry_seen, message_view};
 ghost use Rattle.fluent_bundle.specs.Adding.{answer_of};
 
@@ -12,11 +12,18 @@ use crate::resource::FluentResource;
 use fluent_entries::{Entry, FunctionRef, GetEntry, Ids};
 use fluent_intl::{EnglishPlurals, LanguageIdentifier, MemoizerKind};
 use fluent_syntax::ast;
+use fluent_values::resolver::Context;
 use fluent_values::types::FluentType;
 use fluent_values::{FluentError, FluentFormatter, FluentFunction, FluentMessage, Transform};
 use std::alloc::{AllocError, Global};
 use std::borrow::CowStr;
 use std::marker::PhantomData;
+
+/// How many placeables one formatting call opens, where nothing else is set.
+const DEFAULT_PLACEABLE_LIMIT: u32 = 100;
+
+/// The largest limit on placeables that can be set.
+const MAX_PLACEABLE_LIMIT: usize = 10_000;
 
 /// Messages by id, from one resource or many, and the settings under which patterns are resolved.
 ///
@@ -32,6 +39,7 @@ pub struct FluentBundle<'r, 's, M, C, F, G, T = Box<dyn Transform>> {
     pub(crate) transform: Option<T>,
     pub(crate) formatter: Option<G>,
     pub(crate) intls: M,
+    pub(crate) placeable_limit: u32,
     pub(crate) custom: PhantomData<C>,
     pub(crate) alloc: Global,
 }
@@ -54,11 +62,13 @@ impl<
     G: FluentFormatter<C, M>,
     T: Transform,
 > FluentBundle<'r, 's, M, C, F, G, T> {
-    /// Makes a bundle with no messages, with isolation on, without transform and formatter. It keeps the allocator and takes no memory yet.
+    /// Makes a bundle with no messages, with isolation on, without transform and formatter, and with a limit of 100
+    /// placeables. It keeps the allocator and takes no memory yet.
     pub fn new(alloc: Global, locales: Vec<LanguageIdentifier>, intls: M) -> Self
-        ensures locales { result.locales ≡ locales }
+        ensures holds { (result.locales ≡ locales) × (result.intls ≡ intls) }
         ensures unset { (result.transform ≡ None) × (result.formatter ≡ None) }
-        ensures empty { let of = meant M.category C.shown C.alike F.answer G.formatted T.changed in of result ≡ empty_bundle (M.category intls) (record { text = C.shown; same = C.alike }) }
+        ensures empty { let of = ⟦<Self as Context<C>>⟧.meant in
+            of result ≡ empty_bundle (M.category intls) (custom_by C.shown C.alike) }
     {
         FluentBundle {
             locales,
@@ -67,6 +77,7 @@ impl<
             transform: None,
             formatter: None,
             intls,
+            placeable_limit: DEFAULT_PLACEABLE_LIMIT,
             custom: PhantomData,
             alloc,
         }
@@ -74,7 +85,8 @@ impl<
 
     /// Says whether placeables are written between U+2068 and U+2069.
     pub fn set_use_isolating(&mut self, value: bool)
-        ensures step { let of = meant M.category C.shown C.alike F.answer G.formatted T.changed in of self.new ≡ after (set_use_isolating value) (of self.old) }
+        ensures step { let of = ⟦<Self as Context<C>>⟧.meant in
+            of self.new ≡ after (set_use_isolating value) (of self.old) }
         ensures kept { Kept self.old self.new }
     {
         self.use_isolating = value;
@@ -82,9 +94,12 @@ impl<
 
     /// Sets what changes text elements; `None` leaves them as they are. The transform that was set is dropped.
     pub fn set_transform(&mut self, transform: Option<T>)
-        ensures step { let of = meant M.category C.shown C.alike F.answer G.formatted T.changed in of self.new ≡ after (set_transform (option_map T.changed transform)) (of self.old) }
+        ensures step { let of = ⟦<Self as Context<C>>⟧.meant in
+            let changes = option_map T.changed transform in
+            of self.new ≡ after (set_transform changes) (of self.old) }
         ensures set { self.new.transform ≡ transform }
-        ensures kept { (self.new.locales ≡ self.old.locales) × (self.new.formatter ≡ self.old.formatter) }
+        ensures kept { KeptBeside self.old self.new }
+        ensures formatter { self.new.formatter ≡ self.old.formatter }
     {
         self.transform = transform;
     }
@@ -92,11 +107,29 @@ impl<
     /// Sets what is asked how a value is shown; `None` shows each value by its own text. The formatter that was
     /// set is dropped.
     pub fn set_formatter(&mut self, formatter: Option<G>)
-        ensures step { let of = meant M.category C.shown C.alike F.answer G.formatted T.changed in of self.new ≡ after (set_formatter (option_map (λ g v. G.formatted g v self.old.intls) formatter)) (of self.old) }
+        ensures step { let of = ⟦<Self as Context<C>>⟧.meant in
+            let shows = option_map (λ g v. G.formatted g v self.old.intls) formatter in
+            of self.new ≡ after (set_formatter shows) (of self.old) }
         ensures set { self.new.formatter ≡ formatter }
-        ensures kept { (self.new.locales ≡ self.old.locales) × (self.new.transform ≡ self.old.transform) }
+        ensures kept { KeptBeside self.old self.new }
+        ensures transform { self.new.transform ≡ self.old.transform }
     {
         self.formatter = formatter;
+    }
+
+    /// Sets how many placeables one formatting call opens, 100 at first, and says whether that was done: a limit
+    /// of 1 to 10,000 is set, any other leaves the bundle as it was.
+    pub fn set_placeable_limit(&mut self, limit: usize) -> bool
+        ensures step { let of = ⟦<Self as Context<C>>⟧.meant in
+            of self.new ≡ after (set_placeable_limit limit) (of self.old) }
+        ensures set { IsTrue result ↔ ((1 ≤ limit) × (limit ≤ 10000)) }
+        ensures kept { Kept self.old self.new }
+    {
+        let is_allowed = limit >= 1 && limit <= MAX_PLACEABLE_LIMIT;
+        if is_allowed {
+            self.placeable_limit = limit as u32;
+        }
+        is_allowed
     }
 
     /// Adds the messages and terms of a resource in order. An entry whose id is there is left and reported. Junk is
@@ -107,7 +140,8 @@ impl<
     /// `Overriding` where an id was there, also from an earlier entry of the same resource: all others are added.
     /// `Memory` where memory was refused: the bundle is as before.
     pub fn add_resource(&mut self, resource: &'r FluentResource<'s>) -> Result<(), AddFault>
-        ensures step { let of = meant M.category C.shown C.alike F.answer G.formatted T.changed in Adds (of self.old) (add_resource (entries_of resource.now)) (of self.new) result }
+        ensures step { let of = ⟦<Self as Context<C>>⟧.meant in
+            Adds (of self.old) (add_resource (entries_of resource.now)) (of self.new) result }
         ensures kept { Kept self.old self.new }
     {
         all_added(self.take_resource(resource))
@@ -118,9 +152,14 @@ impl<
         &mut self,
         resource: &'r FluentResource<'s>,
     ) -> Result<Vec<FluentError>, AllocError>
-        ensures ok { let of = meant M.category C.shown C.alike F.answer G.formatted T.changed in OnOk result (of self.new ≡ after (add_resource (entries_of resource.now)) (of self.old)) }
-        ensures errors { let of = meant M.category C.shown C.alike F.answer G.formatted T.changed in IfOk result (λ errors. map error_view errors.items ≡ answered (add_resource (entries_of resource.now)) (of self.old)) }
-        ensures err { let of = meant M.category C.shown C.alike F.answer G.formatted T.changed in OnErr result (of self.new ≡ of self.old) }
+        ensures ok { let of = ⟦<Self as Context<C>>⟧.meant in
+            let adding = add_resource (entries_of resource.now) in
+            OnOk result (of self.new ≡ after adding (of self.old)) }
+        ensures errors { let of = ⟦<Self as Context<C>>⟧.meant in
+            let adding = add_resource (entries_of resource.now) in
+            IfOk result (λ es. map error_view es.items ≡ answered adding (of self.old)) }
+        ensures err { let of = ⟦<Self as Context<C>>⟧.meant in
+            OnErr result (of self.new ≡ of self.old) }
         ensures kept { Kept self.old self.new }
     {
         self.entries.add_entries(self.alloc, resource.all())
@@ -136,8 +175,11 @@ impl<
         &mut self,
         resource: &'r FluentResource<'s>,
     ) -> Result<(), AllocError>
-        ensures ok { let of = meant M.category C.shown C.alike F.answer G.formatted T.changed in OnOk result (of self.new ≡ after (add_resource_overriding (entries_of resource.now)) (of self.old)) }
-        ensures err { let of = meant M.category C.shown C.alike F.answer G.formatted T.changed in OnErr result (of self.new ≡ of self.old) }
+        ensures ok { let of = ⟦<Self as Context<C>>⟧.meant in
+            let overriding = add_resource_overriding (entries_of resource.now) in
+            OnOk result (of self.new ≡ after overriding (of self.old)) }
+        ensures err { let of = ⟦<Self as Context<C>>⟧.meant in
+            OnErr result (of self.new ≡ of self.old) }
         ensures kept { Kept self.old self.new }
     {
         self.entries.override_entries(resource.all())
@@ -150,7 +192,8 @@ impl<
     /// `Overriding` with one error where the id was there, `Memory` where memory was refused: the bundle is as
     /// before, and the function is dropped.
     pub fn add_function(&mut self, id: &str, function: F) -> Result<(), AddFault>
-        ensures step { let of = meant M.category C.shown C.alike F.answer G.formatted T.changed in Adds (of self.old) (add_function id.now (F.answer function)) (of self.new) result }
+        ensures step { let of = ⟦<Self as Context<C>>⟧.meant in
+            Adds (of self.old) (add_function id.now (F.answer function)) (of self.new) result }
         ensures kept { Kept self.old self.new }
     {
         all_added(self.take_function(id, function))
@@ -158,9 +201,14 @@ impl<
 
     /// Adds a function where its id is free, and gives the report where it is not.
     fn take_function(&mut self, id: &str, function: F) -> Result<Vec<FluentError>, AllocError>
-        ensures ok { let of = meant M.category C.shown C.alike F.answer G.formatted T.changed in OnOk result (of self.new ≡ after (add_function id.now (F.answer function)) (of self.old)) }
-        ensures errors { let of = meant M.category C.shown C.alike F.answer G.formatted T.changed in IfOk result (λ errors. map error_view errors.items ≡ answered (add_function id.now (F.answer function)) (of self.old)) }
-        ensures err { let of = meant M.category C.shown C.alike F.answer G.formatted T.changed in OnErr result (of self.new ≡ of self.old) }
+        ensures ok { let of = ⟦<Self as Context<C>>⟧.meant in
+            let adding = add_function id.now (F.answer function) in
+            OnOk result (of self.new ≡ after adding (of self.old)) }
+        ensures errors { let of = ⟦<Self as Context<C>>⟧.meant in
+            let adding = add_function id.now (F.answer function) in
+            IfOk result (λ es. map error_view es.items ≡ answered adding (of self.old)) }
+        ensures err { let of = ⟦<Self as Context<C>>⟧.meant in
+            OnErr result (of self.new ≡ of self.old) }
         ensures kept { Kept self.old self.new }
     {
         let id = CowStr::Owned(String::from_str(self.alloc, id)?);
@@ -174,7 +222,8 @@ impl<
     /// `Overriding` with one error where the id `NUMBER` was there, `Memory` where memory was refused: the bundle
     /// is as before.
     pub fn add_builtins(&mut self) -> Result<(), AddFault>
-        ensures step { let of = meant M.category C.shown C.alike F.answer G.formatted T.changed in Adds (of self.old) add_builtins (of self.new) result }
+        ensures step { let of = ⟦<Self as Context<C>>⟧.meant in
+            Adds (of self.old) add_builtins (of self.new) result }
         ensures kept { Kept self.old self.new }
     {
         let id = CowStr::Borrowed("NUMBER");
@@ -183,15 +232,18 @@ impl<
 
     /// Whether the id names a message. Takes no memory.
     pub fn has_message(&self, id: &str) -> bool
-        ensures { let of = meant M.category C.shown C.alike F.answer G.formatted T.changed in result ≡ is_some (message_at id.now (of self.now)) }
+        ensures { let of = ⟦<Self as Context<C>>⟧.meant in
+            result ≡ is_some (message_at id.now (of self.now)) }
     {
         self.get_message(id).is_some()
     }
 
     /// The message that the id names, or `None`. Takes no memory.
     pub fn get_message(&self, id: &str) -> Option<FluentMessage<'r, 's>>
-        ensures content { let of = meant M.category C.shown C.alike F.answer G.formatted T.changed in option_map message_view result ≡ message_at id.now (of self.now) }
-        ensures whole { let of = meant M.category C.shown C.alike F.answer G.formatted T.changed in option_map entry_seen result ≡ message_entry_at id.now (of self.now) }
+        ensures content { let of = ⟦<Self as Context<C>>⟧.meant in
+            option_map message_view result ≡ message_at id.now (of self.now) }
+        ensures whole { let of = ⟦<Self as Context<C>>⟧.meant in
+            option_map entry_seen result ≡ message_entry_at id.now (of self.now) }
     {
         match self.entries.named(id) {
             Some(Entry::Message(node)) => Some(FluentMessage::from(*node)),
@@ -214,7 +266,8 @@ impl<
     ///
     /// Memory was refused.
     pub fn new_default(alloc: Global) -> Result<Self, AllocError>
-        ensures empty { IfOk result (λ b. meant (λ _. english) C.shown C.alike F.answer G.formatted T.changed b ≡ empty_bundle english (record { text = C.shown; same = C.alike })) }
+        ensures empty { let of = ⟦<Self as Context<C>>⟧.meant in
+            IfOk result (λ b. of b ≡ empty_bundle english (custom_by C.shown C.alike)) }
         ensures locales { IfOk result (λ b. AreUndetermined b.locales.items) }
         ensures unset { IfOk result (λ b. (b.transform ≡ None) × (b.formatter ≡ None)) }
     {

@@ -1,24 +1,30 @@
 //! Calls on a bundle as values, so that what a list of them makes can be said.
-ghost use Rattle.std.specs.Prelude.{◌≡◌, OnOk, OnErr, IsOk, map};
+ghost use Rattle.std.specs.Prelude.{◌≡◌, [], ◌∷◌, OnOk, OnErr, IsOk};
 ghost use Rattle.std.specs.List.{All};
-ghost use Rattle.fluent_meaning.specs.Bundle.{after, after_all};
-ghost use Rattle.fluent_bundle.specs.BundleView.{meant, BegunBy, Kept};
-ghost use Rattle.fluent_bundle.specs.Calls.{asked, SetsIsolation};
+ghost use Rattle.fluent_bundle.specs.Adding.{unless_refused};
+ghost use Rattle.fluent_bundle.specs.BundleView.{Kept};
+ghost use Rattle.fluent_bundle.specs.Calls.{asked, BegunBy, Makes, TakesNoMemory};
 
 use crate::bundle::{AddFault, FluentBundle};
 use crate::resource::FluentResource;
 use fluent_intl::MemoizerKind;
+use fluent_values::resolver::Context;
 use fluent_values::types::FluentType;
 use fluent_values::{FluentFormatter, FluentFunction, Transform};
 use std::alloc::AllocError;
 
-/// A call that changes a bundle. Calls that hand over an object of the application are made on the bundle itself.
-#[derive(Clone, Copy, Drop)]
-pub enum Call<'r, 's> {
+/// A call that changes a bundle, with what it hands over.
+#[derive(Drop)]
+pub enum Call<'r, 's, F, G, T = Box<dyn Transform>> {
     AddResource(&'r FluentResource<'s>),
     AddResourceOverriding(&'r FluentResource<'s>),
+    /// A function under an id.
+    AddFunction(&'s str, F),
     AddBuiltins,
     SetUseIsolating(bool),
+    SetTransform(Option<T>),
+    SetFormatter(Option<G>),
+    SetPlaceableLimit(usize),
 }
 
 impl<
@@ -30,31 +36,41 @@ impl<
     G: FluentFormatter<C, M>,
     T: Transform,
 > FluentBundle<'r, 's, M, C, F, G, T> {
-    /// Makes a call. An id that was there is no failure here, and isn't reported.
+    /// Makes a call; what it hands over goes to the bundle, or is dropped where the bundle doesn't take it. An id
+    /// that was there is no failure here, and isn't reported, nor is a limit that is out of range.
     ///
     /// # Errors
     ///
-    /// Memory was refused, which setting the isolation can't meet: the bundle is as before.
-    pub fn make(&mut self, call: &Call<'r, 's>) -> Result<(), AllocError>
-        ensures ok { let of = meant M.category C.shown C.alike F.answer G.formatted T.changed in OnOk result (of self.new ≡ after (asked call.now) (of self.old)) }
-        ensures err { let of = meant M.category C.shown C.alike F.answer G.formatted T.changed in OnErr result (of self.new ≡ of self.old) }
-        ensures kept { Kept self.old self.new }
-        ensures succeeds { SetsIsolation call.now → IsOk result }
+    /// Memory was refused, which the setters can't meet: the bundle is as before.
+    pub fn make(&mut self, call: Call<'r, 's, F, G, T>) -> Result<(), AllocError>
+        ensures ok { let of = ⟦<Self as Context<C>>⟧.meant in
+            let ask = asked F.answer G.formatted T.changed self.old.intls in
+            OnOk result (Makes of ask (call.entry ∷ []) self.old self.new) }
+        ensures err { let of = ⟦<Self as Context<C>>⟧.meant in
+            OnErr result ((of self.new ≡ of self.old) × Kept self.old self.new) }
+        ensures succeeds { TakesNoMemory call.entry → IsOk result }
     {
-        let added = match call {
-            Call::AddResource(resource) => self.add_resource(*resource),
-            Call::AddResourceOverriding(resource) => {
-                return self.add_resource_overriding(*resource);
-            }
-            Call::AddBuiltins => self.add_builtins(),
+        match call {
+            Call::AddResource(resource) => known(self.add_resource(resource)),
+            Call::AddResourceOverriding(resource) => self.add_resource_overriding(resource),
+            Call::AddFunction(id, function) => known(self.add_function(id, function)),
+            Call::AddBuiltins => known(self.add_builtins()),
             Call::SetUseIsolating(value) => {
-                self.set_use_isolating(*value);
+                self.set_use_isolating(value);
                 Ok(())
             }
-        };
-        match added {
-            Err(AddFault::Memory) => Err(AllocError),
-            _ => Ok(()),
+            Call::SetTransform(transform) => {
+                self.set_transform(transform);
+                Ok(())
+            }
+            Call::SetFormatter(formatter) => {
+                self.set_formatter(formatter);
+                Ok(())
+            }
+            Call::SetPlaceableLimit(limit) => {
+                let _ = self.set_placeable_limit(limit);
+                Ok(())
+            }
         }
     }
 
@@ -62,17 +78,30 @@ impl<
     ///
     /// # Errors
     ///
-    /// Memory was refused at one of them, which calls that set the isolation can't meet: those before it
-    /// were made, and no other.
-    pub fn make_all(&mut self, calls: &[Call<'r, 's>]) -> Result<(), AllocError>
-        ensures ok { let of = meant M.category C.shown C.alike F.answer G.formatted T.changed in OnOk result (of self.new ≡ after_all (map asked calls.now) (of self.old)) }
-        ensures err { let of = meant M.category C.shown C.alike F.answer G.formatted T.changed in OnErr result (BegunBy (map asked calls.now) (of self.old) (of self.new)) }
-        ensures kept { Kept self.old self.new }
-        ensures succeeds { All SetsIsolation calls.now → IsOk result }
+    /// Memory was refused at one of them, which the setters can't meet: those before it were made, and no other;
+    /// what the others hand over is dropped.
+    pub fn make_all(&mut self, calls: Vec<Call<'r, 's, F, G, T>>) -> Result<(), AllocError>
+        ensures ok { let of = ⟦<Self as Context<C>>⟧.meant in
+            let ask = asked F.answer G.formatted T.changed self.old.intls in
+            OnOk result (Makes of ask calls.entry.items self.old self.new) }
+        ensures err { let of = ⟦<Self as Context<C>>⟧.meant in
+            let ask = asked F.answer G.formatted T.changed self.old.intls in
+            OnErr result (BegunBy of ask calls.entry.items self.old self.new) }
+        ensures succeeds { All TakesNoMemory calls.entry.items → IsOk result }
     {
         for call in calls {
             self.make(call)?;
         }
         Ok(())
+    }
+}
+
+/// What an adding call answers where nobody asks what was left.
+fn known(added: Result<(), AddFault>) -> Result<(), AllocError>
+    ensures { result ≡ unless_refused added }
+{
+    match added {
+        Err(AddFault::Memory) => Err(AllocError),
+        _ => Ok(()),
     }
 }

@@ -1,52 +1,37 @@
 //! What a pattern gives in a bundle that a list of calls makes, said from the texts of the sources alone.
 #![tactic(auto)]
 
-ghost use Rattle.std.specs.Prelude.{◌≡◌, ◌≤◌, [], map, IfOk, OnOk};
+ghost use Rattle.std.specs.Prelude.{◌≡◌, map, IfOk};
 ghost use Rattle.fluent_syntax.specs.Chunks.{entries};
 ghost use Rattle.fluent_text.specs.Taken.{Faulted};
 ghost use Rattle.fluent_tree.specs.View.{pattern_view};
-ghost use Rattle.fluent_bundle.specs.BundleView.{entries_of, meant};
+ghost use Rattle.fluent_bundle.specs.BundleView.{custom_by, entries_of, meant};
 ghost use Rattle.fluent_bundle.specs.Calls.{asked};
-ghost use Rattle.fluent_bundle.specs.Formatted.{WritesAll, WritesFront};
-ghost use Rattle.fluent_bundle.specs.Interim.{budgeted, substituted};
 ghost use Rattle.fluent_bundle.specs.Scoped.{arguments_view};
-ghost use Rattle.fluent_headline.specs.Headline.{after_calls, bundle_after, bundle_view, step, step_view};
+ghost use Rattle.fluent_headline.specs.Headline.{bundle_after, source_of, step, step_over};
+ghost use Rattle.fluent_headline.specs.Headline.{WritesWithin, WritesWhole, WritesBeginning};
+ghost use Rattle.fluent_headline.specs.Headline.{GivesWithin, GivesWhole, AddsBeginning};
 
 use fluent_bundle::{
-    Call, Counting, FluentArgs, FluentBundle, FluentError, FluentResource, NoCustom, NoFormatter,
-    NoFunction, NoTransform, TryNewFault, WriteFault, ast,
+    Call, Counting, FluentArgs, FluentBundle, FluentError, FluentFormatter, FluentFunction,
+    FluentResource, FluentType, MemoizerKind, Transform, TryNewFault, WriteFault, ast,
 };
-use fluent_intl::EnglishPlurals;
 use std::alloc::{AllocError, Global};
+use std::borrow::CowStr;
 use std::io::Write;
 
-/// A bundle in English for which the application adds nothing of its own but resources.
-type Bundle<'r, 's> = FluentBundle<
-    'r,
-    's,
-    EnglishPlurals,
-    NoCustom,
-    NoFunction,
-    NoFormatter,
-    NoTransform,
->;
-
 /// A call on a bundle, with the source of its resource as a text.
-#[derive(Clone, Copy, Drop)]
-pub enum Asked<'s> {
+#[derive(Drop)]
+pub enum Asked<'s, F, G, T> {
     AddResource(&'s str),
     AddResourceOverriding(&'s str),
+    /// A function under an id.
+    AddFunction(&'s str, F),
     AddBuiltins,
     SetUseIsolating(bool),
-}
-
-/// The same with its source read.
-#[derive(Drop)]
-enum Step<'s> {
-    Add(FluentResource<'s>),
-    Override(FluentResource<'s>),
-    Builtins,
-    Isolate(bool),
+    SetTransform(Option<T>),
+    SetFormatter(Option<G>),
+    SetPlaceableLimit(usize),
 }
 
 /// Reads a source. One with Junk is used as it is.
@@ -60,113 +45,209 @@ fn read<'s>(alloc: Global, source: &'s str) -> Result<FluentResource<'s>, AllocE
     }
 }
 
-/// Reads the source of a call, if it has one.
-fn step_of<'s>(alloc: Global, call: Asked<'s>) -> Result<Step<'s>, AllocError>
-    ensures { IfOk result (λ ready. step_view ready ≡ step call.entry) }
+/// The source of a call's resource, empty where it has none.
+fn source_of<'s, F, G, T>(call: &Asked<'s, F, G, T>) -> &'s str
+    ensures { result.now ≡ source_of call.now }
 {
     match call {
-        Asked::AddResource(source) => Ok(Step::Add(read(alloc, source)?)),
-        Asked::AddResourceOverriding(source) => Ok(Step::Override(read(alloc, source)?)),
-        Asked::AddBuiltins => Ok(Step::Builtins),
-        Asked::SetUseIsolating(value) => Ok(Step::Isolate(value)),
+        Asked::AddResource(source) | Asked::AddResourceOverriding(source) => *source,
+        _ => "",
     }
 }
 
-/// Reads the sources of all calls.
-fn steps_of<'s>(alloc: Global, calls: &[Asked<'s>]) -> Result<Vec<Step<'s>>, AllocError>
-    ensures { IfOk result (λ steps. map step_view steps.items ≡ map step calls.now) }
+/// Reads a resource for each call, an empty one where it asks for none.
+fn resources_of<'s, F, G, T>(
+    alloc: Global,
+    calls: &[Asked<'s, F, G, T>],
+) -> Result<Vec<FluentResource<'s>>, AllocError>
+    ensures { let read = map (λ call. entries (source_of call)) calls.now in
+        IfOk result (λ resources. map entries_of resources.items ≡ read) }
 {
-    let mut steps = Vec::new(alloc);
+    let mut resources = Vec::new(alloc);
     for call in calls {
-        steps.push(step_of(alloc, *call)?)?;
+        resources.push(read(alloc, source_of(call))?)?;
     }
-    Ok(steps)
+    Ok(resources)
 }
 
-/// The call of a step.
-fn call_of<'r, 's>(step: &'r Step<'s>) -> Call<'r, 's>
-    ensures { asked result ≡ step_view step.now }
+/// A call with the resource that was read for it.
+fn call_of<
+    'r,
+    's,
+    M: MemoizerKind,
+    C: FluentType,
+    F: FluentFunction<C>,
+    G: FluentFormatter<C, M>,
+    T: Transform,
+>(call: Asked<'s, F, G, T>, resource: &'r FluentResource<'s>) -> Call<'r, 's, F, G, T>
+    ensures { (intls : M) → asked F.answer G.formatted T.changed intls result
+        ≡ step_over F.answer G.formatted T.changed intls call.entry (entries_of resource.now) }
 {
-    match step {
-        Step::Add(resource) => Call::AddResource(resource),
-        Step::Override(resource) => Call::AddResourceOverriding(resource),
-        Step::Builtins => Call::AddBuiltins,
-        Step::Isolate(value) => Call::SetUseIsolating(*value),
+    match call {
+        Asked::AddResource(_) => Call::AddResource(resource),
+        Asked::AddResourceOverriding(_) => Call::AddResourceOverriding(resource),
+        Asked::AddFunction(id, function) => Call::AddFunction(id, function),
+        Asked::AddBuiltins => Call::AddBuiltins,
+        Asked::SetUseIsolating(value) => Call::SetUseIsolating(value),
+        Asked::SetTransform(transform) => Call::SetTransform(transform),
+        Asked::SetFormatter(formatter) => Call::SetFormatter(formatter),
+        Asked::SetPlaceableLimit(limit) => Call::SetPlaceableLimit(limit),
     }
 }
 
-/// The calls of all steps.
-fn calls_of<'r, 's>(alloc: Global, steps: &'r [Step<'s>]) -> Result<Vec<Call<'r, 's>>, AllocError>
-    ensures { IfOk result (λ calls. map asked calls.items ≡ map step_view steps.now) }
+/// The calls with the resources that were read for them.
+fn calls_of<
+    'r,
+    's,
+    M: MemoizerKind,
+    C: FluentType,
+    F: FluentFunction<C>,
+    G: FluentFormatter<C, M>,
+    T: Transform,
+>(
+    alloc: Global,
+    calls: Vec<Asked<'s, F, G, T>>,
+    resources: &'r [FluentResource<'s>],
+) -> Result<Vec<Call<'r, 's, F, G, T>>, AllocError>
+    requires { map entries_of resources.now ≡ map (λ call. entries (source_of call)) calls.items }
+    ensures { IfOk result
+        (λ made. (intls : M) → map (asked F.answer G.formatted T.changed intls) made.items
+        ≡ map (step F.answer G.formatted T.changed intls) calls.entry.items) }
 {
-    let mut calls = Vec::new(alloc);
-    for step in steps {
-        calls.push(call_of(step))?;
+    let mut made = Vec::new(alloc);
+    for (call, resource) in calls.into_iter().zip(resources) {
+        made.push(call_of::<M, C, F, G, T>(call, resource))?;
     }
-    Ok(calls)
+    Ok(made)
 }
 
-/// An empty bundle after the calls.
-fn bundle_of<'r, 's>(alloc: Global, calls: &[Call<'r, 's>]) -> Result<Bundle<'r, 's>, AllocError>
-    ensures { IfOk result (λ bundle. bundle_view bundle ≡ after_calls (map asked calls.now)) }
+/// An empty bundle after the calls, over the resources that were read for them.
+fn bundle_over<
+    'r,
+    's,
+    M: MemoizerKind,
+    C: FluentType,
+    F: FluentFunction<C>,
+    G: FluentFormatter<C, M>,
+    T: Transform,
+>(
+    alloc: Global,
+    intls: M,
+    calls: Vec<Asked<'s, F, G, T>>,
+    resources: &'r [FluentResource<'s>],
+) -> Result<FluentBundle<'r, 's, M, C, F, G, T>, AllocError>
+    requires { map entries_of resources.now ≡ map (λ call. entries (source_of call)) calls.items }
+    ensures { let of = meant M.category C.shown C.alike F.answer G.formatted T.changed in
+        let steps = map (step F.answer G.formatted T.changed intls) calls.entry.items in
+        let made = bundle_after (M.category intls) (custom_by C.shown C.alike) steps in
+        IfOk result (λ bundle. of bundle ≡ made) }
 {
-    let mut bundle: Bundle<'r, 's> = FluentBundle::new(alloc, Vec::new(alloc), EnglishPlurals);
+    let calls = calls_of::<M, C, F, G, T>(alloc, calls, resources)?;
+    let mut bundle = FluentBundle::new(alloc, Vec::new(alloc), intls);
     bundle.make_all(calls)?;
     Ok(bundle)
 }
 
-/// A bundle after the steps, over the resources that they hold.
-fn bundle_over<'r, 's>(alloc: Global, steps: &'r [Step<'s>]) -> Result<Bundle<'r, 's>, AllocError>
-    ensures { IfOk result (λ bundle. bundle_view bundle ≡ after_calls (map step_view steps.now)) }
-{
-    let calls = calls_of(alloc, steps)?;
-    bundle_of(alloc, calls.as_slice())
-}
-
-/// Writes the text of a pattern in the bundle that the steps make.
-fn write_over<'r, 's: 'r, W: Write>(
-    alloc: Global,
-    steps: &'r [Step<'s>],
-    args: Option<&FluentArgs<'_, NoCustom>>,
-    pattern: &ast::Pattern<'_>,
-    w: &mut Counting<W>,
-    errors: &mut Vec<FluentError>,
-) -> Result<(), WriteFault>
-    ensures within { let b = after_calls (map step_view steps.now) in let means = substituted b (arguments_view (λ _. []) args.entry) (pattern_view pattern.now) in means.opened ≤ b.limit → OnOk result (WritesAll means.value means.errors (W.contents w.old.inner) (W.contents w.new.inner) errors.old.items errors.new.items) }
-    ensures whole { let b = after_calls (map step_view steps.now) in let means = budgeted b (arguments_view (λ _. []) args.entry) (pattern_view pattern.now) in OnOk result (WritesAll means.value means.errors (W.contents w.old.inner) (W.contents w.new.inner) errors.old.items errors.new.items) }
-    ensures front { let b = after_calls (map step_view steps.now) in let means = budgeted b (arguments_view (λ _. []) args.entry) (pattern_view pattern.now) in WritesFront means.value means.errors (W.contents w.old.inner) (W.contents w.new.inner) errors.old.items errors.new.items }
-    ensures fault { Faulted w.old.failed w.old.empty w.new.failed w.new.empty result }
-{
-    let bundle = bundle_over(alloc, steps)?;
-    bundle.write_pattern(w, pattern, args, errors)
-}
-
-/// Makes an empty bundle in English, makes the calls on it in order, and writes the text of a pattern in it; what
-/// went wrong in the pattern is added at the end of the list of errors. Sources are read as far as they can be,
-/// and an id that is there when its resource is added is left as it is; neither is reported.
+/// Makes an empty bundle, makes the calls on it in order, and writes the text of a pattern in it; what went wrong in
+/// the pattern is added at the end of the list of errors. Sources are read as far as they can be, an id that is there
+/// when its entry is added is left as it is, and so is the limit where one out of range is asked for; none of these
+/// is reported.
 ///
 /// # Errors
 ///
 /// `Writer` where a write failed, `Zero` where a write of a nonempty piece took no byte, `Memory` where memory was
 /// refused. Then what was written begins the text, and what was added begins the errors.
-pub fn write_after<W: Write>(
+pub fn write_after<
+    M: MemoizerKind,
+    C: FluentType,
+    F: FluentFunction<C>,
+    G: FluentFormatter<C, M>,
+    T: Transform,
+    W: Write,
+>(
     alloc: Global,
-    calls: &[Asked<'_>],
-    args: Option<&FluentArgs<'_, NoCustom>>,
+    intls: M,
+    calls: Vec<Asked<'_, F, G, T>>,
+    args: Option<&FluentArgs<'_, C>>,
     pattern: &ast::Pattern<'_>,
     w: &mut Counting<W>,
     errors: &mut Vec<FluentError>,
 ) -> Result<(), WriteFault>
     // By substitution, where that opens no more placeables than the limit.
-    ensures within { let b = bundle_after calls.now in let means = substituted b (arguments_view (λ _. []) args.entry) (pattern_view pattern.now) in means.opened ≤ b.limit → OnOk result (WritesAll means.value means.errors (W.contents w.old.inner) (W.contents w.new.inner) errors.old.items errors.new.items) }
+    ensures within { let steps = map (step F.answer G.formatted T.changed intls) calls.entry.items in
+        let b = bundle_after (M.category intls) (custom_by C.shown C.alike) steps in
+        WritesWithin b (arguments_view C.content args.entry) (pattern_view pattern.now) result
+        (W.contents w.old.inner) (W.contents w.new.inner) errors.old.items errors.new.items }
 
     // With the budget, in every case.
-    ensures whole { let b = bundle_after calls.now in let means = budgeted b (arguments_view (λ _. []) args.entry) (pattern_view pattern.now) in OnOk result (WritesAll means.value means.errors (W.contents w.old.inner) (W.contents w.new.inner) errors.old.items errors.new.items) }
+    ensures whole { let steps = map (step F.answer G.formatted T.changed intls) calls.entry.items in
+        let b = bundle_after (M.category intls) (custom_by C.shown C.alike) steps in
+        WritesWhole b (arguments_view C.content args.entry) (pattern_view pattern.now) result
+        (W.contents w.old.inner) (W.contents w.new.inner) errors.old.items errors.new.items }
 
     // Whatever is answered.
-    ensures front { let b = bundle_after calls.now in let means = budgeted b (arguments_view (λ _. []) args.entry) (pattern_view pattern.now) in WritesFront means.value means.errors (W.contents w.old.inner) (W.contents w.new.inner) errors.old.items errors.new.items }
+    ensures front { let steps = map (step F.answer G.formatted T.changed intls) calls.entry.items in
+        let b = bundle_after (M.category intls) (custom_by C.shown C.alike) steps in
+        WritesBeginning b (arguments_view C.content args.entry) (pattern_view pattern.now)
+        (W.contents w.old.inner) (W.contents w.new.inner) errors.old.items errors.new.items }
     ensures fault { Faulted w.old.failed w.old.empty w.new.failed w.new.empty result }
 {
-    let steps = steps_of(alloc, calls)?;
-    write_over(alloc, steps.as_slice(), args, pattern, w, errors)
+    let resources = resources_of(alloc, calls.as_slice())?;
+    let bundle: FluentBundle<'_, '_, M, C, F, G, T> = bundle_over(
+        alloc,
+        intls,
+        calls,
+        resources.as_slice(),
+    )?;
+    bundle.write_pattern(w, pattern, args, errors)
+}
+
+/// Makes an empty bundle, makes the calls on it in order, and gives the text of a pattern in it as the formatter shows
+/// it as a value; what went wrong in the pattern is added at the end of the list of errors. Sources, ids and limits
+/// go as in [`write_after`].
+///
+/// # Errors
+///
+/// Memory was refused: what was added begins the errors.
+pub fn format_after<
+    'p,
+    M: MemoizerKind,
+    C: FluentType,
+    F: FluentFunction<C>,
+    G: FluentFormatter<C, M>,
+    T: Transform,
+>(
+    alloc: Global,
+    intls: M,
+    calls: Vec<Asked<'_, F, G, T>>,
+    args: Option<&FluentArgs<'_, C>>,
+    pattern: &ast::Pattern<'p>,
+    errors: &mut Vec<FluentError>,
+) -> Result<CowStr<'p>, AllocError>
+    // By substitution, where that opens no more placeables than the limit.
+    ensures within { let steps = map (step F.answer G.formatted T.changed intls) calls.entry.items in
+        let b = bundle_after (M.category intls) (custom_by C.shown C.alike) steps in
+        GivesWithin b (arguments_view C.content args.entry) (pattern_view pattern.now) result
+        errors.old.items errors.new.items }
+
+    // With the budget, in every case.
+    ensures whole { let steps = map (step F.answer G.formatted T.changed intls) calls.entry.items in
+        let b = bundle_after (M.category intls) (custom_by C.shown C.alike) steps in
+        GivesWhole b (arguments_view C.content args.entry) (pattern_view pattern.now) result
+        errors.old.items errors.new.items }
+
+    // Whatever is answered.
+    ensures front { let steps = map (step F.answer G.formatted T.changed intls) calls.entry.items in
+        let b = bundle_after (M.category intls) (custom_by C.shown C.alike) steps in
+        AddsBeginning b (arguments_view C.content args.entry) (pattern_view pattern.now)
+        errors.old.items errors.new.items }
+{
+    let resources = resources_of(alloc, calls.as_slice())?;
+    let bundle: FluentBundle<'_, '_, M, C, F, G, T> = bundle_over(
+        alloc,
+        intls,
+        calls,
+        resources.as_slice(),
+    )?;
+    bundle.format_pattern(pattern, args, errors)
 }

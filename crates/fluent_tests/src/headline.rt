@@ -1,41 +1,79 @@
-//! A row written by hand.
-use crate::common::{arguments, read, value_of};
+//! A row written by hand, from the sources and the objects of the application to the text.
+use crate::common::{are, arguments, read, value_of};
+use crate::own::{Bracketed, Own, Upper};
 use fluent_bundle::{Counting, FluentError, WriteFault, ast};
-use fluent_headline::{Asked, write_after};
-use std::alloc::Global;
+use fluent_headline::{Asked, format_after, write_after};
+use fluent_intl::EnglishPlurals;
+use std::alloc::{AllocError, Global};
+use std::borrow::CowStr;
 use std::test::Fail;
 
-/// What a pattern gives after the calls, where `n` is 3.
+/// A call of each kind.
+fn calls(alloc: Global) -> Result<Vec<Asked<'static, Own, Bracketed, Upper>>, AllocError> {
+    Ok(vec![in alloc;
+        Asked::AddResource("junk\nitems = few items\nrest = none\n"),
+        Asked::AddResourceOverriding("items = { $n } items\njunk\n"),
+        Asked::AddFunction("F", Own::Nothing),
+        Asked::AddBuiltins,
+        Asked::SetUseIsolating(false),
+        Asked::SetTransform(Some(Upper)),
+        Asked::SetFormatter(Some(Bracketed)),
+        Asked::SetPlaceableLimit(1),
+    ]?)
+}
+
+/// What a pattern is written as after the calls, where `n` is 3.
 fn written(
     alloc: Global,
-    asked: &[Asked<'_>],
     pattern: &ast::Pattern<'_>,
     errors: &mut Vec<FluentError>,
 ) -> Result<Vec<u8>, WriteFault> {
     let args = arguments(alloc, ("n", "3"))?;
     let mut w = Counting::new(Vec::new(alloc));
-    write_after(alloc, asked, Some(&args), pattern, &mut w, errors)?;
+    let calls = calls(alloc)?;
+    write_after(
+        alloc,
+        EnglishPlurals,
+        calls,
+        Some(&args),
+        pattern,
+        &mut w,
+        errors,
+    )?;
     Ok(w.into_inner())
 }
 
-const ASKED: &[Asked<'static>] = &[
-    Asked::AddResource("junk\nitems = few items\nrest = none\n"),
-    Asked::AddResourceOverriding("items = { $n } items\njunk\n"),
-    Asked::AddBuiltins,
-    Asked::SetUseIsolating(false),
-];
-
-/// That the calls give this text without an error.
-fn gives(alloc: Global, pattern: &ast::Pattern<'_>, text: &str) -> Result<bool, WriteFault> {
-    let mut errors = Vec::new(alloc);
-    let bytes = written(alloc, ASKED, pattern, &mut errors)?;
-    Ok(bytes.as_slice() == text.as_bytes() && errors.is_empty())
+/// What it is formatted as.
+fn formatted<'p>(
+    alloc: Global,
+    pattern: &ast::Pattern<'p>,
+    errors: &mut Vec<FluentError>,
+) -> Result<CowStr<'p>, AllocError> {
+    let args = arguments(alloc, ("n", "3"))?;
+    format_after(
+        alloc,
+        EnglishPlurals,
+        calls(alloc)?,
+        Some(&args),
+        pattern,
+        errors,
+    )
 }
 
+const STRUCK: &str = "Resolver error: Too many placeables\n";
+
+/// The text is changed, the whole is between brackets, and the second placeable is one too many.
 #[test]
 fn a_bundle_of_two_sources(rt: HostRuntime) -> Result<(), Fail> {
-    let resource = read(rt.alloc(), "m = You have { $n } items.\n")?;
+    let alloc = rt.alloc();
+    let resource = read(alloc, "m = You have { $n } items{ $n }.\n")?;
     let pattern = value_of(&resource)?;
-    assert!(rt; gives(rt.alloc(), pattern, "You have 3 items.")?);
-    Ok(())
+    let mut errors = Vec::new(alloc);
+    let bytes = written(alloc, pattern, &mut errors)?;
+    assert!(rt; bytes.as_slice() == "YOU HAVE 3 ITEMS".as_bytes());
+    are(&rt, alloc, errors.as_slice(), STRUCK)?;
+    let mut errors = Vec::new(alloc);
+    let text = formatted(alloc, pattern, &mut errors)?;
+    assert!(rt; text.as_str() == "[YOU HAVE 3 ITEMS]");
+    are(&rt, alloc, errors.as_slice(), STRUCK)
 }

@@ -8,9 +8,13 @@ mod closure;
 #[cfg(test)]
 mod common;
 #[cfg(test)]
+mod composing;
+#[cfg(test)]
 mod errors;
 #[cfg(test)]
 mod headline;
+#[cfg(test)]
+mod limit;
 #[cfg(test)]
 mod made;
 #[cfg(test)]

@@ -1,6 +1,7 @@
 //! Calls as values, made in order, also where memory is refused.
 use crate::calls::{Held, holds};
 use crate::common::{Bundle, default_bundle, read};
+use crate::own::Own;
 use crate::resolver::formats;
 use fluent_bundle::ast::Pattern;
 use fluent_bundle::{Call, FluentResource};
@@ -9,26 +10,32 @@ use std::process::Abort;
 use std::test::Fail;
 
 fn make_first<'r, 's>(
+    alloc: Global,
     bundle: &mut Bundle<'r, 's>,
     first: &'r FluentResource<'s>,
     second: &'r FluentResource<'s>,
 ) -> Result<(), AllocError> {
-    bundle.make(&Call::AddResource(first))?;
-    bundle.make_all(&[
+    bundle.make(Call::AddResource(first))?;
+    bundle.make_all(vec![in alloc;
         Call::AddResource(second),
         Call::SetUseIsolating(false),
+        Call::AddFunction("F", Own::Nothing),
+        Call::SetPlaceableLimit(0),
         Call::AddBuiltins,
-    ])
+    ]?)
 }
 
 fn make_last<'r, 's>(
+    alloc: Global,
     bundle: &mut Bundle<'r, 's>,
     second: &'r FluentResource<'s>,
 ) -> Result<(), AllocError> {
-    bundle.make_all(&[
+    bundle.make_all(vec![in alloc;
         Call::AddResourceOverriding(second),
         Call::SetUseIsolating(true),
-    ])
+        Call::SetTransform(None),
+        Call::SetFormatter(None),
+    ]?)
 }
 
 /// Whether all messages of the second source are there, or none.
@@ -39,15 +46,16 @@ fn has_both_or_none(bundle: &Bundle<'_, '_>) -> bool {
 /// Makes the first calls, again where one is refused: those before it stand, and no other.
 fn makes_first<'r, 's>(
     rt: &impl Abort,
+    alloc: Global,
     bundle: &mut Bundle<'r, 's>,
     first: &'r FluentResource<'s>,
     second: &'r FluentResource<'s>,
 ) -> Result<(), AllocError> {
-    match make_first(bundle, first, second) {
+    match make_first(alloc, bundle, first, second) {
         Ok(()) => Ok(()),
         Err(AllocError) => {
             assert!(rt; has_both_or_none(bundle));
-            make_first(bundle, first, second)
+            make_first(alloc, bundle, first, second)
         }
     }
 }
@@ -81,6 +89,7 @@ const FIRST: &[Held] = &[
     ("a", "one", "", ""),
     ("b", "three", "", ""),
     ("NUMBER", "", "", "NUMBER"),
+    ("F", "", "", "nothing"),
 ];
 
 const LAST: &[Held] = &[("a", "two", "", "")];
@@ -93,9 +102,9 @@ fn makes_calls<'r, 's>(
 ) -> Result<(), Fail> {
     let mut bundle: Bundle<'r, 's> = default_bundle(alloc)?;
     assert!(rt; has_one_locale(&bundle));
-    makes_first(rt, &mut bundle, first, second)?;
+    makes_first(rt, alloc, &mut bundle, first, second)?;
     has(rt, alloc, &bundle, FIRST, "x{$y}")?;
-    make_last(&mut bundle, second)?;
+    make_last(alloc, &mut bundle, second)?;
     has(rt, alloc, &bundle, LAST, "x\u{2068}{$y}\u{2069}")
 }
 

@@ -17,9 +17,6 @@ use fluent_values::{FluentFormatter, FluentFunction, Transform};
 use std::alloc::{AllocError, Global};
 use std::borrow::CowStr;
 
-/// How many placeables one formatting call opens.
-const MAX_PLACEABLES: u32 = 100;
-
 impl<
     'r,
     's: 'r,
@@ -40,7 +37,7 @@ impl<
     }
 
     fn placeable_limit(&self) -> u32 {
-        MAX_PLACEABLES
+        self.placeable_limit
     }
 
     fn uses_isolating(&self) -> bool {

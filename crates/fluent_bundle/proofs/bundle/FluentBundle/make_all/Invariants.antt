@@ -1,11 +1,15 @@
-use Rattle.std.proofs.Common.{◌≡◌, take, map}
-use Rattle.fluent_meaning.specs.Bundle.{after_all}
-use Rattle.fluent_bundle.specs.BundleView.{meant, Kept}
-use Rattle.fluent_bundle.specs.Calls.{asked}
+use Rattle.std.proofs.Common.{◌≡◌, ◌++◌}
+use Rattle.std.specs.Vec.Iter.{into_iter_items}
+use Rattle.fluent_bundle.specs.BundleView.{meant}
+use Rattle.fluent_bundle.specs.Calls.{asked, Makes}
 use Rattle.fluent_bundle.proofs.bundle.FluentBundle.make_all.Given as goal
 
--- the bundle after the calls so far
+-- the bundle after the calls so far, and which are still to come
 abbrev pub invariant-loop-call : goal.invariant-loop-call
 invariant-loop-call g l =
     let of = meant g.M.MemoizerKind.category g.C.FluentType.shown g.C.FluentType.alike g.F.FluentFunction.answer g.G.FluentFormatter.formatted g.T.Transform.changed in
-    (of l.self ≡ after_all (map asked (take l.call-index l.calls)) (of l.fn.self)) × Kept l.fn.self l.self
+    let ask = asked g.F.FluentFunction.answer g.G.FluentFormatter.formatted g.T.Transform.changed l.fn.self.intls in
+    record {
+      made : Makes of ask l.yielded l.fn.self l.self;
+      whole : l.fn.calls.items ≡ l.yielded ++ into_iter_items l.call-iterator;
+    }

@@ -1,0 +1,8 @@
+use Rattle.fluent_headline.proofs.Nothing.{none_written}
+use Rattle.fluent_headline.proofs.write_after.Goals as goal
+
+pub returns-in_err-resources-clause-front : goal.returns-in_err-resources-clause-front
+returns-in_err-resources-clause-front g c = none_written _ _ _ _
+
+pub returns-in_err-bundle-clause-front : goal.returns-in_err-bundle-clause-front
+returns-in_err-bundle-clause-front g c = none_written _ _ _ _
