@@ -10,7 +10,7 @@ mod resource;
 
 pub use bundle::{AddFault, FluentBundle};
 pub use calls::Call;
-pub use fluent_entries::{Entry, FunctionRef, GetEntry};
+pub use fluent_values::{Entry, FunctionRef, GetEntry};
 pub use fluent_intl::{EnglishPlurals, LanguageIdentifier, MemoizerKind};
 pub use fluent_syntax::{Counting, ParserError, WriteFault, ast};
 pub use fluent_values::{
