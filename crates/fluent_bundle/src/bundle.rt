@@ -9,7 +9,7 @@ ghost use Rattle.fluent_values.specs.MessageView.{entry_seen, message_view};
 ghost use Rattle.fluent_bundle.specs.Adding.{answer_of};
 
 use crate::resource::FluentResource;
-use fluent_entries::{Entry, FunctionRef, GetEntry, Ids};
+use fluent_values::{Entry, FunctionRef, GetEntry, Ids};
 use fluent_intl::{EnglishPlurals, LanguageIdentifier, MemoizerKind};
 use fluent_syntax::ast;
 use fluent_values::resolver::Context;
@@ -287,7 +287,7 @@ impl<
     T: Transform,
 > GetEntry<'s, F> for FluentBundle<'r, 's, M, C, F, G, T> {
     ghost use Rattle.fluent_meaning.specs.Arguments.{get};
-    ghost use Rattle.fluent_entries.specs.EntryView.{ids};
+    ghost use Rattle.fluent_values.specs.EntryView.{ids};
 
     // The ids of what the bundle means.
     ghost named = { λ b id. get id (ids F.answer b.entries) };

@@ -10,14 +10,13 @@ mod resource;
 
 pub use bundle::{AddFault, FluentBundle};
 pub use calls::Call;
-pub use fluent_entries::{Entry, FunctionRef, GetEntry};
 pub use fluent_intl::{
     EnglishPlurals, LanguageIdentifier, MemoizerKind, NotANumber, OutOfRange, PluralCategory,
     PluralOperands, PluralRuleType,
 };
 pub use fluent_syntax::{Counting, ParserError, WriteFault, ast};
 pub use fluent_values::{
-    AnswerRule, Answering, ArgsIntoIter, ArgsIter, Attributes, EntryKind, FluentArgs,
+    AnswerRule, Answering, ArgsIntoIter, ArgsIter, Attributes, Entry, EntryKind, FluentArgs,
     FluentAttribute, FluentError, FluentFormatter, FluentFunction, FluentMessage, FluentNumber,
     FluentNumberOptions, FluentType, FluentValue, FunctionOf, MergeArgs, NoCustom, NoFormatter,
     NoFunction, NoTransform, ReferenceKind, Transform, builtins, memoizer, types,

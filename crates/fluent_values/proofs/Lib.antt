@@ -5,3 +5,10 @@ pub mod Reading
 pub mod Merging
 pub mod Took
 pub mod Outputs
+pub mod Views
+pub mod Cases
+pub mod CasesRan
+pub mod Measures
+pub mod Own
+pub mod ByName
+pub mod Added

@@ -3,7 +3,14 @@ pub mod Args
 pub mod Given
 pub mod Merging
 pub mod Ended
-pub mod ScopeView
+pub mod FoundView
+pub mod Status
+pub mod Along
+pub mod Texts
+pub mod Sizes
 pub mod Written
 pub mod Free
 pub mod MessageView
+pub mod Named
+pub mod EntryView
+pub mod Adding

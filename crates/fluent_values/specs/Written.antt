@@ -20,6 +20,10 @@ pub record Sink : Type 0 where
 abbrev pub writer : {W : Type 0} → (W → Option Text) → Counting W → Sink
 writer contents w = record { held = contents w.inner; failed = w.failed; empty = w.empty; beside = None; lent = (0, (0, false)) }
 
+-- a text beside a writer
+abbrev pub beside : {W : Type 0} → (W → Option Text) → Counting W → String Global → Sink
+beside contents w s = record { held = Some (string_bytes s); failed = w.failed; empty = w.empty; beside = Some (contents w.inner); lent = (0, (0, true)) }
+
 abbrev pub at : {W : Type 0} → (W → Option Text) → ℕ → Counting W → ℕ → String Global → Bool → Sink
 at contents name w name' s false = record (writer contents w) { lent = (name, (name', false)) }
 at contents name w name' s true = record { held = Some (string_bytes s); failed = w.failed; empty = w.empty; beside = Some (contents w.inner); lent = (name, (name', true)) }

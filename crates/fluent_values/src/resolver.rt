@@ -1,10 +1,20 @@
-//! What resolving a pattern asks of a bundle and carries, and how values are shown there.
+//! The resolver: what it asks of a bundle and carries, and how it writes patterns and values.
+mod arguments;
 pub mod context;
+pub mod environment;
 pub mod errors;
+mod expression;
+mod fallback;
+pub mod found;
+mod inline_expression;
 pub mod output;
+mod path;
+mod pattern;
 pub mod scope;
 pub mod value;
 
 pub use context::Context;
 pub use errors::{ReferenceKind, ResolverError};
-pub use scope::{Budget, Scope};
+pub use found::{Found, Place, Target};
+pub use pattern::write_pattern;
+pub use scope::{Budget, Counts, Scope};

@@ -1,16 +1,23 @@
-//! The state of one formatting call, for those who write values by hand.
+//! The state of one formatting call.
 
-ghost use Rattle.std.specs.Prelude.{◌≡◌, ◌↔◌, ◌∷◌, [], OnOk, OnErr, IfNone, IsOk, IsTrue, map};
+ghost use Rattle.std.specs.Prelude.{◌≡◌, ◌↔◌, ◌∷◌, ◌++◌, [], OnOk, OnErr, IfNone, IsOk, IsTrue, None, Some, map};
 ghost use Rattle.std.specs.Option.{option_map};
 ghost use Rattle.fluent_meaning.specs.Errors.{resolver_error};
-ghost use Rattle.fluent_meaning.specs.Meaning.{struck, left};
+ghost use Rattle.fluent_meaning.specs.Meaning.{struck};
 ghost use Rattle.fluent_values.specs.View.{error_view, resolver_error_view};
-ghost use Rattle.fluent_values.specs.ScopeView.{budget_view, errors_of, with_errors, SameBut};
-ghost use Rattle.fluent_values.specs.Ended.{ended};
+ghost use Rattle.fluent_values.specs.EntryView.{ids as ids_of};
+ghost use Rattle.fluent_values.specs.Status.{arguments_view, budget_view, status, with_ids};
+ghost use Rattle.fluent_values.specs.Along.{can_open, Added, Takes, Begins, Starts, Ends, Enters, Leaves};
+ghost use Rattle.fluent_tree.specs.View.{pattern_view};
 
 use super::context::Context;
+use super::environment::Environment;
+use super::path::Path;
+use crate::function::FluentFunction;
+use crate::ids::Ids;
 use crate::types::FluentType;
 use crate::{FluentArgs, FluentError, ResolverError};
+use fluent_tree::ast::Pattern;
 use std::alloc::AllocError;
 
 /// How many more placeables may be opened; struck once one more was met.
@@ -20,64 +27,63 @@ pub enum Budget {
     Struck,
 }
 
-/// The state of one formatting call: its bundle, its arguments, its list of errors, and how many more placeables
-/// it may open.
-pub struct Scope<'errors, 'bundle, 'args, C, B> {
+/// What a call did: placeables opened, the longest path, patterns entered. Each stands still at the largest number.
+#[derive(Clone, Copy)]
+pub struct Counts {
+    pub opened: u64,
+    pub longest: u64,
+    pub entered: u64,
+}
+
+/// The state of one formatting call: its bundle, where its variables are looked up, the patterns that are being
+/// written, its list of errors, how many more placeables it may open, and what it did.
+#[derive(Drop)]
+pub struct Scope<'errors, 'p, 'r, 's, 'args, C, F, B> {
     pub(crate) errors: Option<&'errors mut Vec<FluentError>>,
-    pub(crate) bundle: &'bundle B,
-    pub(crate) args: Option<&'bundle FluentArgs<'args, C>>,
+    pub(crate) bundle: &'p B,
+    pub(crate) ids: &'p Ids<'r, 's, F>,
+    pub(crate) environment: Environment<'p, 'args, C>,
+    pub(crate) path: Path<'p, 's>,
     pub(crate) budget: Budget,
+    pub(crate) counts: Counts,
 }
 
-impl<C, B> Drop for Scope<'_, '_, '_, C, B> {
-    // By hand, so that it says that the list of errors keeps what was added.
-    fn drop(self)
-        ensures { ended self.exit.0 ≡ option_map (λ e. e.now) self.entry.errors }
-    {
-        match &self.errors {
-            Some(_) => {
-                let Scope {
-                    errors: _,
-                    bundle: _,
-                    args: _,
-                    budget: _,
-                } = self;
-            }
-            None => {
-                let Scope {
-                    errors: _,
-                    bundle: _,
-                    args: _,
-                    budget: _,
-                } = self;
-            }
-        }
-    }
-}
-
-impl<'errors, 'bundle, 'args, C: FluentType, B: Context<C>> Scope<'errors, 'bundle, 'args, C, B> {
-    /// The state in which a call begins, with its whole budget. Errors are added at the end of the list, if there
-    /// is one. Without arguments each variable is missing.
+impl<'errors, 'p, 'r, 's, 'args, C: FluentType, F: FluentFunction<C>, B: Context<C>>
+    Scope<'errors, 'p, 'r, 's, 'args, C, F, B> {
+    /// The state in which a call begins, with the whole budget of its bundle, whose ids it is handed too. Errors
+    /// are added at the end of the list, if there is one. Without arguments each variable is missing. It takes no
+    /// memory yet.
     pub fn new(
-        bundle: &'bundle B,
-        args: Option<&'bundle FluentArgs<'args, C>>,
+        bundle: &'p B,
+        ids: &'p Ids<'r, 's, F>,
+        args: Option<&'p FluentArgs<'args, C>>,
         errors: Option<&'errors mut Vec<FluentError>>,
     ) -> Self
         ensures bundle { result.bundle ≡ bundle.entry }
-        ensures args { result.args ≡ args.entry }
         ensures errors { result.errors ≡ errors.entry }
-        ensures budget { budget_view result.budget ≡ left (B.meant bundle.now).limit }
+        ensures begins {
+            let at = status B.meant B.is_plain F.answer C.content in
+            Begins (at result) (with_ids (B.meant bundle.now) (ids_of F.answer ids.now))
+                (arguments_view C.content args.entry)
+        }
     {
         Scope {
             errors,
             bundle,
-            args,
+            ids,
+            environment: Environment::Application(args),
+            path: Path::new(bundle.allocator()),
             budget: Budget::Left(bundle.placeable_limit()),
+            counts: Counts {
+                opened: 0,
+                longest: 0,
+                entered: 0,
+            },
         }
     }
 
     /// The bundle of the call.
-    pub fn bundle(&self) -> &'bundle B
+    pub fn bundle(&self) -> &'p B
         ensures { result ≡ self.now.bundle }
     {
         self.bundle
@@ -85,7 +91,10 @@ impl<'errors, 'bundle, 'args, C: FluentType, B: Context<C>> Scope<'errors, 'bund
 
     /// The list of errors, with those that the call added; `None` where it was given no list.
     pub fn errors(&self) -> Option<&[FluentError]>
-        ensures { option_map (λ list. map error_view list.now) result ≡ errors_of self.now }
+        ensures {
+            option_map (λ list. map error_view list.now) result
+            ≡ (status B.meant B.is_plain F.answer C.content self.now).errors
+        }
     {
         match &self.errors {
             Some(errors) => Some(errors.as_slice()),
@@ -93,11 +102,27 @@ impl<'errors, 'bundle, 'args, C: FluentType, B: Context<C>> Scope<'errors, 'bund
         }
     }
 
+    /// Takes the list of errors back, with those that the call added; the state has none then.
+    pub fn take_errors(&mut self) -> Option<&'errors mut Vec<FluentError>>
+        ensures { result ≡ self.old.errors }
+    {
+        self.errors.take()
+    }
+
     /// Whether a placeable past the limit was met.
     pub fn dirty(&self) -> bool
-        ensures { IsTrue result ↔ (budget_view self.now.budget ≡ struck) }
+        ensures {
+            IsTrue result ↔ ((status B.meant B.is_plain F.answer C.content self.now).budget ≡ struck)
+        }
     {
         matches!(self.budget, Budget::Struck)
+    }
+
+    /// What the call did so far.
+    pub fn counts(&self) -> Counts
+        ensures { result ≡ self.now.counts }
+    {
+        self.counts
     }
 
     /// Adds an error at the end of the list, if there is one.
@@ -106,9 +131,11 @@ impl<'errors, 'bundle, 'args, C: FluentType, B: Context<C>> Scope<'errors, 'bund
     ///
     /// Memory was refused, which only a list can meet: it is as before.
     pub fn add_error(&mut self, error: ResolverError) -> Result<(), AllocError>
-        ensures added { OnOk result (errors_of self.new ≡ with_errors (errors_of self.old) (resolver_error (resolver_error_view error) ∷ [])) }
-        ensures refused { OnErr result (errors_of self.new ≡ errors_of self.old) }
-        ensures kept { SameBut self.old self.new }
+        ensures added {
+            let at = status B.meant B.is_plain F.answer C.content in
+            Added result (resolver_error (resolver_error_view error) ∷ []) (at self.old) (at self.new)
+        }
+        ensures bundle { self.new.bundle ≡ self.old.bundle }
         ensures succeeds { IfNone self.old.errors (IsOk result) }
     {
         match &mut self.errors {
@@ -118,5 +145,74 @@ impl<'errors, 'bundle, 'args, C: FluentType, B: Context<C>> Scope<'errors, 'bund
             }
             None => Ok(()),
         }
+    }
+
+    /// Takes one from the budget, or strikes it where none is left.
+    pub(crate) fn take_one(&mut self) -> bool
+        ensures opens { result ≡ can_open (budget_view self.old.budget) }
+        ensures takes {
+            let at = status B.meant B.is_plain F.answer C.content in
+            Takes result (at self.old) (at self.new)
+        }
+    {
+        match self.budget {
+            Budget::Left(left) if left > 0 => {
+                self.budget = Budget::Left(left - 1);
+                self.counts.opened = self.counts.opened.saturating_add(1);
+                true
+            }
+            _ => {
+                self.budget = Budget::Struck;
+                false
+            }
+        }
+    }
+
+    /// Puts a pattern on the path where that is empty, counts the pattern, and says whether it put it there.
+    pub(crate) fn begin(&mut self, pattern: &'p Pattern<'s>) -> bool
+        ensures {
+            let at = status B.meant B.is_plain F.answer C.content in
+            Starts result (pattern_view pattern.now) (at self.old) (at self.new)
+        }
+    {
+        let begun = self.path.begin(pattern);
+        let length = self.path.len();
+        self.counts.longest = self.counts.longest.max(length);
+        self.counts.entered = self.counts.entered.saturating_add(1);
+        begun
+    }
+
+    /// Takes the pattern off the path that `begin` put there, where it did.
+    pub(crate) fn end(&mut self, begun: bool)
+        ensures {
+            let at = status B.meant B.is_plain F.answer C.content in
+            Ends begun (at self.old) (at self.new)
+        }
+    {
+        self.path.end(begun);
+    }
+
+    /// Puts a pattern on the path.
+    ///
+    /// # Errors
+    ///
+    /// Memory was refused: the path is as before.
+    pub(crate) fn enter(&mut self, pattern: &'p Pattern<'s>) -> Result<(), AllocError>
+        ensures {
+            let at = status B.meant B.is_plain F.answer C.content in
+            Enters result pattern.entry (at self.old) (at self.new)
+        }
+    {
+        self.path.enter(pattern)
+    }
+
+    /// Takes the last pattern off the path.
+    pub(crate) fn leave(&mut self)
+        ensures {
+            let at = status B.meant B.is_plain F.answer C.content in
+            Leaves (at self.old) (at self.new)
+        }
+    {
+        self.path.leave();
     }
 }

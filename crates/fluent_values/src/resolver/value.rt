@@ -31,10 +31,10 @@ pub fn put_value<W: Write, C: FluentType, B: Context<C>>(
 impl<'v, C: FluentType> FluentValue<'v, C> {
     /// Whether the value matches another, as the key of a variant a selector: equal texts, equal numbers, or the
     /// word of a plural category and a number of that category. Takes no memory.
-    pub fn matches<B: Context<C>>(
+    pub fn matches<F, B: Context<C>>(
         &self,
         other: &FluentValue<'_, C>,
-        scope: &Scope<'_, '_, '_, C, B>,
+        scope: &Scope<'_, '_, '_, '_, '_, C, F, B>,
     ) -> bool
         ensures { result ≡ matches (B.meant scope.now.bundle.now).plurals (value_view C.content self.now) (value_view C.content other.now) }
     {
@@ -47,10 +47,10 @@ impl<'v, C: FluentType> FluentValue<'v, C> {
     ///
     /// `Writer` where a write failed, `Zero` where a write of a nonempty piece took no byte, `Memory` where memory
     /// was refused. Then what was written begins the text.
-    pub fn write<W: Write, B: Context<C>>(
+    pub fn write<W: Write, F, B: Context<C>>(
         &self,
         w: &mut Counting<W>,
-        scope: &Scope<'_, '_, '_, C, B>,
+        scope: &Scope<'_, '_, '_, '_, '_, C, F, B>,
     ) -> Result<(), WriteFault>
         ensures { Took result (shown (B.meant scope.now.bundle.now) (value_view C.content self.now)) (writer W.contents w.old) (writer W.contents w.new) }
     {
@@ -68,9 +68,9 @@ impl<'v, C: FluentType> FluentValue<'v, C> {
     /// # Errors
     ///
     /// Memory was refused.
-    pub fn as_string<B: Context<C>>(
+    pub fn as_string<F, B: Context<C>>(
         &self,
-        scope: &Scope<'_, '_, '_, C, B>,
+        scope: &Scope<'_, '_, '_, '_, '_, C, F, B>,
     ) -> Result<CowStr<'v>, AllocError>
         ensures { IfOk result (λ text. cow_str_bytes text ≡ shown (B.meant scope.now.bundle.now) (value_view C.content self.now)) }
     {
@@ -83,9 +83,9 @@ impl<'v, C: FluentType> FluentValue<'v, C> {
     /// # Errors
     ///
     /// Memory was refused.
-    pub fn into_string<B: Context<C>>(
+    pub fn into_string<F, B: Context<C>>(
         self,
-        scope: &Scope<'_, '_, '_, C, B>,
+        scope: &Scope<'_, '_, '_, '_, '_, C, F, B>,
     ) -> Result<CowStr<'v>, AllocError>
         ensures { IfOk result (λ text. cow_str_bytes text ≡ shown (B.meant scope.now.bundle.now) (value_view C.content self.entry)) }
     {

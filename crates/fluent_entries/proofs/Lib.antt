@@ -1,3 +1,0 @@
-pub mod ByName
-mod Own
-mod Added

@@ -1,5 +1,0 @@
-use Rattle.fluent_entries.proofs.ByName.{none_named}
-use Rattle.fluent_entries.proofs.ids.Ids.new.Goals as goal
-
-pub returns : goal.returns
-returns g c = λ answer. rw c.new.ensures.empty (rw none_named)

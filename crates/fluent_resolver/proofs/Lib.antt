@@ -1,4 +1,0 @@
-pub mod Along
-pub mod Cases
-pub mod Views
-pub mod Elements

@@ -1,2 +1,0 @@
-pub mod Interim
-pub mod Scoped

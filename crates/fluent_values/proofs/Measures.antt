@@ -1,0 +1,117 @@
+-- The measures of the resolver: each step into a placeable takes from the budget, and each other step goes to a smaller tree.
+use Rattle.std.proofs.Common.{◌≡◌, ℕ, zero, suc, ◌+◌, ◌*◌, ◌≤◌, ◌<◌, List, [], ◌∷◌, Option, Some, None, Bool, true, false, if◌then◌else◌, arith, rules, ap, refl, sym, subst, ◌∙◌, map, length, get_or, inl, inr}
+use Rattle.fluent_tree.specs.Tree.{Text, Key, Attribute, Pattern, nothing, more, Variants, no_variants, variant, pattern_of, inlines_of, nameds_of}
+use Rattle.fluent_tree.specs.View.{element_view, inline_view, named_view}
+use Rattle.fluent_tree.specs.declared.ast.InlineExpression.{InlineExpression}
+use Rattle.fluent_tree.specs.declared.ast.NamedArgument.{NamedArgument}
+use Rattle.fluent_tree.specs.declared.ast.PatternElement.{PatternElement}
+use Rattle.fluent_meaning.specs.Value.{Value}
+use Rattle.fluent_meaning.specs.Arguments.{get}
+use Rattle.fluent_meaning.specs.Bundle.{Bundle, Target, unknown, without_value, found, message_target, term_target, stored}
+use Rattle.fluent_meaning.specs.Meaning.{Budget, left, struck, at_most}
+use Rattle.fluent_meaning.proofs.Deeper.{Stands, message_is_stored, term_is_stored}
+use Rattle.fluent_values.specs.Along.{can_open, less_one}
+use Rattle.fluent_values.specs.Sizes.{size, element_size, inline_size, inlines_size, nameds_size, variants_size, sizes, bound, IsBelow, first_default, choice}
+use Rattle.fluent_values.proofs.Views.{view_named}
+
+-- the weight of a tree of this size, where n more placeables may be opened
+abbrev pub weight : ℕ → ℕ → ℕ → ℕ
+weight k size n = size + n * k
+
+pub weight_less : (k a b m n : ℕ) → a < b → m ≤ n → weight k a m < weight k b n
+weight_less k a b m n h j = omega (arith, times_less m n k j)
+  where
+    times_less : (m n k : ℕ) → m ≤ n → m * k ≤ n * k
+    times_less m n k h = grind arith
+
+-- a smaller tree, with no more budget
+pub less_weight : (a b : Bundle Text) (x y m n : ℕ) → b ≡ a → x < y → m ≤ n → weight (1 + bound b) x m < weight (1 + bound a) y n
+less_weight a b x y m n h small few = subst (λ c. weight (1 + bound c) x m < weight (1 + bound a) y n) (sym h) (weight_less (1 + bound a) x y m n small few)
+
+-- a tree of any size below k, with less budget
+pub weight_falls : (k a m n : ℕ) → a < k → m < n → weight k a m < weight k 0 n
+weight_falls k a m n h j = omega (arith, times_less m n k j)
+  where
+    times_less : (m n k : ℕ) → suc m ≤ n → k + m * k ≤ n * k
+    times_less m n k h = grind arith
+
+-- a pattern that is found, after a placeable was opened
+pub less_found : (a b : Bundle Text) (p : Pattern) (m n : ℕ) → b ≡ a → size p < bound b → m < n → weight (1 + bound b) (1 + size p) m < weight (1 + bound a) 0 n
+less_found a b p m n h small few = subst (λ c. weight (1 + bound b) (1 + size p) m < weight (1 + bound c) 0 n) h (weight_falls (1 + bound b) (1 + size p) m n (omega (arith, small)) few)
+
+pub opens_less : (b : Budget) → can_open b ≡ true → at_most b ≡ 1 + at_most (less_one b)
+opens_less (left zero) h = search rules
+opens_less (left (suc n)) h = omega arith
+opens_less struck h = search rules
+
+-- WHAT A LIST HOLDS IS SMALLER
+
+some_size : (p : Pattern) → 0 < size p
+some_size nothing = omega arith
+some_size (more e p) = omega (arith, some_size p)
+
+pub element_less : (xs : List PatternElement) (i : ℕ) (e : PatternElement) → i < length xs → e ≡ get_or xs i e → element_size (element_view e) < size (pattern_of (map element_view xs))
+element_less [] i e h is = absurd (omega arith)
+element_less (x ∷ xs) zero e h is =
+    let same : element_size (element_view e) ≡ element_size (element_view x) = ap (λ v. element_size (element_view v)) is in
+    omega (arith, same, some_size (pattern_of (map element_view xs)))
+element_less (x ∷ xs) (suc i) e h is = omega (arith, element_less xs i e (omega arith) is)
+
+pub place_less : (xs : List InlineExpression) (i : ℕ) (e : InlineExpression) → i < length xs → e ≡ get_or xs i e → 1 + inline_size (inline_view e) < inlines_size (inlines_of (map inline_view xs))
+place_less [] i e h is = absurd (omega arith)
+place_less (x ∷ xs) zero e h is =
+    let same : inline_size (inline_view e) ≡ inline_size (inline_view x) = ap (λ v. inline_size (inline_view v)) is in
+    omega (arith, same)
+place_less (x ∷ xs) (suc i) e h is = omega (arith, place_less xs i e (omega arith) is)
+
+pub label_less : (xs : List NamedArgument) (i : ℕ) (e : NamedArgument) → i < length xs → e ≡ get_or xs i e → 1 + inline_size (inline_view e.value) < nameds_size (nameds_of (map named_view xs))
+label_less [] i e h is = absurd (omega arith)
+label_less (x ∷ xs) zero e h is =
+    let same : inline_size (inline_view e.value) ≡ inline_size (named_view x).1 = ap (λ v. inline_size (inline_view v.value)) is ∙ ap (λ v. inline_size v.1) (sym (view_named x)) in
+    omega (arith, same)
+label_less (x ∷ xs) (suc i) e h is = omega (arith, label_less xs i e (omega arith) is)
+
+-- THE CHOSEN VARIANT
+
+abbrev value_size : Option Pattern → ℕ
+value_size None = 0
+value_size (Some p) = size p
+
+value_size_if : (on : Bool) (x y : Option Pattern) (k : ℕ) → value_size x < k → value_size y < k → value_size (if on then x else y) < k
+value_size_if true x y k h j = h
+value_size_if false x y k h j = j
+
+default_less : (vs : Variants) → value_size (first_default vs) < variants_size vs
+default_less no_variants = omega arith
+default_less (variant k p d vs) = value_size_if d (Some p) (first_default vs) (variants_size (variant k p d vs)) (omega arith) (omega (arith, default_less vs))
+
+choice_less : (goes : Value Text → Key → Bool) (v : Value Text) (o : Option Pattern) (n : ℕ) (vs : Variants) → value_size o < n + variants_size vs → value_size (choice goes v o vs) < n + variants_size vs
+choice_less goes v o n no_variants h = h
+choice_less goes v o n (variant k p d vs) h =
+    value_size_if (goes v k) (Some p) (choice goes v o vs) (n + variants_size (variant k p d vs)) (omega arith)
+    (omega (arith, choice_less goes v o (n + 1 + size p) vs (omega (arith, h))))
+
+pub chosen_less : (goes : Value Text → Key → Bool) (v : Value Text) (vs : Variants) (p : Pattern) → Some p ≡ choice goes v (first_default vs) vs → size p < variants_size vs
+chosen_less goes v vs p h =
+    let same : size p ≡ value_size (choice goes v (first_default vs) vs) = ap value_size h in
+    omega (arith, same, choice_less goes v (first_default vs) 0 vs (omega (arith, default_less vs)))
+
+-- WHAT A REFERENCE LEADS TO
+
+stands_below : (p : Pattern) (ps : List Pattern) → Stands p ps → size p < 1 + sizes ps
+stands_below p [] h = absurd h
+stands_below p (q ∷ ps) (inl h) = let same : size p ≡ size q = ap size h in omega (arith, same)
+stands_below p (q ∷ ps) (inr h) = omega (arith, stands_below p ps h)
+
+is_below : (k : ℕ) (t : Target) → ((p : Pattern) → t ≡ found p → size p < k) → IsBelow k t
+is_below k unknown h = tt
+is_below k without_value h = tt
+is_below k (found p) h = h p refl
+
+pub below_message : (b : Bundle Text) (id : Text) (a : Attribute) → IsBelow (bound b) (message_target (get id b.ids) a)
+unfolding bound
+below_message b id a = is_below (1 + sizes (stored b)) (message_target (get id b.ids) a) (λ p h. stands_below p (stored b) (message_is_stored b a id p h))
+
+pub below_term : (b : Bundle Text) (id : Text) (a : Attribute) → IsBelow (bound b) (term_target (get id b.ids) a)
+unfolding bound
+below_term b id a = is_below (1 + sizes (stored b)) (term_target (get id b.ids) a) (λ p h. stands_below p (stored b) (term_is_stored b a id p h))

@@ -1,0 +1,61 @@
+-- What ids name, by content.
+use Rattle.std.specs.Prelude.{ℕ, Bool, map, Option, Some, None}
+use Rattle.std.specs.Cow.{cow_str_bytes}
+use Rattle.std.specs.HashMap.{spare}
+use Rattle.std.specs.HashSet.{HashSet, contains_by}
+use Rattle.std.specs.Str.{bytes_eq}
+use Rattle.std.proofs.Common.{Bor}
+use Rattle.fluent_tree.specs.Tree.{Text, Pattern, Attributes}
+use Rattle.fluent_tree.specs.View as view
+use Rattle.fluent_tree.specs.View.{attribute_view, pattern_view}
+use Rattle.fluent_tree.specs.declared.ast.Term.{Term}
+use Rattle.fluent_meaning.specs.Arguments.{Map, number_function}
+use Rattle.fluent_meaning.specs.Bundle.{Function, a_message, a_term, a_function, number_builtin}
+use Rattle.fluent_meaning.specs.Bundle as m
+use Rattle.fluent_values.specs.View.{by_name}
+use Rattle.fluent_values.specs.MessageView.{Content}
+use Rattle.fluent_values.specs.declared.entry.Entry.{Entry}
+use Rattle.fluent_values.specs.declared.entry.Entry.TheVariants as entry
+use Rattle.fluent_values.specs.declared.entry.FunctionRef.{FunctionRef}
+use Rattle.fluent_values.specs.declared.entry.FunctionRef.TheVariants as function
+use Rattle.fluent_values.specs.declared.ids.Ids.{Ids}
+
+abbrev pub entry_of : {F : Type 0} → (F → Function Text) → Entry F → m.Entry Text
+entry_of answer (entry.Message x) = a_message (view.value_view x.now.value) (map attribute_view x.now.attributes.items)
+entry_of answer (entry.Term x) = a_term (pattern_view x.now.value) (map attribute_view x.now.attributes.items)
+entry_of answer (entry.Function f) = a_function (answer f)
+entry_of answer entry.Number = number_builtin
+
+abbrev pub ids : {F : Type 0} → (F → Function Text) → Ids F → Map (m.Entry Text)
+ids answer m = by_name (map (λ e. (cow_str_bytes e.0, entry_of answer e.1)) m.known.entries)
+
+-- how many more ids it takes without memory
+abbrev pub room : {F : Type 0} → Ids F → ℕ
+room m = spare m.known
+
+-- a set of texts has this one
+abbrev pub has : {S : Type 0} → HashSet (Bor Text) S → Text → Bool
+has s q = contains_by (λ k. bytes_eq q k.now) s
+
+-- the message that an id names
+abbrev pub message_content : {C : Type 0} → Option (m.Entry C) → Option Content
+message_content (Some (a_message v as')) = Some (record { value = v; attributes = as' })
+message_content _ = None
+
+-- a term without its id
+pub record TermContent : Type 0 where
+  pub value : Pattern
+  pub attributes : Attributes
+
+abbrev pub term_content_of : Term → TermContent
+term_content_of x = record { value = pattern_view x.value; attributes = map attribute_view x.attributes.items }
+
+-- the term that an id names
+abbrev pub term_content : {C : Type 0} → Option (m.Entry C) → Option TermContent
+term_content (Some (a_term p as')) = Some (record { value = p; attributes = as' })
+term_content _ = None
+
+-- the function that is referred to
+abbrev pub function_of : {F : Type 0} → (F → Function Text) → FunctionRef F → Function Text
+function_of answer (function.Own f) = answer f.now
+function_of answer function.Number = number_function

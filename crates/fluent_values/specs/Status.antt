@@ -1,0 +1,122 @@
+-- What a scope is, by content.
+use Rattle.std.specs.Prelude.{◌≡◌, ℕ, zero, suc, ◌+◌, ◌-◌, ◌^◌, ◌≤◌, min, max, List, [], ◌∷◌, ◌++◌, map, Bool, true, false, Option, None, Some}
+use Rattle.std.specs.Option.{option_map}
+use Rattle.std.specs.Borrow.{Bor}
+use Rattle.fluent_tree.specs.Tree.{Text}
+use Rattle.fluent_tree.specs.Tree as t
+use Rattle.fluent_tree.specs.View.{pattern_view}
+use Rattle.fluent_tree.specs.declared.ast.Pattern.{Pattern}
+use Rattle.fluent_meaning.specs.Errors.{Error}
+use Rattle.fluent_meaning.specs.Value.{Value}
+use Rattle.fluent_meaning.specs.Arguments.{Map}
+use Rattle.fluent_meaning.specs.Bundle.{Bundle, Entry, Function}
+use Rattle.fluent_meaning.specs.Walk.{Environment, application, local}
+use Rattle.fluent_meaning.specs.Meaning.{Budget, left, struck, at_most}
+use Rattle.fluent_values.specs.EntryView.{ids}
+use Rattle.fluent_values.specs.View.{error_view, named}
+use Rattle.fluent_values.specs.declared.args.FluentArgs.{FluentArgs}
+use Rattle.fluent_values.specs.declared.errors.FluentError.{FluentError}
+use Rattle.fluent_values.specs.declared.resolver.environment.Environment as environments
+use Rattle.fluent_values.specs.declared.resolver.environment.Environment.TheVariants as environment
+use Rattle.fluent_values.specs.declared.resolver.path.Path.{Path}
+use Rattle.fluent_values.specs.declared.resolver.scope.Budget as budgets
+use Rattle.fluent_values.specs.declared.resolver.scope.Budget.TheVariants as budget
+use Rattle.fluent_values.specs.declared.resolver.scope.Counts.{Counts}
+use Rattle.fluent_values.specs.declared.resolver.scope.Scope.{Scope}
+
+-- no arguments are an empty map
+abbrev pub arguments_view : {C : Type 0} → (C → Text) → Option (Bor (FluentArgs C)) → Map (Value Text)
+arguments_view content None = []
+arguments_view content (Some a) = named content a.now
+
+abbrev pub environment_view : {C : Type 0} → (C → Text) → environments.Environment C → Environment Text
+environment_view content (environment.Application a) = application (arguments_view content a)
+environment_view content (environment.Local a) = local (named content a)
+
+abbrev pub is_local : Environment Text → Bool
+is_local (application m) = false
+is_local (local m) = true
+
+-- a list of errors, by content
+abbrev pub reported : List FluentError → List Error
+reported es = map error_view es
+
+-- the list with these at its end, if there is one
+abbrev pub with_errors : Option (List Error) → List Error → Option (List Error)
+with_errors None es = None
+with_errors (Some l) es = Some (l ++ es)
+
+-- how many more placeables may be opened
+abbrev pub budget_view : budgets.Budget → Budget
+budget_view (budget.Left n) = left n
+budget_view budget.Struck = struck
+
+-- ---- the path
+
+-- Which patterns stand on a path, as it holds them.
+abbrev pub trail_of : Option (Bor Pattern) → List (Option (Bor Pattern)) → List (Option (Bor Pattern))
+trail_of None others = []
+trail_of (Some p) others = Some p ∷ others
+
+abbrev pub trail : Path → List (Option (Bor Pattern))
+trail p = trail_of p.bottom p.others.items
+
+-- the same by content
+abbrev pub on_path : List (Option (Bor Pattern)) → List t.Pattern
+on_path [] = []
+on_path (None ∷ ps) = on_path ps
+on_path (Some p ∷ ps) = pattern_view p.now ∷ on_path ps
+
+-- ---- what was counted
+
+-- placeables opened, the longest path, patterns entered
+pub record Tally : Type 0 where
+  pub opened : ℕ
+  pub longest : ℕ
+  pub entered : ℕ
+
+-- a count stands still at the largest number of 64 bits
+abbrev pub counted : ℕ → ℕ
+counted n = min n (2 ^ 64 - 1)
+
+abbrev pub tally : Counts → Tally
+tally c = record { opened = counted c.opened; longest = counted c.longest; entered = counted c.entered }
+
+-- ---- the scope
+
+-- a bundle with what these ids mean
+abbrev pub with_ids : Bundle Text → Map (Entry Text) → Bundle Text
+with_ids b m = record b { ids = m }
+
+-- Its bundle, its environment, its path, what stands in its list of errors and which borrow that is, its budget, and what it counted.
+pub record Status : Type 0 where
+  pub bundle : Bundle Text
+  pub environment : Environment Text
+  pub path : List (Option (Bor Pattern))
+  pub errors : Option (List Error)
+  pub list : Option ℕ
+  pub budget : Budget
+  pub tally : Tally
+  -- whether the bundle changes no text
+  pub is_plain : Bool
+
+abbrev pub status : {C F B : Type 0} → (B → Bundle Text) → (B → Bool) → (F → Function Text) → (C → Text) → Scope C F B → Status
+status meant is_plain answer content s = record {
+  bundle = with_ids (meant s.bundle.now) (ids answer s.ids.now);
+  environment = environment_view content s.environment;
+  path = trail s.path;
+  errors = option_map (λ e. reported e.now.items) s.errors;
+  list = option_map (λ e. e.ghost_name) s.errors;
+  budget = budget_view s.budget;
+  tally = tally s.counts;
+  is_plain = is_plain s.bundle.now;
+}
+
+-- All but the errors and the counts is as it was, and there is no more budget.
+pub record Keeps (s s' : Status) : Type 0 where
+  pub bundle : s'.bundle ≡ s.bundle
+  pub environment : s'.environment ≡ s.environment
+  pub path : s'.path ≡ s.path
+  pub list : s'.list ≡ s.list
+  pub is_plain : s'.is_plain ≡ s.is_plain
+  pub less : at_most s'.budget ≤ at_most s.budget

@@ -1,0 +1,250 @@
+//! Values: of arguments and of selectors.
+
+ghost use Rattle.std.specs.Prelude.{◌≡◌, [], ◌∷◌, ◌++◌, map, IfOk, OnOk};
+ghost use Rattle.std.specs.Option.{option_map};
+ghost use Rattle.fluent_tree.specs.Tree.{variable, inlines_of, nameds_of};
+ghost use Rattle.fluent_tree.specs.View.{inline_view, arguments_view, call_of, named_view};
+ghost use Rattle.fluent_meaning.specs.Arguments.{set_all};
+ghost use Rattle.fluent_meaning.specs.Walk.{written, resolved, called, local_of, positional, named as named_arguments};
+ghost use Rattle.fluent_meaning.specs.Work.{with_work};
+ghost use Rattle.fluent_values.specs.Along.{Gave, Got, Wrote, mapping};
+ghost use Rattle.fluent_values.specs.Status.{status};
+ghost use Rattle.fluent_values.specs.View.{value_view, named};
+ghost use Rattle.fluent_values.specs.Written.{writer, beside};
+
+use super::context::Context;
+use super::environment::Environment;
+use super::found::{Place, answer_of};
+use super::inline_expression::{report_lost, write_inline};
+use super::output::Output;
+use super::scope::Scope;
+use crate::args::FluentArgs;
+use crate::function::FluentFunction;
+use crate::types::{FluentType, FluentValue};
+use fluent_text::{Counting, WriteFault, unescape_unicode_to_string};
+use fluent_tree::ast::{CallArguments, Identifier, InlineExpression, NamedArgument};
+use std::alloc::{AllocError, Global};
+use std::borrow::CowStr;
+use std::io::Write;
+
+/// The value of a selector or an argument. What refers to a pattern, and a nested placeable, is the text that it
+/// gives.
+#[cycle(resolve)]
+#[tactic(none)]
+pub(crate) fn resolve<'p, 's, W: Write, C: FluentType, F: FluentFunction<C>, B: Context<C>>(
+    scope: &mut Scope<'_, 'p, '_, 's, '_, C, F, B>,
+    w: &mut Counting<W>,
+    inline: &'p InlineExpression<'s>,
+    place: Place,
+) -> Result<FluentValue<'p, C>, WriteFault>
+    ensures {
+        let at = status B.meant B.is_plain F.answer C.content in
+        Gave result (value_view C.content)
+            (λ b below env path. resolved with_work b below env path (inline_view inline.now))
+            (writer W.contents w.old) (writer W.contents w.new) (at scope.old) (at scope.new)
+    }
+{
+    match inline {
+        InlineExpression::StringLiteral { value } => {
+            let text = unescape_unicode_to_string(scope.bundle.allocator(), value)?;
+            Ok(FluentValue::String(text))
+        }
+        InlineExpression::NumberLiteral { value } => Ok(FluentValue::try_number(value)),
+        InlineExpression::FunctionReference { id, arguments } => {
+            let (positional, named) = resolve_call(scope, w, arguments, place)?;
+            let alloc = scope.bundle.allocator();
+            let answer = answer_of(scope.ids, alloc, id.name, &positional, &named)?;
+            Ok(answer.unwrap_or(FluentValue::Error))
+        }
+        InlineExpression::VariableReference { id } => Ok(resolve_variable(scope, inline, id)?),
+        _ => {
+            let mut text = String::new(scope.bundle.allocator());
+            write_beside(scope, w, &mut text, inline, place)?;
+            Ok(FluentValue::String(CowStr::Owned(text)))
+        }
+    }
+}
+
+/// Writes what an inline expression gives to a text, and leaves the writer alone.
+#[cycle(resolve)]
+#[tactic(none)]
+fn write_beside<'p, 's, W: Write, C: FluentType, F: FluentFunction<C>, B: Context<C>>(
+    scope: &mut Scope<'_, 'p, '_, 's, '_, C, F, B>,
+    w: &mut Counting<W>,
+    text: &mut String,
+    inline: &'p InlineExpression<'s>,
+    place: Place,
+) -> Result<(), WriteFault>
+    ensures {
+        let at = status B.meant B.is_plain F.answer C.content in
+        Wrote result
+            (λ b below env path. written with_work b below env path (inline_view inline.now))
+            (beside W.contents w.old text.old) (beside W.contents w.new text.new)
+            (at scope.old) (at scope.new)
+    }
+{
+    let mut out = Output {
+        writer: w,
+        buffer: text,
+        is_buffered: true,
+    };
+    write_inline(scope, &mut out, inline, place)
+}
+
+/// A copy of a variable's value. One that is missing is an error value, with the error that it has where it is
+/// written.
+fn resolve_variable<'p, C: FluentType, F: FluentFunction<C>, B: Context<C>>(
+    scope: &mut Scope<'_, 'p, '_, '_, '_, C, F, B>,
+    inline: &InlineExpression<'_>,
+    id: &Identifier<'_>,
+) -> Result<FluentValue<'p, C>, AllocError>
+    requires { inline_view inline.now ≡ variable id.now.name.now }
+    ensures {
+        let at = status B.meant B.is_plain F.answer C.content in
+        Got result (value_view C.content)
+            (λ b below env path. resolved with_work b below env path (inline_view inline.now))
+            (at scope.old) (at scope.new)
+    }
+{
+    let alloc = scope.bundle.allocator();
+    match &scope.environment {
+        Environment::Local(args) => match args.get(id.name) {
+            Some(value) => value.try_clone(alloc),
+            None => Ok(FluentValue::Error),
+        },
+        Environment::Application(Some(args)) => match args.get(id.name) {
+            Some(value) => lent(alloc, value),
+            None => {
+                report_lost(scope, inline)?;
+                Ok(FluentValue::Error)
+            }
+        },
+        Environment::Application(None) => {
+            report_lost(scope, inline)?;
+            Ok(FluentValue::Error)
+        }
+    }
+}
+
+/// A copy of a value that borrows its text.
+fn lent<'v, C: FluentType>(
+    alloc: Global,
+    value: &'v FluentValue<'_, C>,
+) -> Result<FluentValue<'v, C>, AllocError>
+    ensures { IfOk result (λ copy. value_view C.content copy ≡ value_view C.content value.now) }
+{
+    match value {
+        FluentValue::String(text) => Ok(FluentValue::String(CowStr::Borrowed(text.as_str()))),
+        _ => value.into_owned(alloc),
+    }
+}
+
+/// The environment that a term's arguments make: its named ones. The positional ones are resolved and thrown away.
+#[cycle(resolve)]
+#[tactic(none)]
+pub(crate) fn resolve_local<'p, 's, W: Write, C: FluentType, F: FluentFunction<C>, B: Context<C>>(
+    scope: &mut Scope<'_, 'p, '_, 's, '_, C, F, B>,
+    w: &mut Counting<W>,
+    arguments: &'p Option<CallArguments<'s>>,
+    place: Place,
+) -> Result<FluentArgs<'p, C>, WriteFault>
+    ensures {
+        let at = status B.meant B.is_plain F.answer C.content in
+        Gave result (named C.content)
+            (λ b below env path. local_of with_work b below env path (call_of (option_map arguments_view arguments.now)))
+            (writer W.contents w.old) (writer W.contents w.new) (at scope.old) (at scope.new)
+    }
+{
+    match arguments {
+        None => Ok(FluentArgs::new(scope.bundle.allocator())),
+        Some(arguments) => {
+            let (_positional, named) = resolve_call(scope, w, arguments, place)?;
+            Ok(named)
+        }
+    }
+}
+
+/// The values of arguments: positional ones, then named ones, of which the last of a name stands.
+#[cycle(resolve)]
+#[tactic(none)]
+pub(crate) fn resolve_call<'p, 's, W: Write, C: FluentType, F: FluentFunction<C>, B: Context<C>>(
+    scope: &mut Scope<'_, 'p, '_, 's, '_, C, F, B>,
+    w: &mut Counting<W>,
+    arguments: &'p CallArguments<'s>,
+    place: Place,
+) -> Result<(Vec<FluentValue<'p, C>>, FluentArgs<'p, C>), WriteFault>
+    ensures {
+        let at = status B.meant B.is_plain F.answer C.content in
+        Gave result (λ v. (map (value_view C.content) v.0.items, named C.content v.1))
+            (λ b below env path. called with_work b below env path (arguments_view arguments.now))
+            (writer W.contents w.old) (writer W.contents w.new) (at scope.old) (at scope.new)
+    }
+{
+    let positional = resolve_positional(scope, w, &arguments.positional, place)?;
+    let named = resolve_named(scope, w, &arguments.named, place)?;
+    Ok((positional, named))
+}
+
+/// The values of positional arguments, in order.
+#[cycle(resolve)]
+#[tactic(none)]
+fn resolve_positional<'p, 's, W: Write, C: FluentType, F: FluentFunction<C>, B: Context<C>>(
+    scope: &mut Scope<'_, 'p, '_, 's, '_, C, F, B>,
+    w: &mut Counting<W>,
+    arguments: &'p [InlineExpression<'s>],
+    place: Place,
+) -> Result<Vec<FluentValue<'p, C>>, WriteFault>
+    ensures {
+        let at = status B.meant B.is_plain F.answer C.content in
+        Gave result (λ v. map (value_view C.content) v.items)
+            (λ b below env path. positional with_work b below env path (inlines_of (map inline_view arguments.now)))
+            (writer W.contents w.old) (writer W.contents w.new) (at scope.old) (at scope.new)
+    }
+{
+    let mut values = Vec::new(scope.bundle.allocator());
+    for argument in arguments {
+        let value = resolve(scope, w, argument, place)?;
+        push_value(&mut values, value)?;
+    }
+    Ok(values)
+}
+
+/// Adds a value at the end.
+fn push_value<'p, C: FluentType>(
+    values: &mut Vec<FluentValue<'p, C>>,
+    value: FluentValue<'p, C>,
+) -> Result<(), AllocError>
+    ensures {
+        OnOk result
+            (map (value_view C.content) values.new.items
+            ≡ map (value_view C.content) values.old.items ++ value_view C.content value.entry ∷ [])
+    }
+{
+    values.push(value)?;
+    Ok(())
+}
+
+/// The values of named arguments, in order; the last of a name stands.
+#[cycle(resolve)]
+#[tactic(none)]
+fn resolve_named<'p, 's, W: Write, C: FluentType, F: FluentFunction<C>, B: Context<C>>(
+    scope: &mut Scope<'_, 'p, '_, 's, '_, C, F, B>,
+    w: &mut Counting<W>,
+    arguments: &'p [NamedArgument<'s>],
+    place: Place,
+) -> Result<FluentArgs<'p, C>, WriteFault>
+    ensures {
+        let at = status B.meant B.is_plain F.answer C.content in
+        Gave result (named C.content)
+            (λ b below env path n. mapping (λ m. set_all m [])
+                (named_arguments with_work b below env path (nameds_of (map named_view arguments.now)) n))
+            (writer W.contents w.old) (writer W.contents w.new) (at scope.old) (at scope.new)
+    }
+{
+    let mut values = FluentArgs::new(scope.bundle.allocator());
+    for argument in arguments {
+        let value = resolve(scope, w, &argument.value, place)?;
+        values.set(CowStr::Borrowed(argument.name.name), value)?;
+    }
+    Ok(values)
+}

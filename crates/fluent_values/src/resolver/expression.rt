@@ -1,0 +1,132 @@
+//! Expressions.
+
+ghost use Rattle.std.specs.Prelude.{◌≡◌, map};
+ghost use Rattle.std.specs.Option.{option_map};
+ghost use Rattle.fluent_tree.specs.Fallback.{fallback, fallback_of};
+ghost use Rattle.fluent_tree.specs.Tree.{variants_of};
+ghost use Rattle.fluent_tree.specs.View.{expression_view, inline_view, pattern_view, variant_view, key_view};
+ghost use Rattle.fluent_meaning.specs.Bundle.{goes_to, key_value};
+ghost use Rattle.fluent_meaning.specs.Walk as walk;
+ghost use Rattle.fluent_meaning.specs.Walk.{is_bare};
+ghost use Rattle.fluent_meaning.specs.Work.{with_work};
+ghost use Rattle.fluent_values.specs.Along.{Wrote};
+ghost use Rattle.fluent_values.specs.Sizes.{choice, first_default};
+ghost use Rattle.fluent_values.specs.Status.{status};
+ghost use Rattle.fluent_values.specs.View.{value_view};
+ghost use Rattle.fluent_values.specs.Written.{sink};
+
+use super::arguments::resolve;
+use super::context::Context;
+use super::found::Place;
+use super::inline_expression::write_inline;
+use super::output::Output;
+use super::pattern::write_pattern;
+use super::scope::Scope;
+use crate::ResolverError;
+use crate::function::FluentFunction;
+use crate::types::{FluentType, FluentValue};
+use fluent_text::WriteFault;
+use fluent_tree::ast::{Expression, InlineExpression, Pattern, Variant, VariantKey};
+use std::borrow::CowStr;
+use std::io::Write;
+
+/// Writes what an expression gives.
+#[cycle(resolve)]
+#[tactic(none)]
+pub(crate) fn write_expression<'p, 's, W: Write, C: FluentType, F: FluentFunction<C>, B: Context<C>>(
+    scope: &mut Scope<'_, 'p, '_, 's, '_, C, F, B>,
+    out: &mut Output<W>,
+    expression: &'p Expression<'s>,
+    place: Place,
+) -> Result<(), WriteFault>
+    ensures {
+        let at = status B.meant B.is_plain F.answer C.content in
+        Wrote result
+            (λ b below env path. walk.expression with_work b below env path (expression_view expression.now))
+            (sink W.contents out.old) (sink W.contents out.new) (at scope.old) (at scope.new)
+    }
+{
+    match expression {
+        Expression::Inline(inline) => write_inline(scope, out, inline, place),
+        Expression::Select { selector, variants } => {
+            let value = resolve(scope, out.writer, selector, place)?;
+            match choose(scope.bundle, &value, variants) {
+                Some(variant) => write_pattern(scope, out, variant, place),
+                None => {
+                    scope.add_error(ResolverError::MissingDefault)?;
+                    Ok(())
+                }
+            }
+        }
+    }
+}
+
+/// The first variant whose key matches a value, else the first default.
+fn choose<'p, 's, C: FluentType, B: Context<C>>(
+    bundle: &B,
+    value: &FluentValue<'_, C>,
+    variants: &'p [Variant<'s>],
+) -> Option<&'p Pattern<'s>>
+    ensures {
+        let vs = variants_of (map variant_view variants.now) in
+        option_map (λ p. pattern_view p.now) result
+        ≡ choice (goes_to (B.meant bundle.now)) (value_view C.content value.now) (first_default vs) vs
+    }
+{
+    for variant in variants {
+        if bundle.matches(&value_of(&variant.key), value) {
+            return Some(&variant.value);
+        }
+    }
+    first_default(variants)
+}
+
+/// What a key is as a value: an identifier is a text, a number literal what its source is.
+fn value_of<'p, C: FluentType>(key: &VariantKey<'p>) -> FluentValue<'p, C>
+    ensures { value_view C.content result ≡ key_value (key_view key.now) }
+{
+    match key {
+        VariantKey::Identifier { name } => FluentValue::String(CowStr::Borrowed(*name)),
+        VariantKey::NumberLiteral { value } => FluentValue::try_number(value),
+    }
+}
+
+/// The first default among variants.
+fn first_default<'p, 's>(variants: &'p [Variant<'s>]) -> Option<&'p Pattern<'s>>
+    ensures {
+        option_map (λ p. pattern_view p.now) result ≡ first_default (variants_of (map variant_view variants.now))
+    }
+{
+    for variant in variants {
+        if variant.default {
+            return Some(&variant.value);
+        }
+    }
+    None
+}
+
+/// Whether it is directly a message reference, a term reference or a string literal.
+pub(crate) fn is_bare(expression: &Expression) -> bool
+    ensures { result ≡ is_bare (expression_view expression.now) }
+{
+    matches!(
+        expression,
+        Expression::Inline(
+            InlineExpression::MessageReference { .. }
+                | InlineExpression::TermReference { .. }
+                | InlineExpression::StringLiteral { .. }
+        )
+    )
+}
+
+/// The part of an expression that its fallback shows: of a select the selector.
+pub(crate) fn shown_part<'tree, 's>(
+    expression: &'tree Expression<'s>,
+) -> &'tree InlineExpression<'s>
+    ensures { fallback (inline_view result.now) ≡ fallback_of (expression_view expression.now) }
+{
+    match expression {
+        Expression::Inline(inline) => inline,
+        Expression::Select { selector, .. } => selector,
+    }
+}

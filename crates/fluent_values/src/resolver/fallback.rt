@@ -1,0 +1,85 @@
+//! Fallbacks: how an expression shows where it can't be resolved.
+
+ghost use Rattle.std.specs.Prelude.{◌≡◌};
+ghost use Rattle.fluent_tree.specs.Fallback.{fallback, dotted, in_braces};
+ghost use Rattle.fluent_tree.specs.View.{inline_view, attribute_of};
+ghost use Rattle.fluent_values.specs.Written.{sink, Took};
+
+use super::output::{Output, put_text};
+use fluent_text::WriteFault;
+use fluent_tree::ast::{Expression, Identifier, InlineExpression};
+use std::io::Write;
+
+/// Writes a message's id in braces.
+pub(crate) fn put_id_in_braces<W: Write>(out: &mut Output<W>, id: &str) -> Result<(), WriteFault>
+    ensures { Took result (in_braces id.now) (sink W.contents out.old) (sink W.contents out.new) }
+{
+    put_text(out, "{")?;
+    put_text(out, id)?;
+    put_text(out, "}")
+}
+
+/// Writes an expression's fallback in braces.
+pub(crate) fn put_in_braces<W: Write>(
+    out: &mut Output<W>,
+    expression: &InlineExpression,
+) -> Result<(), WriteFault>
+    ensures { Took result (in_braces (fallback (inline_view expression.now))) (sink W.contents out.old) (sink W.contents out.new) }
+{
+    put_text(out, "{")?;
+    put_fallback(out, expression)?;
+    put_text(out, "}")
+}
+
+/// Writes an expression's fallback, without braces.
+pub(crate) fn put_fallback<W: Write>(
+    out: &mut Output<W>,
+    expression: &InlineExpression,
+) -> Result<(), WriteFault>
+    ensures { Took result (fallback (inline_view expression.now)) (sink W.contents out.old) (sink W.contents out.new) }
+{
+    match expression {
+        InlineExpression::StringLiteral { value } => {
+            put_text(out, "\"")?;
+            put_text(out, value)?;
+            put_text(out, "\"")
+        }
+        InlineExpression::NumberLiteral { value } => put_text(out, value),
+        InlineExpression::FunctionReference { id, .. } => {
+            put_text(out, id.name)?;
+            put_text(out, "()")
+        }
+        InlineExpression::MessageReference { id, attribute } => put_dotted(out, id, attribute),
+        InlineExpression::TermReference { id, attribute, .. } => {
+            put_text(out, "-")?;
+            put_dotted(out, id, attribute)
+        }
+        InlineExpression::VariableReference { id } => {
+            put_text(out, "$")?;
+            put_text(out, id.name)
+        }
+        InlineExpression::Placeable { expression } => match &**expression {
+            Expression::Inline(shown)
+            | Expression::Select {
+                selector: shown,
+                ..
+            } => put_fallback(out, shown),
+        },
+    }
+}
+
+/// Writes a name, and after a point that of an attribute.
+fn put_dotted<W: Write>(
+    out: &mut Output<W>,
+    id: &Identifier,
+    attribute: &Option<Identifier>,
+) -> Result<(), WriteFault>
+    ensures { Took result (dotted id.now.name.now (attribute_of attribute.now)) (sink W.contents out.old) (sink W.contents out.new) }
+{
+    put_text(out, id.name)?;
+    if let Some(attribute) = attribute {
+        put_text(out, ".")?;
+        put_text(out, attribute.name)?;
+    }
+    Ok(())
+}

@@ -1,0 +1,284 @@
+//! Inline expressions.
+
+ghost use Rattle.std.specs.Prelude.{◌≡◌, ◌<◌, ◌∷◌, [], map};
+ghost use Rattle.std.specs.Option.{option_map};
+ghost use Rattle.fluent_text.specs.Escapes.{unescaped};
+ghost use Rattle.fluent_tree.specs.Tree.{variable, term};
+ghost use Rattle.fluent_tree.specs.View.{inline_view, attribute_of, call_of, arguments_view, pattern_view};
+ghost use Rattle.fluent_meaning.specs.Arguments.{get};
+ghost use Rattle.fluent_meaning.specs.Bundle.{function_found};
+ghost use Rattle.fluent_meaning.specs.Errors.{resolver_error, no_value};
+ghost use Rattle.fluent_meaning.specs.Walk.{written, follow, go, is_on, loses, function_text};
+ghost use Rattle.fluent_meaning.specs.Work.{with_work};
+ghost use Rattle.fluent_values.specs.Along.{Wrote, Added, lost_of};
+ghost use Rattle.fluent_values.specs.FoundView.{found_view};
+ghost use Rattle.fluent_values.specs.Sizes.{size, bound, IsBelow};
+ghost use Rattle.fluent_values.specs.Status.{status};
+ghost use Rattle.fluent_values.specs.View.{value_view, named};
+ghost use Rattle.fluent_values.specs.Written.{sink, Took};
+
+use super::arguments::{resolve_call, resolve_local};
+use super::context::Context;
+use super::environment::Environment;
+use super::expression::write_expression;
+use super::found::{Found, Place, Target, answer_of};
+use super::fallback::{put_fallback, put_id_in_braces, put_in_braces};
+use super::output::{Output, put_text};
+use super::pattern::write_pattern;
+use super::scope::Scope;
+use super::value::put_value;
+use crate::ResolverError;
+use crate::args::FluentArgs;
+use crate::function::FluentFunction;
+use crate::types::{FluentType, FluentValue};
+use fluent_text::{WriteFault, unescape_unicode, unescape_unicode_to_string};
+use fluent_tree::ast::{CallArguments, Identifier, InlineExpression};
+use std::alloc::{AllocError, Global};
+use std::io::Write;
+use std::mem;
+
+/// Writes what an inline expression gives.
+#[cycle(resolve)]
+#[tactic(none)]
+pub(crate) fn write_inline<'p, 's, W: Write, C: FluentType, F: FluentFunction<C>, B: Context<C>>(
+    scope: &mut Scope<'_, 'p, '_, 's, '_, C, F, B>,
+    out: &mut Output<W>,
+    inline: &'p InlineExpression<'s>,
+    place: Place,
+) -> Result<(), WriteFault>
+    ensures {
+        let at = status B.meant B.is_plain F.answer C.content in
+        Wrote result
+            (λ b below env path. written with_work b below env path (inline_view inline.now))
+            (sink W.contents out.old) (sink W.contents out.new) (at scope.old) (at scope.new)
+    }
+{
+    match inline {
+        InlineExpression::StringLiteral { value } => {
+            put_unescaped(scope.bundle.allocator(), out, value)
+        }
+        InlineExpression::NumberLiteral { value } => {
+            put_value(scope.bundle, out, &FluentValue::try_number(value))
+        }
+        InlineExpression::FunctionReference { id, arguments } => {
+            let (positional, named) = resolve_call(scope, out.writer, arguments, place)?;
+            put_answer(scope, out, inline, id, &positional, &named)
+        }
+        InlineExpression::MessageReference { id, attribute } => {
+            let found = scope.ids.message(id.name, attribute, place);
+            follow(scope, out, inline, id, found)
+        }
+        InlineExpression::TermReference {
+            id,
+            attribute,
+            arguments,
+        } => write_term(scope, out, inline, id, attribute, arguments, place),
+        InlineExpression::VariableReference { id } => write_variable(scope, out, inline, id),
+        InlineExpression::Placeable { expression } => {
+            write_expression(scope, out, expression, place)
+        }
+    }
+}
+
+/// Writes the text of a string literal, with its escapes resolved.
+fn put_unescaped<W: Write>(
+    alloc: Global,
+    out: &mut Output<W>,
+    value: &str,
+) -> Result<(), WriteFault>
+    ensures { Took result (unescaped value.now) (sink W.contents out.old) (sink W.contents out.new) }
+{
+    if out.is_buffered {
+        let text = unescape_unicode_to_string(alloc, value)?;
+        put_text(out, &text)
+    } else {
+        unescape_unicode(out.writer, value)
+    }
+}
+
+/// Writes a term's pattern, in the environment that its arguments make.
+#[cycle(resolve)]
+#[tactic(none)]
+fn write_term<'p, 's, W: Write, C: FluentType, F: FluentFunction<C>, B: Context<C>>(
+    scope: &mut Scope<'_, 'p, '_, 's, '_, C, F, B>,
+    out: &mut Output<W>,
+    inline: &'p InlineExpression<'s>,
+    id: &Identifier<'_>,
+    attribute: &Option<Identifier<'_>>,
+    arguments: &'p Option<CallArguments<'s>>,
+    place: Place,
+) -> Result<(), WriteFault>
+    requires {
+        inline_view inline.now
+        ≡ term id.now.name.now (attribute_of attribute.now) (call_of (option_map arguments_view arguments.now))
+    }
+    ensures {
+        let at = status B.meant B.is_plain F.answer C.content in
+        Wrote result
+            (λ b below env path. written with_work b below env path (inline_view inline.now))
+            (sink W.contents out.old) (sink W.contents out.new) (at scope.old) (at scope.new)
+    }
+{
+    let local = resolve_local(scope, out.writer, arguments, place)?;
+    let found = scope.ids.term(id.name, attribute, place);
+    let outer = mem::replace(&mut scope.environment, Environment::Local(local));
+    let written = follow(scope, out, inline, id, found);
+    scope.environment = outer;
+    written
+}
+
+/// Writes what a reference leads to.
+#[cycle(resolve)]
+#[tactic(none)]
+fn follow<'p, 's, W: Write, C: FluentType, F: FluentFunction<C>, B: Context<C>>(
+    scope: &mut Scope<'_, 'p, '_, 's, '_, C, F, B>,
+    out: &mut Output<W>,
+    inline: &InlineExpression<'_>,
+    id: &Identifier<'_>,
+    found: Found<'p, 's>,
+) -> Result<(), WriteFault>
+    requires { IsBelow (bound (status B.meant B.is_plain F.answer C.content scope.old).bundle) (found_view found) }
+    ensures {
+        let at = status B.meant B.is_plain F.answer C.content in
+        Wrote result
+            (λ b below env path. follow with_work b below env env path (inline_view inline.now) id.now.name.now (found_view found.entry))
+            (sink W.contents out.old) (sink W.contents out.new) (at scope.old) (at scope.new)
+    }
+{
+    match found {
+        Found::Unknown => lose(scope, out, inline),
+        Found::WithoutValue => {
+            report_no_value(scope, id.name)?;
+            put_id_in_braces(out, id.name)
+        }
+        Found::Pattern(target) => go(scope, out, inline, target),
+    }
+}
+
+/// Writes a pattern that an expression refers to, unless it is being written.
+#[cycle(resolve)]
+#[tactic(none)]
+fn go<'p, 's, W: Write, C: FluentType, F: FluentFunction<C>, B: Context<C>>(
+    scope: &mut Scope<'_, 'p, '_, 's, '_, C, F, B>,
+    out: &mut Output<W>,
+    inline: &InlineExpression<'_>,
+    target: Target<'p, 's>,
+) -> Result<(), WriteFault>
+    requires { size (pattern_view target.pattern.now) < bound (status B.meant B.is_plain F.answer C.content scope.old).bundle }
+    ensures {
+        let at = status B.meant B.is_plain F.answer C.content in
+        Wrote result
+            (λ b below env path. go with_work b below env (is_on path (pattern_view target.entry.pattern.now)) env path (inline_view inline.now) (pattern_view target.entry.pattern.now))
+            (sink W.contents out.old) (sink W.contents out.new) (at scope.old) (at scope.new)
+    }
+{
+    if scope.path.is_on(target.pattern) {
+        scope.add_error(ResolverError::Cyclic)?;
+        return put_in_braces(out, inline);
+    }
+    scope.enter(target.pattern)?;
+    let written = write_pattern(scope, out, target.pattern, target.place);
+    scope.leave();
+    written
+}
+
+/// Writes what a function answers.
+fn put_answer<'p, W: Write, C: FluentType, F: FluentFunction<C>, B: Context<C>>(
+    scope: &mut Scope<'_, 'p, '_, '_, '_, C, F, B>,
+    out: &mut Output<W>,
+    inline: &InlineExpression<'_>,
+    id: &Identifier<'_>,
+    positional: &[FluentValue<'p, C>],
+    arguments: &FluentArgs<'p, C>,
+) -> Result<(), WriteFault>
+    ensures {
+        let at = status B.meant B.is_plain F.answer C.content in
+        Wrote result
+            (λ b below env path. function_text with_work b below env (inline_view inline.now)
+                (function_found (get id.now.name.now b.ids))
+                (map (value_view C.content) positional.now) (named C.content arguments.now))
+            (sink W.contents out.old) (sink W.contents out.new) (at scope.old) (at scope.new)
+    }
+{
+    match answer_of(scope.ids, scope.bundle.allocator(), id.name, positional, arguments)? {
+        None => lose(scope, out, inline),
+        Some(FluentValue::Error) => put_fallback(out, inline),
+        Some(answer) => put_value(scope.bundle, out, &answer),
+    }
+}
+
+/// Writes the value of a variable. One that is missing shows its fallback in braces, and is an error where it is
+/// looked up among the application's arguments.
+fn write_variable<W: Write, C: FluentType, F: FluentFunction<C>, B: Context<C>>(
+    scope: &mut Scope<'_, '_, '_, '_, '_, C, F, B>,
+    out: &mut Output<W>,
+    inline: &InlineExpression<'_>,
+    id: &Identifier<'_>,
+) -> Result<(), WriteFault>
+    requires { inline_view inline.now ≡ variable id.now.name.now }
+    ensures {
+        let at = status B.meant B.is_plain F.answer C.content in
+        Wrote result
+            (λ b below env path. written with_work b below env path (inline_view inline.now))
+            (sink W.contents out.old) (sink W.contents out.new) (at scope.old) (at scope.new)
+    }
+{
+    match &scope.environment {
+        Environment::Local(args) => match args.get(id.name) {
+            Some(value) => put_value(scope.bundle, out, value),
+            None => put_in_braces(out, inline),
+        },
+        Environment::Application(Some(args)) => match args.get(id.name) {
+            Some(value) => put_value(scope.bundle, out, value),
+            None => lose(scope, out, inline),
+        },
+        Environment::Application(None) => lose(scope, out, inline),
+    }
+}
+
+/// Reports what can't be found, and then writes its fallback in braces. What is no reference is no error.
+pub(crate) fn lose<W: Write, C: FluentType, F: FluentFunction<C>, B: Context<C>>(
+    scope: &mut Scope<'_, '_, '_, '_, '_, C, F, B>,
+    out: &mut Output<W>,
+    inline: &InlineExpression<'_>,
+) -> Result<(), WriteFault>
+    ensures {
+        let at = status B.meant B.is_plain F.answer C.content in
+        Wrote result
+            (λ b below env path. loses with_work b below env (inline_view inline.now))
+            (sink W.contents out.old) (sink W.contents out.new) (at scope.old) (at scope.new)
+    }
+{
+    report_lost(scope, inline)?;
+    put_in_braces(out, inline)
+}
+
+/// Reports what can't be found, if it is a reference.
+pub(crate) fn report_lost<C: FluentType, F: FluentFunction<C>, B: Context<C>>(
+    scope: &mut Scope<'_, '_, '_, '_, '_, C, F, B>,
+    inline: &InlineExpression<'_>,
+) -> Result<(), AllocError>
+    ensures {
+        let at = status B.meant B.is_plain F.answer C.content in
+        Added result (lost_of (inline_view inline.now)) (at scope.old) (at scope.new)
+    }
+{
+    match ResolverError::of(scope.bundle.allocator(), inline)? {
+        Some(error) => scope.add_error(error),
+        None => Ok(()),
+    }
+}
+
+/// Reports that a message has no value.
+fn report_no_value<C: FluentType, F: FluentFunction<C>, B: Context<C>>(
+    scope: &mut Scope<'_, '_, '_, '_, '_, C, F, B>,
+    id: &str,
+) -> Result<(), AllocError>
+    ensures {
+        let at = status B.meant B.is_plain F.answer C.content in
+        Added result (resolver_error (no_value id.now) ∷ []) (at scope.old) (at scope.new)
+    }
+{
+    let id = String::from_str(scope.bundle.allocator(), id)?;
+    scope.add_error(ResolverError::NoValue(id))
+}
