@@ -1,47 +1,61 @@
 -- What a whole pattern wrote and reported.
-use Rattle.std.proofs.Common.{◌≡◌, ℕ, Bool, true, false, String, string_bytes, Global, refl, sym, ap, subst, ◌∙◌, List, [], ◌++◌, append-nil, Option, Result, Ok, Err, OnOk}
+use Rattle.std.proofs.Common.{◌≡◌, ℕ, Bool, true, false, String, string_bytes, Global, refl, sym, ap, subst, ◌∙◌, List, [], ◌++◌, append-nil, Option, Some, Result, Ok, Err, OnOk}
 use Rattle.std.specs.Io.KnownBytes.{Appends}
 use Rattle.std.specs.Prelude.{◌≤◌}
 use Rattle.fluent_tree.specs.Tree.{Text, Pattern}
 use Rattle.fluent_text.specs.declared.counting.WriteFault.{WriteFault}
+use Rattle.fluent_meaning.specs.Errors.{Error}
 use Rattle.fluent_meaning.specs.Value.{Value}
 use Rattle.fluent_meaning.specs.Arguments.{Map}
 use Rattle.fluent_meaning.specs.Bundle.{Bundle}
-use Rattle.fluent_meaning.specs.Meaning.{Ran, left, within_budget}
-use Rattle.fluent_meaning.specs.Walk.{has_one}
+use Rattle.fluent_meaning.specs.Meaning.{Ran, left}
+use Rattle.fluent_meaning.specs.Walk.{Environment, application, whole}
+use Rattle.fluent_meaning.specs.Work.{with_work, work}
+use Rattle.fluent_meaning.specs.Result.{written_pattern, substituted_pattern}
 use Rattle.fluent_bundle.specs.Formatted.{AddsAll, WritesAll, Writes}
-use Rattle.fluent_resolver.specs.Interim.{budgeted, ran, substituted, elements}
-use Rattle.fluent_resolver.specs.Scoped.{Status, Walk, Wrote, from_here, given, reported}
+use Rattle.fluent_values.specs.Status.{Status, on_path, reported, with_errors}
+use Rattle.fluent_values.specs.Along.{Walk, Wrote, from_here, given}
+use Rattle.fluent_bundle.specs.Limits.{KeepsLimit}
 use Rattle.fluent_values.specs.Written.{Sink, writer, at}
 use Rattle.fluent_values.specs.declared.errors.FluentError.{FluentError}
 use Rattle.fluent_text.specs.declared.counting.Counting.{Counting}
-use Rattle.fluent_bundle.proofs.Limits.{within}
+use Rattle.fluent_values.proofs.CasesRan.{written_pattern_is}
 use Rattle.fluent_values.proofs.Outputs.{still}
 
--- a walk over a whole pattern, from a new scope
-pub fresh : (a : Status) (b : Bundle Text) (env : Map (Value Text)) (p : Pattern) → a.bundle ≡ b → a.arguments ≡ env → a.budget ≡ left a.bundle.limit
-    → from_here a (λ s env. elements within_budget s env (has_one p) p) ≡ budgeted b env p
-fresh a b env p h j k =
-    ap (ran a.bundle a.arguments p) k
-    ∙ ap (λ b. ran b a.arguments p (left b.limit)) h
-    ∙ ap (λ env. ran b env p (left b.limit)) j
+-- a walk over a whole pattern
+abbrev pub pattern_walk : Pattern → Walk Text
+pattern_walk p = λ b below env path. whole with_work b below env path p
+
+-- the same, from the state in which a call begins
+pub fresh : (a : Status) (b : Bundle Text) (args : Map (Value Text)) (p : Pattern) → a.bundle ≡ b → a.environment ≡ application args → a.path ≡ [] → a.budget ≡ left b.limit
+    → (from_here a (pattern_walk p)).ran ≡ written_pattern b args p
+fresh a b args p h j k l =
+    ap (λ c. (whole with_work c (work c) a.environment (on_path a.path) p a.budget).ran) h
+    ∙ ap (λ env. (whole with_work b (work b) env (on_path a.path) p a.budget).ran) j
+    ∙ ap (λ path. (whole with_work b (work b) (application args) (on_path path) p a.budget).ran) k
+    ∙ ap (λ budget. (whole with_work b (work b) (application args) [] p budget).ran) l
+    ∙ sym (written_pattern_is b args p)
+
+-- what stands in a list after these were added
+listed : (list list' : List FluentError) (added : List Error) (s s' : Status) → s'.errors ≡ with_errors s.errors added → s.errors ≡ Some (reported list) → s'.errors ≡ Some (reported list') → reported list' ≡ reported list ++ added
+listed list list' added s s' h before after' = cc (sym after' ∙ h ∙ ap (λ l. with_errors l added) before)
 
 -- what a walk wrote and added
-pub writes_of : {T : Type 0} {r : Result T WriteFault} {walk : Walk} {w w' : Sink} {a b : Status} {all : Ran Text} {list list' : List FluentError}
-    → Wrote r walk w w' a b → from_here a walk ≡ all → a.errors ≡ reported list → b.errors ≡ reported list' → Writes r all w w' list list'
+pub writes_of : {T : Type 0} {r : Result T WriteFault} {walk : Walk Text} {w w' : Sink} {a b : Status} {all : Ran Text} {list list' : List FluentError}
+    → Wrote r walk w w' a b → (from_here a walk).ran ≡ all → a.errors ≡ Some (reported list) → b.errors ≡ Some (reported list') → Writes r all w w' list list'
 writes_of {r = r} {w = w} {w' = w'} {a = a} {b = b} {all = all} {list = list} {list' = list'} h e before after' =
     let way = h.went.along in
-    let text : way.taken ++ h.went.left.value ≡ all.value = way.text ∙ ap (λ x. x.value) e in
-    let errors : way.added ++ h.went.left.errors ≡ all.errors = way.errors ∙ ap (λ x. x.errors) e in
-    let list_grew : reported list' ≡ reported list ++ way.added = sym after' ∙ way.list ∙ ap (λ es. es ++ way.added) before in
+    let text : way.taken ++ h.went.left.ran.value ≡ all.value = way.text ∙ ap (λ x. x.value) e in
+    let errors : way.passed.added ++ h.went.left.ran.errors ≡ all.errors = way.passed.errors ∙ ap (λ x. x.errors) e in
+    let grew = listed list list' way.passed.added a b way.passed.list before after' in
     record {
       all = by_case r h.went.done;
       front = record {
         front = way.taken;
-        rest = h.went.left.value;
+        rest = h.went.left.ran.value;
         whole = text;
         taken = way.held;
-        adds = record { front = way.added; rest = h.went.left.errors; whole = errors; adds = record { added = list_grew } };
+        adds = record { front = way.passed.added; rest = h.went.left.ran.errors; whole = errors; adds = record { added = grew } };
       };
       fault = way.fault;
       beside = way.beside;
@@ -51,21 +65,18 @@ writes_of {r = r} {w = w} {w' = w'} {a = a} {b = b} {all = all} {list = list} {l
     by_case : {S : Type 0} (q : Result S WriteFault) → OnOk q (h.went.left ≡ given [] b.budget) → OnOk q (WritesAll all.value all.errors w.held w'.held list list')
     by_case (Ok x) nothing_left =
         let way = h.went.along in
-        let text : way.taken ≡ all.value = sym (append-nil way.taken) ∙ ap (λ l. way.taken ++ l.value) (sym nothing_left) ∙ way.text ∙ ap (λ x. x.value) e in
-        let errors : way.added ≡ all.errors = sym (append-nil way.added) ∙ ap (λ l. way.added ++ l.errors) (sym nothing_left) ∙ way.errors ∙ ap (λ x. x.errors) e in
+        let text : way.taken ≡ all.value = sym (append-nil way.taken) ∙ ap (λ l. way.taken ++ l.ran.value) (sym nothing_left) ∙ way.text ∙ ap (λ x. x.value) e in
+        let errors : way.passed.added ≡ all.errors = sym (append-nil way.passed.added) ∙ ap (λ l. way.passed.added ++ l.ran.errors) (sym nothing_left) ∙ way.passed.errors ∙ ap (λ x. x.errors) e in
         record {
           taken = subst (Appends w.held w'.held) text way.held;
-          adds = record { added = sym after' ∙ way.list ∙ ap (λ es. es ++ way.added) before ∙ ap (λ es. reported list ++ es) errors };
+          adds = record { added = listed list list' way.passed.added a b way.passed.list before after' ∙ ap (λ es. reported list ++ es) errors };
         }
     by_case (Err x) tt = tt
 
 -- the same by substitution, within the limit
-pub substituted_of : {T : Type 0} (r : Result T WriteFault) (held held' : Option Text) (list list' : List FluentError) (b : Bundle Text) (env : Map (Value Text)) (p : Pattern)
-    → OnOk r (WritesAll (budgeted b env p).value (budgeted b env p).errors held held' list list') → (substituted b env p).opened ≤ b.limit → OnOk r (WritesAll (substituted b env p).value (substituted b env p).errors held held' list list')
-substituted_of r held held' list list' b env p h few =
-    let same = within b env p b.limit few in
-    subst (λ t. OnOk r (WritesAll t (substituted b env p).errors held held' list list')) same.text
-    (subst (λ es. OnOk r (WritesAll (budgeted b env p).value es held held' list list')) same.errors h)
+pub substituted_of : {T : Type 0} (r : Result T WriteFault) (held held' : Option Text) (list list' : List FluentError) (b : Bundle Text) (args : Map (Value Text)) (p : Pattern) → KeepsLimit b args p
+    → OnOk r (WritesAll (written_pattern b args p).value (written_pattern b args p).errors held held' list list') → (substituted_pattern b args p).opened ≤ b.limit → OnOk r (WritesAll (substituted_pattern b args p).value (substituted_pattern b args p).errors held held' list list')
+substituted_of r held held' list list' b args p keeps h few = subst (λ m. OnOk r (WritesAll m.value m.errors held held' list list')) (keeps.within few) h
 
 abbrev To : {W T : Type 0} → Result T WriteFault → Ran Text → List FluentError → List FluentError → (W → Option Text) → ℕ → ℕ → ℕ → ℕ → Counting W → Counting W → String Global → String Global → Bool → Type 0
 To r m list list' contents n n' k k' w w' s s' b = Writes r m (at contents n w k s false) (at contents n' w' k' s' b) list list'

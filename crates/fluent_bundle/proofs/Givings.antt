@@ -6,20 +6,19 @@ use Rattle.fluent_tree.specs.Tree.{Text, Pattern, nothing, more, text, placeable
 use Rattle.fluent_meaning.specs.Value.{Value, text_value}
 use Rattle.fluent_meaning.specs.Arguments.{Map}
 use Rattle.fluent_meaning.specs.Bundle.{Bundle, unless_formatted}
-use Rattle.fluent_meaning.specs.Result.{formatted}
+use Rattle.fluent_meaning.specs.Result.{formatted, written_pattern, substituted_pattern}
 use Rattle.fluent_bundle.specs.Formatted.{AddsAll, Gives}
-use Rattle.fluent_resolver.specs.Interim.{budgeted, substituted, sole_text, elements}
-use Rattle.fluent_resolver.specs.Scoped.{reported}
+use Rattle.fluent_meaning.specs.Walk.{application, elements}
+use Rattle.fluent_meaning.specs.Meaning.{left, ran}
+use Rattle.fluent_values.specs.Texts.{sole_text}
+use Rattle.fluent_values.specs.Status.{reported}
+use Rattle.fluent_bundle.specs.Limits.{KeepsLimit}
 use Rattle.fluent_values.specs.declared.errors.FluentError.{FluentError}
-use Rattle.fluent_bundle.proofs.Limits.{within}
 
 -- the same by substitution, within the limit
-pub gives_within : {E : Type 0} (b : Bundle Text) (env : Map (Value Text)) (p : Pattern) (r : Result (CowStr Global) E) (list list' : List FluentError)
-    → Gives (formatted b (budgeted b env p).value) (budgeted b env p).errors r list list' → (substituted b env p).opened ≤ b.limit → Gives (formatted b (substituted b env p).value) (substituted b env p).errors r list list'
-gives_within b env p r list list' h few =
-    let same = within b env p b.limit few in
-    subst (λ t. Gives (formatted b t) (substituted b env p).errors r list list') same.text
-    (subst (λ es. Gives (formatted b (budgeted b env p).value) es r list list') same.errors h)
+pub gives_within : {E : Type 0} (b : Bundle Text) (env : Map (Value Text)) (p : Pattern) (r : Result (CowStr Global) E) (list list' : List FluentError) → KeepsLimit b env p
+    → Gives (formatted b (written_pattern b env p).value) (written_pattern b env p).errors r list list' → (substituted_pattern b env p).opened ≤ b.limit → Gives (formatted b (substituted_pattern b env p).value) (substituted_pattern b env p).errors r list list'
+gives_within b env p r list list' keeps h few = subst (λ m. Gives (formatted b m.value) m.errors r list list') (keeps.within few) h
 
 -- where a sole text was lent, there is no transform and no formatter
 pub lent_where : {X Y : Type 0} (o : Option X) (f : Option Y) (p : Pattern) (t : Text) → Some t ≡ (if not (is_some o) && not (is_some f) then sole_text p else None) → (o ≡ None) × (f ≡ None) × (sole_text p ≡ Some t)
@@ -28,22 +27,22 @@ lent_where None (Some f) p t h = search (rules, h)
 lent_where (Some x) f p t h = search (rules, h)
 
 -- what a pattern of one text means there
-sole_value : (b : Bundle Text) (env : Map (Value Text)) (p : Pattern) (t : Text) → ((u : Text) → b.transform u ≡ u) → sole_text p ≡ Some t → (budgeted b env p).value ≡ t
-unfolding elements
+sole_value : (b : Bundle Text) (env : Map (Value Text)) (p : Pattern) (t : Text) → ((u : Text) → b.transform u ≡ u) → sole_text p ≡ Some t → (written_pattern b env p).value ≡ t
+unfolding elements, ran
 sole_value b env nothing t plain is = search (rules, is)
 sole_value b env (more (text u) nothing) t plain is = append-nil (b.transform u) ∙ plain u ∙ cc is
 sole_value b env (more (text u) (more e p)) t plain is = search (rules, is)
 sole_value b env (more (placeable x) p) t plain is = search (rules, is)
 
-sole_errors : (b : Bundle Text) (env : Map (Value Text)) (p : Pattern) (t : Text) → sole_text p ≡ Some t → (budgeted b env p).errors ≡ []
-unfolding elements
+sole_errors : (b : Bundle Text) (env : Map (Value Text)) (p : Pattern) (t : Text) → sole_text p ≡ Some t → (written_pattern b env p).errors ≡ []
+unfolding elements, ran
 sole_errors b env nothing t is = refl
 sole_errors b env (more (text u) nothing) t is = refl
 sole_errors b env (more (text u) (more e p)) t is = search (rules, is)
 sole_errors b env (more (placeable x) p) t is = search (rules, is)
 
-pub sole_formatted : (b : Bundle Text) (env : Map (Value Text)) (p : Pattern) (t : Text) → ((u : Text) → b.transform u ≡ u) → ((v : Value Text) → b.formatter v ≡ None) → sole_text p ≡ Some t → t ≡ formatted b (budgeted b env p).value
+pub sole_formatted : (b : Bundle Text) (env : Map (Value Text)) (p : Pattern) (t : Text) → ((u : Text) → b.transform u ≡ u) → ((v : Value Text) → b.formatter v ≡ None) → sole_text p ≡ Some t → t ≡ formatted b (written_pattern b env p).value
 sole_formatted b env p t plain bare is = sym (ap (formatted b) (sole_value b env p t plain is) ∙ ap (λ o. unless_formatted o t) (bare (text_value t)))
 
-pub none_added : (b : Bundle Text) (env : Map (Value Text)) (p : Pattern) (t : Text) (list : List FluentError) → sole_text p ≡ Some t → AddsAll (budgeted b env p).errors list list
+pub none_added : (b : Bundle Text) (env : Map (Value Text)) (p : Pattern) (t : Text) (list : List FluentError) → sole_text p ≡ Some t → AddsAll (written_pattern b env p).errors list list
 none_added b env p t list is = record { added = sym (ap (λ es. reported list ++ es) (sole_errors b env p t is) ∙ append-nil (reported list)) }

@@ -3,7 +3,7 @@ use Rattle.std.proofs.Common.{◌≡◌, refl, List, [], ◌∷◌, length, map,
 use Rattle.fluent_tree.specs.Tree.{Element, text, placeable, more, pattern_of}
 use Rattle.fluent_tree.specs.View.{element_view}
 use Rattle.fluent_tree.specs.declared.ast.PatternElement.{PatternElement}
-use Rattle.fluent_resolver.specs.Interim.{sole_text}
+use Rattle.fluent_values.specs.Texts.{sole_text}
 
 pub sole_none : (es : List PatternElement) → (length es ≡ 1 → ⊥) → sole_text (pattern_of (map element_view es)) ≡ None
 sole_none [] h = refl

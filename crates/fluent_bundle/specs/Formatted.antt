@@ -9,7 +9,7 @@ use Rattle.fluent_tree.specs.Tree.{Text}
 use Rattle.fluent_text.specs.declared.counting.WriteFault.{WriteFault}
 use Rattle.fluent_meaning.specs.Errors.{Error}
 use Rattle.fluent_meaning.specs.Meaning.{Ran}
-use Rattle.fluent_resolver.specs.Scoped.{reported}
+use Rattle.fluent_values.specs.Status.{reported}
 use Rattle.fluent_values.specs.Written.{Sink}
 use Rattle.fluent_values.specs.declared.errors.FluentError.{FluentError}
 

@@ -2,11 +2,10 @@ pub use Rattle.fluent_meaning.specs.Errors
 pub use Rattle.fluent_meaning.specs.Bundle
 pub use Rattle.fluent_meaning.specs.Walk
 pub use Rattle.fluent_meaning.specs.Meaning
-pub use Rattle.fluent_resolver.specs.Interim
-pub use Rattle.fluent_resolver.specs.Scoped
+pub use Rattle.fluent_meaning.specs.Result
 pub mod BundleView
-pub mod Plain
-pub mod Agree
 pub mod Formatted
+pub mod Formatting
+pub mod Limits
 pub mod Adding
 pub mod Calls

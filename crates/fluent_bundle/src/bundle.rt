@@ -83,6 +83,13 @@ impl<
         }
     }
 
+    /// What the bundle's ids name, which a scope is handed beside the bundle.
+    pub fn ids(&self) -> &Ids<'r, 's, F>
+        ensures { result.now ≡ self.now.entries }
+    {
+        &self.entries
+    }
+
     /// Says whether placeables are written between U+2068 and U+2069.
     pub fn set_use_isolating(&mut self, value: bool)
         ensures step { let of = ⟦<Self as Context<C>>⟧.meant in

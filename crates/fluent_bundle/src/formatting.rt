@@ -4,20 +4,22 @@ ghost use Rattle.std.specs.Option.{option_map};
 ghost use Rattle.fluent_meaning.specs.Value.{text_value};
 ghost use Rattle.fluent_text.specs.Taken.{Faulted};
 ghost use Rattle.fluent_tree.specs.View.{pattern_view};
-ghost use Rattle.fluent_meaning.specs.Result.{formatted};
-ghost use Rattle.fluent_bundle.specs.BundleView.{meant};
-ghost use Rattle.fluent_bundle.specs.Formatted.{AddsAll, AddsFront, Gives, Writes, WritesAll, WritesFront};
-ghost use Rattle.fluent_resolver.specs.Interim.{budgeted, sole_text, substituted, IsText};
-ghost use Rattle.fluent_resolver.specs.Scoped.{arguments_view};
+ghost use Rattle.fluent_meaning.specs.Result.{written_pattern};
+ghost use Rattle.fluent_bundle.specs.Formatted.{AddsAll, AddsFront, Writes};
+ghost use Rattle.fluent_bundle.specs.Formatting.{WritesWithin, WritesWhole, WritesBeginning, GivesWithin, GivesWhole, AddsBeginning};
+ghost use Rattle.fluent_bundle.specs.Limits.{KeepsLimit};
+ghost use Rattle.fluent_values.specs.Status.{arguments_view};
+ghost use Rattle.fluent_values.specs.Texts.{sole_text, IsText};
 ghost use Rattle.fluent_values.specs.Written.{sink};
 
 use crate::bundle::FluentBundle;
 use crate::resolver::answers::formatted;
 use fluent_intl::MemoizerKind;
-use fluent_resolver::{Frame, write_elements};
+use crate::laws;
 use fluent_syntax::ast::{Pattern, PatternElement};
 use fluent_syntax::{Counting, WriteFault};
 use fluent_values::resolver::output::Output;
+use fluent_values::resolver::{Context, Place, Scope, write_pattern};
 use fluent_values::types::{FluentType, FluentValue};
 use fluent_values::{FluentArgs, FluentError, FluentFormatter, FluentFunction, Transform};
 use std::alloc::AllocError;
@@ -49,21 +51,41 @@ impl<
     pub fn write_pattern<W: Write>(
         &self,
         w: &mut Counting<W>,
-        pattern: &Pattern<'_>,
+        pattern: &Pattern<'s>,
         args: Option<&FluentArgs<'_, C>>,
         errors: &mut Vec<FluentError>,
     ) -> Result<(), WriteFault>
         // By substitution, where that opens no more placeables than the limit.
-        ensures within { let b = meant M.category C.shown C.alike F.answer G.formatted T.changed self.now in let means = substituted b (arguments_view C.content args.entry) (pattern_view pattern.now) in means.opened ≤ b.limit → OnOk result (WritesAll means.value means.errors (W.contents w.old.inner) (W.contents w.new.inner) errors.old.items errors.new.items) }
+        ensures within {
+            let of = ⟦<Self as Context<C>>⟧.meant in
+            let args = arguments_view C.content args.entry in
+            WritesWithin (of self.now) args (pattern_view pattern.now) result
+                (W.contents w.old.inner) (W.contents w.new.inner)
+                errors.old.items errors.new.items }
 
         // With the budget, in every case.
-        ensures whole { let b = meant M.category C.shown C.alike F.answer G.formatted T.changed self.now in let means = budgeted b (arguments_view C.content args.entry) (pattern_view pattern.now) in OnOk result (WritesAll means.value means.errors (W.contents w.old.inner) (W.contents w.new.inner) errors.old.items errors.new.items) }
+        ensures whole {
+            let of = ⟦<Self as Context<C>>⟧.meant in
+            let args = arguments_view C.content args.entry in
+            WritesWhole (of self.now) args (pattern_view pattern.now) result
+                (W.contents w.old.inner) (W.contents w.new.inner)
+                errors.old.items errors.new.items }
 
         // Whatever is answered.
-        ensures front { let b = meant M.category C.shown C.alike F.answer G.formatted T.changed self.now in let means = budgeted b (arguments_view C.content args.entry) (pattern_view pattern.now) in WritesFront means.value means.errors (W.contents w.old.inner) (W.contents w.new.inner) errors.old.items errors.new.items }
+        ensures front {
+            let of = ⟦<Self as Context<C>>⟧.meant in
+            let args = arguments_view C.content args.entry in
+            WritesBeginning (of self.now) args (pattern_view pattern.now)
+                (W.contents w.old.inner) (W.contents w.new.inner)
+                errors.old.items errors.new.items }
+        ensures limit {
+            let of = ⟦<Self as Context<C>>⟧.meant in
+            let args = arguments_view C.content args.entry in
+            KeepsLimit (of self.now) args (pattern_view pattern.now) }
         ensures fault { Faulted w.old.failed w.old.empty w.new.failed w.new.empty result }
         ensures memory { IsText (pattern_view pattern.now) → self.now.transform ≡ None → result ≢ Err WriteFault.Memory }
     {
+        laws::limits_are_kept();
         let mut unused = String::new(self.alloc);
         let mut out = Output {
             writer: w,
@@ -80,17 +102,34 @@ impl<
     /// # Errors
     ///
     /// Memory was refused: what was added begins the errors.
-    pub fn format_pattern<'p>(
+    pub fn format_pattern(
         &self,
-        pattern: &Pattern<'p>,
+        pattern: &Pattern<'s>,
         args: Option<&FluentArgs<'_, C>>,
         errors: &mut Vec<FluentError>,
-    ) -> Result<CowStr<'p>, AllocError>
-        ensures within { let b = meant M.category C.shown C.alike F.answer G.formatted T.changed self.now in let means = substituted b (arguments_view C.content args.entry) (pattern_view pattern.now) in means.opened ≤ b.limit → Gives (formatted b means.value) means.errors result errors.old.items errors.new.items }
-        ensures whole { let b = meant M.category C.shown C.alike F.answer G.formatted T.changed self.now in let means = budgeted b (arguments_view C.content args.entry) (pattern_view pattern.now) in Gives (formatted b means.value) means.errors result errors.old.items errors.new.items }
-        ensures front { let b = meant M.category C.shown C.alike F.answer G.formatted T.changed self.now in let means = budgeted b (arguments_view C.content args.entry) (pattern_view pattern.now) in AddsFront means.errors errors.old.items errors.new.items }
+    ) -> Result<CowStr<'s>, AllocError>
+        ensures within {
+            let of = ⟦<Self as Context<C>>⟧.meant in
+            let args = arguments_view C.content args.entry in
+            GivesWithin (of self.now) args (pattern_view pattern.now) result
+                errors.old.items errors.new.items }
+        ensures whole {
+            let of = ⟦<Self as Context<C>>⟧.meant in
+            let args = arguments_view C.content args.entry in
+            GivesWhole (of self.now) args (pattern_view pattern.now) result
+                errors.old.items errors.new.items }
+        ensures front {
+            let of = ⟦<Self as Context<C>>⟧.meant in
+            let args = arguments_view C.content args.entry in
+            AddsBeginning (of self.now) args (pattern_view pattern.now)
+                errors.old.items errors.new.items }
+        ensures limit {
+            let of = ⟦<Self as Context<C>>⟧.meant in
+            let args = arguments_view C.content args.entry in
+            KeepsLimit (of self.now) args (pattern_view pattern.now) }
         ensures lent { is_some (sole_text (pattern_view pattern.now)) ≡ true → self.now.transform ≡ None → self.now.formatter ≡ None → IsOk result }
     {
+        laws::limits_are_kept();
         if let Some(text) = self.sole_text(pattern) {
             return Ok(CowStr::Borrowed(text));
         }
@@ -114,7 +153,8 @@ impl<
 
     /// The formatter's answer for a whole text.
     fn formatted_text(&self, text: &str) -> Result<Option<String>, AllocError>
-        ensures { let b = meant M.category C.shown C.alike F.answer G.formatted T.changed self.now in IfOk result (λ shown. option_map string_bytes shown ≡ b.formatter (text_value text.now)) }
+        ensures { let of = ⟦<Self as Context<C>>⟧.meant in
+            IfOk result (λ shown. option_map string_bytes shown ≡ (of self.now).formatter (text_value text.now)) }
     {
         let value = FluentValue::String(CowStr::Borrowed(text));
         formatted(self.alloc, &self.formatter, &value, &self.intls)
@@ -124,27 +164,45 @@ impl<
     fn write_out<W: Write>(
         &self,
         out: &mut Output<W>,
-        pattern: &Pattern<'_>,
+        pattern: &Pattern<'s>,
         args: Option<&FluentArgs<'_, C>>,
         errors: &mut Vec<FluentError>,
     ) -> Result<(), WriteFault>
-        ensures writes { let b = meant M.category C.shown C.alike F.answer G.formatted T.changed self.now in let means = budgeted b (arguments_view C.content args.entry) (pattern_view pattern.now) in Writes result means (sink W.contents out.old) (sink W.contents out.new) errors.old.items errors.new.items }
+        ensures writes {
+            let of = ⟦<Self as Context<C>>⟧.meant in
+            let args = arguments_view C.content args.entry in
+            Writes result (written_pattern (of self.now) args (pattern_view pattern.now))
+                (sink W.contents out.old) (sink W.contents out.new)
+                errors.old.items errors.new.items }
         ensures memory { IsText (pattern_view pattern.now) → self.now.transform ≡ None → out.old.is_buffered ≡ false → result ≢ Err WriteFault.Memory }
     {
-        let mut frame = Frame::new(self, args, errors);
-        write_elements(&mut frame, out, pattern)
+        let mut scope = Scope::new(self, &self.entries, args, Some(errors));
+        let written = write_pattern(&mut scope, out, pattern, Place);
+        let _list = scope.take_errors();
+        written
     }
 
     /// The text of a pattern in memory of its own.
     fn gather(
         &self,
-        pattern: &Pattern<'_>,
+        pattern: &Pattern<'s>,
         args: Option<&FluentArgs<'_, C>>,
         errors: &mut Vec<FluentError>,
     ) -> Result<String, AllocError>
-        ensures text { let b = meant M.category C.shown C.alike F.answer G.formatted T.changed self.now in let means = budgeted b (arguments_view C.content args.entry) (pattern_view pattern.now) in IfOk result (λ text. string_bytes text ≡ means.value) }
-        ensures errors { let b = meant M.category C.shown C.alike F.answer G.formatted T.changed self.now in let means = budgeted b (arguments_view C.content args.entry) (pattern_view pattern.now) in OnOk result (AddsAll means.errors errors.old.items errors.new.items) }
-        ensures front { let b = meant M.category C.shown C.alike F.answer G.formatted T.changed self.now in let means = budgeted b (arguments_view C.content args.entry) (pattern_view pattern.now) in AddsFront means.errors errors.old.items errors.new.items }
+        ensures text {
+            let of = ⟦<Self as Context<C>>⟧.meant in
+            let args = arguments_view C.content args.entry in
+            IfOk result (λ text. string_bytes text ≡ (written_pattern (of self.now) args (pattern_view pattern.now)).value) }
+        ensures errors {
+            let of = ⟦<Self as Context<C>>⟧.meant in
+            let args = arguments_view C.content args.entry in
+            OnOk result (AddsAll (written_pattern (of self.now) args (pattern_view pattern.now)).errors
+                errors.old.items errors.new.items) }
+        ensures front {
+            let of = ⟦<Self as Context<C>>⟧.meant in
+            let args = arguments_view C.content args.entry in
+            AddsFront (written_pattern (of self.now) args (pattern_view pattern.now)).errors
+                errors.old.items errors.new.items }
     {
         let mut text = String::new(self.alloc);
         let mut unused = Counting::new(Vec::new(self.alloc));
@@ -159,13 +217,25 @@ impl<
         &self,
         text: &mut String,
         unused: &mut Counting<W>,
-        pattern: &Pattern<'_>,
+        pattern: &Pattern<'s>,
         args: Option<&FluentArgs<'_, C>>,
         errors: &mut Vec<FluentError>,
     ) -> Result<(), WriteFault>
-        ensures text { let b = meant M.category C.shown C.alike F.answer G.formatted T.changed self.now in let means = budgeted b (arguments_view C.content args.entry) (pattern_view pattern.now) in OnOk result (string_bytes text.new ≡ string_bytes text.old ++ means.value) }
-        ensures errors { let b = meant M.category C.shown C.alike F.answer G.formatted T.changed self.now in let means = budgeted b (arguments_view C.content args.entry) (pattern_view pattern.now) in OnOk result (AddsAll means.errors errors.old.items errors.new.items) }
-        ensures front { let b = meant M.category C.shown C.alike F.answer G.formatted T.changed self.now in let means = budgeted b (arguments_view C.content args.entry) (pattern_view pattern.now) in AddsFront means.errors errors.old.items errors.new.items }
+        ensures text {
+            let of = ⟦<Self as Context<C>>⟧.meant in
+            let args = arguments_view C.content args.entry in
+            OnOk result (string_bytes text.new
+                ≡ string_bytes text.old ++ (written_pattern (of self.now) args (pattern_view pattern.now)).value) }
+        ensures errors {
+            let of = ⟦<Self as Context<C>>⟧.meant in
+            let args = arguments_view C.content args.entry in
+            OnOk result (AddsAll (written_pattern (of self.now) args (pattern_view pattern.now)).errors
+                errors.old.items errors.new.items) }
+        ensures front {
+            let of = ⟦<Self as Context<C>>⟧.meant in
+            let args = arguments_view C.content args.entry in
+            AddsFront (written_pattern (of self.now) args (pattern_view pattern.now)).errors
+                errors.old.items errors.new.items }
         ensures fault { Faulted unused.old.failed unused.old.empty unused.new.failed unused.new.empty result }
     {
         let mut out = Output {

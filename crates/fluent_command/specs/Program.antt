@@ -11,7 +11,7 @@ use Rattle.fluent_meaning.specs.Arguments.{Map, set_all}
 use Rattle.fluent_meaning.specs.Bundle.{Bundle, empty_bundle, after, after_all, answered, add_resource, add_builtins, set_use_isolating}
 use Rattle.fluent_meaning.specs.Meaning.{Ran}
 use Rattle.fluent_bundle.specs.BundleView.{message_at}
-use Rattle.fluent_bundle.specs.Interim.{budgeted}
+use Rattle.fluent_meaning.specs.Result.{written_pattern}
 use Rattle.fluent_command.specs.Words.{Asked, asked_by}
 use Rattle.fluent_command.specs.Ending.{Ending, shown, no_message, bad_usage, not_utf8, status, said}
 
@@ -60,7 +60,7 @@ run_text r = record { output = r.value ++ 10 ∷ []; errors = r.errors; ending =
 -- a message's value under the arguments, if there is one
 abbrev pub run_value : Asked → Bundle Text → Option Pattern → Run
 run_value asked bundle None = only (no_message asked.id)
-run_value asked bundle (Some pattern) = run_text (budgeted bundle (arguments_of asked.arguments) pattern)
+run_value asked bundle (Some pattern) = run_text (written_pattern bundle (arguments_of asked.arguments) pattern)
 
 -- the value of the message that an id names
 abbrev pub value_at : Text → Bundle Text → Option Pattern

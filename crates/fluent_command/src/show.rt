@@ -10,7 +10,7 @@ ghost use Rattle.fluent_bundle.specs.BundleView.{entries_of};
 ghost use Rattle.fluent_command.specs.Words.{name_and_value};
 ghost use Rattle.fluent_command.specs.WordsView.{asked_view};
 ghost use Rattle.fluent_command.specs.EndingView.{ending_view};
-ghost use Rattle.fluent_bundle.specs.Interim.{budgeted};
+ghost use Rattle.fluent_meaning.specs.Result.{written_pattern};
 ghost use Rattle.fluent_command.specs.BundleView.{arguments_view, bundle_view};
 ghost use Rattle.fluent_command.specs.Program.{arguments_of, error_at, start, bundle_of, value_at, run_text, run_value, run_entries, run_source, source_errors};
 ghost use Rattle.fluent_command.specs.Far.{Added, AddedFirst, Took};
@@ -126,10 +126,10 @@ fn write_value<'r, 's: 'r, W: Write>(
     errors: &mut Vec<FluentError>,
 ) -> Result<(), WriteFault>
     ensures text { let args = arguments_of (map name_and_value (map string_bytes words.now)) in
-        let run = run_text (budgeted (bundle_view bundle.now) args (pattern_view pattern.now)) in
+        let run = run_text (written_pattern (bundle_view bundle.now) args (pattern_view pattern.now)) in
         Took result run.output (W.contents out.old.inner) (W.contents out.new.inner) }
     ensures errors { let args = arguments_of (map name_and_value (map string_bytes words.now)) in
-        let run = run_text (budgeted (bundle_view bundle.now) args (pattern_view pattern.now)) in
+        let run = run_text (written_pattern (bundle_view bundle.now) args (pattern_view pattern.now)) in
         Added result run.errors errors.old.items errors.new.items }
     ensures fault { Faulted out.old.failed out.old.empty out.new.failed out.new.empty result }
 {

@@ -7,10 +7,10 @@ ghost use Rattle.fluent_text.specs.Taken.{Faulted};
 ghost use Rattle.fluent_tree.specs.View.{pattern_view};
 ghost use Rattle.fluent_bundle.specs.BundleView.{custom_by, entries_of, meant};
 ghost use Rattle.fluent_bundle.specs.Calls.{asked};
-ghost use Rattle.fluent_bundle.specs.Scoped.{arguments_view};
+ghost use Rattle.fluent_values.specs.Status.{arguments_view};
 ghost use Rattle.fluent_headline.specs.Headline.{bundle_after, source_of, step, step_over};
-ghost use Rattle.fluent_headline.specs.Headline.{WritesWithin, WritesWhole, WritesBeginning};
-ghost use Rattle.fluent_headline.specs.Headline.{GivesWithin, GivesWhole, AddsBeginning};
+ghost use Rattle.fluent_bundle.specs.Formatting.{WritesWithin, WritesWhole, WritesBeginning};
+ghost use Rattle.fluent_bundle.specs.Formatting.{GivesWithin, GivesWhole, AddsBeginning};
 
 use fluent_bundle::{
     Call, Counting, FluentArgs, FluentBundle, FluentError, FluentFormatter, FluentFunction,

@@ -6,11 +6,15 @@ use Rattle.fluent_meaning.specs.Value.{Value, text_value}
 use Rattle.fluent_meaning.specs.Arguments.{Map}
 use Rattle.fluent_meaning.specs.Bundle.{Bundle, unless_formatted}
 use Rattle.fluent_meaning.specs.Walk.{Environment, application, is_on, inner, go, expression, called}
-use Rattle.fluent_meaning.specs.Meaning.{Budget, Ran, left, closed, within_budget, run}
+use Rattle.fluent_meaning.specs.Meaning.{Budget, Outcome, Ran, left, closed, within_budget, run, meaning}
 
 -- a pattern with the arguments of the application, under an empty path and with the bundle's whole limit: its text, errors and what is left
 abbrev pub written_pattern : {C : Type 0} → Bundle C → Map (Value C) → Pattern → Ran Text
 written_pattern b args p = run b (application args) [] p (left b.limit)
+
+-- the same by substitution: its text, errors and how many placeables it opens
+abbrev pub substituted_pattern : {C : Type 0} → Bundle C → Map (Value C) → Pattern → Outcome Text
+substituted_pattern b args p = meaning b (application args) [] p
 
 -- the formatter's answer for a whole text, else that text
 abbrev pub formatted : {C : Type 0} → Bundle C → Text → Text

@@ -1,7 +1,7 @@
 //! What no clause says: that formatting succeeds, the rows of its texts, and what comes through odd writers.
 ghost use Rattle.std.specs.Prelude.{◌≡◌, is_some, true, IsTrue};
 ghost use Rattle.fluent_tree.specs.View.{pattern_view};
-ghost use Rattle.fluent_bundle.specs.Interim.{sole_text};
+ghost use Rattle.fluent_values.specs.Texts.{sole_text};
 
 use crate::common::{Bundle, Given, are, arguments, default_bundle, empty, format, read, value_of};
 use crate::writers::{End, Slow, Told, all, end_of, has_taken, writer};

@@ -3,7 +3,7 @@ use Rattle.std.specs.Option.{option_map}
 use Rattle.fluent_tree.specs.View.{pattern_view}
 use Rattle.fluent_meaning.specs.Bundle.{transform_of, formatter_of}
 use Rattle.fluent_bundle.specs.BundleView.{meant}
-use Rattle.fluent_resolver.specs.Scoped.{arguments_view}
+use Rattle.fluent_values.specs.Status.{arguments_view}
 use Rattle.fluent_bundle.proofs.Givings.{gives_within, lent_where, sole_formatted, none_added}
 use Rattle.fluent_bundle.proofs.bundle.FluentBundle.format_pattern.Goals as goal
 
@@ -26,14 +26,14 @@ returns-in-Some-clause-whole g c =
 pub returns-in-Some-clause-within : goal.returns-in-Some-clause-within
 returns-in-Some-clause-within g c =
     let b = meant g.M.MemoizerKind.category g.C.FluentType.shown g.C.FluentType.alike g.F.FluentFunction.answer g.G.FluentFormatter.formatted g.T.Transform.changed c.args.self.now in
-    gives_within b (arguments_view g.C.FluentType.content c.args.args) (pattern_view c.args.pattern.now) _ _ _ (returns-in-Some-clause-whole g c)
+    gives_within b (arguments_view g.C.FluentType.content c.args.args) (pattern_view c.args.pattern.now) _ _ _ (c.limits_are_kept.ensures b (arguments_view g.C.FluentType.content c.args.args) (pattern_view c.args.pattern.now)) (returns-in-Some-clause-whole g c)
 
 pub returns-in-Some-2-clause-within : goal.returns-in-Some-2-clause-within
 returns-in-Some-2-clause-within g c =
     let b = meant g.M.MemoizerKind.category g.C.FluentType.shown g.C.FluentType.alike g.F.FluentFunction.answer g.G.FluentFormatter.formatted g.T.Transform.changed c.args.self.now in
-    gives_within b (arguments_view g.C.FluentType.content c.args.args) (pattern_view c.args.pattern.now) _ _ _ (search rules)
+    gives_within b (arguments_view g.C.FluentType.content c.args.args) (pattern_view c.args.pattern.now) _ _ _ (c.limits_are_kept.ensures b (arguments_view g.C.FluentType.content c.args.args) (pattern_view c.args.pattern.now)) (search rules)
 
 pub returns-clause-within : goal.returns-clause-within
 returns-clause-within g c =
     let b = meant g.M.MemoizerKind.category g.C.FluentType.shown g.C.FluentType.alike g.F.FluentFunction.answer g.G.FluentFormatter.formatted g.T.Transform.changed c.args.self.now in
-    gives_within b (arguments_view g.C.FluentType.content c.args.args) (pattern_view c.args.pattern.now) _ _ _ (search rules)
+    gives_within b (arguments_view g.C.FluentType.content c.args.args) (pattern_view c.args.pattern.now) _ _ _ (c.limits_are_kept.ensures b (arguments_view g.C.FluentType.content c.args.args) (pattern_view c.args.pattern.now)) (search rules)

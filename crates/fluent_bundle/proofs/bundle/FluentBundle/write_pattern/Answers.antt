@@ -1,7 +1,7 @@
 use Rattle.std.proofs.Common.{rules}
 use Rattle.fluent_tree.specs.View.{pattern_view}
 use Rattle.fluent_bundle.specs.BundleView.{meant}
-use Rattle.fluent_resolver.specs.Scoped.{arguments_view}
+use Rattle.fluent_values.specs.Status.{arguments_view}
 use Rattle.fluent_bundle.proofs.Formats.{substituted_of, written_by}
 use Rattle.fluent_bundle.proofs.bundle.FluentBundle.write_pattern.Goals as goal
 
@@ -10,7 +10,7 @@ returns-clause-within g c =
     let b = meant g.M.MemoizerKind.category g.C.FluentType.shown g.C.FluentType.alike g.F.FluentFunction.answer g.G.FluentFormatter.formatted g.T.Transform.changed c.args.self.now in
     let out = c.write_out.new.out in
     let h = written_by g.W.Write.contents _ out.writer.ghost_name _ out.buffer.ghost_name c.args.w.now out.writer.now c.w-1.given.0 c.new-unused.result out.buffer.now out.is_buffered (search rules) c.write_out.ensures.writes in
-    substituted_of _ _ _ _ _ b (arguments_view g.C.FluentType.content c.args.args) (pattern_view c.args.pattern.now) h.all
+    substituted_of _ _ _ _ _ b (arguments_view g.C.FluentType.content c.args.args) (pattern_view c.args.pattern.now) (c.limits_are_kept.ensures b (arguments_view g.C.FluentType.content c.args.args) (pattern_view c.args.pattern.now)) h.all
 
 pub returns-clause-whole : goal.returns-clause-whole
 returns-clause-whole g c =

@@ -1,0 +1,49 @@
+-- What the formatting calls say, of a bundle, arguments and a pattern.
+use Rattle.std.specs.Prelude.{◌≤◌, List, Option, Result, OnOk}
+use Rattle.std.specs.declared.borrow.CowStr.{CowStr}
+use Rattle.std.proofs.Common.{Global}
+use Rattle.fluent_tree.specs.Tree.{Text, Pattern}
+use Rattle.fluent_meaning.specs.Value.{Value}
+use Rattle.fluent_meaning.specs.Arguments.{Map}
+use Rattle.fluent_meaning.specs.Bundle.{Bundle}
+use Rattle.fluent_meaning.specs.Result.{formatted, written_pattern, substituted_pattern}
+use Rattle.fluent_bundle.specs.Formatted.{WritesAll, WritesFront, AddsFront, Gives}
+use Rattle.fluent_values.specs.declared.errors.FluentError.{FluentError}
+
+-- ---- what is written
+
+-- by substitution, where that opens no more placeables than the limit
+abbrev pub WritesWithin : {T E : Type 0} → Bundle Text → Map (Value Text) → Pattern → Result T E → Option Text → Option Text → List FluentError → List FluentError → Type 0
+WritesWithin b args p result held held' list list' =
+    let means = substituted_pattern b args p in
+    means.opened ≤ b.limit → OnOk result (WritesAll means.value means.errors held held' list list')
+
+-- with the budget, in every case
+abbrev pub WritesWhole : {T E : Type 0} → Bundle Text → Map (Value Text) → Pattern → Result T E → Option Text → Option Text → List FluentError → List FluentError → Type 0
+WritesWhole b args p result held held' list list' =
+    let means = written_pattern b args p in
+    OnOk result (WritesAll means.value means.errors held held' list list')
+
+-- whatever is answered
+abbrev pub WritesBeginning : Bundle Text → Map (Value Text) → Pattern → Option Text → Option Text → List FluentError → List FluentError → Type 0
+WritesBeginning b args p held held' list list' =
+    let means = written_pattern b args p in
+    WritesFront means.value means.errors held held' list list'
+
+-- ---- what is answered as a text
+
+-- by substitution, where that opens no more placeables than the limit
+abbrev pub GivesWithin : {E : Type 0} → Bundle Text → Map (Value Text) → Pattern → Result (CowStr Global) E → List FluentError → List FluentError → Type 0
+GivesWithin b args p result list list' =
+    let means = substituted_pattern b args p in
+    means.opened ≤ b.limit → Gives (formatted b means.value) means.errors result list list'
+
+-- with the budget, in every case
+abbrev pub GivesWhole : {E : Type 0} → Bundle Text → Map (Value Text) → Pattern → Result (CowStr Global) E → List FluentError → List FluentError → Type 0
+GivesWhole b args p result list list' =
+    let means = written_pattern b args p in
+    Gives (formatted b means.value) means.errors result list list'
+
+-- whatever is answered
+abbrev pub AddsBeginning : Bundle Text → Map (Value Text) → Pattern → List FluentError → List FluentError → Type 0
+AddsBeginning b args p list list' = AddsFront (written_pattern b args p).errors list list'
