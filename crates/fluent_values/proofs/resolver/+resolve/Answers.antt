@@ -16,13 +16,13 @@ use Rattle.fluent_values.specs.Sizes.{choice, first_default}
 use Rattle.fluent_values.specs.Status.{status, on_path, environment_view}
 use Rattle.fluent_values.specs.Texts.{IsText}
 use Rattle.fluent_values.specs.View.{value_view, named}
-use Rattle.fluent_values.proofs.Along.{starts, turns, passes, put, puts_last, tail, wrote, ends, halts, stops, memory_halts, refuses, adds, calls, lends, asks, ask_stops, goes_on}
+use Rattle.fluent_values.proofs.Along.{starts, turns, passes, put, puts_last, tail, wrote, ends, halts, stops, memory_halts, refuses, adds, calls, lends, goes_on}
 use Rattle.fluent_values.proofs.Cases.{sequence, prepend, unmarked, closing, opening, part_opens, part_strikes}
 use Rattle.fluent_values.proofs.Outputs.{still}
 use Rattle.fluent_values.proofs.Passing.{passed_still, passed_counts, keeps_elsewhere, keeps_around, keeps_back, opened_counts, entered_counts}
 use Rattle.fluent_values.proofs.Steps.{inline_at, select_at, choosing, choosing_at, cyclic_at, entered_at, begun_at, back, term_at, inside, inside_at, going, wholing, elementing, following, giving, giving_all, giving_text, giving_placeable, giving_end, giving_struck, next_of, none_left}
 use Rattle.fluent_values.proofs.Took.{took_same}
-use Rattle.fluent_values.proofs.Values.{gave_outward}
+use Rattle.fluent_values.proofs.Values.{gave_outward, asks, ask_stops}
 use Rattle.fluent_values.proofs.Views.{view_pattern, view_text_in, view_placeable_in}
 use Rattle.fluent_values.proofs.resolver.+resolve.Goals as goal
 
