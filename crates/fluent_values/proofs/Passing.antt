@@ -1,11 +1,12 @@
 -- What was reported and counted along a walk, step by step.
-use Rattle.std.proofs.Common.{◌≡◌, ◌≤◌, refl, sym, ap, subst, ◌∙◌, ℕ, ◌+◌, ◌-◌, ◌^◌, min, max, List, [], ◌∷◌, ◌++◌, append-nil, append_assoc, Option, Some, None, Result, Ok, Err, OnOk, OnErr, arith}
+use Rattle.std.proofs.Common.{◌≡◌, ◌≤◌, refl, sym, ap, subst, ◌∙◌, ℕ, ◌+◌, ◌-◌, ◌^◌, min, max, List, [], ◌∷◌, ◌++◌, append-nil, append_assoc, Option, Some, None, Result, Ok, Err, OnOk, OnErr, arith, Bool, true, false}
+use Rattle.std.specs.Bool.{OnTrue, OnFalse}
 use Rattle.fluent_tree.specs.Tree.{Text}
 use Rattle.fluent_meaning.specs.Errors.{Error}
 use Rattle.fluent_meaning.specs.Meaning.{Budget, at_most}
 use Rattle.fluent_meaning.specs.Work.{Worked, work}
 use Rattle.fluent_values.specs.Status.{Status, Tally, counted, with_errors, on_path, Keeps}
-use Rattle.fluent_values.specs.Along.{Walk, walked, from_here, given, Trace, trace, follows, adding, Reports, Passed, Elsewhere, Added}
+use Rattle.fluent_values.specs.Along.{Walk, walked, from_here, given, Trace, trace, follows, adding, Reports, Passed, Elsewhere, Added, Takes}
 
 -- SCOPES
 
@@ -174,3 +175,17 @@ entered_counts c n t = same_tally refl (counted_max c.longest n t.longest) (one_
   where
     one_more : (x y : ℕ) → counted (counted (x + 1) + y) ≡ counted (x + (y + 1))
     one_more x y = omega arith
+
+at_true : {P : Type 0} {r : Bool} → r ≡ true → OnTrue r P → P
+at_true {P = P} h k = subst (λ r. OnTrue r P) h k
+
+at_false : {P : Type 0} {r : Bool} → r ≡ false → OnFalse r P → P
+at_false {P = P} h k = subst (λ r. OnFalse r P) h k
+
+-- one was taken from the budget, and so one more placeable is counted
+pub opened_on : {r : Bool} {a c : Status} (t : Trace) → r ≡ true → Takes r a c → adding c.tally t ≡ adding a.tally (record { errors = t.errors; budget = t.budget; opened = t.opened + 1; longest = t.longest; entered = t.entered })
+opened_on {a = a} t is k = ap (λ n. adding n t) (at_true is k.opened) ∙ opened_counts a.tally t
+
+-- none was left to take
+pub struck_same : {r : Bool} {a c : Status} → r ≡ false → Takes r a c → c.tally ≡ a.tally
+struck_same is k = at_false is k.same

@@ -3,7 +3,7 @@ use Rattle.std.proofs.Common.{◌≡◌, refl, sym, ap, subst, ◌∙◌, ℕ, z
 use Rattle.std.proofs.lemmas.List.{drop_more}
 use Rattle.std.specs.Option.{option_map}
 use Rattle.std.specs.Borrow.{Bor}
-use Rattle.fluent_tree.specs.Tree.{Text, Pattern, Inline, Expression, Attribute, Call, placeable, text, term, variable, pattern_of, inlines_of, nameds_of, variants_of}
+use Rattle.fluent_tree.specs.Tree.{Text, Pattern, Inline, Expression, Attribute, Call, placeable, text, term, variable, pattern_of, inlines_of, nameds_of, variants_of, Element, more}
 use Rattle.fluent_tree.specs.Fallback.{fallback, in_braces}
 use Rattle.fluent_tree.specs.View.{pattern_view, element_view, expression_view, inline_view, named_view, variant_view}
 use Rattle.fluent_tree.specs.declared.ast.PatternElement.{PatternElement}
@@ -28,6 +28,7 @@ use Rattle.fluent_values.specs.declared.types.value.FluentValue.{FluentValue}
 use Rattle.fluent_values.specs.declared.types.value.FluentValue.TheVariants as values
 use Rattle.fluent_values.proofs.Cases.{sequence, prepend, and_then, elements_end, elements_struck, elements_more, part_text, positional_none, positional_more, named_none, named_more, given_first, tells, loses_is, written_variable, variable_text_some, variable_text_none, missing_application, missing_local, resolved_variable, variable_value_some, variable_value_none, function_text_none, function_text_some, expression_inline, expression_select, chosen, chosen_is, meant, entering, go_cyclic, go_entered, whole_is, written_term}
 use Rattle.fluent_values.proofs.Views.{view_pattern, view_named, view_in, view_select_in}
+use Rattle.fluent_values.specs.Texts.{IsText}
 
 -- LISTS
 
@@ -318,3 +319,17 @@ inside_at a c x t at m g hb hp he hg =
         ∙ ap (λ e. follow with_work a.bundle (work a.bundle) e e (on_path c.path) x t g c.budget) he
         ∙ ap (λ p. follow with_work a.bundle (work a.bundle) (local m) (local m) (on_path p) x t g c.budget) hp
         ∙ ap (λ g. follow with_work a.bundle (work a.bundle) (local m) (local m) (on_path a.path) x t g c.budget) hg)
+
+-- a pattern of texts alone has no placeable
+pub no_placeable : (es : List PatternElement) (i : ℕ) (e : PatternElement) (x : Expression) → IsText (pattern_of (map element_view es)) → i < length es → e ≡ get_or es i e → element_view e ≡ placeable x → ⊥
+no_placeable [] i e x t h is p = absurd (omega arith)
+no_placeable (y ∷ es) zero e x t h is p = first_text (element_view y) t (ap element_view (sym is) ∙ p)
+  where
+    first_text : (v : Element) → IsText (more v (pattern_of (map element_view es))) → v ≡ placeable x → ⊥
+    first_text (text s) t p = cc
+    first_text (placeable z) t p = t
+no_placeable (y ∷ es) (suc i) e x t h is p = no_placeable es i e x (rest_text (element_view y) t) (omega arith) is p
+  where
+    rest_text : (v : Element) → IsText (more v (pattern_of (map element_view es))) → IsText (pattern_of (map element_view es))
+    rest_text (text s) t = t
+    rest_text (placeable z) t = absurd t

@@ -12,7 +12,7 @@ use Rattle.fluent_values.specs.Status.{status}
 use Rattle.fluent_values.specs.View.{value_view, named}
 use Rattle.fluent_values.specs.Written.{sink, writer}
 use Rattle.fluent_values.proofs.Measures.{weight}
-use Rattle.fluent_values.proofs.Steps.{giving, place_walk, label_walk}
+use Rattle.fluent_values.proofs.Steps.{elementing, giving, place_walk, label_walk}
 use Rattle.fluent_values.proofs.Values.{Gathers}
 use Rattle.fluent_values.proofs.resolver.+resolve.Given as goal
 
@@ -91,7 +91,7 @@ invariant-pattern::write_elements-loop-element g l =
     let a = status g.B.Context.meant g.B.Context.is_plain g.F.FluentFunction.answer g.C.FluentType.content l.initial.scope in
     let b = status g.B.Context.meant g.B.Context.is_plain g.F.FluentFunction.answer g.C.FluentType.content l.scope in
     let one = has_one (pattern_view l.pattern) in
-    Along {T = Unit {0}} (Ok tt) (giving a one l.element-items a.budget) (giving a one (drop l.element-index l.element-items) b.budget)
+    Along {T = Unit {0}} (Ok tt) (from_here a (elementing (pattern_view l.pattern))) (giving a one (drop l.element-index l.element-items) b.budget)
     (sink g.W.Write.contents l.initial.out) (sink g.W.Write.contents l.out) a b
 
 abbrev pub invariant-arguments::resolve_positional-loop-argument : goal.invariant-arguments::resolve_positional-loop-argument
