@@ -1,5 +1,5 @@
 -- What each function of the resolver is to do, from its scope, as the steps of its code.
-use Rattle.std.proofs.Common.{◌≡◌, refl, sym, ap, subst, ◌∙◌, ℕ, zero, suc, ◌+◌, ◌<◌, ◌≤◌, max, length, get_or, drop, List, [], ◌∷◌, ◌++◌, Bool, true, false, Option, Some, None, map, Vec, Global, arith}
+use Rattle.std.proofs.Common.{◌≡◌, refl, sym, ap, subst, ◌∙◌, ℕ, zero, suc, ◌+◌, ◌<◌, ◌≤◌, max, length, get_or, drop, List, [], ◌∷◌, ◌++◌, Bool, true, false, Option, Some, None, map, Vec, Global, arith, ◌×◌}
 use Rattle.std.proofs.lemmas.List.{drop_more}
 use Rattle.std.specs.Option.{option_map}
 use Rattle.std.specs.Borrow.{Bor}
@@ -18,7 +18,7 @@ use Rattle.fluent_meaning.specs.Bundle.{Bundle, Function, Target, unknown, witho
 use Rattle.fluent_meaning.specs.Value.{Value, text_value, number_value, custom_value, no_value, error_value}
 use Rattle.fluent_meaning.specs.Errors.{resolver_error, cyclic}
 use Rattle.fluent_meaning.specs.Meaning.{Budget, struck}
-use Rattle.fluent_meaning.specs.Walk.{Environment, is_on, inner, go, whole, local_of, application, local, variables, missing, loses, variable_text, variable_value, function_text, answer_text, elements, part, expression, written, resolved, positional, named, follow, has_one}
+use Rattle.fluent_meaning.specs.Walk.{Environment, is_on, inner, go, whole, local_of, application, local, variables, missing, loses, variable_text, variable_value, function_text, answer_text, elements, part, expression, written, resolved, positional, named, follow, has_one, function_value}
 use Rattle.fluent_meaning.specs.Work.{Worked, with_work, work}
 use Rattle.fluent_values.specs.Along.{Below, Walk, walked, from_here, given, mapping, lost_of, shown_answer, Elsewhere, Starts, Ends}
 use Rattle.fluent_values.specs.Sizes.{choice, first_default}
@@ -333,3 +333,7 @@ no_placeable (y ∷ es) (suc i) e x t h is p = no_placeable es i e x (rest_text 
     rest_text : (v : Element) → IsText (more v (pattern_of (map element_view es))) → IsText (pattern_of (map element_view es))
     rest_text (text s) t = t
     rest_text (placeable z) t = absurd t
+
+-- what is resolved of a function's answer
+abbrev pub valued : Status → Text → List (Value Text) × Map (Value Text) → Budget → Worked (Value Text)
+valued a id p b = given (function_value with_work a.bundle (work a.bundle) a.environment (function_found (get id a.bundle.ids)) p.0 p.1) b

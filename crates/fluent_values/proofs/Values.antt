@@ -107,6 +107,9 @@ got v h = record { left = _; toward = h; done = refl }
 pub misses : {A T E : Type 0} {r : Result T E} {e : E} {see : T → A} {walk : Walk A} {any : Worked A} {a b : Status} → r ≡ Err e → Toward (from_here a walk) any a b → Got r see walk a b
 misses is h = record { left = _; toward = h; done = never_if _ is }
 
+pub misses_as : {A S T E : Type 0} {q : Result S E} {r : Result T E} {e : E} {see : T → A} {walk : Walk A} {any : Worked A} {a b : Status} → q ≡ Err e → r ≡ Err e → Toward (from_here a walk) any a b → Got r see walk a b
+misses_as was is h = misses is h
+
 pub got_if : {A T E : Type 0} {r : Result T E} {see : T → A} {walk : Walk A} {a : Status} (x : A) → from_here a walk ≡ given x a.budget → IfOk r (λ v. see v ≡ x) → Got r see walk a a
 got_if {r = r} {see = see} {a = a} x h k = record { left = given x a.budget; toward = reads h (begins a _); done = if_values r k }
   where
@@ -130,6 +133,10 @@ got_part {walk = walk} {walk' = walk'} {a = a} {b = b} g is means h = record {
 }
 
 -- VALUES WITHIN A TEXT
+
+pub got_part_as : {A B S T E : Type 0} {q : Result S E} {r : Result T E} {e : E} {see : S → A} {see' : T → B} {walk : Walk A} {walk' : Walk B} {a b : Status} (g : A → B) → q ≡ Err e → r ≡ Err e → from_here a walk' ≡ mapping g (from_here a walk) → Got q see walk a b → Got r see' walk' a b
+got_part_as g was is means h = got_part g is means h
+
 
 pub asks : {A S T : Type 0} {q : Result S WriteFault} {v : S} {x : T} {see : S → A} {all : Worked Text} {w w1 w2 : Sink} {a b c : Status} {walk : Walk A} (k : A → Budget → Worked Text) → q ≡ Ok v → Gave q see walk w1 w2 b c → Along (Ok x) all (and_then (walked a walk b.budget) k) w w1 a b → Along (Ok x) all (k (see v) c.budget) w w2 a c
 asks {v = v} {x = x} {see = see} {c = c} k is g j =

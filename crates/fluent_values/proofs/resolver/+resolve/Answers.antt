@@ -5,10 +5,10 @@ use Rattle.fluent_tree.specs.Fallback.{fallback, fallback_of, in_braces}
 use Rattle.fluent_tree.specs.Tree.{placeable, variants_of, pattern_of}
 use Rattle.fluent_tree.specs.View.{inline_view, expression_view, pattern_view, element_view, variant_view, attribute_of, call_of, arguments_view}
 use Rattle.fluent_meaning.specs.Arguments.{get}
-use Rattle.fluent_meaning.specs.Bundle.{goes_to, message_target, term_target, shown}
+use Rattle.fluent_meaning.specs.Bundle.{goes_to, message_target, term_target, shown, function_found}
 use Rattle.fluent_meaning.specs.Errors.{resolver_error, cyclic, missing_default, too_many_placeables}
 use Rattle.fluent_meaning.specs.Meaning.{first_mark, last_mark, at_most, ending}
-use Rattle.fluent_meaning.specs.Walk.{has_one, is_marked, part}
+use Rattle.fluent_meaning.specs.Walk.{has_one, is_marked, part, function_value}
 use Rattle.fluent_meaning.specs.Work.{work, with_work}
 use Rattle.fluent_values.specs.Along.{given, walked, from_here, adding, trace, less_one}
 use Rattle.fluent_values.specs.FoundView.{found_view}
@@ -17,13 +17,15 @@ use Rattle.fluent_values.specs.Status.{status, on_path, environment_view}
 use Rattle.fluent_values.specs.Texts.{IsText}
 use Rattle.fluent_values.specs.View.{value_view, named}
 use Rattle.fluent_values.proofs.Along.{starts, turns, passes, put, puts_last, tail, wrote, ends, halts, stops, memory_halts, refuses, adds, calls, lends, goes_on}
-use Rattle.fluent_values.proofs.Cases.{sequence, prepend, unmarked, closing, opening, part_opens, part_strikes, tells, written_string, written_number, written_message, written_nested}
+use Rattle.fluent_values.proofs.Cases.{sequence, prepend, unmarked, closing, opening, part_opens, part_strikes, tells, written_string, written_number, written_message, written_nested, resolved_number, resolved_string, resolved_function, local_none, local_some}
 use Rattle.fluent_values.proofs.Outputs.{still}
 use Rattle.fluent_values.proofs.Passing.{passed_still, passed_counts, keeps_elsewhere, keeps_around, keeps_back, opened_counts, entered_counts, opened_on, struck_same}
-use Rattle.fluent_values.proofs.Steps.{inline_at, select_at, choosing, choosing_at, cyclic_at, entered_at, begun_at, back, term_at, inside, inside_at, going, wholing, elementing, following, giving, giving_all, giving_text, giving_placeable, giving_end, giving_struck, next_of, none_left, no_placeable, expressing, writing}
+use Rattle.fluent_values.proofs.Steps.{inline_at, select_at, choosing, choosing_at, cyclic_at, entered_at, begun_at, back, term_at, inside, inside_at, going, wholing, elementing, following, giving, giving_all, giving_text, giving_placeable, giving_end, giving_struck, next_of, none_left, no_placeable, expressing, writing, resolving, locals, valued}
 use Rattle.fluent_values.proofs.Took.{took_same}
-use Rattle.fluent_values.proofs.Values.{gave_outward, asks, ask_stops}
-use Rattle.fluent_values.proofs.Views.{view_pattern, view_text_in, view_placeable_in, view_string_in, view_number_in, view_message_in, view_nested_in}
+use Rattle.fluent_values.proofs.Values.{gave_outward, asks, ask_stops, misses, begins, reads, gets, gets_part, got_if, got_as, got_part, got_part_as, misses_as, rests_memory, rests_same, rests_err, rests_ok, rests_on}
+use Rattle.fluent_values.proofs.Views.{view_pattern, view_text_in, view_placeable_in, view_string_in, view_number_in, view_message_in, view_nested_in, view_function_in}
+use Rattle.fluent_meaning.specs.Value.{text_value}
+use Rattle.fluent_text.specs.declared.counting.WriteFault.TheVariants as fault
 use Rattle.fluent_values.proofs.resolver.+resolve.Goals as goal
 
 pub expression::write_expression-returns-in-Inline : goal.expression::write_expression-returns-in-Inline
@@ -361,5 +363,66 @@ inline_expression::write_inline-returns-in-VariableReference g t c =
 pub inline_expression::write_inline-returns-in-Placeable : goal.inline_expression::write_inline-returns-in-Placeable
 inline_expression::write_inline-returns-in-Placeable g t c =
     let a = status g.B.Context.meant g.B.Context.is_plain g.F.FluentFunction.answer g.C.FluentType.content c.args.scope.now in
-    let begun = turns (ap (λ x. from_here a (writing x)) (view_nested_in c.args.inline.now c.in-Placeable.expression c.in-Placeable.is) ∙ written_nested a.bundle (work a.bundle) a.environment (on_path a.path) (expression_view c.in-Placeable.expression.value) a.budget) (starts a _ _) in
+    let begun = turns (ap (λ x. from_here a (writing x)) (view_nested_in c.args.inline.now c.in-Placeable.expression c.in-Placeable.is) ∙ written_nested a.bundle (work a.bundle) a.environment (on_path a.path) (expression_view c.in-Placeable.expression.value) a.budget ∙ ap (λ e. walked a (expressing (expression_view e)) a.budget) (sym c.deref-in-Placeable.ensures)) (starts a _ _) in
     wrote (tail c.write_expression.ensures begun)
+
+pub arguments::resolve-returns-in_err-text-in-StringLiteral : goal.arguments::resolve-returns-in_err-text-in-StringLiteral
+arguments::resolve-returns-in_err-text-in-StringLiteral g t c =
+    let a = status g.B.Context.meant g.B.Context.is_plain g.F.FluentFunction.answer g.C.FluentType.content c.args.scope.now in
+    record { got = misses {e = fault.Memory} (search rules) (begins a _); rests = rests_memory _ (search rules) }
+
+pub arguments::resolve-returns-in-NumberLiteral : goal.arguments::resolve-returns-in-NumberLiteral
+arguments::resolve-returns-in-NumberLiteral g t c =
+    let a = status g.B.Context.meant g.B.Context.is_plain g.F.FluentFunction.answer g.C.FluentType.content c.args.scope.now in
+    let means = ap (λ x. from_here a (resolving x)) (view_number_in c.args.inline.now c.in-NumberLiteral.value c.in-NumberLiteral.is) ∙ resolved_number a.bundle (work a.bundle) a.environment (on_path a.path) c.in-NumberLiteral.value.now a.budget in
+    record { got = got_if _ means c.try_number.ensures; rests = rests_same _ }
+
+pub arguments::resolve-returns-in_ok-text-in-StringLiteral : goal.arguments::resolve-returns-in_ok-text-in-StringLiteral
+arguments::resolve-returns-in_ok-text-in-StringLiteral g t c =
+    let a = status g.B.Context.meant g.B.Context.is_plain g.F.FluentFunction.answer g.C.FluentType.content c.args.scope.now in
+    let means = ap (λ x. from_here a (resolving x)) (view_string_in c.args.inline.now c.in-StringLiteral.value c.in-StringLiteral.is) ∙ resolved_string a.bundle (work a.bundle) a.environment (on_path a.path) c.in-StringLiteral.value.now a.budget in
+    record { got = got_if _ means (ap text_value (search rules)); rests = rests_same _ }
+
+pub arguments::resolve-returns-in_err-positional-in-FunctionReference : goal.arguments::resolve-returns-in_err-positional-in-FunctionReference
+arguments::resolve-returns-in_err-positional-in-FunctionReference g t c =
+    let a = status g.B.Context.meant g.B.Context.is_plain g.F.FluentFunction.answer g.C.FluentType.content c.args.scope.now in
+    let m = c.in-FunctionReference.id.name.now in
+    let k = valued a m in
+    let means = ap (λ x. from_here a (resolving x)) (view_function_in c.args.inline.now c.in-FunctionReference.id c.in-FunctionReference.arguments c.in-FunctionReference.is) ∙ resolved_function a.bundle (work a.bundle) a.environment (on_path a.path) m (arguments_view c.in-FunctionReference.arguments) a.budget in
+    record { got = misses_as c.in_err-positional-in-FunctionReference.was (search rules) (gets_part k c.resolve_call.ensures.got (reads means (begins a _))); rests = rests_err c.in_err-positional-in-FunctionReference.was (search rules) c.resolve_call.ensures.rests }
+
+pub arguments::resolve-returns-in_err-answer-in-FunctionReference : goal.arguments::resolve-returns-in_err-answer-in-FunctionReference
+arguments::resolve-returns-in_err-answer-in-FunctionReference g t c =
+    let a = status g.B.Context.meant g.B.Context.is_plain g.F.FluentFunction.answer g.C.FluentType.content c.args.scope.now in
+    let m = c.in-FunctionReference.id.name.now in
+    let k = valued a m in
+    let means = ap (λ x. from_here a (resolving x)) (view_function_in c.args.inline.now c.in-FunctionReference.id c.in-FunctionReference.arguments c.in-FunctionReference.is) ∙ resolved_function a.bundle (work a.bundle) a.environment (on_path a.path) m (arguments_view c.in-FunctionReference.arguments) a.budget in
+    record { got = misses {e = fault.Memory} (search rules) (gets k c.in_ok-positional-in-FunctionReference.was c.resolve_call.ensures.got (reads means (begins a _))); rests = rests_on (rests_ok {x = tt} c.in_ok-positional-in-FunctionReference.was c.resolve_call.ensures.rests) (rests_memory _ (search rules)) }
+
+pub arguments::resolve-returns-in_err-resolve_variable-in-VariableReference : goal.arguments::resolve-returns-in_err-resolve_variable-in-VariableReference
+arguments::resolve-returns-in_err-resolve_variable-in-VariableReference g t c =
+    let a = status g.B.Context.meant g.B.Context.is_plain g.F.FluentFunction.answer g.C.FluentType.content c.args.scope.now in
+    record { got = misses {e = fault.Memory} (search rules) c.resolve_variable.ensures.toward; rests = rests_memory _ (search rules) }
+
+pub arguments::resolve-returns-in_ok-resolve_variable-in-VariableReference : goal.arguments::resolve-returns-in_ok-resolve_variable-in-VariableReference
+arguments::resolve-returns-in_ok-resolve_variable-in-VariableReference g t c =
+    let a = status g.B.Context.meant g.B.Context.is_plain g.F.FluentFunction.answer g.C.FluentType.content c.args.scope.now in
+    record { got = got_as (λ v. v) c.in_ok-resolve_variable-in-VariableReference.was refl refl c.resolve_variable.ensures; rests = rests_same _ }
+
+pub arguments::resolve_local-returns-in-None : goal.arguments::resolve_local-returns-in-None
+arguments::resolve_local-returns-in-None g t c =
+    let a = status g.B.Context.meant g.B.Context.is_plain g.F.FluentFunction.answer g.C.FluentType.content c.args.scope.now in
+    let means = ap (λ o. from_here a (locals (call_of (option_map arguments_view o)))) c.in-None.is ∙ local_none a.bundle (work a.bundle) a.environment (on_path a.path) a.budget in
+    record { got = got_if [] means (search rules); rests = rests_same _ }
+
+pub arguments::resolve_local-returns-in_err-_positional-in-Some : goal.arguments::resolve_local-returns-in_err-_positional-in-Some
+arguments::resolve_local-returns-in_err-_positional-in-Some g t c =
+    let a = status g.B.Context.meant g.B.Context.is_plain g.F.FluentFunction.answer g.C.FluentType.content c.args.scope.now in
+    let means = ap (λ o. from_here a (locals (call_of (option_map arguments_view o)))) c.in-Some.is ∙ local_some a.bundle (work a.bundle) a.environment (on_path a.path) (arguments_view c.in-Some.arguments) a.budget in
+    record { got = got_part_as (λ p. p.1) c.in_err-_positional-in-Some.was (search rules) means c.resolve_call.ensures.got; rests = rests_err c.in_err-_positional-in-Some.was (search rules) c.resolve_call.ensures.rests }
+
+pub arguments::resolve_local-returns-in_ok-_positional-in-Some : goal.arguments::resolve_local-returns-in_ok-_positional-in-Some
+arguments::resolve_local-returns-in_ok-_positional-in-Some g t c =
+    let a = status g.B.Context.meant g.B.Context.is_plain g.F.FluentFunction.answer g.C.FluentType.content c.args.scope.now in
+    let means = ap (λ o. from_here a (locals (call_of (option_map arguments_view o)))) c.in-Some.is ∙ local_some a.bundle (work a.bundle) a.environment (on_path a.path) (arguments_view c.in-Some.arguments) a.budget in
+    record { got = got_as (λ p. p.1) c.in_ok-_positional-in-Some.was refl means c.resolve_call.ensures.got; rests = rests_ok c.in_ok-_positional-in-Some.was c.resolve_call.ensures.rests }
