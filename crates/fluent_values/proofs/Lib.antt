@@ -12,3 +12,8 @@ pub mod Measures
 pub mod Own
 pub mod ByName
 pub mod Added
+pub mod Passing
+pub mod Along
+pub mod Values
+pub mod Steps
+pub mod Trails

@@ -25,8 +25,8 @@ weight_less k a b m n h j = omega (arith, times_less m n k j)
     times_less m n k h = grind arith
 
 -- a smaller tree, with no more budget
-pub less_weight : (a b : Bundle Text) (x y m n : ℕ) → b ≡ a → x < y → m ≤ n → weight (1 + bound b) x m < weight (1 + bound a) y n
-less_weight a b x y m n h small few = subst (λ c. weight (1 + bound c) x m < weight (1 + bound a) y n) (sym h) (weight_less (1 + bound a) x y m n small few)
+pub less_weight : (a b : Bundle Text) (x y m n : ℕ) → b ≡ a → x < y → m ≤ n → weight (2 + bound b) x m < weight (2 + bound a) y n
+less_weight a b x y m n h small few = subst (λ c. weight (2 + bound c) x m < weight (2 + bound a) y n) (sym h) (weight_less (2 + bound a) x y m n small few)
 
 -- a tree of any size below k, with less budget
 pub weight_falls : (k a m n : ℕ) → a < k → m < n → weight k a m < weight k 0 n
@@ -36,8 +36,8 @@ weight_falls k a m n h j = omega (arith, times_less m n k j)
     times_less m n k h = grind arith
 
 -- a pattern that is found, after a placeable was opened
-pub less_found : (a b : Bundle Text) (p : Pattern) (m n : ℕ) → b ≡ a → size p < bound b → m < n → weight (1 + bound b) (1 + size p) m < weight (1 + bound a) 0 n
-less_found a b p m n h small few = subst (λ c. weight (1 + bound b) (1 + size p) m < weight (1 + bound c) 0 n) h (weight_falls (1 + bound b) (1 + size p) m n (omega (arith, small)) few)
+pub less_found : (a b : Bundle Text) (p : Pattern) (m n : ℕ) → b ≡ a → size p < bound b → m < n → weight (2 + bound b) (2 + size p) m < weight (2 + bound a) 0 n
+less_found a b p m n h small few = subst (λ c. weight (2 + bound b) (2 + size p) m < weight (2 + bound c) 0 n) h (weight_falls (2 + bound b) (2 + size p) m n (omega (arith, small)) few)
 
 pub opens_less : (b : Budget) → can_open b ≡ true → at_most b ≡ 1 + at_most (less_one b)
 opens_less (left zero) h = search rules
@@ -57,14 +57,14 @@ element_less (x ∷ xs) zero e h is =
     omega (arith, same, some_size (pattern_of (map element_view xs)))
 element_less (x ∷ xs) (suc i) e h is = omega (arith, element_less xs i e (omega arith) is)
 
-pub place_less : (xs : List InlineExpression) (i : ℕ) (e : InlineExpression) → i < length xs → e ≡ get_or xs i e → 1 + inline_size (inline_view e) < inlines_size (inlines_of (map inline_view xs))
+pub place_less : (xs : List InlineExpression) (i : ℕ) (e : InlineExpression) → i < length xs → e ≡ get_or xs i e → 2 + inline_size (inline_view e) < inlines_size (inlines_of (map inline_view xs))
 place_less [] i e h is = absurd (omega arith)
 place_less (x ∷ xs) zero e h is =
     let same : inline_size (inline_view e) ≡ inline_size (inline_view x) = ap (λ v. inline_size (inline_view v)) is in
     omega (arith, same)
 place_less (x ∷ xs) (suc i) e h is = omega (arith, place_less xs i e (omega arith) is)
 
-pub label_less : (xs : List NamedArgument) (i : ℕ) (e : NamedArgument) → i < length xs → e ≡ get_or xs i e → 1 + inline_size (inline_view e.value) < nameds_size (nameds_of (map named_view xs))
+pub label_less : (xs : List NamedArgument) (i : ℕ) (e : NamedArgument) → i < length xs → e ≡ get_or xs i e → 2 + inline_size (inline_view e.value) < nameds_size (nameds_of (map named_view xs))
 label_less [] i e h is = absurd (omega arith)
 label_less (x ∷ xs) zero e h is =
     let same : inline_size (inline_view e.value) ≡ inline_size (named_view x).1 = ap (λ v. inline_size (inline_view v.value)) is ∙ ap (λ v. inline_size v.1) (sym (view_named x)) in

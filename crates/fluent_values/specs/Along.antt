@@ -4,14 +4,15 @@ use Rattle.std.specs.Bool.{OnTrue, OnFalse}
 use Rattle.std.specs.Borrow.{Bor}
 use Rattle.std.specs.Io.KnownBytes.{Appends}
 use Rattle.fluent_tree.specs.Tree.{Text, Pattern, Inline}
+use Rattle.fluent_tree.specs.Fallback.{fallback}
 use Rattle.fluent_tree.specs.View.{pattern_view}
 use Rattle.fluent_tree.specs.declared.ast.Pattern as code
 use Rattle.fluent_text.specs.Taken.{Faulted}
 use Rattle.fluent_text.specs.declared.counting.WriteFault.{WriteFault}
 use Rattle.fluent_meaning.specs.Errors.{Error, resolver_error, lost, Reference, reference_of}
-use Rattle.fluent_meaning.specs.Bundle.{Bundle}
+use Rattle.fluent_meaning.specs.Bundle.{Bundle, shown}
 use Rattle.fluent_meaning.specs.Arguments.{Map}
-use Rattle.fluent_meaning.specs.Value.{Value}
+use Rattle.fluent_meaning.specs.Value.{Value, error_value}
 use Rattle.fluent_meaning.specs.Walk.{Environment, application, inner}
 use Rattle.fluent_meaning.specs.Meaning.{Budget, left, struck, at_most, Ran}
 use Rattle.fluent_meaning.specs.Work.{Worked, counting, work}
@@ -148,6 +149,11 @@ lost_error (Some r) = resolver_error (lost r) ∷ []
 
 abbrev pub lost_of : Inline → List Error
 lost_of x = lost_error (reference_of x)
+
+-- what is written of a function's answer: of an error its fallback, without braces
+abbrev pub shown_answer : Bundle Text → Inline → Value Text → Text
+shown_answer b x error_value = fallback x
+shown_answer b x v = shown b v
 
 -- ---- steps of a scope
 

@@ -39,11 +39,11 @@ abbrev mutual
 
   pub inlines_size : Inlines → ℕ
   inlines_size no_inlines = 1
-  inlines_size (argument x xs) = 2 + inline_size x + inlines_size xs
+  inlines_size (argument x xs) = 3 + inline_size x + inlines_size xs
 
   pub nameds_size : Nameds → ℕ
   nameds_size no_nameds = 1
-  nameds_size (named_argument n x ns) = 2 + inline_size x + nameds_size ns
+  nameds_size (named_argument n x ns) = 3 + inline_size x + nameds_size ns
 
 -- of all of them together
 abbrev pub sizes : List Pattern → ℕ

@@ -4,11 +4,11 @@ ghost use Rattle.std.specs.Prelude.{◌≡◌, [], ◌∷◌, ◌++◌, map, IfO
 ghost use Rattle.std.specs.Option.{option_map};
 ghost use Rattle.fluent_tree.specs.Tree.{variable, inlines_of, nameds_of};
 ghost use Rattle.fluent_tree.specs.View.{inline_view, arguments_view, call_of, named_view};
-ghost use Rattle.fluent_meaning.specs.Arguments.{set_all};
+ghost use Rattle.fluent_meaning.specs.Arguments.{get, set_all};
 ghost use Rattle.fluent_meaning.specs.Walk.{written, resolved, called, local_of, positional, named as named_arguments};
 ghost use Rattle.fluent_meaning.specs.Work.{with_work};
 ghost use Rattle.fluent_values.specs.Along.{Gave, Got, Wrote, mapping};
-ghost use Rattle.fluent_values.specs.Status.{status};
+ghost use Rattle.fluent_values.specs.Status.{status, arguments_view as given_arguments};
 ghost use Rattle.fluent_values.specs.View.{value_view, named};
 ghost use Rattle.fluent_values.specs.Written.{writer, beside};
 
@@ -112,17 +112,28 @@ fn resolve_variable<'p, C: FluentType, F: FluentFunction<C>, B: Context<C>>(
             Some(value) => value.try_clone(alloc),
             None => Ok(FluentValue::Error),
         },
-        Environment::Application(Some(args)) => match args.get(id.name) {
+        Environment::Application(args) => match argument(*args, id.name) {
             Some(value) => lent(alloc, value),
             None => {
                 report_lost(scope, inline)?;
                 Ok(FluentValue::Error)
             }
         },
-        Environment::Application(None) => {
-            report_lost(scope, inline)?;
-            Ok(FluentValue::Error)
-        }
+    }
+}
+
+/// The value of a variable among arguments, if there are any.
+pub(crate) fn argument<'p, 'args, C: FluentType>(
+    args: Option<&'p FluentArgs<'args, C>>,
+    name: &str,
+) -> Option<&'p FluentValue<'args, C>>
+    ensures {
+        option_map (λ v. value_view C.content v.now) result ≡ get name.now (given_arguments C.content args.entry)
+    }
+{
+    match args {
+        Some(args) => args.get(name),
+        None => None,
     }
 }
 

@@ -10,14 +10,14 @@ ghost use Rattle.fluent_meaning.specs.Bundle.{function_found};
 ghost use Rattle.fluent_meaning.specs.Errors.{resolver_error, no_value};
 ghost use Rattle.fluent_meaning.specs.Walk.{written, follow, go, is_on, loses, function_text};
 ghost use Rattle.fluent_meaning.specs.Work.{with_work};
-ghost use Rattle.fluent_values.specs.Along.{Wrote, Added, lost_of};
+ghost use Rattle.fluent_values.specs.Along.{Wrote, Added, lost_of, shown_answer};
 ghost use Rattle.fluent_values.specs.FoundView.{found_view};
 ghost use Rattle.fluent_values.specs.Sizes.{size, bound, IsBelow};
 ghost use Rattle.fluent_values.specs.Status.{status};
 ghost use Rattle.fluent_values.specs.View.{value_view, named};
 ghost use Rattle.fluent_values.specs.Written.{sink, Took};
 
-use super::arguments::{resolve_call, resolve_local};
+use super::arguments::{argument, resolve_call, resolve_local};
 use super::context::Context;
 use super::environment::Environment;
 use super::expression::write_expression;
@@ -202,8 +202,25 @@ fn put_answer<'p, W: Write, C: FluentType, F: FluentFunction<C>, B: Context<C>>(
 {
     match answer_of(scope.ids, scope.bundle.allocator(), id.name, positional, arguments)? {
         None => lose(scope, out, inline),
-        Some(FluentValue::Error) => put_fallback(out, inline),
-        Some(answer) => put_value(scope.bundle, out, &answer),
+        Some(answer) => put_shown(scope.bundle, out, inline, &answer),
+    }
+}
+
+/// Writes a function's answer: an error as the function's fallback, without braces.
+fn put_shown<W: Write, C: FluentType, B: Context<C>>(
+    bundle: &B,
+    out: &mut Output<W>,
+    inline: &InlineExpression<'_>,
+    answer: &FluentValue<'_, C>,
+) -> Result<(), WriteFault>
+    ensures {
+        Took result (shown_answer (B.meant bundle.now) (inline_view inline.now) (value_view C.content answer.now))
+            (sink W.contents out.old) (sink W.contents out.new)
+    }
+{
+    match answer {
+        FluentValue::Error => put_fallback(out, inline),
+        _ => put_value(bundle, out, answer),
     }
 }
 
@@ -228,11 +245,10 @@ fn write_variable<W: Write, C: FluentType, F: FluentFunction<C>, B: Context<C>>(
             Some(value) => put_value(scope.bundle, out, value),
             None => put_in_braces(out, inline),
         },
-        Environment::Application(Some(args)) => match args.get(id.name) {
+        Environment::Application(args) => match argument(*args, id.name) {
             Some(value) => put_value(scope.bundle, out, value),
             None => lose(scope, out, inline),
         },
-        Environment::Application(None) => lose(scope, out, inline),
     }
 }
 

@@ -1,0 +1,428 @@
+use Rattle.std.proofs.Common.{◌≡◌, rules, arith, length, ap, sym, ◌∙◌, refl, Some, None, map, [], ◌∷◌, ◌++◌, ◌+◌, drop, subst, IsTrue, List}
+use Rattle.std.specs.Option.{option_map}
+use Rattle.fluent_text.specs.Escapes.{unescaped}
+use Rattle.fluent_tree.specs.Fallback.{fallback, fallback_of, in_braces}
+use Rattle.fluent_tree.specs.Tree.{placeable, variants_of, pattern_of}
+use Rattle.fluent_tree.specs.View.{inline_view, expression_view, pattern_view, element_view, variant_view, attribute_of, call_of, arguments_view}
+use Rattle.fluent_meaning.specs.Arguments.{get}
+use Rattle.fluent_meaning.specs.Bundle.{goes_to, message_target, term_target, shown, function_found}
+use Rattle.fluent_meaning.specs.Errors.{resolver_error, cyclic, missing_default, too_many_placeables}
+use Rattle.fluent_meaning.specs.Meaning.{first_mark, last_mark, at_most, ending}
+use Rattle.fluent_meaning.specs.Walk.{has_one, is_marked, part, function_value}
+use Rattle.fluent_meaning.specs.Work.{work, with_work}
+use Rattle.fluent_values.specs.Along.{given, walked, from_here, adding, trace, less_one}
+use Rattle.fluent_values.specs.FoundView.{found_view}
+use Rattle.fluent_values.specs.Sizes.{choice, first_default}
+use Rattle.fluent_values.specs.Status.{status, on_path, environment_view}
+use Rattle.fluent_values.specs.Texts.{IsText}
+use Rattle.fluent_values.specs.View.{value_view, named}
+use Rattle.fluent_values.proofs.Along.{starts, turns, passes, put, puts_last, tail, wrote, ends, halts, stops, memory_halts, refuses, adds, calls, lends, goes_on}
+use Rattle.fluent_values.proofs.Cases.{sequence, prepend, unmarked, closing, opening, part_opens, part_strikes, tells, written_string, written_number, written_message, written_nested, resolved_number, resolved_string, resolved_function, local_none, local_some}
+use Rattle.fluent_values.proofs.Outputs.{still}
+use Rattle.fluent_values.proofs.Passing.{passed_still, passed_counts, keeps_elsewhere, keeps_around, keeps_back, opened_counts, entered_counts, opened_on, struck_same}
+use Rattle.fluent_values.proofs.Steps.{inline_at, select_at, choosing, choosing_at, cyclic_at, entered_at, begun_at, back, term_at, inside, inside_at, going, wholing, elementing, following, giving, giving_all, giving_text, giving_placeable, giving_end, giving_struck, next_of, none_left, no_placeable, expressing, writing, resolving, locals, valued}
+use Rattle.fluent_values.proofs.Took.{took_same}
+use Rattle.fluent_values.proofs.Values.{gave_outward, asks, ask_stops, misses, begins, reads, gets, gets_part, got_if, got_as, got_part, got_part_as, misses_as, rests_memory, rests_same, rests_err, rests_ok, rests_on}
+use Rattle.fluent_values.proofs.Views.{view_pattern, view_text_in, view_placeable_in, view_string_in, view_number_in, view_message_in, view_nested_in, view_function_in}
+use Rattle.fluent_meaning.specs.Value.{text_value}
+use Rattle.fluent_text.specs.declared.counting.WriteFault.TheVariants as fault
+use Rattle.fluent_values.proofs.resolver.+resolve.Goals as goal
+
+pub expression::write_expression-returns-in-Inline : goal.expression::write_expression-returns-in-Inline
+expression::write_expression-returns-in-Inline g t c =
+    let a = status g.B.Context.meant g.B.Context.is_plain g.F.FluentFunction.answer g.C.FluentType.content c.args.scope.now in
+    wrote (tail c.write_inline.ensures (turns (inline_at a c.args.expression.now c.in-Inline.inline a.budget c.in-Inline.is) (starts a _ _)))
+
+pub expression::write_expression-returns-in_err-value-in-Select : goal.expression::write_expression-returns-in_err-value-in-Select
+expression::write_expression-returns-in_err-value-in-Select g t c =
+    let a = status g.B.Context.meant g.B.Context.is_plain g.F.FluentFunction.answer g.C.FluentType.content c.args.scope.now in
+    let out = c.args.out.now in
+    let gave = gave_outward g.W.Write.contents out.writer.ghost_name out.buffer.ghost_name out.writer.now c.resolve.new.w out.buffer.now out.is_buffered c.resolve.ensures in
+    let vs = c.in-Select.variants.items in
+    let begun = turns (select_at a c.args.expression.now c.in-Select.selector c.in-Select.variants a.budget c.in-Select.is) (starts a _ _) in
+    ask_stops (choosing a vs) c.in_err-value-in-Select.was (search rules) gave begun
+
+pub expression::write_expression-returns-in-Some : goal.expression::write_expression-returns-in-Some
+expression::write_expression-returns-in-Some g t c =
+    let a = status g.B.Context.meant g.B.Context.is_plain g.F.FluentFunction.answer g.C.FluentType.content c.args.scope.now in
+    let out = c.args.out.now in
+    let gave = gave_outward g.W.Write.contents out.writer.ghost_name out.buffer.ghost_name out.writer.now c.resolve.new.w out.buffer.now out.is_buffered c.resolve.ensures in
+    let vs = c.in-Select.variants.items in
+    let begun = turns (select_at a c.args.expression.now c.in-Select.selector c.in-Select.variants a.budget c.in-Select.is) (starts a _ _) in
+    let v = value_view g.C.FluentType.content c.in_ok-value-in-Select.value in
+    let b = status g.B.Context.meant g.B.Context.is_plain g.F.FluentFunction.answer g.C.FluentType.content c.resolve.new.scope in
+    let kept = c.resolve.ensures.got.toward.passed.keeps.bundle in
+    let chose = c.choose.ensures ∙ ap (λ vs. let all = variants_of (map variant_view vs) in choice (goes_to b.bundle) v (first_default all) all) c.deref.ensures.value ∙ ap (λ s. let all = variants_of (map variant_view vs) in choice (goes_to s) v (first_default all) all) kept in
+    let asked = asks (choosing a vs) c.in_ok-value-in-Select.was gave begun in
+    let is = sym (ap (option_map (λ p. pattern_view p.now)) c.in-Some.is) ∙ chose in
+    wrote (tail c.write_pattern.ensures.wrote (turns (choosing_at a vs v (Some (pattern_view c.in-Some.variant.now)) b.budget is) asked))
+
+pub expression::write_expression-returns-in_err-add_error-in-None : goal.expression::write_expression-returns-in_err-add_error-in-None
+expression::write_expression-returns-in_err-add_error-in-None g t c =
+    let a = status g.B.Context.meant g.B.Context.is_plain g.F.FluentFunction.answer g.C.FluentType.content c.args.scope.now in
+    let out = c.args.out.now in
+    let gave = gave_outward g.W.Write.contents out.writer.ghost_name out.buffer.ghost_name out.writer.now c.resolve.new.w out.buffer.now out.is_buffered c.resolve.ensures in
+    let vs = c.in-Select.variants.items in
+    let begun = turns (select_at a c.args.expression.now c.in-Select.selector c.in-Select.variants a.budget c.in-Select.is) (starts a _ _) in
+    let v = value_view g.C.FluentType.content c.in_ok-value-in-Select.value in
+    let b = status g.B.Context.meant g.B.Context.is_plain g.F.FluentFunction.answer g.C.FluentType.content c.resolve.new.scope in
+    let kept = c.resolve.ensures.got.toward.passed.keeps.bundle in
+    let chose = c.choose.ensures ∙ ap (λ vs. let all = variants_of (map variant_view vs) in choice (goes_to b.bundle) v (first_default all) all) c.deref.ensures.value ∙ ap (λ s. let all = variants_of (map variant_view vs) in choice (goes_to s) v (first_default all) all) kept in
+    let asked = asks (choosing a vs) c.in_ok-value-in-Select.was gave begun in
+    let is = sym (ap (option_map (λ p. pattern_view p.now)) c.in-None.is) ∙ chose in
+    refuses c.in_err-add_error-in-None.was (search rules) c.add_error.ensures.added (turns (choosing_at a vs v None b.budget is) asked)
+
+pub expression::write_expression-returns : goal.expression::write_expression-returns
+expression::write_expression-returns g t c =
+    let a = status g.B.Context.meant g.B.Context.is_plain g.F.FluentFunction.answer g.C.FluentType.content c.args.scope.now in
+    let out = c.args.out.now in
+    let gave = gave_outward g.W.Write.contents out.writer.ghost_name out.buffer.ghost_name out.writer.now c.resolve.new.w out.buffer.now out.is_buffered c.resolve.ensures in
+    let vs = c.in-Select.variants.items in
+    let begun = turns (select_at a c.args.expression.now c.in-Select.selector c.in-Select.variants a.budget c.in-Select.is) (starts a _ _) in
+    let v = value_view g.C.FluentType.content c.in_ok-value-in-Select.value in
+    let b = status g.B.Context.meant g.B.Context.is_plain g.F.FluentFunction.answer g.C.FluentType.content c.resolve.new.scope in
+    let kept = c.resolve.ensures.got.toward.passed.keeps.bundle in
+    let chose = c.choose.ensures ∙ ap (λ vs. let all = variants_of (map variant_view vs) in choice (goes_to b.bundle) v (first_default all) all) c.deref.ensures.value ∙ ap (λ s. let all = variants_of (map variant_view vs) in choice (goes_to s) v (first_default all) all) kept in
+    let asked = asks (choosing a vs) c.in_ok-value-in-Select.was gave begun in
+    let is = sym (ap (option_map (λ p. pattern_view p.now)) c.in-None.is) ∙ chose in
+    ends (turns (ap (given []) (sym c.add_error.ensures.added.budget)) (adds (given [] b.budget) c.in_ok-add_error-in-None.was c.add_error.ensures.added (turns (choosing_at a vs v None b.budget is) asked)))
+
+pub inline_expression::go-returns-in_err-add_error : goal.inline_expression::go-returns-in_err-add_error
+inline_expression::go-returns-in_err-add_error g t c =
+    let a = status g.B.Context.meant g.B.Context.is_plain g.F.FluentFunction.answer g.C.FluentType.content c.args.scope.now in
+    let x = inline_view c.args.inline.now in
+    let p = pattern_view c.args.target.pattern.now in
+    let begun = turns (cyclic_at a x p (sym c.is_on.ensures ∙ c.if-is_on.true)) (starts a _ _) in
+    refuses c.in_err-add_error.was (search rules) c.add_error.ensures.added begun
+
+pub inline_expression::go-returns-then-is_on : goal.inline_expression::go-returns-then-is_on
+inline_expression::go-returns-then-is_on g t c =
+    let a = status g.B.Context.meant g.B.Context.is_plain g.F.FluentFunction.answer g.C.FluentType.content c.args.scope.now in
+    let x = inline_view c.args.inline.now in
+    let p = pattern_view c.args.target.pattern.now in
+    let begun = turns (cyclic_at a x p (sym c.is_on.ensures ∙ c.if-is_on.true)) (starts a _ _) in
+    wrote (puts_last c.put_in_braces.ensures (turns (ap (given (in_braces (fallback x))) (sym c.add_error.ensures.added.budget)) (adds (given (in_braces (fallback x)) a.budget) c.in_ok-add_error.was c.add_error.ensures.added begun)))
+
+pub inline_expression::go-returns-in_err-enter : goal.inline_expression::go-returns-in_err-enter
+inline_expression::go-returns-in_err-enter g t c =
+    let a = status g.B.Context.meant g.B.Context.is_plain g.F.FluentFunction.answer g.C.FluentType.content c.args.scope.now in
+    memory_halts (search rules) (passes refl (passed_still c.enter.ensures.elsewhere.errors c.enter.ensures.tally (keeps_elsewhere c.enter.ensures.elsewhere c.in_err-enter.ensures.refused)) (starts a _ _))
+
+pub inline_expression::go-returns : goal.inline_expression::go-returns
+inline_expression::go-returns g t c =
+    let a = status g.B.Context.meant g.B.Context.is_plain g.F.FluentFunction.answer g.C.FluentType.content c.args.scope.now in
+    let x = inline_view c.args.inline.now in
+    let b = status g.B.Context.meant g.B.Context.is_plain g.F.FluentFunction.answer g.C.FluentType.content c.enter.new.self in
+    let w = c.write_pattern-written.ensures.wrote in
+    let entered = c.in_ok-enter.ensures.entered in
+    let before = c.enter.ensures.elsewhere in
+    let after = c.leave.ensures.elsewhere in
+    let kept = w.went.along.passed.keeps in
+    let walk = wholing (pattern_view c.args.target.pattern.now) in
+    wrote (lends before.errors after.errors (ap (λ n. adding n (trace (from_here b walk))) c.enter.ensures.tally) refl c.leave.ensures.tally after.budget
+        (keeps_around before kept after (c.leave.ensures.left a.path (Some c.args.target.pattern) (kept.path ∙ entered)))
+        w (turns (entered_at a b x c.args.target.pattern (sym c.is_on.ensures ∙ c.if-is_on.false) entered before) (starts a _ _)))
+
+pub pattern::write_pattern-returns-clause-wrote : goal.pattern::write_pattern-returns-clause-wrote
+pattern::write_pattern-returns-clause-wrote g t c =
+    let a = status g.B.Context.meant g.B.Context.is_plain g.F.FluentFunction.answer g.C.FluentType.content c.args.scope.now in
+    let b = status g.B.Context.meant g.B.Context.is_plain g.F.FluentFunction.answer g.C.FluentType.content c.begin-begun.new.self in
+    let p = pattern_view c.args.pattern.now in
+    let w = c.write_elements-written.ensures.wrote in
+    let starts_at = c.begin-begun.ensures in
+    let after = c.end.ensures.elsewhere in
+    let kept = w.went.along.passed.keeps in
+    let walk = elementing p in
+    let counts = ap (λ n. adding n (trace (from_here b walk))) starts_at.tally ∙ entered_counts a.tally (length (on_path b.path)) (trace (from_here b walk)) in
+    wrote (lends starts_at.elsewhere.errors after.errors counts refl c.end.ensures.tally after.budget
+        (keeps_around starts_at.elsewhere kept after (back c.begin-begun.result p starts_at kept.path c.end.ensures))
+        w (turns (begun_at a b p starts_at.path starts_at.elsewhere) (starts a _ _)))
+
+pub inline_expression::follow-returns-in-Unknown : goal.inline_expression::follow-returns-in-Unknown
+inline_expression::follow-returns-in-Unknown g t c =
+    let a = status g.B.Context.meant g.B.Context.is_plain g.F.FluentFunction.answer g.C.FluentType.content c.args.scope.now in
+    let x = inline_view c.args.inline.now in
+    let begun = turns (ap (λ f. from_here a (following x c.args.id.now.name.now (found_view f))) c.in-Unknown.is) (starts a _ _) in
+    wrote (tail c.lose.ensures begun)
+
+pub inline_expression::follow-returns-in_err-report_no_value-in-WithoutValue : goal.inline_expression::follow-returns-in_err-report_no_value-in-WithoutValue
+inline_expression::follow-returns-in_err-report_no_value-in-WithoutValue g t c =
+    let a = status g.B.Context.meant g.B.Context.is_plain g.F.FluentFunction.answer g.C.FluentType.content c.args.scope.now in
+    let x = inline_view c.args.inline.now in
+    let begun = turns (ap (λ f. from_here a (following x c.args.id.now.name.now (found_view f))) c.in-WithoutValue.is) (starts a _ _) in
+    refuses c.in_err-report_no_value-in-WithoutValue.was (search rules) c.report_no_value.ensures begun
+
+pub inline_expression::follow-returns-in_ok-report_no_value-in-WithoutValue : goal.inline_expression::follow-returns-in_ok-report_no_value-in-WithoutValue
+inline_expression::follow-returns-in_ok-report_no_value-in-WithoutValue g t c =
+    let a = status g.B.Context.meant g.B.Context.is_plain g.F.FluentFunction.answer g.C.FluentType.content c.args.scope.now in
+    let x = inline_view c.args.inline.now in
+    let begun = turns (ap (λ f. from_here a (following x c.args.id.now.name.now (found_view f))) c.in-WithoutValue.is) (starts a _ _) in
+    let t = in_braces c.args.id.now.name.now in
+    wrote (puts_last c.put_id_in_braces.ensures (turns (ap (given t) (sym c.report_no_value.ensures.budget)) (adds (given t a.budget) c.in_ok-report_no_value-in-WithoutValue.was c.report_no_value.ensures begun)))
+
+pub inline_expression::follow-returns-in-Pattern : goal.inline_expression::follow-returns-in-Pattern
+inline_expression::follow-returns-in-Pattern g t c =
+    let a = status g.B.Context.meant g.B.Context.is_plain g.F.FluentFunction.answer g.C.FluentType.content c.args.scope.now in
+    let x = inline_view c.args.inline.now in
+    let begun = turns (ap (λ f. from_here a (following x c.args.id.now.name.now (found_view f))) c.in-Pattern.is) (starts a _ _) in
+    wrote (tail c.go.ensures begun)
+
+pub pattern::write_placeable-returns-in_err-add_error : goal.pattern::write_placeable-returns-in_err-add_error
+pattern::write_placeable-returns-in_err-add_error g t c =
+    let a = status g.B.Context.meant g.B.Context.is_plain g.F.FluentFunction.answer g.C.FluentType.content c.args.scope.now in
+    let b = status g.B.Context.meant g.B.Context.is_plain g.F.FluentFunction.answer g.C.FluentType.content c.take_one.new.self in
+    let one = c.args.one in
+    let e = expression_view c.args.expression.now in
+    let takes = c.take_one.ensures.takes in
+    let strikes = part_strikes a.bundle (work a.bundle) a.environment (on_path a.path) one e a.budget c.requires (sym c.take_one.ensures.opens ∙ c.if-not-take_one.true) ∙ ap (λ n. tells (resolver_error too_many_placeables ∷ []) (given [] n)) (sym takes.budget) in
+    let begun = passes refl (passed_still takes.errors (struck_same c.if-not-take_one.true takes) takes.keeps) (turns strikes (starts a _ _)) in
+    refuses c.in_err-add_error.was (search rules) c.add_error.ensures.added begun
+
+pub pattern::write_placeable-returns-then-not-take_one : goal.pattern::write_placeable-returns-then-not-take_one
+pattern::write_placeable-returns-then-not-take_one g t c =
+    let a = status g.B.Context.meant g.B.Context.is_plain g.F.FluentFunction.answer g.C.FluentType.content c.args.scope.now in
+    let b = status g.B.Context.meant g.B.Context.is_plain g.F.FluentFunction.answer g.C.FluentType.content c.take_one.new.self in
+    let one = c.args.one in
+    let e = expression_view c.args.expression.now in
+    let takes = c.take_one.ensures.takes in
+    let strikes = part_strikes a.bundle (work a.bundle) a.environment (on_path a.path) one e a.budget c.requires (sym c.take_one.ensures.opens ∙ c.if-not-take_one.true) ∙ ap (λ n. tells (resolver_error too_many_placeables ∷ []) (given [] n)) (sym takes.budget) in
+    let begun = passes refl (passed_still takes.errors (struck_same c.if-not-take_one.true takes) takes.keeps) (turns strikes (starts a _ _)) in
+    ends (turns (ap (given []) (sym c.add_error.ensures.added.budget)) (adds (given [] b.budget) c.in_ok-add_error.was c.add_error.ensures.added begun))
+
+pub pattern::write_placeable-returns-in_err-put_first_mark : goal.pattern::write_placeable-returns-in_err-put_first_mark
+pattern::write_placeable-returns-in_err-put_first_mark g t c =
+    let a = status g.B.Context.meant g.B.Context.is_plain g.F.FluentFunction.answer g.C.FluentType.content c.args.scope.now in
+    let b = status g.B.Context.meant g.B.Context.is_plain g.F.FluentFunction.answer g.C.FluentType.content c.take_one.new.self in
+    let one = c.args.one in
+    let e = expression_view c.args.expression.now in
+    let takes = c.take_one.ensures.takes in
+    let opens = part_opens a.bundle (work a.bundle) a.environment (on_path a.path) one e a.budget (sym c.take_one.ensures.opens ∙ c.if-not-take_one.false) ∙ ap (λ n. opening (prepend (first_mark (is_marked a.bundle.isolates one e)) (unmarked a.bundle (work a.bundle) a.environment (on_path a.path) one e n))) (sym takes.budget) in
+    let marked : c.is_marked-marked.result ≡ is_marked a.bundle.isolates one e = c.is_marked-marked.ensures ∙ ap (λ s. is_marked s.isolates one e) takes.keeps.bundle in
+    let rest = prepend (first_mark (is_marked a.bundle.isolates one e)) (unmarked a.bundle (work a.bundle) a.environment (on_path a.path) one e b.budget) in
+    let begun = passes {rest = opening rest} {rest' = rest} refl (passed_counts takes.errors refl refl (opened_on (trace rest) c.if-not-take_one.false takes) takes.keeps) (turns opens (starts a _ _)) in
+    let first = put (unmarked a.bundle (work a.bundle) a.environment (on_path a.path) one e b.budget) (took_same (ap first_mark marked) c.put_first_mark.ensures) begun in
+    stops c.in_err-put_first_mark.was (search rules) first
+
+pub pattern::write_placeable-returns-in_err-write_expression : goal.pattern::write_placeable-returns-in_err-write_expression
+pattern::write_placeable-returns-in_err-write_expression g t c =
+    let a = status g.B.Context.meant g.B.Context.is_plain g.F.FluentFunction.answer g.C.FluentType.content c.args.scope.now in
+    let b = status g.B.Context.meant g.B.Context.is_plain g.F.FluentFunction.answer g.C.FluentType.content c.take_one.new.self in
+    let one = c.args.one in
+    let e = expression_view c.args.expression.now in
+    let takes = c.take_one.ensures.takes in
+    let opens = part_opens a.bundle (work a.bundle) a.environment (on_path a.path) one e a.budget (sym c.take_one.ensures.opens ∙ c.if-not-take_one.false) ∙ ap (λ n. opening (prepend (first_mark (is_marked a.bundle.isolates one e)) (unmarked a.bundle (work a.bundle) a.environment (on_path a.path) one e n))) (sym takes.budget) in
+    let marked : c.is_marked-marked.result ≡ is_marked a.bundle.isolates one e = c.is_marked-marked.ensures ∙ ap (λ s. is_marked s.isolates one e) takes.keeps.bundle in
+    let rest = prepend (first_mark (is_marked a.bundle.isolates one e)) (unmarked a.bundle (work a.bundle) a.environment (on_path a.path) one e b.budget) in
+    let begun = passes {rest = opening rest} {rest' = rest} refl (passed_counts takes.errors refl refl (opened_on (trace rest) c.if-not-take_one.false takes) takes.keeps) (turns opens (starts a _ _)) in
+    let first = put (unmarked a.bundle (work a.bundle) a.environment (on_path a.path) one e b.budget) (took_same (ap first_mark marked) c.put_first_mark.ensures) begun in
+    let written = calls (closing a.bundle one e) c.write_expression.ensures (goes_on c.in_ok-put_first_mark.was first) in
+    stops c.in_err-write_expression.was (search rules) written
+
+pub pattern::write_placeable-returns-in_err-put_ending : goal.pattern::write_placeable-returns-in_err-put_ending
+pattern::write_placeable-returns-in_err-put_ending g t c =
+    let a = status g.B.Context.meant g.B.Context.is_plain g.F.FluentFunction.answer g.C.FluentType.content c.args.scope.now in
+    let b = status g.B.Context.meant g.B.Context.is_plain g.F.FluentFunction.answer g.C.FluentType.content c.take_one.new.self in
+    let one = c.args.one in
+    let e = expression_view c.args.expression.now in
+    let takes = c.take_one.ensures.takes in
+    let opens = part_opens a.bundle (work a.bundle) a.environment (on_path a.path) one e a.budget (sym c.take_one.ensures.opens ∙ c.if-not-take_one.false) ∙ ap (λ n. opening (prepend (first_mark (is_marked a.bundle.isolates one e)) (unmarked a.bundle (work a.bundle) a.environment (on_path a.path) one e n))) (sym takes.budget) in
+    let marked : c.is_marked-marked.result ≡ is_marked a.bundle.isolates one e = c.is_marked-marked.ensures ∙ ap (λ s. is_marked s.isolates one e) takes.keeps.bundle in
+    let rest = prepend (first_mark (is_marked a.bundle.isolates one e)) (unmarked a.bundle (work a.bundle) a.environment (on_path a.path) one e b.budget) in
+    let begun = passes {rest = opening rest} {rest' = rest} refl (passed_counts takes.errors refl refl (opened_on (trace rest) c.if-not-take_one.false takes) takes.keeps) (turns opens (starts a _ _)) in
+    let first = put (unmarked a.bundle (work a.bundle) a.environment (on_path a.path) one e b.budget) (took_same (ap first_mark marked) c.put_first_mark.ensures) begun in
+    let written = calls (closing a.bundle one e) c.write_expression.ensures (goes_on c.in_ok-put_first_mark.was first) in
+    let d = status g.B.Context.meant g.B.Context.is_plain g.F.FluentFunction.answer g.C.FluentType.content c.write_expression.new.scope in
+    let ended = put (given (last_mark (is_marked a.bundle.isolates one e)) d.budget) c.put_ending.ensures (goes_on c.in_ok-write_expression.was written) in
+    stops c.in_err-put_ending.was (search rules) ended
+
+pub pattern::write_placeable-returns : goal.pattern::write_placeable-returns
+pattern::write_placeable-returns g t c =
+    let a = status g.B.Context.meant g.B.Context.is_plain g.F.FluentFunction.answer g.C.FluentType.content c.args.scope.now in
+    let b = status g.B.Context.meant g.B.Context.is_plain g.F.FluentFunction.answer g.C.FluentType.content c.take_one.new.self in
+    let one = c.args.one in
+    let e = expression_view c.args.expression.now in
+    let takes = c.take_one.ensures.takes in
+    let opens = part_opens a.bundle (work a.bundle) a.environment (on_path a.path) one e a.budget (sym c.take_one.ensures.opens ∙ c.if-not-take_one.false) ∙ ap (λ n. opening (prepend (first_mark (is_marked a.bundle.isolates one e)) (unmarked a.bundle (work a.bundle) a.environment (on_path a.path) one e n))) (sym takes.budget) in
+    let marked : c.is_marked-marked.result ≡ is_marked a.bundle.isolates one e = c.is_marked-marked.ensures ∙ ap (λ s. is_marked s.isolates one e) takes.keeps.bundle in
+    let rest = prepend (first_mark (is_marked a.bundle.isolates one e)) (unmarked a.bundle (work a.bundle) a.environment (on_path a.path) one e b.budget) in
+    let begun = passes {rest = opening rest} {rest' = rest} refl (passed_counts takes.errors refl refl (opened_on (trace rest) c.if-not-take_one.false takes) takes.keeps) (turns opens (starts a _ _)) in
+    let first = put (unmarked a.bundle (work a.bundle) a.environment (on_path a.path) one e b.budget) (took_same (ap first_mark marked) c.put_first_mark.ensures) begun in
+    let written = calls (closing a.bundle one e) c.write_expression.ensures (goes_on c.in_ok-put_first_mark.was first) in
+    let d = status g.B.Context.meant g.B.Context.is_plain g.F.FluentFunction.answer g.C.FluentType.content c.write_expression.new.scope in
+    let ended = put (given (last_mark (is_marked a.bundle.isolates one e)) d.budget) c.put_ending.ensures (goes_on c.in_ok-write_expression.was written) in
+    wrote (puts_last (took_same (ap last_mark marked) c.put_last_mark.ensures) (goes_on c.in_ok-put_ending.was ended))
+
+pub pattern::write_elements-loop-element-init : goal.pattern::write_elements-loop-element-init
+pattern::write_elements-loop-element-init g t c =
+    let a = status g.B.Context.meant g.B.Context.is_plain g.F.FluentFunction.answer g.C.FluentType.content c.args.scope.now in
+    let one = has_one (pattern_view c.args.pattern.now) in
+    turns (giving_all a one c.args.pattern.now a.budget ∙ ap (λ es. giving a one es a.budget) (sym c.deref-element-items.ensures.value)) (starts _ _ _)
+
+pub pattern::write_elements-loop-element-preserved : goal.pattern::write_elements-loop-element-preserved
+pattern::write_elements-loop-element-preserved g t c =
+    let a = status g.B.Context.meant g.B.Context.is_plain g.F.FluentFunction.answer g.C.FluentType.content c.args.scope.now in
+    let one = has_one (pattern_view c.args.pattern.now) in
+    let items = c.deref-element-items.result.now in
+    let b = status g.B.Context.meant g.B.Context.is_plain g.F.FluentFunction.answer g.C.FluentType.content c.loop-element.scope in
+    let x = c.element-item.result in
+    let rest = drop (c.loop-element.element-index + 1) items in
+    let next = next_of items c.loop-element.element-index x c.loop-element-test.true c.element-item.is in
+    elim c.match-element.branch [
+      | goal.pattern::write_elements-in-TextElement+in_ok-put_changed-in-TextElement r ↦ rw r.out-is (rw r.scope-is (goes_on r.in_ok-put_changed-in-TextElement.was (put (giving a one rest b.budget) (took_same (ap (λ s. s.transform r.in-TextElement.value.now) c.loop-element.invariant.passed.keeps.bundle) r.put_changed.ensures.took) (turns (giving_text a one _ rest x _ b.budget next (search rules) (view_text_in x r.in-TextElement.value r.in-TextElement.is)) c.loop-element.invariant))))
+      | goal.pattern::write_elements-in-Placeable+in_ok-write_placeable-in-Placeable r ↦ rw r.out-is (rw r.scope-is (goes_on r.in_ok-write_placeable-in-Placeable.was (calls (giving a one rest) r.write_placeable.ensures (turns (giving_placeable a one _ rest x _ b.budget next (search rules) (view_placeable_in x r.in-Placeable.expression r.in-Placeable.is) ∙ ap (λ one. sequence (walked a (λ s f env path. part with_work s f env path one (placeable (expression_view r.in-Placeable.expression))) b.budget) (giving a (has_one (pattern_view c.args.pattern.now)) rest)) (sym c.has_one-one.ensures)) c.loop-element.invariant))))
+    ]
+
+pub pattern::write_elements-returns-in_err-put_changed-in-TextElement-clause-wrote : goal.pattern::write_elements-returns-in_err-put_changed-in-TextElement-clause-wrote
+pattern::write_elements-returns-in_err-put_changed-in-TextElement-clause-wrote g t c =
+    let a = status g.B.Context.meant g.B.Context.is_plain g.F.FluentFunction.answer g.C.FluentType.content c.args.scope.now in
+    let one = has_one (pattern_view c.args.pattern.now) in
+    let items = c.deref-element-items.result.now in
+    let b = status g.B.Context.meant g.B.Context.is_plain g.F.FluentFunction.answer g.C.FluentType.content c.loop-element.scope in
+    let x = c.element-item.result in
+    let rest = drop (c.loop-element.element-index + 1) items in
+    let next = next_of items c.loop-element.element-index x c.loop-element-test.true c.element-item.is in
+    stops c.in_err-put_changed-in-TextElement.was (search rules) (put (giving a one rest b.budget) (took_same (ap (λ s. s.transform c.in-TextElement.value.now) c.loop-element.invariant.passed.keeps.bundle) c.put_changed.ensures.took) (turns (giving_text a one _ rest x _ b.budget next (search rules) (view_text_in x c.in-TextElement.value c.in-TextElement.is)) c.loop-element.invariant))
+
+pub pattern::write_elements-returns-in_err-write_placeable-in-Placeable-clause-wrote : goal.pattern::write_elements-returns-in_err-write_placeable-in-Placeable-clause-wrote
+pattern::write_elements-returns-in_err-write_placeable-in-Placeable-clause-wrote g t c =
+    let a = status g.B.Context.meant g.B.Context.is_plain g.F.FluentFunction.answer g.C.FluentType.content c.args.scope.now in
+    let one = has_one (pattern_view c.args.pattern.now) in
+    let items = c.deref-element-items.result.now in
+    let b = status g.B.Context.meant g.B.Context.is_plain g.F.FluentFunction.answer g.C.FluentType.content c.loop-element.scope in
+    let x = c.element-item.result in
+    let rest = drop (c.loop-element.element-index + 1) items in
+    let next = next_of items c.loop-element.element-index x c.loop-element-test.true c.element-item.is in
+    stops c.in_err-write_placeable-in-Placeable.was (search rules) (calls (giving a one rest) c.write_placeable.ensures (turns (giving_placeable a one _ rest x _ b.budget next (search rules) (view_placeable_in x c.in-Placeable.expression c.in-Placeable.is) ∙ ap (λ one. sequence (walked a (λ s f env path. part with_work s f env path one (placeable (expression_view c.in-Placeable.expression))) b.budget) (giving a (has_one (pattern_view c.args.pattern.now)) rest)) (sym c.has_one-one.ensures)) c.loop-element.invariant))
+
+pub pattern::write_elements-returns-in_err-write_placeable-in-Placeable-clause-memory : goal.pattern::write_elements-returns-in_err-write_placeable-in-Placeable-clause-memory
+pattern::write_elements-returns-in_err-write_placeable-in-Placeable-clause-memory g t c =
+    let a = status g.B.Context.meant g.B.Context.is_plain g.F.FluentFunction.answer g.C.FluentType.content c.args.scope.now in
+    let items = c.deref-element-items.result.now in
+    let texts = view_pattern c.args.pattern.now ∙ ap (λ es. pattern_of (map element_view es)) (sym c.deref-element-items.ensures.value) in
+    λ h. absurd (no_placeable items c.loop-element.element-index c.element-item.result _ (subst IsText texts h) c.loop-element-test.true c.element-item.is (view_placeable_in c.element-item.result c.in-Placeable.expression c.in-Placeable.is))
+
+pub pattern::write_elements-returns-after-loop-element-clause-wrote : goal.pattern::write_elements-returns-after-loop-element-clause-wrote
+pattern::write_elements-returns-after-loop-element-clause-wrote g t c =
+    let a = status g.B.Context.meant g.B.Context.is_plain g.F.FluentFunction.answer g.C.FluentType.content c.args.scope.now in
+    let one = has_one (pattern_view c.args.pattern.now) in
+    ends (turns (giving_end a one _ _ (none_left c.deref-element-items.result.now c.loop-element.element-index c.loop-element-test.false)) c.loop-element.invariant)
+
+pub pattern::write_elements-returns-then-dirty-clause-wrote : goal.pattern::write_elements-returns-then-dirty-clause-wrote
+pattern::write_elements-returns-then-dirty-clause-wrote g t c =
+    let a = status g.B.Context.meant g.B.Context.is_plain g.F.FluentFunction.answer g.C.FluentType.content c.args.scope.now in
+    let one = has_one (pattern_view c.args.pattern.now) in
+    ends (turns (giving_struck a one (drop c.loop-element.element-index c.deref-element-items.result.now) _ (search rules)) c.loop-element.invariant)
+
+pub pattern::write_elements-returns-in_err-put_changed-in-TextElement-clause-memory : goal.pattern::write_elements-returns-in_err-put_changed-in-TextElement-clause-memory
+pattern::write_elements-returns-in_err-put_changed-in-TextElement-clause-memory g t c =
+    let a = status g.B.Context.meant g.B.Context.is_plain g.F.FluentFunction.answer g.C.FluentType.content c.args.scope.now in
+    let way = c.loop-element.invariant in
+    let out = c.args.out.now in
+    let later = c.loop-element.out in
+    λ h plain bare is. c.put_changed.ensures.memory (subst IsTrue (sym way.passed.keeps.is_plain) plain)
+    (still g.W.Write.contents out.writer.ghost_name later.writer.ghost_name out.buffer.ghost_name later.buffer.ghost_name out.writer.now later.writer.now out.buffer.now later.buffer.now out.is_buffered later.is_buffered way.lent ∙ bare)
+    (search (rules, is))
+
+pub pattern::write_pattern-returns-clause-memory : goal.pattern::write_pattern-returns-clause-memory
+pattern::write_pattern-returns-clause-memory g t c =
+    let a = status g.B.Context.meant g.B.Context.is_plain g.F.FluentFunction.answer g.C.FluentType.content c.args.scope.now in
+    let starts_at = c.begin-begun.ensures in
+    λ h plain bare. c.write_elements-written.ensures.memory h (subst IsTrue (sym starts_at.elsewhere.is_plain) plain) bare
+
+pub inline_expression::write_inline-returns-in-StringLiteral : goal.inline_expression::write_inline-returns-in-StringLiteral
+inline_expression::write_inline-returns-in-StringLiteral g t c =
+    let a = status g.B.Context.meant g.B.Context.is_plain g.F.FluentFunction.answer g.C.FluentType.content c.args.scope.now in
+    let begun = turns (ap (λ x. from_here a (writing x)) (view_string_in c.args.inline.now c.in-StringLiteral.value c.in-StringLiteral.is) ∙ written_string a.bundle (work a.bundle) a.environment (on_path a.path) c.in-StringLiteral.value.now a.budget) (starts a _ _) in
+    wrote (puts_last c.put_unescaped.ensures begun)
+
+pub inline_expression::write_inline-returns-in-NumberLiteral : goal.inline_expression::write_inline-returns-in-NumberLiteral
+inline_expression::write_inline-returns-in-NumberLiteral g t c =
+    let a = status g.B.Context.meant g.B.Context.is_plain g.F.FluentFunction.answer g.C.FluentType.content c.args.scope.now in
+    let begun = turns (ap (λ x. from_here a (writing x)) (view_number_in c.args.inline.now c.in-NumberLiteral.value c.in-NumberLiteral.is) ∙ written_number a.bundle (work a.bundle) a.environment (on_path a.path) c.in-NumberLiteral.value.now a.budget) (starts a _ _) in
+    wrote (puts_last (took_same (ap (shown a.bundle) c.try_number.ensures) c.put_value.ensures) begun)
+
+pub inline_expression::write_inline-returns-in-MessageReference : goal.inline_expression::write_inline-returns-in-MessageReference
+inline_expression::write_inline-returns-in-MessageReference g t c =
+    let a = status g.B.Context.meant g.B.Context.is_plain g.F.FluentFunction.answer g.C.FluentType.content c.args.scope.now in
+    let v = view_message_in c.args.inline.now c.in-MessageReference.id c.in-MessageReference.attribute c.in-MessageReference.is in
+    let m = c.in-MessageReference.id.name.now in
+    let at = attribute_of c.in-MessageReference.attribute in
+    let begun = turns (ap (λ x. from_here a (writing x)) v ∙ written_message a.bundle (work a.bundle) a.environment (on_path a.path) m at a.budget ∙ ap (λ y. walked a (following y m (message_target (get m a.bundle.ids) at)) a.budget) (sym v) ∙ ap (λ f. from_here a (following (inline_view c.args.inline.now) m f)) (sym (c.message-found.ensures g.F.FluentFunction.answer))) (starts a _ _) in
+    wrote (tail c.follow.ensures begun)
+
+pub inline_expression::write_inline-returns-in-TermReference : goal.inline_expression::write_inline-returns-in-TermReference
+inline_expression::write_inline-returns-in-TermReference g t c =
+    let a = status g.B.Context.meant g.B.Context.is_plain g.F.FluentFunction.answer g.C.FluentType.content c.args.scope.now in
+    c.write_term.ensures
+
+pub inline_expression::write_inline-returns-in-VariableReference : goal.inline_expression::write_inline-returns-in-VariableReference
+inline_expression::write_inline-returns-in-VariableReference g t c =
+    let a = status g.B.Context.meant g.B.Context.is_plain g.F.FluentFunction.answer g.C.FluentType.content c.args.scope.now in
+    c.write_variable.ensures
+
+pub inline_expression::write_inline-returns-in-Placeable : goal.inline_expression::write_inline-returns-in-Placeable
+inline_expression::write_inline-returns-in-Placeable g t c =
+    let a = status g.B.Context.meant g.B.Context.is_plain g.F.FluentFunction.answer g.C.FluentType.content c.args.scope.now in
+    let begun = turns (ap (λ x. from_here a (writing x)) (view_nested_in c.args.inline.now c.in-Placeable.expression c.in-Placeable.is) ∙ written_nested a.bundle (work a.bundle) a.environment (on_path a.path) (expression_view c.in-Placeable.expression.value) a.budget ∙ ap (λ e. walked a (expressing (expression_view e)) a.budget) (sym c.deref-in-Placeable.ensures)) (starts a _ _) in
+    wrote (tail c.write_expression.ensures begun)
+
+pub arguments::resolve-returns-in_err-text-in-StringLiteral : goal.arguments::resolve-returns-in_err-text-in-StringLiteral
+arguments::resolve-returns-in_err-text-in-StringLiteral g t c =
+    let a = status g.B.Context.meant g.B.Context.is_plain g.F.FluentFunction.answer g.C.FluentType.content c.args.scope.now in
+    record { got = misses {e = fault.Memory} (search rules) (begins a _); rests = rests_memory _ (search rules) }
+
+pub arguments::resolve-returns-in-NumberLiteral : goal.arguments::resolve-returns-in-NumberLiteral
+arguments::resolve-returns-in-NumberLiteral g t c =
+    let a = status g.B.Context.meant g.B.Context.is_plain g.F.FluentFunction.answer g.C.FluentType.content c.args.scope.now in
+    let means = ap (λ x. from_here a (resolving x)) (view_number_in c.args.inline.now c.in-NumberLiteral.value c.in-NumberLiteral.is) ∙ resolved_number a.bundle (work a.bundle) a.environment (on_path a.path) c.in-NumberLiteral.value.now a.budget in
+    record { got = got_if _ means c.try_number.ensures; rests = rests_same _ }
+
+pub arguments::resolve-returns-in_ok-text-in-StringLiteral : goal.arguments::resolve-returns-in_ok-text-in-StringLiteral
+arguments::resolve-returns-in_ok-text-in-StringLiteral g t c =
+    let a = status g.B.Context.meant g.B.Context.is_plain g.F.FluentFunction.answer g.C.FluentType.content c.args.scope.now in
+    let means = ap (λ x. from_here a (resolving x)) (view_string_in c.args.inline.now c.in-StringLiteral.value c.in-StringLiteral.is) ∙ resolved_string a.bundle (work a.bundle) a.environment (on_path a.path) c.in-StringLiteral.value.now a.budget in
+    record { got = got_if _ means (ap text_value (search rules)); rests = rests_same _ }
+
+pub arguments::resolve-returns-in_err-positional-in-FunctionReference : goal.arguments::resolve-returns-in_err-positional-in-FunctionReference
+arguments::resolve-returns-in_err-positional-in-FunctionReference g t c =
+    let a = status g.B.Context.meant g.B.Context.is_plain g.F.FluentFunction.answer g.C.FluentType.content c.args.scope.now in
+    let m = c.in-FunctionReference.id.name.now in
+    let k = valued a m in
+    let means = ap (λ x. from_here a (resolving x)) (view_function_in c.args.inline.now c.in-FunctionReference.id c.in-FunctionReference.arguments c.in-FunctionReference.is) ∙ resolved_function a.bundle (work a.bundle) a.environment (on_path a.path) m (arguments_view c.in-FunctionReference.arguments) a.budget in
+    record { got = misses_as c.in_err-positional-in-FunctionReference.was (search rules) (gets_part k c.resolve_call.ensures.got (reads means (begins a _))); rests = rests_err c.in_err-positional-in-FunctionReference.was (search rules) c.resolve_call.ensures.rests }
+
+pub arguments::resolve-returns-in_err-answer-in-FunctionReference : goal.arguments::resolve-returns-in_err-answer-in-FunctionReference
+arguments::resolve-returns-in_err-answer-in-FunctionReference g t c =
+    let a = status g.B.Context.meant g.B.Context.is_plain g.F.FluentFunction.answer g.C.FluentType.content c.args.scope.now in
+    let m = c.in-FunctionReference.id.name.now in
+    let k = valued a m in
+    let means = ap (λ x. from_here a (resolving x)) (view_function_in c.args.inline.now c.in-FunctionReference.id c.in-FunctionReference.arguments c.in-FunctionReference.is) ∙ resolved_function a.bundle (work a.bundle) a.environment (on_path a.path) m (arguments_view c.in-FunctionReference.arguments) a.budget in
+    record { got = misses {e = fault.Memory} (search rules) (gets k c.in_ok-positional-in-FunctionReference.was c.resolve_call.ensures.got (reads means (begins a _))); rests = rests_on (rests_ok {x = tt} c.in_ok-positional-in-FunctionReference.was c.resolve_call.ensures.rests) (rests_memory _ (search rules)) }
+
+pub arguments::resolve-returns-in_err-resolve_variable-in-VariableReference : goal.arguments::resolve-returns-in_err-resolve_variable-in-VariableReference
+arguments::resolve-returns-in_err-resolve_variable-in-VariableReference g t c =
+    let a = status g.B.Context.meant g.B.Context.is_plain g.F.FluentFunction.answer g.C.FluentType.content c.args.scope.now in
+    record { got = misses {e = fault.Memory} (search rules) c.resolve_variable.ensures.toward; rests = rests_memory _ (search rules) }
+
+pub arguments::resolve-returns-in_ok-resolve_variable-in-VariableReference : goal.arguments::resolve-returns-in_ok-resolve_variable-in-VariableReference
+arguments::resolve-returns-in_ok-resolve_variable-in-VariableReference g t c =
+    let a = status g.B.Context.meant g.B.Context.is_plain g.F.FluentFunction.answer g.C.FluentType.content c.args.scope.now in
+    record { got = got_as (λ v. v) c.in_ok-resolve_variable-in-VariableReference.was refl refl c.resolve_variable.ensures; rests = rests_same _ }
+
+pub arguments::resolve_local-returns-in-None : goal.arguments::resolve_local-returns-in-None
+arguments::resolve_local-returns-in-None g t c =
+    let a = status g.B.Context.meant g.B.Context.is_plain g.F.FluentFunction.answer g.C.FluentType.content c.args.scope.now in
+    let means = ap (λ o. from_here a (locals (call_of (option_map arguments_view o)))) c.in-None.is ∙ local_none a.bundle (work a.bundle) a.environment (on_path a.path) a.budget in
+    record { got = got_if [] means (search rules); rests = rests_same _ }
+
+pub arguments::resolve_local-returns-in_err-_positional-in-Some : goal.arguments::resolve_local-returns-in_err-_positional-in-Some
+arguments::resolve_local-returns-in_err-_positional-in-Some g t c =
+    let a = status g.B.Context.meant g.B.Context.is_plain g.F.FluentFunction.answer g.C.FluentType.content c.args.scope.now in
+    let means = ap (λ o. from_here a (locals (call_of (option_map arguments_view o)))) c.in-Some.is ∙ local_some a.bundle (work a.bundle) a.environment (on_path a.path) (arguments_view c.in-Some.arguments) a.budget in
+    record { got = got_part_as (λ p. p.1) c.in_err-_positional-in-Some.was (search rules) means c.resolve_call.ensures.got; rests = rests_err c.in_err-_positional-in-Some.was (search rules) c.resolve_call.ensures.rests }
+
+pub arguments::resolve_local-returns-in_ok-_positional-in-Some : goal.arguments::resolve_local-returns-in_ok-_positional-in-Some
+arguments::resolve_local-returns-in_ok-_positional-in-Some g t c =
+    let a = status g.B.Context.meant g.B.Context.is_plain g.F.FluentFunction.answer g.C.FluentType.content c.args.scope.now in
+    let means = ap (λ o. from_here a (locals (call_of (option_map arguments_view o)))) c.in-Some.is ∙ local_some a.bundle (work a.bundle) a.environment (on_path a.path) (arguments_view c.in-Some.arguments) a.budget in
+    record { got = got_as (λ p. p.1) c.in_ok-_positional-in-Some.was refl means c.resolve_call.ensures.got; rests = rests_ok c.in_ok-_positional-in-Some.was c.resolve_call.ensures.rests }
