@@ -48,7 +48,7 @@ fn more_relations<'s>(
     s: &'s str,
     mut found: Vec<Relation>,
 ) -> Result<(Vec<Relation>, &'s str), Stop>
-    ensures { Gives group_view result (parser.many_from parser.push spec.and_relation (length s.now) (group_view found) s.now) }
+    ensures { Gives group_view result (spec.more spec.and_relation (group_view found) s.now) }
 {
     let mut rest = s;
     'relations: for _turn in 0..s.len() {
@@ -95,7 +95,7 @@ fn more_groups<'s>(
     s: &'s str,
     mut found: Vec<Vec<Relation>>,
 ) -> Result<(Vec<Vec<Relation>>, &'s str), Stop>
-    ensures { Gives condition_view result (parser.many_from parser.push spec.or_group (length s.now) (condition_view found) s.now) }
+    ensures { Gives condition_view result (spec.more spec.or_group (condition_view found) s.now) }
 {
     let mut rest = s;
     'groups: for _turn in 0..s.len() {

@@ -52,7 +52,7 @@ fn range_list<'s>(alloc: Global, s: &'s str) -> Result<(Vec<Range>, &'s str), St
 /// Adds the ranges that come next.
 #[tactic(auto, using(fluent_text::proofs::Turns::turns))]
 fn more_ranges<'s>(s: &'s str, mut found: Vec<Range>) -> Result<(Vec<Range>, &'s str), Stop>
-    ensures { Gives (λ v. v.items) result (parser.many_from parser.push spec.next_range (length s.now) found.items s.now) }
+    ensures { Gives (λ v. v.items) result (spec.more spec.next_range found.items s.now) }
 {
     let mut rest = s;
     'listed: for _turn in 0..s.len() {
