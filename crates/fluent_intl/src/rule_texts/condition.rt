@@ -1,9 +1,8 @@
 //! Conditions of plural rules: relations joined by `and`, and these groups joined by `or`.
-ghost use Rattle.std.specs.Prelude.{◌≡◌, ◌++◌, ◌∷◌, [], length, OnOk, codes};
-ghost use Rattle.fluent_text.specs.Parser as parser;
+ghost use Rattle.std.specs.Prelude.{◌≡◌};
 ghost use Rattle.fluent_text.specs.Reading.{passed};
 ghost use Rattle.fluent_intl.specs.RuleGrammar as spec;
-ghost use Rattle.fluent_intl.specs.RuleReading.{Gives, all, relation_view, group_view, condition_view};
+ghost use Rattle.fluent_intl.specs.RuleReading.{Gives, relation_view, group_view, condition_view};
 
 use super::lexical::word;
 use super::relation::relation;

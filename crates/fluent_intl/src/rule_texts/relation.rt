@@ -1,10 +1,10 @@
 //! Relations of plural rules, and the ranges in them.
-ghost use Rattle.std.specs.Prelude.{◌≡◌, ◌++◌, ◌∷◌, [], length, Some, OnOk};
+ghost use Rattle.std.specs.Prelude.{◌≡◌, Some};
 ghost use Rattle.std.specs.Option.{option_map};
 ghost use Rattle.fluent_text.specs.Parser as parser;
 ghost use Rattle.fluent_text.specs.Reading.{found, passed};
 ghost use Rattle.fluent_intl.specs.RuleGrammar as spec;
-ghost use Rattle.fluent_intl.specs.RuleReading.{Gives, all, number_view, relation_view};
+ghost use Rattle.fluent_intl.specs.RuleReading.{Gives, number_view, relation_view};
 
 use super::lexical::{eat, symbol, value, word};
 use super::stop::Stop;
