@@ -7,3 +7,5 @@ pub mod DecimalText
 pub mod DecimalWhole
 pub mod Remainders
 pub mod OneOperands
+mod TabLemmas
+mod TagLemmas

@@ -4,3 +4,5 @@ pub mod SameContent
 pub mod Number
 pub mod Operands
 pub mod Plurals
+pub mod Languages
+pub mod LanguageTable
