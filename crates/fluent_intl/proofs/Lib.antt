@@ -9,3 +9,9 @@ pub mod Remainders
 pub mod OneOperands
 mod TabLemmas
 mod TagLemmas
+mod RuleRuns
+mod RuleValues
+mod RuleLines
+mod RuleDigits
+mod RuleRows
+pub mod EnglishRules

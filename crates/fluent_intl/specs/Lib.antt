@@ -6,3 +6,9 @@ pub mod Operands
 pub mod Plurals
 pub mod Languages
 pub mod LanguageTable
+pub mod RuleTree
+pub mod RuleGrammar
+pub mod RuleMeaning
+pub mod RuleReading
+pub mod RuleTexts
+pub mod EnglishRules

@@ -1,14 +1,16 @@
 //! Laws of equality and hashing.
-ghost use Rattle.std.specs.Prelude.{◌≡◌, ℤ, IsTrue};
+ghost use Rattle.std.specs.Prelude.{◌≡◌, ◌↔◌, ℤ, IsTrue};
 ghost use Rattle.fluent_intl.specs.declared.options.FluentNumberType.{FluentNumberType};
 ghost use Rattle.fluent_intl.specs.declared.options.FluentNumberStyle.{FluentNumberStyle};
 ghost use Rattle.fluent_intl.specs.declared.options.FluentNumberCurrencyDisplayStyle.{FluentNumberCurrencyDisplayStyle};
 ghost use Rattle.fluent_intl.specs.declared.options.FluentNumberOptions.{FluentNumberOptions};
 
 use crate::decimal::Decimal;
+use crate::operands::PluralOperands;
 use crate::options::{
     FluentNumberCurrencyDisplayStyle, FluentNumberOptions, FluentNumberStyle, FluentNumberType,
 };
+use crate::rule_texts::RuleFault;
 use std::hash::Hash;
 
 /// Equal decimals, number types, styles, currency styles and options feed a hasher alike.
@@ -30,3 +32,17 @@ pub fn equal_values_hash_alike()
 fn hash_alike<T: Hash>()
     ensures { (a b : T) → IsTrue (T.eq a b) → T.hash_input a ≡ T.hash_input b }
 {}
+
+/// Whether two operands have the same content, which is what `==` of them says.
+pub fn same_operands(one: &PluralOperands, other: &PluralOperands) -> bool
+    ensures { IsTrue result ↔ (one.now ≡ other.now) }
+{
+    one == other
+}
+
+/// Whether two faults are the same, which is what `==` of them says.
+pub fn same_rule_faults(one: &RuleFault, other: &RuleFault) -> bool
+    ensures { IsTrue result ↔ (one.now ≡ other.now) }
+{
+    one == other
+}

@@ -10,6 +10,7 @@ pub mod number;
 pub mod operands;
 pub mod options;
 pub mod plurals;
+pub mod rule_texts;
 mod table;
 
 pub use decimal::{
@@ -18,10 +19,11 @@ pub use decimal::{
 };
 pub use language::LanguageIdentifier;
 pub use languages::{LanguageRules, cldr_plurals, rules_for};
-pub use laws::equal_values_hash_alike;
+pub use laws::{equal_values_hash_alike, same_operands, same_rule_faults};
 pub use number::FluentNumber;
 pub use operands::PluralOperands;
 pub use options::{
     FluentNumberCurrencyDisplayStyle, FluentNumberOptions, FluentNumberStyle, FluentNumberType,
 };
 pub use plurals::{EnglishPlurals, MemoizerKind, PluralCategory, PluralRuleType};
+pub use rule_texts::{RuleFault, RuleTexts, english_agrees_with_its_rules};

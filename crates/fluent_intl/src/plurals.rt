@@ -5,7 +5,7 @@ ghost use Rattle.fluent_intl.specs.Plurals.{ends_in, leaves};
 use crate::operands::PluralOperands;
 
 /// Which plural rules are asked.
-#[derive(Clone, Copy, PartialEq, Eq)]
+#[derive(Clone, Copy, Debug, PartialEq, Eq)]
 pub enum PluralRuleType {
     /// For how many there are.
     CARDINAL,
@@ -14,7 +14,7 @@ pub enum PluralRuleType {
 }
 
 /// A plural category.
-#[derive(Clone, Copy, PartialEq, Eq)]
+#[derive(Clone, Copy, Debug, PartialEq, Eq)]
 pub enum PluralCategory {
     ZERO,
     ONE,

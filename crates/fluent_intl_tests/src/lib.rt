@@ -12,6 +12,8 @@ mod numbers;
 #[cfg(test)]
 mod plurals;
 #[cfg(test)]
+mod rules;
+#[cfg(test)]
 mod whole;
 #[cfg(test)]
 mod words;

@@ -1,0 +1,111 @@
+-- The lines of a text, and what a text gives after its first line.
+use Rattle.std.specs.Prelude.{◌≡◌, ℕ, ◌+◌, ◌<◌, suc, Bool, true, false, List, [], ◌∷◌, ◌++◌, length, take, drop, Option, Some, None, Result, Ok, Err}
+use Rattle.std.proofs.Common.{sym, refl, ap, ◌∙◌, arith, append_assoc, inl, inr, get_or, get_or-drop, add-zero, length-drop}
+use Rattle.std.proofs.lemmas.List.{append-nil}
+use Rattle.std.proofs.lemmas.Bool.{cases_Bool}
+use Rattle.std.proofs.lemmas.Bool.Decides.{nat_tests}
+use Rattle.fluent_text.proofs.Runs.{run_len-stops}
+use Rattle.fluent_text.specs.Parser.{Text, Read, run_len, run}
+use Rattle.fluent_intl.specs.RuleTree.{Rule}
+use Rattle.fluent_intl.specs.RuleGrammar.{is_of_line, is_blank, in_front, lines, line, before, with_line, rules_from, rules}
+use Rattle.fluent_intl.specs.RuleReading.{listed}
+
+-- rules that were read before
+abbrev pub after : List Rule → Result (List Rule) ℕ → Result (List Rule) ℕ
+after found (Ok more) = Ok (found ++ more)
+after found (Err at) = Err at
+
+-- the lines behind the end of a line
+abbrev pub later : Text → List Text
+later [] = []
+later (c ∷ cs) = lines cs
+
+lines_split : (s : Text) → lines s ≡ take (run_len is_of_line s) s ∷ later (drop (run_len is_of_line s) s)
+lines_split [] = refl
+lines_split (c ∷ cs) =
+    elim (cases_Bool (is_of_line c 0)) [
+      | inl pass ↦ let e : 1 + run_len is_of_line cs ≡ suc (run_len is_of_line cs) = omega arith in rw (pass, lines_split cs, e) refl
+      | inr stop ↦ rw stop refl
+    ]
+
+-- the lines of a text that was cut at the end of its first
+lines_of_cut : Read Text → List Text
+lines_of_cut None = []
+lines_of_cut (Some p) = p.0 ∷ later p.1
+
+cut : (s front behind : Text) → run is_of_line s ≡ Some (front, behind) → lines s ≡ front ∷ later behind
+unfolding lines_of_cut
+cut s front behind e = lines_split s ∙ ap lines_of_cut e
+
+-- the first line, and what those behind it give
+first_line : (at : ℕ) (s front behind : Text) → run is_of_line s ≡ Some (front, behind)
+    → rules_from at (lines s) ≡ with_line at front (line front) (rules_from (at + length front + 1) (later behind))
+unfolding rules_from
+first_line at s front behind e = ap (rules_from at) (cut s front behind e)
+
+from_nothing : (r : Result (List Rule) ℕ) → r ≡ after [] r
+from_nothing (Ok more) = refl
+from_nothing (Err at) = refl
+
+grown : (found : List Rule) (o : Option Rule) (r : Result (List Rule) ℕ) → after found (before o r) ≡ after (found ++ listed o) r
+grown found None (Ok more) = ap (λ xs. Ok (xs ++ more)) (sym (append-nil found))
+grown found (Some x) (Ok more) = ap Ok (sym (append_assoc found (x ∷ []) more))
+grown found None (Err at) = refl
+grown found (Some x) (Err at) = refl
+
+-- nothing was read before the first line
+pub starts : (s : Text) (at : ℕ) → at ≡ 0 → rules s ≡ after [] (rules_from at (lines s))
+unfolding rules
+starts s at e = rw e (from_nothing (rules_from 0 (lines s)))
+
+-- the first line can't be read
+pub refused : (whole : Result (List Rule) ℕ) (found : List Rule) (at : ℕ) (s front behind : Text)
+    → whole ≡ after found (rules_from at (lines s)) → run is_of_line s ≡ Some (front, behind) → line front ≡ None → whole ≡ Err (at + run_len is_blank front)
+refused whole found at s front behind w e none = w ∙ ap (after found) (first_line at s front behind e) ∙ rw none refl
+
+-- the first line is read
+kept : (whole : Result (List Rule) ℕ) (found : List Rule) (at : ℕ) (s front behind : Text) (p : Option Rule × Text)
+    → whole ≡ after found (rules_from at (lines s)) → run is_of_line s ≡ Some (front, behind) → line front ≡ Some p
+    → whole ≡ after (found ++ listed p.0) (rules_from (at + length front + 1) (later behind))
+kept whole found at s front behind p w e some =
+    let others = rules_from (at + length front + 1) (later behind) in
+    w ∙ ap (after found) (first_line at s front behind e) ∙ ap (λ r. after found (with_line at front r others)) some ∙ grown found p.0 others
+
+-- it is the last one
+pub last : (whole : Result (List Rule) ℕ) (found longer : List Rule) (at : ℕ) (s front behind : Text) (p : Option Rule × Text)
+    → whole ≡ after found (rules_from at (lines s)) → run is_of_line s ≡ Some (front, behind) → line front ≡ Some p → longer ≡ found ++ listed p.0
+    → behind ≡ [] → whole ≡ Ok longer
+unfolding rules_from
+last whole found longer at s front behind p w e some l end =
+    kept whole found at s front behind p w e some
+    ∙ ap (λ b. after (found ++ listed p.0) (rules_from (at + length front + 1) (later b))) end
+    ∙ ap Ok (append-nil (found ++ listed p.0) ∙ sym l)
+
+later_some : (s : Text) → 0 < length s → later s ≡ lines (drop 1 s)
+later_some [] h = absurd (omega arith)
+later_some (c ∷ cs) h = refl
+
+-- others follow it
+pub goes_on : (whole : Result (List Rule) ℕ) (found longer : List Rule) (at next_at : ℕ) (s front behind next : Text) (p : Option Rule × Text)
+    → whole ≡ after found (rules_from at (lines s)) → run is_of_line s ≡ Some (front, behind) → line front ≡ Some p → longer ≡ found ++ listed p.0
+    → 0 < length behind → next ≡ drop 1 behind → next_at ≡ at + length front + 1 → whole ≡ after longer (rules_from next_at (lines next))
+goes_on whole found longer at next_at s front behind next p w e some l more n a =
+    rw (l, a, n, ← later_some behind more) (kept whole found at s front behind p w e some)
+
+-- the rest of a text that was cut
+rest_of_cut : Read Text → Text
+rest_of_cut None = []
+rest_of_cut (Some p) = p.1
+
+ascii_end : (b next : ℕ) → is_of_line b next ≡ false → (0 < b) × (b < 128)
+ascii_end b next e = (grind (arith, nat_tests), grind (arith, nat_tests))
+
+-- the byte that ends a line is ASCII
+pub ends_at : (s front behind : Text) → run is_of_line s ≡ Some (front, behind) → 0 < length behind → (0 < get_or behind 0 0) × (get_or behind 0 0 < 128)
+unfolding rest_of_cut
+ends_at s front behind e some =
+    let k = run_len is_of_line s in
+    let same : drop k s ≡ behind = ap rest_of_cut e in
+    let here : get_or (drop k s) 0 0 ≡ get_or s k 0 = rw (get_or-drop k s 0 0, add-zero) refl in
+    let within : k < length s = omega (arith, length-drop k s, ap length same) in
+    rw (← same, here) (ascii_end (get_or s k 0) (get_or s (suc k) 0) (run_len-stops is_of_line s within))

@@ -1,0 +1,58 @@
+//! The rules of a text.
+ghost use Rattle.std.specs.Prelude.{◌≡◌, ◌<◌, drop, slice_index};
+ghost use Rattle.fluent_intl.specs.RuleGrammar as spec;
+ghost use Rattle.fluent_intl.specs.RuleReading.{all, rule_view, AddsLine, GivesRules};
+
+use super::fault::RuleFault;
+use super::lexical::{Class, run_len, split_run};
+use super::line::line;
+use super::stop::Stop;
+use super::tree::Rule;
+use crate::plurals::PluralRuleType;
+use std::alloc::Global;
+
+/// Adds the rule of a line, if the line has one.
+fn add_line(alloc: Global, text: &str, found: &mut Vec<Rule>) -> Result<(), Stop>
+    ensures { AddsLine (all rule_view found.old) (all rule_view found.new) result (spec.line text.now) }
+{
+    if let (Some(rule), _) = line(alloc, text)? {
+        found.push(rule)?;
+    }
+    Ok(())
+}
+
+/// What follows the first byte, which is ASCII.
+fn after_first(s: &str) -> &str
+    requires some { 0 < slice_index s.now 0 }
+    requires ascii { slice_index s.now 0 < 128 }
+    ensures { result.now ≡ drop 1 s.now }
+{
+    &s[1..]
+}
+
+/// Reads a text of rules, one on each line and between semicolons.
+pub(super) fn read_rules(
+    alloc: Global,
+    kind: PluralRuleType,
+    text: &str,
+) -> Result<Vec<Rule>, RuleFault>
+    ensures { GivesRules kind result (spec.rules text.now) }
+{
+    let mut found = Vec::new(alloc);
+    let mut rest = text;
+    'lines: loop {
+        let (front, behind) = split_run(rest, Class::Line);
+        match add_line(alloc, front, &mut found) {
+            Ok(()) => {}
+            Err(Stop::Absent) => {
+                let at = text.len() - rest.len() + run_len(front, Class::Blank);
+                return Err(RuleFault::Syntax(kind, at));
+            }
+            Err(Stop::Memory) => return Err(RuleFault::Memory),
+        }
+        if behind.is_empty() {
+            return Ok(found);
+        }
+        rest = after_first(behind);
+    }
+}
