@@ -10,6 +10,8 @@ mod errors;
 #[cfg(test)]
 mod headline;
 #[cfg(test)]
+mod languages;
+#[cfg(test)]
 mod made;
 #[cfg(test)]
 mod messages;
