@@ -1,4 +1,7 @@
 //! Tests of finding a language's plural rules in a table.
+ghost use Rattle.std.specs.Prelude.{◌≡◌, ◌∷◌, ◌++◌, [], codes};
+ghost use Rattle.fluent_intl.specs.Languages.{rules_of, shortened};
+
 use fluent_intl::{cldr_plurals, rules_for};
 use std::test::Fail;
 
@@ -84,4 +87,22 @@ fn a_text_may_be_empty_or_hold_tabs(rt: HostRuntime) {
         ordinal("xx\tother:\tone:\tn = 1", "xx"),
         Some("one:\tn = 1")
     );
+}
+
+/// Worked rows of the definitions, on a table with the line `pt`, tab, `a`, tab, `b`.
+fn rows_hold()
+    ensures tags { shortened (codes "pt_PT-x") ≡ codes "pt_PT-x" ∷ codes "pt_PT" ∷ codes "pt" ∷ [] }
+    ensures whole { let row = codes "pt" ++ 9 ∷ codes "a" ++ 9 ∷ codes "b" in
+        rules_of row (codes "PT") ≡ Some (record { cardinal = codes "a"; ordinal = codes "b" }) }
+    ensures fallback { let row = codes "pt" ++ 9 ∷ codes "a" ++ 9 ∷ codes "b" in
+        rules_of (codes "# x" ++ 10 ∷ row) (codes "pt-BR") ≡ rules_of row (codes "pt") }
+    ensures comment { let row = codes "#pt" ++ 9 ∷ codes "a" ++ 9 ∷ codes "b" in
+        rules_of row (codes "#pt") ≡ None }
+    ensures one_tab { rules_of (codes "pt" ++ 9 ∷ codes "a") (codes "pt") ≡ None }
+    ensures other { rules_of (codes "pt" ++ 9 ∷ codes "a" ++ 9 ∷ codes "b") (codes "p") ≡ None }
+{}
+
+#[test]
+fn the_definitions_give_the_rows() {
+    rows_hold();
 }
