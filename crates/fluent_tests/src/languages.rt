@@ -1,16 +1,24 @@
 //! Bundles with the plural rules of a language, as the table of languages has them.
 use fluent_bundle::{FluentBundle, FluentValue, NoCustom, NoFormatter, NoFunction, Scope};
-use fluent_intl::{RuleTexts, cldr_plurals, rules_for};
+use fluent_intl::{LanguageRules, RuleFault, RuleTexts, cldr_plurals, rules_for};
 use std::alloc::Global;
 use std::process::Abort;
 use std::test::Fail;
 
 type Bundle<'r, 's> = FluentBundle<'r, 's, RuleTexts, NoCustom, NoFunction, NoFormatter>;
 
+/// Plural rules as they are read, a second time where memory is refused at the first.
+fn read(alloc: Global, rules: LanguageRules<'_>) -> Result<RuleTexts, RuleFault> {
+    match RuleTexts::parse(alloc, rules.cardinal, rules.ordinal) {
+        Err(RuleFault::Memory) => RuleTexts::parse(alloc, rules.cardinal, rules.ordinal),
+        plurals => plurals,
+    }
+}
+
 /// A bundle in a language.
 fn bundle_in<'r, 's>(alloc: Global, tag: &str) -> Result<Bundle<'r, 's>, Fail> {
     let rules = rules_for(cldr_plurals(), tag).ok_or("no such language")?;
-    let plurals = RuleTexts::parse(alloc, rules.cardinal, rules.ordinal)?;
+    let plurals = read(alloc, rules)?;
     Ok(FluentBundle::new(alloc, Vec::new(alloc), plurals))
 }
 
