@@ -15,3 +15,4 @@ mod RuleLines
 mod RuleDigits
 mod RuleRows
 pub mod EnglishRules
+pub mod RuleRelations

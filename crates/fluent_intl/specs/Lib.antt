@@ -12,3 +12,4 @@ pub mod RuleMeaning
 pub mod RuleReading
 pub mod RuleTexts
 pub mod EnglishRules
+pub mod RuleRelations

@@ -1,9 +1,9 @@
 -- Plural rule texts, a parser for each line of the grammar (after Unicode TR35, Part 3, Plural rules syntax).
 use Rattle.std.specs.Prelude.{ℕ, ◌+◌, ◌^◌, Bool, true, false, not, ◌&&◌, ◌||◌, ◌==◌, nat_lt, is_some, if◌then◌else◌, codes, List, [], ◌∷◌, length, Option, Some, None, Result, Ok, Err}
-use Rattle.std.specs.Char.{is_ascii_alphabetic, is_ascii_digit}
+use Rattle.std.specs.Char.{is_ascii_alphabetic}
 use Rattle.std.specs.Str.{bytes_eq}
 use Rattle.std.specs.Str.Parse.{digits_value}
-use Rattle.fluent_text.specs.Parser.{Text, Read, Parser, ◌>>=◌, ◌>>◌, ◌<$>◌, ◌<|>◌, pure, refuse, ignore, optional, skip, many_from, push, byte, run_len, run, run1}
+use Rattle.fluent_text.specs.Parser.{Text, Read, Parser, ◌>>=◌, ◌>>◌, ◌<|>◌, pure, refuse, ignore, optional, skip, many_from, push, byte, run_len, run, run1}
 use Rattle.fluent_text.specs.Lexical.{is_digit, at_end}
 use Rattle.fluent_intl.specs.declared.plurals.PluralCategory.{PluralCategory}
 use Rattle.fluent_intl.specs.declared.plurals.PluralCategory.TheVariants.{ZERO, ONE, TWO, FEW, MANY, OTHER}

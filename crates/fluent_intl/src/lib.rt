@@ -26,4 +26,6 @@ pub use options::{
     FluentNumberCurrencyDisplayStyle, FluentNumberOptions, FluentNumberStyle, FluentNumberType,
 };
 pub use plurals::{EnglishPlurals, MemoizerKind, PluralCategory, PluralRuleType};
-pub use rule_texts::{RuleFault, RuleTexts, english_agrees_with_its_rules};
+pub use rule_texts::{
+    RuleFault, RuleTexts, english_agrees_with_its_rules, rules_select_the_first_that_holds,
+};

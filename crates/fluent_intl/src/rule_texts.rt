@@ -19,7 +19,7 @@ use crate::operands::PluralOperands;
 use crate::plurals::{MemoizerKind, PluralCategory, PluralRuleType};
 pub use fault::RuleFault;
 use holds::category_by;
-pub use laws::english_agrees_with_its_rules;
+pub use laws::{english_agrees_with_its_rules, rules_select_the_first_that_holds};
 use lines::read_rules;
 use std::alloc::Global;
 use std::marker::Model;

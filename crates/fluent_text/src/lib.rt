@@ -5,6 +5,5 @@ mod bytes;
 pub mod counting;
 mod unicode;
 
-pub use bytes::eat;
 pub use counting::{Counting, WriteFault};
 pub use unicode::{unescape_unicode, unescape_unicode_to_string};

@@ -1,12 +1,11 @@
 //! The parts of plural rules that hold no other: words, values and signs.
-ghost use Rattle.std.specs.Prelude.{◌≡◌, ℕ, ◌+◌, ◌<◌, ◌≤◌, Some, length};
+ghost use Rattle.std.specs.Prelude.{◌≡◌, ℕ, ◌+◌, ◌<◌, ◌≤◌, Some, drop, length, slice_index};
 ghost use Rattle.fluent_text.specs.Parser as parser;
 ghost use Rattle.fluent_text.specs.Reading.{found, passed};
 ghost use Rattle.fluent_intl.specs.RuleGrammar as spec;
 ghost use Rattle.fluent_intl.specs.RuleReading.{class_test, text_view};
 
 use crate::decimal::value_of;
-use fluent_text::eat;
 
 /// A set of bytes.
 #[derive(Clone, Copy)]
@@ -60,6 +59,29 @@ pub(super) fn after_blanks(s: &str) -> &str
     ensures { spec.blanks s.now ≡ Some (tt, result.now) }
 {
     split_run(s, Class::Blank).1
+}
+
+/// What follows the first byte, which is ASCII.
+pub(super) fn after_first(s: &str) -> &str
+    requires some { 0 < slice_index s.now 0 }
+    requires ascii { slice_index s.now 0 < 128 }
+    ensures { result.now ≡ drop 1 s.now }
+{
+    &s[1..]
+}
+
+/// What follows this byte, which is ASCII.
+#[tactic(auto, unfolding(fluent_text::specs::Parser::byte))]
+pub(super) fn eat(s: &str, byte: u8) -> Option<&str>
+    requires some { 0 < byte }
+    requires ascii { byte < 128 }
+    ensures { passed result ≡ parser.byte byte s.now }
+{
+    let first = s.as_bytes().first()?;
+    if *first != byte {
+        return None;
+    }
+    Some(after_first(s))
 }
 
 /// What follows this byte, which may stand after blanks.

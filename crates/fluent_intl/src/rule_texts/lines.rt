@@ -1,10 +1,10 @@
 //! The rules of a text.
-ghost use Rattle.std.specs.Prelude.{◌≡◌, ◌<◌, drop, slice_index};
+ghost use Rattle.std.specs.Prelude.{◌≡◌};
 ghost use Rattle.fluent_intl.specs.RuleGrammar as spec;
 ghost use Rattle.fluent_intl.specs.RuleReading.{all, rule_view, AddsLine, GivesRules};
 
 use super::fault::RuleFault;
-use super::lexical::{Class, run_len, split_run};
+use super::lexical::{Class, after_first, run_len, split_run};
 use super::line::line;
 use super::stop::Stop;
 use super::tree::Rule;
@@ -19,15 +19,6 @@ fn add_line(alloc: Global, text: &str, found: &mut Vec<Rule>) -> Result<(), Stop
         found.push(rule)?;
     }
     Ok(())
-}
-
-/// What follows the first byte, which is ASCII.
-fn after_first(s: &str) -> &str
-    requires some { 0 < slice_index s.now 0 }
-    requires ascii { slice_index s.now 0 < 128 }
-    ensures { result.now ≡ drop 1 s.now }
-{
-    &s[1..]
 }
 
 /// Reads a text of rules, one on each line and between semicolons.

@@ -6,10 +6,9 @@ ghost use Rattle.fluent_text.specs.Reading.{found, passed};
 ghost use Rattle.fluent_intl.specs.RuleGrammar as spec;
 ghost use Rattle.fluent_intl.specs.RuleReading.{Gives, all, number_view, relation_view};
 
-use super::lexical::{symbol, value, word};
+use super::lexical::{eat, symbol, value, word};
 use super::stop::Stop;
 use super::tree::{Operand, Range, Relation};
-use fluent_text::eat;
 use std::alloc::Global;
 use std::num::NonZeroU64;
 
