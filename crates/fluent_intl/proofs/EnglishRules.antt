@@ -1,7 +1,6 @@
 -- The rules of English texts give the categories of English.
-use Rattle.std.specs.Prelude.{◌≡◌, ℕ, ◌*◌, ◌/◌, ◌%◌, ◌^◌, Bool, true, false, not, ◌&&◌, ◌||◌, ◌==◌, if◌then◌else◌, List, [], ◌∷◌, Some, None, Ok, unsigned_abs, nat_le}
-use Rattle.std.specs.Bool.{Decides}
-use Rattle.std.proofs.Common.{arith, sym, refl, ap, ◌∙◌, inl, inr}
+use Rattle.std.specs.Prelude.{◌≡◌, ℕ, ◌*◌, ◌%◌, ◌^◌, Bool, true, false, not, ◌&&◌, ◌||◌, ◌==◌, if◌then◌else◌, List, [], ◌∷◌, Some, None, Ok, unsigned_abs}
+use Rattle.std.proofs.Common.{arith, refl, ap, ◌∙◌, inl, inr}
 use Rattle.std.proofs.lemmas.Bool.{cases_Bool}
 use Rattle.std.proofs.lemmas.Bool.Decides.{nat_tests}
 use Rattle.fluent_text.specs.Parser as p
@@ -11,7 +10,7 @@ use Rattle.fluent_intl.specs.declared.plurals.PluralRuleType.{PluralRuleType}
 use Rattle.fluent_intl.specs.declared.plurals.PluralRuleType.TheVariants.{CARDINAL, ORDINAL}
 use Rattle.fluent_intl.specs.declared.rule_texts.tree.Operand.{Operand}
 use Rattle.fluent_intl.specs.declared.rule_texts.tree.Operand.TheVariants.{N, I, V}
-use Rattle.fluent_intl.specs.RuleTree.{Relation, relation_of, range_of, Rule, rule_of, Rules}
+use Rattle.fluent_intl.specs.RuleTree.{Relation, relation_of, range_of, rule_of, Rules}
 use Rattle.fluent_intl.specs.RuleGrammar as g
 use Rattle.fluent_intl.specs.RuleMeaning.{is_in, relation_holds, condition_holds}
 use Rattle.fluent_intl.specs.RuleTexts.{category_of}

@@ -7,6 +7,8 @@ pub mod DecimalText
 pub mod DecimalWhole
 pub mod Remainders
 pub mod OneOperands
+mod TabLemmas
+mod TagLemmas
 mod RuleRuns
 mod RuleValues
 mod RuleLines

@@ -1,5 +1,5 @@
 -- The lines of a text, and what a text gives after its first line.
-use Rattle.std.specs.Prelude.{◌≡◌, ℕ, ◌+◌, ◌<◌, suc, Bool, true, false, List, [], ◌∷◌, ◌++◌, length, take, drop, Option, Some, None, Result, Ok, Err}
+use Rattle.std.specs.Prelude.{◌≡◌, ℕ, ◌+◌, ◌<◌, suc, false, List, [], ◌∷◌, ◌++◌, length, take, drop, Option, Some, None, Result, Ok, Err}
 use Rattle.std.proofs.Common.{sym, refl, ap, ◌∙◌, arith, append_assoc, inl, inr, get_or, get_or-drop, add-zero, length-drop}
 use Rattle.std.proofs.lemmas.List.{append-nil}
 use Rattle.std.proofs.lemmas.Bool.{cases_Bool}
@@ -7,7 +7,7 @@ use Rattle.std.proofs.lemmas.Bool.Decides.{nat_tests}
 use Rattle.fluent_text.proofs.Runs.{run_len-stops}
 use Rattle.fluent_text.specs.Parser.{Text, Read, run_len, run}
 use Rattle.fluent_intl.specs.RuleTree.{Rule}
-use Rattle.fluent_intl.specs.RuleGrammar.{is_of_line, is_blank, in_front, lines, line, before, with_line, rules_from, rules}
+use Rattle.fluent_intl.specs.RuleGrammar.{is_of_line, is_blank, lines, line, before, with_line, rules_from, rules}
 use Rattle.fluent_intl.specs.RuleReading.{listed}
 
 -- rules that were read before

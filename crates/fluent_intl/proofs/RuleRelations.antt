@@ -1,5 +1,5 @@
 -- The tests of plural rules decide what the rules say.
-use Rattle.std.specs.Prelude.{◌≡◌, ℕ, ◌+◌, ◌*◌, ◌/◌, ◌%◌, ◌^◌, ◌≤◌, ◌<◌, ◌⊎◌, ◌↔◌, Bool, true, false, not, ◌&&◌, ◌==◌, nat_le, if◌then◌else◌, List, [], ◌∷◌, Option, Some, None, length}
+use Rattle.std.specs.Prelude.{◌≡◌, ℕ, ◌*◌, ◌/◌, ◌%◌, ◌^◌, ◌≤◌, ◌↔◌, Bool, true, false, not, ◌&&◌, ◌==◌, if◌then◌else◌, List, [], ◌∷◌, Option, Some, None}
 use Rattle.std.specs.Bool.{Decides}
 use Rattle.std.specs.List.{All, Any, list_any, list_all}
 use Rattle.std.proofs.Common.{arith, sym, refl, ap, ◌∙◌, inl, inr}
@@ -9,11 +9,10 @@ use Rattle.std.proofs.lemmas.List.Folds.{Any-from_list_any, list_any-from_Any}
 use Rattle.std.proofs.lemmas.List.Sums.{AllPass-from_list_all, list_all-from_AllPass}
 use Rattle.fluent_intl.specs.declared.operands.PluralOperands.{PluralOperands}
 use Rattle.fluent_intl.specs.declared.plurals.PluralCategory.{PluralCategory}
-use Rattle.fluent_intl.specs.declared.plurals.PluralCategory.TheVariants.{OTHER}
 use Rattle.fluent_intl.specs.declared.rule_texts.tree.Range.{Range}
 use Rattle.fluent_intl.specs.RuleTree.{Relation, Condition, Rule}
-use Rattle.fluent_intl.specs.RuleMeaning.{units, remainder, is_within, is_in, relation_holds, group_holds, condition_holds, rule_holds, category_by}
-use Rattle.fluent_intl.specs.RuleRelations.{IsIn, Says, RelationHolds, ConditionHolds, RuleHolds, IsCategory, SelectsTheFirst}
+use Rattle.fluent_intl.specs.RuleMeaning.{units, remainder, is_within, is_in, relation_holds, group_holds, rule_holds, category_by}
+use Rattle.fluent_intl.specs.RuleRelations.{IsIn, Says, RelationHolds, RuleHolds, IsCategory, SelectsTheFirst}
 use Rattle.fluent_intl.proofs.RuleValues.{in_whole}
 
 -- a test of each element decides whether some element, or each, is so

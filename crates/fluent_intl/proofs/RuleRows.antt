@@ -137,3 +137,13 @@ pub row_tight :
     × (category tight 1020 None ≡ OTHER)
 unfolding operands_of significant_places
 row_tight = (refl, refl, refl, refl, refl, refl, refl, refl)
+
+-- 0.50: n is a half, i 0, v 2, w 1, f 50, t 5, and c and e are 0
+abbrev parts : List Rule
+parts =
+    rule_of TWO (Some ((equals I 0 0 ∷ equals V 2 2 ∷ equals W 1 1 ∷ equals F 50 50 ∷ equals T 5 5 ∷ equals C 0 0 ∷ equals E 0 0 ∷ differs N 0 1 ∷ []) ∷ []))
+    ∷ []
+
+pub row_operands : (category parts 5 (Some 2) ≡ TWO) × (category parts 5 None ≡ OTHER)
+unfolding operands_of significant_places
+row_operands = (refl, refl)

@@ -1,5 +1,5 @@
 -- Runs of the bytes of plural rules end where characters do.
-use Rattle.std.proofs.Common.{◌≡◌, ℕ, ◌<◌, ◌≤◌, Bool, true, false, List, IsUtf8, arith}
+use Rattle.std.proofs.Common.{ℕ, List, IsUtf8, arith}
 use Rattle.std.proofs.lemmas.Bool.Decides.{nat_tests}
 use Rattle.std.specs.Str.{IsCharBoundary}
 use Rattle.fluent_text.specs.Parser.{run_len}

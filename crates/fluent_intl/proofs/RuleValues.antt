@@ -1,11 +1,10 @@
 -- Whole values of operands, their remainders, and the ranges that they lie in.
-use Rattle.std.specs.Prelude.{◌≡◌, ◌≢◌, ℕ, Bool, true, false, ◌+◌, ◌*◌, ◌/◌, ◌%◌, ◌^◌, ◌<◌, ◌≤◌, ◌==◌, ◌&&◌, ◌||◌, List, [], ◌∷◌, map, Option, Some, None}
+use Rattle.std.specs.Prelude.{◌≡◌, ◌≢◌, ℕ, Bool, true, false, ◌+◌, ◌*◌, ◌/◌, ◌%◌, ◌^◌, ◌<◌, ◌==◌, ◌&&◌, ◌||◌, List, [], ◌∷◌, map, Option, Some, None}
 use Rattle.std.specs.List.{list_any}
 use Rattle.std.specs.Option.{option_map}
 use Rattle.std.specs.declared.num.NonZeroU64.{NonZeroU64}
-use Rattle.std.proofs.Common.{arith, sym, refl, ap, ◌∙◌, eq-eqb}
+use Rattle.std.proofs.Common.{arith, refl, ap, ◌∙◌, eq-eqb}
 use Rattle.std.proofs.Math.Arith.{mod-mul}
-use Rattle.std.proofs.lemmas.Bool.{cases_Bool}
 use Rattle.std.proofs.lemmas.Bool.Decides.{nat_tests}
 use Rattle.fluent_intl.specs.declared.rule_texts.tree.Range.{Range}
 use Rattle.fluent_intl.specs.RuleMeaning.{remainder, is_within, is_in}

@@ -4,6 +4,8 @@ pub mod SameContent
 pub mod Number
 pub mod Operands
 pub mod Plurals
+pub mod Languages
+pub mod LanguageTable
 pub mod RuleTree
 pub mod RuleGrammar
 pub mod RuleMeaning

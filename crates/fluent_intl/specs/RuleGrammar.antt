@@ -1,9 +1,9 @@
 -- Plural rule texts, a parser for each line of the grammar (after Unicode TR35, Part 3, Plural rules syntax).
 use Rattle.std.specs.Prelude.{ℕ, ◌+◌, ◌^◌, Bool, true, false, not, ◌&&◌, ◌||◌, ◌==◌, nat_lt, is_some, if◌then◌else◌, codes, List, [], ◌∷◌, length, Option, Some, None, Result, Ok, Err}
-use Rattle.std.specs.Char.{is_ascii_alphabetic, is_ascii_digit}
+use Rattle.std.specs.Char.{is_ascii_alphabetic}
 use Rattle.std.specs.Str.{bytes_eq}
 use Rattle.std.specs.Str.Parse.{digits_value}
-use Rattle.fluent_text.specs.Parser.{Text, Read, Parser, ◌>>=◌, ◌>>◌, ◌<$>◌, ◌<|>◌, pure, refuse, ignore, optional, skip, many_from, push, byte, run_len, run, run1}
+use Rattle.fluent_text.specs.Parser.{Text, Read, Parser, ◌>>=◌, ◌>>◌, ◌<|>◌, pure, refuse, ignore, optional, skip, many_from, push, byte, run_len, run, run1}
 use Rattle.fluent_text.specs.Lexical.{is_digit, at_end}
 use Rattle.fluent_intl.specs.declared.plurals.PluralCategory.{PluralCategory}
 use Rattle.fluent_intl.specs.declared.plurals.PluralCategory.TheVariants.{ZERO, ONE, TWO, FEW, MANY, OTHER}
@@ -57,6 +57,10 @@ named name = do
   w ← word
   provided (bytes_eq w name)
 
+-- the parts that come next, behind those before them
+abbrev pub more : {A : Type 0} → Parser A → List A → Parser (List A)
+more p found = λ s. many_from push p (length s) found s
+
 -- ---- values
 
 -- value ::= [0-9]+, which is 18446744073709551615 at most
@@ -90,7 +94,7 @@ next_range = do
 unfoldable pub range_list : Parser (List Range)
 range_list = do
   first ← range
-  (λ s. many_from push next_range (length s) (first ∷ []) s)
+  more next_range (first ∷ [])
 
 -- ---- relations
 
@@ -146,7 +150,7 @@ and_relation = named (codes "and") >> relation
 unfoldable pub and_group : Parser (List Relation)
 and_group = do
   first ← relation
-  (λ s. many_from push and_relation (length s) (first ∷ []) s)
+  more and_relation (first ∷ [])
 
 -- "or" and_group
 unfoldable pub or_group : Parser (List Relation)
@@ -156,7 +160,7 @@ or_group = named (codes "or") >> and_group
 unfoldable pub condition : Parser Condition
 condition = do
   first ← and_group
-  (λ s. many_from push or_group (length s) (first ∷ []) s)
+  more or_group (first ∷ [])
 
 -- ---- rules
 

@@ -33,11 +33,13 @@ is_within x range = nat_le range.first x && nat_le x range.last
 abbrev pub is_in : ℕ → List Range → Bool
 is_in value ranges = (value % 10 ^ 18 == 0) && list_any (is_within (value / 10 ^ 18)) ranges
 
--- `=` holds where the value is in the ranges, and `!=` where it isn't
+-- what a relation looks at is in its ranges
+abbrev pub is_found : PluralOperands → Relation → Bool
+is_found o r = is_in (remainder r.divisor (units r.operand o)) r.ranges
+
+-- `=` holds where it is in them, and `!=` where it isn't
 abbrev pub relation_holds : PluralOperands → Relation → Bool
-relation_holds o r =
-    let found = is_in (remainder r.divisor (units r.operand o)) r.ranges in
-    if r.equal then found else not found
+relation_holds o r = if r.equal then is_found o r else not (is_found o r)
 
 -- all the relations of a group hold
 abbrev pub group_holds : PluralOperands → List Relation → Bool

@@ -1,5 +1,5 @@
 -- How an answer of the code stands to what the grammar of plural rules gives.
-use Rattle.std.specs.Prelude.{◌≡◌, ℕ, Bool, List, [], ◌∷◌, ◌++◌, map, Option, Some, None, Result, Ok, Err, Vec}
+use Rattle.std.specs.Prelude.{◌≡◌, ◌≢◌, ℕ, ◌*◌, ◌%◌, ◌^◌, Bool, List, [], ◌∷◌, ◌++◌, map, Option, Some, None, Result, Ok, Err, Vec}
 use Rattle.std.specs.Option.{option_map}
 use Rattle.std.specs.Borrow.{Bor}
 use Rattle.std.specs.declared.alloc.Global.{Global}
@@ -49,6 +49,11 @@ abbrev pub rule_view : CodeRule → Rule
 rule_view r = rule_of r.category (option_map condition_view r.condition)
 
 -- ---- answers
+
+-- the whole number that a value in units of 10^-18 is, if it is one
+abbrev pub IsWhole : ℕ → Option ℕ → Type 0
+IsWhole value None = value % 10 ^ 18 ≢ 0
+IsWhole value (Some x) = value ≡ x * 10 ^ 18
 
 -- the result is what the grammar gives, unless memory ran out
 abbrev pub Gives : {A B : Type 0} → (A → B) → Result (A × Bor (List ℕ)) Stop → Read B → Type 0

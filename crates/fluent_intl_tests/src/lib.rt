@@ -6,6 +6,8 @@ mod contents;
 #[cfg(test)]
 mod decimals;
 #[cfg(test)]
+mod languages;
+#[cfg(test)]
 mod numbers;
 #[cfg(test)]
 mod plurals;

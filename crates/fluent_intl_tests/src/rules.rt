@@ -95,8 +95,16 @@ fn has_fault(alloc: Global, row: &(&str, &str, PluralRuleType, usize)) -> bool {
     }
 }
 
+/// What a fault says. Where memory is refused it is asked again.
+fn text_of(alloc: Global, fault: RuleFault) -> Result<String, AllocError> {
+    match fault.to_string(alloc) {
+        Err(AllocError) => fault.to_string(alloc),
+        text => text,
+    }
+}
+
 fn has_text(alloc: Global, fault: RuleFault, text: &str) -> Result<bool, AllocError> {
-    Ok(fault.to_string(alloc)?.as_str() == text)
+    Ok(text_of(alloc, fault)?.as_str() == text)
 }
 
 fn have_texts(alloc: Global) -> Result<bool, AllocError> {

@@ -14,6 +14,8 @@ mod errors;
 #[cfg(test)]
 mod headline;
 #[cfg(test)]
+mod languages;
+#[cfg(test)]
 mod limit;
 #[cfg(test)]
 mod made;

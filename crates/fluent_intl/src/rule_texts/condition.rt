@@ -1,9 +1,8 @@
 //! Conditions of plural rules: relations joined by `and`, and these groups joined by `or`.
-ghost use Rattle.std.specs.Prelude.{◌≡◌, ◌++◌, ◌∷◌, [], length, OnOk, codes};
-ghost use Rattle.fluent_text.specs.Parser as parser;
+ghost use Rattle.std.specs.Prelude.{◌≡◌};
 ghost use Rattle.fluent_text.specs.Reading.{passed};
 ghost use Rattle.fluent_intl.specs.RuleGrammar as spec;
-ghost use Rattle.fluent_intl.specs.RuleReading.{Gives, all, relation_view, group_view, condition_view};
+ghost use Rattle.fluent_intl.specs.RuleReading.{Gives, relation_view, group_view, condition_view};
 
 use super::lexical::word;
 use super::relation::relation;
@@ -48,7 +47,7 @@ fn more_relations<'s>(
     s: &'s str,
     mut found: Vec<Relation>,
 ) -> Result<(Vec<Relation>, &'s str), Stop>
-    ensures { Gives group_view result (parser.many_from parser.push spec.and_relation (length s.now) (group_view found) s.now) }
+    ensures { Gives group_view result (spec.more spec.and_relation (group_view found) s.now) }
 {
     let mut rest = s;
     'relations: for _turn in 0..s.len() {
@@ -95,7 +94,7 @@ fn more_groups<'s>(
     s: &'s str,
     mut found: Vec<Vec<Relation>>,
 ) -> Result<(Vec<Vec<Relation>>, &'s str), Stop>
-    ensures { Gives condition_view result (parser.many_from parser.push spec.or_group (length s.now) (condition_view found) s.now) }
+    ensures { Gives condition_view result (spec.more spec.or_group (condition_view found) s.now) }
 {
     let mut rest = s;
     'groups: for _turn in 0..s.len() {

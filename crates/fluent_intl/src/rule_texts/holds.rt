@@ -1,9 +1,9 @@
 //! Whether plural rules hold of a number.
-ghost use Rattle.std.specs.Prelude.{◌≡◌, ◌≢◌, ◌*◌, ◌%◌, ◌^◌, map, unsigned_abs, MatchOption};
+ghost use Rattle.std.specs.Prelude.{◌≡◌, ◌*◌, ◌^◌, map, unsigned_abs};
 ghost use Rattle.std.specs.List.{list_any};
 ghost use Rattle.std.specs.Option.{option_map};
 ghost use Rattle.fluent_intl.specs.RuleMeaning as spec;
-ghost use Rattle.fluent_intl.specs.RuleReading.{number_view, relation_view, group_view, rule_view};
+ghost use Rattle.fluent_intl.specs.RuleReading.{IsWhole, number_view, relation_view, group_view, rule_view};
 
 use super::tree::{Operand, Range, Relation, Rule};
 use crate::decimal::Decimal;
@@ -12,7 +12,7 @@ use crate::plurals::PluralCategory;
 use std::num::NonZeroU64;
 
 fn whole_number(n: &Decimal) -> Option<u64>
-    ensures { MatchOption result (unsigned_abs n.now % 10 ^ 18 ≢ 0) (λ x. unsigned_abs n.now ≡ x * 10 ^ 18) }
+    ensures { IsWhole (unsigned_abs n.now) result }
 {
     if n.fraction() == 0 {
         Some(n.whole())
@@ -23,7 +23,7 @@ fn whole_number(n: &Decimal) -> Option<u64>
 
 /// The value of an operand, where it is whole.
 fn whole_value(operand: Operand, operands: &PluralOperands) -> Option<u64>
-    ensures { MatchOption result (spec.units operand operands.now % 10 ^ 18 ≢ 0) (λ x. spec.units operand operands.now ≡ x * 10 ^ 18) }
+    ensures { IsWhole (spec.units operand operands.now) result }
 {
     match operand {
         Operand::N => whole_number(&operands.n),
@@ -61,7 +61,7 @@ fn is_in(x: u64, ranges: &[Range]) -> bool
 
 /// Whether the value of a relation's operand, or its remainder, is whole and in one of the ranges.
 fn is_found(relation: &Relation, operands: &PluralOperands) -> bool
-    ensures { result ≡ spec.is_in (spec.remainder (relation_view relation.now).divisor (spec.units relation.now.operand operands.now)) relation.now.ranges.items }
+    ensures { result ≡ spec.is_found operands.now (relation_view relation.now) }
 {
     match whole_value(relation.operand, operands) {
         Some(x) => is_in(remainder(x, relation.divisor), &relation.ranges),

@@ -1,10 +1,10 @@
 //! Relations of plural rules, and the ranges in them.
-ghost use Rattle.std.specs.Prelude.{◌≡◌, ◌++◌, ◌∷◌, [], length, Some, OnOk};
+ghost use Rattle.std.specs.Prelude.{◌≡◌, Some};
 ghost use Rattle.std.specs.Option.{option_map};
 ghost use Rattle.fluent_text.specs.Parser as parser;
 ghost use Rattle.fluent_text.specs.Reading.{found, passed};
 ghost use Rattle.fluent_intl.specs.RuleGrammar as spec;
-ghost use Rattle.fluent_intl.specs.RuleReading.{Gives, all, number_view, relation_view};
+ghost use Rattle.fluent_intl.specs.RuleReading.{Gives, number_view, relation_view};
 
 use super::lexical::{eat, symbol, value, word};
 use super::stop::Stop;
@@ -52,7 +52,7 @@ fn range_list<'s>(alloc: Global, s: &'s str) -> Result<(Vec<Range>, &'s str), St
 /// Adds the ranges that come next.
 #[tactic(auto, using(fluent_text::proofs::Turns::turns))]
 fn more_ranges<'s>(s: &'s str, mut found: Vec<Range>) -> Result<(Vec<Range>, &'s str), Stop>
-    ensures { Gives (λ v. v.items) result (parser.many_from parser.push spec.next_range (length s.now) found.items s.now) }
+    ensures { Gives (λ v. v.items) result (spec.more spec.next_range found.items s.now) }
 {
     let mut rest = s;
     'listed: for _turn in 0..s.len() {

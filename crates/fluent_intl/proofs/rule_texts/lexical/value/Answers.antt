@@ -1,5 +1,4 @@
-use Rattle.std.proofs.Common.{sym, ap, ◌∙◌}
-use Rattle.fluent_text.specs.Reading.{found}
+use Rattle.std.proofs.Common.{sym}
 use Rattle.fluent_intl.proofs.RuleDigits.{too_large}
 use Rattle.fluent_intl.proofs.rule_texts.lexical.value.Goals as goal
 

@@ -1,8 +1,7 @@
-use Rattle.std.proofs.Common.{◌≡◌, ◌-◌, ◌+◌, ◌<◌, length, length-drop, arith, rules, sym, refl, ap, ◌∙◌}
+use Rattle.std.proofs.Common.{◌≡◌, ◌<◌, length, length-drop, arith, rules, refl, ap}
 use Rattle.std.proofs.lemmas.Bool.Decides.{nat_tests}
 use Rattle.std.proofs.lemmas.List.{nil_from_length}
 use Rattle.fluent_intl.specs.RuleReading.{all, rule_view}
-use Rattle.fluent_intl.specs.RuleGrammar as spec
 use Rattle.fluent_intl.proofs.RuleLines.{starts, refused, last, goes_on, ends_at}
 use Rattle.fluent_intl.proofs.rule_texts.lines.read_rules.Goals as goal
 
