@@ -1,4 +1,4 @@
-use Rattle.std.proofs.Common.{◌≡◌, rules, arith, length, ap, sym, ◌∙◌, refl, Some, None, map, [], ◌∷◌, ◌++◌, ◌+◌, drop, subst, IsTrue, List}
+use Rattle.std.proofs.Common.{ℕ, ◌≡◌, rules, arith, length, ap, sym, ◌∙◌, refl, Some, None, map, [], ◌∷◌, ◌++◌, ◌+◌, drop, subst, IsTrue, List}
 use Rattle.std.specs.Option.{option_map}
 use Rattle.fluent_text.specs.Escapes.{unescaped}
 use Rattle.fluent_tree.specs.Fallback.{fallback, fallback_of, in_braces}
@@ -397,7 +397,7 @@ arguments::resolve-returns-in_err-answer-in-FunctionReference g t c =
     let m = c.in-FunctionReference.id.name.now in
     let k = valued a m in
     let means = ap (λ x. from_here a (resolving x)) (view_function_in c.args.inline.now c.in-FunctionReference.id c.in-FunctionReference.arguments c.in-FunctionReference.is) ∙ resolved_function a.bundle (work a.bundle) a.environment (on_path a.path) m (arguments_view c.in-FunctionReference.arguments) a.budget in
-    record { got = misses {e = fault.Memory} (search rules) (gets k c.in_ok-positional-in-FunctionReference.was c.resolve_call.ensures.got (reads means (begins a _))); rests = rests_on (rests_ok {x = tt} c.in_ok-positional-in-FunctionReference.was c.resolve_call.ensures.rests) (rests_memory _ (search rules)) }
+    record { got = misses {e = fault.Memory} (search rules) (gets k c.in_ok-positional-in-FunctionReference.was c.resolve_call.ensures.got (reads means (begins a _))); rests = rests_on (rests_ok {T = ℕ} {x = 0} c.in_ok-positional-in-FunctionReference.was c.resolve_call.ensures.rests) (rests_memory _ (search rules)) }
 
 pub arguments::resolve-returns-in_err-resolve_variable-in-VariableReference : goal.arguments::resolve-returns-in_err-resolve_variable-in-VariableReference
 arguments::resolve-returns-in_err-resolve_variable-in-VariableReference g t c =
