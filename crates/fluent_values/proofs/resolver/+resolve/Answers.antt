@@ -426,3 +426,143 @@ arguments::resolve_local-returns-in_ok-_positional-in-Some g t c =
     let a = status g.B.Context.meant g.B.Context.is_plain g.F.FluentFunction.answer g.C.FluentType.content c.args.scope.now in
     let means = ap (λ o. from_here a (locals (call_of (option_map arguments_view o)))) c.in-Some.is ∙ local_some a.bundle (work a.bundle) a.environment (on_path a.path) (arguments_view c.in-Some.arguments) a.budget in
     record { got = got_as (λ p. p.1) c.in_ok-_positional-in-Some.was refl means c.resolve_call.ensures.got; rests = rests_ok c.in_ok-_positional-in-Some.was c.resolve_call.ensures.rests }
+
+-- WHAT THE CALLS REQUIRE
+
+pub arguments::resolve-slice_bounds-unescape_unicode_to_string-end : goal.arguments::resolve-slice_bounds-unescape_unicode_to_string-end
+arguments::resolve-slice_bounds-unescape_unicode_to_string-end g t c = search rules
+
+pub arguments::resolve-unescape_unicode_to_string-requires-text-text : goal.arguments::resolve-unescape_unicode_to_string-requires-text-text
+arguments::resolve-unescape_unicode_to_string-requires-text-text g t c = search rules
+
+pub arguments::resolve-slice_bounds-try_number-end : goal.arguments::resolve-slice_bounds-try_number-end
+arguments::resolve-slice_bounds-try_number-end g t c = search rules
+
+pub arguments::resolve-try_number-requires-text-text : goal.arguments::resolve-try_number-requires-text-text
+arguments::resolve-try_number-requires-text-text g t c = search rules
+
+pub arguments::resolve-answer_of-requires-text-id : goal.arguments::resolve-answer_of-requires-text-id
+arguments::resolve-answer_of-requires-text-id g t c = search rules
+
+pub inline_expression::follow-report_no_value-requires-text-id : goal.inline_expression::follow-report_no_value-requires-text-id
+inline_expression::follow-report_no_value-requires-text-id g t c = search rules
+
+pub inline_expression::follow-put_id_in_braces-requires-text-id : goal.inline_expression::follow-put_id_in_braces-requires-text-id
+inline_expression::follow-put_id_in_braces-requires-text-id g t c = search rules
+
+pub inline_expression::write_inline-slice_bounds-put_unescaped-end : goal.inline_expression::write_inline-slice_bounds-put_unescaped-end
+inline_expression::write_inline-slice_bounds-put_unescaped-end g t c = search rules
+
+pub inline_expression::write_inline-put_unescaped-requires-text-value : goal.inline_expression::write_inline-put_unescaped-requires-text-value
+inline_expression::write_inline-put_unescaped-requires-text-value g t c = search rules
+
+pub inline_expression::write_inline-slice_bounds-try_number-end : goal.inline_expression::write_inline-slice_bounds-try_number-end
+inline_expression::write_inline-slice_bounds-try_number-end g t c = search rules
+
+pub inline_expression::write_inline-try_number-requires-text-text : goal.inline_expression::write_inline-try_number-requires-text-text
+inline_expression::write_inline-try_number-requires-text-text g t c = search rules
+
+pub inline_expression::write_inline-message-found-requires-text-id : goal.inline_expression::write_inline-message-found-requires-text-id
+inline_expression::write_inline-message-found-requires-text-id g t c = search rules
+
+pub inline_expression::write_term-term-found-requires-text-id : goal.inline_expression::write_term-term-found-requires-text-id
+inline_expression::write_term-term-found-requires-text-id g t c = search rules
+
+pub pattern::write_elements-offset_bounds-element-items-element-index : goal.pattern::write_elements-offset_bounds-element-items-element-index
+pattern::write_elements-offset_bounds-element-items-element-index g t c = search rules
+
+pub pattern::write_elements-slice_bounds-put_changed-end : goal.pattern::write_elements-slice_bounds-put_changed-end
+pattern::write_elements-slice_bounds-put_changed-end g t c = search rules
+
+pub pattern::write_elements-put_changed-requires-text-text : goal.pattern::write_elements-put_changed-requires-text-text
+pattern::write_elements-put_changed-requires-text-text g t c = search rules
+
+pub pattern::write_elements-loop-element-smaller : goal.pattern::write_elements-loop-element-smaller
+pattern::write_elements-loop-element-smaller g t c = search rules
+
+pub arguments::resolve_positional-offset_bounds-arguments-argument-index : goal.arguments::resolve_positional-offset_bounds-arguments-argument-index
+arguments::resolve_positional-offset_bounds-arguments-argument-index g t c = search rules
+
+pub arguments::resolve_named-offset_bounds-arguments-argument-index : goal.arguments::resolve_named-offset_bounds-arguments-argument-index
+arguments::resolve_named-offset_bounds-arguments-argument-index g t c = search rules
+
+pub arguments::resolve_named-fact_in-set : goal.arguments::resolve_named-fact_in-set
+arguments::resolve_named-fact_in-set g t c = search rules
+
+pub arguments::resolve-resolve_call-requires : goal.arguments::resolve-resolve_call-requires
+arguments::resolve-resolve_call-requires g t c = ?
+
+pub arguments::resolve-resolve_variable-requires : goal.arguments::resolve-resolve_variable-requires
+arguments::resolve-resolve_variable-requires g t c = ?
+
+pub arguments::resolve-write_beside-requires : goal.arguments::resolve-write_beside-requires
+arguments::resolve-write_beside-requires g t c = ?
+
+pub arguments::resolve_call-resolve_positional-requires : goal.arguments::resolve_call-resolve_positional-requires
+arguments::resolve_call-resolve_positional-requires g t c = ?
+
+pub arguments::resolve_call-resolve_named-requires : goal.arguments::resolve_call-resolve_named-requires
+arguments::resolve_call-resolve_named-requires g t c = ?
+
+pub arguments::resolve_local-resolve_call-requires : goal.arguments::resolve_local-resolve_call-requires
+arguments::resolve_local-resolve_call-requires g t c = ?
+
+pub arguments::resolve_positional-resolve-requires : goal.arguments::resolve_positional-resolve-requires
+arguments::resolve_positional-resolve-requires g t c = ?
+
+pub arguments::resolve_named-resolve-requires : goal.arguments::resolve_named-resolve-requires
+arguments::resolve_named-resolve-requires g t c = ?
+
+pub arguments::write_beside-write_inline-requires : goal.arguments::write_beside-write_inline-requires
+arguments::write_beside-write_inline-requires g t c = ?
+
+pub expression::write_expression-write_inline-requires : goal.expression::write_expression-write_inline-requires
+expression::write_expression-write_inline-requires g t c = ?
+
+pub expression::write_expression-resolve-requires : goal.expression::write_expression-resolve-requires
+expression::write_expression-resolve-requires g t c = ?
+
+pub expression::write_expression-write_pattern-requires : goal.expression::write_expression-write_pattern-requires
+expression::write_expression-write_pattern-requires g t c = ?
+
+pub inline_expression::follow-go-requires : goal.inline_expression::follow-go-requires
+inline_expression::follow-go-requires g t c = ?
+
+pub inline_expression::go-write_pattern-written-requires : goal.inline_expression::go-write_pattern-written-requires
+inline_expression::go-write_pattern-written-requires g t c = ?
+
+pub inline_expression::write_inline-resolve_call-requires : goal.inline_expression::write_inline-resolve_call-requires
+inline_expression::write_inline-resolve_call-requires g t c = ?
+
+pub inline_expression::write_inline-follow-requires : goal.inline_expression::write_inline-follow-requires
+inline_expression::write_inline-follow-requires g t c = ?
+
+pub inline_expression::write_inline-write_term-requires : goal.inline_expression::write_inline-write_term-requires
+inline_expression::write_inline-write_term-requires g t c = ?
+
+pub inline_expression::write_inline-write_variable-requires : goal.inline_expression::write_inline-write_variable-requires
+inline_expression::write_inline-write_variable-requires g t c = ?
+
+pub inline_expression::write_inline-write_expression-requires : goal.inline_expression::write_inline-write_expression-requires
+inline_expression::write_inline-write_expression-requires g t c = ?
+
+pub inline_expression::write_term-resolve_local-requires : goal.inline_expression::write_term-resolve_local-requires
+inline_expression::write_term-resolve_local-requires g t c = ?
+
+pub inline_expression::write_term-follow-written-requires : goal.inline_expression::write_term-follow-written-requires
+inline_expression::write_term-follow-written-requires g t c = ?
+
+pub pattern::write_elements-write_placeable-requires : goal.pattern::write_elements-write_placeable-requires
+pattern::write_elements-write_placeable-requires g t c = ?
+
+pub pattern::write_elements-returns-after-loop-element-clause-memory : goal.pattern::write_elements-returns-after-loop-element-clause-memory
+pattern::write_elements-returns-after-loop-element-clause-memory g t c = ?
+
+pub pattern::write_elements-returns-then-dirty-clause-memory : goal.pattern::write_elements-returns-then-dirty-clause-memory
+pattern::write_elements-returns-then-dirty-clause-memory g t c = ?
+
+pub pattern::write_pattern-write_elements-written-requires : goal.pattern::write_pattern-write_elements-written-requires
+pattern::write_pattern-write_elements-written-requires g t c = ?
+
+pub pattern::write_placeable-write_expression-requires : goal.pattern::write_placeable-write_expression-requires
+pattern::write_placeable-write_expression-requires g t c = ?
