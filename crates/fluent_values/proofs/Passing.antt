@@ -176,7 +176,7 @@ entered_counts c n t = same_tally refl (counted_max c.longest n t.longest) (one_
     one_more : (x y : ℕ) → counted (counted (x + 1) + y) ≡ counted (x + (y + 1))
     one_more x y = omega arith
 
-at_true : {P : Type 0} {r : Bool} → r ≡ true → OnTrue r P → P
+pub at_true : {P : Type 0} {r : Bool} → r ≡ true → OnTrue r P → P
 at_true {P = P} h k = subst (λ r. OnTrue r P) h k
 
 at_false : {P : Type 0} {r : Bool} → r ≡ false → OnFalse r P → P
