@@ -482,15 +482,6 @@ pattern::write_elements-put_changed-requires-text-text g t c = search rules
 pub pattern::write_elements-loop-element-smaller : goal.pattern::write_elements-loop-element-smaller
 pattern::write_elements-loop-element-smaller g t c = search rules
 
-pub arguments::resolve_positional-offset_bounds-arguments-argument-index : goal.arguments::resolve_positional-offset_bounds-arguments-argument-index
-arguments::resolve_positional-offset_bounds-arguments-argument-index g t c = search rules
-
-pub arguments::resolve_named-offset_bounds-arguments-argument-index : goal.arguments::resolve_named-offset_bounds-arguments-argument-index
-arguments::resolve_named-offset_bounds-arguments-argument-index g t c = search rules
-
-pub arguments::resolve_named-fact_in-set : goal.arguments::resolve_named-fact_in-set
-arguments::resolve_named-fact_in-set g t c = search rules
-
 pub arguments::resolve-resolve_call-requires : goal.arguments::resolve-resolve_call-requires
 arguments::resolve-resolve_call-requires g t c =
     let a = status g.B.Context.meant g.B.Context.is_plain g.F.FluentFunction.answer g.C.FluentType.content c.args.scope.now in
