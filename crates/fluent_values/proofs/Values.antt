@@ -181,6 +181,9 @@ gathers_none a all = record { value = refl; passed = passed_none a (trace all) }
 pub gathers_as : {X : Type 0} {all rest rest' : Worked (List X)} {out : List X} {a b : Status} → rest ≡ rest' → Gathers all rest out a b → Gathers all rest' out a b
 gathers_as {all = all} {out = out} {a = a} {b = b} h g = subst (λ rest. Gathers all rest out a b) h g
 
+pub gathers_same : {X : Type 0} {all rest : Worked (List X)} {out out' : List X} {a b : Status} → out ≡ out' → Gathers all rest out a b → Gathers all rest out' a b
+gathers_same {all = all} {rest = rest} {a = a} {b = b} h g = subst (λ out. Gathers all rest out a b) h g
+
 -- one more, whose rest follows
 pub gathers_part : {A X S E : Type 0} {q : Result S E} {see : S → A} {all : Worked (List X)} {out : List X} {a b c : Status} {walk : Walk A} (k : A → Budget → Worked (List X)) (g : Got q see walk b c) → Gathers all (and_then (walked a walk b.budget) k) out a b → Gathers all (and_then g.left k) out a c
 gathers_part {all = all} {out = out} {a = a} {b = b} {c = c} {walk = walk} k g j =
@@ -214,3 +217,6 @@ gathers_stops walk {walk' = walk'} {rest = rest} {out = out} {a = a} {b = b} g i
   toward = record { value = ap g h.value ∙ sym (ap (λ m. m.ran.value) means); passed = subst (λ t. Passed t (trace rest) a b) (sym (ap trace means)) h.passed };
   done = never_if _ is;
 }
+
+pub gathers_stops_as : {X Y S T E : Type 0} {q : Result S E} {r : Result T E} {e : E} {see : T → Y} (walk : Walk (List X)) {walk' : Walk Y} {rest : Worked (List X)} {out : List X} {a b : Status} (g : List X → Y) → q ≡ Err e → r ≡ Err e → from_here a walk' ≡ mapping g (from_here a walk) → Gathers (from_here a walk) rest out a b → Got r see walk' a b
+gathers_stops_as walk g was is means h = gathers_stops walk g is means h

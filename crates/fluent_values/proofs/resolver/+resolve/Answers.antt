@@ -4,7 +4,7 @@ use Rattle.fluent_text.specs.Escapes.{unescaped}
 use Rattle.fluent_tree.specs.Fallback.{fallback, fallback_of, in_braces}
 use Rattle.fluent_tree.specs.Tree.{placeable, variants_of, pattern_of}
 use Rattle.fluent_tree.specs.View.{inline_view, expression_view, pattern_view, element_view, variant_view, attribute_of, call_of, arguments_view}
-use Rattle.fluent_meaning.specs.Arguments.{get}
+use Rattle.fluent_meaning.specs.Arguments.{get, set, set_all}
 use Rattle.fluent_meaning.specs.Bundle.{goes_to, message_target, term_target, shown, function_found}
 use Rattle.fluent_meaning.specs.Errors.{resolver_error, cyclic, missing_default, too_many_placeables}
 use Rattle.fluent_meaning.specs.Meaning.{first_mark, last_mark, at_most, ending}
@@ -20,9 +20,9 @@ use Rattle.fluent_values.proofs.Along.{starts, turns, passes, put, puts_last, ta
 use Rattle.fluent_values.proofs.Cases.{sequence, prepend, unmarked, closing, opening, part_opens, part_strikes, tells, written_string, written_number, written_message, written_nested, resolved_number, resolved_string, resolved_function, local_none, local_some}
 use Rattle.fluent_values.proofs.Outputs.{still}
 use Rattle.fluent_values.proofs.Passing.{passed_still, passed_counts, keeps_elsewhere, keeps_around, keeps_back, opened_counts, entered_counts, opened_on, struck_same}
-use Rattle.fluent_values.proofs.Steps.{inline_at, select_at, choosing, choosing_at, cyclic_at, entered_at, begun_at, back, term_at, inside, inside_at, going, wholing, elementing, following, giving, giving_all, giving_text, giving_placeable, giving_end, giving_struck, next_of, none_left, no_placeable, expressing, writing, resolving, locals, valued}
+use Rattle.fluent_values.proofs.Steps.{inline_at, select_at, choosing, choosing_at, cyclic_at, entered_at, begun_at, back, term_at, inside, inside_at, going, wholing, elementing, following, giving, giving_all, giving_text, giving_placeable, giving_end, giving_struck, next_of, none_left, no_placeable, expressing, writing, resolving, locals, valued, place_walk, label_walk, placing_next, placing_end, placing_more, labelled, labelling_next, labelling_end, labelling_more, named_in, naming_after, pairing, calling_at, set_all_next}
 use Rattle.fluent_values.proofs.Took.{took_same}
-use Rattle.fluent_values.proofs.Values.{gave_outward, asks, ask_stops, misses, begins, reads, gets, gets_part, got_if, got_as, got_part, got_part_as, misses_as, rests_memory, rests_same, rests_err, rests_ok, rests_on}
+use Rattle.fluent_values.proofs.Values.{gave_outward, asks, ask_stops, misses, begins, reads, gets, gets_part, got, got_if, got_as, got_part, got_part_as, misses_as, rests_memory, rests_same, rests_err, rests_ok, rests_on, gathers_none, gathers_as, gathers_same, gathers_one, gathers_part, gathers_all, gathers_stops, gathers_stops_as}
 use Rattle.fluent_values.proofs.Views.{view_pattern, view_text_in, view_placeable_in, view_string_in, view_number_in, view_message_in, view_nested_in, view_function_in}
 use Rattle.fluent_meaning.specs.Value.{text_value}
 use Rattle.fluent_text.specs.declared.counting.WriteFault.TheVariants as fault
@@ -426,3 +426,128 @@ arguments::resolve_local-returns-in_ok-_positional-in-Some g t c =
     let a = status g.B.Context.meant g.B.Context.is_plain g.F.FluentFunction.answer g.C.FluentType.content c.args.scope.now in
     let means = ap (λ o. from_here a (locals (call_of (option_map arguments_view o)))) c.in-Some.is ∙ local_some a.bundle (work a.bundle) a.environment (on_path a.path) (arguments_view c.in-Some.arguments) a.budget in
     record { got = got_as (λ p. p.1) c.in_ok-_positional-in-Some.was refl means c.resolve_call.ensures.got; rests = rests_ok c.in_ok-_positional-in-Some.was c.resolve_call.ensures.rests }
+
+pub arguments::resolve_call-returns-in_err-positional : goal.arguments::resolve_call-returns-in_err-positional
+arguments::resolve_call-returns-in_err-positional g t c =
+    let a = status g.B.Context.meant g.B.Context.is_plain g.F.FluentFunction.answer g.C.FluentType.content c.args.scope.now in
+    let ns = named_in c.args.arguments.now in
+    let means = calling_at a c.args.arguments.now c.deref.result.now ns a.budget c.deref.ensures.value refl in
+    record { got = misses_as c.in_err-positional.was (search rules) (gets_part (naming_after a ns) c.resolve_positional.ensures.got (reads means (begins a _))); rests = rests_err c.in_err-positional.was (search rules) c.resolve_positional.ensures.rests }
+
+pub arguments::resolve_call-returns-in_err-named : goal.arguments::resolve_call-returns-in_err-named
+arguments::resolve_call-returns-in_err-named g t c =
+    let a = status g.B.Context.meant g.B.Context.is_plain g.F.FluentFunction.answer g.C.FluentType.content c.args.scope.now in
+    let ns = c.deref-2.result.now in
+    let means = calling_at a c.args.arguments.now c.deref.result.now ns a.budget c.deref.ensures.value c.deref-2.ensures.value in
+    let first = gets (naming_after a ns) c.in_ok-positional.was c.resolve_positional.ensures.got (reads means (begins a _)) in
+    let vs = map (value_view g.C.FluentType.content) c.in_ok-positional.positional.items in
+    record { got = misses_as c.in_err-named.was (search rules) (gets_part (pairing vs) c.resolve_named.ensures.got first); rests = rests_on (rests_ok {T = Unit {0}} {x = tt} c.in_ok-positional.was c.resolve_positional.ensures.rests) (rests_err c.in_err-named.was (search rules) c.resolve_named.ensures.rests) }
+
+pub arguments::resolve_call-returns : goal.arguments::resolve_call-returns
+arguments::resolve_call-returns g t c =
+    let a = status g.B.Context.meant g.B.Context.is_plain g.F.FluentFunction.answer g.C.FluentType.content c.args.scope.now in
+    let ns = c.deref-2.result.now in
+    let means = calling_at a c.args.arguments.now c.deref.result.now ns a.budget c.deref.ensures.value c.deref-2.ensures.value in
+    let first = gets (naming_after a ns) c.in_ok-positional.was c.resolve_positional.ensures.got (reads means (begins a _)) in
+    let vs = map (value_view g.C.FluentType.content) c.in_ok-positional.positional.items in
+    record { got = got (c.in_ok-positional.positional, c.in_ok-named.named) (gets (pairing vs) c.in_ok-named.was c.resolve_named.ensures.got first); rests = rests_on (rests_ok {T = Unit {0}} {x = tt} c.in_ok-positional.was c.resolve_positional.ensures.rests) (rests_ok c.in_ok-named.was c.resolve_named.ensures.rests) }
+
+pub arguments::resolve_positional-loop-argument-init : goal.arguments::resolve_positional-loop-argument-init
+arguments::resolve_positional-loop-argument-init g t c =
+    let a = status g.B.Context.meant g.B.Context.is_plain g.F.FluentFunction.answer g.C.FluentType.content c.args.scope.now in
+    record { gathers = gathers_same (ap (map (value_view g.C.FluentType.content)) (sym c.new-values.ensures.items)) (gathers_none a _); rests = rests_same _ }
+
+pub arguments::resolve_positional-loop-argument-preserved : goal.arguments::resolve_positional-loop-argument-preserved
+arguments::resolve_positional-loop-argument-preserved g t c =
+    let a = status g.B.Context.meant g.B.Context.is_plain g.F.FluentFunction.answer g.C.FluentType.content c.args.scope.now in
+    let b = status g.B.Context.meant g.B.Context.is_plain g.F.FluentFunction.answer g.C.FluentType.content c.loop-argument.scope in
+    let x = c.argument-item.result in
+    let rest = drop (c.loop-argument.argument-index + 1) c.args.arguments.now in
+    let next = next_of c.args.arguments.now c.loop-argument.argument-index x c.loop-argument-test.true c.argument-item.is in
+    let before = c.loop-argument.invariant in
+    let here = gathers_as (placing_next a _ rest x b.budget next) before.gathers in
+    let one = gathers_one (λ v. v) (λ n. walked a (place_walk rest) n) c.in_ok-value.was c.resolve.ensures.got here in
+    record { gathers = gathers_same (sym c.in_ok-push_value.ensures) one; rests = rests_on before.rests (rests_ok c.in_ok-value.was c.resolve.ensures.rests) }
+
+pub arguments::resolve_positional-returns-in_err-value : goal.arguments::resolve_positional-returns-in_err-value
+arguments::resolve_positional-returns-in_err-value g t c =
+    let a = status g.B.Context.meant g.B.Context.is_plain g.F.FluentFunction.answer g.C.FluentType.content c.args.scope.now in
+    let b = status g.B.Context.meant g.B.Context.is_plain g.F.FluentFunction.answer g.C.FluentType.content c.loop-argument.scope in
+    let x = c.argument-item.result in
+    let rest = drop (c.loop-argument.argument-index + 1) c.args.arguments.now in
+    let next = next_of c.args.arguments.now c.loop-argument.argument-index x c.loop-argument-test.true c.argument-item.is in
+    let before = c.loop-argument.invariant in
+    let here = gathers_as (placing_next a _ rest x b.budget next) before.gathers in
+    record { got = gathers_stops_as (place_walk c.args.arguments.now) (λ vs. vs) c.in_err-value.was (search rules) refl (gathers_part (placing_more a rest) c.resolve.ensures.got here); rests = rests_on before.rests (rests_err c.in_err-value.was (search rules) c.resolve.ensures.rests) }
+
+pub arguments::resolve_positional-returns-in_err-push_value : goal.arguments::resolve_positional-returns-in_err-push_value
+arguments::resolve_positional-returns-in_err-push_value g t c =
+    let a = status g.B.Context.meant g.B.Context.is_plain g.F.FluentFunction.answer g.C.FluentType.content c.args.scope.now in
+    let b = status g.B.Context.meant g.B.Context.is_plain g.F.FluentFunction.answer g.C.FluentType.content c.loop-argument.scope in
+    let x = c.argument-item.result in
+    let rest = drop (c.loop-argument.argument-index + 1) c.args.arguments.now in
+    let next = next_of c.args.arguments.now c.loop-argument.argument-index x c.loop-argument-test.true c.argument-item.is in
+    let before = c.loop-argument.invariant in
+    let here = gathers_as (placing_next a _ rest x b.budget next) before.gathers in
+    let one = gathers_one (λ v. v) (λ n. walked a (place_walk rest) n) c.in_ok-value.was c.resolve.ensures.got here in
+    record { got = gathers_stops {e = fault.Memory} (place_walk c.args.arguments.now) (λ vs. vs) (search rules) refl one; rests = rests_on (rests_on before.rests (rests_ok {T = Unit {0}} {x = tt} c.in_ok-value.was c.resolve.ensures.rests)) (rests_memory _ (search rules)) }
+
+pub arguments::resolve_positional-returns : goal.arguments::resolve_positional-returns
+arguments::resolve_positional-returns g t c =
+    let a = status g.B.Context.meant g.B.Context.is_plain g.F.FluentFunction.answer g.C.FluentType.content c.args.scope.now in
+    let b = status g.B.Context.meant g.B.Context.is_plain g.F.FluentFunction.answer g.C.FluentType.content c.loop-argument.scope in
+    let before = c.loop-argument.invariant in
+    let none = none_left c.args.arguments.now c.loop-argument.argument-index c.loop-argument-test.false in
+    record { got = gathers_all (place_walk c.args.arguments.now) (λ vs. vs) c.loop-argument.values refl refl (gathers_as (placing_end a _ b.budget none) before.gathers); rests = rests_ok {v = tt} refl before.rests }
+
+pub arguments::resolve_named-loop-argument-init : goal.arguments::resolve_named-loop-argument-init
+arguments::resolve_named-loop-argument-init g t c =
+    let a = status g.B.Context.meant g.B.Context.is_plain g.F.FluentFunction.answer g.C.FluentType.content c.args.scope.now in
+    record { done = []; is = c.new-values.ensures; gathers = gathers_none a _; rests = rests_same _ }
+
+pub arguments::resolve_named-loop-argument-preserved : goal.arguments::resolve_named-loop-argument-preserved
+arguments::resolve_named-loop-argument-preserved g t c =
+    let a = status g.B.Context.meant g.B.Context.is_plain g.F.FluentFunction.answer g.C.FluentType.content c.args.scope.now in
+    let b = status g.B.Context.meant g.B.Context.is_plain g.F.FluentFunction.answer g.C.FluentType.content c.loop-argument.scope in
+    let x = c.argument-item.result in
+    let k = x.name.name.now in
+    let rest = drop (c.loop-argument.argument-index + 1) c.args.arguments.now in
+    let next = next_of c.args.arguments.now c.loop-argument.argument-index x c.loop-argument-test.true c.argument-item.is in
+    let before = c.loop-argument.invariant in
+    let here = gathers_as (labelling_next a _ rest x b.budget next) before.gathers in
+    let v = value_view g.C.FluentType.content c.in_ok-value.value in
+    let one = gathers_one (labelled k) (λ n. walked a (label_walk rest) n) c.in_ok-value.was c.resolve.ensures.got here in
+    record { done = before.done ++ labelled k v ∷ []; is = c.in_ok-set.ensures.ok ∙ ap (set k v) before.is ∙ sym (set_all_next before.done k v []); gathers = one; rests = rests_on before.rests (rests_ok c.in_ok-value.was c.resolve.ensures.rests) }
+
+pub arguments::resolve_named-returns-in_err-value : goal.arguments::resolve_named-returns-in_err-value
+arguments::resolve_named-returns-in_err-value g t c =
+    let a = status g.B.Context.meant g.B.Context.is_plain g.F.FluentFunction.answer g.C.FluentType.content c.args.scope.now in
+    let b = status g.B.Context.meant g.B.Context.is_plain g.F.FluentFunction.answer g.C.FluentType.content c.loop-argument.scope in
+    let x = c.argument-item.result in
+    let k = x.name.name.now in
+    let rest = drop (c.loop-argument.argument-index + 1) c.args.arguments.now in
+    let next = next_of c.args.arguments.now c.loop-argument.argument-index x c.loop-argument-test.true c.argument-item.is in
+    let before = c.loop-argument.invariant in
+    let here = gathers_as (labelling_next a _ rest x b.budget next) before.gathers in
+    record { got = gathers_stops_as (label_walk c.args.arguments.now) (λ m. set_all m []) c.in_err-value.was (search rules) refl (gathers_part (labelling_more a rest k) c.resolve.ensures.got here); rests = rests_on before.rests (rests_err c.in_err-value.was (search rules) c.resolve.ensures.rests) }
+
+pub arguments::resolve_named-returns-in_err-set : goal.arguments::resolve_named-returns-in_err-set
+arguments::resolve_named-returns-in_err-set g t c =
+    let a = status g.B.Context.meant g.B.Context.is_plain g.F.FluentFunction.answer g.C.FluentType.content c.args.scope.now in
+    let b = status g.B.Context.meant g.B.Context.is_plain g.F.FluentFunction.answer g.C.FluentType.content c.loop-argument.scope in
+    let x = c.argument-item.result in
+    let k = x.name.name.now in
+    let rest = drop (c.loop-argument.argument-index + 1) c.args.arguments.now in
+    let next = next_of c.args.arguments.now c.loop-argument.argument-index x c.loop-argument-test.true c.argument-item.is in
+    let before = c.loop-argument.invariant in
+    let here = gathers_as (labelling_next a _ rest x b.budget next) before.gathers in
+    let one = gathers_one (labelled k) (λ n. walked a (label_walk rest) n) c.in_ok-value.was c.resolve.ensures.got here in
+    record { got = gathers_stops {e = fault.Memory} (label_walk c.args.arguments.now) (λ m. set_all m []) (search rules) refl one; rests = rests_on (rests_on before.rests (rests_ok {T = Unit {0}} {x = tt} c.in_ok-value.was c.resolve.ensures.rests)) (rests_memory _ (search rules)) }
+
+pub arguments::resolve_named-returns : goal.arguments::resolve_named-returns
+arguments::resolve_named-returns g t c =
+    let a = status g.B.Context.meant g.B.Context.is_plain g.F.FluentFunction.answer g.C.FluentType.content c.args.scope.now in
+    let b = status g.B.Context.meant g.B.Context.is_plain g.F.FluentFunction.answer g.C.FluentType.content c.loop-argument.scope in
+    let before = c.loop-argument.invariant in
+    let none = none_left c.args.arguments.now c.loop-argument.argument-index c.loop-argument-test.false in
+    record { got = gathers_all (label_walk c.args.arguments.now) (λ m. set_all m []) c.loop-argument.values before.is refl (gathers_as (labelling_end a _ b.budget none) before.gathers); rests = rests_ok {v = tt} refl before.rests }
