@@ -25,6 +25,7 @@ use Rattle.fluent_values.proofs.Took.{took_same}
 use Rattle.fluent_values.proofs.Values.{gave_outward, asks, ask_stops, misses, begins, reads, gets, gets_part, got, got_if, got_as, got_part, got_part_as, misses_as, rests_memory, rests_same, rests_err, rests_ok, rests_on, gathers_none, gathers_as, gathers_same, gathers_one, gathers_part, gathers_all, gathers_stops, gathers_stops_as}
 use Rattle.fluent_values.proofs.Views.{view_pattern, view_text_in, view_placeable_in, view_string_in, view_number_in, view_message_in, view_nested_in, view_function_in}
 use Rattle.fluent_meaning.specs.Value.{text_value}
+use borrow.Author.Count.{falls}
 use Rattle.fluent_text.specs.declared.counting.WriteFault.TheVariants as fault
 use Rattle.fluent_values.proofs.resolver.+resolve.Goals as goal
 
@@ -551,3 +552,18 @@ arguments::resolve_named-returns g t c =
     let before = c.loop-argument.invariant in
     let none = none_left c.args.arguments.now c.loop-argument.argument-index c.loop-argument-test.false in
     record { got = gathers_all (label_walk c.args.arguments.now) (λ m. set_all m []) c.loop-argument.values before.is refl (gathers_as (labelling_end a _ b.budget none) before.gathers); rests = rests_ok {v = tt} refl before.rests }
+
+pub arguments::resolve_positional-offset_bounds-arguments-argument-index : goal.arguments::resolve_positional-offset_bounds-arguments-argument-index
+arguments::resolve_positional-offset_bounds-arguments-argument-index g t c = search rules
+
+pub arguments::resolve_positional-loop-argument-smaller : goal.arguments::resolve_positional-loop-argument-smaller
+arguments::resolve_positional-loop-argument-smaller g t c = falls _ _ c.loop-argument-test.true
+
+pub arguments::resolve_named-offset_bounds-arguments-argument-index : goal.arguments::resolve_named-offset_bounds-arguments-argument-index
+arguments::resolve_named-offset_bounds-arguments-argument-index g t c = search rules
+
+pub arguments::resolve_named-loop-argument-smaller : goal.arguments::resolve_named-loop-argument-smaller
+arguments::resolve_named-loop-argument-smaller g t c = falls _ _ c.loop-argument-test.true
+
+pub arguments::resolve_named-fact_in-set : goal.arguments::resolve_named-fact_in-set
+arguments::resolve_named-fact_in-set g t c = search rules
