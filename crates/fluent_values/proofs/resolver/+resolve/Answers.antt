@@ -20,9 +20,9 @@ use Rattle.fluent_values.proofs.Along.{starts, turns, passes, put, puts_last, ta
 use Rattle.fluent_values.proofs.Cases.{sequence, prepend, unmarked, closing, opening, part_opens, part_strikes, tells, written_string, written_number, written_message, written_nested, resolved_number, resolved_string, resolved_function, local_none, local_some}
 use Rattle.fluent_values.proofs.Outputs.{still}
 use Rattle.fluent_values.proofs.Passing.{passed_still, passed_counts, keeps_elsewhere, keeps_around, keeps_back, opened_counts, entered_counts, opened_on, struck_same}
-use Rattle.fluent_values.proofs.Steps.{inline_at, select_at, choosing, choosing_at, cyclic_at, entered_at, begun_at, back, term_at, inside, inside_at, going, wholing, elementing, following, giving, giving_all, giving_text, giving_placeable, giving_end, giving_struck, next_of, none_left, no_placeable, expressing, writing, resolving, locals, valued}
+use Rattle.fluent_values.proofs.Steps.{inline_at, select_at, choosing, choosing_at, cyclic_at, entered_at, begun_at, back, term_at, inside, inside_at, function_at, answering, answered_value, calling, going, wholing, elementing, following, giving, giving_all, giving_text, giving_placeable, giving_end, giving_struck, next_of, none_left, no_placeable, expressing, writing, resolving, locals, valued}
 use Rattle.fluent_values.proofs.Took.{took_same}
-use Rattle.fluent_values.proofs.Values.{gave_outward, asks, ask_stops, misses, begins, reads, gets, gets_part, got_if, got_as, got_part, got_part_as, misses_as, rests_memory, rests_same, rests_err, rests_ok, rests_on}
+use Rattle.fluent_values.proofs.Values.{by_buffer, as_got, beside_rests, got, gave_outward, asks, ask_stops, misses, begins, reads, gets, gets_part, got_if, got_as, got_part, got_part_as, misses_as, rests_memory, rests_same, rests_err, rests_ok, rests_on}
 use Rattle.fluent_values.proofs.Views.{view_pattern, view_text_in, view_placeable_in, view_string_in, view_number_in, view_message_in, view_nested_in, view_function_in}
 use Rattle.fluent_meaning.specs.Value.{text_value}
 use Rattle.fluent_text.specs.declared.counting.WriteFault.TheVariants as fault
@@ -426,3 +426,75 @@ arguments::resolve_local-returns-in_ok-_positional-in-Some g t c =
     let a = status g.B.Context.meant g.B.Context.is_plain g.F.FluentFunction.answer g.C.FluentType.content c.args.scope.now in
     let means = ap (λ o. from_here a (locals (call_of (option_map arguments_view o)))) c.in-Some.is ∙ local_some a.bundle (work a.bundle) a.environment (on_path a.path) (arguments_view c.in-Some.arguments) a.budget in
     record { got = got_as (λ p. p.1) c.in_ok-_positional-in-Some.was refl means c.resolve_call.ensures.got; rests = rests_ok c.in_ok-_positional-in-Some.was c.resolve_call.ensures.rests }
+
+pub inline_expression::write_inline-returns-in_err-positional-in-FunctionReference : goal.inline_expression::write_inline-returns-in_err-positional-in-FunctionReference
+inline_expression::write_inline-returns-in_err-positional-in-FunctionReference g t c =
+    let a = status g.B.Context.meant g.B.Context.is_plain g.F.FluentFunction.answer g.C.FluentType.content c.args.scope.now in
+    let out = c.args.out.now in
+    let x = inline_view c.args.inline.now in
+    let m = c.in-FunctionReference.id.name.now in
+    let k = arguments_view c.in-FunctionReference.arguments in
+    let gave = gave_outward g.W.Write.contents out.writer.ghost_name out.buffer.ghost_name out.writer.now c.resolve_call.new.w out.buffer.now out.is_buffered c.resolve_call.ensures in
+    let begun = turns (function_at a x m k a.budget (view_function_in c.args.inline.now c.in-FunctionReference.id c.in-FunctionReference.arguments c.in-FunctionReference.is)) (starts a _ _) in
+    ask_stops (λ p. walked a (answering x m p.0 p.1)) c.in_err-positional-in-FunctionReference.was (search rules) gave begun
+
+pub inline_expression::write_inline-returns-in_ok-positional-in-FunctionReference : goal.inline_expression::write_inline-returns-in_ok-positional-in-FunctionReference
+inline_expression::write_inline-returns-in_ok-positional-in-FunctionReference g t c =
+    let a = status g.B.Context.meant g.B.Context.is_plain g.F.FluentFunction.answer g.C.FluentType.content c.args.scope.now in
+    let out = c.args.out.now in
+    let x = inline_view c.args.inline.now in
+    let m = c.in-FunctionReference.id.name.now in
+    let k = arguments_view c.in-FunctionReference.arguments in
+    let gave = gave_outward g.W.Write.contents out.writer.ghost_name out.buffer.ghost_name out.writer.now c.resolve_call.new.w out.buffer.now out.is_buffered c.resolve_call.ensures in
+    let begun = turns (function_at a x m k a.budget (view_function_in c.args.inline.now c.in-FunctionReference.id c.in-FunctionReference.arguments c.in-FunctionReference.is)) (starts a _ _) in
+    let asked = asks (λ p. walked a (answering x m p.0 p.1)) c.in_ok-positional-in-FunctionReference.was gave begun in
+    ?
+
+pub inline_expression::write_term-returns-in_err-local : goal.inline_expression::write_term-returns-in_err-local
+inline_expression::write_term-returns-in_err-local g t c =
+    let a = status g.B.Context.meant g.B.Context.is_plain g.F.FluentFunction.answer g.C.FluentType.content c.args.scope.now in
+    let out = c.args.out.now in
+    let x = inline_view c.args.inline.now in
+    let id = c.args.id.now.name.now in
+    let at = attribute_of c.args.attribute.now in
+    let k = call_of (option_map arguments_view c.args.arguments.now) in
+    let gave = gave_outward g.W.Write.contents out.writer.ghost_name out.buffer.ghost_name out.writer.now c.resolve_local.new.w out.buffer.now out.is_buffered c.resolve_local.ensures in
+    ask_stops (inside a x id at) c.in_err-local.was (search rules) gave (turns (term_at a x id at k a.budget c.requires) (starts a _ _))
+
+pub inline_expression::write_term-returns : goal.inline_expression::write_term-returns
+inline_expression::write_term-returns g t c =
+    let a = status g.B.Context.meant g.B.Context.is_plain g.F.FluentFunction.answer g.C.FluentType.content c.args.scope.now in
+    let out = c.args.out.now in
+    let x = inline_view c.args.inline.now in
+    let id = c.args.id.now.name.now in
+    let at = attribute_of c.args.attribute.now in
+    let k = call_of (option_map arguments_view c.args.arguments.now) in
+    let gave = gave_outward g.W.Write.contents out.writer.ghost_name out.buffer.ghost_name out.writer.now c.resolve_local.new.w out.buffer.now out.is_buffered c.resolve_local.ensures in
+    let asked = asks (inside a x id at) c.in_ok-local.was gave (turns (term_at a x id at k a.budget c.requires) (starts a _ _)) in
+    let kept = c.resolve_local.ensures.got.toward.passed.keeps in
+    let w = c.follow-written.ensures in
+    ?
+
+pub arguments::write_beside-returns : goal.arguments::write_beside-returns
+arguments::write_beside-returns g t c =
+    let a = status g.B.Context.meant g.B.Context.is_plain g.F.FluentFunction.answer g.C.FluentType.content c.args.scope.now in
+    ?
+
+pub arguments::resolve-returns-in_ok-answer-in-FunctionReference : goal.arguments::resolve-returns-in_ok-answer-in-FunctionReference
+arguments::resolve-returns-in_ok-answer-in-FunctionReference g t c =
+    let a = status g.B.Context.meant g.B.Context.is_plain g.F.FluentFunction.answer g.C.FluentType.content c.args.scope.now in
+    let m = c.in-FunctionReference.id.name.now in
+    let k = valued a m in
+    let means = ap (λ x. from_here a (resolving x)) (view_function_in c.args.inline.now c.in-FunctionReference.id c.in-FunctionReference.arguments c.in-FunctionReference.is) ∙ resolved_function a.bundle (work a.bundle) a.environment (on_path a.path) m (arguments_view c.in-FunctionReference.arguments) a.budget in
+    let gathered = gets k c.in_ok-positional-in-FunctionReference.was c.resolve_call.ensures.got (reads means (begins a _)) in
+    ?
+
+pub arguments::resolve-returns-in_err-write_beside-in_default : goal.arguments::resolve-returns-in_err-write_beside-in_default
+arguments::resolve-returns-in_err-write_beside-in_default g t c =
+    let a = status g.B.Context.meant g.B.Context.is_plain g.F.FluentFunction.answer g.C.FluentType.content c.args.scope.now in
+    ?
+
+pub arguments::resolve-returns-in_ok-write_beside-in_default : goal.arguments::resolve-returns-in_ok-write_beside-in_default
+arguments::resolve-returns-in_ok-write_beside-in_default g t c =
+    let a = status g.B.Context.meant g.B.Context.is_plain g.F.FluentFunction.answer g.C.FluentType.content c.args.scope.now in
+    ?
