@@ -1,9 +1,9 @@
 -- What each function of the resolver is to do, from its scope, as the steps of its code.
-use Rattle.std.proofs.Common.{◌≡◌, refl, sym, ap, subst, ◌∙◌, ℕ, zero, suc, ◌+◌, ◌<◌, ◌≤◌, max, length, get_or, drop, List, [], ◌∷◌, ◌++◌, Bool, true, false, Option, Some, None, map, Vec, Global, arith}
+use Rattle.std.proofs.Common.{◌≡◌, refl, sym, ap, subst, ◌∙◌, ℕ, zero, suc, ◌+◌, ◌<◌, ◌≤◌, max, length, get_or, drop, List, [], ◌∷◌, ◌++◌, Bool, true, false, Option, Some, None, map, Vec, Global, arith, unwrap_or}
 use Rattle.std.proofs.lemmas.List.{drop_more}
 use Rattle.std.specs.Option.{option_map}
 use Rattle.std.specs.Borrow.{Bor}
-use Rattle.fluent_tree.specs.Tree.{Text, Pattern, Inline, Expression, Attribute, Call, placeable, text, term, variable, pattern_of, inlines_of, nameds_of, variants_of, Element, more, Arguments}
+use Rattle.fluent_tree.specs.Tree.{Text, Pattern, Inline, Expression, Attribute, Call, Arguments, placeable, text, function, term, variable, pattern_of, inlines_of, nameds_of, variants_of, Element, more}
 use Rattle.fluent_tree.specs.Fallback.{fallback, in_braces}
 use Rattle.fluent_tree.specs.View.{pattern_view, element_view, expression_view, inline_view, named_view, variant_view, arguments_view}
 use Rattle.fluent_tree.specs.declared.ast.CallArguments as of_call
@@ -19,7 +19,7 @@ use Rattle.fluent_meaning.specs.Bundle.{Bundle, Function, Target, unknown, witho
 use Rattle.fluent_meaning.specs.Value.{Value, text_value, number_value, custom_value, no_value, error_value}
 use Rattle.fluent_meaning.specs.Errors.{resolver_error, cyclic}
 use Rattle.fluent_meaning.specs.Meaning.{Budget, struck}
-use Rattle.fluent_meaning.specs.Walk.{Environment, is_on, inner, go, whole, local_of, application, local, variables, missing, loses, variable_text, variable_value, function_text, answer_text, elements, part, expression, written, resolved, called, positional, named, follow, has_one, function_value}
+use Rattle.fluent_meaning.specs.Walk.{Environment, is_on, inner, go, whole, local_of, application, local, variables, missing, loses, variable_text, variable_value, function_text, answer_text, elements, part, expression, written, resolved, positional, named, follow, has_one, function_value, called}
 use Rattle.fluent_meaning.specs.Work.{Worked, with_work, work}
 use Rattle.fluent_values.specs.Along.{Below, Walk, walked, from_here, given, mapping, lost_of, shown_answer, Elsewhere, Starts, Ends}
 use Rattle.fluent_values.specs.Sizes.{choice, first_default}
@@ -27,8 +27,8 @@ use Rattle.fluent_values.specs.Status.{Status, on_path}
 use Rattle.fluent_values.specs.View.{value_view}
 use Rattle.fluent_values.specs.declared.types.value.FluentValue.{FluentValue}
 use Rattle.fluent_values.specs.declared.types.value.FluentValue.TheVariants as values
-use Rattle.fluent_values.proofs.Cases.{sequence, prepend, and_then, and_then_is, then_give, called_is, elements_end, elements_struck, elements_more, part_text, positional_none, positional_more, named_none, named_more, given_first, tells, loses_is, written_variable, variable_text_some, variable_text_none, missing_application, missing_local, resolved_variable, variable_value_some, variable_value_none, function_text_none, function_text_some, expression_inline, expression_select, chosen, chosen_is, meant, entering, go_cyclic, go_entered, whole_is, written_term}
-use Rattle.fluent_values.proofs.Views.{view_pattern, view_named, view_arguments, view_in, view_select_in}
+use Rattle.fluent_values.proofs.Cases.{sequence, prepend, and_then, elements_end, elements_struck, elements_more, part_text, positional_none, positional_more, named_none, named_more, given_first, tells, loses_is, written_variable, variable_text_some, variable_text_none, missing_application, missing_local, resolved_variable, variable_value_some, variable_value_none, function_text_none, function_text_some, expression_inline, expression_select, chosen, chosen_is, meant, entering, go_cyclic, go_entered, whole_is, written_term, written_function, and_then_is, then_give, called_is}
+use Rattle.fluent_values.proofs.Views.{view_pattern, view_named, view_in, view_select_in, view_arguments}
 use Rattle.fluent_values.specs.Texts.{IsText}
 
 -- LISTS
@@ -130,6 +130,7 @@ pairing vs m b = given (vs, m) b
 abbrev pub naming_after : Status → List of_named.NamedArgument → List (Value Text) → Budget → Worked (List (Value Text) × Map (Value Text))
 naming_after a ns vs b = and_then (walked a (naming ns) b) (pairing vs)
 
+-- the values of a call's arguments
 abbrev pub calling : Arguments → Walk (List (Value Text) × Map (Value Text))
 calling x s f env path = called with_work s f env path x
 
@@ -379,3 +380,19 @@ no_placeable (y ∷ es) (suc i) e x t h is p = no_placeable es i e x (rest_text 
 -- what is resolved of a function's answer
 abbrev pub valued : Status → Text → List (Value Text) × Map (Value Text) → Budget → Worked (Value Text)
 valued a id p b = given (function_value with_work a.bundle (work a.bundle) a.environment (function_found (get id a.bundle.ids)) p.0 p.1) b
+
+-- what is written of a function is made of the values of its arguments
+pub function_at : (a : Status) (x : Inline) (id : Text) (k : Arguments) (b : Budget) → x ≡ function id k → walked a (writing x) b ≡ and_then (walked a (calling k) b) (λ p. walked a (answering x id p.0 p.1))
+function_at a x id k b h =
+    subst (λ x. walked a (writing x) b ≡ and_then (walked a (calling k) b) (λ p. walked a (answering x id p.0 p.1))) (sym h)
+    (written_function a.bundle (work a.bundle) a.environment (on_path a.path) id k b)
+
+-- the value of a function's answer, an error where there is none
+pub answered_value : {C : Type 0} (content : C → Text) (a : Status) (id : Text) (vs : List (Value Text)) (m : Map (Value Text)) (o : Option (FluentValue C)) → option_map (value_view content) o ≡ option_map (λ g. g vs m) (function_found (get id a.bundle.ids)) → value_view content (unwrap_or o values.Error) ≡ function_value with_work a.bundle (work a.bundle) a.environment (function_found (get id a.bundle.ids)) vs m
+answered_value content a id vs m o h = by_case o (function_found (get id a.bundle.ids)) h
+  where
+    by_case : (o : Option (FluentValue _)) (q : Option (Function Text)) → option_map (value_view content) o ≡ option_map (λ g. g vs m) q → value_view content (unwrap_or o values.Error) ≡ function_value with_work a.bundle (work a.bundle) a.environment q vs m
+    by_case None None h = refl
+    by_case None (Some g) h = cc
+    by_case (Some v) None h = cc
+    by_case (Some v) (Some g) h = cc

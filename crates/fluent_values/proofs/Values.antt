@@ -15,6 +15,7 @@ use Rattle.fluent_values.specs.Along.{Walk, walked, from_here, given, mapping, T
 use Rattle.fluent_values.specs.Written.{Sink, writer, beside, at}
 use Rattle.fluent_values.proofs.Along.{asked, turns, halts, at_value}
 use Rattle.fluent_values.proofs.Cases.{tells, and_then, give_then}
+use Rattle.fluent_values.proofs.Outputs.{still}
 use Rattle.fluent_values.proofs.Took.{faulted_on}
 use Rattle.fluent_values.proofs.Passing.{moved, passed_none, passed_adds, passed_refused, passed_on}
 
@@ -167,6 +168,22 @@ beside_rests contents w w' s s' h =
     let way = h.went.along in
     let same : Some (contents w'.inner) ≡ Some (contents w.inner) = way.beside in
     record { held = cc; fault = way.fault; beside = refl; lent = refl }
+
+-- what an output with a buffer took, its buffer took, and its writer was left alone
+beside_itself : {W T : Type 0} {r : Result T WriteFault} {walk : Walk Text} {a b : Status} (contents : W → Option Text) (n n' m m' : ℕ) (w w' : Counting W) (s s' : String Global) → Wrote r walk (at contents n w m s true) (at contents n' w' m' s' true) a b → Wrote r walk (beside contents w s) (beside contents w' s') a b
+beside_itself contents n n' m m' w w' s s' h =
+    let way = h.went.along in
+    record { went = record {
+      left = h.went.left;
+      along = record { taken = way.taken; held = way.held; text = way.text; passed = way.passed; fault = way.fault; beside = way.beside; lent = refl };
+      done = h.went.done;
+    } }
+
+pub by_buffer : {W T : Type 0} {r : Result T WriteFault} {walk : Walk Text} {a b : Status} (contents : W → Option Text) (n n' m m' : ℕ) (w w' w'' : Counting W) (s s' s'' : String Global) (d : Bool) → w'' ≡ w' → s'' ≡ s' → Wrote r walk (at contents n w m s true) (at contents n' w' m' s' d) a b → Wrote r walk (beside contents w s) (beside contents w'' s'') a b
+by_buffer {r = r} {walk = walk} {a = a} {b = b} contents n n' m m' w w' w'' s s' s'' d same same' h =
+    subst (λ v. Wrote r walk (beside contents w s) (beside contents v s'') a b) (sym same)
+    (subst (λ v. Wrote r walk (beside contents w s) (beside contents w' v) a b) (sym same')
+    (beside_itself contents n n' m m' w w' s s' (subst (λ d. Wrote r walk (at contents n w m s true) (at contents n' w' m' s' d) a b) (still contents n n' m m' w w' s s' true d h.went.along.lent) h)))
 
 -- LISTS THAT A LOOP MAKES
 

@@ -16,14 +16,14 @@ use Rattle.fluent_values.specs.Sizes.{choice, first_default}
 use Rattle.fluent_values.specs.Status.{status, on_path, environment_view}
 use Rattle.fluent_values.specs.Texts.{IsText}
 use Rattle.fluent_values.specs.View.{value_view, named}
-use Rattle.fluent_values.proofs.Along.{starts, turns, passes, put, puts_last, tail, wrote, ends, halts, stops, memory_halts, refuses, adds, calls, lends, goes_on}
-use Rattle.fluent_values.proofs.Cases.{sequence, prepend, unmarked, closing, opening, part_opens, part_strikes, tells, written_string, written_number, written_message, written_nested, resolved_number, resolved_string, resolved_function, local_none, local_some}
+use Rattle.fluent_values.proofs.Along.{starts, turns, passes, put, puts_last, tail, wrote, ends, halts, stops, memory_halts, refuses, adds, calls, lends, goes_on, at_value}
+use Rattle.fluent_values.proofs.Cases.{sequence, prepend, unmarked, closing, opening, part_opens, part_strikes, tells, written_string, written_number, written_message, written_nested, resolved_number, resolved_string, resolved_function, resolved_text, local_none, local_some}
 use Rattle.fluent_values.proofs.Outputs.{still}
 use Rattle.fluent_values.proofs.Passing.{passed_still, passed_counts, keeps_elsewhere, keeps_around, keeps_back, opened_counts, entered_counts, opened_on, struck_same}
-use Rattle.fluent_values.proofs.Steps.{inline_at, select_at, choosing, choosing_at, cyclic_at, entered_at, begun_at, back, term_at, inside, inside_at, going, wholing, elementing, following, giving, giving_all, giving_text, giving_placeable, giving_end, giving_struck, next_of, none_left, no_placeable, expressing, writing, resolving, locals, valued, place_walk, label_walk, placing_next, placing_end, placing_more, labelled, labelling_next, labelling_end, labelling_more, named_in, naming_after, pairing, calling_at, set_all_next}
+use Rattle.fluent_values.proofs.Steps.{inline_at, select_at, choosing, choosing_at, cyclic_at, entered_at, begun_at, back, term_at, inside, inside_at, function_at, answering, answered_value, calling, going, wholing, elementing, following, giving, giving_all, giving_text, giving_placeable, giving_end, giving_struck, next_of, none_left, no_placeable, expressing, writing, resolving, locals, valued, place_walk, label_walk, placing_next, placing_end, placing_more, labelled, labelling_next, labelling_end, labelling_more, named_in, naming_after, pairing, calling_at, set_all_next}
 use Rattle.fluent_values.proofs.Took.{took_same}
-use Rattle.fluent_values.proofs.Values.{gave_outward, asks, ask_stops, misses, begins, reads, gets, gets_part, got, got_if, got_as, got_part, got_part_as, misses_as, rests_memory, rests_same, rests_err, rests_ok, rests_on, gathers_none, gathers_as, gathers_same, gathers_one, gathers_part, gathers_all, gathers_stops, gathers_stops_as}
-use Rattle.fluent_values.proofs.Views.{view_pattern, view_text_in, view_placeable_in, view_string_in, view_number_in, view_message_in, view_nested_in, view_function_in}
+use Rattle.fluent_values.proofs.Values.{by_buffer, as_got, beside_rests, got, gave_outward, asks, ask_stops, misses, begins, reads, gets, gets_part, got_if, got_as, got_part, got_part_as, misses_as, rests_memory, rests_same, rests_err, rests_ok, rests_on, gathers_none, gathers_as, gathers_same, gathers_one, gathers_part, gathers_all, gathers_stops, gathers_stops_as}
+use Rattle.fluent_values.proofs.Views.{view_pattern, view_text_in, view_placeable_in, view_string_in, view_number_in, view_message_in, view_nested_in, view_function_in, view_written}
 use Rattle.fluent_meaning.specs.Value.{text_value}
 use borrow.Author.Count.{falls}
 use Rattle.fluent_text.specs.declared.counting.WriteFault.TheVariants as fault
@@ -427,6 +427,109 @@ arguments::resolve_local-returns-in_ok-_positional-in-Some g t c =
     let a = status g.B.Context.meant g.B.Context.is_plain g.F.FluentFunction.answer g.C.FluentType.content c.args.scope.now in
     let means = ap (λ o. from_here a (locals (call_of (option_map arguments_view o)))) c.in-Some.is ∙ local_some a.bundle (work a.bundle) a.environment (on_path a.path) (arguments_view c.in-Some.arguments) a.budget in
     record { got = got_as (λ p. p.1) c.in_ok-_positional-in-Some.was refl means c.resolve_call.ensures.got; rests = rests_ok c.in_ok-_positional-in-Some.was c.resolve_call.ensures.rests }
+
+pub inline_expression::write_inline-returns-in_err-positional-in-FunctionReference : goal.inline_expression::write_inline-returns-in_err-positional-in-FunctionReference
+inline_expression::write_inline-returns-in_err-positional-in-FunctionReference g t c =
+    let a = status g.B.Context.meant g.B.Context.is_plain g.F.FluentFunction.answer g.C.FluentType.content c.args.scope.now in
+    let out = c.args.out.now in
+    let x = inline_view c.args.inline.now in
+    let m = c.in-FunctionReference.id.name.now in
+    let k = arguments_view c.in-FunctionReference.arguments in
+    let gave = gave_outward g.W.Write.contents out.writer.ghost_name out.buffer.ghost_name out.writer.now c.resolve_call.new.w out.buffer.now out.is_buffered c.resolve_call.ensures in
+    let begun = turns (function_at a x m k a.budget (view_function_in c.args.inline.now c.in-FunctionReference.id c.in-FunctionReference.arguments c.in-FunctionReference.is)) (starts a _ _) in
+    ask_stops (λ p. walked a (answering x m p.0 p.1)) c.in_err-positional-in-FunctionReference.was (search rules) gave begun
+
+pub inline_expression::write_inline-returns-in_ok-positional-in-FunctionReference : goal.inline_expression::write_inline-returns-in_ok-positional-in-FunctionReference
+inline_expression::write_inline-returns-in_ok-positional-in-FunctionReference g t c =
+    let a = status g.B.Context.meant g.B.Context.is_plain g.F.FluentFunction.answer g.C.FluentType.content c.args.scope.now in
+    let out = c.args.out.now in
+    let x = inline_view c.args.inline.now in
+    let m = c.in-FunctionReference.id.name.now in
+    let k = arguments_view c.in-FunctionReference.arguments in
+    let gave = gave_outward g.W.Write.contents out.writer.ghost_name out.buffer.ghost_name out.writer.now c.resolve_call.new.w out.buffer.now out.is_buffered c.resolve_call.ensures in
+    let begun = turns (function_at a x m k a.budget (view_function_in c.args.inline.now c.in-FunctionReference.id c.in-FunctionReference.arguments c.in-FunctionReference.is)) (starts a _ _) in
+    let asked = asks (λ p. walked a (answering x m p.0 p.1)) c.in_ok-positional-in-FunctionReference.was gave begun in
+    let b = status g.B.Context.meant g.B.Context.is_plain g.F.FluentFunction.answer g.C.FluentType.content c.resolve_call.new.scope in
+    let given_named = named g.C.FluentType.content c.in_ok-positional-in-FunctionReference.named in
+    wrote (tail c.put_answer.ensures (turns (ap (λ ps. walked a (answering x m (map (value_view g.C.FluentType.content) ps) given_named) b.budget) (sym c.deref.ensures.value)) asked))
+
+pub inline_expression::write_term-returns-in_err-local : goal.inline_expression::write_term-returns-in_err-local
+inline_expression::write_term-returns-in_err-local g t c =
+    let a = status g.B.Context.meant g.B.Context.is_plain g.F.FluentFunction.answer g.C.FluentType.content c.args.scope.now in
+    let out = c.args.out.now in
+    let x = inline_view c.args.inline.now in
+    let id = c.args.id.now.name.now in
+    let at = attribute_of c.args.attribute.now in
+    let k = call_of (option_map arguments_view c.args.arguments.now) in
+    let gave = gave_outward g.W.Write.contents out.writer.ghost_name out.buffer.ghost_name out.writer.now c.resolve_local.new.w out.buffer.now out.is_buffered c.resolve_local.ensures in
+    ask_stops (inside a x id at) c.in_err-local.was (search rules) gave (turns (term_at a x id at k a.budget c.requires) (starts a _ _))
+
+pub inline_expression::write_term-returns : goal.inline_expression::write_term-returns
+inline_expression::write_term-returns g t c =
+    let a = status g.B.Context.meant g.B.Context.is_plain g.F.FluentFunction.answer g.C.FluentType.content c.args.scope.now in
+    let out = c.args.out.now in
+    let x = inline_view c.args.inline.now in
+    let id = c.args.id.now.name.now in
+    let at = attribute_of c.args.attribute.now in
+    let k = call_of (option_map arguments_view c.args.arguments.now) in
+    let gave = gave_outward g.W.Write.contents out.writer.ghost_name out.buffer.ghost_name out.writer.now c.resolve_local.new.w out.buffer.now out.is_buffered c.resolve_local.ensures in
+    let asked = asks (inside a x id at) c.in_ok-local.was gave (turns (term_at a x id at k a.budget c.requires) (starts a _ _)) in
+    let kept = c.resolve_local.ensures.got.toward.passed.keeps in
+    let w = c.follow-written.ensures in
+    let b = status g.B.Context.meant g.B.Context.is_plain g.F.FluentFunction.answer g.C.FluentType.content (record c.resolve_local.new.scope { environment = c.replace-outer.new.dest }) in
+    let m = named g.C.FluentType.content c.in_ok-local.local in
+    let led = c.term-found.ensures g.F.FluentFunction.answer ∙ ap (λ s. term_target (get id s.ids) at) kept.bundle in
+    let inner = ap (environment_view g.C.FluentType.content) c.replace-outer.ensures.after in
+    let outer = ap (environment_view g.C.FluentType.content) c.replace-outer.ensures.value in
+    wrote (lends refl refl refl refl refl refl (keeps_back kept w.went.along.passed.keeps refl refl refl refl refl refl refl refl refl refl outer) w (turns (inside_at a b x id at m (found_view c.term-found.result) kept.bundle kept.path inner led) asked))
+
+pub arguments::write_beside-returns : goal.arguments::write_beside-returns
+arguments::write_beside-returns g t c =
+    let out = c.write_inline.new.out in
+    by_buffer g.W.Write.contents _ out.writer.ghost_name _ out.buffer.ghost_name c.args.w.now out.writer.now c.w-1.given.0 c.args.text.now out.buffer.now c.text-1.given.0 out.is_buffered (search rules) (search rules) c.write_inline.ensures
+
+pub arguments::resolve-returns-in_ok-answer-in-FunctionReference : goal.arguments::resolve-returns-in_ok-answer-in-FunctionReference
+arguments::resolve-returns-in_ok-answer-in-FunctionReference g t c =
+    let a = status g.B.Context.meant g.B.Context.is_plain g.F.FluentFunction.answer g.C.FluentType.content c.args.scope.now in
+    let m = c.in-FunctionReference.id.name.now in
+    let k = valued a m in
+    let means = ap (λ x. from_here a (resolving x)) (view_function_in c.args.inline.now c.in-FunctionReference.id c.in-FunctionReference.arguments c.in-FunctionReference.is) ∙ resolved_function a.bundle (work a.bundle) a.environment (on_path a.path) m (arguments_view c.in-FunctionReference.arguments) a.budget in
+    let gathered = gets k c.in_ok-positional-in-FunctionReference.was c.resolve_call.ensures.got (reads means (begins a _)) in
+    let b = status g.B.Context.meant g.B.Context.is_plain g.F.FluentFunction.answer g.C.FluentType.content c.resolve_call.new.scope in
+    let view = value_view g.C.FluentType.content in
+    let vs = map view c.in_ok-positional-in-FunctionReference.positional.items in
+    let ns = named g.C.FluentType.content c.in_ok-positional-in-FunctionReference.named in
+    let answer = c.in_ok-answer-in-FunctionReference.answer in
+    let told =
+        at_value (λ o. option_map view o ≡ option_map (λ f. f (map view c.deref.result.now) ns) (function_found (get m b.bundle.ids))) c.in_ok-answer-in-FunctionReference.was c.answer_of.ensures
+        ∙ ap (λ ps. option_map (λ f. f (map view ps) ns) (function_found (get m b.bundle.ids))) c.deref.ensures.value
+        ∙ ap (λ s. option_map (λ f. f vs ns) (function_found (get m s.ids))) c.resolve_call.ensures.got.toward.passed.keeps.bundle in
+    let same = ap view c.unwrap_or.ensures ∙ answered_value g.C.FluentType.content a m vs ns answer told in
+    record { got = got c.unwrap_or.result (reads (ap (λ y. given y b.budget) (sym same)) gathered); rests = rests_ok c.in_ok-positional-in-FunctionReference.was c.resolve_call.ensures.rests }
+
+pub arguments::resolve-returns-in_err-write_beside-in_default : goal.arguments::resolve-returns-in_err-write_beside-in_default
+arguments::resolve-returns-in_err-write_beside-in_default g t c =
+    let a = status g.B.Context.meant g.B.Context.is_plain g.F.FluentFunction.answer g.C.FluentType.content c.args.scope.now in
+    let is = view_written c.args.inline.now c.in_default.not-StringLiteral c.in_default.not-NumberLiteral c.in_default.not-FunctionReference c.in_default.not-VariableReference in
+    let means = resolved_text a.bundle (work a.bundle) a.environment (on_path a.path) (inline_view c.args.inline.now) a.budget is in
+    let w = c.args.w.now in
+    let wrote_beside = as_got g.W.Write.contents w c.write_beside.new.w c.new-text.result c.write_beside.new.text (search rules) c.write_beside.ensures in
+    record {
+      got = got_part_as text_value c.in_err-write_beside-in_default.was (search rules) means wrote_beside;
+      rests = rests_err c.in_err-write_beside-in_default.was (search rules) (beside_rests g.W.Write.contents w c.write_beside.new.w c.new-text.result c.write_beside.new.text c.write_beside.ensures);
+    }
+
+pub arguments::resolve-returns-in_ok-write_beside-in_default : goal.arguments::resolve-returns-in_ok-write_beside-in_default
+arguments::resolve-returns-in_ok-write_beside-in_default g t c =
+    let a = status g.B.Context.meant g.B.Context.is_plain g.F.FluentFunction.answer g.C.FluentType.content c.args.scope.now in
+    let is = view_written c.args.inline.now c.in_default.not-StringLiteral c.in_default.not-NumberLiteral c.in_default.not-FunctionReference c.in_default.not-VariableReference in
+    let means = resolved_text a.bundle (work a.bundle) a.environment (on_path a.path) (inline_view c.args.inline.now) a.budget is in
+    let w = c.args.w.now in
+    let wrote_beside = as_got g.W.Write.contents w c.write_beside.new.w c.new-text.result c.write_beside.new.text (search rules) c.write_beside.ensures in
+    record {
+      got = got_as text_value c.in_ok-write_beside-in_default.was refl means wrote_beside;
+      rests = rests_ok c.in_ok-write_beside-in_default.was (beside_rests g.W.Write.contents w c.write_beside.new.w c.new-text.result c.write_beside.new.text c.write_beside.ensures);
+    }
 
 pub arguments::resolve_call-returns-in_err-positional : goal.arguments::resolve_call-returns-in_err-positional
 arguments::resolve_call-returns-in_err-positional g t c =
