@@ -15,6 +15,7 @@ use Rattle.fluent_values.specs.Along.{Walk, walked, from_here, given, mapping, T
 use Rattle.fluent_values.specs.Written.{Sink, writer, beside, at}
 use Rattle.fluent_values.proofs.Along.{asked, turns, halts, at_value}
 use Rattle.fluent_values.proofs.Cases.{tells, and_then, give_then}
+use Rattle.fluent_values.proofs.Outputs.{still}
 use Rattle.fluent_values.proofs.Took.{faulted_on}
 use Rattle.fluent_values.proofs.Passing.{moved, passed_none, passed_adds, passed_refused, passed_on}
 
@@ -168,6 +169,22 @@ beside_rests contents w w' s s' h =
     let same : Some (contents w'.inner) ≡ Some (contents w.inner) = way.beside in
     record { held = cc; fault = way.fault; beside = refl; lent = refl }
 
+-- what an output with a buffer took, its buffer took, and its writer was left alone
+beside_itself : {W T : Type 0} {r : Result T WriteFault} {walk : Walk Text} {a b : Status} (contents : W → Option Text) (n n' m m' : ℕ) (w w' : Counting W) (s s' : String Global) → Wrote r walk (at contents n w m s true) (at contents n' w' m' s' true) a b → Wrote r walk (beside contents w s) (beside contents w' s') a b
+beside_itself contents n n' m m' w w' s s' h =
+    let way = h.went.along in
+    record { went = record {
+      left = h.went.left;
+      along = record { taken = way.taken; held = way.held; text = way.text; passed = way.passed; fault = way.fault; beside = way.beside; lent = refl };
+      done = h.went.done;
+    } }
+
+pub by_buffer : {W T : Type 0} {r : Result T WriteFault} {walk : Walk Text} {a b : Status} (contents : W → Option Text) (n n' m m' : ℕ) (w w' w'' : Counting W) (s s' s'' : String Global) (d : Bool) → w'' ≡ w' → s'' ≡ s' → Wrote r walk (at contents n w m s true) (at contents n' w' m' s' d) a b → Wrote r walk (beside contents w s) (beside contents w'' s'') a b
+by_buffer {r = r} {walk = walk} {a = a} {b = b} contents n n' m m' w w' w'' s s' s'' d same same' h =
+    subst (λ v. Wrote r walk (beside contents w s) (beside contents v s'') a b) (sym same)
+    (subst (λ v. Wrote r walk (beside contents w s) (beside contents w' v) a b) (sym same')
+    (beside_itself contents n n' m m' w w' s s' (subst (λ d. Wrote r walk (at contents n w m s true) (at contents n' w' m' s' d) a b) (still contents n n' m m' w w' s s' true d h.went.along.lent) h)))
+
 -- LISTS THAT A LOOP MAKES
 
 -- What was gathered, reported and counted so far, and what is still to come, are the whole.
@@ -180,6 +197,9 @@ gathers_none a all = record { value = refl; passed = passed_none a (trace all) }
 
 pub gathers_as : {X : Type 0} {all rest rest' : Worked (List X)} {out : List X} {a b : Status} → rest ≡ rest' → Gathers all rest out a b → Gathers all rest' out a b
 gathers_as {all = all} {out = out} {a = a} {b = b} h g = subst (λ rest. Gathers all rest out a b) h g
+
+pub gathers_same : {X : Type 0} {all rest : Worked (List X)} {out out' : List X} {a b : Status} → out ≡ out' → Gathers all rest out a b → Gathers all rest out' a b
+gathers_same {all = all} {rest = rest} {a = a} {b = b} h g = subst (λ out. Gathers all rest out a b) h g
 
 -- one more, whose rest follows
 pub gathers_part : {A X S E : Type 0} {q : Result S E} {see : S → A} {all : Worked (List X)} {out : List X} {a b c : Status} {walk : Walk A} (k : A → Budget → Worked (List X)) (g : Got q see walk b c) → Gathers all (and_then (walked a walk b.budget) k) out a b → Gathers all (and_then g.left k) out a c
@@ -214,3 +234,6 @@ gathers_stops walk {walk' = walk'} {rest = rest} {out = out} {a = a} {b = b} g i
   toward = record { value = ap g h.value ∙ sym (ap (λ m. m.ran.value) means); passed = subst (λ t. Passed t (trace rest) a b) (sym (ap trace means)) h.passed };
   done = never_if _ is;
 }
+
+pub gathers_stops_as : {X Y S T E : Type 0} {q : Result S E} {r : Result T E} {e : E} {see : T → Y} (walk : Walk (List X)) {walk' : Walk Y} {rest : Worked (List X)} {out : List X} {a b : Status} (g : List X → Y) → q ≡ Err e → r ≡ Err e → from_here a walk' ≡ mapping g (from_here a walk) → Gathers (from_here a walk) rest out a b → Got r see walk' a b
+gathers_stops_as walk g was is means h = gathers_stops walk g is means h

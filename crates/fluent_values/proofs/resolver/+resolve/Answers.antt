@@ -5,7 +5,7 @@ use Rattle.fluent_tree.specs.Fallback.{fallback, fallback_of, in_braces}
 use Rattle.fluent_tree.specs.Tree.{placeable, variants_of, pattern_of, inlines_of, nameds_of}
 use Rattle.fluent_tree.specs.declared.ast.CallArguments as of_call
 use Rattle.fluent_tree.specs.View.{inline_view, expression_view, pattern_view, element_view, variant_view, attribute_of, call_of, arguments_view, named_view}
-use Rattle.fluent_meaning.specs.Arguments.{get}
+use Rattle.fluent_meaning.specs.Arguments.{get, set, set_all}
 use Rattle.fluent_meaning.specs.Bundle.{goes_to, message_target, term_target, shown, function_found}
 use Rattle.fluent_meaning.specs.Errors.{resolver_error, cyclic, missing_default, too_many_placeables}
 use Rattle.fluent_meaning.specs.Meaning.{first_mark, last_mark, at_most, ending, struck}
@@ -17,16 +17,17 @@ use Rattle.fluent_values.specs.Sizes.{choice, first_default, size, bound, IsBelo
 use Rattle.fluent_values.specs.Status.{status, on_path, environment_view}
 use Rattle.fluent_values.specs.Texts.{IsText}
 use Rattle.fluent_values.specs.View.{value_view, named}
-use Rattle.fluent_values.proofs.Along.{starts, turns, passes, put, puts_last, tail, wrote, ends, halts, stops, memory_halts, refuses, adds, calls, lends, goes_on}
-use Rattle.fluent_values.proofs.Cases.{sequence, prepend, unmarked, closing, opening, part_opens, part_strikes, tells, written_string, written_number, written_message, written_nested, resolved_number, resolved_string, resolved_function, local_none, local_some}
+use Rattle.fluent_values.proofs.Along.{starts, turns, passes, put, puts_last, tail, wrote, ends, halts, stops, memory_halts, refuses, adds, calls, lends, goes_on, at_value}
+use Rattle.fluent_values.proofs.Cases.{sequence, prepend, unmarked, closing, opening, part_opens, part_strikes, tells, written_string, written_number, written_message, written_nested, resolved_number, resolved_string, resolved_function, local_none, local_some, resolved_text}
 use Rattle.fluent_values.proofs.Measures.{falls_to, less_weight, kept_weight, taken_weight, still_weight, less_found, element_less, place_less, label_less, some_variants, chosen_less, below_message, below_term}
 use Rattle.fluent_values.proofs.Outputs.{still}
 use Rattle.fluent_values.proofs.Passing.{passed_still, passed_counts, keeps_elsewhere, keeps_around, keeps_back, opened_counts, entered_counts, opened_on, struck_same}
-use Rattle.fluent_values.proofs.Steps.{inline_at, select_at, choosing, choosing_at, cyclic_at, entered_at, begun_at, back, term_at, inside, inside_at, going, wholing, elementing, following, giving, giving_all, giving_text, giving_placeable, giving_end, giving_struck, next_of, none_left, no_placeable, expressing, writing, resolving, locals, valued}
+use Rattle.fluent_values.proofs.Steps.{inline_at, select_at, choosing, choosing_at, cyclic_at, entered_at, begun_at, back, term_at, inside, inside_at, function_at, answering, answered_value, calling, going, wholing, elementing, following, giving, giving_all, giving_text, giving_placeable, giving_end, giving_struck, next_of, none_left, no_placeable, expressing, writing, resolving, locals, valued, place_walk, label_walk, placing_next, placing_end, placing_more, labelled, labelling_next, labelling_end, labelling_more, named_in, naming_after, pairing, calling_at, set_all_next}
 use Rattle.fluent_values.proofs.Took.{took_same}
-use Rattle.fluent_values.proofs.Values.{gave_outward, asks, ask_stops, misses, begins, reads, gets, gets_part, got_if, got_as, got_part, got_part_as, misses_as, rests_memory, rests_same, rests_err, rests_ok, rests_on}
-use Rattle.fluent_values.proofs.Views.{view_pattern, view_text_in, view_placeable_in, view_string_in, view_number_in, view_message_in, view_nested_in, view_function_in, view_in, view_select_in, view_term_in, view_variable_in, view_arguments}
+use Rattle.fluent_values.proofs.Values.{gave_outward, asks, ask_stops, misses, begins, reads, gets, gets_part, got_if, got_as, got_part, got_part_as, misses_as, rests_memory, rests_same, rests_err, rests_ok, rests_on, by_buffer, as_got, beside_rests, got, gathers_none, gathers_as, gathers_same, gathers_one, gathers_part, gathers_all, gathers_stops, gathers_stops_as}
+use Rattle.fluent_values.proofs.Views.{view_pattern, view_text_in, view_placeable_in, view_string_in, view_number_in, view_message_in, view_nested_in, view_function_in, view_in, view_select_in, view_term_in, view_variable_in, view_arguments, view_written}
 use Rattle.fluent_meaning.specs.Value.{text_value}
+use borrow.Author.Count.{falls}
 use Rattle.fluent_text.specs.declared.counting.WriteFault.TheVariants as fault
 use Rattle.fluent_values.proofs.resolver.+resolve.Goals as goal
 
@@ -661,3 +662,246 @@ pattern::write_placeable-write_expression-requires g t c =
     let a = status g.B.Context.meant g.B.Context.is_plain g.F.FluentFunction.answer g.C.FluentType.content c.args.scope.now in
     let less = falls_to c.decreases (taken_weight (expression_size (expression_view c.args.expression.now)) (1 + expression_size (expression_view c.args.expression.now)) c.if-not-take_one.false c.take_one.ensures.takes (omega arith)) in
     λ κs h. (less, (h.0, (h.1.0, (h.1.1.0, h.1.1.1))))
+
+pub inline_expression::write_inline-returns-in_err-positional-in-FunctionReference : goal.inline_expression::write_inline-returns-in_err-positional-in-FunctionReference
+inline_expression::write_inline-returns-in_err-positional-in-FunctionReference g t c =
+    let a = status g.B.Context.meant g.B.Context.is_plain g.F.FluentFunction.answer g.C.FluentType.content c.args.scope.now in
+    let out = c.args.out.now in
+    let x = inline_view c.args.inline.now in
+    let m = c.in-FunctionReference.id.name.now in
+    let k = arguments_view c.in-FunctionReference.arguments in
+    let gave = gave_outward g.W.Write.contents out.writer.ghost_name out.buffer.ghost_name out.writer.now c.resolve_call.new.w out.buffer.now out.is_buffered c.resolve_call.ensures in
+    let begun = turns (function_at a x m k a.budget (view_function_in c.args.inline.now c.in-FunctionReference.id c.in-FunctionReference.arguments c.in-FunctionReference.is)) (starts a _ _) in
+    ask_stops (λ p. walked a (answering x m p.0 p.1)) c.in_err-positional-in-FunctionReference.was (search rules) gave begun
+
+pub inline_expression::write_inline-returns-in_ok-positional-in-FunctionReference : goal.inline_expression::write_inline-returns-in_ok-positional-in-FunctionReference
+inline_expression::write_inline-returns-in_ok-positional-in-FunctionReference g t c =
+    let a = status g.B.Context.meant g.B.Context.is_plain g.F.FluentFunction.answer g.C.FluentType.content c.args.scope.now in
+    let out = c.args.out.now in
+    let x = inline_view c.args.inline.now in
+    let m = c.in-FunctionReference.id.name.now in
+    let k = arguments_view c.in-FunctionReference.arguments in
+    let gave = gave_outward g.W.Write.contents out.writer.ghost_name out.buffer.ghost_name out.writer.now c.resolve_call.new.w out.buffer.now out.is_buffered c.resolve_call.ensures in
+    let begun = turns (function_at a x m k a.budget (view_function_in c.args.inline.now c.in-FunctionReference.id c.in-FunctionReference.arguments c.in-FunctionReference.is)) (starts a _ _) in
+    let asked = asks (λ p. walked a (answering x m p.0 p.1)) c.in_ok-positional-in-FunctionReference.was gave begun in
+    let b = status g.B.Context.meant g.B.Context.is_plain g.F.FluentFunction.answer g.C.FluentType.content c.resolve_call.new.scope in
+    let given_named = named g.C.FluentType.content c.in_ok-positional-in-FunctionReference.named in
+    wrote (tail c.put_answer.ensures (turns (ap (λ ps. walked a (answering x m (map (value_view g.C.FluentType.content) ps) given_named) b.budget) (sym c.deref.ensures.value)) asked))
+
+pub inline_expression::write_term-returns-in_err-local : goal.inline_expression::write_term-returns-in_err-local
+inline_expression::write_term-returns-in_err-local g t c =
+    let a = status g.B.Context.meant g.B.Context.is_plain g.F.FluentFunction.answer g.C.FluentType.content c.args.scope.now in
+    let out = c.args.out.now in
+    let x = inline_view c.args.inline.now in
+    let id = c.args.id.now.name.now in
+    let at = attribute_of c.args.attribute.now in
+    let k = call_of (option_map arguments_view c.args.arguments.now) in
+    let gave = gave_outward g.W.Write.contents out.writer.ghost_name out.buffer.ghost_name out.writer.now c.resolve_local.new.w out.buffer.now out.is_buffered c.resolve_local.ensures in
+    ask_stops (inside a x id at) c.in_err-local.was (search rules) gave (turns (term_at a x id at k a.budget c.requires) (starts a _ _))
+
+pub inline_expression::write_term-returns : goal.inline_expression::write_term-returns
+inline_expression::write_term-returns g t c =
+    let a = status g.B.Context.meant g.B.Context.is_plain g.F.FluentFunction.answer g.C.FluentType.content c.args.scope.now in
+    let out = c.args.out.now in
+    let x = inline_view c.args.inline.now in
+    let id = c.args.id.now.name.now in
+    let at = attribute_of c.args.attribute.now in
+    let k = call_of (option_map arguments_view c.args.arguments.now) in
+    let gave = gave_outward g.W.Write.contents out.writer.ghost_name out.buffer.ghost_name out.writer.now c.resolve_local.new.w out.buffer.now out.is_buffered c.resolve_local.ensures in
+    let asked = asks (inside a x id at) c.in_ok-local.was gave (turns (term_at a x id at k a.budget c.requires) (starts a _ _)) in
+    let kept = c.resolve_local.ensures.got.toward.passed.keeps in
+    let w = c.follow-written.ensures in
+    let b = status g.B.Context.meant g.B.Context.is_plain g.F.FluentFunction.answer g.C.FluentType.content (record c.resolve_local.new.scope { environment = c.replace-outer.new.dest }) in
+    let m = named g.C.FluentType.content c.in_ok-local.local in
+    let led = c.term-found.ensures g.F.FluentFunction.answer ∙ ap (λ s. term_target (get id s.ids) at) kept.bundle in
+    let inner = ap (environment_view g.C.FluentType.content) c.replace-outer.ensures.after in
+    let outer = ap (environment_view g.C.FluentType.content) c.replace-outer.ensures.value in
+    wrote (lends refl refl refl refl refl refl (keeps_back kept w.went.along.passed.keeps refl refl refl refl refl refl refl refl refl refl outer) w (turns (inside_at a b x id at m (found_view c.term-found.result) kept.bundle kept.path inner led) asked))
+
+pub arguments::write_beside-returns : goal.arguments::write_beside-returns
+arguments::write_beside-returns g t c =
+    let out = c.write_inline.new.out in
+    by_buffer g.W.Write.contents _ out.writer.ghost_name _ out.buffer.ghost_name c.args.w.now out.writer.now c.w-1.given.0 c.args.text.now out.buffer.now c.text-1.given.0 out.is_buffered (search rules) (search rules) c.write_inline.ensures
+
+pub arguments::resolve-returns-in_ok-answer-in-FunctionReference : goal.arguments::resolve-returns-in_ok-answer-in-FunctionReference
+arguments::resolve-returns-in_ok-answer-in-FunctionReference g t c =
+    let a = status g.B.Context.meant g.B.Context.is_plain g.F.FluentFunction.answer g.C.FluentType.content c.args.scope.now in
+    let m = c.in-FunctionReference.id.name.now in
+    let k = valued a m in
+    let means = ap (λ x. from_here a (resolving x)) (view_function_in c.args.inline.now c.in-FunctionReference.id c.in-FunctionReference.arguments c.in-FunctionReference.is) ∙ resolved_function a.bundle (work a.bundle) a.environment (on_path a.path) m (arguments_view c.in-FunctionReference.arguments) a.budget in
+    let gathered = gets k c.in_ok-positional-in-FunctionReference.was c.resolve_call.ensures.got (reads means (begins a _)) in
+    let b = status g.B.Context.meant g.B.Context.is_plain g.F.FluentFunction.answer g.C.FluentType.content c.resolve_call.new.scope in
+    let view = value_view g.C.FluentType.content in
+    let vs = map view c.in_ok-positional-in-FunctionReference.positional.items in
+    let ns = named g.C.FluentType.content c.in_ok-positional-in-FunctionReference.named in
+    let answer = c.in_ok-answer-in-FunctionReference.answer in
+    let told =
+        at_value (λ o. option_map view o ≡ option_map (λ f. f (map view c.deref.result.now) ns) (function_found (get m b.bundle.ids))) c.in_ok-answer-in-FunctionReference.was c.answer_of.ensures
+        ∙ ap (λ ps. option_map (λ f. f (map view ps) ns) (function_found (get m b.bundle.ids))) c.deref.ensures.value
+        ∙ ap (λ s. option_map (λ f. f vs ns) (function_found (get m s.ids))) c.resolve_call.ensures.got.toward.passed.keeps.bundle in
+    let same = ap view c.unwrap_or.ensures ∙ answered_value g.C.FluentType.content a m vs ns answer told in
+    record { got = got c.unwrap_or.result (reads (ap (λ y. given y b.budget) (sym same)) gathered); rests = rests_ok c.in_ok-positional-in-FunctionReference.was c.resolve_call.ensures.rests }
+
+pub arguments::resolve-returns-in_err-write_beside-in_default : goal.arguments::resolve-returns-in_err-write_beside-in_default
+arguments::resolve-returns-in_err-write_beside-in_default g t c =
+    let a = status g.B.Context.meant g.B.Context.is_plain g.F.FluentFunction.answer g.C.FluentType.content c.args.scope.now in
+    let is = view_written c.args.inline.now c.in_default.not-StringLiteral c.in_default.not-NumberLiteral c.in_default.not-FunctionReference c.in_default.not-VariableReference in
+    let means = resolved_text a.bundle (work a.bundle) a.environment (on_path a.path) (inline_view c.args.inline.now) a.budget is in
+    let w = c.args.w.now in
+    let wrote_beside = as_got g.W.Write.contents w c.write_beside.new.w c.new-text.result c.write_beside.new.text (search rules) c.write_beside.ensures in
+    record {
+      got = got_part_as text_value c.in_err-write_beside-in_default.was (search rules) means wrote_beside;
+      rests = rests_err c.in_err-write_beside-in_default.was (search rules) (beside_rests g.W.Write.contents w c.write_beside.new.w c.new-text.result c.write_beside.new.text c.write_beside.ensures);
+    }
+
+pub arguments::resolve-returns-in_ok-write_beside-in_default : goal.arguments::resolve-returns-in_ok-write_beside-in_default
+arguments::resolve-returns-in_ok-write_beside-in_default g t c =
+    let a = status g.B.Context.meant g.B.Context.is_plain g.F.FluentFunction.answer g.C.FluentType.content c.args.scope.now in
+    let is = view_written c.args.inline.now c.in_default.not-StringLiteral c.in_default.not-NumberLiteral c.in_default.not-FunctionReference c.in_default.not-VariableReference in
+    let means = resolved_text a.bundle (work a.bundle) a.environment (on_path a.path) (inline_view c.args.inline.now) a.budget is in
+    let w = c.args.w.now in
+    let wrote_beside = as_got g.W.Write.contents w c.write_beside.new.w c.new-text.result c.write_beside.new.text (search rules) c.write_beside.ensures in
+    record {
+      got = got_as text_value c.in_ok-write_beside-in_default.was refl means wrote_beside;
+      rests = rests_ok c.in_ok-write_beside-in_default.was (beside_rests g.W.Write.contents w c.write_beside.new.w c.new-text.result c.write_beside.new.text c.write_beside.ensures);
+    }
+
+pub arguments::resolve_call-returns-in_err-positional : goal.arguments::resolve_call-returns-in_err-positional
+arguments::resolve_call-returns-in_err-positional g t c =
+    let a = status g.B.Context.meant g.B.Context.is_plain g.F.FluentFunction.answer g.C.FluentType.content c.args.scope.now in
+    let ns = named_in c.args.arguments.now in
+    let means = calling_at a c.args.arguments.now c.deref.result.now ns a.budget c.deref.ensures.value refl in
+    record { got = misses_as c.in_err-positional.was (search rules) (gets_part (naming_after a ns) c.resolve_positional.ensures.got (reads means (begins a _))); rests = rests_err c.in_err-positional.was (search rules) c.resolve_positional.ensures.rests }
+
+pub arguments::resolve_call-returns-in_err-named : goal.arguments::resolve_call-returns-in_err-named
+arguments::resolve_call-returns-in_err-named g t c =
+    let a = status g.B.Context.meant g.B.Context.is_plain g.F.FluentFunction.answer g.C.FluentType.content c.args.scope.now in
+    let ns = c.deref-2.result.now in
+    let means = calling_at a c.args.arguments.now c.deref.result.now ns a.budget c.deref.ensures.value c.deref-2.ensures.value in
+    let first = gets (naming_after a ns) c.in_ok-positional.was c.resolve_positional.ensures.got (reads means (begins a _)) in
+    let vs = map (value_view g.C.FluentType.content) c.in_ok-positional.positional.items in
+    record { got = misses_as c.in_err-named.was (search rules) (gets_part (pairing vs) c.resolve_named.ensures.got first); rests = rests_on (rests_ok {T = Unit {0}} {x = tt} c.in_ok-positional.was c.resolve_positional.ensures.rests) (rests_err c.in_err-named.was (search rules) c.resolve_named.ensures.rests) }
+
+pub arguments::resolve_call-returns : goal.arguments::resolve_call-returns
+arguments::resolve_call-returns g t c =
+    let a = status g.B.Context.meant g.B.Context.is_plain g.F.FluentFunction.answer g.C.FluentType.content c.args.scope.now in
+    let ns = c.deref-2.result.now in
+    let means = calling_at a c.args.arguments.now c.deref.result.now ns a.budget c.deref.ensures.value c.deref-2.ensures.value in
+    let first = gets (naming_after a ns) c.in_ok-positional.was c.resolve_positional.ensures.got (reads means (begins a _)) in
+    let vs = map (value_view g.C.FluentType.content) c.in_ok-positional.positional.items in
+    record { got = got (c.in_ok-positional.positional, c.in_ok-named.named) (gets (pairing vs) c.in_ok-named.was c.resolve_named.ensures.got first); rests = rests_on (rests_ok {T = Unit {0}} {x = tt} c.in_ok-positional.was c.resolve_positional.ensures.rests) (rests_ok c.in_ok-named.was c.resolve_named.ensures.rests) }
+
+pub arguments::resolve_positional-loop-argument-init : goal.arguments::resolve_positional-loop-argument-init
+arguments::resolve_positional-loop-argument-init g t c =
+    let a = status g.B.Context.meant g.B.Context.is_plain g.F.FluentFunction.answer g.C.FluentType.content c.args.scope.now in
+    record { gathers = gathers_same (ap (map (value_view g.C.FluentType.content)) (sym c.new-values.ensures.items)) (gathers_none a _); rests = rests_same _ }
+
+pub arguments::resolve_positional-loop-argument-preserved : goal.arguments::resolve_positional-loop-argument-preserved
+arguments::resolve_positional-loop-argument-preserved g t c =
+    let a = status g.B.Context.meant g.B.Context.is_plain g.F.FluentFunction.answer g.C.FluentType.content c.args.scope.now in
+    let b = status g.B.Context.meant g.B.Context.is_plain g.F.FluentFunction.answer g.C.FluentType.content c.loop-argument.scope in
+    let x = c.argument-item.result in
+    let rest = drop (c.loop-argument.argument-index + 1) c.args.arguments.now in
+    let next = next_of c.args.arguments.now c.loop-argument.argument-index x c.loop-argument-test.true c.argument-item.is in
+    let before = c.loop-argument.invariant in
+    let here = gathers_as (placing_next a _ rest x b.budget next) before.gathers in
+    let one = gathers_one (λ v. v) (λ n. walked a (place_walk rest) n) c.in_ok-value.was c.resolve.ensures.got here in
+    record { gathers = gathers_same (sym c.in_ok-push_value.ensures) one; rests = rests_on before.rests (rests_ok c.in_ok-value.was c.resolve.ensures.rests) }
+
+pub arguments::resolve_positional-returns-in_err-value : goal.arguments::resolve_positional-returns-in_err-value
+arguments::resolve_positional-returns-in_err-value g t c =
+    let a = status g.B.Context.meant g.B.Context.is_plain g.F.FluentFunction.answer g.C.FluentType.content c.args.scope.now in
+    let b = status g.B.Context.meant g.B.Context.is_plain g.F.FluentFunction.answer g.C.FluentType.content c.loop-argument.scope in
+    let x = c.argument-item.result in
+    let rest = drop (c.loop-argument.argument-index + 1) c.args.arguments.now in
+    let next = next_of c.args.arguments.now c.loop-argument.argument-index x c.loop-argument-test.true c.argument-item.is in
+    let before = c.loop-argument.invariant in
+    let here = gathers_as (placing_next a _ rest x b.budget next) before.gathers in
+    record { got = gathers_stops_as (place_walk c.args.arguments.now) (λ vs. vs) c.in_err-value.was (search rules) refl (gathers_part (placing_more a rest) c.resolve.ensures.got here); rests = rests_on before.rests (rests_err c.in_err-value.was (search rules) c.resolve.ensures.rests) }
+
+pub arguments::resolve_positional-returns-in_err-push_value : goal.arguments::resolve_positional-returns-in_err-push_value
+arguments::resolve_positional-returns-in_err-push_value g t c =
+    let a = status g.B.Context.meant g.B.Context.is_plain g.F.FluentFunction.answer g.C.FluentType.content c.args.scope.now in
+    let b = status g.B.Context.meant g.B.Context.is_plain g.F.FluentFunction.answer g.C.FluentType.content c.loop-argument.scope in
+    let x = c.argument-item.result in
+    let rest = drop (c.loop-argument.argument-index + 1) c.args.arguments.now in
+    let next = next_of c.args.arguments.now c.loop-argument.argument-index x c.loop-argument-test.true c.argument-item.is in
+    let before = c.loop-argument.invariant in
+    let here = gathers_as (placing_next a _ rest x b.budget next) before.gathers in
+    let one = gathers_one (λ v. v) (λ n. walked a (place_walk rest) n) c.in_ok-value.was c.resolve.ensures.got here in
+    record { got = gathers_stops {e = fault.Memory} (place_walk c.args.arguments.now) (λ vs. vs) (search rules) refl one; rests = rests_on (rests_on before.rests (rests_ok {T = Unit {0}} {x = tt} c.in_ok-value.was c.resolve.ensures.rests)) (rests_memory _ (search rules)) }
+
+pub arguments::resolve_positional-returns : goal.arguments::resolve_positional-returns
+arguments::resolve_positional-returns g t c =
+    let a = status g.B.Context.meant g.B.Context.is_plain g.F.FluentFunction.answer g.C.FluentType.content c.args.scope.now in
+    let b = status g.B.Context.meant g.B.Context.is_plain g.F.FluentFunction.answer g.C.FluentType.content c.loop-argument.scope in
+    let before = c.loop-argument.invariant in
+    let none = none_left c.args.arguments.now c.loop-argument.argument-index c.loop-argument-test.false in
+    record { got = gathers_all (place_walk c.args.arguments.now) (λ vs. vs) c.loop-argument.values refl refl (gathers_as (placing_end a _ b.budget none) before.gathers); rests = rests_ok {v = tt} refl before.rests }
+
+pub arguments::resolve_named-loop-argument-init : goal.arguments::resolve_named-loop-argument-init
+arguments::resolve_named-loop-argument-init g t c =
+    let a = status g.B.Context.meant g.B.Context.is_plain g.F.FluentFunction.answer g.C.FluentType.content c.args.scope.now in
+    record { done = []; is = c.new-values.ensures; gathers = gathers_none a _; rests = rests_same _ }
+
+pub arguments::resolve_named-loop-argument-preserved : goal.arguments::resolve_named-loop-argument-preserved
+arguments::resolve_named-loop-argument-preserved g t c =
+    let a = status g.B.Context.meant g.B.Context.is_plain g.F.FluentFunction.answer g.C.FluentType.content c.args.scope.now in
+    let b = status g.B.Context.meant g.B.Context.is_plain g.F.FluentFunction.answer g.C.FluentType.content c.loop-argument.scope in
+    let x = c.argument-item.result in
+    let k = x.name.name.now in
+    let rest = drop (c.loop-argument.argument-index + 1) c.args.arguments.now in
+    let next = next_of c.args.arguments.now c.loop-argument.argument-index x c.loop-argument-test.true c.argument-item.is in
+    let before = c.loop-argument.invariant in
+    let here = gathers_as (labelling_next a _ rest x b.budget next) before.gathers in
+    let v = value_view g.C.FluentType.content c.in_ok-value.value in
+    let one = gathers_one (labelled k) (λ n. walked a (label_walk rest) n) c.in_ok-value.was c.resolve.ensures.got here in
+    record { done = before.done ++ labelled k v ∷ []; is = c.in_ok-set.ensures.ok ∙ ap (set k v) before.is ∙ sym (set_all_next before.done k v []); gathers = one; rests = rests_on before.rests (rests_ok c.in_ok-value.was c.resolve.ensures.rests) }
+
+pub arguments::resolve_named-returns-in_err-value : goal.arguments::resolve_named-returns-in_err-value
+arguments::resolve_named-returns-in_err-value g t c =
+    let a = status g.B.Context.meant g.B.Context.is_plain g.F.FluentFunction.answer g.C.FluentType.content c.args.scope.now in
+    let b = status g.B.Context.meant g.B.Context.is_plain g.F.FluentFunction.answer g.C.FluentType.content c.loop-argument.scope in
+    let x = c.argument-item.result in
+    let k = x.name.name.now in
+    let rest = drop (c.loop-argument.argument-index + 1) c.args.arguments.now in
+    let next = next_of c.args.arguments.now c.loop-argument.argument-index x c.loop-argument-test.true c.argument-item.is in
+    let before = c.loop-argument.invariant in
+    let here = gathers_as (labelling_next a _ rest x b.budget next) before.gathers in
+    record { got = gathers_stops_as (label_walk c.args.arguments.now) (λ m. set_all m []) c.in_err-value.was (search rules) refl (gathers_part (labelling_more a rest k) c.resolve.ensures.got here); rests = rests_on before.rests (rests_err c.in_err-value.was (search rules) c.resolve.ensures.rests) }
+
+pub arguments::resolve_named-returns-in_err-set : goal.arguments::resolve_named-returns-in_err-set
+arguments::resolve_named-returns-in_err-set g t c =
+    let a = status g.B.Context.meant g.B.Context.is_plain g.F.FluentFunction.answer g.C.FluentType.content c.args.scope.now in
+    let b = status g.B.Context.meant g.B.Context.is_plain g.F.FluentFunction.answer g.C.FluentType.content c.loop-argument.scope in
+    let x = c.argument-item.result in
+    let k = x.name.name.now in
+    let rest = drop (c.loop-argument.argument-index + 1) c.args.arguments.now in
+    let next = next_of c.args.arguments.now c.loop-argument.argument-index x c.loop-argument-test.true c.argument-item.is in
+    let before = c.loop-argument.invariant in
+    let here = gathers_as (labelling_next a _ rest x b.budget next) before.gathers in
+    let one = gathers_one (labelled k) (λ n. walked a (label_walk rest) n) c.in_ok-value.was c.resolve.ensures.got here in
+    record { got = gathers_stops {e = fault.Memory} (label_walk c.args.arguments.now) (λ m. set_all m []) (search rules) refl one; rests = rests_on (rests_on before.rests (rests_ok {T = Unit {0}} {x = tt} c.in_ok-value.was c.resolve.ensures.rests)) (rests_memory _ (search rules)) }
+
+pub arguments::resolve_named-returns : goal.arguments::resolve_named-returns
+arguments::resolve_named-returns g t c =
+    let a = status g.B.Context.meant g.B.Context.is_plain g.F.FluentFunction.answer g.C.FluentType.content c.args.scope.now in
+    let b = status g.B.Context.meant g.B.Context.is_plain g.F.FluentFunction.answer g.C.FluentType.content c.loop-argument.scope in
+    let before = c.loop-argument.invariant in
+    let none = none_left c.args.arguments.now c.loop-argument.argument-index c.loop-argument-test.false in
+    record { got = gathers_all (label_walk c.args.arguments.now) (λ m. set_all m []) c.loop-argument.values before.is refl (gathers_as (labelling_end a _ b.budget none) before.gathers); rests = rests_ok {v = tt} refl before.rests }
+
+pub arguments::resolve_positional-offset_bounds-arguments-argument-index : goal.arguments::resolve_positional-offset_bounds-arguments-argument-index
+arguments::resolve_positional-offset_bounds-arguments-argument-index g t c = search rules
+
+pub arguments::resolve_positional-loop-argument-smaller : goal.arguments::resolve_positional-loop-argument-smaller
+arguments::resolve_positional-loop-argument-smaller g t c = falls _ _ c.loop-argument-test.true
+
+pub arguments::resolve_named-offset_bounds-arguments-argument-index : goal.arguments::resolve_named-offset_bounds-arguments-argument-index
+arguments::resolve_named-offset_bounds-arguments-argument-index g t c = search rules
+
+pub arguments::resolve_named-loop-argument-smaller : goal.arguments::resolve_named-loop-argument-smaller
+arguments::resolve_named-loop-argument-smaller g t c = falls _ _ c.loop-argument-test.true
+
+pub arguments::resolve_named-fact_in-set : goal.arguments::resolve_named-fact_in-set
+arguments::resolve_named-fact_in-set g t c = search rules
