@@ -1,12 +1,11 @@
 -- What was reported and counted along a walk, step by step.
-use Rattle.std.proofs.Common.{◌≡◌, ◌≤◌, refl, sym, ap, subst, ◌∙◌, ℕ, ◌+◌, ◌-◌, ◌^◌, min, max, List, [], ◌∷◌, ◌++◌, append-nil, append_assoc, Option, Some, None, Result, Ok, Err, OnOk, OnErr, arith, Bool, true, false}
+use Rattle.std.proofs.Common.{◌≡◌, ◌≤◌, refl, sym, ap, subst, ◌∙◌, ℕ, ◌+◌, max, List, [], ◌++◌, append-nil, append_assoc, Option, Some, None, Result, Ok, Err, OnOk, OnErr, arith, Bool, true, false}
 use Rattle.std.specs.Bool.{OnTrue, OnFalse}
-use Rattle.fluent_tree.specs.Tree.{Text}
 use Rattle.fluent_meaning.specs.Errors.{Error}
 use Rattle.fluent_meaning.specs.Meaning.{Budget, at_most}
-use Rattle.fluent_meaning.specs.Work.{Worked, work}
+use Rattle.fluent_meaning.specs.Work.{work}
 use Rattle.fluent_values.specs.Status.{Status, Tally, counted, with_errors, on_path, Keeps}
-use Rattle.fluent_values.specs.Along.{Walk, walked, from_here, given, Trace, trace, follows, adding, Reports, Passed, Elsewhere, Added, Takes}
+use Rattle.fluent_values.specs.Along.{Walk, walked, from_here, Trace, follows, adding, Reports, Passed, Elsewhere, Added, Takes}
 
 -- SCOPES
 

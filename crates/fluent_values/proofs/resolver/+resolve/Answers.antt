@@ -1,30 +1,29 @@
-use Rattle.std.proofs.Common.{ℕ, ◌≡◌, rules, arith, length, ap, sym, ◌∙◌, refl, Some, None, map, [], ◌∷◌, ◌++◌, ◌+◌, drop, subst, IsTrue, List, ◌<◌}
+use Rattle.std.proofs.Common.{ℕ, ◌≡◌, rules, arith, length, ap, sym, ◌∙◌, refl, Some, None, map, [], ◌∷◌, ◌++◌, ◌+◌, drop, subst, IsTrue, ◌<◌}
 use Rattle.std.specs.Option.{option_map}
-use Rattle.fluent_text.specs.Escapes.{unescaped}
-use Rattle.fluent_tree.specs.Fallback.{fallback, fallback_of, in_braces}
+use Rattle.fluent_tree.specs.Fallback.{fallback, in_braces}
 use Rattle.fluent_tree.specs.Tree.{placeable, variants_of, pattern_of, inlines_of, nameds_of}
 use Rattle.fluent_tree.specs.declared.ast.CallArguments as of_call
 use Rattle.fluent_tree.specs.View.{inline_view, expression_view, pattern_view, element_view, variant_view, attribute_of, call_of, arguments_view, named_view}
 use Rattle.fluent_meaning.specs.Arguments.{get, set, set_all}
 use Rattle.fluent_meaning.specs.Bundle.{goes_to, message_target, term_target, shown, function_found}
-use Rattle.fluent_meaning.specs.Errors.{resolver_error, cyclic, missing_default, too_many_placeables}
-use Rattle.fluent_meaning.specs.Meaning.{first_mark, last_mark, at_most, ending, struck}
-use Rattle.fluent_meaning.specs.Walk.{has_one, is_marked, part, function_value}
+use Rattle.fluent_meaning.specs.Errors.{resolver_error, too_many_placeables}
+use Rattle.fluent_meaning.specs.Meaning.{first_mark, last_mark, at_most, struck}
+use Rattle.fluent_meaning.specs.Walk.{has_one, is_marked, part}
 use Rattle.fluent_meaning.specs.Work.{work, with_work}
-use Rattle.fluent_values.specs.Along.{given, walked, from_here, adding, trace, less_one}
+use Rattle.fluent_values.specs.Along.{given, walked, from_here, adding, trace}
 use Rattle.fluent_values.specs.FoundView.{found_view}
 use Rattle.fluent_values.specs.Sizes.{choice, first_default, size, bound, IsBelow, element_size, expression_size, variants_size, inline_size, call_size, arguments_size, inlines_size, nameds_size}
 use Rattle.fluent_values.specs.Status.{status, on_path, environment_view}
 use Rattle.fluent_values.specs.Texts.{IsText}
 use Rattle.fluent_values.specs.View.{value_view, named}
-use Rattle.fluent_values.proofs.Along.{starts, turns, passes, put, puts_last, tail, wrote, ends, halts, stops, memory_halts, refuses, adds, calls, lends, goes_on, at_value}
+use Rattle.fluent_values.proofs.Along.{starts, turns, passes, put, puts_last, tail, wrote, ends, stops, memory_halts, refuses, adds, calls, lends, goes_on, at_value}
 use Rattle.fluent_values.proofs.Cases.{sequence, prepend, unmarked, closing, opening, part_opens, part_strikes, tells, written_string, written_number, written_message, written_nested, resolved_number, resolved_string, resolved_function, local_none, local_some, resolved_text}
 use Rattle.fluent_values.proofs.Measures.{falls_to, less_weight, kept_weight, taken_weight, still_weight, less_found, element_less, place_less, label_less, some_variants, chosen_less, below_message, below_term}
 use Rattle.fluent_values.proofs.Outputs.{still}
-use Rattle.fluent_values.proofs.Passing.{passed_still, passed_counts, keeps_elsewhere, keeps_around, keeps_back, opened_counts, entered_counts, opened_on, struck_same}
-use Rattle.fluent_values.proofs.Steps.{inline_at, select_at, choosing, choosing_at, cyclic_at, entered_at, begun_at, back, term_at, inside, inside_at, function_at, answering, answered_value, calling, going, wholing, elementing, following, giving, giving_all, giving_text, giving_placeable, giving_end, giving_struck, next_of, none_left, no_placeable, expressing, writing, resolving, locals, valued, place_walk, label_walk, placing_next, placing_end, placing_more, labelled, labelling_next, labelling_end, labelling_more, named_in, naming_after, pairing, calling_at, set_all_next}
+use Rattle.fluent_values.proofs.Passing.{passed_still, passed_counts, keeps_elsewhere, keeps_around, keeps_back, entered_counts, opened_on, struck_same}
+use Rattle.fluent_values.proofs.Steps.{inline_at, select_at, choosing, choosing_at, cyclic_at, entered_at, begun_at, back, term_at, inside, inside_at, function_at, answering, answered_value, wholing, elementing, following, giving, giving_all, giving_text, giving_placeable, giving_end, giving_struck, next_of, none_left, no_placeable, expressing, writing, resolving, locals, valued, place_walk, label_walk, placing_next, placing_end, placing_more, labelled, labelling_next, labelling_end, labelling_more, named_in, naming_after, pairing, calling_at, set_all_next}
 use Rattle.fluent_values.proofs.Took.{took_same}
-use Rattle.fluent_values.proofs.Values.{gave_outward, asks, ask_stops, misses, begins, reads, gets, gets_part, got_if, got_as, got_part, got_part_as, misses_as, rests_memory, rests_same, rests_err, rests_ok, rests_on, by_buffer, as_got, beside_rests, got, gathers_none, gathers_as, gathers_same, gathers_one, gathers_part, gathers_all, gathers_stops, gathers_stops_as}
+use Rattle.fluent_values.proofs.Values.{gave_outward, asks, ask_stops, misses, begins, reads, gets, gets_part, got_if, got_as, got_part_as, misses_as, rests_memory, rests_same, rests_err, rests_ok, rests_on, by_buffer, as_got, beside_rests, got, gathers_none, gathers_as, gathers_same, gathers_one, gathers_part, gathers_all, gathers_stops, gathers_stops_as}
 use Rattle.fluent_values.proofs.Views.{view_pattern, view_text_in, view_placeable_in, view_string_in, view_number_in, view_message_in, view_nested_in, view_function_in, view_in, view_select_in, view_term_in, view_variable_in, view_arguments, view_written}
 use Rattle.fluent_meaning.specs.Value.{text_value}
 use borrow.Author.Count.{falls}
@@ -123,8 +122,8 @@ inline_expression::go-returns g t c =
     let kept = w.went.along.passed.keeps in
     let walk = wholing (pattern_view c.args.target.pattern.now) in
     wrote (lends before.errors after.errors (ap (λ n. adding n (trace (from_here b walk))) c.enter.ensures.tally) refl c.leave.ensures.tally after.budget
-        (keeps_around before kept after (c.leave.ensures.left a.path (Some c.args.target.pattern) (kept.path ∙ entered)))
-        w (turns (entered_at a b x c.args.target.pattern (sym c.is_on.ensures ∙ c.if-is_on.false) entered before) (starts a _ _)))
+    (keeps_around before kept after (c.leave.ensures.left a.path (Some c.args.target.pattern) (kept.path ∙ entered)))
+    w (turns (entered_at a b x c.args.target.pattern (sym c.is_on.ensures ∙ c.if-is_on.false) entered before) (starts a _ _)))
 
 pub pattern::write_pattern-returns-clause-wrote : goal.pattern::write_pattern-returns-clause-wrote
 pattern::write_pattern-returns-clause-wrote g t c =
@@ -138,8 +137,8 @@ pattern::write_pattern-returns-clause-wrote g t c =
     let walk = elementing p in
     let counts = ap (λ n. adding n (trace (from_here b walk))) starts_at.tally ∙ entered_counts a.tally (length (on_path b.path)) (trace (from_here b walk)) in
     wrote (lends starts_at.elsewhere.errors after.errors counts refl c.end.ensures.tally after.budget
-        (keeps_around starts_at.elsewhere kept after (back c.begin-begun.result p starts_at kept.path c.end.ensures))
-        w (turns (begun_at a b p starts_at.path starts_at.elsewhere) (starts a _ _)))
+    (keeps_around starts_at.elsewhere kept after (back c.begin-begun.result p starts_at kept.path c.end.ensures))
+    w (turns (begun_at a b p starts_at.path starts_at.elsewhere) (starts a _ _)))
 
 pub inline_expression::follow-returns-in-Unknown : goal.inline_expression::follow-returns-in-Unknown
 inline_expression::follow-returns-in-Unknown g t c =
@@ -736,9 +735,9 @@ arguments::resolve-returns-in_ok-answer-in-FunctionReference g t c =
     let ns = named g.C.FluentType.content c.in_ok-positional-in-FunctionReference.named in
     let answer = c.in_ok-answer-in-FunctionReference.answer in
     let told =
-        at_value (λ o. option_map view o ≡ option_map (λ f. f (map view c.deref.result.now) ns) (function_found (get m b.bundle.ids))) c.in_ok-answer-in-FunctionReference.was c.answer_of.ensures
-        ∙ ap (λ ps. option_map (λ f. f (map view ps) ns) (function_found (get m b.bundle.ids))) c.deref.ensures.value
-        ∙ ap (λ s. option_map (λ f. f vs ns) (function_found (get m s.ids))) c.resolve_call.ensures.got.toward.passed.keeps.bundle in
+    at_value (λ o. option_map view o ≡ option_map (λ f. f (map view c.deref.result.now) ns) (function_found (get m b.bundle.ids))) c.in_ok-answer-in-FunctionReference.was c.answer_of.ensures
+    ∙ ap (λ ps. option_map (λ f. f (map view ps) ns) (function_found (get m b.bundle.ids))) c.deref.ensures.value
+    ∙ ap (λ s. option_map (λ f. f vs ns) (function_found (get m s.ids))) c.resolve_call.ensures.got.toward.passed.keeps.bundle in
     let same = ap view c.unwrap_or.ensures ∙ answered_value g.C.FluentType.content a m vs ns answer told in
     record { got = got c.unwrap_or.result (reads (ap (λ y. given y b.budget) (sym same)) gathered); rests = rests_ok c.in_ok-positional-in-FunctionReference.was c.resolve_call.ensures.rests }
 
