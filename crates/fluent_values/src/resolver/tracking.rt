@@ -107,7 +107,8 @@ impl<'p, 's, C: FluentType, F: FluentFunction<C>, B: Context<C>>
     /// # Errors
     ///
     /// `Writer` where a write failed, `Zero` where a write of a nonempty piece took no byte, `Memory` where memory
-    /// was refused. Then what was written begins the text, and an error that is not added is the first that fails.
+    /// was refused. Then what was written begins the text, and what was added begins the errors. Environment and
+    /// path are as before, whatever is answered.
     pub fn write_ref_error<W: Write>(
         &mut self,
         w: &mut Counting<W>,
