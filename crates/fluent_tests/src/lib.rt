@@ -32,4 +32,6 @@ mod scope;
 #[cfg(test)]
 mod settings;
 #[cfg(test)]
+mod tracking;
+#[cfg(test)]
 mod writers;
