@@ -110,12 +110,12 @@ const REFERENCES: Whole = (
     &[],
     "
 -t = t{ $n }{ $q }
-    .s = 1
+    .s = s
 m = 1{ $q }2{ none }3
 k =
     .x = { m }
 a = x{ m }{ -t(n: 1) }y{ k }{ k.x }{ F(m, $p) }{ -t.s ->
-    [1] { m }
+    [s] { m }
    *[o] o
 }z
 ",

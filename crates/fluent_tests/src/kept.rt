@@ -96,7 +96,7 @@ fn calls(alloc: Global, resource: &FluentResource<'_>) -> Result<bool, Fail> {
 
 #[test]
 fn a_message_calls_a_closure(rt: HostRuntime) -> Result<(), Fail> {
-    let source = "-p = { ID(\"q\") }\np = { -p }\nr = { ID() }\ns = { ID(ID()) }\n";
+    let source = "-t = { ID(\"q\") }\np = { -t }\nr = { ID() }\ns = { ID(ID()) }\n";
     let resource = read(rt.alloc(), source)?;
     assert!(rt; calls(rt.alloc(), &resource)?);
     Ok(())
