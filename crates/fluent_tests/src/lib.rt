@@ -36,6 +36,8 @@ mod messages;
 #[cfg(test)]
 mod objects;
 #[cfg(test)]
+mod others;
+#[cfg(test)]
 mod own;
 #[cfg(test)]
 mod plenty;

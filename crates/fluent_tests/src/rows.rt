@@ -197,7 +197,8 @@ fn writes_once(
         return Ok(false);
     }
     assert!(rt; end == End::Whole, "{}", wanted.text);
-    assert!(rt; taken.as_slice() == wanted.text.as_bytes(), "{}: {taken:?}", wanted.text);
+    let found = str::from_utf8(taken.as_slice()).unwrap_or("no text");
+    assert!(rt; found == wanted.text, "{}: {found}", wanted.text);
     are_all(rt, alloc, errors.as_slice(), wanted)?;
     Ok(true)
 }

@@ -200,6 +200,27 @@ marked = a{ $n }b
     ],
 );
 
+/// Lines are elements of their own, and a carriage return before a line feed is in none.
+const LINES: Table = (
+    &[Setting::Upper],
+    "
+k =
+    one
+      two
+
+    three
+crlf =\r
+    one\r
+      two\r
+\r
+    three\r
+",
+    &[
+        ("k", &[], "ONE\n  TWO\n\nTHREE", ""),
+        ("crlf", &[], "ONE\n  TWO\n\nTHREE", ""),
+    ],
+);
+
 /// Without a formatter each value is shown by its own text.
 const OWN_TEXTS: Table = (
     &[],
@@ -226,6 +247,6 @@ fn settings_are_used_at_any_depth(rt: HostRuntime) -> Result<(), Fail> {
     hold(
         &rt,
         rt.alloc(),
-        &[ISOLATED, NOT_ISOLATED, EMAILS, TRANSFORMED, FORMATTED, OWN_TEXTS],
+        &[ISOLATED, NOT_ISOLATED, EMAILS, TRANSFORMED, FORMATTED, LINES, OWN_TEXTS],
     )
 }
