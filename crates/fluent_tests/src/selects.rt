@@ -116,8 +116,20 @@ escaped = { \"\\u0041\" ->
     [A] yes
    *[o] no
 }
+other = { $n ->
+    [other] x
+   *[o] y
+}
 ",
     &[
+        ("other", TWO, "x", ""),
+        ("other", &[("n", Given::Nothing)], "y", ""),
+        (
+            "other",
+            &[],
+            "y",
+            "Resolver error: Unknown variable: $n\n",
+        ),
         ("keys", ONE, "number", ""),
         ("keys", &[("n", Given::Text("1"))], "default", ""),
         ("keys", &[("n", Given::Read("1.0"))], "default", ""),
