@@ -83,7 +83,7 @@ pub fn add<'r, 's>(
 }
 
 /// The texts of errors, each with a line feed.
-fn lines(alloc: Global, errors: &[FluentError]) -> Result<String, AllocError> {
+pub fn lines(alloc: Global, errors: &[FluentError]) -> Result<String, AllocError> {
     let mut out = String::new(alloc);
     for error in errors {
         write!(out, "{error}\n")?;
