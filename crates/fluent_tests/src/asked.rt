@@ -124,12 +124,7 @@ named-is-not-positional = { FIRST(x: 1) }
         ("number", &[], "1.50", ""),
         ("number-is-no-text", &[], "LENGTH()", ""),
         ("variable", NINE, "9", ""),
-        (
-            "variable",
-            &[("n", Given::Text("\\u0041"))],
-            "\\u0041",
-            "",
-        ),
+        ("variable", &[("n", Given::Text("\\u0041"))], "\\u0041", ""),
         ("variable", &[("n", Given::Star)], "*", ""),
         ("variable", &[("n", Given::Nothing)], "", ""),
         ("variable", &[("n", Given::Fault)], "FIRST()", ""),

@@ -2,9 +2,7 @@
 //! placeables that were open end, and which errors follow.
 use crate::common::read;
 use crate::objects::Answer;
-use crate::rows::{
-    Bundle, Given, Named, Setting, Table, bundle_of, gives, hold, value_in, wanted,
-};
+use crate::rows::{Bundle, Given, Named, Setting, Table, bundle_of, gives, hold, value_in, wanted};
 use std::alloc::{AllocError, Global};
 use std::process::Abort;
 use std::test::Fail;
@@ -39,7 +37,14 @@ fn are_given(
     for (id, text, errors) in rows {
         let pattern = value_in(bundle, id).ok_or(*id)?;
         let text = joined(alloc, *text)?;
-        gives(rt, alloc, bundle, pattern, &[], &wanted(text.as_str(), *errors))?;
+        gives(
+            rt,
+            alloc,
+            bundle,
+            pattern,
+            &[],
+            &wanted(text.as_str(), *errors),
+        )?;
     }
     Ok(())
 }
@@ -170,10 +175,7 @@ const NINE: &[Named] = &[("n", Given::Read("9"))];
 
 /// Each placeable that was open ends with its fallback, of a select with that of its selector.
 const ONE: Table = (
-    &[
-        Setting::Limit(1),
-        Setting::Function("FIRST", Answer::First),
-    ],
+    &[Setting::Limit(1), Setting::Function("FIRST", Answer::First)],
     "
 m = { $n }
     .a = { $n }
@@ -230,12 +232,7 @@ selector = { FIRST(m) ->
             "{none}",
             "Resolver error: Unknown message: none\nResolver error: Too many placeables\n",
         ),
-        (
-            "selector",
-            NINE,
-            "\u{2068}{FIRST()}\u{2069}",
-            TOO_MANY,
-        ),
+        ("selector", NINE, "\u{2068}{FIRST()}\u{2069}", TOO_MANY),
     ],
 );
 
@@ -308,10 +305,7 @@ Resolver error: Unknown function: F()
 );
 
 const TWO: Table = (
-    &[
-        Setting::Limit(2),
-        Setting::Function("FIRST", Answer::First),
-    ],
+    &[Setting::Limit(2), Setting::Function("FIRST", Answer::First)],
     "
 m = { \"a\" }{ \"b\" }
 -t = t

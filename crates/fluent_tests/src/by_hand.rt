@@ -5,8 +5,8 @@ use crate::own::Bracketed;
 use crate::resolver::formats;
 use crate::rows::{Bundle, Given, Named, Setting, bundle_of, gives, wanted};
 use crate::trees::{
-    Tree, alone, asked, beside, case, case_number, choice, default, function, in_brackets,
-    message, named, nested, number, only, only_named, put, say, select, string, term, variable,
+    Tree, alone, asked, beside, case, case_number, choice, default, function, in_brackets, message,
+    named, nested, number, only, only_named, put, say, select, string, term, variable,
 };
 use fluent_bundle::ast::{Expression, Pattern};
 use std::alloc::Global;
@@ -181,13 +181,41 @@ fn attributes_give(rt: &impl Abort, alloc: Global, bundle: &Bundle<'_, '_>) -> R
 /// Named arguments of terms that are no literals, and two of one name, of which the last stands.
 fn terms_give(rt: &impl Abort, alloc: Global, bundle: &Bundle<'_, '_>) -> Result<(), Fail> {
     let outer = only_named(alloc, "n", variable("n"))?;
-    row(rt, alloc, bundle, alone(alloc, term("t", "", Some(outer))), "9", "")?;
+    row(
+        rt,
+        alloc,
+        bundle,
+        alone(alloc, term("t", "", Some(outer))),
+        "9",
+        "",
+    )?;
     let text = only_named(alloc, "n", message("m"))?;
-    row(rt, alloc, bundle, alone(alloc, term("t", "", Some(text))), "mm", "")?;
+    row(
+        rt,
+        alloc,
+        bundle,
+        alone(alloc, term("t", "", Some(text))),
+        "mm",
+        "",
+    )?;
     let below = only_named(alloc, "n", term("b", "", None))?;
-    row(rt, alloc, bundle, alone(alloc, term("t", "", Some(below))), "uu", "")?;
+    row(
+        rt,
+        alloc,
+        bundle,
+        alone(alloc, term("t", "", Some(below))),
+        "uu",
+        "",
+    )?;
     let missing = only_named(alloc, "n", variable("q"))?;
-    row(rt, alloc, bundle, alone(alloc, term("t", "", Some(missing))), "", Q)?;
+    row(
+        rt,
+        alloc,
+        bundle,
+        alone(alloc, term("t", "", Some(missing))),
+        "",
+        Q,
+    )?;
     let both = vec![in alloc; named("n", number("1")), named("n", number("2"))]?;
     let last = alone(alloc, term("t", "", Some(asked(Vec::new(alloc), both))));
     row(rt, alloc, bundle, last, "2", "")?;
@@ -200,12 +228,26 @@ fn terms_give(rt: &impl Abort, alloc: Global, bundle: &Bundle<'_, '_>) -> Result
 /// Arguments of functions that stand in no source, and an id that is no name of a function there.
 fn functions_give(rt: &impl Abort, alloc: Global, bundle: &Bundle<'_, '_>) -> Result<(), Fail> {
     let text = only(alloc, string("q"))?;
-    row(rt, alloc, bundle, alone(alloc, function("f", text)), "q", "")?;
+    row(
+        rt,
+        alloc,
+        bundle,
+        alone(alloc, function("f", text)),
+        "q",
+        "",
+    )?;
     let both = vec![in alloc; named("x", number("1")), named("x", number("2"))]?;
     let last = alone(alloc, function("NAMED", asked(Vec::new(alloc), both)));
     row(rt, alloc, bundle, last, "2", "")?;
     let outer = only_named(alloc, "x", message("one"))?;
-    row(rt, alloc, bundle, alone(alloc, function("NAMED", outer)), "9", "")?;
+    row(
+        rt,
+        alloc,
+        bundle,
+        alone(alloc, function("NAMED", outer)),
+        "9",
+        "",
+    )?;
     let positional = vec![in alloc; variable("p")]?;
     let beside_it = vec![in alloc; named("x", variable("q"))]?;
     let in_order = alone(alloc, function("FIRST", asked(positional, beside_it)));
@@ -228,8 +270,7 @@ fn references_with_any_arguments_are_resolved(rt: HostRuntime) -> Result<(), Fai
 
 const NO_DEFAULT: &str = "Resolver error: No default\n";
 
-const Q_AND_NO_DEFAULT: &str =
-    "Resolver error: Unknown variable: $q\nResolver error: No default\n";
+const Q_AND_NO_DEFAULT: &str = "Resolver error: Unknown variable: $q\nResolver error: No default\n";
 
 /// Selects without a default, and one with two.
 fn defaults_give(rt: &impl Abort, alloc: Global, bundle: &Bundle<'_, '_>) -> Result<(), Fail> {
@@ -237,7 +278,14 @@ fn defaults_give(rt: &impl Abort, alloc: Global, bundle: &Bundle<'_, '_>) -> Res
     row(rt, alloc, bundle, other, "", NO_DEFAULT)?;
     let matching = choice(alloc, number("7"), &[case_number("7", "x")]);
     row(rt, alloc, bundle, matching, "x", "")?;
-    row(rt, alloc, bundle, choice(alloc, number("7"), &[]), "", NO_DEFAULT)?;
+    row(
+        rt,
+        alloc,
+        bundle,
+        choice(alloc, number("7"), &[]),
+        "",
+        NO_DEFAULT,
+    )?;
     let missing = choice(alloc, variable("q"), &[case("a", "x")]);
     row(rt, alloc, bundle, missing, "", Q_AND_NO_DEFAULT)?;
     let two = [case("a", "1"), default("b", "2"), default("c", "3")];
@@ -248,18 +296,71 @@ fn defaults_give(rt: &impl Abort, alloc: Global, bundle: &Bundle<'_, '_>) -> Res
 /// Selectors that stand in no source: what refers to a pattern, and a nested placeable, is a text.
 fn selectors_choose(rt: &impl Abort, alloc: Global, bundle: &Bundle<'_, '_>) -> Result<(), Fail> {
     let words = [case("mm", "m"), case("1", "one"), default("o", "other")];
-    row(rt, alloc, bundle, choice(alloc, message("m"), &words), "m", "")?;
+    row(
+        rt,
+        alloc,
+        bundle,
+        choice(alloc, message("m"), &words),
+        "m",
+        "",
+    )?;
     let numbers = [case_number("9", "a"), case("9", "b"), default("o", "c")];
-    row(rt, alloc, bundle, choice(alloc, message("one"), &numbers), "b", "")?;
-    row(rt, alloc, bundle, choice(alloc, variable("n"), &numbers), "a", "")?;
+    row(
+        rt,
+        alloc,
+        bundle,
+        choice(alloc, message("one"), &numbers),
+        "b",
+        "",
+    )?;
+    row(
+        rt,
+        alloc,
+        bundle,
+        choice(alloc, variable("n"), &numbers),
+        "a",
+        "",
+    )?;
     let brackets = in_brackets(alloc, number("9"), 1)?;
-    row(rt, alloc, bundle, choice(alloc, brackets, &numbers), "b", "")?;
-    let inner = select(alloc, variable("n"), &[case_number("9", "mm"), default("o", "o")])?;
-    row(rt, alloc, bundle, choice(alloc, nested(alloc, inner)?, &words), "m", "")?;
+    row(
+        rt,
+        alloc,
+        bundle,
+        choice(alloc, brackets, &numbers),
+        "b",
+        "",
+    )?;
+    let inner = select(
+        alloc,
+        variable("n"),
+        &[case_number("9", "mm"), default("o", "o")],
+    )?;
+    row(
+        rt,
+        alloc,
+        bundle,
+        choice(alloc, nested(alloc, inner)?, &words),
+        "m",
+        "",
+    )?;
     let one = only_named(alloc, "n", number("1"))?;
-    row(rt, alloc, bundle, choice(alloc, term("t", "", Some(one)), &words), "one", "")?;
+    row(
+        rt,
+        alloc,
+        bundle,
+        choice(alloc, term("t", "", Some(one)), &words),
+        "one",
+        "",
+    )?;
     let lost = "Resolver error: Unknown message: none\n";
-    row(rt, alloc, bundle, choice(alloc, message("none"), &words), "other", lost)
+    row(
+        rt,
+        alloc,
+        bundle,
+        choice(alloc, message("none"), &words),
+        "other",
+        lost,
+    )
 }
 
 #[test]
@@ -289,10 +390,7 @@ fn strikes(rt: &impl Abort, alloc: Global, bundle: &Bundle<'_, '_>) -> Result<()
 
 #[test]
 fn trees_made_by_hand_strike_the_limit(rt: HostRuntime) -> Result<(), Fail> {
-    let settings = [
-        Setting::Function("FIRST", Answer::First),
-        Setting::Limit(1),
-    ];
+    let settings = [Setting::Function("FIRST", Answer::First), Setting::Limit(1)];
     let resource = read(rt.alloc(), SOURCE)?;
     let bundle = bundle_of(rt.alloc(), &settings, &resource)?;
     strikes(&rt, rt.alloc(), &bundle)

@@ -119,11 +119,11 @@ pub fn arguments(alloc: Global, given: Given) -> Result<FluentArgs<'static, NoCu
 }
 
 /// Formats a pattern.
-pub fn format<'p>(
-    bundle: &Bundle<'_, '_>,
-    pattern: &'p Pattern<'_>,
+pub fn format<'s>(
+    bundle: &Bundle<'_, 's>,
+    pattern: &Pattern<'s>,
     args: Option<&FluentArgs<'_, NoCustom>>,
     errors: &mut Vec<FluentError>,
-) -> Result<CowStr<'p>, AllocError> {
+) -> Result<CowStr<'s>, AllocError> {
     bundle.format_pattern(pattern, args, errors)
 }

@@ -94,8 +94,16 @@ fn stops(
     if end == End::Memory {
         return Ok(None);
     }
-    assert!(rt; is_one_fault(how, end, w.failed(), w.empty()), "{text} at {}", how.in_all);
-    assert!(rt; is_front(w.into_inner().taken.as_slice(), how, text), "{text} at {}", how.in_all);
+    assert!(rt;
+        is_one_fault(how, end, w.failed(), w.empty()),
+        "{text} at {}",
+        how.in_all
+    );
+    assert!(rt;
+        is_front(w.into_inner().taken.as_slice(), how, text),
+        "{text} at {}",
+        how.in_all
+    );
     Ok(Some(errors))
 }
 
@@ -146,7 +154,10 @@ c = y{ b }
 );
 
 const STRUCK: Whole = (
-    &[Setting::Limit(4), Setting::Function("SECOND", Answer::Second)],
+    &[
+        Setting::Limit(4),
+        Setting::Function("SECOND", Answer::Second),
+    ],
     "
 m = { $n }{ $n }
 a = x{ $n ->
@@ -234,8 +245,16 @@ fn goes_through(
     if end == End::Memory {
         return begin_them(rt, alloc, errors.as_slice(), wanted);
     }
-    assert!(rt; end == End::Whole && w.failed() == 0 && w.empty() == 0, "{}", wanted.text);
-    assert!(rt; w.into_inner().taken.as_slice() == wanted.text.as_bytes(), "{}", wanted.text);
+    assert!(rt;
+        end == End::Whole && w.failed() == 0 && w.empty() == 0,
+        "{}",
+        wanted.text
+    );
+    assert!(rt;
+        w.into_inner().taken.as_slice() == wanted.text.as_bytes(),
+        "{}",
+        wanted.text
+    );
     are_all(rt, alloc, errors.as_slice(), wanted)
 }
 
@@ -303,12 +322,7 @@ const CUTS: &[Cut] = &[
         "x",
         "Resolver error: Unknown variable: $q\n",
     ),
-    (
-        &[Setting::Limit(1)],
-        "a = x{ b }\nb = y{ $n }z\n",
-        "x",
-        "",
-    ),
+    (&[Setting::Limit(1)], "a = x{ b }\nb = y{ $n }z\n", "x", ""),
     (
         &[Setting::Limit(1)],
         "a = x{ b }\nb = y{ $n }z\n",

@@ -60,9 +60,11 @@ fn is_called<K: Answering<NoCustom, Identity> + Drop>(
     requires { K.ready closure }
 {
     let bundle = bundle_of(alloc, resource, closure).ok().ok_or("not made")?;
-    Ok(is_formatted(alloc, &bundle, "p", "q")?
-        && is_formatted(alloc, &bundle, "r", "ID()")?
-        && is_formatted(alloc, &bundle, "s", "ID()")?)
+    Ok(
+        is_formatted(alloc, &bundle, "p", "q")?
+            && is_formatted(alloc, &bundle, "r", "ID()")?
+            && is_formatted(alloc, &bundle, "s", "ID()")?,
+    )
 }
 
 /// The same of a closure, to which the bound gives its shape.

@@ -42,12 +42,7 @@ type List = (
     &'static [(Step, &'static [Row])],
 );
 
-const NO_FUNCTION: Row = (
-    "a",
-    &[],
-    "{F()}",
-    "Resolver error: Unknown function: F()\n",
-);
+const NO_FUNCTION: Row = ("a", &[], "{F()}", "Resolver error: Unknown function: F()\n");
 
 /// A function is added after the message that calls it.
 const FUNCTION: List = (
@@ -87,19 +82,11 @@ const TERM: List = (
         ("b", &[], "{-foo}", "Resolver error: Unknown term: -foo\n"),
     ],
     &[
-        (
-            Step::Add,
-            &[("a", &[], "x", "")],
-        ),
+        (Step::Add, &[("a", &[], "x", "")]),
         (
             Step::Override,
             &[
-                (
-                    "a",
-                    &[],
-                    "{foo}",
-                    "Resolver error: Unknown message: foo\n",
-                ),
+                ("a", &[], "{foo}", "Resolver error: Unknown message: foo\n"),
                 ("b", &[], "y", ""),
             ],
         ),

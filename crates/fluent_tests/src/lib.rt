@@ -58,6 +58,8 @@ mod settings;
 #[cfg(test)]
 mod shown;
 #[cfg(test)]
+mod tracking;
+#[cfg(test)]
 mod trees;
 #[cfg(test)]
 mod writers;

@@ -57,15 +57,15 @@ impl FluentFunction<Star> for Answer {
     ghost use Rattle.fluent_tests.specs.declared.objects.Answer.TheVariants as own;
 
     ghost answer = { λ f positional named. elim f [
-        | own.Nothing ↦ no_value
-        | own.Fault ↦ error_value
-        | own.Star ↦ custom_value []
-        | own.One ↦ number_value (number_with (whole (pos 1)) None)
-        | own.Text t ↦ text_value t.now
-        | own.First ↦ unwrap_or (slice_get positional 0) error_value
-        | own.Second ↦ unwrap_or (slice_get positional 1) error_value
-        | own.Named ↦ unwrap_or (get (codes "x") named) error_value
-        | own.Length ↦ length_of positional
+      | own.Nothing ↦ no_value
+      | own.Fault ↦ error_value
+      | own.Star ↦ custom_value []
+      | own.One ↦ number_value (number_with (whole (pos 1)) None)
+      | own.Text t ↦ text_value t.now
+      | own.First ↦ unwrap_or (slice_get positional 0) error_value
+      | own.Second ↦ unwrap_or (slice_get positional 1) error_value
+      | own.Named ↦ unwrap_or (get (codes "x") named) error_value
+      | own.Length ↦ length_of positional
     ] };
 
     fn call<'a>(
@@ -112,11 +112,11 @@ impl FluentFormatter<Star, EnglishPlurals> for Kinds {
     ghost use Rattle.fluent_meaning.specs.Value.{text_value, number_value, custom_value, no_value, error_value};
 
     ghost formatted = { λ _ v _. elim v [
-        | text_value _ ↦ Some (codes "text")
-        | number_value _ ↦ Some (codes "number")
-        | custom_value _ ↦ Some (codes "custom")
-        | no_value ↦ Some (codes "nothing")
-        | error_value ↦ Some (codes "error")
+      | text_value _ ↦ Some (codes "text")
+      | number_value _ ↦ Some (codes "number")
+      | custom_value _ ↦ Some (codes "custom")
+      | no_value ↦ Some (codes "nothing")
+      | error_value ↦ Some (codes "error")
     ] };
 
     fn format<'a>(

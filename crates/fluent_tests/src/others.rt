@@ -69,7 +69,10 @@ files = { $n ->
     let resource = read(alloc, source)?;
     let bundle: Polish<'_, '_> = FluentBundle::new(alloc, Vec::new(alloc), rules(alloc)?);
     for (number, text) in FILES {
-        assert!(rt; is_shown(alloc, &bundle, &resource, *number, *text)?, "{text}");
+        assert!(rt;
+            is_shown(alloc, &bundle, &resource, *number, *text)?,
+            "{text}"
+        );
     }
     Ok(())
 }

@@ -305,7 +305,14 @@ fn attributes_give(
     let mut attributes = bundle.get_message(id).ok_or("no message")?.attributes();
     for text in texts {
         let attribute = attributes.next().ok_or("no attribute")?;
-        gives(rt, alloc, bundle, attribute.value(), &[], &wanted(*text, ""))?;
+        gives(
+            rt,
+            alloc,
+            bundle,
+            attribute.value(),
+            &[],
+            &wanted(*text, ""),
+        )?;
     }
     assert!(rt; attributes.next().is_none());
     Ok(())

@@ -95,10 +95,7 @@ fn value(given: Given) -> FluentValue<'static, Star> {
 }
 
 /// The arguments of a row.
-pub fn arguments(
-    alloc: Global,
-    named: &[Named],
-) -> Result<FluentArgs<'static, Star>, AllocError> {
+pub fn arguments(alloc: Global, named: &[Named]) -> Result<FluentArgs<'static, Star>, AllocError> {
     let mut args = FluentArgs::new(alloc);
     for (name, given) in named {
         args.set(CowStr::Borrowed(*name), value(*given))?;
@@ -153,7 +150,11 @@ pub fn begin_them(
     wanted: &Wanted<'_>,
 ) -> Result<(), Fail> {
     let found = lines_of(alloc, errors)?;
-    assert!(rt; wanted.errors.starts_with(found.as_str()), "{}: {found}", wanted.text);
+    assert!(rt;
+        wanted.errors.starts_with(found.as_str()),
+        "{}: {found}",
+        wanted.text
+    );
     Ok(())
 }
 
@@ -192,7 +193,11 @@ fn writes_once(
     let end = end_of(write(bundle, pattern, args, &mut w, &mut errors));
     let taken = w.into_inner();
     if end == End::Memory {
-        assert!(rt; wanted.text.as_bytes().starts_with(taken.as_slice()), "{}", wanted.text);
+        assert!(rt;
+            wanted.text.as_bytes().starts_with(taken.as_slice()),
+            "{}",
+            wanted.text
+        );
         begin_them(rt, alloc, errors.as_slice(), wanted)?;
         return Ok(false);
     }
@@ -217,7 +222,12 @@ fn formats_once(
         begin_them(rt, alloc, errors.as_slice(), wanted)?;
         return Ok(false);
     };
-    assert!(rt; text.as_str() == wanted.formatted, "{}: {}", wanted.formatted, text.as_str());
+    assert!(rt;
+        text.as_str() == wanted.formatted,
+        "{}: {}",
+        wanted.formatted,
+        text.as_str()
+    );
     are_all(rt, alloc, errors.as_slice(), wanted)?;
     Ok(true)
 }
@@ -278,7 +288,11 @@ fn has_formatter(settings: &[Setting]) -> bool {
 fn wanted_of(settings: &[Setting], row: &Row) -> Wanted<'static> {
     Wanted {
         text: row.2,
-        formatted: if has_formatter(settings) { "text" } else { row.2 },
+        formatted: if has_formatter(settings) {
+            "text"
+        } else {
+            row.2
+        },
         errors: row.3,
     }
 }

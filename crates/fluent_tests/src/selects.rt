@@ -124,12 +124,7 @@ other = { $n ->
     &[
         ("other", TWO, "x", ""),
         ("other", &[("n", Given::Nothing)], "y", ""),
-        (
-            "other",
-            &[],
-            "y",
-            "Resolver error: Unknown variable: $n\n",
-        ),
+        ("other", &[], "y", "Resolver error: Unknown variable: $n\n"),
         ("keys", ONE, "number", ""),
         ("keys", &[("n", Given::Text("1"))], "default", ""),
         ("keys", &[("n", Given::Read("1.0"))], "default", ""),

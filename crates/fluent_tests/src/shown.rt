@@ -63,14 +63,15 @@ const EMAILS: Table = (
     "
 msg-key = Hello, { $user }. You have { $emailCount } messages.
 ",
-    &[
-        (
-            "msg-key",
-            &[("user", Given::Text("John")), ("emailCount", Given::Read("5"))],
-            "Hello, John. You have 5 messages.",
-            "",
-        ),
-    ],
+    &[(
+        "msg-key",
+        &[
+            ("user", Given::Text("John")),
+            ("emailCount", Given::Read("5")),
+        ],
+        "Hello, John. You have 5 messages.",
+        "",
+    )],
 );
 
 /// Text elements alone are changed, wherever they stand.
@@ -247,6 +248,14 @@ fn settings_are_used_at_any_depth(rt: HostRuntime) -> Result<(), Fail> {
     hold(
         &rt,
         rt.alloc(),
-        &[ISOLATED, NOT_ISOLATED, EMAILS, TRANSFORMED, FORMATTED, LINES, OWN_TEXTS],
+        &[
+            ISOLATED,
+            NOT_ISOLATED,
+            EMAILS,
+            TRANSFORMED,
+            FORMATTED,
+            LINES,
+            OWN_TEXTS,
+        ],
     )
 }

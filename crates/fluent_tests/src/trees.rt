@@ -43,7 +43,11 @@ fn name_of(name: &'static str) -> Identifier<'static> {
 
 /// The name of an attribute, none where it is empty.
 fn attribute_of(name: &'static str) -> Option<Identifier<'static>> {
-    if name.is_empty() { None } else { Some(name_of(name)) }
+    if name.is_empty() {
+        None
+    } else {
+        Some(name_of(name))
+    }
 }
 
 pub fn string(value: &'static str) -> Inline {
@@ -127,10 +131,7 @@ pub fn only_named(
     name: &'static str,
     value: Inline,
 ) -> Result<CallArguments<'static>, AllocError> {
-    Ok(asked(
-        Vec::new(alloc),
-        vec![in alloc; named(name, value)]?,
-    ))
+    Ok(asked(Vec::new(alloc), vec![in alloc; named(name, value)]?))
 }
 
 // ---- selects

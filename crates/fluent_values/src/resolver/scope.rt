@@ -106,11 +106,20 @@ impl<'errors, 'p, 'r, 's, 'args, C: FluentType, F: FluentFunction<C>, B: Context
         }
     }
 
-    /// Takes the list of errors back, with those that the call added; the state has none then.
-    pub fn take_errors(&mut self) -> Option<&'errors mut Vec<FluentError>>
-        ensures { result ≡ self.old.errors }
+    /// Gives the list of errors back, with those that the call added, at the call's end.
+    pub fn into_errors(self) -> Option<&'errors mut Vec<FluentError>>
+        ensures { result ≡ self.entry.errors }
     {
-        self.errors.take()
+        let Scope {
+            errors,
+            bundle: _,
+            ids: _,
+            environment: _,
+            path: _,
+            budget: _,
+            counts: _,
+        } = self;
+        errors
     }
 
     /// Whether a placeable past the limit was met.
