@@ -123,7 +123,7 @@ fn take_all<'p, 'r, 's>(
     }
     let counts = scope.counts();
     let dirty = scope.dirty();
-    let _errors = scope.take_errors();
+    let _errors = scope.into_errors();
     Ok((dirty, counts.opened, counts.longest, counts.entered))
 }
 
