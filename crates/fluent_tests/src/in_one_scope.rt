@@ -65,7 +65,13 @@ type After = (bool, u64, u64, u64);
 
 /// What is set in a bundle, calls of one scope where `n` is 9, their texts, the lines of their errors, and the scope
 /// after them.
-type Row = (&'static [Setting], &'static [Step], &'static str, &'static str, After);
+type Row = (
+    &'static [Setting],
+    &'static [Step],
+    &'static str,
+    &'static str,
+    After,
+);
 
 type NineScope<'errors, 'p, 'r, 's> = Scope<
     'errors,
@@ -123,7 +129,6 @@ fn take_all<'p, 'r, 's>(
     }
     let counts = scope.counts();
     let dirty = scope.dirty();
-    let _errors = scope.into_errors();
     Ok((dirty, counts.opened, counts.longest, counts.entered))
 }
 
@@ -151,7 +156,11 @@ fn once(
         }
         Err(fault) => {
             assert!(rt; end_of(Err(fault)) == End::Memory, "{}", wanted.text);
-            assert!(rt; wanted.text.as_bytes().starts_with(taken.as_slice()), "{}", wanted.text);
+            assert!(rt;
+                wanted.text.as_bytes().starts_with(taken.as_slice()),
+                "{}",
+                wanted.text
+            );
             begin_them(rt, alloc, errors.as_slice(), wanted)?;
             Ok(false)
         }
