@@ -4,7 +4,7 @@ use crate::common::read;
 use crate::objects::{Answer, Star};
 use crate::rows::{
     Bundle, Given, Named, Setting, Wanted, are_all, arguments, begin_them, bundle_of, value_in,
-    wanted,
+    wants,
 };
 use crate::writers::{End, end_of};
 use fluent_bundle::ast::{Expression, InlineExpression, Pattern, PatternElement};
@@ -170,7 +170,7 @@ fn once(
 fn holds(rt: &impl Abort, alloc: Global, row: &Row) -> Result<(), Fail> {
     let resource = read(alloc, SOURCE)?;
     let bundle = bundle_of(alloc, row.0, &resource)?;
-    let wanted = wanted(row.2, row.3);
+    let wanted = wants(row.2, row.3);
     if !once(rt, alloc, &bundle, row.1, &wanted, row.4)? {
         assert!(rt; once(rt, alloc, &bundle, row.1, &wanted, row.4)?);
     }
@@ -296,7 +296,7 @@ fn a_dirty_scope_writes_no_pattern(rt: HostRuntime) -> Result<(), Fail> {
     ];
     let after = take_all(&bundle, &args, &mut w, &mut errors, &steps)?;
     assert!(rt; after.0 && after.1 == 2);
-    let wanted = wanted("ab{m}{$n}9{$n}", TOO_MANY);
+    let wanted = wants("ab{m}{$n}9{$n}", TOO_MANY);
     assert!(rt; w.into_inner().as_slice() == wanted.text.as_bytes());
     are_all(&rt, alloc, errors.as_slice(), &wanted)
 }
