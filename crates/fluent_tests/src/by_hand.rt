@@ -44,7 +44,7 @@ const CYCLIC: &str = "Resolver error: Cyclical dependency detected\n";
 fn row(
     rt: &impl Abort,
     alloc: Global,
-    bundle: &Bundle<'_, '_>,
+    bundle: &Bundle<'_, 'static>,
     tree: Tree,
     text: &str,
     errors: &str,
@@ -78,7 +78,7 @@ const STRINGS: &[Literal] = &[
     ("\"{ $n }\n", "\"{ $n }\n"),
 ];
 
-fn literals_give(rt: &impl Abort, alloc: Global, bundle: &Bundle<'_, '_>) -> Result<(), Fail> {
+fn literals_give(rt: &impl Abort, alloc: Global, bundle: &Bundle<'_, 'static>) -> Result<(), Fail> {
     for (source, text) in NUMBERS {
         row(rt, alloc, bundle, alone(alloc, number(*source)), *text, "")?;
     }
@@ -110,7 +110,7 @@ fn nothing(alloc: Global) -> Pattern<'static> {
     }
 }
 
-fn patterns_give(rt: &impl Abort, alloc: Global, bundle: &Bundle<'_, '_>) -> Result<(), Fail> {
+fn patterns_give(rt: &impl Abort, alloc: Global, bundle: &Bundle<'_, 'static>) -> Result<(), Fail> {
     row(rt, alloc, bundle, Ok(nothing(alloc)), "", "")?;
     let marked = beside(alloc, "", variable("n"));
     row(rt, alloc, bundle, marked, "\u{2068}9\u{2069}", "")?;
@@ -167,7 +167,11 @@ fn patterns_of_other_sources_are_written(rt: HostRuntime) -> Result<(), Fail> {
 // ---- references
 
 /// Attributes of terms in placeables.
-fn attributes_give(rt: &impl Abort, alloc: Global, bundle: &Bundle<'_, '_>) -> Result<(), Fail> {
+fn attributes_give(
+    rt: &impl Abort,
+    alloc: Global,
+    bundle: &Bundle<'_, 'static>,
+) -> Result<(), Fail> {
     let attribute = alone(alloc, term("t", "a", None));
     row(rt, alloc, bundle, attribute, "a\u{2068}{$n}\u{2069}", "")?;
     let one = only_named(alloc, "n", number("1"))?;
@@ -179,7 +183,7 @@ fn attributes_give(rt: &impl Abort, alloc: Global, bundle: &Bundle<'_, '_>) -> R
 }
 
 /// Named arguments of terms that are no literals, and two of one name, of which the last stands.
-fn terms_give(rt: &impl Abort, alloc: Global, bundle: &Bundle<'_, '_>) -> Result<(), Fail> {
+fn terms_give(rt: &impl Abort, alloc: Global, bundle: &Bundle<'_, 'static>) -> Result<(), Fail> {
     let outer = only_named(alloc, "n", variable("n"))?;
     row(
         rt,
@@ -226,7 +230,11 @@ fn terms_give(rt: &impl Abort, alloc: Global, bundle: &Bundle<'_, '_>) -> Result
 }
 
 /// Arguments of functions that stand in no source, and an id that is no name of a function there.
-fn functions_give(rt: &impl Abort, alloc: Global, bundle: &Bundle<'_, '_>) -> Result<(), Fail> {
+fn functions_give(
+    rt: &impl Abort,
+    alloc: Global,
+    bundle: &Bundle<'_, 'static>,
+) -> Result<(), Fail> {
     let text = only(alloc, string("q"))?;
     row(
         rt,
@@ -273,7 +281,7 @@ const NO_DEFAULT: &str = "Resolver error: No default\n";
 const Q_AND_NO_DEFAULT: &str = "Resolver error: Unknown variable: $q\nResolver error: No default\n";
 
 /// Selects without a default, and one with two.
-fn defaults_give(rt: &impl Abort, alloc: Global, bundle: &Bundle<'_, '_>) -> Result<(), Fail> {
+fn defaults_give(rt: &impl Abort, alloc: Global, bundle: &Bundle<'_, 'static>) -> Result<(), Fail> {
     let other = choice(alloc, number("7"), &[case_number("1", "x")]);
     row(rt, alloc, bundle, other, "", NO_DEFAULT)?;
     let matching = choice(alloc, number("7"), &[case_number("7", "x")]);
@@ -294,7 +302,11 @@ fn defaults_give(rt: &impl Abort, alloc: Global, bundle: &Bundle<'_, '_>) -> Res
 }
 
 /// Selectors that stand in no source: what refers to a pattern, and a nested placeable, is a text.
-fn selectors_choose(rt: &impl Abort, alloc: Global, bundle: &Bundle<'_, '_>) -> Result<(), Fail> {
+fn selectors_choose(
+    rt: &impl Abort,
+    alloc: Global,
+    bundle: &Bundle<'_, 'static>,
+) -> Result<(), Fail> {
     let words = [
         case_of("mm", "m"),
         case_of("1", "one"),
@@ -378,7 +390,7 @@ fn selects_of_any_parts_choose(rt: HostRuntime) -> Result<(), Fail> {
 // ---- the limit
 
 /// A select without a default whose selector strikes the limit, and fallbacks of nested placeables.
-fn strikes(rt: &impl Abort, alloc: Global, bundle: &Bundle<'_, '_>) -> Result<(), Fail> {
+fn strikes(rt: &impl Abort, alloc: Global, bundle: &Bundle<'_, 'static>) -> Result<(), Fail> {
     let first = only(alloc, message("one"))?;
     let selector = choice(alloc, function("FIRST", first), &[case_of("a", "x")]);
     let errors = "Resolver error: Too many placeables\nResolver error: No default\n";
