@@ -99,13 +99,13 @@ fn literals_of_any_source_are_written(rt: HostRuntime) -> Result<(), Fail> {
 // ---- patterns
 
 /// A text, an empty text and a reference to `foo`.
-fn split(alloc: Global) -> Tree {
+fn split<'s>(alloc: Global) -> Tree<'s> {
     Ok(Pattern {
         elements: vec![in alloc; say("x"), say(""), put(message("foo"))]?,
     })
 }
 
-fn nothing<'s>(alloc: Global) -> Pattern<'static> {
+fn nothing<'s>(alloc: Global) -> Pattern<'s> {
     Pattern {
         elements: Vec::new(alloc),
     }
