@@ -14,11 +14,11 @@ use Rattle.fluent_values.specs.declared.errors.FluentError.{FluentError}
 use Rattle.fluent_bundle.specs.Formatted.{AddsFront, Gives}
 use Rattle.fluent_bundle.specs.declared.bundle.FluentBundle.{FluentBundle}
 use Rattle.fluent_chain.specs.Chain.{value_at, attribute_at, shown_of, substituted_of, IsWithin}
-use Rattle.fluent_chain.specs.declared.Chain.{Chain}
+use Rattle.fluent_chain.specs.declared.chain.Chain.{Chain}
 
 -- the bundles of a chain, the first that is asked first
 abbrev pub bundles_of : {M C F G X : Type 0} → Chain M C F G X → List (FluentBundle M C F G X)
-bundles_of chain = map (λ b. b.now) chain.bundles.now
+bundles_of chain = map (λ link. link.0.now) chain.bundles.now
 
 -- the value of a message, or its first attribute where a name is given
 abbrev pub pattern_at : {C : Type 0} → Text → Option Text → Bundle C → Option Pattern

@@ -16,24 +16,31 @@ use fluent_bundle::{
 use std::alloc::AllocError;
 use std::borrow::CowStr;
 
+/// A bundle of a chain, which is lent.
+#[derive(Drop)]
+pub struct Link<'b, 'r, 's, M, C, F, G, T = Box<dyn Transform>>(
+    pub &'b FluentBundle<'r, 's, M, C, F, G, T>,
+);
+
 /// Bundles in the order in which they are asked, such as one for each language that somebody reads, the one that is
-/// read best first.
+/// read best first: `Chain::new(&[Link(&polish), Link(&english)])`.
 ///
 /// They have one type, and may have different plural rules of that type, transforms, formatters, functions and
 /// limits: the bundle that answers answers by its own, and looks up references in itself alone.
 #[derive(Drop)]
-pub struct Chain<'c, 'r, 's, M, C, F, G, T = Box<dyn Transform>> {
-    pub bundles: &'c [&'c FluentBundle<'r, 's, M, C, F, G, T>],
+pub struct Chain<'c, 'b, 'r, 's, M, C, F, G, T = Box<dyn Transform>> {
+    pub bundles: &'c [Link<'b, 'r, 's, M, C, F, G, T>],
 }
 
 /// A bundle, with a pattern that it has.
-type Found<'c, 'r, 's, M, C, F, G, T> = (
-    &'c FluentBundle<'r, 's, M, C, F, G, T>,
+type Found<'b, 'r, 's, M, C, F, G, T> = (
+    &'b FluentBundle<'r, 's, M, C, F, G, T>,
     &'r ast::Pattern<'s>,
 );
 
 impl<
     'c,
+    'b,
     'r,
     's: 'r,
     M: MemoizerKind,
@@ -41,9 +48,9 @@ impl<
     F: FluentFunction<C>,
     G: FluentFormatter<C, M>,
     T: Transform,
-> Chain<'c, 'r, 's, M, C, F, G, T> {
+> Chain<'c, 'b, 'r, 's, M, C, F, G, T> {
     /// A chain of these bundles, of which the first is asked first.
-    pub fn new(bundles: &'c [&'c FluentBundle<'r, 's, M, C, F, G, T>]) -> Self
+    pub fn new(bundles: &'c [Link<'b, 'r, 's, M, C, F, G, T>]) -> Self
         ensures { result.bundles.now ≡ bundles.now }
     {
         Chain { bundles }
@@ -187,16 +194,16 @@ impl<
         &self,
         id: &str,
         attribute: Option<&str>,
-    ) -> Option<Found<'c, 'r, 's, M, C, F, G, T>>
+    ) -> Option<Found<'b, 'r, 's, M, C, F, G, T>>
         ensures {
             let of = meant M.category C.shown C.alike F.answer G.formatted T.changed in
             let name = option_map (λ n. n.now) attribute.entry in
             option_map found_view result
                 ≡ first_with (λ b. pattern_at id.now name (of b)) (bundles_of self.now) }
     {
-        for bundle in self.bundles {
-            if let Some(pattern) = Self::pattern_in(*bundle, id, attribute) {
-                return Some((*bundle, pattern));
+        for link in self.bundles {
+            if let Some(pattern) = Self::pattern_in(link.0, id, attribute) {
+                return Some((link.0, pattern));
             }
         }
         None

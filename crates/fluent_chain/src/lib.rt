@@ -4,4 +4,4 @@
 pub mod chain;
 pub mod examples;
 
-pub use chain::Chain;
+pub use chain::{Chain, Link};

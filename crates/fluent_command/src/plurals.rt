@@ -14,7 +14,7 @@ use std::alloc::Global;
 
 /// English, or rules that were read.
 #[derive(Clone, Copy, Drop)]
-pub(crate) enum Plurals<'p> {
+pub enum Plurals<'p> {
     English,
     Rules(&'p RuleTexts),
 }
