@@ -1,0 +1,67 @@
+//! Attributes, and whether a part is there at all.
+use crate::common::{Bundle, Bundles, attribute, both_show, bundle_of, read, value};
+use fluent_chain::{Chain, Link};
+use std::process::Abort;
+use std::test::Fail;
+
+const FIRST: &str = "a = 1\nk =\n    .t = x\n";
+
+const SECOND: &str = "a = 2\n    .t = { $n }y\n    .t = z\nk = v\n    .u = { \"w\" }\n";
+
+#[test]
+fn the_first_with_the_attribute_answers(rt: HostRuntime) -> Result<(), Fail> {
+    let alloc = rt.alloc();
+    let first = read(alloc, FIRST)?;
+    let second = read(alloc, SECOND)?;
+    let first = bundle_of(alloc, &first)?;
+    let second = bundle_of(alloc, &second)?;
+    let error = "Resolver error: Unknown variable: $n\n";
+    let rows = [
+        (attribute("k", "t"), ("x", true, "")),
+        (attribute("k", "u"), ("w", false, "")),
+        (attribute("a", "t"), ("\u{2068}{$n}\u{2069}y", false, error)),
+        (attribute("a", "u"), ("a", true, "")),
+        (attribute("c", "t"), ("c", true, "")),
+        (value("a"), ("1", true, "")),
+    ];
+    both_show(&rt, alloc, &first, &second, &rows)
+}
+
+fn has(chain: &Bundles<'_, '_, '_, '_>, id: &str, name: Option<&str>) -> bool {
+    match name {
+        None => chain.has_value(id),
+        Some(name) => chain.has_attribute(id, name),
+    }
+}
+
+/// An id, the name of an attribute, and whether one of the bundles has that.
+const THERE: &[(&str, Option<&str>, bool)] = &[
+    ("a", None, true),
+    ("k", None, true),
+    ("c", None, false),
+    ("", None, false),
+    ("a", Some("t"), true),
+    ("k", Some("t"), true),
+    ("k", Some("u"), true),
+    ("a", Some("u"), false),
+    ("c", Some("t"), false),
+];
+
+fn both_have(rt: &impl Abort, first: &Bundle<'_, '_>, second: &Bundle<'_, '_>) {
+    let links = [Link(first), Link(second)];
+    let chain = Chain::new(&links);
+    for (id, name, there) in THERE {
+        assert!(rt; has(&chain, *id, *name) == *there, "{id}");
+    }
+}
+
+#[test]
+fn what_no_bundle_has_can_be_told(rt: HostRuntime) -> Result<(), Fail> {
+    let alloc = rt.alloc();
+    let first = read(alloc, FIRST)?;
+    let second = read(alloc, SECOND)?;
+    let first = bundle_of(alloc, &first)?;
+    let second = bundle_of(alloc, &second)?;
+    both_have(&rt, &first, &second);
+    Ok(())
+}
