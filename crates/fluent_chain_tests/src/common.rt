@@ -127,12 +127,12 @@ fn arguments(alloc: Global, asked: Asked) -> Result<FluentArgs<'static, NoCustom
     Ok(args)
 }
 
-fn format<'t>(
+fn format<'r, 's: 'r>(
     alloc: Global,
-    chain: &Bundles<'_, '_, '_, 't>,
+    chain: &Bundles<'_, '_, 'r, 's>,
     asked: Asked,
     errors: &mut Vec<FluentError>,
-) -> Result<CowStr<'t>, AllocError> {
+) -> Result<CowStr<'s>, AllocError> {
     let args = arguments(alloc, asked)?;
     match asked.attribute {
         None => chain.format_value(asked.id, Some(&args), errors),
@@ -150,10 +150,10 @@ fn lines(alloc: Global, errors: &[FluentError]) -> Result<String, AllocError> {
 }
 
 /// That a part is shown as a row says; `false` where memory is refused, which leaves a beginning of the errors.
-fn shown_once(
+fn shown_once<'r, 's: 'r>(
     rt: &impl Abort,
     alloc: Global,
-    chain: &Bundles<'_, '_, '_, '_>,
+    chain: &Bundles<'_, '_, 'r, 's>,
     row: &Row,
 ) -> Result<bool, Fail> {
     let (asked, (text, lent, errors)) = *row;
@@ -172,10 +172,10 @@ fn shown_once(
 }
 
 /// The same, shown a second time where memory is refused at the first.
-pub fn shows(
+pub fn shows<'r, 's: 'r>(
     rt: &impl Abort,
     alloc: Global,
-    chain: &Bundles<'_, '_, '_, '_>,
+    chain: &Bundles<'_, '_, 'r, 's>,
     rows: &[Row],
 ) -> Result<(), Fail> {
     for row in rows {
@@ -187,11 +187,11 @@ pub fn shows(
 }
 
 /// That two bundles, the first of which is asked first, show these rows.
-pub fn both_show(
+pub fn both_show<'r, 's: 'r>(
     rt: &impl Abort,
     alloc: Global,
-    first: &Bundle<'_, '_>,
-    second: &Bundle<'_, '_>,
+    first: &Bundle<'r, 's>,
+    second: &Bundle<'r, 's>,
     rows: &[Row],
 ) -> Result<(), Fail> {
     let links = [Link(first), Link(second)];

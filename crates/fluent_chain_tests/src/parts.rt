@@ -47,7 +47,7 @@ const THERE: &[(&str, Option<&str>, bool)] = &[
     ("c", Some("t"), false),
 ];
 
-fn both_have(rt: &impl Abort, first: &Bundle<'_, '_>, second: &Bundle<'_, '_>) {
+fn both_have<'r, 's: 'r>(rt: &impl Abort, first: &Bundle<'r, 's>, second: &Bundle<'r, 's>) {
     let links = [Link(first), Link(second)];
     let chain = Chain::new(&links);
     for (id, name, there) in THERE {

@@ -1,5 +1,5 @@
 //! Which bundle answers for the value of a message, with what text and which errors.
-use crate::common::{Row, both_show, bundle_of, read, shows, value};
+use crate::common::{Bundle, Row, both_show, bundle_of, read, shows, value};
 use fluent_chain::{Chain, Link};
 use std::alloc::Global;
 use std::process::Abort;
@@ -62,15 +62,22 @@ fn a_chain_of_no_bundle_shows_ids(rt: HostRuntime) -> Result<(), Fail> {
     shows(&rt, rt.alloc(), &Chain::new(&[]), &rows)
 }
 
-fn one_shows(rt: &impl Abort, alloc: Global, source: &str, rows: &[Row]) -> Result<(), Fail> {
-    let resource = read(alloc, source)?;
-    let bundle = bundle_of(alloc, &resource)?;
-    let links = [Link(&bundle)];
-    shows(rt, alloc, &Chain::new(&links), rows)
+/// That one bundle shows these rows.
+fn one_shows<'r, 's: 'r>(
+    rt: &impl Abort,
+    alloc: Global,
+    bundle: &Bundle<'r, 's>,
+    rows: &[Row],
+) -> Result<(), Fail> {
+    let links = [Link(bundle)];
+    let chain = Chain::new(&links);
+    shows(rt, alloc, &chain, rows)
 }
 
 #[test]
 fn a_chain_of_one_bundle_shows_its_messages(rt: HostRuntime) -> Result<(), Fail> {
+    let resource = read(rt.alloc(), FIRST)?;
+    let bundle = bundle_of(rt.alloc(), &resource)?;
     let rows = [(value("a"), ("1", true, "")), (value("k"), ("k", true, ""))];
-    one_shows(&rt, rt.alloc(), FIRST, &rows)
+    one_shows(&rt, rt.alloc(), &bundle, &rows)
 }
