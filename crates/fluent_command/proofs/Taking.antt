@@ -6,7 +6,7 @@ use Rattle.std.proofs.KnownBytes.{Appends-trans}
 use Rattle.fluent_tree.specs.Tree.{Text}
 use Rattle.fluent_text.specs.Taken.{TookFront}
 use Rattle.fluent_meaning.specs.Errors.{Error}
-use Rattle.fluent_bundle.specs.Formatted.{WritesAll, WritesFront}
+use Rattle.fluent_bundle.specs.Formatted.{AddsAll, AddsFront, WritesAll, WritesFront}
 use Rattle.fluent_values.specs.declared.errors.FluentError.{FluentError}
 use Rattle.fluent_command.specs.Far.{Added, Took}
 
@@ -58,6 +58,11 @@ added_written (Err e) text errors held held' old new whole front = record {
   list = front.adds.adds.added;
   all = tt;
 }
+
+-- what a call added that answers a text
+pub added_answered : {T E : Type 0} (r : Result T E) (errors : List Error) (old new : List FluentError) → OnOk r (AddsAll errors old new) → AddsFront errors old new → Added r errors old new
+added_answered (Ok x) errors old new whole front = record { front = errors; rest = []; begins = sym (append-nil errors); list = whole.added; all = refl }
+added_answered (Err e) errors old new whole front = record { front = front.front; rest = front.rest; begins = sym front.whole; list = front.adds.added; all = tt }
 
 -- a beginning of a text is one of more, too
 pub front_short : (old new : Option Text) (s t : Text) → TookFront old new s → TookFront old new (s ++ t)
