@@ -1,11 +1,12 @@
 -- What each function of the resolver is to do, from its scope, as the steps of its code.
-use Rattle.std.proofs.Common.{◌≡◌, refl, sym, ap, subst, ◌∙◌, ℕ, zero, suc, ◌+◌, ◌<◌, ◌≤◌, max, length, get_or, drop, List, [], ◌∷◌, ◌++◌, Bool, true, false, Option, Some, None, map, Vec, Global, arith, unwrap_or}
+use Rattle.std.proofs.Common.{◌≡◌, refl, sym, ap, subst, ◌∙◌, ℕ, zero, suc, ◌+◌, ◌<◌, ◌≤◌, length, get_or, drop, List, [], ◌∷◌, ◌++◌, Bool, true, false, Option, Some, None, map, Vec, Global, arith, unwrap_or}
 use Rattle.std.proofs.lemmas.List.{drop_more}
 use Rattle.std.specs.Option.{option_map}
 use Rattle.std.specs.Borrow.{Bor}
 use Rattle.fluent_tree.specs.Tree.{Text, Pattern, Inline, Expression, Attribute, Call, Arguments, placeable, text, function, term, variable, pattern_of, inlines_of, nameds_of, variants_of, Element, more}
 use Rattle.fluent_tree.specs.Fallback.{fallback, in_braces}
-use Rattle.fluent_tree.specs.View.{pattern_view, element_view, expression_view, inline_view, named_view, variant_view}
+use Rattle.fluent_tree.specs.View.{pattern_view, element_view, expression_view, inline_view, named_view, variant_view, arguments_view}
+use Rattle.fluent_tree.specs.declared.ast.CallArguments as of_call
 use Rattle.fluent_tree.specs.declared.ast.PatternElement.{PatternElement}
 use Rattle.fluent_tree.specs.declared.ast.InlineExpression as of_inline
 use Rattle.fluent_tree.specs.declared.ast.NamedArgument as of_named
@@ -13,7 +14,7 @@ use Rattle.fluent_tree.specs.declared.ast.Pattern as of_pattern
 use Rattle.fluent_tree.specs.declared.ast.Expression as of_expression
 use Rattle.fluent_tree.specs.declared.ast.Expression.TheVariants as expressions
 use Rattle.fluent_tree.specs.declared.ast.Variant.{Variant}
-use Rattle.fluent_meaning.specs.Arguments.{Map, get}
+use Rattle.fluent_meaning.specs.Arguments.{Map, get, set, set_all}
 use Rattle.fluent_meaning.specs.Bundle.{Bundle, Function, Target, unknown, without_value, found, goes_to, term_target, shown, function_found}
 use Rattle.fluent_meaning.specs.Value.{Value, text_value, number_value, custom_value, no_value, error_value}
 use Rattle.fluent_meaning.specs.Errors.{resolver_error, cyclic}
@@ -26,8 +27,8 @@ use Rattle.fluent_values.specs.Status.{Status, on_path}
 use Rattle.fluent_values.specs.View.{value_view}
 use Rattle.fluent_values.specs.declared.types.value.FluentValue.{FluentValue}
 use Rattle.fluent_values.specs.declared.types.value.FluentValue.TheVariants as values
-use Rattle.fluent_values.proofs.Cases.{sequence, prepend, and_then, elements_end, elements_struck, elements_more, part_text, positional_none, positional_more, named_none, named_more, given_first, tells, loses_is, written_variable, variable_text_some, variable_text_none, missing_application, missing_local, resolved_variable, variable_value_some, variable_value_none, function_text_none, function_text_some, expression_inline, expression_select, chosen, chosen_is, meant, entering, go_cyclic, go_entered, whole_is, written_term, written_function}
-use Rattle.fluent_values.proofs.Views.{view_pattern, view_named, view_in, view_select_in}
+use Rattle.fluent_values.proofs.Cases.{sequence, prepend, and_then, elements_end, elements_struck, elements_more, part_text, positional_none, positional_more, named_none, named_more, given_first, tells, loses_is, written_variable, variable_text_some, variable_text_none, missing_application, missing_local, resolved_variable, variable_value_some, variable_value_none, function_text_none, function_text_some, expression_inline, expression_select, chosen, chosen_is, meant, entering, go_cyclic, go_entered, whole_is, written_term, written_function, and_then_is, then_give, called_is}
+use Rattle.fluent_values.proofs.Views.{view_pattern, view_named, view_in, view_select_in, view_arguments}
 use Rattle.fluent_values.specs.Texts.{IsText}
 
 -- LISTS
@@ -103,6 +104,48 @@ labelling_next a xs rest x b h =
 
 pub labelling_end : (a : Status) (xs : List of_named.NamedArgument) (b : Budget) → xs ≡ [] → walked a (label_walk xs) b ≡ given [] b
 labelling_end a xs b h = ap (λ xs. walked a (label_walk xs) b) h ∙ named_none a.bundle (work a.bundle) a.environment (on_path a.path) b
+
+-- what is made of the value of an argument, where these are still to come
+abbrev pub placing_more : Status → List of_inline.InlineExpression → Value Text → Budget → Worked (List (Value Text))
+placing_more a rest v b = mapping (λ vs. v ∷ vs) (walked a (place_walk rest) b)
+
+abbrev pub labelled : Text → Value Text → Text × Value Text
+labelled k v = (k, v)
+
+abbrev pub labelling_more : Status → List of_named.NamedArgument → Text → Value Text → Budget → Worked (List (Text × Value Text))
+labelling_more a rest k v b = mapping (λ vs. labelled k v ∷ vs) (walked a (label_walk rest) b)
+
+-- the named arguments of a call
+abbrev pub named_in : of_call.CallArguments → List of_named.NamedArgument
+named_in x = (of_call.out-CallArguments x).named.items
+
+-- the map that named arguments make
+abbrev pub naming : List of_named.NamedArgument → Walk (Map (Value Text))
+naming xs s f env path b = mapping (λ m. set_all m []) (label_walk xs s f env path b)
+
+abbrev pub pairing : List (Value Text) → Map (Value Text) → Budget → Worked (List (Value Text) × Map (Value Text))
+pairing vs m b = given (vs, m) b
+
+-- what is made of the values of positional arguments
+abbrev pub naming_after : Status → List of_named.NamedArgument → List (Value Text) → Budget → Worked (List (Value Text) × Map (Value Text))
+naming_after a ns vs b = and_then (walked a (naming ns) b) (pairing vs)
+
+-- the values of a call's arguments
+abbrev pub calling : Arguments → Walk (List (Value Text) × Map (Value Text))
+calling x s f env path = called with_work s f env path x
+
+pub calling_at : (a : Status) (x : of_call.CallArguments) (ps : List of_inline.InlineExpression) (ns : List of_named.NamedArgument) (b : Budget) → ps ≡ (of_call.out-CallArguments x).positional.items → ns ≡ named_in x → walked a (calling (arguments_view x)) b ≡ and_then (walked a (place_walk ps) b) (naming_after a ns)
+calling_at a x ps ns b hp hn =
+    ap (λ x. walked a (calling x) b) (view_arguments x)
+    ∙ called_is a.bundle (work a.bundle) a.environment (on_path a.path) (inlines_of (map inline_view (of_call.out-CallArguments x).positional.items)) (nameds_of (map named_view (named_in x))) b
+    ∙ ap (λ ps. and_then (walked a (place_walk ps) b) (λ vs n. mapping (λ m. (vs, set_all m [])) (walked a (label_walk (named_in x)) n))) (sym hp)
+    ∙ ap (λ ns. and_then (walked a (place_walk ps) b) (λ vs n. mapping (λ m. (vs, set_all m [])) (walked a (label_walk ns) n))) (sym hn)
+    ∙ and_then_is (walked a (place_walk ps) b) (λ vs n. mapping (λ m. (vs, set_all m [])) (walked a (label_walk ns) n)) (naming_after a ns) (λ vs n. sym (then_give (walked a (naming ns) n) (λ m. (vs, m))))
+
+-- the map with one more argument
+pub set_all_next : (es : List (Text × Value Text)) (k : Text) (v : Value Text) (m : Map (Value Text)) → set_all (es ++ (k, v) ∷ []) m ≡ set k v (set_all es m)
+set_all_next [] k v m = refl
+set_all_next (e ∷ es) k v m = set_all_next es k v (set e.0 e.1 m)
 
 -- VARIABLES
 
@@ -263,10 +306,10 @@ entered_at a b x p off entered before =
     let q = pattern_view p.now in
     go_entered a.bundle a.environment (on_path a.path) a.environment x q a.budget off
     ∙ sym (
-        ap (λ s. whole with_work s (work s) b.environment (on_path b.path) q b.budget) before.bundle
-        ∙ ap (λ e. whole with_work a.bundle (work a.bundle) e (on_path b.path) q b.budget) before.environment
-        ∙ ap (λ way. whole with_work a.bundle (work a.bundle) a.environment way q b.budget) (ap on_path entered ∙ on_path_more a.path p)
-        ∙ ap (λ n. whole with_work a.bundle (work a.bundle) a.environment (on_path a.path ++ q ∷ []) q n) before.budget)
+    ap (λ s. whole with_work s (work s) b.environment (on_path b.path) q b.budget) before.bundle
+    ∙ ap (λ e. whole with_work a.bundle (work a.bundle) e (on_path b.path) q b.budget) before.environment
+    ∙ ap (λ way. whole with_work a.bundle (work a.bundle) a.environment way q b.budget) (ap on_path entered ∙ on_path_more a.path p)
+    ∙ ap (λ n. whole with_work a.bundle (work a.bundle) a.environment (on_path a.path ++ q ∷ []) q n) before.budget)
 
 abbrev pub elementing : Pattern → Walk Text
 elementing p s f env path = elements with_work s f env path (has_one p) p
@@ -276,10 +319,10 @@ pub begun_at : (a b : Status) (p : Pattern) → on_path b.path ≡ inner (on_pat
 begun_at a b p begun before =
     whole_is a.bundle (work a.bundle) a.environment (on_path a.path) p a.budget
     ∙ sym (
-        ap (λ s. entering (length (on_path b.path)) (elements with_work s (work s) b.environment (on_path b.path) (has_one p) p b.budget)) before.bundle
-        ∙ ap (λ e. entering (length (on_path b.path)) (elements with_work a.bundle (work a.bundle) e (on_path b.path) (has_one p) p b.budget)) before.environment
-        ∙ ap (λ way. entering (length way) (elements with_work a.bundle (work a.bundle) a.environment way (has_one p) p b.budget)) begun
-        ∙ ap (λ n. entering (length (inner (on_path a.path) p)) (elements with_work a.bundle (work a.bundle) a.environment (inner (on_path a.path) p) (has_one p) p n)) before.budget)
+    ap (λ s. entering (length (on_path b.path)) (elements with_work s (work s) b.environment (on_path b.path) (has_one p) p b.budget)) before.bundle
+    ∙ ap (λ e. entering (length (on_path b.path)) (elements with_work a.bundle (work a.bundle) e (on_path b.path) (has_one p) p b.budget)) before.environment
+    ∙ ap (λ way. entering (length way) (elements with_work a.bundle (work a.bundle) a.environment way (has_one p) p b.budget)) begun
+    ∙ ap (λ n. entering (length (inner (on_path a.path) p)) (elements with_work a.bundle (work a.bundle) a.environment (inner (on_path a.path) p) (has_one p) p n)) before.budget)
 
 -- the path is as it was before a pattern began
 pub back : (begun : Bool) (p : Pattern) {a b d e : Status} → Starts begun p a b → d.path ≡ b.path → Ends begun d e → e.path ≡ a.path
@@ -315,10 +358,10 @@ pub inside_at : (a c : Status) (x : Inline) (t : Text) (at : Attribute) (m : Map
 inside_at a c x t at m g hb hp he hg =
     follow_in a.bundle (work a.bundle) a.environment (local m) (local m) (on_path a.path) x t (term_target (get t a.bundle.ids) at) c.budget
     ∙ sym (
-        ap (λ s. follow with_work s (work s) c.environment c.environment (on_path c.path) x t g c.budget) hb
-        ∙ ap (λ e. follow with_work a.bundle (work a.bundle) e e (on_path c.path) x t g c.budget) he
-        ∙ ap (λ p. follow with_work a.bundle (work a.bundle) (local m) (local m) (on_path p) x t g c.budget) hp
-        ∙ ap (λ g. follow with_work a.bundle (work a.bundle) (local m) (local m) (on_path a.path) x t g c.budget) hg)
+    ap (λ s. follow with_work s (work s) c.environment c.environment (on_path c.path) x t g c.budget) hb
+    ∙ ap (λ e. follow with_work a.bundle (work a.bundle) e e (on_path c.path) x t g c.budget) he
+    ∙ ap (λ p. follow with_work a.bundle (work a.bundle) (local m) (local m) (on_path p) x t g c.budget) hp
+    ∙ ap (λ g. follow with_work a.bundle (work a.bundle) (local m) (local m) (on_path a.path) x t g c.budget) hg)
 
 -- a pattern of texts alone has no placeable
 pub no_placeable : (es : List PatternElement) (i : ℕ) (e : PatternElement) (x : Expression) → IsText (pattern_of (map element_view es)) → i < length es → e ≡ get_or es i e → element_view e ≡ placeable x → ⊥
@@ -337,10 +380,6 @@ no_placeable (y ∷ es) (suc i) e x t h is p = no_placeable es i e x (rest_text 
 -- what is resolved of a function's answer
 abbrev pub valued : Status → Text → List (Value Text) × Map (Value Text) → Budget → Worked (Value Text)
 valued a id p b = given (function_value with_work a.bundle (work a.bundle) a.environment (function_found (get id a.bundle.ids)) p.0 p.1) b
-
--- the values of a call's arguments
-abbrev pub calling : Arguments → Walk (List (Value Text) × Map (Value Text))
-calling k s f env path = called with_work s f env path k
 
 -- what is written of a function is made of the values of its arguments
 pub function_at : (a : Status) (x : Inline) (id : Text) (k : Arguments) (b : Budget) → x ≡ function id k → walked a (writing x) b ≡ and_then (walked a (calling k) b) (λ p. walked a (answering x id p.0 p.1))
