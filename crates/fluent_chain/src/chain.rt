@@ -88,23 +88,19 @@ impl<
     ) -> Result<CowStr<'t>, AllocError>
     where
         's: 't,
-        ensures within {
-            let of = meant M.category C.shown C.alike F.answer G.formatted T.changed in
+        ensures within { let of = meant M.category C.shown C.alike F.answer G.formatted T.changed in
             let args = arguments_view C.content args.entry in
             let found = first_with (value_at id.now) (map of (bundles_of self.now)) in
             AnswersWithin id.now args found result errors.old.items errors.new.items }
-        ensures whole {
-            let of = meant M.category C.shown C.alike F.answer G.formatted T.changed in
+        ensures whole { let of = meant M.category C.shown C.alike F.answer G.formatted T.changed in
             let args = arguments_view C.content args.entry in
             let found = first_with (value_at id.now) (map of (bundles_of self.now)) in
             AnswersWhole id.now args found result errors.old.items errors.new.items }
-        ensures front {
-            let of = meant M.category C.shown C.alike F.answer G.formatted T.changed in
+        ensures front { let of = meant M.category C.shown C.alike F.answer G.formatted T.changed in
             let args = arguments_view C.content args.entry in
             let found = first_with (value_at id.now) (map of (bundles_of self.now)) in
             AddsBeginning id.now args found errors.old.items errors.new.items }
-        ensures lent {
-            let of = meant M.category C.shown C.alike F.answer G.formatted T.changed in
+        ensures lent { let of = meant M.category C.shown C.alike F.answer G.formatted T.changed in
             let found = first_with (λ b. value_at id.now (of b)) (bundles_of self.now) in
             TakesNoMemory found → IsOk result }
     {
@@ -126,23 +122,19 @@ impl<
     ) -> Result<CowStr<'t>, AllocError>
     where
         's: 't,
-        ensures within {
-            let of = meant M.category C.shown C.alike F.answer G.formatted T.changed in
+        ensures within { let of = meant M.category C.shown C.alike F.answer G.formatted T.changed in
             let args = arguments_view C.content args.entry in
             let found = first_with (attribute_at id.now name.now) (map of (bundles_of self.now)) in
             AnswersWithin id.now args found result errors.old.items errors.new.items }
-        ensures whole {
-            let of = meant M.category C.shown C.alike F.answer G.formatted T.changed in
+        ensures whole { let of = meant M.category C.shown C.alike F.answer G.formatted T.changed in
             let args = arguments_view C.content args.entry in
             let found = first_with (attribute_at id.now name.now) (map of (bundles_of self.now)) in
             AnswersWhole id.now args found result errors.old.items errors.new.items }
-        ensures front {
-            let of = meant M.category C.shown C.alike F.answer G.formatted T.changed in
+        ensures front { let of = meant M.category C.shown C.alike F.answer G.formatted T.changed in
             let args = arguments_view C.content args.entry in
             let found = first_with (attribute_at id.now name.now) (map of (bundles_of self.now)) in
             AddsBeginning id.now args found errors.old.items errors.new.items }
-        ensures lent {
-            let of = meant M.category C.shown C.alike F.answer G.formatted T.changed in
+        ensures lent { let of = meant M.category C.shown C.alike F.answer G.formatted T.changed in
             let found = first_with (λ b. attribute_at id.now name.now (of b)) (bundles_of self.now) in
             TakesNoMemory found → IsOk result }
     {
@@ -159,26 +151,22 @@ impl<
     ) -> Result<CowStr<'t>, AllocError>
     where
         's: 't,
-        ensures within {
-            let of = meant M.category C.shown C.alike F.answer G.formatted T.changed in
+        ensures within { let of = meant M.category C.shown C.alike F.answer G.formatted T.changed in
             let args = arguments_view C.content args.entry in
             let name = option_map (λ n. n.now) attribute.entry in
             let found = first_with (pattern_at id.now name) (map of (bundles_of self.now)) in
             AnswersWithin id.now args found result errors.old.items errors.new.items }
-        ensures whole {
-            let of = meant M.category C.shown C.alike F.answer G.formatted T.changed in
+        ensures whole { let of = meant M.category C.shown C.alike F.answer G.formatted T.changed in
             let args = arguments_view C.content args.entry in
             let name = option_map (λ n. n.now) attribute.entry in
             let found = first_with (pattern_at id.now name) (map of (bundles_of self.now)) in
             AnswersWhole id.now args found result errors.old.items errors.new.items }
-        ensures front {
-            let of = meant M.category C.shown C.alike F.answer G.formatted T.changed in
+        ensures front { let of = meant M.category C.shown C.alike F.answer G.formatted T.changed in
             let args = arguments_view C.content args.entry in
             let name = option_map (λ n. n.now) attribute.entry in
             let found = first_with (pattern_at id.now name) (map of (bundles_of self.now)) in
             AddsBeginning id.now args found errors.old.items errors.new.items }
-        ensures lent {
-            let of = meant M.category C.shown C.alike F.answer G.formatted T.changed in
+        ensures lent { let of = meant M.category C.shown C.alike F.answer G.formatted T.changed in
             let name = option_map (λ n. n.now) attribute.entry in
             let found = first_with (λ b. pattern_at id.now name (of b)) (bundles_of self.now) in
             TakesNoMemory found → IsOk result }
@@ -190,16 +178,11 @@ impl<
     }
 
     /// The first bundle that has the value of the message, or its attribute where a name is given, with that pattern.
-    fn find(
-        &self,
-        id: &str,
-        attribute: Option<&str>,
-    ) -> Option<Found<'b, 'r, 's, M, C, F, G, T>>
-        ensures {
-            let of = meant M.category C.shown C.alike F.answer G.formatted T.changed in
+    fn find(&self, id: &str, attribute: Option<&str>) -> Option<Found<'b, 'r, 's, M, C, F, G, T>>
+        ensures { let of = meant M.category C.shown C.alike F.answer G.formatted T.changed in
             let name = option_map (λ n. n.now) attribute.entry in
             option_map found_view result
-                ≡ first_with (λ b. pattern_at id.now name (of b)) (bundles_of self.now) }
+            ≡ first_with (λ b. pattern_at id.now name (of b)) (bundles_of self.now) }
     {
         for link in self.bundles {
             if let Some(pattern) = Self::pattern_in(link.0, id, attribute) {
@@ -215,8 +198,7 @@ impl<
         id: &str,
         attribute: Option<&str>,
     ) -> Option<&'r ast::Pattern<'s>>
-        ensures {
-            let of = meant M.category C.shown C.alike F.answer G.formatted T.changed in
+        ensures { let of = meant M.category C.shown C.alike F.answer G.formatted T.changed in
             let name = option_map (λ n. n.now) attribute.entry in
             option_map (λ p. pattern_view p.now) result ≡ pattern_at id.now name (of bundle.now) }
     {

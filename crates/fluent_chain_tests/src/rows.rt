@@ -52,7 +52,10 @@ fn order_decides(rt: HostRuntime) -> Result<(), Fail> {
 #[test]
 fn references_stay_in_their_bundle(rt: HostRuntime) -> Result<(), Fail> {
     let error = "Resolver error: Unknown message: b\n";
-    let rows = [(value("a"), ("{b}", false, error)), (value("b"), ("2", true, ""))];
+    let rows = [
+        (value("a"), ("{b}", false, error)),
+        (value("b"), ("2", true, "")),
+    ];
     sources_show(&rt, rt.alloc(), "a = { b }\n", "b = 2\n", &rows)
 }
 

@@ -2,9 +2,7 @@
 ghost use Rattle.std.specs.Prelude.{IsTrue};
 
 use crate::common::{Bundle, Upper, both_show, bundle_of, read, value};
-use fluent_bundle::{
-    EnglishPlurals, NoCustom, NoFormatter, NoFunction,
-};
+use fluent_bundle::{EnglishPlurals, NoCustom, NoFormatter, NoFunction};
 use fluent_chain::Chain;
 use std::alloc::{AllocError, Global};
 use std::test::Fail;
@@ -78,17 +76,8 @@ fn bundles_have_their_own_transforms_and_isolation(rt: HostRuntime) -> Result<()
 fn is_the_id(alloc: Global, id: &str) -> bool
     ensures { IsTrue result }
 {
-    let chain: Chain<
-        '_,
-        '_,
-        '_,
-        '_,
-        EnglishPlurals,
-        NoCustom,
-        NoFunction,
-        NoFormatter,
-        Upper,
-    > = Chain::new(&[]);
+    let chain: Chain<'_, '_, '_, '_, EnglishPlurals, NoCustom, NoFunction, NoFormatter, Upper> =
+        Chain::new(&[]);
     let mut errors = Vec::new(alloc);
     chain.format_value(id, None, &mut errors).is_ok()
 }

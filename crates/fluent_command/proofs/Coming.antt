@@ -141,6 +141,7 @@ none_asked words bytes = cases (asked_by words)
     never : (asked : Asked) (plurals : Option Plurals) → (run_by asked plurals bytes).ending ≢ bad_usage
     never asked None = λ e. cc
     never asked (Some plurals) = (of_input asked plurals bytes).0
+
     cases : (a : Option Asked) → (run_asked a bytes).ending ≡ bad_usage → a ≡ None
     cases None e = refl
     cases (Some asked) e = absurd (never asked (plurals_asked asked.options) e)
@@ -151,6 +152,7 @@ rule_asked words bytes = cases (asked_by words)
     none : (asked : Asked) (plurals : Option Plurals) → (run_by asked plurals bytes).ending ≡ bad_rule → plurals ≡ None
     none asked None e = refl
     none asked (Some plurals) e = absurd ((of_input asked plurals bytes).1 e)
+
     cases : (a : Option Asked) → (run_asked a bytes).ending ≡ bad_rule → HasBadRule a
     cases None e = cc
     cases (Some asked) e = none asked (plurals_asked asked.options) e

@@ -89,9 +89,27 @@ impl<'w> Options<'w> {
     {
         let text = Some(text);
         match named {
-            Named::Cardinal => once(self.cardinal, Options { cardinal: text, ..self }),
-            Named::Ordinal => once(self.ordinal, Options { ordinal: text, ..self }),
-            Named::Fallback => once(self.fallback, Options { fallback: text, ..self }),
+            Named::Cardinal => once(
+                self.cardinal,
+                Options {
+                    cardinal: text,
+                    ..self
+                },
+            ),
+            Named::Ordinal => once(
+                self.ordinal,
+                Options {
+                    ordinal: text,
+                    ..self
+                },
+            ),
+            Named::Fallback => once(
+                self.fallback,
+                Options {
+                    fallback: text,
+                    ..self
+                },
+            ),
         }
     }
 }

@@ -348,8 +348,6 @@ pub fn show<'w, W: Write>(
 {
     match request.options.fallback {
         None => show_alone(alloc, request, plurals, source, out, errors),
-        Some(fallback) => {
-            show_fallback(alloc, request, plurals, source, fallback, out, errors)
-        }
+        Some(fallback) => { show_fallback(alloc, request, plurals, source, fallback, out, errors) }
     }
 }

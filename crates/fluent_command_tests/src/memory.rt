@@ -16,11 +16,7 @@ const COUNTED: Outcome<'static> = (
 
 const ROWS: &[(&[&str], &[u8], Outcome<'static>)] = &[
     (&["--cardinal", "few: n = 2..4", "s", "n=3"], COUNT, COUNTED),
-    (
-        &["--ordinal", "one: n = 1", "a"],
-        b"a = 1",
-        (0, "1\n", ""),
-    ),
+    (&["--ordinal", "one: n = 1", "a"], b"a = 1", (0, "1\n", "")),
     (
         &["--fallback", "junk\nb = { $x }", "b", "n=3"],
         b"a = 1",
@@ -40,11 +36,7 @@ const ROWS: &[(&[&str], &[u8], Outcome<'static>)] = &[
 type Ran = Left<&'static [u8], Vec<u8>, Vec<u8>>;
 
 /// A run on outputs that need no more memory.
-fn run_once(
-    alloc: Global,
-    words: &[&str],
-    source: &'static [u8],
-) -> Result<Ran, AllocError> {
+fn run_once(alloc: Global, words: &[&str], source: &'static [u8]) -> Result<Ran, AllocError> {
     let out = Vec::with_capacity(alloc, 1000)?;
     let err = Vec::with_capacity(alloc, 1000)?;
     run_over(alloc, words, source, out, err)

@@ -19,11 +19,7 @@ const RULES: &[Row] = &[
         COUNT,
         (0, "o\n", ""),
     ),
-    (
-        &["--cardinal", "", "s", "n=1"],
-        COUNT,
-        (0, "o\n", ""),
-    ),
+    (&["--cardinal", "", "s", "n=1"], COUNT, (0, "o\n", "")),
     // One text alone leaves the other empty.
     (
         &["--ordinal", "two: n = 5", "s", "n=1"],
@@ -41,12 +37,26 @@ const RULES: &[Row] = &[
         (0, "o\n", ""),
     ),
     (
-        &["--ordinal", "two: n = 5", "--cardinal", "few: n = 5", "s", "n=5"],
+        &[
+            "--ordinal",
+            "two: n = 5",
+            "--cardinal",
+            "few: n = 5",
+            "s",
+            "n=5",
+        ],
         COUNT,
         (0, "f\n", ""),
     ),
     (
-        &["--cardinal", "few: n = 5", "--ordinal", "two: n = 5", "s", "n=5"],
+        &[
+            "--cardinal",
+            "few: n = 5",
+            "--ordinal",
+            "two: n = 5",
+            "s",
+            "n=5",
+        ],
         RANK,
         (0, "t\n", ""),
     ),
@@ -187,7 +197,8 @@ fn falls_back_where_the_input_has_no_value(rt: HostRuntime) -> Result<(), Fail> 
     Ok(expect_rows(&rt, rt.alloc(), FALLBACKS)?)
 }
 
-const ALL_ERRORS: &str = "Parser error: unreadable entry at bytes 12..16\nParser error: unreadable entry at bytes 0..5\nAttempt to override an existing message: \"a\".\nAttempt to override an existing message: \"NUMBER\".\nAttempt to override an existing message: \"x\".\nResolver error: Unknown variable: $n\n";
+const ALL_ERRORS: &str =
+    "Parser error: unreadable entry at bytes 12..16\nParser error: unreadable entry at bytes 0..5\nAttempt to override an existing message: \"a\".\nAttempt to override an existing message: \"NUMBER\".\nAttempt to override an existing message: \"x\".\nResolver error: Unknown variable: $n\n";
 
 const REPORTED: &[Row] = &[
     (

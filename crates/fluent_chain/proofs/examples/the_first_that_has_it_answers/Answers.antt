@@ -9,9 +9,22 @@ use Rattle.fluent_chain.proofs.examples.the_first_that_has_it_answers.Goals as g
 pub returns-clause-values : goal.returns-clause-values
 unfolding elements ran pattern_same text_same e.hex_digit e.hex_number e.numbered e.escape e.part many_from byte run1
 returns-clause-values c = record {
-  first = refl; other_way_round = refl; second = refl; with_arguments = refl; without_value = refl; nowhere = refl;
-  without_value_alone = refl; no_bundle = refl; no_id = refl; reference = refl; function = refl;
-  own_limit = refl; other_limit = refl; own_transform = refl; own_formatter = refl; id_unchanged = refl;
+  first = refl;
+  other_way_round = refl;
+  second = refl;
+  with_arguments = refl;
+  without_value = refl;
+  nowhere = refl;
+  without_value_alone = refl;
+  no_bundle = refl;
+  no_id = refl;
+  reference = refl;
+  function = refl;
+  own_limit = refl;
+  other_limit = refl;
+  own_transform = refl;
+  own_formatter = refl;
+  id_unchanged = refl;
 }
 
 pub returns-clause-attributes : goal.returns-clause-attributes
