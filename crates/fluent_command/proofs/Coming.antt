@@ -26,7 +26,7 @@ use Rattle.fluent_command.specs.Program.{Run, only, bundle_of, run_value, run_so
 use Rattle.fluent_command.specs.Far.{Added, AddedFirst, Took}
 use Rattle.fluent_command.specs.Outlet.{Outlet, Takes}
 use Rattle.fluent_command.specs.Outcome.{AreLeft, Ends, as_defined, by_reading, by_writing, by_memory}
-use Rattle.fluent_command.specs.declared.input.InputState.TheVariants.{AtEnd}
+use Rattle.fluent_command.specs.declared.input.InputState.TheVariants.{Open, AtEnd}
 use Rattle.fluent_command.specs.declared.input.Reads.{Reads}
 
 -- a writer that was left alone
@@ -178,6 +178,17 @@ ends_unruled asked (rule_fault.Syntax kind at) first bytes ending out errors non
 ends_unruled asked rule_fault.Memory first bytes ending out errors none is bad =
     subst (λ e. Ends (run_asked (Some asked) bytes) first out out e (reported errors)) (sym is)
     (ends_no_memory (run_asked (Some asked) bytes) first out errors none)
+
+-- rules that were read are none that can't be
+pub never_bad : (asked : Asked) (a : Option Asked) (plurals : Plurals) → Some asked ≡ a → plurals_asked asked.options ≡ Some plurals → ¬ (HasBadRule a)
+never_bad asked a plurals is read bad =
+    let none : plurals_asked asked.options ≡ None = subst HasBadRule (sym is) bad in
+    cc
+
+-- an input of which nothing was read fits them
+pub read_for_rules : {R : Type 0} (fault : RuleFault) (ending : Ending) (input : Reads R) → ending ≡ ending_of_rules fault → input.state ≡ Open → ReadFor ending input
+read_for_rules (rule_fault.Syntax kind at) ending input is open = subst (λ e. ReadFor e input) (sym is) tt
+read_for_rules rule_fault.Memory ending input is open = subst (λ e. ReadFor e input) (sym is) (λ failed. cc)
 
 -- one of the two endings
 pub rule_or_memory : (fault : RuleFault) (ending : Ending) → ending ≡ ending_of_rules fault → (ending ≡ bad_rule) ⊎ (ending ≡ out_of_memory)

@@ -39,6 +39,9 @@ error_at range = parser_error range.0 range.1
 abbrev pub junk_errors : Text → List Error
 junk_errors source = map error_at (junk_ranges source)
 
+abbrev pub both_junk_errors : Text → Text → List Error
+both_junk_errors first second = junk_errors first ++ junk_errors second
+
 -- ---- bundles
 
 -- the application has no values of its own
@@ -56,6 +59,10 @@ bundle_of plurals on entries = after (add_resource entries) (start plurals on)
 -- the errors of adding it
 abbrev pub adding_errors : Plurals → Bool → List Entry → List Error
 adding_errors plurals on entries = answered (add_resource entries) (start plurals on)
+
+-- the same in two bundles of one resource each
+abbrev pub both_adding_errors : Plurals → Bool → List Entry → List Entry → List Error
+both_adding_errors plurals on first second = adding_errors plurals on first ++ adding_errors plurals on second
 
 -- ---- what is shown
 
@@ -96,13 +103,12 @@ run_alone asked plurals source = after_errors (junk_errors source) (run_entries 
 abbrev pub run_both : Asked → Plurals → List Entry → List Entry → Run
 run_both asked plurals first second =
     let bundles = bundle_of plurals asked.options.isolate first ∷ bundle_of plurals asked.options.isolate second ∷ [] in
-    let errors = adding_errors plurals asked.options.isolate first ++ adding_errors plurals asked.options.isolate second in
-    after_errors errors (run_chain (chain_value asked.id (arguments_of asked.arguments) bundles))
+    after_errors (both_adding_errors plurals asked.options.isolate first second) (run_chain (chain_value asked.id (arguments_of asked.arguments) bundles))
 
 -- the same of sources, whose Junks are reported first
 abbrev pub run_fallback : Asked → Plurals → Text → Text → Run
 run_fallback asked plurals source fallback =
-    after_errors (junk_errors source ++ junk_errors fallback) (run_both asked plurals (entries source) (entries fallback))
+    after_errors (both_junk_errors source fallback) (run_both asked plurals (entries source) (entries fallback))
 
 -- ---- the whole run
 
@@ -133,8 +139,7 @@ run_of words bytes = run_asked (asked_by words) bytes
 abbrev pub errors_of_sources : Asked → Plurals → Text → Option Text → List Error
 errors_of_sources asked plurals source None = junk_errors source ++ adding_errors plurals asked.options.isolate (entries source)
 errors_of_sources asked plurals source (Some fallback) =
-    let isolate = asked.options.isolate in
-    (junk_errors source ++ junk_errors fallback) ++ (adding_errors plurals isolate (entries source) ++ adding_errors plurals isolate (entries fallback))
+    both_junk_errors source fallback ++ both_adding_errors plurals asked.options.isolate (entries source) (entries fallback)
 
 abbrev pub source_errors : Asked → Plurals → Text → List Error
 source_errors asked plurals source = errors_of_sources asked plurals source asked.options.fallback

@@ -13,7 +13,7 @@ ghost use Rattle.fluent_command.specs.WordsView.{asked_view};
 ghost use Rattle.fluent_command.specs.PluralsView.{plurals_view};
 ghost use Rattle.fluent_command.specs.EndingView.{ending_view};
 ghost use Rattle.fluent_command.specs.BundleView.{arguments_view, bundle_view};
-ghost use Rattle.fluent_command.specs.Program.{arguments_of, error_at, junk_errors, adding_errors, start, bundle_of};
+ghost use Rattle.fluent_command.specs.Program.{arguments_of, error_at, junk_errors, adding_errors, both_adding_errors, start, bundle_of};
 ghost use Rattle.fluent_command.specs.Program.{run_pattern, run_chain, run_value, run_entries, run_alone, run_both, run_fallback, run_source, source_errors, errors_of_sources};
 ghost use Rattle.fluent_command.specs.Far.{Added, AddedFirst, Took};
 
@@ -275,8 +275,8 @@ fn show_both<'w, 'r, 's, W: Write>(
         let run = run_both asked (plurals_view plurals.entry) (entries_of first.now) (entries_of second.now) in
         Added result run.errors errors.old.items errors.new.items }
     ensures first { let isolate = request.entry.options.isolate in
-        let of = λ entries. adding_errors (plurals_view plurals.entry) isolate entries in
-        AddedFirst result (of (entries_of first.now) ++ of (entries_of second.now))
+        let plurals = plurals_view plurals.entry in
+        AddedFirst result (both_adding_errors plurals isolate (entries_of first.now) (entries_of second.now))
         errors.old.items errors.new.items }
     ensures ending { let asked = asked_view request.entry in
         let run = run_both asked (plurals_view plurals.entry) (entries_of first.now) (entries_of second.now) in

@@ -9,13 +9,10 @@ use Rattle.fluent_chain.specs.Chain.{chain_value}
 use Rattle.fluent_command.specs.Words.{Asked}
 use Rattle.fluent_command.specs.WordsView.{asked_view}
 use Rattle.fluent_command.specs.PluralsView.{plurals_view}
-use Rattle.fluent_command.specs.Program.{arguments_of, adding_errors, bundle_of, run_chain, run_both}
+use Rattle.fluent_command.specs.Program.{arguments_of, both_adding_errors, bundle_of, run_chain, run_both}
 use Rattle.fluent_command.specs.Far.{Added}
 use Rattle.fluent_command.proofs.Adding.{recast, added_then, first_of_ok}
 use Rattle.fluent_command.proofs.show.show_both.Goals as goal
-
-abbrev both_errors : Asked → Plurals → List Entry → List Entry → List Error
-both_errors asked plurals es fs = adding_errors plurals asked.options.isolate es ++ adding_errors plurals asked.options.isolate fs
 
 abbrev chain_errors : Asked → Bundle Text → Bundle Text → List Error
 chain_errors asked a b = (run_chain (chain_value asked.id (arguments_of asked.arguments) (a ∷ b ∷ []))).errors
@@ -23,10 +20,10 @@ chain_errors asked a b = (run_chain (chain_value asked.id (arguments_of asked.ar
 -- what was added over two bundles, which are those of the entries
 over : {T E : Type 0} (r : Result T E) (asked : Asked) (plurals : Plurals) (es fs : List Entry) (a b : Bundle Text) (old new : List FluentError)
     → a ≡ bundle_of plurals asked.options.isolate es → b ≡ bundle_of plurals asked.options.isolate fs
-    → Added r (both_errors asked plurals es fs ++ chain_errors asked a b) old new → Added r (run_both asked plurals es fs).errors old new
+    → Added r (both_adding_errors plurals asked.options.isolate es fs ++ chain_errors asked a b) old new → Added r (run_both asked plurals es fs).errors old new
 over r asked plurals es fs a b old new first second h =
-    subst (λ w. Added r (both_errors asked plurals es fs ++ chain_errors asked (bundle_of plurals asked.options.isolate es) w) old new) second
-    (subst (λ w. Added r (both_errors asked plurals es fs ++ chain_errors asked w b) old new) first h)
+    subst (λ w. Added r (both_adding_errors plurals asked.options.isolate es fs ++ chain_errors asked (bundle_of plurals asked.options.isolate es) w) old new) second
+    (subst (λ w. Added r (both_adding_errors plurals asked.options.isolate es fs ++ chain_errors asked w b) old new) first h)
 
 pub returns-in_err-write_chain-clause-errors : goal.returns-in_err-write_chain-clause-errors
 returns-in_err-write_chain-clause-errors g c =

@@ -2,35 +2,28 @@ use Rattle.std.proofs.Common.{◌≡◌, ◌++◌, Some, List, Result, subst}
 use Rattle.fluent_tree.specs.Tree.{Text, Entry}
 use Rattle.fluent_syntax.specs.Chunks.{entries}
 use Rattle.fluent_text.specs.declared.counting.WriteFault.{WriteFault}
-use Rattle.fluent_meaning.specs.Errors.{Error}
 use Rattle.fluent_meaning.specs.Value.{Plurals}
 use Rattle.fluent_values.specs.declared.errors.FluentError.{FluentError}
 use Rattle.fluent_bundle.specs.BundleView.{entries_of}
 use Rattle.fluent_command.specs.Words.{Asked}
 use Rattle.fluent_command.specs.WordsView.{asked_view}
 use Rattle.fluent_command.specs.PluralsView.{plurals_view}
-use Rattle.fluent_command.specs.Program.{junk_errors, adding_errors, run_both, run_fallback, errors_of_sources}
+use Rattle.fluent_command.specs.Program.{both_junk_errors, both_adding_errors, run_both, run_fallback, errors_of_sources}
 use Rattle.fluent_command.specs.Far.{Added, AddedFirst}
 use Rattle.fluent_command.proofs.Adding.{added_then, first_of_both}
 use Rattle.fluent_command.proofs.show.show_fallback.Goals as goal
 
-abbrev both_junk : Text → Text → List Error
-both_junk source fallback = junk_errors source ++ junk_errors fallback
-
-abbrev both_adding : Asked → Plurals → List Entry → List Entry → List Error
-both_adding asked plurals es fs = adding_errors plurals asked.options.isolate es ++ adding_errors plurals asked.options.isolate fs
-
 module _ {T : Type 0} (asked : Asked) (plurals : Plurals) (source fallback : Text) (es fs : List Entry) (old new : List FluentError) (first : es ≡ entries source) (second : fs ≡ entries fallback) where
   -- what was added over entries, which are those of the sources
-  over : {E : Type 0} (r : Result T E) → Added r (both_junk source fallback ++ (run_both asked plurals es fs).errors) old new → Added r (run_fallback asked plurals source fallback).errors old new
+  over : {E : Type 0} (r : Result T E) → Added r (both_junk_errors source fallback ++ (run_both asked plurals es fs).errors) old new → Added r (run_fallback asked plurals source fallback).errors old new
   over r h =
-      subst (λ w. Added r (both_junk source fallback ++ (run_both asked plurals (entries source) w).errors) old new) second
-      (subst (λ w. Added r (both_junk source fallback ++ (run_both asked plurals w fs).errors) old new) first h)
+      subst (λ w. Added r (both_junk_errors source fallback ++ (run_both asked plurals (entries source) w).errors) old new) second
+      (subst (λ w. Added r (both_junk_errors source fallback ++ (run_both asked plurals w fs).errors) old new) first h)
 
-  over_first : (r : Result T WriteFault) → AddedFirst r (both_junk source fallback ++ both_adding asked plurals es fs) old new → AddedFirst r (errors_of_sources asked plurals source (Some fallback)) old new
+  over_first : (r : Result T WriteFault) → AddedFirst r (both_junk_errors source fallback ++ both_adding_errors plurals asked.options.isolate es fs) old new → AddedFirst r (errors_of_sources asked plurals source (Some fallback)) old new
   over_first r h =
-      subst (λ w. AddedFirst r (both_junk source fallback ++ both_adding asked plurals (entries source) w) old new) second
-      (subst (λ w. AddedFirst r (both_junk source fallback ++ both_adding asked plurals w fs) old new) first h)
+      subst (λ w. AddedFirst r (both_junk_errors source fallback ++ both_adding_errors plurals asked.options.isolate (entries source) w) old new) second
+      (subst (λ w. AddedFirst r (both_junk_errors source fallback ++ both_adding_errors plurals asked.options.isolate w fs) old new) first h)
 
 pub returns-clause-errors : goal.returns-clause-errors
 returns-clause-errors g c =
