@@ -1,5 +1,6 @@
 -- What a whole pattern wrote and reported.
-use Rattle.std.proofs.Common.{◌≡◌, ℕ, Bool, true, false, String, string_bytes, Global, refl, sym, ap, subst, ◌∙◌, List, [], ◌++◌, append-nil, Option, Some, Result, Ok, Err, OnOk}
+use Rattle.std.proofs.Common.{◌≡◌, ℕ, Bool, true, false, String, string_bytes, Global, refl, sym, ap, subst, ◌∙◌, List, [], ◌++◌, append-nil, Option, Some, None, Result, Ok, Err, OnOk}
+use Rattle.std.specs.Option.{option_map}
 use Rattle.std.specs.Io.KnownBytes.{Appends}
 use Rattle.std.specs.Prelude.{◌≤◌}
 use Rattle.fluent_tree.specs.Tree.{Text, Pattern}
@@ -104,3 +105,8 @@ gathered {r = r} {m = m} {list = list} {list' = list'} contents n n' k k' w w' s
 pub adds_all : {T : Type 0} {r : Result T WriteFault} {m : Ran Text} {w w' : Sink} {list list' : List FluentError} → Writes r m w w' list list' → OnOk r (AddsAll m.errors list list')
 adds_all {r = Ok x} h = h.all.adds
 adds_all {r = Err e} h = tt
+
+-- a list that was handed in is there at the end
+pub never_none : {A B : Type 0} (f : A → B) (o : Option A) (y : B) → o ≡ None → option_map f o ≡ Some y → ⊥
+never_none f None y h k = cc
+never_none f (Some x) y h k = cc

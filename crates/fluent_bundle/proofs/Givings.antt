@@ -28,14 +28,14 @@ lent_where (Some x) f p t h = search (rules, h)
 
 -- what a pattern of one text means there
 sole_value : (b : Bundle Text) (env : Map (Value Text)) (p : Pattern) (t : Text) → ((u : Text) → b.transform u ≡ u) → sole_text p ≡ Some t → (written_pattern b env p).value ≡ t
-unfolding elements, ran
+unfolding elements ran
 sole_value b env nothing t plain is = search (rules, is)
 sole_value b env (more (text u) nothing) t plain is = append-nil (b.transform u) ∙ plain u ∙ cc is
 sole_value b env (more (text u) (more e p)) t plain is = search (rules, is)
 sole_value b env (more (placeable x) p) t plain is = search (rules, is)
 
 sole_errors : (b : Bundle Text) (env : Map (Value Text)) (p : Pattern) (t : Text) → sole_text p ≡ Some t → (written_pattern b env p).errors ≡ []
-unfolding elements, ran
+unfolding elements ran
 sole_errors b env nothing t is = refl
 sole_errors b env (more (text u) nothing) t is = refl
 sole_errors b env (more (text u) (more e p)) t is = search (rules, is)

@@ -179,8 +179,10 @@ impl<
     {
         let mut scope = Scope::new(self, &self.entries, args, Some(errors));
         let written = write_pattern(&mut scope, out, pattern, Place);
-        let _list = scope.take_errors();
-        written
+        match scope.into_errors() {
+            Some(_list) => written,
+            None => written,
+        }
     }
 
     /// The text of a pattern in memory of its own.

@@ -121,7 +121,7 @@ fn write_value<'r, 's: 'r, W: Write>(
     alloc: Global,
     bundle: &Bundle<'r, 's>,
     words: &[String],
-    pattern: &ast::Pattern<'_>,
+    pattern: &ast::Pattern<'s>,
     out: &mut Counting<W>,
     errors: &mut Vec<FluentError>,
 ) -> Result<(), WriteFault>

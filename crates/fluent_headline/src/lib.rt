@@ -158,6 +158,7 @@ fn bundle_over<
 /// `Writer` where a write failed, `Zero` where a write of a nonempty piece took no byte, `Memory` where memory was
 /// refused. Then what was written begins the text, and what was added begins the errors.
 pub fn write_after<
+    's,
     M: MemoizerKind,
     C: FluentType,
     F: FluentFunction<C>,
@@ -167,9 +168,9 @@ pub fn write_after<
 >(
     alloc: Global,
     intls: M,
-    calls: Vec<Asked<'_, F, G, T>>,
+    calls: Vec<Asked<'s, F, G, T>>,
     args: Option<&FluentArgs<'_, C>>,
-    pattern: &ast::Pattern<'_>,
+    pattern: &ast::Pattern<'s>,
     w: &mut Counting<W>,
     errors: &mut Vec<FluentError>,
 ) -> Result<(), WriteFault>
@@ -210,7 +211,7 @@ pub fn write_after<
 ///
 /// Memory was refused: what was added begins the errors.
 pub fn format_after<
-    'p,
+    's,
     M: MemoizerKind,
     C: FluentType,
     F: FluentFunction<C>,
@@ -219,11 +220,11 @@ pub fn format_after<
 >(
     alloc: Global,
     intls: M,
-    calls: Vec<Asked<'_, F, G, T>>,
+    calls: Vec<Asked<'s, F, G, T>>,
     args: Option<&FluentArgs<'_, C>>,
-    pattern: &ast::Pattern<'p>,
+    pattern: &ast::Pattern<'s>,
     errors: &mut Vec<FluentError>,
-) -> Result<CowStr<'p>, AllocError>
+) -> Result<CowStr<'s>, AllocError>
     // By substitution, where that opens no more placeables than the limit.
     ensures within { let steps = map (step F.answer G.formatted T.changed intls) calls.entry.items in
         let b = bundle_after (M.category intls) (custom_by C.shown C.alike) steps in

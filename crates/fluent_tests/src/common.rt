@@ -83,7 +83,7 @@ pub fn add<'r, 's>(
 }
 
 /// The texts of errors, each with a line feed.
-fn lines(alloc: Global, errors: &[FluentError]) -> Result<String, AllocError> {
+pub fn lines(alloc: Global, errors: &[FluentError]) -> Result<String, AllocError> {
     let mut out = String::new(alloc);
     for error in errors {
         write!(out, "{error}\n")?;
@@ -119,11 +119,11 @@ pub fn arguments(alloc: Global, given: Given) -> Result<FluentArgs<'static, NoCu
 }
 
 /// Formats a pattern.
-pub fn format<'p>(
-    bundle: &Bundle<'_, '_>,
-    pattern: &'p Pattern<'_>,
+pub fn format<'s>(
+    bundle: &Bundle<'_, 's>,
+    pattern: &Pattern<'s>,
     args: Option<&FluentArgs<'_, NoCustom>>,
     errors: &mut Vec<FluentError>,
-) -> Result<CowStr<'p>, AllocError> {
+) -> Result<CowStr<'s>, AllocError> {
     bundle.format_pattern(pattern, args, errors)
 }

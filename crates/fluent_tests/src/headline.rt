@@ -9,7 +9,7 @@ use std::borrow::CowStr;
 use std::test::Fail;
 
 /// A call of each kind.
-fn calls(alloc: Global) -> Result<Vec<Asked<'static, Own, Bracketed, Upper>>, AllocError> {
+fn calls<'s>(alloc: Global) -> Result<Vec<Asked<'s, Own, Bracketed, Upper>>, AllocError> {
     Ok(vec![in alloc;
         Asked::AddResource("junk\nitems = few items\nrest = none\n"),
         Asked::AddResourceOverriding("items = { $n } items\njunk\n"),
@@ -23,9 +23,9 @@ fn calls(alloc: Global) -> Result<Vec<Asked<'static, Own, Bracketed, Upper>>, Al
 }
 
 /// What a pattern is written as after the calls, where `n` is 3.
-fn written(
+fn written<'s>(
     alloc: Global,
-    pattern: &ast::Pattern<'_>,
+    pattern: &ast::Pattern<'s>,
     errors: &mut Vec<FluentError>,
 ) -> Result<Vec<u8>, WriteFault> {
     let args = arguments(alloc, ("n", "3"))?;
@@ -44,11 +44,11 @@ fn written(
 }
 
 /// What it is formatted as.
-fn formatted<'p>(
+fn formatted<'s>(
     alloc: Global,
-    pattern: &ast::Pattern<'p>,
+    pattern: &ast::Pattern<'s>,
     errors: &mut Vec<FluentError>,
-) -> Result<CowStr<'p>, AllocError> {
+) -> Result<CowStr<'s>, AllocError> {
     let args = arguments(alloc, ("n", "3"))?;
     format_after(
         alloc,

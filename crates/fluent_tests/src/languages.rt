@@ -24,7 +24,7 @@ fn bundle_in<'r, 's>(alloc: Global, tag: &str) -> Result<Bundle<'r, 's>, Fail> {
 
 /// Whether a number meets a variant with this key.
 fn meets(bundle: &Bundle<'_, '_>, key: &str, number: &str) -> bool {
-    let scope = Scope::new(bundle, None, None);
+    let scope = Scope::new(bundle, bundle.ids(), None, None);
     FluentValue::try_number(key).matches(&FluentValue::try_number(number), &scope)
 }
 

@@ -2,6 +2,12 @@
 #![tactic(auto)]
 
 #[cfg(test)]
+mod asked;
+#[cfg(test)]
+mod budget;
+#[cfg(test)]
+mod by_hand;
+#[cfg(test)]
 mod calls;
 #[cfg(test)]
 mod closure;
@@ -12,9 +18,15 @@ mod composing;
 #[cfg(test)]
 mod errors;
 #[cfg(test)]
+mod faults;
+#[cfg(test)]
 mod headline;
 #[cfg(test)]
+mod kept;
+#[cfg(test)]
 mod languages;
+#[cfg(test)]
+mod later;
 #[cfg(test)]
 mod limit;
 #[cfg(test)]
@@ -22,14 +34,30 @@ mod made;
 #[cfg(test)]
 mod messages;
 #[cfg(test)]
+mod objects;
+#[cfg(test)]
+mod others;
+#[cfg(test)]
 mod own;
 #[cfg(test)]
 mod plenty;
 #[cfg(test)]
+mod references;
+#[cfg(test)]
 mod resolver;
+#[cfg(test)]
+mod rows;
 #[cfg(test)]
 mod scope;
 #[cfg(test)]
+mod selects;
+#[cfg(test)]
 mod settings;
+#[cfg(test)]
+mod shown;
+#[cfg(test)]
+mod tracking;
+#[cfg(test)]
+mod trees;
 #[cfg(test)]
 mod writers;

@@ -16,9 +16,9 @@ use std::test::Fail;
 // ---- writing
 
 /// Writes a pattern.
-fn write(
-    bundle: &Bundle<'_, '_>,
-    pattern: &Pattern<'_>,
+fn write<'s>(
+    bundle: &Bundle<'_, 's>,
+    pattern: &Pattern<'s>,
     args: Option<&FluentArgs<'_, NoCustom>>,
     w: &mut Counting<Slow>,
     errors: &mut Vec<FluentError>,
@@ -27,10 +27,10 @@ fn write(
 }
 
 /// The same with the arguments of a row.
-fn write_given(
+fn write_given<'s>(
     alloc: Global,
-    bundle: &Bundle<'_, '_>,
-    pattern: &Pattern<'_>,
+    bundle: &Bundle<'_, 's>,
+    pattern: &Pattern<'s>,
     given: Given,
     w: &mut Counting<Slow>,
     errors: &mut Vec<FluentError>,
@@ -40,11 +40,11 @@ fn write_given(
 }
 
 /// Writes a pattern through a writer of a row; `false` where memory is refused.
-fn writes_once(
+fn writes_once<'s>(
     rt: &impl Abort,
     alloc: Global,
-    bundle: &Bundle<'_, '_>,
-    pattern: &Pattern<'_>,
+    bundle: &Bundle<'_, 's>,
+    pattern: &Pattern<'s>,
     given: Given,
     told: &Told<'_>,
 ) -> Result<bool, Fail> {
@@ -63,11 +63,11 @@ fn writes_once(
 }
 
 /// The same, written a second time where memory is refused at the first.
-pub fn writes(
+pub fn writes<'s>(
     rt: &impl Abort,
     alloc: Global,
-    bundle: &Bundle<'_, '_>,
-    pattern: &Pattern<'_>,
+    bundle: &Bundle<'_, 's>,
+    pattern: &Pattern<'s>,
     given: Given,
     told: &Told<'_>,
 ) -> Result<(), Fail> {
@@ -234,13 +234,13 @@ fn messages_are_written(rt: HostRuntime) -> Result<(), Fail> {
 // ---- formatting
 
 /// Formats a pattern with the argument of a row, if there is one.
-fn format_given<'p>(
+fn format_given<'s>(
     alloc: Global,
-    bundle: &Bundle<'_, '_>,
-    pattern: &'p Pattern<'_>,
+    bundle: &Bundle<'_, 's>,
+    pattern: &Pattern<'s>,
     given: Given,
     errors: &mut Vec<FluentError>,
-) -> Result<CowStr<'p>, AllocError> {
+) -> Result<CowStr<'s>, AllocError> {
     if given.0.is_empty() {
         return format(bundle, pattern, None, errors);
     }
@@ -250,11 +250,11 @@ fn format_given<'p>(
 
 /// Formats a pattern as this text with the errors of these lines, of which there is one at most. Whether the text is
 /// lent; `None` where memory is refused, and then its error was added or not.
-fn formats_once(
+fn formats_once<'s>(
     rt: &impl Abort,
     alloc: Global,
-    bundle: &Bundle<'_, '_>,
-    pattern: &Pattern<'_>,
+    bundle: &Bundle<'_, 's>,
+    pattern: &Pattern<'s>,
     given: Given,
     wanted: (&str, &str),
 ) -> Result<Option<bool>, Fail> {
@@ -269,11 +269,11 @@ fn formats_once(
 }
 
 /// The same, formatted a second time where memory is refused at the first.
-pub fn formats(
+pub fn formats<'s>(
     rt: &impl Abort,
     alloc: Global,
-    bundle: &Bundle<'_, '_>,
-    pattern: &Pattern<'_>,
+    bundle: &Bundle<'_, 's>,
+    pattern: &Pattern<'s>,
     given: Given,
     wanted: (&str, &str),
 ) -> Result<bool, Fail> {

@@ -33,7 +33,7 @@ fn value<'v>(side: Side) -> FluentValue<'v, NoCustom> {
 
 /// Whether a key matches a selector.
 fn meets(bundle: &Bundle<'_, '_>, key: Side, selector: Side) -> bool {
-    let scope = Scope::new(bundle, None, None);
+    let scope = Scope::new(bundle, bundle.ids(), None, None);
     value(key).matches(&value(selector), &scope)
 }
 
@@ -63,7 +63,7 @@ fn write_value(
     w: &mut Counting<Vec<u8>>,
     value: &FluentValue<'_, NoCustom>,
 ) -> Result<(), WriteFault> {
-    let scope = Scope::new(bundle, None, None);
+    let scope = Scope::new(bundle, bundle.ids(), None, None);
     value.write(w, &scope)
 }
 
@@ -86,7 +86,9 @@ fn adds(
     errors: Option<&mut Vec<FluentError>>,
     count: Option<usize>,
 ) -> Result<bool, AllocError> {
-    let mut scope: Scope<'_, '_, '_, NoCustom, _> = Scope::new(bundle, None, errors);
+    let mut scope: Scope<'_, '_, '_, '_, '_, NoCustom, _, _> = Scope::new(
+        bundle, bundle.ids(), None, errors,
+    );
     scope.add_error(ResolverError::Cyclic)?;
     let found = match scope.errors() {
         Some(list) => Some(list.len()),

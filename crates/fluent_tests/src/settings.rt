@@ -26,11 +26,11 @@ fn set(
 }
 
 /// Without an error.
-fn shows(
+fn shows<'s>(
     rt: &impl Abort,
     alloc: Global,
-    bundle: &mut Bundle<'_, '_>,
-    pattern: &Pattern<'_>,
+    bundle: &mut Bundle<'_, 's>,
+    pattern: &Pattern<'s>,
     shown: &Shown,
 ) -> Result<(), Fail> {
     let (formatter, transform, text, whole_text) = *shown;

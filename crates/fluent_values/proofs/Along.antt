@@ -1,19 +1,19 @@
 -- How far a call went along a walk that writes, step by step.
-use Rattle.std.proofs.Common.{◌≡◌, refl, sym, ap, subst, ◌∙◌, ℕ, ◌+◌, max, List, [], ◌∷◌, ◌++◌, append-nil, append_assoc, Option, Some, None, Result, Ok, Err, OnOk, OnErr, IfOk}
+use Rattle.std.proofs.Common.{◌≡◌, refl, sym, ap, subst, ◌∙◌, List, [], ◌++◌, append-nil, append_assoc, Result, Ok, Err, OnOk, IfOk}
 use Rattle.std.specs.Io.KnownBytes.{Appends}
 use Rattle.fluent_tree.specs.Tree.{Text}
 use Rattle.fluent_text.specs.Taken.{Faulted}
 use Rattle.fluent_text.specs.declared.counting.WriteFault.{WriteFault}
 use Rattle.fluent_text.specs.declared.counting.WriteFault.TheVariants.{Memory}
 use Rattle.fluent_meaning.specs.Errors.{Error}
-use Rattle.fluent_meaning.specs.Meaning.{Budget, Ran, after_errors}
+use Rattle.fluent_meaning.specs.Meaning.{Budget, after_errors}
 use Rattle.fluent_meaning.specs.Work.{Worked, together}
 use Rattle.fluent_values.specs.Status.{Status, Keeps}
-use Rattle.fluent_values.specs.Along.{Walk, walked, from_here, given, Trace, trace, follows, adding, Passed, Along, Went, Wrote, Rests, Got, Gave, Added}
+use Rattle.fluent_values.specs.Along.{Walk, walked, from_here, given, trace, adding, Passed, Along, Went, Wrote, Gave, Added}
 use Rattle.fluent_values.specs.Written.{Sink, Took}
-use Rattle.fluent_values.proofs.Cases.{sequence, prepend, tells, and_then, no_more, given_first}
+use Rattle.fluent_values.proofs.Cases.{sequence, prepend, tells, and_then, given_first}
 use Rattle.fluent_values.proofs.Took.{appends_none, appends_on, faulted_on, at_ok, never}
-use Rattle.fluent_values.proofs.Passing.{keeps_on, moved, passed_none, passed_still, passed_adds, passed_refused, passed_on, passed_lent}
+use Rattle.fluent_values.proofs.Passing.{keeps_on, moved, passed_none, passed_adds, passed_refused, passed_on, passed_lent}
 
 pub on_ok : {A E P Q : Type 0} (r : Result A E) → (P → Q) → OnOk r P → OnOk r Q
 on_ok (Ok x) f h = f h
@@ -92,7 +92,7 @@ calls {r = r} {x = x} {all = all} {w = w} {w1 = w1} {w2 = w2} {a = a} {b = b} {c
     let there : Along (Ok x) all (sequence here k) w w1 a b = turns (ap (λ m. sequence m k) (sym (moved walk j.passed.keeps))) j in
     let same : k l.ran.budget ≡ k here.ran.budget = ap k way.passed.budget in
     let whole : Along (Ok x) all (together here (k l.ran.budget) (record { value = here.ran.value ++ (k l.ran.budget).ran.value; errors = here.ran.errors ++ (k l.ran.budget).ran.errors; budget = (k l.ran.budget).ran.budget })) w w1 a b =
-        turns (ap (λ (v : Worked Text). together here v (record { value = here.ran.value ++ v.ran.value; errors = here.ran.errors ++ v.ran.errors; budget = v.ran.budget })) (sym same)) there in
+    turns (ap (λ (v : Worked Text). together here v (record { value = here.ran.value ++ v.ran.value; errors = here.ran.errors ++ v.ran.errors; budget = v.ran.budget })) (sym same)) there in
     record {
       left = sequence l k;
       along = record {
@@ -143,7 +143,7 @@ asked {r = r} {x = x} {all = all} {w = w} {w1 = w1} {w2 = w2} {a = a} {b = b} {c
     let same : k l.ran.value l.ran.budget ≡ k here.ran.value here.ran.budget = ap (λ v. k v l.ran.budget) way.value ∙ ap (k here.ran.value) way.passed.budget in
     let v = k l.ran.value l.ran.budget in
     let whole : Along (Ok x) all (together here v (after_errors here.ran.errors v.ran)) w w1 a b =
-        turns (ap (λ (v : Worked Text). together here v (after_errors here.ran.errors v.ran)) (sym same)) there in
+    turns (ap (λ (v : Worked Text). together here v (after_errors here.ran.errors v.ran)) (sym same)) there in
     record {
       taken = whole.taken;
       held = subst (λ o. Appends w.held o whole.taken) (sym g.rests.held) whole.held;

@@ -16,4 +16,5 @@ pub mod Passing
 pub mod Along
 pub mod Values
 pub mod Steps
+pub mod Tracking
 pub mod Trails

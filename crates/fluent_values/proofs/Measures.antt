@@ -10,8 +10,10 @@ use Rattle.fluent_meaning.specs.Arguments.{get}
 use Rattle.fluent_meaning.specs.Bundle.{Bundle, Target, unknown, without_value, found, message_target, term_target, stored}
 use Rattle.fluent_meaning.specs.Meaning.{Budget, left, struck, at_most}
 use Rattle.fluent_meaning.proofs.Deeper.{Stands, message_is_stored, term_is_stored}
-use Rattle.fluent_values.specs.Along.{can_open, less_one}
+use Rattle.fluent_values.specs.Along.{can_open, less_one, Takes, Elsewhere}
 use Rattle.fluent_values.specs.Sizes.{size, element_size, inline_size, inlines_size, nameds_size, variants_size, sizes, bound, IsBelow, first_default, choice}
+use Rattle.fluent_values.specs.Status.{Status, Keeps}
+use Rattle.fluent_values.proofs.Passing.{at_true}
 use Rattle.fluent_values.proofs.Views.{view_named}
 
 -- the weight of a tree of this size, where n more placeables may be opened
@@ -35,9 +37,29 @@ weight_falls k a m n h j = omega (arith, times_less m n k j)
     times_less : (m n k : ℕ) → suc m ≤ n → k + m * k ≤ n * k
     times_less m n k h = grind arith
 
+-- a smaller tree, where a scope was kept
+pub kept_weight : {a b : Status} (x y : ℕ) → Keeps a b → x < y → weight (2 + bound b.bundle) x (1 + at_most b.budget) < weight (2 + bound a.bundle) y (1 + at_most a.budget)
+kept_weight {a = a} {b = b} x y kept small = less_weight a.bundle b.bundle x y (1 + at_most b.budget) (1 + at_most a.budget) kept.bundle small (omega (arith, kept.less))
+
+-- a smaller tree, after a placeable was opened
+pub taken_weight : {r : Bool} {a b : Status} (x y : ℕ) → r ≡ true → Takes r a b → x < y → weight (2 + bound b.bundle) x (1 + at_most b.budget) < weight (2 + bound a.bundle) y (at_most a.budget)
+taken_weight {a = a} {b = b} x y is takes small =
+    let fewer : 1 + at_most b.budget ≡ at_most a.budget = at_true is takes.fewer in
+    less_weight a.bundle b.bundle x y (1 + at_most b.budget) (at_most a.budget) takes.keeps.bundle small (omega (arith, fewer))
+
+-- a smaller tree, where all but the path is as it was
+pub still_weight : {a b : Status} (x y : ℕ) → Elsewhere a b → x < y → weight (2 + bound b.bundle) x (at_most b.budget) < weight (2 + bound a.bundle) y (at_most a.budget)
+still_weight {a = a} {b = b} x y same small =
+    let few : at_most b.budget ≡ at_most a.budget = ap at_most same.budget in
+    less_weight a.bundle b.bundle x y (at_most b.budget) (at_most a.budget) same.bundle small (omega (arith, few))
+
 -- a pattern that is found, after a placeable was opened
 pub less_found : (a b : Bundle Text) (p : Pattern) (m n : ℕ) → b ≡ a → size p < bound b → m < n → weight (2 + bound b) (2 + size p) m < weight (2 + bound a) 0 n
 less_found a b p m n h small few = subst (λ c. weight (2 + bound b) (2 + size p) m < weight (2 + bound c) 0 n) h (weight_falls (2 + bound b) (2 + size p) m n (omega (arith, small)) few)
+
+-- what is below the measure of the caller
+pub falls_to : {x y t : ℕ} → y ≡ t → x < y → x < t
+falls_to {x = x} h k = subst (λ t. x < t) h k
 
 pub opens_less : (b : Budget) → can_open b ≡ true → at_most b ≡ 1 + at_most (less_one b)
 opens_less (left zero) h = search rules
@@ -49,6 +71,10 @@ opens_less struck h = search rules
 some_size : (p : Pattern) → 0 < size p
 some_size nothing = omega arith
 some_size (more e p) = omega (arith, some_size p)
+
+pub some_variants : (vs : Variants) → 0 < variants_size vs
+some_variants no_variants = omega arith
+some_variants (variant k p d vs) = omega (arith, some_variants vs)
 
 pub element_less : (xs : List PatternElement) (i : ℕ) (e : PatternElement) → i < length xs → e ≡ get_or xs i e → element_size (element_view e) < size (pattern_of (map element_view xs))
 element_less [] i e h is = absurd (omega arith)

@@ -1,11 +1,11 @@
 -- Texts that go to a writer, or to a buffer beside it.
-use Rattle.std.proofs.Common.{rules, ◌≡◌, refl, sym, ap, subst, ◌∙◌, ℕ, [], ◌++◌, Bool, true, false, Option, Some, None, Result, Ok, Err, OnOk, OnErr, Global, String, string_bytes}
+use Rattle.std.proofs.Common.{◌≡◌, refl, sym, ap, subst, ◌∙◌, ℕ, ◌++◌, Bool, true, false, Option, Result, Ok, OnOk, OnErr, Global, String, string_bytes}
 use Rattle.std.specs.Io.KnownBytes.{Appends}
 use Rattle.fluent_tree.specs.Tree.{Text}
 use Rattle.fluent_text.specs.Taken.{Faulted, TookFront}
 use Rattle.fluent_text.specs.declared.counting.Counting.{Counting}
 use Rattle.fluent_text.specs.declared.counting.WriteFault.{WriteFault}
-use Rattle.fluent_values.specs.Written.{Sink, Took, writer, at}
+use Rattle.fluent_values.specs.Written.{Took, writer, at}
 use Rattle.fluent_values.proofs.Took.{took_by, took_whole}
 
 -- into the buffer

@@ -1,12 +1,11 @@
 -- What was reported and counted along a walk, step by step.
-use Rattle.std.proofs.Common.{◌≡◌, ◌≤◌, refl, sym, ap, subst, ◌∙◌, ℕ, ◌+◌, ◌-◌, ◌^◌, min, max, List, [], ◌∷◌, ◌++◌, append-nil, append_assoc, Option, Some, None, Result, Ok, Err, OnOk, OnErr, arith, Bool, true, false}
+use Rattle.std.proofs.Common.{◌≡◌, ◌≤◌, refl, sym, ap, subst, ◌∙◌, ℕ, ◌+◌, max, List, [], ◌++◌, append-nil, append_assoc, Option, Some, None, Result, Ok, Err, OnOk, OnErr, arith, Bool, true, false}
 use Rattle.std.specs.Bool.{OnTrue, OnFalse}
-use Rattle.fluent_tree.specs.Tree.{Text}
 use Rattle.fluent_meaning.specs.Errors.{Error}
 use Rattle.fluent_meaning.specs.Meaning.{Budget, at_most}
-use Rattle.fluent_meaning.specs.Work.{Worked, work}
+use Rattle.fluent_meaning.specs.Work.{work}
 use Rattle.fluent_values.specs.Status.{Status, Tally, counted, with_errors, on_path, Keeps}
-use Rattle.fluent_values.specs.Along.{Walk, walked, from_here, given, Trace, trace, follows, adding, Reports, Passed, Elsewhere, Added, Takes}
+use Rattle.fluent_values.specs.Along.{Walk, walked, from_here, Trace, follows, adding, Reports, Passed, Elsewhere, Added, Takes}
 
 -- SCOPES
 
@@ -176,7 +175,7 @@ entered_counts c n t = same_tally refl (counted_max c.longest n t.longest) (one_
     one_more : (x y : ℕ) → counted (counted (x + 1) + y) ≡ counted (x + (y + 1))
     one_more x y = omega arith
 
-at_true : {P : Type 0} {r : Bool} → r ≡ true → OnTrue r P → P
+pub at_true : {P : Type 0} {r : Bool} → r ≡ true → OnTrue r P → P
 at_true {P = P} h k = subst (λ r. OnTrue r P) h k
 
 at_false : {P : Type 0} {r : Bool} → r ≡ false → OnFalse r P → P

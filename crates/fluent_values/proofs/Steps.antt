@@ -1,5 +1,5 @@
 -- What each function of the resolver is to do, from its scope, as the steps of its code.
-use Rattle.std.proofs.Common.{◌≡◌, refl, sym, ap, subst, ◌∙◌, ℕ, zero, suc, ◌+◌, ◌<◌, ◌≤◌, max, length, get_or, drop, List, [], ◌∷◌, ◌++◌, Bool, true, false, Option, Some, None, map, Vec, Global, arith, unwrap_or}
+use Rattle.std.proofs.Common.{◌≡◌, refl, sym, ap, subst, ◌∙◌, ℕ, zero, suc, ◌+◌, ◌<◌, ◌≤◌, length, get_or, drop, List, [], ◌∷◌, ◌++◌, Bool, true, false, Option, Some, None, map, Vec, Global, arith, unwrap_or}
 use Rattle.std.proofs.lemmas.List.{drop_more}
 use Rattle.std.specs.Option.{option_map}
 use Rattle.std.specs.Borrow.{Bor}
@@ -306,10 +306,10 @@ entered_at a b x p off entered before =
     let q = pattern_view p.now in
     go_entered a.bundle a.environment (on_path a.path) a.environment x q a.budget off
     ∙ sym (
-        ap (λ s. whole with_work s (work s) b.environment (on_path b.path) q b.budget) before.bundle
-        ∙ ap (λ e. whole with_work a.bundle (work a.bundle) e (on_path b.path) q b.budget) before.environment
-        ∙ ap (λ way. whole with_work a.bundle (work a.bundle) a.environment way q b.budget) (ap on_path entered ∙ on_path_more a.path p)
-        ∙ ap (λ n. whole with_work a.bundle (work a.bundle) a.environment (on_path a.path ++ q ∷ []) q n) before.budget)
+    ap (λ s. whole with_work s (work s) b.environment (on_path b.path) q b.budget) before.bundle
+    ∙ ap (λ e. whole with_work a.bundle (work a.bundle) e (on_path b.path) q b.budget) before.environment
+    ∙ ap (λ way. whole with_work a.bundle (work a.bundle) a.environment way q b.budget) (ap on_path entered ∙ on_path_more a.path p)
+    ∙ ap (λ n. whole with_work a.bundle (work a.bundle) a.environment (on_path a.path ++ q ∷ []) q n) before.budget)
 
 abbrev pub elementing : Pattern → Walk Text
 elementing p s f env path = elements with_work s f env path (has_one p) p
@@ -319,10 +319,10 @@ pub begun_at : (a b : Status) (p : Pattern) → on_path b.path ≡ inner (on_pat
 begun_at a b p begun before =
     whole_is a.bundle (work a.bundle) a.environment (on_path a.path) p a.budget
     ∙ sym (
-        ap (λ s. entering (length (on_path b.path)) (elements with_work s (work s) b.environment (on_path b.path) (has_one p) p b.budget)) before.bundle
-        ∙ ap (λ e. entering (length (on_path b.path)) (elements with_work a.bundle (work a.bundle) e (on_path b.path) (has_one p) p b.budget)) before.environment
-        ∙ ap (λ way. entering (length way) (elements with_work a.bundle (work a.bundle) a.environment way (has_one p) p b.budget)) begun
-        ∙ ap (λ n. entering (length (inner (on_path a.path) p)) (elements with_work a.bundle (work a.bundle) a.environment (inner (on_path a.path) p) (has_one p) p n)) before.budget)
+    ap (λ s. entering (length (on_path b.path)) (elements with_work s (work s) b.environment (on_path b.path) (has_one p) p b.budget)) before.bundle
+    ∙ ap (λ e. entering (length (on_path b.path)) (elements with_work a.bundle (work a.bundle) e (on_path b.path) (has_one p) p b.budget)) before.environment
+    ∙ ap (λ way. entering (length way) (elements with_work a.bundle (work a.bundle) a.environment way (has_one p) p b.budget)) begun
+    ∙ ap (λ n. entering (length (inner (on_path a.path) p)) (elements with_work a.bundle (work a.bundle) a.environment (inner (on_path a.path) p) (has_one p) p n)) before.budget)
 
 -- the path is as it was before a pattern began
 pub back : (begun : Bool) (p : Pattern) {a b d e : Status} → Starts begun p a b → d.path ≡ b.path → Ends begun d e → e.path ≡ a.path
@@ -358,10 +358,10 @@ pub inside_at : (a c : Status) (x : Inline) (t : Text) (at : Attribute) (m : Map
 inside_at a c x t at m g hb hp he hg =
     follow_in a.bundle (work a.bundle) a.environment (local m) (local m) (on_path a.path) x t (term_target (get t a.bundle.ids) at) c.budget
     ∙ sym (
-        ap (λ s. follow with_work s (work s) c.environment c.environment (on_path c.path) x t g c.budget) hb
-        ∙ ap (λ e. follow with_work a.bundle (work a.bundle) e e (on_path c.path) x t g c.budget) he
-        ∙ ap (λ p. follow with_work a.bundle (work a.bundle) (local m) (local m) (on_path p) x t g c.budget) hp
-        ∙ ap (λ g. follow with_work a.bundle (work a.bundle) (local m) (local m) (on_path a.path) x t g c.budget) hg)
+    ap (λ s. follow with_work s (work s) c.environment c.environment (on_path c.path) x t g c.budget) hb
+    ∙ ap (λ e. follow with_work a.bundle (work a.bundle) e e (on_path c.path) x t g c.budget) he
+    ∙ ap (λ p. follow with_work a.bundle (work a.bundle) (local m) (local m) (on_path p) x t g c.budget) hp
+    ∙ ap (λ g. follow with_work a.bundle (work a.bundle) (local m) (local m) (on_path a.path) x t g c.budget) hg)
 
 -- a pattern of texts alone has no placeable
 pub no_placeable : (es : List PatternElement) (i : ℕ) (e : PatternElement) (x : Expression) → IsText (pattern_of (map element_view es)) → i < length es → e ≡ get_or es i e → element_view e ≡ placeable x → ⊥

@@ -1,6 +1,5 @@
 -- How far a call went along a walk that gives a value, step by step.
-use Rattle.std.proofs.Common.{◌≡◌, refl, sym, ap, subst, ◌∙◌, ℕ, List, [], ◌∷◌, ◌++◌, append-nil, append_assoc, Bool, true, false, Option, Some, None, Result, Ok, Err, OnOk, OnErr, IfOk, Global, String, string_bytes}
-use Rattle.std.specs.Io.KnownBytes.{Appends}
+use Rattle.std.proofs.Common.{◌≡◌, refl, sym, ap, subst, ◌∙◌, ℕ, List, [], ◌∷◌, ◌++◌, append-nil, append_assoc, Bool, true, false, Option, Some, Result, Ok, Err, OnOk, IfOk, Global, String, string_bytes}
 use Rattle.fluent_tree.specs.Tree.{Text}
 use Rattle.fluent_text.specs.Taken.{Faulted}
 use Rattle.fluent_text.specs.declared.counting.Counting.{Counting}
@@ -8,10 +7,10 @@ use Rattle.fluent_text.specs.declared.counting.WriteFault.{WriteFault}
 use Rattle.fluent_text.specs.declared.counting.WriteFault.TheVariants.{Memory}
 use Rattle.fluent_text.specs.declared.counting.WriteFault.TheVariants as fault
 use Rattle.fluent_meaning.specs.Errors.{Error}
-use Rattle.fluent_meaning.specs.Meaning.{Budget, Ran, after_errors}
+use Rattle.fluent_meaning.specs.Meaning.{Budget, after_errors}
 use Rattle.fluent_meaning.specs.Work.{Worked, together}
-use Rattle.fluent_values.specs.Status.{Status, Keeps}
-use Rattle.fluent_values.specs.Along.{Walk, walked, from_here, given, mapping, Trace, trace, Passed, Along, Went, Wrote, Rests, Toward, Got, Gave, Added}
+use Rattle.fluent_values.specs.Status.{Status}
+use Rattle.fluent_values.specs.Along.{Walk, walked, from_here, given, mapping, trace, Passed, Along, Wrote, Rests, Toward, Got, Gave, Added}
 use Rattle.fluent_values.specs.Written.{Sink, writer, beside, at}
 use Rattle.fluent_values.proofs.Along.{asked, turns, halts, at_value}
 use Rattle.fluent_values.proofs.Cases.{tells, and_then, give_then}
@@ -87,7 +86,7 @@ gets_part {all = all} {a = a} {b = b} {c = c} {walk = walk} k g j =
     let same : k l.ran.value l.ran.budget ≡ k here.ran.value here.ran.budget = ap (λ v. k v l.ran.budget) way.value ∙ ap (k here.ran.value) way.passed.budget in
     let v = k l.ran.value l.ran.budget in
     let whole : Toward all (together here v (after_errors here.ran.errors v.ran)) a b =
-        reads (ap (λ (v : Worked _). together here v (after_errors here.ran.errors v.ran)) (sym same)) there in
+    reads (ap (λ (v : Worked _). together here v (after_errors here.ran.errors v.ran)) (sym same)) there in
     record { value = whole.value; passed = passed_on (trace v) whole.passed way.passed }
 
 pub gets : {A B S E : Type 0} {q : Result S E} {v : S} {see : S → A} {all : Worked B} {a b c : Status} {walk : Walk A} (k : A → Budget → Worked B) → q ≡ Ok v → Got q see walk b c → Toward all (and_then (walked a walk b.budget) k) a b → Toward all (k (see v) c.budget) a c
@@ -138,7 +137,6 @@ got_part {walk = walk} {walk' = walk'} {a = a} {b = b} g is means h = record {
 pub got_part_as : {A B S T E : Type 0} {q : Result S E} {r : Result T E} {e : E} {see : S → A} {see' : T → B} {walk : Walk A} {walk' : Walk B} {a b : Status} (g : A → B) → q ≡ Err e → r ≡ Err e → from_here a walk' ≡ mapping g (from_here a walk) → Got q see walk a b → Got r see' walk' a b
 got_part_as g was is means h = got_part g is means h
 
-
 pub asks : {A S T : Type 0} {q : Result S WriteFault} {v : S} {x : T} {see : S → A} {all : Worked Text} {w w1 w2 : Sink} {a b c : Status} {walk : Walk A} (k : A → Budget → Worked Text) → q ≡ Ok v → Gave q see walk w1 w2 b c → Along (Ok x) all (and_then (walked a walk b.budget) k) w w1 a b → Along (Ok x) all (k (see v) c.budget) w w2 a c
 asks {v = v} {x = x} {see = see} {c = c} k is g j =
     turns (ap (λ l. and_then l k) (at_value (λ x. g.got.left ≡ given (see x) c.budget) is g.got.done) ∙ give_then (see v) c.budget k)
@@ -173,11 +171,13 @@ beside_rests contents w w' s s' h =
 beside_itself : {W T : Type 0} {r : Result T WriteFault} {walk : Walk Text} {a b : Status} (contents : W → Option Text) (n n' m m' : ℕ) (w w' : Counting W) (s s' : String Global) → Wrote r walk (at contents n w m s true) (at contents n' w' m' s' true) a b → Wrote r walk (beside contents w s) (beside contents w' s') a b
 beside_itself contents n n' m m' w w' s s' h =
     let way = h.went.along in
-    record { went = record {
-      left = h.went.left;
-      along = record { taken = way.taken; held = way.held; text = way.text; passed = way.passed; fault = way.fault; beside = way.beside; lent = refl };
-      done = h.went.done;
-    } }
+    record {
+      went = record {
+        left = h.went.left;
+        along = record { taken = way.taken; held = way.held; text = way.text; passed = way.passed; fault = way.fault; beside = way.beside; lent = refl };
+        done = h.went.done;
+      };
+    }
 
 pub by_buffer : {W T : Type 0} {r : Result T WriteFault} {walk : Walk Text} {a b : Status} (contents : W → Option Text) (n n' m m' : ℕ) (w w' w'' : Counting W) (s s' s'' : String Global) (d : Bool) → w'' ≡ w' → s'' ≡ s' → Wrote r walk (at contents n w m s true) (at contents n' w' m' s' d) a b → Wrote r walk (beside contents w s) (beside contents w'' s'') a b
 by_buffer {r = r} {walk = walk} {a = a} {b = b} contents n n' m m' w w' w'' s s' s'' d same same' h =
@@ -211,7 +211,7 @@ gathers_part {all = all} {out = out} {a = a} {b = b} {c = c} {walk = walk} k g j
     let same : k l.ran.value l.ran.budget ≡ k here.ran.value here.ran.budget = ap (λ v. k v l.ran.budget) way.value ∙ ap (k here.ran.value) way.passed.budget in
     let v = k l.ran.value l.ran.budget in
     let whole : Gathers all (together here v (after_errors here.ran.errors v.ran)) out a b =
-        gathers_as (ap (λ (v : Worked _). together here v (after_errors here.ran.errors v.ran)) (sym same)) there in
+    gathers_as (ap (λ (v : Worked _). together here v (after_errors here.ran.errors v.ran)) (sym same)) there in
     record { value = whole.value; passed = passed_on (trace v) whole.passed way.passed }
 
 pub gathers_one : {A X S E : Type 0} {q : Result S E} {v : S} {see : S → A} {all : Worked (List X)} {out : List X} {a b c : Status} {walk : Walk A} (item : A → X) (k : Budget → Worked (List X)) → q ≡ Ok v → Got q see walk b c → Gathers all (and_then (walked a walk b.budget) (λ x n. mapping (λ xs. item x ∷ xs) (k n))) out a b → Gathers all (k c.budget) (out ++ item (see v) ∷ []) a c

@@ -5,7 +5,6 @@ use Rattle.std.specs.Borrow.{Bor}
 use Rattle.std.specs.Io.KnownBytes.{Appends}
 use Rattle.fluent_tree.specs.Tree.{Text, Pattern, Inline}
 use Rattle.fluent_tree.specs.Fallback.{fallback}
-use Rattle.fluent_tree.specs.View.{pattern_view}
 use Rattle.fluent_tree.specs.declared.ast.Pattern as code
 use Rattle.fluent_text.specs.Taken.{Faulted}
 use Rattle.fluent_text.specs.declared.counting.WriteFault.{WriteFault}
@@ -14,7 +13,7 @@ use Rattle.fluent_meaning.specs.Bundle.{Bundle, shown}
 use Rattle.fluent_meaning.specs.Arguments.{Map}
 use Rattle.fluent_meaning.specs.Value.{Value, error_value}
 use Rattle.fluent_meaning.specs.Walk.{Environment, application, inner}
-use Rattle.fluent_meaning.specs.Meaning.{Budget, left, struck, at_most, Ran}
+use Rattle.fluent_meaning.specs.Meaning.{Budget, left, struck, at_most}
 use Rattle.fluent_meaning.specs.Work.{Worked, counting, work}
 use Rattle.fluent_values.specs.Status.{Status, Tally, counted, with_errors, on_path, Keeps}
 use Rattle.fluent_values.specs.Written.{Sink}

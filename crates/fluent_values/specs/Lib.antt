@@ -6,6 +6,7 @@ pub mod Ended
 pub mod FoundView
 pub mod Status
 pub mod Along
+pub mod Tracking
 pub mod Texts
 pub mod Sizes
 pub mod Written

@@ -14,8 +14,8 @@ ghost use Rattle.fluent_values.specs.Adding.{AreTaken};
 
 use crate::entry::Entry;
 use crate::ids::Ids;
-use fluent_tree::ast;
 use crate::{EntryKind, FluentError};
+use fluent_tree::ast;
 use std::alloc::{AllocError, Global};
 use std::borrow::CowStr;
 use std::collections::HashSet;

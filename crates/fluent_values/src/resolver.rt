@@ -11,6 +11,7 @@ pub mod output;
 mod path;
 mod pattern;
 pub mod scope;
+mod tracking;
 pub mod value;
 
 pub use context::Context;

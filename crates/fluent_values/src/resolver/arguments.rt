@@ -30,19 +30,16 @@ use std::io::Write;
 /// The value of a selector or an argument. What refers to a pattern, and a nested placeable, is the text that it
 /// gives.
 #[cycle(resolve)]
-#[tactic(none)]
 pub(crate) fn resolve<'p, 's, W: Write, C: FluentType, F: FluentFunction<C>, B: Context<C>>(
     scope: &mut Scope<'_, 'p, '_, 's, '_, C, F, B>,
     w: &mut Counting<W>,
     inline: &'p InlineExpression<'s>,
     place: Place,
 ) -> Result<FluentValue<'p, C>, WriteFault>
-    ensures {
-        let at = status B.meant B.is_plain F.answer C.content in
+    ensures { let at = status B.meant B.is_plain F.answer C.content in
         Gave result (value_view C.content)
-            (λ b below env path. resolved with_work b below env path (inline_view inline.now))
-            (writer W.contents w.old) (writer W.contents w.new) (at scope.old) (at scope.new)
-    }
+        (λ b below env path. resolved with_work b below env path (inline_view inline.now))
+        (writer W.contents w.old) (writer W.contents w.new) (at scope.old) (at scope.new) }
 {
     match inline {
         InlineExpression::StringLiteral { value } => {
@@ -67,7 +64,6 @@ pub(crate) fn resolve<'p, 's, W: Write, C: FluentType, F: FluentFunction<C>, B: 
 
 /// Writes what an inline expression gives to a text, and leaves the writer alone.
 #[cycle(resolve)]
-#[tactic(none)]
 fn write_beside<'p, 's, W: Write, C: FluentType, F: FluentFunction<C>, B: Context<C>>(
     scope: &mut Scope<'_, 'p, '_, 's, '_, C, F, B>,
     w: &mut Counting<W>,
@@ -75,13 +71,11 @@ fn write_beside<'p, 's, W: Write, C: FluentType, F: FluentFunction<C>, B: Contex
     inline: &'p InlineExpression<'s>,
     place: Place,
 ) -> Result<(), WriteFault>
-    ensures {
-        let at = status B.meant B.is_plain F.answer C.content in
+    ensures { let at = status B.meant B.is_plain F.answer C.content in
         Wrote result
-            (λ b below env path. written with_work b below env path (inline_view inline.now))
-            (beside W.contents w.old text.old) (beside W.contents w.new text.new)
-            (at scope.old) (at scope.new)
-    }
+        (λ b below env path. written with_work b below env path (inline_view inline.now))
+        (beside W.contents w.old text.old) (beside W.contents w.new text.new)
+        (at scope.old) (at scope.new) }
 {
     let mut out = Output {
         writer: w,
@@ -99,12 +93,10 @@ fn resolve_variable<'p, C: FluentType, F: FluentFunction<C>, B: Context<C>>(
     id: &Identifier<'_>,
 ) -> Result<FluentValue<'p, C>, AllocError>
     requires { inline_view inline.now ≡ variable id.now.name.now }
-    ensures {
-        let at = status B.meant B.is_plain F.answer C.content in
+    ensures { let at = status B.meant B.is_plain F.answer C.content in
         Got result (value_view C.content)
-            (λ b below env path. resolved with_work b below env path (inline_view inline.now))
-            (at scope.old) (at scope.new)
-    }
+        (λ b below env path. resolved with_work b below env path (inline_view inline.now))
+        (at scope.old) (at scope.new) }
 {
     let alloc = scope.bundle.allocator();
     match &scope.environment {
@@ -127,9 +119,7 @@ pub(crate) fn argument<'p, 'args, C: FluentType>(
     args: Option<&'p FluentArgs<'args, C>>,
     name: &str,
 ) -> Option<&'p FluentValue<'args, C>>
-    ensures {
-        option_map (λ v. value_view C.content v.now) result ≡ get name.now (given_arguments C.content args.entry)
-    }
+    ensures { option_map (λ v. value_view C.content v.now) result ≡ get name.now (given_arguments C.content args.entry) }
 {
     match args {
         Some(args) => args.get(name),
@@ -152,19 +142,16 @@ fn lent<'v, C: FluentType>(
 
 /// The environment that a term's arguments make: its named ones. The positional ones are resolved and thrown away.
 #[cycle(resolve)]
-#[tactic(none)]
 pub(crate) fn resolve_local<'p, 's, W: Write, C: FluentType, F: FluentFunction<C>, B: Context<C>>(
     scope: &mut Scope<'_, 'p, '_, 's, '_, C, F, B>,
     w: &mut Counting<W>,
     arguments: &'p Option<CallArguments<'s>>,
     place: Place,
 ) -> Result<FluentArgs<'p, C>, WriteFault>
-    ensures {
-        let at = status B.meant B.is_plain F.answer C.content in
+    ensures { let at = status B.meant B.is_plain F.answer C.content in
         Gave result (named C.content)
-            (λ b below env path. local_of with_work b below env path (call_of (option_map arguments_view arguments.now)))
-            (writer W.contents w.old) (writer W.contents w.new) (at scope.old) (at scope.new)
-    }
+        (λ b below env path. local_of with_work b below env path (call_of (option_map arguments_view arguments.now)))
+        (writer W.contents w.old) (writer W.contents w.new) (at scope.old) (at scope.new) }
 {
     match arguments {
         None => Ok(FluentArgs::new(scope.bundle.allocator())),
@@ -177,19 +164,16 @@ pub(crate) fn resolve_local<'p, 's, W: Write, C: FluentType, F: FluentFunction<C
 
 /// The values of arguments: positional ones, then named ones, of which the last of a name stands.
 #[cycle(resolve)]
-#[tactic(none)]
 pub(crate) fn resolve_call<'p, 's, W: Write, C: FluentType, F: FluentFunction<C>, B: Context<C>>(
     scope: &mut Scope<'_, 'p, '_, 's, '_, C, F, B>,
     w: &mut Counting<W>,
     arguments: &'p CallArguments<'s>,
     place: Place,
 ) -> Result<(Vec<FluentValue<'p, C>>, FluentArgs<'p, C>), WriteFault>
-    ensures {
-        let at = status B.meant B.is_plain F.answer C.content in
+    ensures { let at = status B.meant B.is_plain F.answer C.content in
         Gave result (λ v. (map (value_view C.content) v.0.items, named C.content v.1))
-            (λ b below env path. called with_work b below env path (arguments_view arguments.now))
-            (writer W.contents w.old) (writer W.contents w.new) (at scope.old) (at scope.new)
-    }
+        (λ b below env path. called with_work b below env path (arguments_view arguments.now))
+        (writer W.contents w.old) (writer W.contents w.new) (at scope.old) (at scope.new) }
 {
     let positional = resolve_positional(scope, w, &arguments.positional, place)?;
     let named = resolve_named(scope, w, &arguments.named, place)?;
@@ -198,19 +182,16 @@ pub(crate) fn resolve_call<'p, 's, W: Write, C: FluentType, F: FluentFunction<C>
 
 /// The values of positional arguments, in order.
 #[cycle(resolve)]
-#[tactic(none)]
 fn resolve_positional<'p, 's, W: Write, C: FluentType, F: FluentFunction<C>, B: Context<C>>(
     scope: &mut Scope<'_, 'p, '_, 's, '_, C, F, B>,
     w: &mut Counting<W>,
     arguments: &'p [InlineExpression<'s>],
     place: Place,
 ) -> Result<Vec<FluentValue<'p, C>>, WriteFault>
-    ensures {
-        let at = status B.meant B.is_plain F.answer C.content in
+    ensures { let at = status B.meant B.is_plain F.answer C.content in
         Gave result (λ v. map (value_view C.content) v.items)
-            (λ b below env path. positional with_work b below env path (inlines_of (map inline_view arguments.now)))
-            (writer W.contents w.old) (writer W.contents w.new) (at scope.old) (at scope.new)
-    }
+        (λ b below env path. positional with_work b below env path (inlines_of (map inline_view arguments.now)))
+        (writer W.contents w.old) (writer W.contents w.new) (at scope.old) (at scope.new) }
 {
     let mut values = Vec::new(scope.bundle.allocator());
     for argument in arguments {
@@ -225,11 +206,9 @@ fn push_value<'p, C: FluentType>(
     values: &mut Vec<FluentValue<'p, C>>,
     value: FluentValue<'p, C>,
 ) -> Result<(), AllocError>
-    ensures {
-        OnOk result
-            (map (value_view C.content) values.new.items
-            ≡ map (value_view C.content) values.old.items ++ value_view C.content value.entry ∷ [])
-    }
+    ensures { OnOk result
+        (map (value_view C.content) values.new.items
+        ≡ map (value_view C.content) values.old.items ++ value_view C.content value.entry ∷ []) }
 {
     values.push(value)?;
     Ok(())
@@ -237,20 +216,17 @@ fn push_value<'p, C: FluentType>(
 
 /// The values of named arguments, in order; the last of a name stands.
 #[cycle(resolve)]
-#[tactic(none)]
 fn resolve_named<'p, 's, W: Write, C: FluentType, F: FluentFunction<C>, B: Context<C>>(
     scope: &mut Scope<'_, 'p, '_, 's, '_, C, F, B>,
     w: &mut Counting<W>,
     arguments: &'p [NamedArgument<'s>],
     place: Place,
 ) -> Result<FluentArgs<'p, C>, WriteFault>
-    ensures {
-        let at = status B.meant B.is_plain F.answer C.content in
+    ensures { let at = status B.meant B.is_plain F.answer C.content in
         Gave result (named C.content)
-            (λ b below env path n. mapping (λ m. set_all m [])
-                (named_arguments with_work b below env path (nameds_of (map named_view arguments.now)) n))
-            (writer W.contents w.old) (writer W.contents w.new) (at scope.old) (at scope.new)
-    }
+        (λ b below env path n. mapping (λ m. set_all m [])
+        (named_arguments with_work b below env path (nameds_of (map named_view arguments.now)) n))
+        (writer W.contents w.old) (writer W.contents w.new) (at scope.old) (at scope.new) }
 {
     let mut values = FluentArgs::new(scope.bundle.allocator());
     for argument in arguments {

@@ -50,8 +50,6 @@ pub trait Context<C: FluentType> {
 
     /// Whether a value matches another, as a variant's key a selector.
     fn matches(&self, value: &FluentValue<'_, C>, other: &FluentValue<'_, C>) -> bool
-        ensures {
-            result
-            ≡ matches (meant self.now).plurals (value_view C.content value.now) (value_view C.content other.now)
-        };
+        ensures { result
+            ≡ matches (meant self.now).plurals (value_view C.content value.now) (value_view C.content other.now) };
 }

@@ -32,19 +32,23 @@ use std::io::Write;
 
 /// Writes what an expression gives.
 #[cycle(resolve)]
-#[tactic(none)]
-pub(crate) fn write_expression<'p, 's, W: Write, C: FluentType, F: FluentFunction<C>, B: Context<C>>(
+pub(crate) fn write_expression<
+    'p,
+    's,
+    W: Write,
+    C: FluentType,
+    F: FluentFunction<C>,
+    B: Context<C>,
+>(
     scope: &mut Scope<'_, 'p, '_, 's, '_, C, F, B>,
     out: &mut Output<W>,
     expression: &'p Expression<'s>,
     place: Place,
 ) -> Result<(), WriteFault>
-    ensures {
-        let at = status B.meant B.is_plain F.answer C.content in
+    ensures { let at = status B.meant B.is_plain F.answer C.content in
         Wrote result
-            (λ b below env path. walk.expression with_work b below env path (expression_view expression.now))
-            (sink W.contents out.old) (sink W.contents out.new) (at scope.old) (at scope.new)
-    }
+        (λ b below env path. walk.expression with_work b below env path (expression_view expression.now))
+        (sink W.contents out.old) (sink W.contents out.new) (at scope.old) (at scope.new) }
 {
     match expression {
         Expression::Inline(inline) => write_inline(scope, out, inline, place),
@@ -67,11 +71,9 @@ fn choose<'p, 's, C: FluentType, B: Context<C>>(
     value: &FluentValue<'_, C>,
     variants: &'p [Variant<'s>],
 ) -> Option<&'p Pattern<'s>>
-    ensures {
-        let vs = variants_of (map variant_view variants.now) in
+    ensures { let vs = variants_of (map variant_view variants.now) in
         option_map (λ p. pattern_view p.now) result
-        ≡ choice (goes_to (B.meant bundle.now)) (value_view C.content value.now) (first_default vs) vs
-    }
+        ≡ choice (goes_to (B.meant bundle.now)) (value_view C.content value.now) (first_default vs) vs }
 {
     for variant in variants {
         if bundle.matches(&value_of(&variant.key), value) {
@@ -93,9 +95,7 @@ fn value_of<'p, C: FluentType>(key: &VariantKey<'p>) -> FluentValue<'p, C>
 
 /// The first default among variants.
 fn first_default<'p, 's>(variants: &'p [Variant<'s>]) -> Option<&'p Pattern<'s>>
-    ensures {
-        option_map (λ p. pattern_view p.now) result ≡ first_default (variants_of (map variant_view variants.now))
-    }
+    ensures { option_map (λ p. pattern_view p.now) result ≡ first_default (variants_of (map variant_view variants.now)) }
 {
     for variant in variants {
         if variant.default {

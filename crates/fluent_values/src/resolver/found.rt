@@ -38,7 +38,6 @@ pub enum Found<'p, 's> {
     Pattern(Target<'p, 's>),
 }
 
-
 impl<'r, 's, F> Ids<'r, 's, F> {
     /// What a message's id leads to, or its attribute of a name. Takes no memory.
     pub(crate) fn message<'p>(
@@ -47,10 +46,8 @@ impl<'r, 's, F> Ids<'r, 's, F> {
         attribute: &Option<Identifier<'_>>,
         _place: Place,
     ) -> Found<'p, 's>
-        ensures {
-            (answer : F → Function Text) →
-                found_view result ≡ message_target (get id.now (ids answer self.now)) (attribute_of attribute.now)
-        }
+        ensures { (answer : F → Function Text) →
+            found_view result ≡ message_target (get id.now (ids answer self.now)) (attribute_of attribute.now) }
     {
         match self.named(id) {
             Some(Entry::Message(message)) => match attribute {
@@ -68,10 +65,8 @@ impl<'r, 's, F> Ids<'r, 's, F> {
         attribute: &Option<Identifier<'_>>,
         _place: Place,
     ) -> Found<'p, 's>
-        ensures {
-            (answer : F → Function Text) →
-                found_view result ≡ term_target (get id.now (ids answer self.now)) (attribute_of attribute.now)
-        }
+        ensures { (answer : F → Function Text) →
+            found_view result ≡ term_target (get id.now (ids answer self.now)) (attribute_of attribute.now) }
     {
         match self.named(id) {
             Some(Entry::Term(term)) => match attribute {
@@ -94,13 +89,11 @@ pub(crate) fn answer_of<'a, C: FluentType, F: FluentFunction<C>>(
     positional: &[FluentValue<'a, C>],
     arguments: &FluentArgs<'a, C>,
 ) -> Result<Option<FluentValue<'a, C>>, AllocError>
-    ensures {
-        IfOk result (λ answer.
-            option_map (value_view C.content) answer
-            ≡ option_map
-                (λ f. f (map (value_view C.content) positional.now) (named C.content arguments.now))
-                (function_found (get id.now (ids_of F.answer ids.now))))
-    }
+    ensures { IfOk result (λ answer.
+        option_map (value_view C.content) answer
+        ≡ option_map
+        (λ f. f (map (value_view C.content) positional.now) (named C.content arguments.now))
+        (function_found (get id.now (ids_of F.answer ids.now)))) }
 {
     match ids.named(id) {
         Some(Entry::Function(function)) => Ok(Some(function.call(alloc, positional, arguments)?)),

@@ -21,8 +21,8 @@ use super::arguments::{argument, resolve_call, resolve_local};
 use super::context::Context;
 use super::environment::Environment;
 use super::expression::write_expression;
-use super::found::{Found, Place, Target, answer_of};
 use super::fallback::{put_fallback, put_id_in_braces, put_in_braces};
+use super::found::{Found, Place, Target, answer_of};
 use super::output::{Output, put_text};
 use super::pattern::write_pattern;
 use super::scope::Scope;
@@ -39,19 +39,16 @@ use std::mem;
 
 /// Writes what an inline expression gives.
 #[cycle(resolve)]
-#[tactic(none)]
 pub(crate) fn write_inline<'p, 's, W: Write, C: FluentType, F: FluentFunction<C>, B: Context<C>>(
     scope: &mut Scope<'_, 'p, '_, 's, '_, C, F, B>,
     out: &mut Output<W>,
     inline: &'p InlineExpression<'s>,
     place: Place,
 ) -> Result<(), WriteFault>
-    ensures {
-        let at = status B.meant B.is_plain F.answer C.content in
+    ensures { let at = status B.meant B.is_plain F.answer C.content in
         Wrote result
-            (λ b below env path. written with_work b below env path (inline_view inline.now))
-            (sink W.contents out.old) (sink W.contents out.new) (at scope.old) (at scope.new)
-    }
+        (λ b below env path. written with_work b below env path (inline_view inline.now))
+        (sink W.contents out.old) (sink W.contents out.new) (at scope.old) (at scope.new) }
 {
     match inline {
         InlineExpression::StringLiteral { value } => {
@@ -98,7 +95,6 @@ fn put_unescaped<W: Write>(
 
 /// Writes a term's pattern, in the environment that its arguments make.
 #[cycle(resolve)]
-#[tactic(none)]
 fn write_term<'p, 's, W: Write, C: FluentType, F: FluentFunction<C>, B: Context<C>>(
     scope: &mut Scope<'_, 'p, '_, 's, '_, C, F, B>,
     out: &mut Output<W>,
@@ -108,16 +104,12 @@ fn write_term<'p, 's, W: Write, C: FluentType, F: FluentFunction<C>, B: Context<
     arguments: &'p Option<CallArguments<'s>>,
     place: Place,
 ) -> Result<(), WriteFault>
-    requires {
-        inline_view inline.now
-        ≡ term id.now.name.now (attribute_of attribute.now) (call_of (option_map arguments_view arguments.now))
-    }
-    ensures {
-        let at = status B.meant B.is_plain F.answer C.content in
+    requires { inline_view inline.now
+        ≡ term id.now.name.now (attribute_of attribute.now) (call_of (option_map arguments_view arguments.now)) }
+    ensures { let at = status B.meant B.is_plain F.answer C.content in
         Wrote result
-            (λ b below env path. written with_work b below env path (inline_view inline.now))
-            (sink W.contents out.old) (sink W.contents out.new) (at scope.old) (at scope.new)
-    }
+        (λ b below env path. written with_work b below env path (inline_view inline.now))
+        (sink W.contents out.old) (sink W.contents out.new) (at scope.old) (at scope.new) }
 {
     let local = resolve_local(scope, out.writer, arguments, place)?;
     let found = scope.ids.term(id.name, attribute, place);
@@ -129,7 +121,6 @@ fn write_term<'p, 's, W: Write, C: FluentType, F: FluentFunction<C>, B: Context<
 
 /// Writes what a reference leads to.
 #[cycle(resolve)]
-#[tactic(none)]
 fn follow<'p, 's, W: Write, C: FluentType, F: FluentFunction<C>, B: Context<C>>(
     scope: &mut Scope<'_, 'p, '_, 's, '_, C, F, B>,
     out: &mut Output<W>,
@@ -138,12 +129,10 @@ fn follow<'p, 's, W: Write, C: FluentType, F: FluentFunction<C>, B: Context<C>>(
     found: Found<'p, 's>,
 ) -> Result<(), WriteFault>
     requires { IsBelow (bound (status B.meant B.is_plain F.answer C.content scope.old).bundle) (found_view found) }
-    ensures {
-        let at = status B.meant B.is_plain F.answer C.content in
+    ensures { let at = status B.meant B.is_plain F.answer C.content in
         Wrote result
-            (λ b below env path. follow with_work b below env env path (inline_view inline.now) id.now.name.now (found_view found.entry))
-            (sink W.contents out.old) (sink W.contents out.new) (at scope.old) (at scope.new)
-    }
+        (λ b below env path. follow with_work b below env env path (inline_view inline.now) id.now.name.now (found_view found.entry))
+        (sink W.contents out.old) (sink W.contents out.new) (at scope.old) (at scope.new) }
 {
     match found {
         Found::Unknown => lose(scope, out, inline),
@@ -157,7 +146,6 @@ fn follow<'p, 's, W: Write, C: FluentType, F: FluentFunction<C>, B: Context<C>>(
 
 /// Writes a pattern that an expression refers to, unless it is being written.
 #[cycle(resolve)]
-#[tactic(none)]
 fn go<'p, 's, W: Write, C: FluentType, F: FluentFunction<C>, B: Context<C>>(
     scope: &mut Scope<'_, 'p, '_, 's, '_, C, F, B>,
     out: &mut Output<W>,
@@ -165,12 +153,10 @@ fn go<'p, 's, W: Write, C: FluentType, F: FluentFunction<C>, B: Context<C>>(
     target: Target<'p, 's>,
 ) -> Result<(), WriteFault>
     requires { size (pattern_view target.pattern.now) < bound (status B.meant B.is_plain F.answer C.content scope.old).bundle }
-    ensures {
-        let at = status B.meant B.is_plain F.answer C.content in
+    ensures { let at = status B.meant B.is_plain F.answer C.content in
         Wrote result
-            (λ b below env path. go with_work b below env (is_on path (pattern_view target.entry.pattern.now)) env path (inline_view inline.now) (pattern_view target.entry.pattern.now))
-            (sink W.contents out.old) (sink W.contents out.new) (at scope.old) (at scope.new)
-    }
+        (λ b below env path. go with_work b below env (is_on path (pattern_view target.entry.pattern.now)) env path (inline_view inline.now) (pattern_view target.entry.pattern.now))
+        (sink W.contents out.old) (sink W.contents out.new) (at scope.old) (at scope.new) }
 {
     if scope.path.is_on(target.pattern) {
         scope.add_error(ResolverError::Cyclic)?;
@@ -191,16 +177,20 @@ fn put_answer<'p, W: Write, C: FluentType, F: FluentFunction<C>, B: Context<C>>(
     positional: &[FluentValue<'p, C>],
     arguments: &FluentArgs<'p, C>,
 ) -> Result<(), WriteFault>
-    ensures {
-        let at = status B.meant B.is_plain F.answer C.content in
+    ensures { let at = status B.meant B.is_plain F.answer C.content in
         Wrote result
-            (λ b below env path. function_text with_work b below env (inline_view inline.now)
-                (function_found (get id.now.name.now b.ids))
-                (map (value_view C.content) positional.now) (named C.content arguments.now))
-            (sink W.contents out.old) (sink W.contents out.new) (at scope.old) (at scope.new)
-    }
+        (λ b below env path. function_text with_work b below env (inline_view inline.now)
+        (function_found (get id.now.name.now b.ids))
+        (map (value_view C.content) positional.now) (named C.content arguments.now))
+        (sink W.contents out.old) (sink W.contents out.new) (at scope.old) (at scope.new) }
 {
-    match answer_of(scope.ids, scope.bundle.allocator(), id.name, positional, arguments)? {
+    match answer_of(
+        scope.ids,
+        scope.bundle.allocator(),
+        id.name,
+        positional,
+        arguments,
+    )? {
         None => lose(scope, out, inline),
         Some(answer) => put_shown(scope.bundle, out, inline, &answer),
     }
@@ -213,10 +203,8 @@ fn put_shown<W: Write, C: FluentType, B: Context<C>>(
     inline: &InlineExpression<'_>,
     answer: &FluentValue<'_, C>,
 ) -> Result<(), WriteFault>
-    ensures {
-        Took result (shown_answer (B.meant bundle.now) (inline_view inline.now) (value_view C.content answer.now))
-            (sink W.contents out.old) (sink W.contents out.new)
-    }
+    ensures { Took result (shown_answer (B.meant bundle.now) (inline_view inline.now) (value_view C.content answer.now))
+        (sink W.contents out.old) (sink W.contents out.new) }
 {
     match answer {
         FluentValue::Error => put_fallback(out, inline),
@@ -233,12 +221,10 @@ fn write_variable<W: Write, C: FluentType, F: FluentFunction<C>, B: Context<C>>(
     id: &Identifier<'_>,
 ) -> Result<(), WriteFault>
     requires { inline_view inline.now ≡ variable id.now.name.now }
-    ensures {
-        let at = status B.meant B.is_plain F.answer C.content in
+    ensures { let at = status B.meant B.is_plain F.answer C.content in
         Wrote result
-            (λ b below env path. written with_work b below env path (inline_view inline.now))
-            (sink W.contents out.old) (sink W.contents out.new) (at scope.old) (at scope.new)
-    }
+        (λ b below env path. written with_work b below env path (inline_view inline.now))
+        (sink W.contents out.old) (sink W.contents out.new) (at scope.old) (at scope.new) }
 {
     match &scope.environment {
         Environment::Local(args) => match args.get(id.name) {
@@ -258,12 +244,10 @@ pub(crate) fn lose<W: Write, C: FluentType, F: FluentFunction<C>, B: Context<C>>
     out: &mut Output<W>,
     inline: &InlineExpression<'_>,
 ) -> Result<(), WriteFault>
-    ensures {
-        let at = status B.meant B.is_plain F.answer C.content in
+    ensures { let at = status B.meant B.is_plain F.answer C.content in
         Wrote result
-            (λ b below env path. loses with_work b below env (inline_view inline.now))
-            (sink W.contents out.old) (sink W.contents out.new) (at scope.old) (at scope.new)
-    }
+        (λ b below env path. loses with_work b below env (inline_view inline.now))
+        (sink W.contents out.old) (sink W.contents out.new) (at scope.old) (at scope.new) }
 {
     report_lost(scope, inline)?;
     put_in_braces(out, inline)
@@ -274,10 +258,8 @@ pub(crate) fn report_lost<C: FluentType, F: FluentFunction<C>, B: Context<C>>(
     scope: &mut Scope<'_, '_, '_, '_, '_, C, F, B>,
     inline: &InlineExpression<'_>,
 ) -> Result<(), AllocError>
-    ensures {
-        let at = status B.meant B.is_plain F.answer C.content in
-        Added result (lost_of (inline_view inline.now)) (at scope.old) (at scope.new)
-    }
+    ensures { let at = status B.meant B.is_plain F.answer C.content in
+        Added result (lost_of (inline_view inline.now)) (at scope.old) (at scope.new) }
 {
     match ResolverError::of(scope.bundle.allocator(), inline)? {
         Some(error) => scope.add_error(error),
@@ -290,10 +272,8 @@ fn report_no_value<C: FluentType, F: FluentFunction<C>, B: Context<C>>(
     scope: &mut Scope<'_, '_, '_, '_, '_, C, F, B>,
     id: &str,
 ) -> Result<(), AllocError>
-    ensures {
-        let at = status B.meant B.is_plain F.answer C.content in
-        Added result (resolver_error (no_value id.now) ∷ []) (at scope.old) (at scope.new)
-    }
+    ensures { let at = status B.meant B.is_plain F.answer C.content in
+        Added result (resolver_error (no_value id.now) ∷ []) (at scope.old) (at scope.new) }
 {
     let id = String::from_str(scope.bundle.allocator(), id)?;
     scope.add_error(ResolverError::NoValue(id))

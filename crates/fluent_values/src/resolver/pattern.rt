@@ -28,23 +28,18 @@ use std::io::Write;
 /// Writes a pattern that was handed in, referred to or chosen: it stands on the path for its own placeables where
 /// the path is empty.
 #[cycle(resolve)]
-#[tactic(none)]
 pub fn write_pattern<'p, 's, W: Write, C: FluentType, F: FluentFunction<C>, B: Context<C>>(
     scope: &mut Scope<'_, 'p, '_, 's, '_, C, F, B>,
     out: &mut Output<W>,
     pattern: &'p Pattern<'s>,
     place: Place,
 ) -> Result<(), WriteFault>
-    ensures wrote {
-        let at = status B.meant B.is_plain F.answer C.content in
+    ensures wrote { let at = status B.meant B.is_plain F.answer C.content in
         Wrote result
-            (λ b below env path. whole with_work b below env path (pattern_view pattern.now))
-            (sink W.contents out.old) (sink W.contents out.new) (at scope.old) (at scope.new)
-    }
-    ensures memory {
-        IsText (pattern_view pattern.now) → IsTrue (B.is_plain scope.old.bundle.now)
-        → out.old.is_buffered ≡ false → result ≢ Err WriteFault.Memory
-    }
+        (λ b below env path. whole with_work b below env path (pattern_view pattern.now))
+        (sink W.contents out.old) (sink W.contents out.new) (at scope.old) (at scope.new) }
+    ensures memory { IsText (pattern_view pattern.now) → IsTrue (B.is_plain scope.old.bundle.now)
+        → out.old.is_buffered ≡ false → result ≢ Err WriteFault.Memory }
 {
     let begun = scope.begin(pattern);
     let written = write_elements(scope, out, pattern, place);
@@ -54,23 +49,18 @@ pub fn write_pattern<'p, 's, W: Write, C: FluentType, F: FluentFunction<C>, B: C
 
 /// Writes the elements of a pattern, in order.
 #[cycle(resolve)]
-#[tactic(none)]
 fn write_elements<'p, 's, W: Write, C: FluentType, F: FluentFunction<C>, B: Context<C>>(
     scope: &mut Scope<'_, 'p, '_, 's, '_, C, F, B>,
     out: &mut Output<W>,
     pattern: &'p Pattern<'s>,
     place: Place,
 ) -> Result<(), WriteFault>
-    ensures wrote {
-        let at = status B.meant B.is_plain F.answer C.content in
+    ensures wrote { let at = status B.meant B.is_plain F.answer C.content in
         Wrote result
-            (λ b below env path. elements with_work b below env path (has_one (pattern_view pattern.now)) (pattern_view pattern.now))
-            (sink W.contents out.old) (sink W.contents out.new) (at scope.old) (at scope.new)
-    }
-    ensures memory {
-        IsText (pattern_view pattern.now) → IsTrue (B.is_plain scope.old.bundle.now)
-        → out.old.is_buffered ≡ false → result ≢ Err WriteFault.Memory
-    }
+        (λ b below env path. elements with_work b below env path (has_one (pattern_view pattern.now)) (pattern_view pattern.now))
+        (sink W.contents out.old) (sink W.contents out.new) (at scope.old) (at scope.new) }
+    ensures memory { IsText (pattern_view pattern.now) → IsTrue (B.is_plain scope.old.bundle.now)
+        → out.old.is_buffered ≡ false → result ≢ Err WriteFault.Memory }
 {
     let one = has_one(pattern);
     for element in &pattern.elements {
@@ -93,13 +83,9 @@ fn put_changed<W: Write, C: FluentType, F: FluentFunction<C>, B: Context<C>>(
     out: &mut Output<W>,
     text: &str,
 ) -> Result<(), WriteFault>
-    ensures took {
-        Took result ((B.meant scope.now.bundle.now).transform text.now)
-            (sink W.contents out.old) (sink W.contents out.new)
-    }
-    ensures memory {
-        IsTrue (B.is_plain scope.now.bundle.now) → out.old.is_buffered ≡ false → result ≢ Err WriteFault.Memory
-    }
+    ensures took { Took result ((B.meant scope.now.bundle.now).transform text.now)
+        (sink W.contents out.old) (sink W.contents out.new) }
+    ensures memory { IsTrue (B.is_plain scope.now.bundle.now) → out.old.is_buffered ≡ false → result ≢ Err WriteFault.Memory }
 {
     let changed = scope.bundle.change(text)?;
     put_text(out, &changed)
@@ -114,7 +100,6 @@ pub(crate) fn has_one(pattern: &Pattern) -> bool
 
 /// Writes a placeable of a pattern, which is all of it or not.
 #[cycle(resolve)]
-#[tactic(none)]
 fn write_placeable<'p, 's, W: Write, C: FluentType, F: FluentFunction<C>, B: Context<C>>(
     scope: &mut Scope<'_, 'p, '_, 's, '_, C, F, B>,
     out: &mut Output<W>,
@@ -123,12 +108,10 @@ fn write_placeable<'p, 's, W: Write, C: FluentType, F: FluentFunction<C>, B: Con
     place: Place,
 ) -> Result<(), WriteFault>
     requires { budget_view scope.old.budget ≢ struck }
-    ensures {
-        let at = status B.meant B.is_plain F.answer C.content in
+    ensures { let at = status B.meant B.is_plain F.answer C.content in
         Wrote result
-            (λ b below env path. part with_work b below env path one (placeable (expression_view expression.now)))
-            (sink W.contents out.old) (sink W.contents out.new) (at scope.old) (at scope.new)
-    }
+        (λ b below env path. part with_work b below env path one (placeable (expression_view expression.now)))
+        (sink W.contents out.old) (sink W.contents out.new) (at scope.old) (at scope.new) }
 {
     if !scope.take_one() {
         scope.add_error(ResolverError::TooManyPlaceables)?;
@@ -176,10 +159,8 @@ pub(crate) fn put_ending<W: Write>(
     expression: &Expression,
     budget: Budget,
 ) -> Result<(), WriteFault>
-    ensures {
-        Took result (ending (fallback_of (expression_view expression.now)) (budget_view budget))
-            (sink W.contents out.old) (sink W.contents out.new)
-    }
+    ensures { Took result (ending (fallback_of (expression_view expression.now)) (budget_view budget))
+        (sink W.contents out.old) (sink W.contents out.new) }
 {
     match budget {
         Budget::Left(_) => Ok(()),

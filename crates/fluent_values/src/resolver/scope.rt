@@ -48,8 +48,16 @@ pub struct Scope<'errors, 'p, 'r, 's, 'args, C, F, B> {
     pub(crate) counts: Counts,
 }
 
-impl<'errors, 'p, 'r, 's, 'args, C: FluentType, F: FluentFunction<C>, B: Context<C>>
-    Scope<'errors, 'p, 'r, 's, 'args, C, F, B> {
+impl<'errors, 'p, 'r, 's, 'args, C: FluentType, F: FluentFunction<C>, B: Context<C>> Scope<
+    'errors,
+    'p,
+    'r,
+    's,
+    'args,
+    C,
+    F,
+    B,
+> {
     /// The state in which a call begins, with the whole budget of its bundle, whose ids it is handed too. Errors
     /// are added at the end of the list, if there is one. Without arguments each variable is missing. It takes no
     /// memory yet.
@@ -61,11 +69,9 @@ impl<'errors, 'p, 'r, 's, 'args, C: FluentType, F: FluentFunction<C>, B: Context
     ) -> Self
         ensures bundle { result.bundle ≡ bundle.entry }
         ensures errors { result.errors ≡ errors.entry }
-        ensures begins {
-            let at = status B.meant B.is_plain F.answer C.content in
+        ensures begins { let at = status B.meant B.is_plain F.answer C.content in
             Begins (at result) (with_ids (B.meant bundle.now) (ids_of F.answer ids.now))
-                (arguments_view C.content args.entry)
-        }
+            (arguments_view C.content args.entry) }
     {
         Scope {
             errors,
@@ -91,10 +97,8 @@ impl<'errors, 'p, 'r, 's, 'args, C: FluentType, F: FluentFunction<C>, B: Context
 
     /// The list of errors, with those that the call added; `None` where it was given no list.
     pub fn errors(&self) -> Option<&[FluentError]>
-        ensures {
-            option_map (λ list. map error_view list.now) result
-            ≡ (status B.meant B.is_plain F.answer C.content self.now).errors
-        }
+        ensures { option_map (λ list. map error_view list.now) result
+            ≡ (status B.meant B.is_plain F.answer C.content self.now).errors }
     {
         match &self.errors {
             Some(errors) => Some(errors.as_slice()),
@@ -102,18 +106,25 @@ impl<'errors, 'p, 'r, 's, 'args, C: FluentType, F: FluentFunction<C>, B: Context
         }
     }
 
-    /// Takes the list of errors back, with those that the call added; the state has none then.
-    pub fn take_errors(&mut self) -> Option<&'errors mut Vec<FluentError>>
-        ensures { result ≡ self.old.errors }
+    /// Gives the list of errors back, with those that the call added, at the call's end.
+    pub fn into_errors(self) -> Option<&'errors mut Vec<FluentError>>
+        ensures { result ≡ self.entry.errors }
     {
-        self.errors.take()
+        let Scope {
+            errors,
+            bundle: _,
+            ids: _,
+            environment: _,
+            path: _,
+            budget: _,
+            counts: _,
+        } = self;
+        errors
     }
 
     /// Whether a placeable past the limit was met.
     pub fn dirty(&self) -> bool
-        ensures {
-            IsTrue result ↔ ((status B.meant B.is_plain F.answer C.content self.now).budget ≡ struck)
-        }
+        ensures { IsTrue result ↔ ((status B.meant B.is_plain F.answer C.content self.now).budget ≡ struck) }
     {
         matches!(self.budget, Budget::Struck)
     }
@@ -131,10 +142,8 @@ impl<'errors, 'p, 'r, 's, 'args, C: FluentType, F: FluentFunction<C>, B: Context
     ///
     /// Memory was refused, which only a list can meet: it is as before.
     pub fn add_error(&mut self, error: ResolverError) -> Result<(), AllocError>
-        ensures added {
-            let at = status B.meant B.is_plain F.answer C.content in
-            Added result (resolver_error (resolver_error_view error) ∷ []) (at self.old) (at self.new)
-        }
+        ensures added { let at = status B.meant B.is_plain F.answer C.content in
+            Added result (resolver_error (resolver_error_view error) ∷ []) (at self.old) (at self.new) }
         ensures bundle { self.new.bundle ≡ self.old.bundle }
         ensures succeeds { IfNone self.old.errors (IsOk result) }
     {
@@ -150,10 +159,8 @@ impl<'errors, 'p, 'r, 's, 'args, C: FluentType, F: FluentFunction<C>, B: Context
     /// Takes one from the budget, or strikes it where none is left.
     pub(crate) fn take_one(&mut self) -> bool
         ensures opens { result ≡ can_open (budget_view self.old.budget) }
-        ensures takes {
-            let at = status B.meant B.is_plain F.answer C.content in
-            Takes result (at self.old) (at self.new)
-        }
+        ensures takes { let at = status B.meant B.is_plain F.answer C.content in
+            Takes result (at self.old) (at self.new) }
     {
         match self.budget {
             Budget::Left(left) if left > 0 => {
@@ -170,10 +177,8 @@ impl<'errors, 'p, 'r, 's, 'args, C: FluentType, F: FluentFunction<C>, B: Context
 
     /// Puts a pattern on the path where that is empty, counts the pattern, and says whether it put it there.
     pub(crate) fn begin(&mut self, pattern: &'p Pattern<'s>) -> bool
-        ensures {
-            let at = status B.meant B.is_plain F.answer C.content in
-            Starts result (pattern_view pattern.now) (at self.old) (at self.new)
-        }
+        ensures { let at = status B.meant B.is_plain F.answer C.content in
+            Starts result (pattern_view pattern.now) (at self.old) (at self.new) }
     {
         let begun = self.path.begin(pattern);
         let length = self.path.len();
@@ -184,10 +189,8 @@ impl<'errors, 'p, 'r, 's, 'args, C: FluentType, F: FluentFunction<C>, B: Context
 
     /// Takes the pattern off the path that `begin` put there, where it did.
     pub(crate) fn end(&mut self, begun: bool)
-        ensures {
-            let at = status B.meant B.is_plain F.answer C.content in
-            Ends begun (at self.old) (at self.new)
-        }
+        ensures { let at = status B.meant B.is_plain F.answer C.content in
+            Ends begun (at self.old) (at self.new) }
     {
         self.path.end(begun);
     }
@@ -198,20 +201,16 @@ impl<'errors, 'p, 'r, 's, 'args, C: FluentType, F: FluentFunction<C>, B: Context
     ///
     /// Memory was refused: the path is as before.
     pub(crate) fn enter(&mut self, pattern: &'p Pattern<'s>) -> Result<(), AllocError>
-        ensures {
-            let at = status B.meant B.is_plain F.answer C.content in
-            Enters result pattern.entry (at self.old) (at self.new)
-        }
+        ensures { let at = status B.meant B.is_plain F.answer C.content in
+            Enters result pattern.entry (at self.old) (at self.new) }
     {
         self.path.enter(pattern)
     }
 
     /// Takes the last pattern off the path.
     pub(crate) fn leave(&mut self)
-        ensures {
-            let at = status B.meant B.is_plain F.answer C.content in
-            Leaves (at self.old) (at self.new)
-        }
+        ensures { let at = status B.meant B.is_plain F.answer C.content in
+            Leaves (at self.old) (at self.new) }
     {
         self.path.leave();
     }

@@ -1,29 +1,30 @@
-use Rattle.std.proofs.Common.{ℕ, ◌≡◌, rules, arith, length, ap, sym, ◌∙◌, refl, Some, None, map, [], ◌∷◌, ◌++◌, ◌+◌, drop, subst, IsTrue, List}
+use Rattle.std.proofs.Common.{ℕ, ◌≡◌, rules, arith, length, ap, sym, ◌∙◌, refl, Some, None, map, [], ◌∷◌, ◌++◌, ◌+◌, drop, subst, IsTrue, ◌<◌}
 use Rattle.std.specs.Option.{option_map}
-use Rattle.fluent_text.specs.Escapes.{unescaped}
-use Rattle.fluent_tree.specs.Fallback.{fallback, fallback_of, in_braces}
-use Rattle.fluent_tree.specs.Tree.{placeable, variants_of, pattern_of}
-use Rattle.fluent_tree.specs.View.{inline_view, expression_view, pattern_view, element_view, variant_view, attribute_of, call_of, arguments_view}
+use Rattle.fluent_tree.specs.Fallback.{fallback, in_braces}
+use Rattle.fluent_tree.specs.Tree.{placeable, variants_of, pattern_of, inlines_of, nameds_of}
+use Rattle.fluent_tree.specs.declared.ast.CallArguments as of_call
+use Rattle.fluent_tree.specs.View.{inline_view, expression_view, pattern_view, element_view, variant_view, attribute_of, call_of, arguments_view, named_view}
 use Rattle.fluent_meaning.specs.Arguments.{get, set, set_all}
 use Rattle.fluent_meaning.specs.Bundle.{goes_to, message_target, term_target, shown, function_found}
-use Rattle.fluent_meaning.specs.Errors.{resolver_error, cyclic, missing_default, too_many_placeables}
-use Rattle.fluent_meaning.specs.Meaning.{first_mark, last_mark, at_most, ending}
-use Rattle.fluent_meaning.specs.Walk.{has_one, is_marked, part, function_value}
+use Rattle.fluent_meaning.specs.Errors.{resolver_error, too_many_placeables}
+use Rattle.fluent_meaning.specs.Meaning.{first_mark, last_mark, at_most, struck}
+use Rattle.fluent_meaning.specs.Walk.{has_one, is_marked, part}
 use Rattle.fluent_meaning.specs.Work.{work, with_work}
-use Rattle.fluent_values.specs.Along.{given, walked, from_here, adding, trace, less_one}
+use Rattle.fluent_values.specs.Along.{given, walked, from_here, adding, trace}
 use Rattle.fluent_values.specs.FoundView.{found_view}
-use Rattle.fluent_values.specs.Sizes.{choice, first_default}
+use Rattle.fluent_values.specs.Sizes.{choice, first_default, size, bound, IsBelow, element_size, expression_size, variants_size, inline_size, call_size, arguments_size, inlines_size, nameds_size}
 use Rattle.fluent_values.specs.Status.{status, on_path, environment_view}
 use Rattle.fluent_values.specs.Texts.{IsText}
 use Rattle.fluent_values.specs.View.{value_view, named}
-use Rattle.fluent_values.proofs.Along.{starts, turns, passes, put, puts_last, tail, wrote, ends, halts, stops, memory_halts, refuses, adds, calls, lends, goes_on, at_value}
-use Rattle.fluent_values.proofs.Cases.{sequence, prepend, unmarked, closing, opening, part_opens, part_strikes, tells, written_string, written_number, written_message, written_nested, resolved_number, resolved_string, resolved_function, resolved_text, local_none, local_some}
+use Rattle.fluent_values.proofs.Along.{starts, turns, passes, put, puts_last, tail, wrote, ends, stops, memory_halts, refuses, adds, calls, lends, goes_on, at_value}
+use Rattle.fluent_values.proofs.Cases.{sequence, prepend, unmarked, closing, opening, part_opens, part_strikes, tells, written_string, written_number, written_message, written_nested, resolved_number, resolved_string, resolved_function, local_none, local_some, resolved_text}
+use Rattle.fluent_values.proofs.Measures.{falls_to, less_weight, kept_weight, taken_weight, still_weight, less_found, element_less, place_less, label_less, some_variants, chosen_less, below_message, below_term}
 use Rattle.fluent_values.proofs.Outputs.{still}
-use Rattle.fluent_values.proofs.Passing.{passed_still, passed_counts, keeps_elsewhere, keeps_around, keeps_back, opened_counts, entered_counts, opened_on, struck_same}
-use Rattle.fluent_values.proofs.Steps.{inline_at, select_at, choosing, choosing_at, cyclic_at, entered_at, begun_at, back, term_at, inside, inside_at, function_at, answering, answered_value, calling, going, wholing, elementing, following, giving, giving_all, giving_text, giving_placeable, giving_end, giving_struck, next_of, none_left, no_placeable, expressing, writing, resolving, locals, valued, place_walk, label_walk, placing_next, placing_end, placing_more, labelled, labelling_next, labelling_end, labelling_more, named_in, naming_after, pairing, calling_at, set_all_next}
+use Rattle.fluent_values.proofs.Passing.{passed_still, passed_counts, keeps_elsewhere, keeps_around, keeps_back, entered_counts, opened_on, struck_same}
+use Rattle.fluent_values.proofs.Steps.{inline_at, select_at, choosing, choosing_at, cyclic_at, entered_at, begun_at, back, term_at, inside, inside_at, function_at, answering, answered_value, wholing, elementing, following, giving, giving_all, giving_text, giving_placeable, giving_end, giving_struck, next_of, none_left, no_placeable, expressing, writing, resolving, locals, valued, place_walk, label_walk, placing_next, placing_end, placing_more, labelled, labelling_next, labelling_end, labelling_more, named_in, naming_after, pairing, calling_at, set_all_next}
 use Rattle.fluent_values.proofs.Took.{took_same}
-use Rattle.fluent_values.proofs.Values.{by_buffer, as_got, beside_rests, got, gave_outward, asks, ask_stops, misses, begins, reads, gets, gets_part, got_if, got_as, got_part, got_part_as, misses_as, rests_memory, rests_same, rests_err, rests_ok, rests_on, gathers_none, gathers_as, gathers_same, gathers_one, gathers_part, gathers_all, gathers_stops, gathers_stops_as}
-use Rattle.fluent_values.proofs.Views.{view_pattern, view_text_in, view_placeable_in, view_string_in, view_number_in, view_message_in, view_nested_in, view_function_in, view_written}
+use Rattle.fluent_values.proofs.Values.{gave_outward, asks, ask_stops, misses, begins, reads, gets, gets_part, got_if, got_as, got_part_as, misses_as, rests_memory, rests_same, rests_err, rests_ok, rests_on, by_buffer, as_got, beside_rests, got, gathers_none, gathers_as, gathers_same, gathers_one, gathers_part, gathers_all, gathers_stops, gathers_stops_as}
+use Rattle.fluent_values.proofs.Views.{view_pattern, view_text_in, view_placeable_in, view_string_in, view_number_in, view_message_in, view_nested_in, view_function_in, view_in, view_select_in, view_term_in, view_variable_in, view_arguments, view_written}
 use Rattle.fluent_meaning.specs.Value.{text_value}
 use borrow.Author.Count.{falls}
 use Rattle.fluent_text.specs.declared.counting.WriteFault.TheVariants as fault
@@ -121,8 +122,8 @@ inline_expression::go-returns g t c =
     let kept = w.went.along.passed.keeps in
     let walk = wholing (pattern_view c.args.target.pattern.now) in
     wrote (lends before.errors after.errors (ap (λ n. adding n (trace (from_here b walk))) c.enter.ensures.tally) refl c.leave.ensures.tally after.budget
-        (keeps_around before kept after (c.leave.ensures.left a.path (Some c.args.target.pattern) (kept.path ∙ entered)))
-        w (turns (entered_at a b x c.args.target.pattern (sym c.is_on.ensures ∙ c.if-is_on.false) entered before) (starts a _ _)))
+    (keeps_around before kept after (c.leave.ensures.left a.path (Some c.args.target.pattern) (kept.path ∙ entered)))
+    w (turns (entered_at a b x c.args.target.pattern (sym c.is_on.ensures ∙ c.if-is_on.false) entered before) (starts a _ _)))
 
 pub pattern::write_pattern-returns-clause-wrote : goal.pattern::write_pattern-returns-clause-wrote
 pattern::write_pattern-returns-clause-wrote g t c =
@@ -136,8 +137,8 @@ pattern::write_pattern-returns-clause-wrote g t c =
     let walk = elementing p in
     let counts = ap (λ n. adding n (trace (from_here b walk))) starts_at.tally ∙ entered_counts a.tally (length (on_path b.path)) (trace (from_here b walk)) in
     wrote (lends starts_at.elsewhere.errors after.errors counts refl c.end.ensures.tally after.budget
-        (keeps_around starts_at.elsewhere kept after (back c.begin-begun.result p starts_at kept.path c.end.ensures))
-        w (turns (begun_at a b p starts_at.path starts_at.elsewhere) (starts a _ _)))
+    (keeps_around starts_at.elsewhere kept after (back c.begin-begun.result p starts_at kept.path c.end.ensures))
+    w (turns (begun_at a b p starts_at.path starts_at.elsewhere) (starts a _ _)))
 
 pub inline_expression::follow-returns-in-Unknown : goal.inline_expression::follow-returns-in-Unknown
 inline_expression::follow-returns-in-Unknown g t c =
@@ -428,6 +429,239 @@ arguments::resolve_local-returns-in_ok-_positional-in-Some g t c =
     let means = ap (λ o. from_here a (locals (call_of (option_map arguments_view o)))) c.in-Some.is ∙ local_some a.bundle (work a.bundle) a.environment (on_path a.path) (arguments_view c.in-Some.arguments) a.budget in
     record { got = got_as (λ p. p.1) c.in_ok-_positional-in-Some.was refl means c.resolve_call.ensures.got; rests = rests_ok c.in_ok-_positional-in-Some.was c.resolve_call.ensures.rests }
 
+-- WHAT THE CALLS REQUIRE
+
+pub arguments::resolve-slice_bounds-unescape_unicode_to_string-end : goal.arguments::resolve-slice_bounds-unescape_unicode_to_string-end
+arguments::resolve-slice_bounds-unescape_unicode_to_string-end g t c = search rules
+
+pub arguments::resolve-unescape_unicode_to_string-requires-text-text : goal.arguments::resolve-unescape_unicode_to_string-requires-text-text
+arguments::resolve-unescape_unicode_to_string-requires-text-text g t c = search rules
+
+pub arguments::resolve-slice_bounds-try_number-end : goal.arguments::resolve-slice_bounds-try_number-end
+arguments::resolve-slice_bounds-try_number-end g t c = search rules
+
+pub arguments::resolve-try_number-requires-text-text : goal.arguments::resolve-try_number-requires-text-text
+arguments::resolve-try_number-requires-text-text g t c = search rules
+
+pub arguments::resolve-answer_of-requires-text-id : goal.arguments::resolve-answer_of-requires-text-id
+arguments::resolve-answer_of-requires-text-id g t c = search rules
+
+pub inline_expression::follow-report_no_value-requires-text-id : goal.inline_expression::follow-report_no_value-requires-text-id
+inline_expression::follow-report_no_value-requires-text-id g t c = search rules
+
+pub inline_expression::follow-put_id_in_braces-requires-text-id : goal.inline_expression::follow-put_id_in_braces-requires-text-id
+inline_expression::follow-put_id_in_braces-requires-text-id g t c = search rules
+
+pub inline_expression::write_inline-slice_bounds-put_unescaped-end : goal.inline_expression::write_inline-slice_bounds-put_unescaped-end
+inline_expression::write_inline-slice_bounds-put_unescaped-end g t c = search rules
+
+pub inline_expression::write_inline-put_unescaped-requires-text-value : goal.inline_expression::write_inline-put_unescaped-requires-text-value
+inline_expression::write_inline-put_unescaped-requires-text-value g t c = search rules
+
+pub inline_expression::write_inline-slice_bounds-try_number-end : goal.inline_expression::write_inline-slice_bounds-try_number-end
+inline_expression::write_inline-slice_bounds-try_number-end g t c = search rules
+
+pub inline_expression::write_inline-try_number-requires-text-text : goal.inline_expression::write_inline-try_number-requires-text-text
+inline_expression::write_inline-try_number-requires-text-text g t c = search rules
+
+pub inline_expression::write_inline-message-found-requires-text-id : goal.inline_expression::write_inline-message-found-requires-text-id
+inline_expression::write_inline-message-found-requires-text-id g t c = search rules
+
+pub inline_expression::write_term-term-found-requires-text-id : goal.inline_expression::write_term-term-found-requires-text-id
+inline_expression::write_term-term-found-requires-text-id g t c = search rules
+
+pub pattern::write_elements-offset_bounds-element-items-element-index : goal.pattern::write_elements-offset_bounds-element-items-element-index
+pattern::write_elements-offset_bounds-element-items-element-index g t c = search rules
+
+pub pattern::write_elements-slice_bounds-put_changed-end : goal.pattern::write_elements-slice_bounds-put_changed-end
+pattern::write_elements-slice_bounds-put_changed-end g t c = search rules
+
+pub pattern::write_elements-put_changed-requires-text-text : goal.pattern::write_elements-put_changed-requires-text-text
+pattern::write_elements-put_changed-requires-text-text g t c = search rules
+
+pub pattern::write_elements-loop-element-smaller : goal.pattern::write_elements-loop-element-smaller
+pattern::write_elements-loop-element-smaller g t c = search rules
+
+pub arguments::resolve-resolve_call-requires : goal.arguments::resolve-resolve_call-requires
+arguments::resolve-resolve_call-requires g t c =
+    let a = status g.B.Context.meant g.B.Context.is_plain g.F.FluentFunction.answer g.C.FluentType.content c.args.scope.now in
+    let sized : inline_size (inline_view c.args.inline.now) ≡ 1 + arguments_size (arguments_view c.in-FunctionReference.arguments) = ap inline_size (view_function_in c.args.inline.now c.in-FunctionReference.id c.in-FunctionReference.arguments c.in-FunctionReference.is) in
+    let less = falls_to c.decreases (less_weight a.bundle a.bundle (arguments_size (arguments_view c.in-FunctionReference.arguments)) (2 + inline_size (inline_view c.args.inline.now)) (1 + at_most a.budget) (1 + at_most a.budget) refl (omega (arith, sized)) (omega arith)) in
+    λ κs h. (less, (h.0, (h.1.0, (h.1.1.0, h.1.1.1))))
+
+pub arguments::resolve-resolve_variable-requires : goal.arguments::resolve-resolve_variable-requires
+arguments::resolve-resolve_variable-requires g t c = view_variable_in c.args.inline.now c.in-VariableReference.id c.in-VariableReference.is
+
+pub arguments::resolve-write_beside-requires : goal.arguments::resolve-write_beside-requires
+arguments::resolve-write_beside-requires g t c =
+    let a = status g.B.Context.meant g.B.Context.is_plain g.F.FluentFunction.answer g.C.FluentType.content c.args.scope.now in
+    let less = falls_to c.decreases (less_weight a.bundle a.bundle (1 + inline_size (inline_view c.args.inline.now)) (2 + inline_size (inline_view c.args.inline.now)) (1 + at_most a.budget) (1 + at_most a.budget) refl (omega arith) (omega arith)) in
+    λ κs h. (less, (h.0, (h.1.0, (h.1.1.0, h.1.1.1))))
+
+pub arguments::resolve_call-resolve_positional-requires : goal.arguments::resolve_call-resolve_positional-requires
+arguments::resolve_call-resolve_positional-requires g t c =
+    let a = status g.B.Context.meant g.B.Context.is_plain g.F.FluentFunction.answer g.C.FluentType.content c.args.scope.now in
+    let sized : arguments_size (arguments_view c.args.arguments.now) ≡ 1 + inlines_size (inlines_of (map inline_view (of_call.out-CallArguments c.args.arguments.now).positional.items)) + nameds_size (nameds_of (map named_view (of_call.out-CallArguments c.args.arguments.now).named.items)) = ap arguments_size (view_arguments c.args.arguments.now) in
+    let here : inlines_size (inlines_of (map inline_view c.deref.result.now)) ≡ inlines_size (inlines_of (map inline_view (of_call.out-CallArguments c.args.arguments.now).positional.items)) = ap (λ xs. inlines_size (inlines_of (map inline_view xs))) c.deref.ensures.value in
+    let less = falls_to c.decreases (less_weight a.bundle a.bundle (inlines_size (inlines_of (map inline_view c.deref.result.now))) (arguments_size (arguments_view c.args.arguments.now)) (1 + at_most a.budget) (1 + at_most a.budget) refl (omega (arith, sized, here)) (omega arith)) in
+    λ κs h. (less, (h.0, (h.1.0, (h.1.1.0, h.1.1.1))))
+
+pub arguments::resolve_call-resolve_named-requires : goal.arguments::resolve_call-resolve_named-requires
+arguments::resolve_call-resolve_named-requires g t c =
+    let a = status g.B.Context.meant g.B.Context.is_plain g.F.FluentFunction.answer g.C.FluentType.content c.args.scope.now in
+    let b = status g.B.Context.meant g.B.Context.is_plain g.F.FluentFunction.answer g.C.FluentType.content c.resolve_positional.new.scope in
+    let sized : arguments_size (arguments_view c.args.arguments.now) ≡ 1 + inlines_size (inlines_of (map inline_view (of_call.out-CallArguments c.args.arguments.now).positional.items)) + nameds_size (nameds_of (map named_view (of_call.out-CallArguments c.args.arguments.now).named.items)) = ap arguments_size (view_arguments c.args.arguments.now) in
+    let here : nameds_size (nameds_of (map named_view c.deref-2.result.now)) ≡ nameds_size (nameds_of (map named_view (of_call.out-CallArguments c.args.arguments.now).named.items)) = ap (λ xs. nameds_size (nameds_of (map named_view xs))) c.deref-2.ensures.value in
+    let less = falls_to c.decreases (kept_weight (nameds_size (nameds_of (map named_view c.deref-2.result.now))) (arguments_size (arguments_view c.args.arguments.now)) c.resolve_positional.ensures.got.toward.passed.keeps (omega (arith, sized, here))) in
+    λ κs h. (less, (h.0, (h.1.0, (h.1.1.0, h.1.1.1))))
+
+pub arguments::resolve_local-resolve_call-requires : goal.arguments::resolve_local-resolve_call-requires
+arguments::resolve_local-resolve_call-requires g t c =
+    let a = status g.B.Context.meant g.B.Context.is_plain g.F.FluentFunction.answer g.C.FluentType.content c.args.scope.now in
+    let sized : call_size (call_of (option_map arguments_view c.args.arguments.now)) ≡ 1 + arguments_size (arguments_view c.in-Some.arguments) = ap (λ o. call_size (call_of (option_map arguments_view o))) c.in-Some.is in
+    let less = falls_to c.decreases (less_weight a.bundle a.bundle (arguments_size (arguments_view c.in-Some.arguments)) (call_size (call_of (option_map arguments_view c.args.arguments.now))) (1 + at_most a.budget) (1 + at_most a.budget) refl (omega (arith, sized)) (omega arith)) in
+    λ κs h. (less, (h.0, (h.1.0, (h.1.1.0, h.1.1.1))))
+
+pub arguments::resolve_positional-resolve-requires : goal.arguments::resolve_positional-resolve-requires
+arguments::resolve_positional-resolve-requires g t c =
+    let a = status g.B.Context.meant g.B.Context.is_plain g.F.FluentFunction.answer g.C.FluentType.content c.args.scope.now in
+    let less = falls_to c.decreases (kept_weight (2 + inline_size (inline_view c.argument-item.result)) (inlines_size (inlines_of (map inline_view c.args.arguments.now))) c.loop-argument.invariant.gathers.passed.keeps (place_less c.args.arguments.now c.loop-argument.argument-index c.argument-item.result c.loop-argument-test.true c.argument-item.is)) in
+    λ κs h. (less, (h.0, (h.1.0, (h.1.1.0, h.1.1.1))))
+
+pub arguments::resolve_named-resolve-requires : goal.arguments::resolve_named-resolve-requires
+arguments::resolve_named-resolve-requires g t c =
+    let a = status g.B.Context.meant g.B.Context.is_plain g.F.FluentFunction.answer g.C.FluentType.content c.args.scope.now in
+    let less = falls_to c.decreases (kept_weight (2 + inline_size (inline_view c.argument-item.result.value)) (nameds_size (nameds_of (map named_view c.args.arguments.now))) c.loop-argument.invariant.gathers.passed.keeps (label_less c.args.arguments.now c.loop-argument.argument-index c.argument-item.result c.loop-argument-test.true c.argument-item.is)) in
+    λ κs h. (less, (h.0, (h.1.0, (h.1.1.0, h.1.1.1))))
+
+pub arguments::write_beside-write_inline-requires : goal.arguments::write_beside-write_inline-requires
+arguments::write_beside-write_inline-requires g t c =
+    let a = status g.B.Context.meant g.B.Context.is_plain g.F.FluentFunction.answer g.C.FluentType.content c.args.scope.now in
+    let less = falls_to c.decreases (less_weight a.bundle a.bundle (inline_size (inline_view c.args.inline.now)) (1 + inline_size (inline_view c.args.inline.now)) (1 + at_most a.budget) (1 + at_most a.budget) refl (omega arith) (omega arith)) in
+    λ κs h. (less, (h.0, (h.1.0, (h.1.1.0, h.1.1.1))))
+
+pub expression::write_expression-write_inline-requires : goal.expression::write_expression-write_inline-requires
+expression::write_expression-write_inline-requires g t c =
+    let a = status g.B.Context.meant g.B.Context.is_plain g.F.FluentFunction.answer g.C.FluentType.content c.args.scope.now in
+    let sized : expression_size (expression_view c.args.expression.now) ≡ 1 + inline_size (inline_view c.in-Inline.inline) = ap expression_size (view_in c.args.expression.now c.in-Inline.inline c.in-Inline.is) in
+    let less = falls_to c.decreases (less_weight a.bundle a.bundle (inline_size (inline_view c.in-Inline.inline)) (expression_size (expression_view c.args.expression.now)) (1 + at_most a.budget) (1 + at_most a.budget) refl (omega (arith, sized)) (omega arith)) in
+    λ κs h. (less, (h.0, (h.1.0, (h.1.1.0, h.1.1.1))))
+
+pub expression::write_expression-resolve-requires : goal.expression::write_expression-resolve-requires
+expression::write_expression-resolve-requires g t c =
+    let a = status g.B.Context.meant g.B.Context.is_plain g.F.FluentFunction.answer g.C.FluentType.content c.args.scope.now in
+    let vs = variants_of (map variant_view c.in-Select.variants.items) in
+    let sized : expression_size (expression_view c.args.expression.now) ≡ 2 + inline_size (inline_view c.in-Select.selector) + variants_size vs = ap expression_size (view_select_in c.args.expression.now c.in-Select.selector c.in-Select.variants c.in-Select.is) in
+    let less = falls_to c.decreases (less_weight a.bundle a.bundle (2 + inline_size (inline_view c.in-Select.selector)) (expression_size (expression_view c.args.expression.now)) (1 + at_most a.budget) (1 + at_most a.budget) refl (omega (arith, sized, some_variants vs)) (omega arith)) in
+    λ κs h. (less, (h.0, (h.1.0, (h.1.1.0, h.1.1.1))))
+
+pub expression::write_expression-write_pattern-requires : goal.expression::write_expression-write_pattern-requires
+expression::write_expression-write_pattern-requires g t c =
+    let a = status g.B.Context.meant g.B.Context.is_plain g.F.FluentFunction.answer g.C.FluentType.content c.args.scope.now in
+    let b = status g.B.Context.meant g.B.Context.is_plain g.F.FluentFunction.answer g.C.FluentType.content c.resolve.new.scope in
+    let vs = variants_of (map variant_view c.in-Select.variants.items) in
+    let sized : expression_size (expression_view c.args.expression.now) ≡ 2 + inline_size (inline_view c.in-Select.selector) + variants_size vs = ap expression_size (view_select_in c.args.expression.now c.in-Select.selector c.in-Select.variants c.in-Select.is) in
+    let v = value_view g.C.FluentType.content c.in_ok-value-in-Select.value in
+    let p = pattern_view c.in-Some.variant.now in
+    let is : Some p ≡ choice (goes_to b.bundle) v (first_default vs) vs = sym (ap (option_map (λ p. pattern_view p.now)) c.in-Some.is) ∙ c.choose.ensures ∙ ap (λ vs. let all = variants_of (map variant_view vs) in choice (goes_to b.bundle) v (first_default all) all) c.deref.ensures.value in
+    let kept = c.resolve.ensures.got.toward.passed.keeps in
+    let less = falls_to c.decreases (less_weight a.bundle b.bundle (1 + size p) (expression_size (expression_view c.args.expression.now)) (at_most b.budget) (1 + at_most a.budget) kept.bundle (omega (arith, sized, chosen_less (goes_to b.bundle) v vs p is)) (omega (arith, kept.less))) in
+    λ κs h. (less, (h.0, (h.1.0, (h.1.1.0, h.1.1.1))))
+
+pub inline_expression::follow-go-requires : goal.inline_expression::follow-go-requires
+inline_expression::follow-go-requires g t c =
+    let a = status g.B.Context.meant g.B.Context.is_plain g.F.FluentFunction.answer g.C.FluentType.content c.args.scope.now in
+    let p = pattern_view c.in-Pattern.target.pattern.now in
+    let small : size p < bound a.bundle = subst (λ f. IsBelow (bound a.bundle) (found_view f)) c.in-Pattern.is c.requires in
+    let less = falls_to c.decreases (less_found a.bundle a.bundle p (at_most a.budget) (1 + at_most a.budget) refl small (omega arith)) in
+    λ κs h. (less, (h.0, (h.1.0, (h.1.1.0, (h.1.1.1, small)))))
+
+pub inline_expression::go-write_pattern-written-requires : goal.inline_expression::go-write_pattern-written-requires
+inline_expression::go-write_pattern-written-requires g t c =
+    let a = status g.B.Context.meant g.B.Context.is_plain g.F.FluentFunction.answer g.C.FluentType.content c.args.scope.now in
+    let p = pattern_view c.args.target.pattern.now in
+    let less = falls_to c.decreases (still_weight (1 + size p) (2 + size p) c.enter.ensures.elsewhere (omega arith)) in
+    λ κs h. (less, (h.0, (h.1.0, (h.1.1.0, h.1.1.1))))
+
+pub inline_expression::write_inline-resolve_call-requires : goal.inline_expression::write_inline-resolve_call-requires
+inline_expression::write_inline-resolve_call-requires g t c =
+    let a = status g.B.Context.meant g.B.Context.is_plain g.F.FluentFunction.answer g.C.FluentType.content c.args.scope.now in
+    let sized : inline_size (inline_view c.args.inline.now) ≡ 1 + arguments_size (arguments_view c.in-FunctionReference.arguments) = ap inline_size (view_function_in c.args.inline.now c.in-FunctionReference.id c.in-FunctionReference.arguments c.in-FunctionReference.is) in
+    let less = falls_to c.decreases (less_weight a.bundle a.bundle (arguments_size (arguments_view c.in-FunctionReference.arguments)) (inline_size (inline_view c.args.inline.now)) (1 + at_most a.budget) (1 + at_most a.budget) refl (omega (arith, sized)) (omega arith)) in
+    λ κs h. (less, (h.0, (h.1.0, (h.1.1.0, h.1.1.1))))
+
+pub inline_expression::write_inline-follow-requires : goal.inline_expression::write_inline-follow-requires
+inline_expression::write_inline-follow-requires g t c =
+    let a = status g.B.Context.meant g.B.Context.is_plain g.F.FluentFunction.answer g.C.FluentType.content c.args.scope.now in
+    let sized : inline_size (inline_view c.args.inline.now) ≡ 1 = ap inline_size (view_message_in c.args.inline.now c.in-MessageReference.id c.in-MessageReference.attribute c.in-MessageReference.is) in
+    let less = falls_to c.decreases (less_weight a.bundle a.bundle (0) (inline_size (inline_view c.args.inline.now)) (1 + at_most a.budget) (1 + at_most a.budget) refl (omega (arith, sized)) (omega arith)) in
+    let below = subst (IsBelow (bound a.bundle)) (sym (c.message-found.ensures g.F.FluentFunction.answer)) (below_message a.bundle c.in-MessageReference.id.name.now (attribute_of c.in-MessageReference.attribute)) in
+    λ κs h. (less, (h.0, (h.1.0, (h.1.1.0, (h.1.1.1, below)))))
+
+pub inline_expression::write_inline-write_term-requires : goal.inline_expression::write_inline-write_term-requires
+inline_expression::write_inline-write_term-requires g t c =
+    let a = status g.B.Context.meant g.B.Context.is_plain g.F.FluentFunction.answer g.C.FluentType.content c.args.scope.now in
+    let view = view_term_in c.args.inline.now c.in-TermReference.id c.in-TermReference.attribute c.in-TermReference.arguments c.in-TermReference.is in
+    let sized : inline_size (inline_view c.args.inline.now) ≡ 2 + call_size (call_of (option_map arguments_view c.in-TermReference.arguments)) = ap inline_size view in
+    let less = falls_to c.decreases (less_weight a.bundle a.bundle (1 + call_size (call_of (option_map arguments_view c.in-TermReference.arguments))) (inline_size (inline_view c.args.inline.now)) (1 + at_most a.budget) (1 + at_most a.budget) refl (omega (arith, sized)) (omega arith)) in
+    λ κs h. (less, (h.0, (h.1.0, (h.1.1.0, (h.1.1.1, view)))))
+
+pub inline_expression::write_inline-write_variable-requires : goal.inline_expression::write_inline-write_variable-requires
+inline_expression::write_inline-write_variable-requires g t c = view_variable_in c.args.inline.now c.in-VariableReference.id c.in-VariableReference.is
+
+pub inline_expression::write_inline-write_expression-requires : goal.inline_expression::write_inline-write_expression-requires
+inline_expression::write_inline-write_expression-requires g t c =
+    let a = status g.B.Context.meant g.B.Context.is_plain g.F.FluentFunction.answer g.C.FluentType.content c.args.scope.now in
+    let sized : inline_size (inline_view c.args.inline.now) ≡ 1 + expression_size (expression_view c.in-Placeable.expression.value) = ap inline_size (view_nested_in c.args.inline.now c.in-Placeable.expression c.in-Placeable.is) in
+    let here : expression_size (expression_view c.deref-in-Placeable.result.now) ≡ expression_size (expression_view c.in-Placeable.expression.value) = ap (λ e. expression_size (expression_view e)) c.deref-in-Placeable.ensures in
+    let less = falls_to c.decreases (less_weight a.bundle a.bundle (expression_size (expression_view c.deref-in-Placeable.result.now)) (inline_size (inline_view c.args.inline.now)) (1 + at_most a.budget) (1 + at_most a.budget) refl (omega (arith, sized, here)) (omega arith)) in
+    λ κs h. (less, (h.0, (h.1.0, (h.1.1.0, h.1.1.1))))
+
+pub inline_expression::write_term-resolve_local-requires : goal.inline_expression::write_term-resolve_local-requires
+inline_expression::write_term-resolve_local-requires g t c =
+    let a = status g.B.Context.meant g.B.Context.is_plain g.F.FluentFunction.answer g.C.FluentType.content c.args.scope.now in
+    let less = falls_to c.decreases (less_weight a.bundle a.bundle (call_size (call_of (option_map arguments_view c.args.arguments.now))) (1 + call_size (call_of (option_map arguments_view c.args.arguments.now))) (1 + at_most a.budget) (1 + at_most a.budget) refl (omega arith) (omega arith)) in
+    λ κs h. (less, (h.0, (h.1.0, (h.1.1.0, h.1.1.1))))
+
+pub inline_expression::write_term-follow-written-requires : goal.inline_expression::write_term-follow-written-requires
+inline_expression::write_term-follow-written-requires g t c =
+    let a = status g.B.Context.meant g.B.Context.is_plain g.F.FluentFunction.answer g.C.FluentType.content c.args.scope.now in
+    let b = status g.B.Context.meant g.B.Context.is_plain g.F.FluentFunction.answer g.C.FluentType.content c.resolve_local.new.scope in
+    let less = falls_to c.decreases (kept_weight (0) (1 + call_size (call_of (option_map arguments_view c.args.arguments.now))) c.resolve_local.ensures.got.toward.passed.keeps (omega arith)) in
+    let below = subst (IsBelow (bound b.bundle)) (sym (c.term-found.ensures g.F.FluentFunction.answer)) (below_term b.bundle c.args.id.now.name.now (attribute_of c.args.attribute.now)) in
+    λ κs h. (less, (h.0, (h.1.0, (h.1.1.0, (h.1.1.1, below)))))
+
+pub pattern::write_elements-write_placeable-requires : goal.pattern::write_elements-write_placeable-requires
+pattern::write_elements-write_placeable-requires g t c =
+    let a = status g.B.Context.meant g.B.Context.is_plain g.F.FluentFunction.answer g.C.FluentType.content c.args.scope.now in
+    let b = status g.B.Context.meant g.B.Context.is_plain g.F.FluentFunction.answer g.C.FluentType.content c.loop-element.scope in
+    let items = c.deref-element-items.result.now in
+    let x = c.element-item.result in
+    let kept = c.loop-element.invariant.passed.keeps in
+    let sized : element_size (element_view x) ≡ 1 + expression_size (expression_view c.in-Placeable.expression) = ap element_size (view_placeable_in x c.in-Placeable.expression c.in-Placeable.is) in
+    let whole : size (pattern_view c.args.pattern.now) ≡ size (pattern_of (map element_view items)) = ap size (view_pattern c.args.pattern.now) ∙ ap (λ es. size (pattern_of (map element_view es))) (sym c.deref-element-items.ensures.value) in
+    let less = falls_to c.decreases (less_weight a.bundle b.bundle (1 + expression_size (expression_view c.in-Placeable.expression)) (size (pattern_view c.args.pattern.now)) (at_most b.budget) (at_most a.budget) kept.bundle (omega (arith, sized, whole, element_less items c.loop-element.element-index x c.loop-element-test.true c.element-item.is)) kept.less) in
+    let left : b.budget ≡ struck → ⊥ = search rules in
+    λ κs h. (less, (h.0, (h.1.0, (h.1.1.0, (h.1.1.1, left)))))
+
+pub pattern::write_elements-returns-after-loop-element-clause-memory : goal.pattern::write_elements-returns-after-loop-element-clause-memory
+pattern::write_elements-returns-after-loop-element-clause-memory g t c = λ h plain bare is. cc
+
+pub pattern::write_elements-returns-then-dirty-clause-memory : goal.pattern::write_elements-returns-then-dirty-clause-memory
+pattern::write_elements-returns-then-dirty-clause-memory g t c = λ h plain bare is. cc
+
+pub pattern::write_pattern-write_elements-written-requires : goal.pattern::write_pattern-write_elements-written-requires
+pattern::write_pattern-write_elements-written-requires g t c =
+    let a = status g.B.Context.meant g.B.Context.is_plain g.F.FluentFunction.answer g.C.FluentType.content c.args.scope.now in
+    let less = falls_to c.decreases (still_weight (size (pattern_view c.args.pattern.now)) (1 + size (pattern_view c.args.pattern.now)) c.begin-begun.ensures.elsewhere (omega arith)) in
+    λ κs h. (less, (h.0, (h.1.0, (h.1.1.0, h.1.1.1))))
+
+pub pattern::write_placeable-write_expression-requires : goal.pattern::write_placeable-write_expression-requires
+pattern::write_placeable-write_expression-requires g t c =
+    let a = status g.B.Context.meant g.B.Context.is_plain g.F.FluentFunction.answer g.C.FluentType.content c.args.scope.now in
+    let less = falls_to c.decreases (taken_weight (expression_size (expression_view c.args.expression.now)) (1 + expression_size (expression_view c.args.expression.now)) c.if-not-take_one.false c.take_one.ensures.takes (omega arith)) in
+    λ κs h. (less, (h.0, (h.1.0, (h.1.1.0, h.1.1.1))))
+
 pub inline_expression::write_inline-returns-in_err-positional-in-FunctionReference : goal.inline_expression::write_inline-returns-in_err-positional-in-FunctionReference
 inline_expression::write_inline-returns-in_err-positional-in-FunctionReference g t c =
     let a = status g.B.Context.meant g.B.Context.is_plain g.F.FluentFunction.answer g.C.FluentType.content c.args.scope.now in
@@ -501,9 +735,9 @@ arguments::resolve-returns-in_ok-answer-in-FunctionReference g t c =
     let ns = named g.C.FluentType.content c.in_ok-positional-in-FunctionReference.named in
     let answer = c.in_ok-answer-in-FunctionReference.answer in
     let told =
-        at_value (λ o. option_map view o ≡ option_map (λ f. f (map view c.deref.result.now) ns) (function_found (get m b.bundle.ids))) c.in_ok-answer-in-FunctionReference.was c.answer_of.ensures
-        ∙ ap (λ ps. option_map (λ f. f (map view ps) ns) (function_found (get m b.bundle.ids))) c.deref.ensures.value
-        ∙ ap (λ s. option_map (λ f. f vs ns) (function_found (get m s.ids))) c.resolve_call.ensures.got.toward.passed.keeps.bundle in
+    at_value (λ o. option_map view o ≡ option_map (λ f. f (map view c.deref.result.now) ns) (function_found (get m b.bundle.ids))) c.in_ok-answer-in-FunctionReference.was c.answer_of.ensures
+    ∙ ap (λ ps. option_map (λ f. f (map view ps) ns) (function_found (get m b.bundle.ids))) c.deref.ensures.value
+    ∙ ap (λ s. option_map (λ f. f vs ns) (function_found (get m s.ids))) c.resolve_call.ensures.got.toward.passed.keeps.bundle in
     let same = ap view c.unwrap_or.ensures ∙ answered_value g.C.FluentType.content a m vs ns answer told in
     record { got = got c.unwrap_or.result (reads (ap (λ y. given y b.budget) (sym same)) gathered); rests = rests_ok c.in_ok-positional-in-FunctionReference.was c.resolve_call.ensures.rests }
 

@@ -1,17 +1,24 @@
-use Rattle.std.proofs.Common.{rules, ap, ◌∙◌}
+use Rattle.std.proofs.Common.{rules, ap, sym, ◌∙◌}
+use Rattle.std.specs.Option.{option_map}
 use Rattle.fluent_tree.specs.View.{pattern_view}
 use Rattle.fluent_bundle.specs.BundleView.{meant, is_plain}
-use Rattle.fluent_values.specs.Status.{arguments_view, status}
-use Rattle.fluent_bundle.proofs.Formats.{fresh, writes_of}
+use Rattle.fluent_values.specs.Status.{arguments_view, reported, status}
+use Rattle.fluent_bundle.proofs.Formats.{fresh, never_none, writes_of}
 use Rattle.fluent_bundle.proofs.bundle.FluentBundle.write_out.Goals as goal
 
-pub returns-clause-writes : goal.returns-clause-writes
-returns-clause-writes g c =
+pub returns-in-Some-clause-writes : goal.returns-in-Some-clause-writes
+returns-in-Some-clause-writes g c =
     let of = meant g.M.MemoizerKind.category g.C.FluentType.shown g.C.FluentType.alike g.F.FluentFunction.answer g.G.FluentFormatter.formatted g.T.Transform.changed in
     let begins = c.new-scope.ensures.begins in
     let a = status of is_plain g.F.FluentFunction.answer g.C.FluentType.content c.new-scope.result in
-    writes_of c.write_pattern.ensures.wrote
+    let held = ap (option_map (λ e. reported e.now.items)) (sym c.into_errors.ensures ∙ c.in-Some.is) in
+    writes_of c.write_pattern-written.ensures.wrote
     (fresh a (of c.args.self.now) (arguments_view g.C.FluentType.content c.args.args) (pattern_view c.args.pattern.now)
     begins.bundle begins.environment begins.path begins.budget)
     (search (rules, c.new-scope.ensures.errors))
-    (search (rules, c.take_errors.ensures))
+    (search (rules, held))
+
+pub returns-in-None-clause-writes : goal.returns-in-None-clause-writes
+returns-in-None-clause-writes g c =
+    let kept = c.write_pattern-written.ensures.wrote.went.along.passed.keeps.list in
+    absurd (never_none (λ e. e.ghost_name) c.write_pattern-written.new.scope.errors _ (sym c.into_errors.ensures ∙ c.in-None.is) (kept ∙ ap (option_map (λ e. e.ghost_name)) c.new-scope.ensures.errors))

@@ -23,3 +23,8 @@ returns-clause-front g c =
     let out = c.write_out.new.out in
     let h = written_by g.W.Write.contents _ out.writer.ghost_name _ out.buffer.ghost_name c.args.w.now out.writer.now c.w-1.given.0 c.new-unused.result out.buffer.now out.is_buffered (search rules) c.write_out.ensures.writes in
     h.front
+
+pub returns-clause-limit : goal.returns-clause-limit
+returns-clause-limit g c =
+    let b = meant g.M.MemoizerKind.category g.C.FluentType.shown g.C.FluentType.alike g.F.FluentFunction.answer g.G.FluentFormatter.formatted g.T.Transform.changed c.args.self.now in
+    c.limits_are_kept.ensures b (arguments_view g.C.FluentType.content c.args.args) (pattern_view c.args.pattern.now)

@@ -1,4 +1,4 @@
-use Rattle.std.proofs.Common.{rules, ap, sym}
+use Rattle.std.proofs.Common.{ap, sym}
 use Rattle.fluent_tree.specs.View.{inline_view}
 use Rattle.fluent_values.specs.Along.{shown_answer}
 use Rattle.fluent_values.specs.View.{value_view}

@@ -1,4 +1,4 @@
-use Rattle.std.proofs.Common.{rules, ap, sym, ◌∙◌, Some, None, refl}
+use Rattle.std.proofs.Common.{ap, sym, ◌∙◌}
 use Rattle.std.specs.Option.{option_map}
 use Rattle.fluent_tree.specs.View.{inline_view}
 use Rattle.fluent_values.specs.Status.{status, arguments_view, environment_view}
