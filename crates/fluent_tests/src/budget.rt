@@ -2,7 +2,7 @@
 //! placeables that were open end, and which errors follow.
 use crate::common::read;
 use crate::objects::Answer;
-use crate::rows::{Bundle, Given, Named, Setting, Table, bundle_of, gives, hold, value_in, wanted};
+use crate::rows::{Bundle, Given, Named, Setting, Table, bundle_of, gives, hold, value_in, wants};
 use std::alloc::{AllocError, Global};
 use std::process::Abort;
 use std::test::Fail;
@@ -43,7 +43,7 @@ fn are_given(
             bundle,
             pattern,
             &[],
-            &wanted(text.as_str(), *errors),
+            &wants(text.as_str(), *errors),
         )?;
     }
     Ok(())

@@ -3,10 +3,10 @@ use crate::common::{default_bundle, read, value_of};
 use crate::objects::Answer;
 use crate::own::Bracketed;
 use crate::resolver::formats;
-use crate::rows::{Bundle, Given, Named, Setting, bundle_of, gives, wanted};
+use crate::rows::{Bundle, Given, Named, Setting, bundle_of, gives, wants};
 use crate::trees::{
-    Tree, alone, asked, beside, case, case_number, choice, default, function, in_brackets, message,
-    named, nested, number, only, only_named, put, say, select, string, term, variable,
+    Tree, alone, asked, beside, case_number, case_of, choice, default, function, in_brackets,
+    message, named, nested, number, only, only_named, put, say, select, string, term, variable,
 };
 use fluent_bundle::ast::{Expression, Pattern};
 use std::alloc::Global;
@@ -50,7 +50,7 @@ fn row(
     errors: &str,
 ) -> Result<(), Fail> {
     let pattern = tree?;
-    gives(rt, alloc, bundle, &pattern, NINE, &wanted(text, errors))
+    gives(rt, alloc, bundle, &pattern, NINE, &wants(text, errors))
 }
 
 // ---- literals
@@ -152,7 +152,7 @@ fn patterns_of_other_sources_are_written(rt: HostRuntime) -> Result<(), Fail> {
         &bundle,
         value_of(&of_one_id)?,
         NINE,
-        &wanted("xmm", ""),
+        &wants("xmm", ""),
     )?;
     gives(
         &rt,
@@ -160,7 +160,7 @@ fn patterns_of_other_sources_are_written(rt: HostRuntime) -> Result<(), Fail> {
         &bundle,
         value_of(&of_one_content)?,
         NINE,
-        &wanted("x{foo}", CYCLIC),
+        &wants("x{foo}", CYCLIC),
     )
 }
 
@@ -286,16 +286,20 @@ fn defaults_give(rt: &impl Abort, alloc: Global, bundle: &Bundle<'_, '_>) -> Res
         "",
         NO_DEFAULT,
     )?;
-    let missing = choice(alloc, variable("q"), &[case("a", "x")]);
+    let missing = choice(alloc, variable("q"), &[case_of("a", "x")]);
     row(rt, alloc, bundle, missing, "", Q_AND_NO_DEFAULT)?;
-    let two = [case("a", "1"), default("b", "2"), default("c", "3")];
+    let two = [case_of("a", "1"), default("b", "2"), default("c", "3")];
     row(rt, alloc, bundle, choice(alloc, string("z"), &two), "2", "")?;
     row(rt, alloc, bundle, choice(alloc, string("c"), &two), "3", "")
 }
 
 /// Selectors that stand in no source: what refers to a pattern, and a nested placeable, is a text.
 fn selectors_choose(rt: &impl Abort, alloc: Global, bundle: &Bundle<'_, '_>) -> Result<(), Fail> {
-    let words = [case("mm", "m"), case("1", "one"), default("o", "other")];
+    let words = [
+        case_of("mm", "m"),
+        case_of("1", "one"),
+        default("o", "other"),
+    ];
     row(
         rt,
         alloc,
@@ -304,7 +308,7 @@ fn selectors_choose(rt: &impl Abort, alloc: Global, bundle: &Bundle<'_, '_>) -> 
         "m",
         "",
     )?;
-    let numbers = [case_number("9", "a"), case("9", "b"), default("o", "c")];
+    let numbers = [case_number("9", "a"), case_of("9", "b"), default("o", "c")];
     row(
         rt,
         alloc,
@@ -376,7 +380,7 @@ fn selects_of_any_parts_choose(rt: HostRuntime) -> Result<(), Fail> {
 /// A select without a default whose selector strikes the limit, and fallbacks of nested placeables.
 fn strikes(rt: &impl Abort, alloc: Global, bundle: &Bundle<'_, '_>) -> Result<(), Fail> {
     let first = only(alloc, message("one"))?;
-    let selector = choice(alloc, function("FIRST", first), &[case("a", "x")]);
+    let selector = choice(alloc, function("FIRST", first), &[case_of("a", "x")]);
     let errors = "Resolver error: Too many placeables\nResolver error: No default\n";
     row(rt, alloc, bundle, selector, "{FIRST()}", errors)?;
     let struck = "Resolver error: Too many placeables\n";

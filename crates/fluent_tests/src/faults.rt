@@ -3,7 +3,7 @@ use crate::common::read;
 use crate::objects::{Answer, Star};
 use crate::rows::{
     Bundle, Given, Named, Setting, Wanted, are_all, arguments, begin_them, bundle_of, value_in,
-    wanted, write,
+    wants, write,
 };
 use crate::writers::{End, end_of};
 use fluent_bundle::ast::Pattern;
@@ -262,7 +262,7 @@ fn whole_holds(rt: &impl Abort, alloc: Global, whole: &Whole) -> Result<(), Fail
     let resource = read(alloc, whole.1)?;
     let bundle = bundle_of(alloc, whole.0, &resource)?;
     let pattern = value_in(&bundle, "a").ok_or("no a")?;
-    let wanted = wanted(whole.2, whole.3);
+    let wanted = wants(whole.2, whole.3);
     goes_through(rt, alloc, &bundle, pattern, &wanted)?;
     stops_anywhere(rt, alloc, &bundle, pattern, &wanted)
 }
@@ -342,7 +342,7 @@ fn is_cut(
     let pattern = value_in(bundle, "a").ok_or("no a")?;
     let args = arguments(alloc, NINE)?;
     if let Some(errors) = stops(rt, alloc, bundle, pattern, &args, how, cut.2)? {
-        are_all(rt, alloc, errors.as_slice(), &wanted(cut.2, cut.3))?;
+        are_all(rt, alloc, errors.as_slice(), &wants(cut.2, cut.3))?;
     }
     Ok(())
 }

@@ -22,6 +22,8 @@ mod faults;
 #[cfg(test)]
 mod headline;
 #[cfg(test)]
+mod in_one_scope;
+#[cfg(test)]
 mod kept;
 #[cfg(test)]
 mod languages;

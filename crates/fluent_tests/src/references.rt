@@ -1,7 +1,7 @@
 //! References to messages, terms and attributes: what they give, in which environment, and where they are cyclic.
 use crate::common::read;
 use crate::objects::Answer;
-use crate::rows::{Bundle, Given, Named, Setting, Table, bundle_of, gives, hold, wanted};
+use crate::rows::{Bundle, Given, Named, Setting, Table, bundle_of, gives, hold, wants};
 use std::alloc::Global;
 use std::process::Abort;
 use std::test::Fail;
@@ -305,14 +305,7 @@ fn attributes_give(
     let mut attributes = bundle.get_message(id).ok_or("no message")?.attributes();
     for text in texts {
         let attribute = attributes.next().ok_or("no attribute")?;
-        gives(
-            rt,
-            alloc,
-            bundle,
-            attribute.value(),
-            &[],
-            &wanted(*text, ""),
-        )?;
+        gives(rt, alloc, bundle, attribute.value(), &[], &wants(*text, ""))?;
     }
     assert!(rt; attributes.next().is_none());
     Ok(())

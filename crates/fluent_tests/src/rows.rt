@@ -114,7 +114,7 @@ pub struct Wanted<'x> {
 }
 
 /// What is wanted without a formatter.
-pub fn wanted<'x>(text: &'x str, errors: &'x str) -> Wanted<'x> {
+pub fn wants<'x>(text: &'x str, errors: &'x str) -> Wanted<'x> {
     Wanted {
         text,
         formatted: text,

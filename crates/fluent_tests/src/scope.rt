@@ -87,7 +87,10 @@ fn adds(
     count: Option<usize>,
 ) -> Result<bool, AllocError> {
     let mut scope: Scope<'_, '_, '_, '_, '_, NoCustom, _, _> = Scope::new(
-        bundle, bundle.ids(), None, errors,
+        bundle,
+        bundle.ids(),
+        None,
+        errors,
     );
     scope.add_error(ResolverError::Cyclic)?;
     let found = match scope.errors() {

@@ -169,8 +169,13 @@ fn parts_of_patterns_are_written(rt: HostRuntime) -> Result<(), Fail> {
         writes(&rt, rt.alloc(), row)?;
     }
     // The pattern is off the path after the first call.
-    let twice = "Resolver error: Cyclical dependency detected\nResolver error: Cyclical dependency detected\n";
-    writes(&rt, rt.alloc(), &(Writing::Both, "foo = x{ foo }", 100, "{foo}x{foo}", twice))
+    let twice =
+        "Resolver error: Cyclical dependency detected\nResolver error: Cyclical dependency detected\n";
+    writes(
+        &rt,
+        rt.alloc(),
+        &(Writing::Both, "foo = x{ foo }", 100, "{foo}x{foo}", twice),
+    )
 }
 
 // ---- values

@@ -144,7 +144,7 @@ pub struct Case {
     pub default: bool,
 }
 
-pub fn case(name: &'static str, text: &'static str) -> Case {
+pub fn case_of(name: &'static str, text: &'static str) -> Case {
     Case {
         key: VariantKey::Identifier { name },
         text,

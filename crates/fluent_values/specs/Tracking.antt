@@ -1,5 +1,5 @@
 -- What the calls of a scope do, as walks, and which runs these are.
-use Rattle.std.specs.Prelude.{◌≡◌, List, [], length, Bool, false, Option, Some, None, max, ◌+◌}
+use Rattle.std.specs.Prelude.{◌≡◌, List, [], length, false, Option, Some, None}
 use Rattle.fluent_tree.specs.Tree.{Text, Pattern, Expression, Inline, Arguments}
 use Rattle.fluent_tree.specs.Fallback.{fallback, fallback_of, in_braces}
 use Rattle.fluent_meaning.specs.Value.{Value}
@@ -8,7 +8,7 @@ use Rattle.fluent_meaning.specs.Bundle.{Bundle}
 use Rattle.fluent_meaning.specs.Walk.{Environment, is_on, inner, go, loses, expression, called}
 use Rattle.fluent_meaning.specs.Meaning.{Budget, Ran, closed}
 use Rattle.fluent_meaning.specs.Result.{arguments_of}
-use Rattle.fluent_meaning.specs.Work.{Worked, with_work}
+use Rattle.fluent_meaning.specs.Work.{with_work}
 use Rattle.fluent_values.specs.Along.{Walk, from_here, lost_of}
 use Rattle.fluent_values.specs.Status.{Status, on_path}
 

@@ -28,8 +28,16 @@ use fluent_tree::ast::{CallArguments, Expression, InlineExpression, Pattern};
 use std::alloc::AllocError;
 use std::io::Write;
 
-impl<'p, 's, C: FluentType, F: FluentFunction<C>, B: Context<C>>
-    Scope<'_, 'p, '_, 's, '_, C, F, B> {
+impl<'p, 's, C: FluentType, F: FluentFunction<C>, B: Context<C>> Scope<
+    '_,
+    'p,
+    '_,
+    's,
+    '_,
+    C,
+    F,
+    B,
+> {
     /// Writes a pattern that an expression refers to, with itself on the path. If its content is on the path
     /// already, that is an error, and the expression's fallback is written in braces.
     ///
@@ -44,17 +52,13 @@ impl<'p, 's, C: FluentType, F: FluentFunction<C>, B: Context<C>>
         pattern: &'p Pattern<'s>,
         inline: &InlineExpression<'_>,
     ) -> Result<(), WriteFault>
-        ensures wrote {
-            let at = status B.meant B.is_plain F.answer C.content in
+        ensures wrote { let at = status B.meant B.is_plain F.answer C.content in
             Wrote result (tracks (pattern_view pattern.now) (inline_view inline.now))
-                (writer W.contents w.old) (writer W.contents w.new) (at self.old) (at self.new)
-        }
-        ensures runs {
-            let at = status B.meant B.is_plain F.answer C.content in
+            (writer W.contents w.old) (writer W.contents w.new) (at self.old) (at self.new) }
+        ensures runs { let at = status B.meant B.is_plain F.answer C.content in
             let p = pattern_view pattern.now in
             let x = inline_view inline.now in
-            Runs (at self.old) (tracks p x) (λ b env path. tracked b env path p x)
-        }
+            Runs (at self.old) (tracks p x) (λ b env path. tracked b env path p x) }
     {
         let mut unused = String::new(self.bundle.allocator());
         let mut out = Output {
@@ -80,17 +84,13 @@ impl<'p, 's, C: FluentType, F: FluentFunction<C>, B: Context<C>>
         pattern: &'p Pattern<'s>,
         expression: &'p Expression<'s>,
     ) -> Result<(), WriteFault>
-        ensures wrote {
-            let at = status B.meant B.is_plain F.answer C.content in
+        ensures wrote { let at = status B.meant B.is_plain F.answer C.content in
             Wrote result (maybe_tracks (pattern_view pattern.now) (expression_view expression.now))
-                (writer W.contents w.old) (writer W.contents w.new) (at self.old) (at self.new)
-        }
-        ensures runs {
-            let at = status B.meant B.is_plain F.answer C.content in
+            (writer W.contents w.old) (writer W.contents w.new) (at self.old) (at self.new) }
+        ensures runs { let at = status B.meant B.is_plain F.answer C.content in
             let p = pattern_view pattern.now in
             let e = expression_view expression.now in
-            Runs (at self.old) (maybe_tracks p e) (λ b env path. maybe_tracked b env path p e)
-        }
+            Runs (at self.old) (maybe_tracks p e) (λ b env path. maybe_tracked b env path p e) }
     {
         let mut unused = String::new(self.bundle.allocator());
         let mut out = Output {
@@ -114,16 +114,12 @@ impl<'p, 's, C: FluentType, F: FluentFunction<C>, B: Context<C>>
         w: &mut Counting<W>,
         inline: &InlineExpression<'_>,
     ) -> Result<(), WriteFault>
-        ensures wrote {
-            let at = status B.meant B.is_plain F.answer C.content in
+        ensures wrote { let at = status B.meant B.is_plain F.answer C.content in
             Wrote result (losing (inline_view inline.now))
-                (writer W.contents w.old) (writer W.contents w.new) (at self.old) (at self.new)
-        }
-        ensures runs {
-            let at = status B.meant B.is_plain F.answer C.content in
+            (writer W.contents w.old) (writer W.contents w.new) (at self.old) (at self.new) }
+        ensures runs { let at = status B.meant B.is_plain F.answer C.content in
             let x = inline_view inline.now in
-            Runs (at self.old) (losing x) (λ b env path. lost_run x)
-        }
+            Runs (at self.old) (losing x) (λ b env path. lost_run x) }
     {
         let mut unused = String::new(self.bundle.allocator());
         let mut out = Output {
@@ -144,17 +140,13 @@ impl<'p, 's, C: FluentType, F: FluentFunction<C>, B: Context<C>>
         &mut self,
         arguments: Option<&'p CallArguments<'s>>,
     ) -> Result<(Vec<FluentValue<'p, C>>, FluentArgs<'p, C>), AllocError>
-        ensures got {
-            let at = status B.meant B.is_plain F.answer C.content in
+        ensures got { let at = status B.meant B.is_plain F.answer C.content in
             let given = option_map (λ a. arguments_view a.now) arguments.entry in
             Got result (λ v. (map (value_view C.content) v.0.items, named C.content v.1)) (calling given)
-                (at self.old) (at self.new)
-        }
-        ensures runs {
-            let at = status B.meant B.is_plain F.answer C.content in
+            (at self.old) (at self.new) }
+        ensures runs { let at = status B.meant B.is_plain F.answer C.content in
             let given = option_map (λ a. arguments_view a.now) arguments.entry in
-            Runs (at self.old) (calling given) (λ b env path. called_run b env path given)
-        }
+            Runs (at self.old) (calling given) (λ b env path. called_run b env path given) }
         ensures succeeds { arguments.entry ≡ None → IsOk result }
     {
         let alloc = self.bundle.allocator();
@@ -176,11 +168,9 @@ fn write_tracked<'p, 's, W: Write, C: FluentType, F: FluentFunction<C>, B: Conte
     pattern: &'p Pattern<'s>,
     inline: &InlineExpression<'_>,
 ) -> Result<(), WriteFault>
-    ensures {
-        let at = status B.meant B.is_plain F.answer C.content in
+    ensures { let at = status B.meant B.is_plain F.answer C.content in
         Wrote result (tracks (pattern_view pattern.now) (inline_view inline.now))
-            (sink W.contents out.old) (sink W.contents out.new) (at scope.old) (at scope.new)
-    }
+        (sink W.contents out.old) (sink W.contents out.new) (at scope.old) (at scope.new) }
 {
     if scope.path.is_on(pattern) {
         scope.add_error(ResolverError::Cyclic)?;
@@ -199,11 +189,9 @@ fn write_maybe_tracked<'p, 's, W: Write, C: FluentType, F: FluentFunction<C>, B:
     pattern: &'p Pattern<'s>,
     expression: &'p Expression<'s>,
 ) -> Result<(), WriteFault>
-    ensures {
-        let at = status B.meant B.is_plain F.answer C.content in
+    ensures { let at = status B.meant B.is_plain F.answer C.content in
         Wrote result (maybe_tracks (pattern_view pattern.now) (expression_view expression.now))
-            (sink W.contents out.old) (sink W.contents out.new) (at scope.old) (at scope.new)
-    }
+        (sink W.contents out.old) (sink W.contents out.new) (at scope.old) (at scope.new) }
 {
     let begun = scope.begin(pattern);
     let written = write_closed(scope, out, expression);
@@ -217,11 +205,9 @@ fn write_closed<'p, 's, W: Write, C: FluentType, F: FluentFunction<C>, B: Contex
     out: &mut Output<W>,
     expression: &'p Expression<'s>,
 ) -> Result<(), WriteFault>
-    ensures {
-        let at = status B.meant B.is_plain F.answer C.content in
+    ensures { let at = status B.meant B.is_plain F.answer C.content in
         Wrote result (closes (expression_view expression.now))
-            (sink W.contents out.old) (sink W.contents out.new) (at scope.old) (at scope.new)
-    }
+        (sink W.contents out.old) (sink W.contents out.new) (at scope.old) (at scope.new) }
 {
     write_expression(scope, out, expression, Place)?;
     put_ending(out, expression, scope.budget)

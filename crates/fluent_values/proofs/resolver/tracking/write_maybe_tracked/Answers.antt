@@ -22,5 +22,5 @@ returns g c =
     let walk = closes e in
     let counts = ap (λ n. adding n (trace (from_here b walk))) starts_at.tally ∙ entered_counts a.tally (length (on_path b.path)) (trace (from_here b walk)) in
     wrote (lends starts_at.elsewhere.errors after.errors counts refl c.end.ensures.tally after.budget
-        (keeps_around starts_at.elsewhere kept after (back c.begin-begun.result p starts_at kept.path c.end.ensures))
-        w (turns (maybe_at a b p e starts_at.path starts_at.elsewhere) (starts a _ _)))
+    (keeps_around starts_at.elsewhere kept after (back c.begin-begun.result p starts_at kept.path c.end.ensures))
+    w (turns (maybe_at a b p e starts_at.path starts_at.elsewhere) (starts a _ _)))

@@ -45,5 +45,5 @@ returns g c =
     let kept = w.went.along.passed.keeps in
     let walk = wholing (pattern_view c.args.pattern.now) in
     wrote (lends before.errors after.errors (ap (λ n. adding n (trace (from_here b walk))) c.enter.ensures.tally) refl c.leave.ensures.tally after.budget
-        (keeps_around before kept after (c.leave.ensures.left a.path (Some c.args.pattern) (kept.path ∙ entered)))
-        w (turns (entered_at a b x c.args.pattern (sym c.is_on.ensures ∙ c.if-is_on.false) entered before) (starts a _ _)))
+    (keeps_around before kept after (c.leave.ensures.left a.path (Some c.args.pattern) (kept.path ∙ entered)))
+    w (turns (entered_at a b x c.args.pattern (sym c.is_on.ensures ∙ c.if-is_on.false) entered before) (starts a _ _)))

@@ -1,4 +1,4 @@
-use Rattle.std.proofs.Common.{rules, ap, [], map}
+use Rattle.std.proofs.Common.{rules, ap, []}
 use Rattle.std.specs.Option.{option_map}
 use Rattle.fluent_tree.specs.View.{arguments_view}
 use Rattle.fluent_values.specs.Along.{from_here}
