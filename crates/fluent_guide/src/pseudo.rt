@@ -1,13 +1,13 @@
-//! A transform: texts that look translated, for a test of an application before any translation.
-ghost use Rattle.std.specs.Prelude.{◌≡◌};
-ghost use Rattle.fluent_guide.specs.Accents.{accented};
+//! A transform: texts that look translated, to try an application before any translation is there.
+ghost use Rattle.std.specs.Prelude.{◌≡◌, IfOk};
+ghost use Rattle.fluent_bundle.specs.BundleView.{entries_of};
+ghost use Rattle.fluent_guide.specs.Accents.{accented, accented_english};
 
-use crate::bundle::show_left;
 use crate::showing::show;
-use anyhow::Result;
+use anyhow::Context as Hint;
 use fluent_bundle::{
-    EnglishPlurals, FluentArgs, FluentBundle, FluentResource, FluentValue, NoCustom, NoFormatter,
-    NoFunction, Transform,
+    AddFault, Context, EnglishPlurals, FluentArgs, FluentBundle, FluentResource, FluentValue,
+    NoCustom, NoFormatter, NoFunction, Transform,
 };
 use std::alloc::{AllocError, Global};
 use std::borrow::CowStr;
@@ -17,9 +17,9 @@ use std::borrow::CowStr;
 pub struct Pseudo;
 
 impl Transform for Pseudo {
-    ghost use Rattle.std.specs.Prelude.{map, chars, encode_utf8_all};
+    ghost use Rattle.fluent_guide.specs.Accents.{accented_text};
 
-    ghost changed = { λ _ text. encode_utf8_all (map accented (chars text)) };
+    ghost changed = { λ _ text. accented_text text };
 
     fn transform(&self, alloc: Global, text: &str) -> Result<String, AllocError> {
         text.chars().map(accented).collect(alloc)
@@ -40,13 +40,36 @@ fn accented(letter: char) -> char
     }
 }
 
-/// Shows a message in accents, but for its argument.
-pub fn show_transform(rt: &HostRuntime, resource: &FluentResource<'_>) -> Result<()> {
-    let mut bundle: FluentBundle<EnglishPlurals, NoCustom, NoFunction, NoFormatter, Pseudo> =
-        FluentBundle::new_default(rt.alloc())?;
-    bundle.set_transform(Some(Pseudo));
-    show_left(rt, bundle.add_resource(resource))?;
+/// A bundle in English whose texts have accents.
+pub type Accented<'r, 's> = FluentBundle<
+    'r,
+    's,
+    EnglishPlurals,
+    NoCustom,
+    NoFunction,
+    NoFormatter,
+    Pseudo,
+>;
 
+/// A bundle in English with the messages of a resource, whose texts have accents.
+pub fn accented_bundle<'r, 's>(
+    alloc: Global,
+    resource: &'r FluentResource<'s>,
+) -> Result<Accented<'r, 's>, AddFault>
+    ensures { let of = ⟦<Accented<'r, 's> as Context<NoCustom>>⟧.meant in
+        IfOk result (λ b. of b ≡ accented_english (entries_of resource.now)) }
+{
+    let mut bundle = FluentBundle::new(alloc, Vec::new(alloc), EnglishPlurals);
+    bundle.set_transform(Some(Pseudo));
+    bundle.add_resource(resource)?;
+    Ok(bundle)
+}
+
+/// Shows a message in accents, but for its argument.
+pub fn show_transform(rt: &HostRuntime, resource: &FluentResource<'_>) -> anyhow::Result<()> {
+    let bundle = accented_bundle(rt.alloc(), resource)
+        .ok()
+        .context("not added")?;
     let mut args = FluentArgs::new(rt.alloc());
     args.set(CowStr::Borrowed("name"), FluentValue::from("Joe"))?;
     show(rt, &bundle, "intro", Some(&args))

@@ -1,25 +1,31 @@
 //! A text in a program.
-use anyhow::{Context, Result};
+use anyhow::{Context, Result, bail};
 use fluent_bundle::{
     EnglishPlurals, FluentArgs, FluentBundle, FluentResource, FluentValue, NoCustom, NoFormatter,
-    NoFunction,
+    NoFunction, TryNewFault,
 };
 use std::borrow::CowStr;
 
-/// Shows a welcome.
+/// Reads a source of one message.
 pub fn show_welcome(rt: &HostRuntime) -> Result<()> {
-    let alloc = rt.alloc();
-    let source = "intro = Welcome, { $name }.";
-    let resource = FluentResource::try_new(alloc, source).ok().context("unreadable")?;
-    let mut bundle: FluentBundle<EnglishPlurals, NoCustom, NoFunction, NoFormatter> =
-        FluentBundle::new_default(alloc)?;
-    bundle.add_resource(&resource).ok().context("not added")?;
+    match FluentResource::try_new(rt.alloc(), "intro = Welcome, { $name }.") {
+        Ok(resource) => welcome(rt, &resource, "John"),
+        Err(TryNewFault::Parser(_, _)) => bail!("not all of it can be read"),
+        Err(TryNewFault::Memory) => bail!("out of memory"),
+    }
+}
 
-    let mut args = FluentArgs::new(alloc);
-    args.set(CowStr::Borrowed("name"), FluentValue::from("John"))?;
-    let message = bundle.get_message("intro").context("no such message")?;
+/// Welcomes somebody by the message `intro`.
+fn welcome(rt: &HostRuntime, resource: &FluentResource<'_>, name: &str) -> Result<()> {
+    let mut bundle: FluentBundle<EnglishPlurals, NoCustom, NoFunction, NoFormatter> =
+        FluentBundle::new_default(rt.alloc())?;
+    bundle.add_resource(resource).ok().context("not added")?;
+
+    let mut args = FluentArgs::new(rt.alloc());
+    args.set(CowStr::Borrowed("name"), FluentValue::from(name))?;
+    let message = bundle.get_message("intro").context("no message")?;
     let pattern = message.value().context("no value")?;
-    let mut errors = Vec::new(alloc);
+    let mut errors = Vec::new(rt.alloc());
     let text = bundle.format_pattern(pattern, Some(&args), &mut errors)?;
     println!(rt; "{}", text.as_str())?;
     Ok(())
