@@ -12,8 +12,15 @@ use std::borrow::CowStr;
 use std::io;
 use std::time::Instant;
 
-type Bundle<'r, 's> =
-    FluentBundle<'r, 's, EnglishPlurals, NoCustom, NoFunction, NoFormatter, NoTransform>;
+type Bundle<'r, 's> = FluentBundle<
+    'r,
+    's,
+    EnglishPlurals,
+    NoCustom,
+    NoFunction,
+    NoFormatter,
+    NoTransform,
+>;
 
 /// A figure is the best of so many batches.
 const BATCHES: u32 = 5;
@@ -82,11 +89,11 @@ fn say(rt: &HostRuntime, call: &str, nanoseconds: u128, turns: u32) -> io::Resul
 }
 
 /// The least time of a batch of calls that answer a text.
-fn time_format(
+fn time_format<'s>(
     rt: &HostRuntime,
     turns: u32,
-    bundle: &Bundle<'_, '_>,
-    pattern: &Pattern<'_>,
+    bundle: &Bundle<'_, 's>,
+    pattern: &Pattern<'s>,
     args: &FluentArgs<'_, NoCustom>,
 ) -> io::Result<u128> {
     let mut errors = Vec::new(rt.alloc());
@@ -103,9 +110,9 @@ fn time_format(
 }
 
 /// Writes a pattern to a list of bytes, which it clears first.
-fn write_once(
-    bundle: &Bundle<'_, '_>,
-    pattern: &Pattern<'_>,
+fn write_once<'s>(
+    bundle: &Bundle<'_, 's>,
+    pattern: &Pattern<'s>,
     args: &FluentArgs<'_, NoCustom>,
     bytes: Vec<u8>,
     errors: &mut Vec<FluentError>,
@@ -122,11 +129,11 @@ fn write_once(
 }
 
 /// The least time of a batch of calls that write, and how many bytes and errors such a call gives.
-fn time_write(
+fn time_write<'s>(
     rt: &HostRuntime,
     turns: u32,
-    bundle: &Bundle<'_, '_>,
-    pattern: &Pattern<'_>,
+    bundle: &Bundle<'_, 's>,
+    pattern: &Pattern<'s>,
     args: &FluentArgs<'_, NoCustom>,
 ) -> io::Result<(u128, usize, usize)> {
     let mut errors = Vec::new(rt.alloc());

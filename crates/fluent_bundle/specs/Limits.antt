@@ -15,10 +15,10 @@ pub record KeepsLimit {C : Type 0} (b : Bundle C) (args : Map (Value C)) (p : Pa
   pub strikes : (written_pattern b args p).budget ≡ struck ↔ b.limit < (substituted_pattern b args p).opened
   -- where it opens no more, text and errors are its own, and what is left is the limit less what was opened
   pub within : (substituted_pattern b args p).opened ≤ b.limit → written_pattern b args p ≡ record {
-      value = (substituted_pattern b args p).value;
-      errors = (substituted_pattern b args p).errors;
-      budget = left (b.limit - (substituted_pattern b args p).opened);
-    }
+    value = (substituted_pattern b args p).value;
+    errors = (substituted_pattern b args p).errors;
+    budget = left (b.limit - (substituted_pattern b args p).opened);
+  }
   -- where it opens more, the text at the strike and the errors before it begin both
   pub beyond : b.limit < (substituted_pattern b args p).opened → IsStrikeOf (up_to_strike b (application args) [] p b.limit) (substituted_pattern b args p) (written_pattern b args p)
   -- how many placeables are opened, how long the path becomes, how many patterns are entered

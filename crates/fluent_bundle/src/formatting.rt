@@ -13,9 +13,9 @@ ghost use Rattle.fluent_values.specs.Texts.{sole_text, IsText};
 ghost use Rattle.fluent_values.specs.Written.{sink};
 
 use crate::bundle::FluentBundle;
+use crate::laws;
 use crate::resolver::answers::formatted;
 use fluent_intl::MemoizerKind;
-use crate::laws;
 use fluent_syntax::ast::{Pattern, PatternElement};
 use fluent_syntax::{Counting, WriteFault};
 use fluent_values::resolver::output::Output;
@@ -57,30 +57,26 @@ impl<
         errors: &mut Vec<FluentError>,
     ) -> Result<(), WriteFault>
         // By substitution, where that opens no more placeables than the limit.
-        ensures within {
-            let of = ⟦<Self as Context<C>>⟧.meant in
+        ensures within { let of = ⟦<Self as Context<C>>⟧.meant in
             let args = arguments_view C.content args.entry in
             WritesWithin (of self.now) args (pattern_view pattern.now) result
-                (W.contents w.old.inner) (W.contents w.new.inner)
-                errors.old.items errors.new.items }
+            (W.contents w.old.inner) (W.contents w.new.inner)
+            errors.old.items errors.new.items }
 
         // With the budget, in every case.
-        ensures whole {
-            let of = ⟦<Self as Context<C>>⟧.meant in
+        ensures whole { let of = ⟦<Self as Context<C>>⟧.meant in
             let args = arguments_view C.content args.entry in
             WritesWhole (of self.now) args (pattern_view pattern.now) result
-                (W.contents w.old.inner) (W.contents w.new.inner)
-                errors.old.items errors.new.items }
+            (W.contents w.old.inner) (W.contents w.new.inner)
+            errors.old.items errors.new.items }
 
         // Whatever is answered.
-        ensures front {
-            let of = ⟦<Self as Context<C>>⟧.meant in
+        ensures front { let of = ⟦<Self as Context<C>>⟧.meant in
             let args = arguments_view C.content args.entry in
             WritesBeginning (of self.now) args (pattern_view pattern.now)
-                (W.contents w.old.inner) (W.contents w.new.inner)
-                errors.old.items errors.new.items }
-        ensures limit {
-            let of = ⟦<Self as Context<C>>⟧.meant in
+            (W.contents w.old.inner) (W.contents w.new.inner)
+            errors.old.items errors.new.items }
+        ensures limit { let of = ⟦<Self as Context<C>>⟧.meant in
             let args = arguments_view C.content args.entry in
             KeepsLimit (of self.now) args (pattern_view pattern.now) }
         ensures fault { Faulted w.old.failed w.old.empty w.new.failed w.new.empty result }
@@ -109,23 +105,19 @@ impl<
         args: Option<&FluentArgs<'_, C>>,
         errors: &mut Vec<FluentError>,
     ) -> Result<CowStr<'s>, AllocError>
-        ensures within {
-            let of = ⟦<Self as Context<C>>⟧.meant in
+        ensures within { let of = ⟦<Self as Context<C>>⟧.meant in
             let args = arguments_view C.content args.entry in
             GivesWithin (of self.now) args (pattern_view pattern.now) result
-                errors.old.items errors.new.items }
-        ensures whole {
-            let of = ⟦<Self as Context<C>>⟧.meant in
+            errors.old.items errors.new.items }
+        ensures whole { let of = ⟦<Self as Context<C>>⟧.meant in
             let args = arguments_view C.content args.entry in
             GivesWhole (of self.now) args (pattern_view pattern.now) result
-                errors.old.items errors.new.items }
-        ensures front {
-            let of = ⟦<Self as Context<C>>⟧.meant in
+            errors.old.items errors.new.items }
+        ensures front { let of = ⟦<Self as Context<C>>⟧.meant in
             let args = arguments_view C.content args.entry in
             AddsBeginning (of self.now) args (pattern_view pattern.now)
-                errors.old.items errors.new.items }
-        ensures limit {
-            let of = ⟦<Self as Context<C>>⟧.meant in
+            errors.old.items errors.new.items }
+        ensures limit { let of = ⟦<Self as Context<C>>⟧.meant in
             let args = arguments_view C.content args.entry in
             KeepsLimit (of self.now) args (pattern_view pattern.now) }
         ensures lent { is_some (sole_text (pattern_view pattern.now)) ≡ true → self.now.transform ≡ None → self.now.formatter ≡ None → IsOk result }
@@ -169,12 +161,11 @@ impl<
         args: Option<&FluentArgs<'_, C>>,
         errors: &mut Vec<FluentError>,
     ) -> Result<(), WriteFault>
-        ensures writes {
-            let of = ⟦<Self as Context<C>>⟧.meant in
+        ensures writes { let of = ⟦<Self as Context<C>>⟧.meant in
             let args = arguments_view C.content args.entry in
             Writes result (written_pattern (of self.now) args (pattern_view pattern.now))
-                (sink W.contents out.old) (sink W.contents out.new)
-                errors.old.items errors.new.items }
+            (sink W.contents out.old) (sink W.contents out.new)
+            errors.old.items errors.new.items }
         ensures memory { IsText (pattern_view pattern.now) → self.now.transform ≡ None → out.old.is_buffered ≡ false → result ≢ Err WriteFault.Memory }
     {
         let mut scope = Scope::new(self, &self.entries, args, Some(errors));
@@ -192,20 +183,17 @@ impl<
         args: Option<&FluentArgs<'_, C>>,
         errors: &mut Vec<FluentError>,
     ) -> Result<String, AllocError>
-        ensures text {
-            let of = ⟦<Self as Context<C>>⟧.meant in
+        ensures text { let of = ⟦<Self as Context<C>>⟧.meant in
             let args = arguments_view C.content args.entry in
             IfOk result (λ text. string_bytes text ≡ (written_pattern (of self.now) args (pattern_view pattern.now)).value) }
-        ensures errors {
-            let of = ⟦<Self as Context<C>>⟧.meant in
+        ensures errors { let of = ⟦<Self as Context<C>>⟧.meant in
             let args = arguments_view C.content args.entry in
             OnOk result (AddsAll (written_pattern (of self.now) args (pattern_view pattern.now)).errors
-                errors.old.items errors.new.items) }
-        ensures front {
-            let of = ⟦<Self as Context<C>>⟧.meant in
+            errors.old.items errors.new.items) }
+        ensures front { let of = ⟦<Self as Context<C>>⟧.meant in
             let args = arguments_view C.content args.entry in
             AddsFront (written_pattern (of self.now) args (pattern_view pattern.now)).errors
-                errors.old.items errors.new.items }
+            errors.old.items errors.new.items }
     {
         let mut text = String::new(self.alloc);
         let mut unused = Counting::new(Vec::new(self.alloc));
@@ -224,21 +212,18 @@ impl<
         args: Option<&FluentArgs<'_, C>>,
         errors: &mut Vec<FluentError>,
     ) -> Result<(), WriteFault>
-        ensures text {
-            let of = ⟦<Self as Context<C>>⟧.meant in
+        ensures text { let of = ⟦<Self as Context<C>>⟧.meant in
             let args = arguments_view C.content args.entry in
             OnOk result (string_bytes text.new
-                ≡ string_bytes text.old ++ (written_pattern (of self.now) args (pattern_view pattern.now)).value) }
-        ensures errors {
-            let of = ⟦<Self as Context<C>>⟧.meant in
+            ≡ string_bytes text.old ++ (written_pattern (of self.now) args (pattern_view pattern.now)).value) }
+        ensures errors { let of = ⟦<Self as Context<C>>⟧.meant in
             let args = arguments_view C.content args.entry in
             OnOk result (AddsAll (written_pattern (of self.now) args (pattern_view pattern.now)).errors
-                errors.old.items errors.new.items) }
-        ensures front {
-            let of = ⟦<Self as Context<C>>⟧.meant in
+            errors.old.items errors.new.items) }
+        ensures front { let of = ⟦<Self as Context<C>>⟧.meant in
             let args = arguments_view C.content args.entry in
             AddsFront (written_pattern (of self.now) args (pattern_view pattern.now)).errors
-                errors.old.items errors.new.items }
+            errors.old.items errors.new.items }
         ensures fault { Faulted unused.old.failed unused.old.empty unused.new.failed unused.new.empty result }
     {
         let mut out = Output {

@@ -18,8 +18,9 @@ pub use fluent_syntax::{Counting, ParserError, WriteFault, ast};
 pub use fluent_values::{
     AnswerRule, Answering, ArgsIntoIter, ArgsIter, Attributes, Entry, EntryKind, FluentArgs,
     FluentAttribute, FluentError, FluentFormatter, FluentFunction, FluentMessage, FluentNumber,
-    FluentNumberOptions, FluentType, FluentValue, FunctionOf, FunctionRef, GetEntry, Ids, MergeArgs, NoCustom, NoFormatter,
-    NoFunction, NoTransform, ReferenceKind, Transform, builtins, memoizer, types,
+    FluentNumberOptions, FluentType, FluentValue, FunctionOf, FunctionRef, GetEntry, Ids,
+    MergeArgs, NoCustom, NoFormatter, NoFunction, NoTransform, ReferenceKind, Transform, builtins,
+    memoizer, types,
 };
 pub use resolver::{Context, ResolverError, Scope};
 pub use resource::{Entries, FluentResource, TryNewFault};

@@ -5,8 +5,9 @@ use crate::own::Bracketed;
 use crate::resolver::formats;
 use crate::rows::{Bundle, Given, Named, Setting, bundle_of, gives, wants};
 use crate::trees::{
-    Tree, alone, asked, beside, case_number, case_of, choice, default, function, in_brackets,
-    message, named, nested, number, only, only_named, put, say, select, string, term, variable,
+    Tree, alone, asked, bare_term, beside, case_number, case_of, choice, default, function,
+    in_brackets, message, named, nested, number, only, only_named, put, say, select, string, term,
+    variable,
 };
 use fluent_bundle::ast::{Expression, Pattern};
 use std::alloc::Global;
@@ -41,11 +42,11 @@ const Q: &str = "Resolver error: Unknown variable: $q\n";
 const CYCLIC: &str = "Resolver error: Cyclical dependency detected\n";
 
 /// What a tree gives where `n` is 9.
-fn row(
+fn row<'s>(
     rt: &impl Abort,
     alloc: Global,
-    bundle: &Bundle<'_, '_>,
-    tree: Tree,
+    bundle: &Bundle<'_, 's>,
+    tree: Tree<'s>,
     text: &str,
     errors: &str,
 ) -> Result<(), Fail> {
@@ -78,7 +79,7 @@ const STRINGS: &[Literal] = &[
     ("\"{ $n }\n", "\"{ $n }\n"),
 ];
 
-fn literals_give(rt: &impl Abort, alloc: Global, bundle: &Bundle<'_, '_>) -> Result<(), Fail> {
+fn literals_give<'s>(rt: &impl Abort, alloc: Global, bundle: &Bundle<'_, 's>) -> Result<(), Fail> {
     for (source, text) in NUMBERS {
         row(rt, alloc, bundle, alone(alloc, number(*source)), *text, "")?;
     }
@@ -98,19 +99,19 @@ fn literals_of_any_source_are_written(rt: HostRuntime) -> Result<(), Fail> {
 // ---- patterns
 
 /// A text, an empty text and a reference to `foo`.
-fn split(alloc: Global) -> Tree {
+fn split<'s>(alloc: Global) -> Tree<'s> {
     Ok(Pattern {
         elements: vec![in alloc; say("x"), say(""), put(message("foo"))]?,
     })
 }
 
-fn nothing(alloc: Global) -> Pattern<'static> {
+fn nothing<'s>(alloc: Global) -> Pattern<'s> {
     Pattern {
         elements: Vec::new(alloc),
     }
 }
 
-fn patterns_give(rt: &impl Abort, alloc: Global, bundle: &Bundle<'_, '_>) -> Result<(), Fail> {
+fn patterns_give<'s>(rt: &impl Abort, alloc: Global, bundle: &Bundle<'_, 's>) -> Result<(), Fail> {
     row(rt, alloc, bundle, Ok(nothing(alloc)), "", "")?;
     let marked = beside(alloc, "", variable("n"));
     row(rt, alloc, bundle, marked, "\u{2068}9\u{2069}", "")?;
@@ -167,25 +168,29 @@ fn patterns_of_other_sources_are_written(rt: HostRuntime) -> Result<(), Fail> {
 // ---- references
 
 /// Attributes of terms in placeables.
-fn attributes_give(rt: &impl Abort, alloc: Global, bundle: &Bundle<'_, '_>) -> Result<(), Fail> {
-    let attribute = alone(alloc, term("t", "a", None));
+fn attributes_give<'s>(
+    rt: &impl Abort,
+    alloc: Global,
+    bundle: &Bundle<'_, 's>,
+) -> Result<(), Fail> {
+    let attribute = alone(alloc, bare_term("t", "a"));
     row(rt, alloc, bundle, attribute, "a\u{2068}{$n}\u{2069}", "")?;
     let one = only_named(alloc, "n", number("1"))?;
-    let given = beside(alloc, "x", term("t", "a", Some(one)));
+    let given = beside(alloc, "x", term("t", "a", one));
     row(rt, alloc, bundle, given, "xa\u{2068}1\u{2069}", "")?;
-    let unknown = alone(alloc, term("t", "b", None));
+    let unknown = alone(alloc, bare_term("t", "b"));
     let lost = "Resolver error: Unknown attribute: -t.b\n";
     row(rt, alloc, bundle, unknown, "{-t.b}", lost)
 }
 
 /// Named arguments of terms that are no literals, and two of one name, of which the last stands.
-fn terms_give(rt: &impl Abort, alloc: Global, bundle: &Bundle<'_, '_>) -> Result<(), Fail> {
+fn terms_give<'s>(rt: &impl Abort, alloc: Global, bundle: &Bundle<'_, 's>) -> Result<(), Fail> {
     let outer = only_named(alloc, "n", variable("n"))?;
     row(
         rt,
         alloc,
         bundle,
-        alone(alloc, term("t", "", Some(outer))),
+        alone(alloc, term("t", "", outer)),
         "9",
         "",
     )?;
@@ -194,16 +199,16 @@ fn terms_give(rt: &impl Abort, alloc: Global, bundle: &Bundle<'_, '_>) -> Result
         rt,
         alloc,
         bundle,
-        alone(alloc, term("t", "", Some(text))),
+        alone(alloc, term("t", "", text)),
         "mm",
         "",
     )?;
-    let below = only_named(alloc, "n", term("b", "", None))?;
+    let below = only_named(alloc, "n", bare_term("b", ""))?;
     row(
         rt,
         alloc,
         bundle,
-        alone(alloc, term("t", "", Some(below))),
+        alone(alloc, term("t", "", below)),
         "uu",
         "",
     )?;
@@ -212,21 +217,21 @@ fn terms_give(rt: &impl Abort, alloc: Global, bundle: &Bundle<'_, '_>) -> Result
         rt,
         alloc,
         bundle,
-        alone(alloc, term("t", "", Some(missing))),
+        alone(alloc, term("t", "", missing)),
         "",
         Q,
     )?;
     let both = vec![in alloc; named("n", number("1")), named("n", number("2"))]?;
-    let last = alone(alloc, term("t", "", Some(asked(Vec::new(alloc), both))));
+    let last = alone(alloc, term("t", "", asked(Vec::new(alloc), both)));
     row(rt, alloc, bundle, last, "2", "")?;
     let positional = vec![in alloc; variable("p")]?;
     let beside_it = vec![in alloc; named("n", variable("q"))]?;
-    let in_order = alone(alloc, term("t", "", Some(asked(positional, beside_it))));
+    let in_order = alone(alloc, term("t", "", asked(positional, beside_it)));
     row(rt, alloc, bundle, in_order, "", P_AND_Q)
 }
 
 /// Arguments of functions that stand in no source, and an id that is no name of a function there.
-fn functions_give(rt: &impl Abort, alloc: Global, bundle: &Bundle<'_, '_>) -> Result<(), Fail> {
+fn functions_give<'s>(rt: &impl Abort, alloc: Global, bundle: &Bundle<'_, 's>) -> Result<(), Fail> {
     let text = only(alloc, string("q"))?;
     row(
         rt,
@@ -273,7 +278,7 @@ const NO_DEFAULT: &str = "Resolver error: No default\n";
 const Q_AND_NO_DEFAULT: &str = "Resolver error: Unknown variable: $q\nResolver error: No default\n";
 
 /// Selects without a default, and one with two.
-fn defaults_give(rt: &impl Abort, alloc: Global, bundle: &Bundle<'_, '_>) -> Result<(), Fail> {
+fn defaults_give<'s>(rt: &impl Abort, alloc: Global, bundle: &Bundle<'_, 's>) -> Result<(), Fail> {
     let other = choice(alloc, number("7"), &[case_number("1", "x")]);
     row(rt, alloc, bundle, other, "", NO_DEFAULT)?;
     let matching = choice(alloc, number("7"), &[case_number("7", "x")]);
@@ -294,7 +299,11 @@ fn defaults_give(rt: &impl Abort, alloc: Global, bundle: &Bundle<'_, '_>) -> Res
 }
 
 /// Selectors that stand in no source: what refers to a pattern, and a nested placeable, is a text.
-fn selectors_choose(rt: &impl Abort, alloc: Global, bundle: &Bundle<'_, '_>) -> Result<(), Fail> {
+fn selectors_choose<'s>(
+    rt: &impl Abort,
+    alloc: Global,
+    bundle: &Bundle<'_, 's>,
+) -> Result<(), Fail> {
     let words = [
         case_of("mm", "m"),
         case_of("1", "one"),
@@ -352,7 +361,7 @@ fn selectors_choose(rt: &impl Abort, alloc: Global, bundle: &Bundle<'_, '_>) -> 
         rt,
         alloc,
         bundle,
-        choice(alloc, term("t", "", Some(one)), &words),
+        choice(alloc, term("t", "", one), &words),
         "one",
         "",
     )?;
@@ -378,13 +387,13 @@ fn selects_of_any_parts_choose(rt: HostRuntime) -> Result<(), Fail> {
 // ---- the limit
 
 /// A select without a default whose selector strikes the limit, and fallbacks of nested placeables.
-fn strikes(rt: &impl Abort, alloc: Global, bundle: &Bundle<'_, '_>) -> Result<(), Fail> {
+fn strikes<'s>(rt: &impl Abort, alloc: Global, bundle: &Bundle<'_, 's>) -> Result<(), Fail> {
     let first = only(alloc, message("one"))?;
     let selector = choice(alloc, function("FIRST", first), &[case_of("a", "x")]);
     let errors = "Resolver error: Too many placeables\nResolver error: No default\n";
     row(rt, alloc, bundle, selector, "{FIRST()}", errors)?;
     let struck = "Resolver error: Too many placeables\n";
-    let inner = Expression::Inline(term("t", "a", None));
+    let inner = Expression::Inline(bare_term("t", "a"));
     let attribute = alone(alloc, nested(alloc, inner)?);
     row(rt, alloc, bundle, attribute, "a{-t.a}", struck)?;
     let inner = select(alloc, message("one"), &[default("o", "o")])?;

@@ -79,11 +79,11 @@ fn is_front(taken: &[u8], how: How, text: &str) -> bool {
 }
 
 /// Writes a pattern to a writer that takes less than its text: `None` where memory is refused, else the errors.
-fn stops(
+fn stops<'s>(
     rt: &impl Abort,
     alloc: Global,
-    bundle: &Bundle<'_, '_>,
-    pattern: &Pattern<'_>,
+    bundle: &Bundle<'_, 's>,
+    pattern: &Pattern<'s>,
     args: &FluentArgs<'_, Star>,
     how: How,
     text: &str,
@@ -207,11 +207,11 @@ fn ways(in_all: usize) -> [How; 4] {
 }
 
 /// Full at each byte of the text.
-fn stops_anywhere(
+fn stops_anywhere<'s>(
     rt: &impl Abort,
     alloc: Global,
-    bundle: &Bundle<'_, '_>,
-    pattern: &Pattern<'_>,
+    bundle: &Bundle<'_, 's>,
+    pattern: &Pattern<'s>,
     wanted: &Wanted<'_>,
 ) -> Result<(), Fail> {
     let args = arguments(alloc, NINE)?;
@@ -226,11 +226,11 @@ fn stops_anywhere(
 }
 
 /// All is taken, a byte at once, or nothing where memory is refused.
-fn goes_through(
+fn goes_through<'s>(
     rt: &impl Abort,
     alloc: Global,
-    bundle: &Bundle<'_, '_>,
-    pattern: &Pattern<'_>,
+    bundle: &Bundle<'_, 's>,
+    pattern: &Pattern<'s>,
     wanted: &Wanted<'_>,
 ) -> Result<(), Fail> {
     let how = How {

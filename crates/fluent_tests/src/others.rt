@@ -31,10 +31,10 @@ fn rules(alloc: Global) -> Result<RuleTexts, RuleFault> {
 }
 
 /// What a message of the bundle is formatted as where `n` is a number.
-fn is_shown(
+fn is_shown<'s>(
     alloc: Global,
-    bundle: &Polish<'_, '_>,
-    resource: &FluentResource<'_>,
+    bundle: &Polish<'_, 's>,
+    resource: &FluentResource<'s>,
     number: &str,
     text: &str,
 ) -> Result<bool, Fail> {
@@ -91,11 +91,11 @@ fn boxed<'r, 's>(
     }
 }
 
-fn is_changed(
+fn is_changed<'s>(
     rt: &impl Abort,
     alloc: Global,
-    bundle: &Boxed<'_, '_>,
-    resource: &FluentResource<'_>,
+    bundle: &Boxed<'_, 's>,
+    resource: &FluentResource<'s>,
 ) -> Result<(), Fail> {
     let pattern = value_of(resource)?;
     let text = "XMMT\u{2068}v\u{2069}\u{2068}YES\u{2069}{none}";

@@ -210,11 +210,12 @@ fn hand_made(alloc: Global) -> Result<Pattern<'static>, AllocError> {
     Ok(Pattern { elements })
 }
 
-/// What is not resolved shows its fallback.
+/// An attribute that is not there is an error, and shows its fallback.
 fn shows_a_fallback(rt: &impl Abort, alloc: Global) -> Result<(), Fail> {
     let pattern = hand_made(alloc)?;
     let bundle = empty(alloc);
-    let told = all("See {help.title}", "");
+    let error = "Resolver error: Unknown attribute: help.title\n";
+    let told = all("See {help.title}", error);
     writes(rt, alloc, &bundle, &pattern, ("", ""), &told)
 }
 

@@ -159,9 +159,9 @@ pub fn begin_them(
 }
 
 /// Writes a pattern.
-pub fn write<W: Write>(
-    bundle: &Bundle<'_, '_>,
-    pattern: &Pattern<'_>,
+pub fn write<'s, W: Write>(
+    bundle: &Bundle<'_, 's>,
+    pattern: &Pattern<'s>,
     args: Option<&FluentArgs<'_, Star>>,
     w: &mut Counting<W>,
     errors: &mut Vec<FluentError>,
@@ -180,11 +180,11 @@ fn format<'p>(
 }
 
 /// Writes a pattern; `false` where memory is refused, after which text and errors begin those that are wanted.
-fn writes_once(
+fn writes_once<'s>(
     rt: &impl Abort,
     alloc: Global,
-    bundle: &Bundle<'_, '_>,
-    pattern: &Pattern<'_>,
+    bundle: &Bundle<'_, 's>,
+    pattern: &Pattern<'s>,
     args: Option<&FluentArgs<'_, Star>>,
     wanted: &Wanted<'_>,
 ) -> Result<bool, Fail> {
@@ -209,11 +209,11 @@ fn writes_once(
 }
 
 /// Formats a pattern; `false` where memory is refused, after which the errors begin those that are wanted.
-fn formats_once(
+fn formats_once<'s>(
     rt: &impl Abort,
     alloc: Global,
-    bundle: &Bundle<'_, '_>,
-    pattern: &Pattern<'_>,
+    bundle: &Bundle<'_, 's>,
+    pattern: &Pattern<'s>,
     args: Option<&FluentArgs<'_, Star>>,
     wanted: &Wanted<'_>,
 ) -> Result<bool, Fail> {
@@ -233,11 +233,11 @@ fn formats_once(
 }
 
 /// Writes and formats a pattern, each a second time where memory is refused at the first.
-fn gives_with(
+fn gives_with<'s>(
     rt: &impl Abort,
     alloc: Global,
-    bundle: &Bundle<'_, '_>,
-    pattern: &Pattern<'_>,
+    bundle: &Bundle<'_, 's>,
+    pattern: &Pattern<'s>,
     args: Option<&FluentArgs<'_, Star>>,
     wanted: &Wanted<'_>,
 ) -> Result<(), Fail> {
@@ -251,11 +251,11 @@ fn gives_with(
 }
 
 /// What a pattern gives with these arguments, without any where there are none.
-pub fn gives(
+pub fn gives<'s>(
     rt: &impl Abort,
     alloc: Global,
-    bundle: &Bundle<'_, '_>,
-    pattern: &Pattern<'_>,
+    bundle: &Bundle<'_, 's>,
+    pattern: &Pattern<'s>,
     named: &[Named],
     wanted: &Wanted<'_>,
 ) -> Result<(), Fail> {

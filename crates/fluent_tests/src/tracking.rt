@@ -131,11 +131,11 @@ const ROWS: &[Written] = &[
 ];
 
 /// Makes a call; `false` where memory is refused.
-fn writes_once(
+fn writes_once<'s>(
     rt: &impl Abort,
     alloc: Global,
-    bundle: &Bundle<'_, '_>,
-    pattern: &Pattern<'_>,
+    bundle: &Bundle<'_, 's>,
+    pattern: &Pattern<'s>,
     row: &Written,
 ) -> Result<bool, Fail> {
     let told = all(row.3, row.4);
@@ -223,11 +223,11 @@ fn is_named(named: &FluentArgs<'_, NoCustom>, name: &str, text: &'static str) ->
 }
 
 /// Resolves all arguments; `false` where memory is refused, and then the error was added or not.
-fn gets_once(
+fn gets_once<'s>(
     rt: &impl Abort,
     alloc: Global,
-    bundle: &Bundle<'_, '_>,
-    pattern: &Pattern<'_>,
+    bundle: &Bundle<'_, 's>,
+    pattern: &Pattern<'s>,
 ) -> Result<bool, Fail> {
     let mut errors = Vec::new(alloc);
     let Ok(values) = values_in(bundle, &mut errors, Some(arguments_of(pattern)?)) else {

@@ -5,31 +5,31 @@ use fluent_bundle::ast::{
 };
 use std::alloc::{AllocError, Global};
 
-pub type Inline = InlineExpression<'static>;
+pub type Inline<'s> = InlineExpression<'s>;
 
-pub type Tree = Result<Pattern<'static>, AllocError>;
+pub type Tree<'s> = Result<Pattern<'s>, AllocError>;
 
 // ---- elements
 
-pub fn say(value: &'static str) -> PatternElement<'static> {
+pub fn say<'s>(value: &'s str) -> PatternElement<'s> {
     PatternElement::TextElement { value }
 }
 
-pub fn put(inline: Inline) -> PatternElement<'static> {
+pub fn put<'s>(inline: Inline<'s>) -> PatternElement<'s> {
     PatternElement::Placeable {
         expression: Expression::Inline(inline),
     }
 }
 
 /// A pattern of one placeable.
-pub fn alone(alloc: Global, inline: Inline) -> Tree {
+pub fn alone<'s>(alloc: Global, inline: Inline<'s>) -> Tree<'s> {
     Ok(Pattern {
         elements: vec![in alloc; put(inline)]?,
     })
 }
 
 /// A pattern of a text and a placeable.
-pub fn beside(alloc: Global, text: &'static str, inline: Inline) -> Tree {
+pub fn beside<'s>(alloc: Global, text: &'s str, inline: Inline<'s>) -> Tree<'s> {
     Ok(Pattern {
         elements: vec![in alloc; say(text), put(inline)]?,
     })
@@ -37,12 +37,12 @@ pub fn beside(alloc: Global, text: &'static str, inline: Inline) -> Tree {
 
 // ---- inline expressions
 
-fn name_of(name: &'static str) -> Identifier<'static> {
+fn name_of<'s>(name: &'s str) -> Identifier<'s> {
     Identifier { name }
 }
 
 /// The name of an attribute, none where it is empty.
-fn attribute_of(name: &'static str) -> Option<Identifier<'static>> {
+fn attribute_of<'s>(name: &'s str) -> Option<Identifier<'s>> {
     if name.is_empty() {
         None
     } else {
@@ -50,53 +50,62 @@ fn attribute_of(name: &'static str) -> Option<Identifier<'static>> {
     }
 }
 
-pub fn string(value: &'static str) -> Inline {
+pub fn string<'s>(value: &'s str) -> Inline<'s> {
     InlineExpression::StringLiteral { value }
 }
 
-pub fn number(value: &'static str) -> Inline {
+pub fn number<'s>(value: &'s str) -> Inline<'s> {
     InlineExpression::NumberLiteral { value }
 }
 
-pub fn variable(name: &'static str) -> Inline {
+pub fn variable<'s>(name: &'s str) -> Inline<'s> {
     InlineExpression::VariableReference { id: name_of(name) }
 }
 
-pub fn message(id: &'static str) -> Inline {
+pub fn message<'s>(id: &'s str) -> Inline<'s> {
     InlineExpression::MessageReference {
         id: name_of(id),
         attribute: None,
     }
 }
 
-/// A term, or its attribute where the name is not empty.
-pub fn term(
-    id: &'static str,
-    attribute: &'static str,
-    arguments: Option<CallArguments<'static>>,
-) -> Inline {
+/// A term without arguments, or its attribute where the name is not empty.
+pub fn bare_term<'s>(id: &'s str, attribute: &'s str) -> Inline<'s> {
     InlineExpression::TermReference {
         id: name_of(id),
         attribute: attribute_of(attribute),
-        arguments,
+        arguments: None,
     }
 }
 
-pub fn function(id: &'static str, arguments: CallArguments<'static>) -> Inline {
+/// A term, or its attribute where the name is not empty.
+pub fn term<'s>(id: &'s str, attribute: &'s str, arguments: CallArguments<'s>) -> Inline<'s> {
+    InlineExpression::TermReference {
+        id: name_of(id),
+        attribute: attribute_of(attribute),
+        arguments: Some(arguments),
+    }
+}
+
+pub fn function<'s>(id: &'s str, arguments: CallArguments<'s>) -> Inline<'s> {
     InlineExpression::FunctionReference {
         id: name_of(id),
         arguments,
     }
 }
 
-pub fn nested(alloc: Global, expression: Expression<'static>) -> Result<Inline, AllocError> {
+pub fn nested<'s>(alloc: Global, expression: Expression<'s>) -> Result<Inline<'s>, AllocError> {
     Ok(InlineExpression::Placeable {
         expression: Box::new(alloc, expression)?,
     })
 }
 
 /// An expression in so many brackets.
-pub fn in_brackets(alloc: Global, inline: Inline, count: usize) -> Result<Inline, AllocError> {
+pub fn in_brackets<'s>(
+    alloc: Global,
+    inline: Inline<'s>,
+    count: usize,
+) -> Result<Inline<'s>, AllocError> {
     let mut inline = inline;
     for _ in 0..count {
         inline = nested(alloc, Expression::Inline(inline))?;
@@ -106,31 +115,28 @@ pub fn in_brackets(alloc: Global, inline: Inline, count: usize) -> Result<Inline
 
 // ---- arguments
 
-pub fn named(name: &'static str, value: Inline) -> NamedArgument<'static> {
+pub fn named<'s>(name: &'s str, value: Inline<'s>) -> NamedArgument<'s> {
     NamedArgument {
         name: name_of(name),
         value,
     }
 }
 
-pub fn asked(
-    positional: Vec<Inline>,
-    named: Vec<NamedArgument<'static>>,
-) -> CallArguments<'static> {
+pub fn asked<'s>(positional: Vec<Inline<'s>>, named: Vec<NamedArgument<'s>>) -> CallArguments<'s> {
     CallArguments { positional, named }
 }
 
 /// One positional argument.
-pub fn only(alloc: Global, inline: Inline) -> Result<CallArguments<'static>, AllocError> {
+pub fn only<'s>(alloc: Global, inline: Inline<'s>) -> Result<CallArguments<'s>, AllocError> {
     Ok(asked(vec![in alloc; inline]?, Vec::new(alloc)))
 }
 
 /// One named argument.
-pub fn only_named(
+pub fn only_named<'s>(
     alloc: Global,
-    name: &'static str,
-    value: Inline,
-) -> Result<CallArguments<'static>, AllocError> {
+    name: &'s str,
+    value: Inline<'s>,
+) -> Result<CallArguments<'s>, AllocError> {
     Ok(asked(Vec::new(alloc), vec![in alloc; named(name, value)]?))
 }
 
@@ -138,13 +144,13 @@ pub fn only_named(
 
 /// A variant with a name or a number as its key, and a text.
 #[derive(Clone, Copy, Drop)]
-pub struct Case {
-    pub key: VariantKey<'static>,
-    pub text: &'static str,
+pub struct Case<'s> {
+    pub key: VariantKey<'s>,
+    pub text: &'s str,
     pub default: bool,
 }
 
-pub fn case_of(name: &'static str, text: &'static str) -> Case {
+pub fn case_of<'s>(name: &'s str, text: &'s str) -> Case<'s> {
     Case {
         key: VariantKey::Identifier { name },
         text,
@@ -152,7 +158,7 @@ pub fn case_of(name: &'static str, text: &'static str) -> Case {
     }
 }
 
-pub fn case_number(value: &'static str, text: &'static str) -> Case {
+pub fn case_number<'s>(value: &'s str, text: &'s str) -> Case<'s> {
     Case {
         key: VariantKey::NumberLiteral { value },
         text,
@@ -160,7 +166,7 @@ pub fn case_number(value: &'static str, text: &'static str) -> Case {
     }
 }
 
-pub fn default(name: &'static str, text: &'static str) -> Case {
+pub fn default<'s>(name: &'s str, text: &'s str) -> Case<'s> {
     Case {
         key: VariantKey::Identifier { name },
         text,
@@ -168,7 +174,7 @@ pub fn default(name: &'static str, text: &'static str) -> Case {
     }
 }
 
-fn variant_of(alloc: Global, case: Case) -> Result<Variant<'static>, AllocError> {
+fn variant_of<'s>(alloc: Global, case: Case<'s>) -> Result<Variant<'s>, AllocError> {
     Ok(Variant {
         key: case.key,
         value: Pattern {
@@ -178,11 +184,11 @@ fn variant_of(alloc: Global, case: Case) -> Result<Variant<'static>, AllocError>
     })
 }
 
-pub fn select(
+pub fn select<'s>(
     alloc: Global,
-    selector: Inline,
-    cases: &[Case],
-) -> Result<Expression<'static>, AllocError> {
+    selector: Inline<'s>,
+    cases: &[Case<'s>],
+) -> Result<Expression<'s>, AllocError> {
     let mut variants = Vec::new(alloc);
     for case in cases {
         variants.push(variant_of(alloc, *case)?)?;
@@ -191,7 +197,7 @@ pub fn select(
 }
 
 /// A pattern of one select.
-pub fn choice(alloc: Global, selector: Inline, cases: &[Case]) -> Tree {
+pub fn choice<'s>(alloc: Global, selector: Inline<'s>, cases: &[Case<'s>]) -> Tree<'s> {
     let expression = select(alloc, selector, cases)?;
     Ok(Pattern {
         elements: vec![in alloc; PatternElement::Placeable { expression }]?,
