@@ -4,7 +4,10 @@ use Rattle.std.specs.Option.{option_map}
 use Rattle.std.specs.Io.KnownBytes.{Appends}
 use Rattle.std.specs.Prelude.{◌≤◌}
 use Rattle.fluent_tree.specs.Tree.{Text, Pattern}
+use Rattle.fluent_text.specs.Taken.{Faulted}
 use Rattle.fluent_text.specs.declared.counting.WriteFault.{WriteFault}
+use Rattle.fluent_text.specs.declared.counting.WriteFault.TheVariants as fault
+use Rattle.fluent_values.specs.declared.resolver.output.Halt.{Halt}
 use Rattle.fluent_meaning.specs.Errors.{Error}
 use Rattle.fluent_meaning.specs.Value.{Value}
 use Rattle.fluent_meaning.specs.Arguments.{Map}
@@ -12,37 +15,36 @@ use Rattle.fluent_meaning.specs.Bundle.{Bundle}
 use Rattle.fluent_meaning.specs.Meaning.{Ran, left}
 use Rattle.fluent_meaning.specs.Walk.{Environment, application, whole}
 use Rattle.fluent_meaning.specs.Work.{with_work, work}
+use Rattle.fluent_meaning.specs.Laws.{CallsByThemselves}
 use Rattle.fluent_meaning.specs.Result.{written_pattern, substituted_pattern}
 use Rattle.fluent_bundle.specs.Formatted.{AddsAll, WritesAll, Writes}
 use Rattle.fluent_values.specs.Status.{Status, on_path, reported, with_errors}
 use Rattle.fluent_values.specs.Along.{Walk, Wrote, from_here, given}
 use Rattle.fluent_bundle.specs.Limits.{KeepsLimit}
-use Rattle.fluent_values.specs.Written.{Sink, writer, at}
+use Rattle.fluent_values.specs.Written.{Sink, Took, CountsTell, without_error, writer, at}
 use Rattle.fluent_values.specs.declared.errors.FluentError.{FluentError}
 use Rattle.fluent_text.specs.declared.counting.Counting.{Counting}
-use Rattle.fluent_values.proofs.CasesRan.{written_pattern_is}
-use Rattle.fluent_values.proofs.Outputs.{still}
 
 -- a walk over a whole pattern
 abbrev pub pattern_walk : Pattern → Walk Text
 pattern_walk p = λ b below env path. whole with_work b below env path p
 
 -- the same, from the state in which a call begins
-pub fresh : (a : Status) (b : Bundle Text) (args : Map (Value Text)) (p : Pattern) → a.bundle ≡ b → a.environment ≡ application args → a.path ≡ [] → a.budget ≡ left b.limit
+pub fresh : CallsByThemselves Text → (a : Status) (b : Bundle Text) (args : Map (Value Text)) (p : Pattern) → a.bundle ≡ b → a.environment ≡ application args → a.path ≡ [] → a.budget ≡ left b.limit
     → (from_here a (pattern_walk p)).ran ≡ written_pattern b args p
-fresh a b args p h j k l =
+fresh law a b args p h j k l =
     ap (λ c. (whole with_work c (work c) a.environment (on_path a.path) p a.budget).ran) h
     ∙ ap (λ env. (whole with_work b (work b) env (on_path a.path) p a.budget).ran) j
     ∙ ap (λ path. (whole with_work b (work b) (application args) (on_path path) p a.budget).ran) k
     ∙ ap (λ budget. (whole with_work b (work b) (application args) [] p budget).ran) l
-    ∙ sym (written_pattern_is b args p)
+    ∙ sym (law.pattern b args p)
 
 -- what stands in a list after these were added
 listed : (list list' : List FluentError) (added : List Error) (s s' : Status) → s'.errors ≡ with_errors s.errors added → s.errors ≡ Some (reported list) → s'.errors ≡ Some (reported list') → reported list' ≡ reported list ++ added
 listed list list' added s s' h before after' = cc (sym after' ∙ h ∙ ap (λ l. with_errors l added) before)
 
 -- what a walk wrote and added
-pub writes_of : {T : Type 0} {r : Result T WriteFault} {walk : Walk Text} {w w' : Sink} {a b : Status} {all : Ran Text} {list list' : List FluentError}
+pub writes_of : {T : Type 0} {r : Result T Halt} {walk : Walk Text} {w w' : Sink} {a b : Status} {all : Ran Text} {list list' : List FluentError}
     → Wrote r walk w w' a b → (from_here a walk).ran ≡ all → a.errors ≡ Some (reported list) → b.errors ≡ Some (reported list') → Writes r all w w' list list'
 writes_of {r = r} {w = w} {w' = w'} {a = a} {b = b} {all = all} {list = list} {list' = list'} h e before after' =
     let way = h.went.along in
@@ -63,7 +65,7 @@ writes_of {r = r} {w = w} {w' = w'} {a = a} {b = b} {all = all} {list = list} {l
       lent = way.lent;
     }
   where
-    by_case : {S : Type 0} (q : Result S WriteFault) → OnOk q (h.went.left ≡ given [] b.budget) → OnOk q (WritesAll all.value all.errors w.held w'.held list list')
+    by_case : {S : Type 0} (q : Result S Halt) → OnOk q (h.went.left ≡ given [] b.budget) → OnOk q (WritesAll all.value all.errors w.held w'.held list list')
     by_case (Ok x) nothing_left =
         let way = h.went.along in
         let text : way.taken ≡ all.value = sym (append-nil way.taken) ∙ ap (λ l. way.taken ++ l.ran.value) (sym nothing_left) ∙ way.text ∙ ap (λ x. x.value) e in
@@ -74,35 +76,70 @@ writes_of {r = r} {w = w} {w' = w'} {a = a} {b = b} {all = all} {list = list} {l
         }
     by_case (Err x) tt = tt
 
+-- what a text that is the whole of it wrote
+pub writes_text : {T : Type 0} {r : Result T Halt} {t : Text} {w w' : Sink} (all : Ran Text) (list : List FluentError) → all.value ≡ t → all.errors ≡ [] → Took r t w w' → Writes r all w w' list list
+writes_text {r = r} {t = t} {w = w} {w' = w'} all list is bare k =
+    let none_added : AddsAll [] list list = record { added = sym (append-nil (reported list)) } in
+    record {
+      all = by_case r k.done;
+      front = record {
+        front = k.taken;
+        rest = k.left;
+        whole = k.begins ∙ sym is;
+        taken = k.held;
+        adds = record { front = []; rest = all.errors; whole = refl; adds = none_added };
+      };
+      fault = k.fault;
+      beside = k.beside;
+      lent = k.lent;
+    }
+  where
+    by_case : {S : Type 0} (q : Result S Halt) → OnOk q (k.left ≡ []) → OnOk q (WritesAll all.value all.errors w.held w'.held list list)
+    by_case (Ok x) nothing_left =
+        let text : k.taken ≡ all.value = sym (append-nil k.taken) ∙ ap (λ l. k.taken ++ l) (sym nothing_left) ∙ k.begins ∙ sym is in
+        record {
+          taken = subst (Appends w.held w'.held) text k.held;
+          adds = record { added = sym (append-nil (reported list)) ∙ ap (λ es. reported list ++ es) (sym bare) };
+        }
+    by_case (Err x) tt = tt
+
 -- the same by substitution, within the limit
-pub substituted_of : {T : Type 0} (r : Result T WriteFault) (held held' : Option Text) (list list' : List FluentError) (b : Bundle Text) (args : Map (Value Text)) (p : Pattern) → KeepsLimit b args p
+pub substituted_of : {T E : Type 0} (r : Result T E) (held held' : Option Text) (list list' : List FluentError) (b : Bundle Text) (args : Map (Value Text)) (p : Pattern) → KeepsLimit b args p
     → OnOk r (WritesAll (written_pattern b args p).value (written_pattern b args p).errors held held' list list') → (substituted_pattern b args p).opened ≤ b.limit → OnOk r (WritesAll (substituted_pattern b args p).value (substituted_pattern b args p).errors held held' list list')
 substituted_of r held held' list list' b args p keeps h few = subst (λ m. OnOk r (WritesAll m.value m.errors held held' list list')) (keeps.within few) h
 
-abbrev To : {W T : Type 0} → Result T WriteFault → Ran Text → List FluentError → List FluentError → (W → Option Text) → ℕ → ℕ → ℕ → ℕ → Counting W → Counting W → String Global → String Global → Bool → Type 0
+-- which of writer and buffer takes texts is part of what stands
+which : {W : Type 0} (contents : W → Option Text) (n k : ℕ) (w : Counting W) (s : String Global) (b : Bool) → (at contents n w k s b).lent.1.1 ≡ b
+which contents n k w s true = refl
+which contents n k w s false = refl
+
+still : {W : Type 0} (contents : W → Option Text) (n n' k k' : ℕ) (w w' : Counting W) (s s' : String Global) (b b' : Bool) → (at contents n' w' k' s' b').lent ≡ (at contents n w k s b).lent → b' ≡ b
+still contents n n' k k' w w' s s' b b' same = sym (which contents n' k' w' s' b') ∙ ap (λ l. l.1.1) same ∙ which contents n k w s b
+
+abbrev To : {W T : Type 0} → Result T Halt → Ran Text → List FluentError → List FluentError → (W → Option Text) → ℕ → ℕ → ℕ → ℕ → Counting W → Counting W → String Global → String Global → Bool → Type 0
 To r m list list' contents n n' k k' w w' s s' b = Writes r m (at contents n w k s false) (at contents n' w' k' s' b) list list'
 
-by_itself : {W T : Type 0} {r : Result T WriteFault} {m : Ran Text} {list list' : List FluentError} (contents : W → Option Text) (n n' k k' : ℕ) (w w' : Counting W) (s s' : String Global) → To r m list list' contents n n' k k' w w' s s' false → Writes r m (writer contents w) (writer contents w') list list'
+by_itself : {W T : Type 0} {r : Result T Halt} {m : Ran Text} {list list' : List FluentError} (contents : W → Option Text) (n n' k k' : ℕ) (w w' : Counting W) (s s' : String Global) → To r m list list' contents n n' k k' w w' s s' false → Writes r m (writer contents w) (writer contents w') list list'
 by_itself contents n n' k k' w w' s s' h = record { all = h.all; front = h.front; fault = h.fault; beside = refl; lent = refl }
 
 -- what an output without a buffer wrote, its writer took
-pub written_by : {W T : Type 0} {r : Result T WriteFault} {m : Ran Text} {list list' : List FluentError} (contents : W → Option Text) (n n' k k' : ℕ) (w w' w'' : Counting W) (s s' : String Global) (b : Bool) → w'' ≡ w' → To r m list list' contents n n' k k' w w' s s' b → Writes r m (writer contents w) (writer contents w'') list list'
+pub written_by : {W T : Type 0} {r : Result T Halt} {m : Ran Text} {list list' : List FluentError} (contents : W → Option Text) (n n' k k' : ℕ) (w w' w'' : Counting W) (s s' : String Global) (b : Bool) → w'' ≡ w' → To r m list list' contents n n' k k' w w' s s' b → Writes r m (writer contents w) (writer contents w'') list list'
 written_by {r = r} {m = m} {list = list} {list' = list'} contents n n' k k' w w' w'' s s' b same h =
     subst (λ v. Writes r m (writer contents w) (writer contents v) list list') (sym same)
     (by_itself contents n n' k k' w w' s s' (subst (To r m list list' contents n n' k k' w w' s s') (still contents n n' k k' w w' s s' false b h.lent) h))
 
 -- what an output with a buffer wrote, its buffer took
-abbrev Into : {W T : Type 0} → Result T WriteFault → Ran Text → List FluentError → List FluentError → (W → Option Text) → ℕ → ℕ → ℕ → ℕ → Counting W → Counting W → String Global → String Global → Bool → Type 0
+abbrev Into : {W T : Type 0} → Result T Halt → Ran Text → List FluentError → List FluentError → (W → Option Text) → ℕ → ℕ → ℕ → ℕ → Counting W → Counting W → String Global → String Global → Bool → Type 0
 Into r m list list' contents n n' k k' w w' s s' b = Writes r m (at contents n w k s true) (at contents n' w' k' s' b) list list'
 
-took_in : {W T : Type 0} {r : Result T WriteFault} {m : Ran Text} {list list' : List FluentError} (contents : W → Option Text) (n n' k k' : ℕ) (w w' : Counting W) (s s' : String Global) → Into r m list list' contents n n' k k' w w' s s' true → OnOk r (string_bytes s' ≡ string_bytes s ++ m.value)
+took_in : {W T : Type 0} {r : Result T Halt} {m : Ran Text} {list list' : List FluentError} (contents : W → Option Text) (n n' k k' : ℕ) (w w' : Counting W) (s s' : String Global) → Into r m list list' contents n n' k k' w w' s s' true → OnOk r (string_bytes s' ≡ string_bytes s ++ m.value)
 took_in {r = Ok x} contents n n' k k' w w' s s' h = h.all.taken
 took_in {r = Err e} contents n n' k k' w w' s s' h = tt
 
-pub gathered : {W T : Type 0} {r : Result T WriteFault} {m : Ran Text} {list list' : List FluentError} (contents : W → Option Text) (n n' k k' : ℕ) (w w' : Counting W) (s s' : String Global) (b : Bool) → Into r m list list' contents n n' k k' w w' s s' b → OnOk r (string_bytes s' ≡ string_bytes s ++ m.value)
+pub gathered : {W T : Type 0} {r : Result T Halt} {m : Ran Text} {list list' : List FluentError} (contents : W → Option Text) (n n' k k' : ℕ) (w w' : Counting W) (s s' : String Global) (b : Bool) → Into r m list list' contents n n' k k' w w' s s' b → OnOk r (string_bytes s' ≡ string_bytes s ++ m.value)
 gathered {r = r} {m = m} {list = list} {list' = list'} contents n n' k k' w w' s s' b h = took_in contents n n' k k' w w' s s' (subst (Into r m list list' contents n n' k k' w w' s s') (still contents n n' k k' w w' s s' true b h.lent) h)
 
-pub adds_all : {T : Type 0} {r : Result T WriteFault} {m : Ran Text} {w w' : Sink} {list list' : List FluentError} → Writes r m w w' list list' → OnOk r (AddsAll m.errors list list')
+pub adds_all : {T : Type 0} {r : Result T Halt} {m : Ran Text} {w w' : Sink} {list list' : List FluentError} → Writes r m w w' list list' → OnOk r (AddsAll m.errors list list')
 adds_all {r = Ok x} h = h.all.adds
 adds_all {r = Err e} h = tt
 
@@ -110,3 +147,15 @@ adds_all {r = Err e} h = tt
 pub never_none : {A B : Type 0} (f : A → B) (o : Option A) (y : B) → o ≡ None → option_map f o ≡ Some y → ⊥
 never_none f None y h k = cc
 never_none f (Some x) y h k = cc
+
+-- an answer without the writer's own error is Ok where the answer is
+pub ok_as : {T : Type 0} (P : Type 0) (r : Result T WriteFault) {q : Result T Halt} → without_error r ≡ q → OnOk q P → OnOk r P
+ok_as P (Ok x) is h = subst (λ q. OnOk q P) (sym is) h
+ok_as P (Err e) is h = tt
+
+-- and the counts tell as much
+pub faulted_as : {T : Type 0} (f e f' e' : ℕ) (r : Result T WriteFault) {q : Result T Halt} → without_error r ≡ q → CountsTell f e f' e' q → Faulted f e f' e' r
+faulted_as f e f' e' (Ok x) is h = subst (CountsTell f e f' e') (sym is) h
+faulted_as f e f' e' (Err (fault.Writer x)) is h = subst (CountsTell f e f' e') (sym is) h
+faulted_as f e f' e' (Err fault.Zero) is h = subst (CountsTell f e f' e') (sym is) h
+faulted_as f e f' e' (Err fault.Memory) is h = subst (CountsTell f e f' e') (sym is) h

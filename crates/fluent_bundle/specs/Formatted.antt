@@ -4,13 +4,12 @@ use Rattle.std.specs.Cow.{cow_str_bytes}
 use Rattle.std.specs.declared.borrow.CowStr.{CowStr}
 use Rattle.std.proofs.Common.{Global}
 use Rattle.std.specs.Io.KnownBytes.{Appends}
-use Rattle.fluent_text.specs.Taken.{Faulted}
 use Rattle.fluent_tree.specs.Tree.{Text}
-use Rattle.fluent_text.specs.declared.counting.WriteFault.{WriteFault}
 use Rattle.fluent_meaning.specs.Errors.{Error}
 use Rattle.fluent_meaning.specs.Meaning.{Ran}
 use Rattle.fluent_values.specs.Status.{reported}
-use Rattle.fluent_values.specs.Written.{Sink}
+use Rattle.fluent_values.specs.Written.{Sink, CountsTell}
+use Rattle.fluent_values.specs.declared.resolver.output.Halt.{Halt}
 use Rattle.fluent_values.specs.declared.errors.FluentError.{FluentError}
 
 -- The list of errors has these after those that stood in it.
@@ -38,10 +37,10 @@ pub record WritesFront (text : Text) (errors : List Error) (held held' : Option 
   pub adds : AddsFront errors list list'
 
 -- What a pattern means was written, or a beginning of it where the answer is no Ok.
-pub record Writes {T : Type 0} (result : Result T WriteFault) (meant : Ran Text) (w w' : Sink) (list list' : List FluentError) : Type 0 where
+pub record Writes {T : Type 0} (result : Result T Halt) (meant : Ran Text) (w w' : Sink) (list list' : List FluentError) : Type 0 where
   pub all : OnOk result (WritesAll meant.value meant.errors w.held w'.held list list')
   pub front : WritesFront meant.value meant.errors w.held w'.held list list'
-  pub fault : Faulted w.failed w.empty w'.failed w'.empty result
+  pub fault : CountsTell w.failed w.empty w'.failed w'.empty result
   pub beside : w'.beside ≡ w.beside
   pub lent : w'.lent ≡ w.lent
 

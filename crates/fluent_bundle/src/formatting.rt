@@ -9,22 +9,28 @@ ghost use Rattle.fluent_bundle.specs.Formatted.{AddsAll, AddsFront, Writes};
 ghost use Rattle.fluent_bundle.specs.Formatting.{WritesWithin, WritesWhole, WritesBeginning, GivesWithin, GivesWhole, AddsBeginning};
 ghost use Rattle.fluent_bundle.specs.Limits.{KeepsLimit};
 ghost use Rattle.fluent_values.specs.Status.{arguments_view};
-ghost use Rattle.fluent_values.specs.Texts.{sole_text, IsText};
-ghost use Rattle.fluent_values.specs.Written.{sink};
+ghost use Rattle.fluent_values.specs.Texts.{sole_text, is_text, IsText};
+ghost use Rattle.fluent_values.specs.Written.{sink, CountsTell};
 
 use crate::bundle::FluentBundle;
 use crate::laws;
 use crate::resolver::answers::formatted;
 use fluent_intl::MemoizerKind;
+use fluent_meaning::laws::calls_pass_through;
 use fluent_syntax::ast::{Pattern, PatternElement};
 use fluent_syntax::{Counting, WriteFault};
-use fluent_values::resolver::output::Output;
+use fluent_values::resolver::output::{Halt, Output, with_error};
+use fluent_values::resolver::texts::{is_text, put_texts};
 use fluent_values::resolver::{Context, Place, Scope, write_pattern};
 use fluent_values::types::{FluentType, FluentValue};
 use fluent_values::{FluentArgs, FluentError, FluentFormatter, FluentFunction, Transform};
 use std::alloc::AllocError;
 use std::borrow::CowStr;
+use std::collections::LinkedList;
 use std::io::Write;
+
+/// How many bytes are kept ready for a text that is answered: most are no longer, so most take memory once.
+const ROOM: usize = 64;
 
 impl<
     'r,
@@ -88,8 +94,10 @@ impl<
             writer: w,
             buffer: &mut unused,
             is_buffered: false,
+            error: None,
         };
-        self.write_out(&mut out, pattern, args, errors)
+        let written = self.write_out(&mut out, pattern, args, errors);
+        with_error(written, out.error)
     }
 
     /// The text of a pattern, as [`FluentBundle::write_pattern`] writes it, and then as the formatter shows it as a
@@ -144,6 +152,13 @@ impl<
         }
     }
 
+    /// Whether the text of a pattern is its own: it holds nothing else, and no transform is set.
+    fn writes_texts_alone(&self, pattern: &Pattern<'_>) -> bool
+        ensures { result ≡ (not (is_some self.now.transform) && is_text (pattern_view pattern.now)) }
+    {
+        self.transform.is_none() && is_text(pattern)
+    }
+
     /// The formatter's answer for a whole text.
     fn formatted_text(&self, text: &str) -> Result<Option<String>, AllocError>
         ensures { let of = ⟦<Self as Context<C>>⟧.meant in
@@ -160,14 +175,18 @@ impl<
         pattern: &Pattern<'s>,
         args: Option<&FluentArgs<'_, C>>,
         errors: &mut Vec<FluentError>,
-    ) -> Result<(), WriteFault>
+    ) -> Result<(), Halt>
         ensures writes { let of = ⟦<Self as Context<C>>⟧.meant in
             let args = arguments_view C.content args.entry in
             Writes result (written_pattern (of self.now) args (pattern_view pattern.now))
             (sink W.contents out.old) (sink W.contents out.new)
             errors.old.items errors.new.items }
-        ensures memory { IsText (pattern_view pattern.now) → self.now.transform ≡ None → out.old.is_buffered ≡ false → result ≢ Err WriteFault.Memory }
+        ensures memory { IsText (pattern_view pattern.now) → self.now.transform ≡ None → out.old.is_buffered ≡ false → result ≢ Err Halt.Memory }
     {
+        if self.writes_texts_alone(pattern) {
+            return put_texts(out, pattern);
+        }
+        calls_pass_through::<LinkedList<u8>>();
         let mut scope = Scope::new(self, &self.entries, args, Some(errors));
         let written = write_pattern(&mut scope, out, pattern, Place);
         match scope.into_errors() {
@@ -195,7 +214,7 @@ impl<
             AddsFront (written_pattern (of self.now) args (pattern_view pattern.now)).errors
             errors.old.items errors.new.items }
     {
-        let mut text = String::new(self.alloc);
+        let mut text = String::with_capacity(self.alloc, ROOM)?;
         let mut unused = Counting::new(Vec::new(self.alloc));
         match self.write_into(&mut text, &mut unused, pattern, args, errors) {
             Ok(()) => Ok(text),
@@ -211,7 +230,7 @@ impl<
         pattern: &Pattern<'s>,
         args: Option<&FluentArgs<'_, C>>,
         errors: &mut Vec<FluentError>,
-    ) -> Result<(), WriteFault>
+    ) -> Result<(), Halt>
         ensures text { let of = ⟦<Self as Context<C>>⟧.meant in
             let args = arguments_view C.content args.entry in
             OnOk result (string_bytes text.new
@@ -224,12 +243,13 @@ impl<
             let args = arguments_view C.content args.entry in
             AddsFront (written_pattern (of self.now) args (pattern_view pattern.now)).errors
             errors.old.items errors.new.items }
-        ensures fault { Faulted unused.old.failed unused.old.empty unused.new.failed unused.new.empty result }
+        ensures fault { CountsTell unused.old.failed unused.old.empty unused.new.failed unused.new.empty result }
     {
         let mut out = Output {
             writer: unused,
             buffer: text,
             is_buffered: true,
+            error: None,
         };
         self.write_out(&mut out, pattern, args, errors)
     }

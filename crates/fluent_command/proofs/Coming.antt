@@ -1,5 +1,5 @@
 -- How a run ends, from what its calls answered.
-use Rattle.std.proofs.Common.{if◌then◌else◌, ◌≡◌, ◌≢◌, ◌∙◌, sym, ap, subst, refl, ℕ, Bool, true, false, List, [], ◌++◌, append-nil, inl, inr, Option, Some, None, Result, Ok, Err}
+use Rattle.std.proofs.Common.{if◌then◌else◌, ◌≡◌, ◌≢◌, ◌∙◌, sym, ap, subst, refl, ℕ, Bool, true, false, List, [], ◌++◌, ◌⊎◌, append-nil, inl, inr, Option, Some, None, Result, Ok, Err}
 use Rattle.std.specs.Result.{OnOk}
 use Rattle.std.specs.Str.{IsUtf8, is_utf8}
 use Rattle.std.specs.Io.KnownBytes.{Appends}
@@ -13,15 +13,20 @@ use Rattle.fluent_text.specs.declared.counting.WriteFault.{WriteFault}
 use Rattle.fluent_text.specs.declared.counting.WriteFault.TheVariants.{Memory, Writer, Zero}
 use Rattle.fluent_meaning.specs.Errors.{Error}
 use Rattle.fluent_values.specs.declared.errors.FluentError.{FluentError}
+use Rattle.fluent_meaning.specs.Value.{Plurals}
+use Rattle.fluent_intl.specs.declared.rule_texts.fault.RuleFault.{RuleFault}
+use Rattle.fluent_intl.specs.declared.rule_texts.fault.RuleFault.TheVariants as rule_fault
+use Rattle.fluent_chain.specs.Chain.{value_at}
 use Rattle.fluent_command.specs.Words.{Asked, asked_by}
-use Rattle.fluent_command.specs.Ending.{Ending, shown, no_message, bad_usage, not_utf8, out_of_memory, reading_failed, writing_failed}
-use Rattle.fluent_command.specs.EndingView.{reported, ending_of}
+use Rattle.fluent_command.specs.Plurals.{plurals_asked, HasBadRule}
+use Rattle.fluent_command.specs.Ending.{Ending, shown, no_message, bad_usage, bad_rule, not_utf8, out_of_memory, reading_failed, writing_failed}
+use Rattle.fluent_command.specs.EndingView.{reported, ending_of, ending_of_rules}
 use Rattle.fluent_command.specs.Input.{ReadFor}
-use Rattle.fluent_command.specs.Program.{Run, only, bundle_of, value_at, run_value, run_source, run_input, run_asked, run_of}
+use Rattle.fluent_command.specs.Program.{Run, only, bundle_of, run_value, run_sources, run_source, run_input, run_by, run_asked, run_of, source_errors, errors_by, errors_asked}
 use Rattle.fluent_command.specs.Far.{Added, AddedFirst, Took}
 use Rattle.fluent_command.specs.Outlet.{Outlet, Takes}
 use Rattle.fluent_command.specs.Outcome.{AreLeft, Ends, as_defined, by_reading, by_writing, by_memory}
-use Rattle.fluent_command.specs.declared.input.InputState.TheVariants.{AtEnd}
+use Rattle.fluent_command.specs.declared.input.InputState.TheVariants.{Open, AtEnd}
 use Rattle.fluent_command.specs.declared.input.Reads.{Reads}
 
 -- a writer that was left alone
@@ -81,13 +86,13 @@ pub ends_of : (run run' : Run) (first first' : List Error) (out out' : Outlet) (
     → Ends run first out out' ending errors → Ends run' first' out out' ending errors
 ends_of run run' first first' out out' ending errors is same h = subst (λ r. Ends r first' out out' ending errors) is (subst (λ es. Ends run es out out' ending errors) same h)
 
-pub of_text : (asked : Asked) (bytes source : List ℕ) → IsUtf8 bytes → source ≡ bytes → run_source asked source ≡ run_input asked bytes
-of_text asked bytes source utf8 same = rw (is_utf8-from_IsUtf8 bytes utf8) (ap (run_source asked) same)
+pub of_text : (asked : Asked) (plurals : Plurals) (bytes source : List ℕ) → IsUtf8 bytes → source ≡ bytes → run_source asked plurals source ≡ run_input asked plurals bytes
+of_text asked plurals bytes source utf8 same = rw (is_utf8-from_IsUtf8 bytes utf8) (ap (run_source asked plurals) same)
 
-pub of_no_text : (asked : Asked) (bytes : List ℕ) → ¬ (IsUtf8 bytes) → run_input asked bytes ≡ only not_utf8
-of_no_text asked bytes not_text = cases (is_utf8 bytes) refl
+pub of_no_text : (asked : Asked) (plurals : Plurals) (bytes : List ℕ) → ¬ (IsUtf8 bytes) → run_input asked plurals bytes ≡ only not_utf8
+of_no_text asked plurals bytes not_text = cases (is_utf8 bytes) refl
   where
-    cases : (b : Bool) → is_utf8 bytes ≡ b → run_input asked bytes ≡ only not_utf8
+    cases : (b : Bool) → is_utf8 bytes ≡ b → run_input asked plurals bytes ≡ only not_utf8
     cases true e = absurd (not_text (IsUtf8-from_is_utf8 bytes e))
     cases false e = rw e refl
 
@@ -101,29 +106,91 @@ pub read_for : {R : Type 0} (ending : Ending) (input : Reads R) → ending ≢ r
 read_for shown input not is = is
 read_for (no_message id) input not is = is
 read_for bad_usage input not is = tt
+read_for bad_rule input not is = tt
 read_for not_utf8 input not is = is
 read_for out_of_memory input not is = λ failed. cc
 read_for reading_failed input not is = absurd (not refl)
 read_for writing_failed input not is = is
 
--- ---- a run whose words ask for something ends in another way than by a fault of usage
+-- ---- which run reads nothing
 
-no_usage_of_value : (asked : Asked) (bundle : Bundle Text) (value : Option Pattern) → (run_value asked bundle value).ending ≢ bad_usage
-no_usage_of_value asked bundle None = λ e. cc
-no_usage_of_value asked bundle (Some pattern) = λ e. cc
+-- any that ends otherwise
+abbrev IsOfInput : Ending → Type 0
+IsOfInput ending = (ending ≢ bad_usage) × (ending ≢ bad_rule)
 
-no_usage : (asked : Asked) (bytes : List ℕ) → (run_input asked bytes).ending ≢ bad_usage
-no_usage asked bytes = cases (is_utf8 bytes)
+of_value : (asked : Asked) (bundle : Bundle Text) (value : Option Pattern) → IsOfInput (run_value asked bundle value).ending
+of_value asked bundle None = (λ e. cc, λ e. cc)
+of_value asked bundle (Some pattern) = (λ e. cc, λ e. cc)
+
+of_sources : (asked : Asked) (plurals : Plurals) (source : Text) (fallback : Option Text) → IsOfInput (run_sources asked plurals source fallback).ending
+of_sources asked plurals source None =
+    let bundle = bundle_of plurals asked.options.isolate (entries source) in
+    of_value asked bundle (value_at asked.id bundle)
+of_sources asked plurals source (Some fallback) = (λ e. cc, λ e. cc)
+
+of_input : (asked : Asked) (plurals : Plurals) (bytes : List ℕ) → IsOfInput (run_input asked plurals bytes).ending
+of_input asked plurals bytes = cases (is_utf8 bytes)
   where
-    cases : (b : Bool) → (if b then run_source asked bytes else only not_utf8).ending ≢ bad_usage
-    cases true =
-        let bundle = bundle_of asked.isolate (entries bytes) in
-        no_usage_of_value asked bundle (value_at asked.id bundle)
-    cases false = λ e. cc
+    cases : (b : Bool) → IsOfInput (if b then run_source asked plurals bytes else only not_utf8).ending
+    cases true = of_sources asked plurals bytes asked.options.fallback
+    cases false = (λ e. cc, λ e. cc)
 
 pub none_asked : (words : List Text) (bytes : List ℕ) → (run_of words bytes).ending ≡ bad_usage → asked_by words ≡ None
 none_asked words bytes = cases (asked_by words)
   where
+    never : (asked : Asked) (plurals : Option Plurals) → (run_by asked plurals bytes).ending ≢ bad_usage
+    never asked None = λ e. cc
+    never asked (Some plurals) = (of_input asked plurals bytes).0
+
     cases : (a : Option Asked) → (run_asked a bytes).ending ≡ bad_usage → a ≡ None
     cases None e = refl
-    cases (Some asked) e = absurd (no_usage asked bytes e)
+    cases (Some asked) e = absurd (never asked (plurals_asked asked.options) e)
+
+pub rule_asked : (words : List Text) (bytes : List ℕ) → (run_of words bytes).ending ≡ bad_rule → HasBadRule (asked_by words)
+rule_asked words bytes = cases (asked_by words)
+  where
+    none : (asked : Asked) (plurals : Option Plurals) → (run_by asked plurals bytes).ending ≡ bad_rule → plurals ≡ None
+    none asked None e = refl
+    none asked (Some plurals) e = absurd ((of_input asked plurals bytes).1 e)
+
+    cases : (a : Option Asked) → (run_asked a bytes).ending ≡ bad_rule → HasBadRule a
+    cases None e = cc
+    cases (Some asked) e = none asked (plurals_asked asked.options) e
+
+-- ---- by what the words ask for
+
+pub by_asked : (words : List Text) (a : Option Asked) (bytes : List ℕ) → a ≡ asked_by words → run_asked a bytes ≡ run_of words bytes
+by_asked words a bytes is = ap (λ x. run_asked x bytes) is
+
+-- plural rules that were read
+pub by_rules : (asked : Asked) (plurals : Plurals) (bytes : List ℕ) → plurals_asked asked.options ≡ Some plurals → run_input asked plurals bytes ≡ run_asked (Some asked) bytes
+by_rules asked plurals bytes read = sym (ap (λ p. run_by asked p bytes) read)
+
+pub errors_by_rules : (asked : Asked) (plurals : Plurals) (bytes : List ℕ) → plurals_asked asked.options ≡ Some plurals → source_errors asked plurals bytes ≡ errors_asked (Some asked) bytes
+errors_by_rules asked plurals bytes read = sym (ap (λ p. errors_by asked p bytes) read)
+
+-- and such that were not, where memory was refused, or one is none
+pub ends_unruled : (asked : Asked) (fault : RuleFault) (first : List Error) (bytes : List ℕ) (ending : Ending) (out : Outlet) (errors : List FluentError) → errors ≡ []
+    → ending ≡ ending_of_rules fault → (fault ≢ rule_fault.Memory → plurals_asked asked.options ≡ None) → Ends (run_asked (Some asked) bytes) first out out ending (reported errors)
+ends_unruled asked (rule_fault.Syntax kind at) first bytes ending out errors none is bad =
+    subst (λ e. Ends (run_asked (Some asked) bytes) first out out e (reported errors)) (sym is)
+    (ends_only bad_rule (run_asked (Some asked) bytes) first out errors none (ap (λ p. run_by asked p bytes) (bad (λ e. cc))))
+ends_unruled asked rule_fault.Memory first bytes ending out errors none is bad =
+    subst (λ e. Ends (run_asked (Some asked) bytes) first out out e (reported errors)) (sym is)
+    (ends_no_memory (run_asked (Some asked) bytes) first out errors none)
+
+-- rules that were read are none that can't be
+pub never_bad : (asked : Asked) (a : Option Asked) (plurals : Plurals) → Some asked ≡ a → plurals_asked asked.options ≡ Some plurals → ¬ (HasBadRule a)
+never_bad asked a plurals is read bad =
+    let none : plurals_asked asked.options ≡ None = subst HasBadRule (sym is) bad in
+    cc
+
+-- an input of which nothing was read fits them
+pub read_for_rules : {R : Type 0} (fault : RuleFault) (ending : Ending) (input : Reads R) → ending ≡ ending_of_rules fault → input.state ≡ Open → ReadFor ending input
+read_for_rules (rule_fault.Syntax kind at) ending input is unread = subst (λ e. ReadFor e input) (sym is) tt
+read_for_rules rule_fault.Memory ending input is unread = subst (λ e. ReadFor e input) (sym is) (λ failed. cc)
+
+-- one of the two endings
+pub rule_or_memory : (fault : RuleFault) (ending : Ending) → ending ≡ ending_of_rules fault → (ending ≡ bad_rule) ⊎ (ending ≡ out_of_memory)
+rule_or_memory (rule_fault.Syntax kind at) ending is = inl is
+rule_or_memory rule_fault.Memory ending is = inr is

@@ -2,11 +2,11 @@
 use Rattle.std.proofs.Common.{◌≡◌, ◌∙◌, sym, ap, subst, refl, false, List, [], ◌++◌, append_assoc, append-nil, Option, Result, Ok, Err, is_ok}
 use Rattle.std.specs.Result.{OnOk, OnErr}
 use Rattle.std.specs.Io.KnownBytes.{Appends}
-use Rattle.std.proofs.KnownBytes.{Appends-trans}
+use Rattle.std.proofs.KnownBytes.{Appends-nil, Appends-trans}
 use Rattle.fluent_tree.specs.Tree.{Text}
 use Rattle.fluent_text.specs.Taken.{TookFront}
 use Rattle.fluent_meaning.specs.Errors.{Error}
-use Rattle.fluent_bundle.specs.Formatted.{WritesAll, WritesFront}
+use Rattle.fluent_bundle.specs.Formatted.{AddsAll, AddsFront, WritesAll, WritesFront}
 use Rattle.fluent_values.specs.declared.errors.FluentError.{FluentError}
 use Rattle.fluent_command.specs.Far.{Added, Took}
 
@@ -14,6 +14,11 @@ use Rattle.fluent_command.specs.Far.{Added, Took}
 pub took_put : {T E : Type 0} (r : Result T E) (piece : Text) (old new : Option Text) → OnOk r (Appends old new piece) → OnErr r (TookFront old new piece) → Took r piece old new
 took_put (Ok x) piece old new whole front = record { front = piece; rest = []; begins = sym (append-nil piece); held = whole; all = refl }
 took_put (Err e) piece old new whole front = record { front = front.0; rest = front.1; begins = front.2; held = front.3; all = tt }
+
+-- a call that faulted before it wrote
+pub took_none : {T E : Type 0} (r : Result T E) (text : Text) (held : Option Text) → is_ok r ≡ false → Took r text held held
+took_none (Ok x) text held faulted = cc
+took_none (Err e) text held faulted = record { front = []; rest = text; begins = refl; held = Appends-nil held; all = tt }
 
 -- a text after the whole of another
 pub took_then : {T E T' E' : Type 0} (r : Result T E) (r' : Result T' E') (x : T) (s t : Text) (old mid new : Option Text) → r ≡ Ok x
@@ -58,6 +63,11 @@ added_written (Err e) text errors held held' old new whole front = record {
   list = front.adds.adds.added;
   all = tt;
 }
+
+-- what a call added that answers a text
+pub added_answered : {T E : Type 0} (r : Result T E) (errors : List Error) (old new : List FluentError) → OnOk r (AddsAll errors old new) → AddsFront errors old new → Added r errors old new
+added_answered (Ok x) errors old new whole front = record { front = errors; rest = []; begins = sym (append-nil errors); list = whole.added; all = refl }
+added_answered (Err e) errors old new whole front = record { front = front.front; rest = front.rest; begins = sym front.whole; list = front.adds.added; all = tt }
 
 -- a beginning of a text is one of more, too
 pub front_short : (old new : Option Text) (s t : Text) → TookFront old new s → TookFront old new (s ++ t)

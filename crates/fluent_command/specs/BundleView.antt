@@ -1,8 +1,6 @@
 -- The bundle of the code and its arguments, by content.
 use Rattle.std.specs.Prelude.{[], true, None}
 use Rattle.fluent_tree.specs.Tree.{Text}
-use Rattle.fluent_intl.specs.Plurals.{english}
-use Rattle.fluent_intl.specs.declared.plurals.EnglishPlurals.{EnglishPlurals}
 use Rattle.fluent_meaning.specs.Value.{Value, error_value}
 use Rattle.fluent_meaning.specs.Arguments.{Map}
 use Rattle.fluent_meaning.specs.Bundle.{Bundle}
@@ -14,10 +12,12 @@ use Rattle.fluent_values.specs.declared.formatter.NoFormatter.{NoFormatter}
 use Rattle.fluent_values.specs.declared.function.NoFunction.{NoFunction}
 use Rattle.fluent_values.specs.declared.transform.NoTransform.{NoTransform}
 use Rattle.fluent_values.specs.declared.types.custom.NoCustom.{NoCustom}
+use Rattle.fluent_command.specs.PluralsView.{plurals_view}
+use Rattle.fluent_command.specs.declared.plurals.Plurals.{Plurals}
 
--- English plurals; no values and functions of the application, no formatter, no transform
-abbrev pub bundle_view : FluentBundle EnglishPlurals NoCustom NoFunction NoFormatter NoTransform → Bundle Text
-bundle_view = meant (λ m. english) (λ t. []) (λ s t. true) (λ f vs as'. error_value) (λ g v m. None) (λ x t. t)
+-- no values and functions of the application, no formatter, no transform
+abbrev pub bundle_view : FluentBundle Plurals NoCustom NoFunction NoFormatter NoTransform → Bundle Text
+bundle_view = meant plurals_view (λ t. []) (λ s t. true) (λ f vs as'. error_value) (λ g v m. None) (λ x t. t)
 
 abbrev pub arguments_view : FluentArgs NoCustom → Map (Value Text)
 arguments_view = named (λ c. [])

@@ -8,12 +8,13 @@ pub data Ending : Type 0 where
   shown : Ending
   -- no message of this id has a value
   no_message : Text → Ending
-  bad_usage not_utf8 out_of_memory reading_failed writing_failed : Ending
+  bad_usage bad_rule not_utf8 out_of_memory reading_failed writing_failed : Ending
 
 abbrev pub status : Ending → ℕ
 status shown = 0
 status (no_message id) = 1
 status bad_usage = 2
+status bad_rule = 2
 status not_utf8 = 2
 status out_of_memory = 3
 status reading_failed = 3
@@ -27,6 +28,7 @@ abbrev pub ending_line : Ending → Text
 ending_line shown = []
 ending_line (no_message id) = line (codes "fluent_show: no message with a value: " ++ id)
 ending_line bad_usage = line (codes "usage: fluent_show [--no-isolate] ID [NAME=VALUE]..")
+ending_line bad_rule = line (codes "fluent_show: bad plural rule")
 ending_line not_utf8 = line (codes "fluent_show: standard input is not UTF-8")
 ending_line out_of_memory = line (codes "fluent_show: out of memory")
 ending_line reading_failed = line (codes "fluent_show: reading failed")

@@ -1,7 +1,7 @@
 -- What the reads of an input showed, and how many there were.
 use Rattle.std.specs.Prelude.{◌≡◌, ◌≢◌, ◌≤◌, ◌⊎◌, ℕ, zero, suc, length, Result, Ok, Err}
 use Rattle.fluent_command.specs.Limits.{most_reads, least_room}
-use Rattle.fluent_command.specs.Ending.{Ending, bad_usage, out_of_memory, reading_failed}
+use Rattle.fluent_command.specs.Ending.{Ending, bad_usage, bad_rule, out_of_memory, reading_failed}
 use Rattle.fluent_command.specs.declared.input.InputState.{InputState}
 use Rattle.fluent_command.specs.declared.input.InputState.TheVariants.{Open, AtEnd, Failed}
 use Rattle.fluent_command.specs.declared.input.Reads.{Reads}
@@ -20,9 +20,10 @@ IsBounded input = (input.made ≤ most_reads) × (least_room ≤ length input.ro
 abbrev pub IsUnread : {R : Type 0} → Reads R → Type 0
 IsUnread input = (input.state ≡ Failed) ⊎ ((input.state ≡ Open) × (input.made ≡ most_reads))
 
--- what the reads of a run showed that ends so; where the words are not of the form, it makes none
+-- what the reads of a run showed that ends so; where the words are not of the form or a plural rule can't be read, it makes none
 abbrev pub ReadFor : {R : Type 0} → Ending → Reads R → Type 0
 ReadFor bad_usage input = Unit {0}
+ReadFor bad_rule input = Unit {0}
 ReadFor reading_failed input = IsUnread input
 ReadFor out_of_memory input = input.state ≢ Failed
 ReadFor ending input = input.state ≡ AtEnd

@@ -3,6 +3,8 @@ pub mod Limits
 pub mod Input
 pub mod Outlet
 pub mod WordsView
+pub mod Plurals
+pub mod PluralsView
 pub mod Ending
 pub mod EndingView
 pub mod Said

@@ -1,8 +1,8 @@
 -- What a run of the program came to.
-use Rattle.std.specs.Prelude.{◌≡◌, ℕ, List, [], ◌++◌, Option, IfSome}
+use Rattle.std.specs.Prelude.{◌≡◌, ℕ, ◌⊎◌, List, [], ◌++◌, Option, IfSome}
 use Rattle.fluent_tree.specs.Tree.{Text}
 use Rattle.fluent_meaning.specs.Errors.{Error}
-use Rattle.fluent_command.specs.Ending.{Ending, said, status, bad_usage, out_of_memory, reading_failed, writing_failed}
+use Rattle.fluent_command.specs.Ending.{Ending, said, status, bad_usage, bad_rule, out_of_memory, reading_failed, writing_failed}
 use Rattle.fluent_command.specs.Input.{ReadFor}
 use Rattle.fluent_command.specs.Outlet.{Outlet, Takes, Faults}
 use Rattle.fluent_command.specs.Program.{Run, Answer}
@@ -40,10 +40,11 @@ pub data Reports (errors : List Error) (ending : Ending) (err err' : Outlet) (re
   whole_begun : result ≡ 3 → Faults (said errors ending) err err' → Reports errors ending err err' result
   short_begun : result ≡ 3 → (front : List Error) → Precedes front errors → Faults (said front out_of_memory) err err' → Reports errors ending err err' result
 
--- A run that comes to these errors: how it ends, what its reads showed for that, and what is said of it. Where the words are not of the form, nothing else can stop it.
+-- A run that comes to these errors: how it ends, what its reads showed for that, and what is said of it. Where the words are not of the form, nothing else can stop it, and where a plural rule can't be read, nothing but want of memory.
 pub record Ran {R : Type 0} (run : Run) (first errors : List Error) (input : Reads R) (out out' err err' : Outlet) (result : ℕ) : Type 0 where
   pub ending : Ending
   pub ends : Ends run first out out' ending errors
   pub usage : run.ending ≡ bad_usage → ending ≡ bad_usage
+  pub rule : run.ending ≡ bad_rule → (ending ≡ bad_rule) ⊎ (ending ≡ out_of_memory)
   pub reads : ReadFor ending input
   pub reports : Reports errors ending err err' result

@@ -1,19 +1,18 @@
 -- What the program shows and says, as a function of its words and the bytes of its input.
 use Rattle.std.specs.Prelude.{ℕ, Bool, true, List, [], ◌∷◌, ◌++◌, map, Option, Some, None, if◌then◌else◌}
-use Rattle.std.specs.Option.{option_and_then, option_map_or}
 use Rattle.std.specs.Str.{is_utf8}
 use Rattle.fluent_tree.specs.Tree.{Text, Pattern, Entry}
 use Rattle.fluent_syntax.specs.Chunks.{entries, junk_ranges}
-use Rattle.fluent_intl.specs.Plurals.{english}
 use Rattle.fluent_meaning.specs.Errors.{Error, parser_error}
-use Rattle.fluent_meaning.specs.Value.{Value, Custom, try_number}
+use Rattle.fluent_meaning.specs.Value.{Value, Plurals, Custom, try_number}
 use Rattle.fluent_meaning.specs.Arguments.{Map, set_all}
 use Rattle.fluent_meaning.specs.Bundle.{Bundle, empty_bundle, after, after_all, answered, add_resource, add_builtins, set_use_isolating}
 use Rattle.fluent_meaning.specs.Meaning.{Ran}
-use Rattle.fluent_bundle.specs.BundleView.{message_at}
 use Rattle.fluent_meaning.specs.Result.{written_pattern}
+use Rattle.fluent_chain.specs.Chain.{Shown, value_at, chain_value}
 use Rattle.fluent_command.specs.Words.{Asked, asked_by}
-use Rattle.fluent_command.specs.Ending.{Ending, shown, no_message, bad_usage, not_utf8, status, said}
+use Rattle.fluent_command.specs.Plurals.{plurals_asked}
+use Rattle.fluent_command.specs.Ending.{Ending, shown, no_message, bad_usage, bad_rule, not_utf8, status, said}
 
 -- What a run writes on its output, the errors that it reports in order, and how it ends.
 pub record Run : Type 0 where
@@ -37,62 +36,124 @@ arguments_of ps = set_all (map argument ps) []
 abbrev pub error_at : ℕ × ℕ → Error
 error_at range = parser_error range.0 range.1
 
+abbrev pub junk_errors : Text → List Error
+junk_errors source = map error_at (junk_ranges source)
+
+abbrev pub both_junk_errors : Text → Text → List Error
+both_junk_errors first second = junk_errors first ++ junk_errors second
+
+-- ---- bundles
+
 -- the application has no values of its own
 abbrev pub no_custom : Custom Text
 no_custom = record { text = λ t. []; same = λ s t. true }
 
--- a bundle in English, with the built-in function alone
-abbrev pub start : Bool → Bundle Text
-start on = after_all (set_use_isolating on ∷ add_builtins ∷ []) (empty_bundle english no_custom)
+-- a bundle with the built-in function alone
+abbrev pub start : Plurals → Bool → Bundle Text
+start plurals on = after_all (set_use_isolating on ∷ add_builtins ∷ []) (empty_bundle plurals no_custom)
 
 -- the same with one resource
-abbrev pub bundle_of : Bool → List Entry → Bundle Text
-bundle_of on entries = after (add_resource entries) (start on)
+abbrev pub bundle_of : Plurals → Bool → List Entry → Bundle Text
+bundle_of plurals on entries = after (add_resource entries) (start plurals on)
+
+-- the errors of adding it
+abbrev pub adding_errors : Plurals → Bool → List Entry → List Error
+adding_errors plurals on entries = answered (add_resource entries) (start plurals on)
+
+-- the same in two bundles of one resource each
+abbrev pub both_adding_errors : Plurals → Bool → List Entry → List Entry → List Error
+both_adding_errors plurals on first second = adding_errors plurals on first ++ adding_errors plurals on second
+
+-- ---- what is shown
 
 -- a run that reports these errors before its own
 abbrev pub after_errors : List Error → Run → Run
 after_errors before r = record { output = r.output; errors = before ++ r.errors; ending = r.ending }
 
 -- a text with a line feed after it, and what is wrong with it
-abbrev pub run_text : Ran Text → Run
-run_text r = record { output = r.value ++ 10 ∷ []; errors = r.errors; ending = shown }
+abbrev pub run_text : Text → List Error → Run
+run_text text errors = record { output = text ++ 10 ∷ []; errors = errors; ending = shown }
+
+abbrev pub run_pattern : Ran Text → Run
+run_pattern r = run_text r.value r.errors
+
+abbrev pub run_chain : Shown → Run
+run_chain s = run_text s.text s.errors
 
 -- a message's value under the arguments, if there is one
 abbrev pub run_value : Asked → Bundle Text → Option Pattern → Run
 run_value asked bundle None = only (no_message asked.id)
-run_value asked bundle (Some pattern) = run_text (written_pattern bundle (arguments_of asked.arguments) pattern)
+run_value asked bundle (Some pattern) = run_pattern (written_pattern bundle (arguments_of asked.arguments) pattern)
 
--- the value of the message that an id names
-abbrev pub value_at : Text → Bundle Text → Option Pattern
-value_at id bundle = option_and_then (λ content. content.value) (message_at id bundle)
+-- ---- the input alone
 
 -- the message that was asked for, in a bundle of these entries alone
-abbrev pub run_entries : Asked → List Entry → Run
-run_entries asked entries =
-    let bundle = bundle_of asked.isolate entries in
-    after_errors (answered (add_resource entries) (start asked.isolate)) (run_value asked bundle (value_at asked.id bundle))
+abbrev pub run_entries : Asked → Plurals → List Entry → Run
+run_entries asked plurals entries =
+    let bundle = bundle_of plurals asked.options.isolate entries in
+    after_errors (adding_errors plurals asked.options.isolate entries) (run_value asked bundle (value_at asked.id bundle))
 
 -- the same of a source, whose Junks are reported first
-abbrev pub run_source : Asked → Text → Run
-run_source asked source = after_errors (map error_at (junk_ranges source)) (run_entries asked (entries source))
+abbrev pub run_alone : Asked → Plurals → Text → Run
+run_alone asked plurals source = after_errors (junk_errors source) (run_entries asked plurals (entries source))
 
-abbrev pub run_input : Asked → List ℕ → Run
-run_input asked bytes = if is_utf8 bytes then run_source asked bytes else only not_utf8
+-- ---- the input, and a source that stands in for it
+
+-- what a chain of two bundles gives for the message, each with the entries of one of them
+abbrev pub run_both : Asked → Plurals → List Entry → List Entry → Run
+run_both asked plurals first second =
+    let bundles = bundle_of plurals asked.options.isolate first ∷ bundle_of plurals asked.options.isolate second ∷ [] in
+    after_errors (both_adding_errors plurals asked.options.isolate first second) (run_chain (chain_value asked.id (arguments_of asked.arguments) bundles))
+
+-- the same of sources, whose Junks are reported first
+abbrev pub run_fallback : Asked → Plurals → Text → Text → Run
+run_fallback asked plurals source fallback =
+    after_errors (both_junk_errors source fallback) (run_both asked plurals (entries source) (entries fallback))
+
+-- ---- the whole run
+
+abbrev pub run_sources : Asked → Plurals → Text → Option Text → Run
+run_sources asked plurals source None = run_alone asked plurals source
+run_sources asked plurals source (Some fallback) = run_fallback asked plurals source fallback
+
+abbrev pub run_source : Asked → Plurals → Text → Run
+run_source asked plurals source = run_sources asked plurals source asked.options.fallback
+
+abbrev pub run_input : Asked → Plurals → List ℕ → Run
+run_input asked plurals bytes = if is_utf8 bytes then run_source asked plurals bytes else only not_utf8
+
+-- under the plural rules, if they could be read
+abbrev pub run_by : Asked → Option Plurals → List ℕ → Run
+run_by asked None bytes = only bad_rule
+run_by asked (Some plurals) bytes = run_input asked plurals bytes
 
 abbrev pub run_asked : Option Asked → List ℕ → Run
 run_asked None bytes = only bad_usage
-run_asked (Some asked) bytes = run_input asked bytes
+run_asked (Some asked) bytes = run_by asked (plurals_asked asked.options) bytes
 
 abbrev pub run_of : List Text → List ℕ → Run
 run_of words bytes = run_asked (asked_by words) bytes
 
--- ---- what is wrong with a source itself, which a run finds before it writes
+-- ---- what is wrong with the sources themselves, which a run finds before it writes
 
-abbrev pub source_errors : Asked → Text → List Error
-source_errors asked source = map error_at (junk_ranges source) ++ answered (add_resource (entries source)) (start asked.isolate)
+abbrev pub errors_of_sources : Asked → Plurals → Text → Option Text → List Error
+errors_of_sources asked plurals source None = junk_errors source ++ adding_errors plurals asked.options.isolate (entries source)
+errors_of_sources asked plurals source (Some fallback) =
+    both_junk_errors source fallback ++ both_adding_errors plurals asked.options.isolate (entries source) (entries fallback)
+
+abbrev pub source_errors : Asked → Plurals → Text → List Error
+source_errors asked plurals source = errors_of_sources asked plurals source asked.options.fallback
+
+abbrev pub errors_by : Asked → Option Plurals → List ℕ → List Error
+errors_by asked None bytes = []
+errors_by asked (Some plurals) bytes = source_errors asked plurals bytes
+
+abbrev pub errors_asked : Option Asked → List ℕ → List Error
+errors_asked None bytes = []
+errors_asked (Some asked) bytes = errors_by asked (plurals_asked asked.options) bytes
 
 abbrev pub first_errors : List Text → List ℕ → List Error
-first_errors words bytes = option_map_or (λ asked. source_errors asked bytes) (asked_by words) []
+first_errors words bytes = errors_asked (asked_by words) bytes
 
 -- ---- what a caller sees
 

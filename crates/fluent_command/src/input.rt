@@ -83,7 +83,7 @@ impl<R: Read> Reads<R> {
     }
 
     /// Counts the reads of a run from its beginning.
-    fn begin(&mut self)
+    pub(crate) fn begin(&mut self)
         ensures inner { self.new.inner ≡ self.old.inner }
         ensures bounded { IsBounded self.new }
         ensures made { self.new.made ≡ 0 }

@@ -2,6 +2,8 @@
 #![tactic(auto)]
 
 pub mod input;
+mod options;
+mod plurals;
 pub mod report;
 mod request;
 pub mod run;

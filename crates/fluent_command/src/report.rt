@@ -11,6 +11,7 @@ ghost use Rattle.fluent_command.specs.Outlet.{Rose};
 ghost use Rattle.fluent_command.specs.Said.{BeganToSay, Says, TookErrors};
 
 use fluent_bundle::{Counting, FluentError, WriteFault};
+use fluent_intl::RuleFault;
 use fluent_syntax::counting::put;
 use std::alloc::{AllocError, Global};
 use std::io::Write;
@@ -24,6 +25,8 @@ pub enum Ending<'w> {
     NoMessage(&'w str),
     /// The words are not of the form that the program takes.
     Usage,
+    /// A plural rule can't be read.
+    PluralRule,
     /// The input is no text.
     NotUtf8,
     /// Memory was refused.
@@ -42,7 +45,7 @@ impl<'w> Ending<'w> {
         match self {
             Ending::Shown => 0,
             Ending::NoMessage(_) => 1,
-            Ending::Usage | Ending::NotUtf8 => 2,
+            Ending::Usage | Ending::PluralRule | Ending::NotUtf8 => 2,
             Ending::Memory | Ending::Reading | Ending::Writing => 3,
         }
     }
@@ -57,6 +60,19 @@ impl<'w> From<WriteFault> for Ending<'w> {
         match fault {
             WriteFault::Memory => Ending::Memory,
             WriteFault::Writer(_) | WriteFault::Zero => Ending::Writing,
+        }
+    }
+}
+
+impl<'w> From<RuleFault> for Ending<'w> {
+    ghost use Rattle.fluent_command.specs.EndingView.{ending_view, ending_of_rules};
+
+    ghost from_gives = { λ fault ending. ending_view ending ≡ ending_of_rules fault };
+
+    fn from(fault: RuleFault) -> Ending<'w> {
+        match fault {
+            RuleFault::Syntax(..) => Ending::PluralRule,
+            RuleFault::Memory => Ending::Memory,
         }
     }
 }
@@ -114,6 +130,7 @@ fn put_ending<E: Write>(ending: Ending<'_>, err: &mut Counting<E>) -> Result<(),
             err,
             b"usage: fluent_show [--no-isolate] ID [NAME=VALUE]..\n",
         ),
+        Ending::PluralRule => put(err, b"fluent_show: bad plural rule\n"),
         Ending::NotUtf8 => put(err, b"fluent_show: standard input is not UTF-8\n"),
         Ending::Memory => put(err, b"fluent_show: out of memory\n"),
         Ending::Reading => put(err, b"fluent_show: reading failed\n"),

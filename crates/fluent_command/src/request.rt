@@ -3,15 +3,15 @@
 ghost use Rattle.std.specs.Prelude.{◌≡◌, map, string_bytes, nat_eq, codes};
 ghost use Rattle.std.specs.List.{list_all, starts_with};
 ghost use Rattle.std.specs.Option.{option_map};
-ghost use Rattle.fluent_command.specs.Words.{name_and_value, is_argument, asked_from, asked_by};
-ghost use Rattle.fluent_command.specs.WordsView.{asked_view};
+ghost use Rattle.fluent_command.specs.Words.{name_and_value, is_argument, asked_from, asked_after, asked_by};
+ghost use Rattle.fluent_command.specs.WordsView.{asked_view, options_view};
 
-const NO_ISOLATE: &str = "--no-isolate";
+use crate::options::{Named, Options, Word, word_of};
 
-/// A message to show, and the words `NAME=VALUE` of its arguments.
+/// A message to show, how, and the words `NAME=VALUE` of its arguments.
 #[derive(Clone, Copy)]
 pub struct Request<'w> {
-    pub isolate: bool,
+    pub options: Options<'w>,
     pub id: &'w str,
     pub arguments: &'w [String],
 }
@@ -49,20 +49,36 @@ fn are_arguments(words: &[String]) -> bool
 }
 
 impl<'w> Request<'w> {
-    /// What `[--no-isolate] ID [NAME=VALUE]..` asks for; `None` where the words are not of that form.
+    /// What options and then `ID [NAME=VALUE]..` ask for; `None` where the words are not of that form.
     pub fn of(words: &'w [String]) -> Option<Request<'w>>
         ensures { option_map asked_view result ≡ asked_by (map string_bytes words.now) }
     {
-        let (first, rest) = words.split_first()?;
-        if first.as_str() == NO_ISOLATE {
-            return Request::from_id(false, rest);
+        Request::after(Options::none(), None, words)
+    }
+
+    /// The same behind these options, and, where there is one, behind the word of an option whose text comes next.
+    fn after(
+        options: Options<'w>,
+        before: Option<Named>,
+        words: &'w [String],
+    ) -> Option<Request<'w>>
+        ensures { option_map asked_view result
+            ≡ asked_after (options_view options.entry) before (map string_bytes words.now) }
+    {
+        let (word, rest) = words.split_first()?;
+        if let Some(named) = before {
+            return Request::after(options.with_text(named, word.as_str())?, None, rest);
         }
-        Request::from_id(true, words)
+        match word_of(word.as_str()) {
+            Word::NoIsolate => Request::after(options.without_isolation()?, None, rest),
+            Word::WithText(named) => Request::after(options, Some(named), rest),
+            Word::Other => Request::from_id(options, words),
+        }
     }
 
     /// What the words from the id on ask for.
-    fn from_id(isolate: bool, words: &'w [String]) -> Option<Request<'w>>
-        ensures { option_map asked_view result ≡ asked_from isolate (map string_bytes words.now) }
+    fn from_id(options: Options<'w>, words: &'w [String]) -> Option<Request<'w>>
+        ensures { option_map asked_view result ≡ asked_from (options_view options.entry) (map string_bytes words.now) }
     {
         let (id, arguments) = words.split_first()?;
         if is_option(id.as_str()) {
@@ -72,7 +88,7 @@ impl<'w> Request<'w> {
             return None;
         }
         Some(Request {
-            isolate,
+            options,
             id: id.as_str(),
             arguments,
         })

@@ -1,10 +1,12 @@
 //! The program over any reader and writers.
 
-ghost use Rattle.std.specs.Prelude.{◌≡◌, ◌≢◌, ◌≤◌, ℕ, List, [], map, None, string_bytes};
+ghost use Rattle.std.specs.Prelude.{◌≡◌, ◌≢◌, ◌≤◌, ◌⊎◌, ℕ, List, [], map, None, string_bytes};
 ghost use Rattle.fluent_meaning.specs.Errors.{Error};
 ghost use Rattle.fluent_command.specs.Words.{asked_by};
 ghost use Rattle.fluent_command.specs.WordsView.{asked_view};
-ghost use Rattle.fluent_command.specs.Ending.{bad_usage, reading_failed};
+ghost use Rattle.fluent_command.specs.Plurals.{HasBadRule};
+ghost use Rattle.fluent_command.specs.PluralsView.{plurals_view};
+ghost use Rattle.fluent_command.specs.Ending.{bad_usage, bad_rule, out_of_memory, reading_failed};
 ghost use Rattle.fluent_command.specs.EndingView.{ending_view, reported};
 ghost use Rattle.fluent_command.specs.Program.{run_input, run_of, first_errors, source_errors, program};
 ghost use Rattle.fluent_command.specs.Input.{IsBounded, ReadFor};
@@ -12,6 +14,7 @@ ghost use Rattle.fluent_command.specs.Outlet.{outlet};
 ghost use Rattle.fluent_command.specs.Outcome.{AreLeft, Ends, Gives, Ran};
 
 use crate::input::{ReadFault, Reads, read_all};
+use crate::plurals::{Plurals, read_rules};
 use crate::report::{Ending, report};
 use crate::request::Request;
 use crate::show::show;
@@ -24,23 +27,51 @@ use std::str;
 fn show_bytes<'w, W: Write>(
     alloc: Global,
     request: Request<'w>,
+    plurals: Plurals<'_>,
     bytes: &[u8],
     out: &mut Counting<W>,
     errors: &mut Vec<FluentError>,
 ) -> Ending<'w>
     requires { errors.old.items ≡ [] }
     ensures ends { let asked = asked_view request.entry in
-        Ends (run_input asked bytes.now) (source_errors asked bytes.now)
+        let plurals = plurals_view plurals.entry in
+        Ends (run_input asked plurals bytes.now) (source_errors asked plurals bytes.now)
         (outlet W.contents out.old) (outlet W.contents out.new)
         (ending_view result) (reported errors.new.items) }
     ensures read { ending_view result ≢ reading_failed }
 {
     match str::from_utf8(bytes) {
-        Ok(source) => match show(alloc, request, source, out, errors) {
+        Ok(source) => match show(alloc, request, plurals, source, out, errors) {
             Ok(ending) => ending,
             Err(fault) => Ending::from(fault),
         },
         Err(_) => Ending::NotUtf8,
+    }
+}
+
+/// Reads the input, and shows a message of it.
+fn show_input<'w, R: Read, W: Write>(
+    alloc: Global,
+    request: Request<'w>,
+    plurals: Plurals<'_>,
+    input: &mut Reads<R>,
+    out: &mut Counting<W>,
+    errors: &mut Vec<FluentError>,
+) -> Ending<'w>
+    requires { errors.old.items ≡ [] }
+    ensures ends { let asked = asked_view request.entry in
+        let plurals = plurals_view plurals.entry in
+        (bytes : List ℕ) × AreLeft (R.remaining input.old.inner) bytes
+        × Ends (run_input asked plurals bytes) (source_errors asked plurals bytes)
+        (outlet W.contents out.old) (outlet W.contents out.new)
+        (ending_view result) (reported errors.new.items) }
+    ensures reads { ReadFor (ending_view result) input.new }
+    ensures bounded { IsBounded input.new }
+{
+    match read_all(alloc, input) {
+        Ok(bytes) => show_bytes(alloc, request, plurals, bytes.as_slice(), out, errors),
+        Err(ReadFault::Memory) => Ending::Memory,
+        Err(ReadFault::Reading) => Ending::Reading,
     }
 }
 
@@ -59,17 +90,24 @@ fn attempt<'w, R: Read, W: Write>(
         (outlet W.contents out.old) (outlet W.contents out.new)
         (ending_view result) (reported errors.new.items) }
     ensures usage { asked_by (map string_bytes words.now) ≡ None → ending_view result ≡ bad_usage }
+    ensures rule { HasBadRule (asked_by (map string_bytes words.now)) →
+        (ending_view result ≡ bad_rule) ⊎ (ending_view result ≡ out_of_memory) }
     ensures reads { ReadFor (ending_view result) input.new }
     ensures unread { asked_by (map string_bytes words.now) ≡ None → input.new ≡ input.old }
+    ensures untouched { HasBadRule (asked_by (map string_bytes words.now)) →
+        (input.new.inner ≡ input.old.inner) × (input.new.made ≡ 0) }
     ensures bounded { asked_by (map string_bytes words.now) ≢ None → IsBounded input.new }
 {
     let Some(request) = Request::of(words) else {
         return Ending::Usage;
     };
-    match read_all(alloc, input) {
-        Ok(bytes) => show_bytes(alloc, request, bytes.as_slice(), out, errors),
-        Err(ReadFault::Memory) => Ending::Memory,
-        Err(ReadFault::Reading) => Ending::Reading,
+    match read_rules(alloc, request.options) {
+        Ok(rules) => show_input(alloc, request, Plurals::of(&rules), input, out, errors),
+        Err(fault) => {
+            // No read is made.
+            input.begin();
+            Ending::from(fault)
+        }
     }
 }
 
@@ -89,6 +127,8 @@ fn run_with<R: Read, W: Write, E: Write>(
         (outlet W.contents out.old) (outlet W.contents out.new)
         (outlet E.contents err.old) (outlet E.contents err.new) result }
     ensures unread { asked_by (map string_bytes words.now) ≡ None → input.new ≡ input.old }
+    ensures untouched { HasBadRule (asked_by (map string_bytes words.now)) →
+        (input.new.inner ≡ input.old.inner) × (input.new.made ≡ 0) }
     ensures bounded { asked_by (map string_bytes words.now) ≢ None → IsBounded input.new }
 {
     let ending = attempt(alloc, words, input, out, errors);
@@ -105,7 +145,8 @@ fn run_with<R: Read, W: Write, E: Write>(
 /// the bytes of the input. Where it is 3, a read failed or none of all showed the end, a write failed or took
 /// nothing, or the error text says that memory was refused. The output then holds a beginning of what it should,
 /// and the error text is the lines of the first errors and one that names the cause or, where it was standard error
-/// that failed, a beginning of such lines. Faults of usage are found before anything is read.
+/// that failed, a beginning of such lines. Faults of usage are found first, then plural rules that can't be read, and
+/// both before anything is read.
 pub fn run<R: Read, W: Write, E: Write>(
     alloc: Global,
     words: &[String],
@@ -124,6 +165,8 @@ pub fn run<R: Read, W: Write, E: Write>(
         (outlet W.contents out.old) (outlet W.contents out.new)
         (outlet E.contents err.old) (outlet E.contents err.new) result }
     ensures unread { asked_by (map string_bytes words.now) ≡ None → input.new ≡ input.old }
+    ensures untouched { HasBadRule (asked_by (map string_bytes words.now)) →
+        (input.new.inner ≡ input.old.inner) × (input.new.made ≡ 0) }
     ensures bounded { asked_by (map string_bytes words.now) ≢ None → IsBounded input.new }
     ensures status { result ≤ 3 }
 {

@@ -1,37 +1,40 @@
 //! A message of a source, written with its errors.
 
-ghost use Rattle.std.specs.Prelude.{◌≡◌, ◌++◌, ◌∷◌, [], map, IfOk, string_bytes};
-ghost use Rattle.fluent_syntax.specs.Chunks.{entries, junk_ranges};
+ghost use Rattle.std.specs.Prelude.{◌≡◌, ◌++◌, ◌∷◌, [], map, Some, None, IfOk, string_bytes};
+ghost use Rattle.fluent_syntax.specs.Chunks.{entries};
 ghost use Rattle.fluent_syntax.specs.Parsed.{error_range};
 ghost use Rattle.fluent_text.specs.Taken.{Faulted};
 ghost use Rattle.fluent_tree.specs.View.{pattern_view};
-ghost use Rattle.fluent_meaning.specs.Bundle.{answered, add_resource};
+ghost use Rattle.fluent_meaning.specs.Result.{written_pattern};
 ghost use Rattle.fluent_bundle.specs.BundleView.{entries_of};
+ghost use Rattle.fluent_chain.specs.Chain.{chain_value, value_at};
 ghost use Rattle.fluent_command.specs.Words.{name_and_value};
 ghost use Rattle.fluent_command.specs.WordsView.{asked_view};
+ghost use Rattle.fluent_command.specs.PluralsView.{plurals_view};
 ghost use Rattle.fluent_command.specs.EndingView.{ending_view};
-ghost use Rattle.fluent_meaning.specs.Result.{written_pattern};
 ghost use Rattle.fluent_command.specs.BundleView.{arguments_view, bundle_view};
-ghost use Rattle.fluent_command.specs.Program.{arguments_of, error_at, start, bundle_of, value_at, run_text, run_value, run_entries, run_source, source_errors};
+ghost use Rattle.fluent_command.specs.Program.{arguments_of, error_at, junk_errors, adding_errors, both_adding_errors, start, bundle_of};
+ghost use Rattle.fluent_command.specs.Program.{run_pattern, run_chain, run_value, run_entries, run_alone, run_both, run_fallback, run_source, source_errors, errors_of_sources};
 ghost use Rattle.fluent_command.specs.Far.{Added, AddedFirst, Took};
 
+use crate::plurals::Plurals;
 use crate::report::Ending;
 use crate::request::{Request, name_and_value};
 use fluent_bundle::{
     AddFault, Counting, FluentArgs, FluentBundle, FluentError, FluentResource, FluentValue,
     NoCustom, NoFormatter, NoFunction, NoTransform, ParserError, TryNewFault, WriteFault, ast,
 };
-use fluent_intl::EnglishPlurals;
+use fluent_chain::{Chain, Link};
 use fluent_syntax::counting::put;
 use std::alloc::{AllocError, Global};
 use std::borrow::CowStr;
 use std::io::Write;
 
-/// A bundle in English for which the application adds nothing of its own but resources.
-type Bundle<'r, 's> = FluentBundle<
+/// A bundle for which the application adds nothing of its own but resources.
+type Bundle<'p, 'r, 's> = FluentBundle<
     'r,
     's,
-    EnglishPlurals,
+    Plurals<'p>,
     NoCustom,
     NoFunction,
     NoFormatter,
@@ -69,7 +72,7 @@ fn read<'s>(
     errors: &mut Vec<FluentError>,
 ) -> Result<FluentResource<'s>, AllocError>
     ensures entries { IfOk result (λ resource. entries_of resource ≡ entries source.now) }
-    ensures errors { Added result (map error_at (junk_ranges source.now)) errors.old.items errors.new.items }
+    ensures errors { Added result (junk_errors source.now) errors.old.items errors.new.items }
 {
     match FluentResource::try_new(alloc, source) {
         Ok(resource) => Ok(resource),
@@ -82,10 +85,14 @@ fn read<'s>(
 }
 
 /// A bundle with the built-in function alone.
-fn start<'r, 's>(alloc: Global, isolate: bool) -> Result<Bundle<'r, 's>, AllocError>
-    ensures { IfOk result (λ bundle. bundle_view bundle ≡ start isolate) }
+fn start<'p, 'r, 's>(
+    alloc: Global,
+    plurals: Plurals<'p>,
+    isolate: bool,
+) -> Result<Bundle<'p, 'r, 's>, AllocError>
+    ensures { IfOk result (λ bundle. bundle_view bundle ≡ start (plurals_view plurals.entry) isolate) }
 {
-    let mut bundle = FluentBundle::new_default(alloc)?;
+    let mut bundle = FluentBundle::new(alloc, Vec::new(alloc), plurals);
     bundle.set_use_isolating(isolate);
     match bundle.add_builtins() {
         Ok(()) => Ok(bundle),
@@ -95,17 +102,20 @@ fn start<'r, 's>(alloc: Global, isolate: bool) -> Result<Bundle<'r, 's>, AllocEr
 }
 
 /// A bundle of one resource, with a report of each id that stands there twice, or is that of the built-in function.
-fn bundle_of<'r, 's>(
+fn bundle_of<'p, 'r, 's>(
     alloc: Global,
+    plurals: Plurals<'p>,
     isolate: bool,
     resource: &'r FluentResource<'s>,
     errors: &mut Vec<FluentError>,
-) -> Result<Bundle<'r, 's>, AllocError>
-    ensures bundle { IfOk result (λ bundle. bundle_view bundle ≡ bundle_of isolate (entries_of resource.now)) }
-    ensures errors { Added result (answered (add_resource (entries_of resource.now)) (start isolate))
+) -> Result<Bundle<'p, 'r, 's>, AllocError>
+    ensures bundle { let entries = entries_of resource.now in
+        IfOk result (λ bundle. bundle_view bundle ≡ bundle_of (plurals_view plurals.entry) isolate entries) }
+    ensures errors { let entries = entries_of resource.now in
+        Added result (adding_errors (plurals_view plurals.entry) isolate entries)
         errors.old.items errors.new.items }
 {
-    let mut bundle = start(alloc, isolate)?;
+    let mut bundle = start(alloc, plurals, isolate)?;
     match bundle.add_resource(resource) {
         Ok(()) => Ok(bundle),
         Err(AddFault::Overriding(mut found)) => {
@@ -116,20 +126,22 @@ fn bundle_of<'r, 's>(
     }
 }
 
+// ---- the input alone
+
 /// Writes a pattern's text under the arguments, and a line feed.
-fn write_value<'r, 's: 'r, W: Write>(
+fn write_value<'p, 'r, 's: 'r, W: Write>(
     alloc: Global,
-    bundle: &Bundle<'r, 's>,
+    bundle: &Bundle<'p, 'r, 's>,
     words: &[String],
     pattern: &ast::Pattern<'s>,
     out: &mut Counting<W>,
     errors: &mut Vec<FluentError>,
 ) -> Result<(), WriteFault>
     ensures text { let args = arguments_of (map name_and_value (map string_bytes words.now)) in
-        let run = run_text (written_pattern (bundle_view bundle.now) args (pattern_view pattern.now)) in
+        let run = run_pattern (written_pattern (bundle_view bundle.now) args (pattern_view pattern.now)) in
         Took result run.output (W.contents out.old.inner) (W.contents out.new.inner) }
     ensures errors { let args = arguments_of (map name_and_value (map string_bytes words.now)) in
-        let run = run_text (written_pattern (bundle_view bundle.now) args (pattern_view pattern.now)) in
+        let run = run_pattern (written_pattern (bundle_view bundle.now) args (pattern_view pattern.now)) in
         Added result run.errors errors.old.items errors.new.items }
     ensures fault { Faulted out.old.failed out.old.empty out.new.failed out.new.empty result }
 {
@@ -139,10 +151,10 @@ fn write_value<'r, 's: 'r, W: Write>(
 }
 
 /// Writes the value of the message that was asked for, if there is one.
-fn show_value<'w, 'r, 's: 'r, W: Write>(
+fn show_value<'w, 'p, 'r, 's: 'r, W: Write>(
     alloc: Global,
     request: Request<'w>,
-    bundle: &Bundle<'r, 's>,
+    bundle: &Bundle<'p, 'r, 's>,
     out: &mut Counting<W>,
     errors: &mut Vec<FluentError>,
 ) -> Result<Ending<'w>, WriteFault>
@@ -171,48 +183,171 @@ fn show_value<'w, 'r, 's: 'r, W: Write>(
 fn show_resource<'w, W: Write>(
     alloc: Global,
     request: Request<'w>,
+    plurals: Plurals<'_>,
     resource: &FluentResource<'_>,
     out: &mut Counting<W>,
     errors: &mut Vec<FluentError>,
 ) -> Result<Ending<'w>, WriteFault>
-    ensures text { let run = run_entries (asked_view request.entry) (entries_of resource.now) in
+    ensures text { let asked = asked_view request.entry in
+        let run = run_entries asked (plurals_view plurals.entry) (entries_of resource.now) in
         Took result run.output (W.contents out.old.inner) (W.contents out.new.inner) }
-    ensures errors { let run = run_entries (asked_view request.entry) (entries_of resource.now) in
+    ensures errors { let asked = asked_view request.entry in
+        let run = run_entries asked (plurals_view plurals.entry) (entries_of resource.now) in
         Added result run.errors errors.old.items errors.new.items }
-    ensures first { let isolate = request.entry.isolate in
-        AddedFirst result (answered (add_resource (entries_of resource.now)) (start isolate))
+    ensures first { let isolate = request.entry.options.isolate in
+        AddedFirst result (adding_errors (plurals_view plurals.entry) isolate (entries_of resource.now))
         errors.old.items errors.new.items }
-    ensures ending { let run = run_entries (asked_view request.entry) (entries_of resource.now) in
+    ensures ending { let asked = asked_view request.entry in
+        let run = run_entries asked (plurals_view plurals.entry) (entries_of resource.now) in
         IfOk result (λ ending. ending_view ending ≡ run.ending) }
     ensures fault { Faulted out.old.failed out.old.empty out.new.failed out.new.empty result }
 {
-    let bundle = bundle_of(alloc, request.isolate, resource, errors)?;
+    let bundle = bundle_of(alloc, plurals, request.options.isolate, resource, errors)?;
     show_value(alloc, request, &bundle, out, errors)
 }
+
+/// The same of a source.
+fn show_alone<'w, W: Write>(
+    alloc: Global,
+    request: Request<'w>,
+    plurals: Plurals<'_>,
+    source: &str,
+    out: &mut Counting<W>,
+    errors: &mut Vec<FluentError>,
+) -> Result<Ending<'w>, WriteFault>
+    ensures text { let run = run_alone (asked_view request.entry) (plurals_view plurals.entry) source.now in
+        Took result run.output (W.contents out.old.inner) (W.contents out.new.inner) }
+    ensures errors { let run = run_alone (asked_view request.entry) (plurals_view plurals.entry) source.now in
+        Added result run.errors errors.old.items errors.new.items }
+    ensures first { let asked = asked_view request.entry in
+        AddedFirst result (errors_of_sources asked (plurals_view plurals.entry) source.now None)
+        errors.old.items errors.new.items }
+    ensures ending { let run = run_alone (asked_view request.entry) (plurals_view plurals.entry) source.now in
+        IfOk result (λ ending. ending_view ending ≡ run.ending) }
+    ensures fault { Faulted out.old.failed out.old.empty out.new.failed out.new.empty result }
+{
+    let resource = read(alloc, source, errors)?;
+    show_resource(alloc, request, plurals, &resource, out, errors)
+}
+
+// ---- the input, and a source that stands in for it
+
+/// Writes what a chain of two bundles gives for the message, and a line feed.
+fn write_chain<'p, 'r, 's: 'r, W: Write>(
+    alloc: Global,
+    request: Request<'_>,
+    first: &Bundle<'p, 'r, 's>,
+    second: &Bundle<'p, 'r, 's>,
+    out: &mut Counting<W>,
+    errors: &mut Vec<FluentError>,
+) -> Result<(), WriteFault>
+    ensures text { let asked = asked_view request.entry in
+        let bundles = bundle_view first.now ∷ bundle_view second.now ∷ [] in
+        let run = run_chain (chain_value asked.id (arguments_of asked.arguments) bundles) in
+        Took result run.output (W.contents out.old.inner) (W.contents out.new.inner) }
+    ensures errors { let asked = asked_view request.entry in
+        let bundles = bundle_view first.now ∷ bundle_view second.now ∷ [] in
+        let run = run_chain (chain_value asked.id (arguments_of asked.arguments) bundles) in
+        Added result run.errors errors.old.items errors.new.items }
+    ensures fault { Faulted out.old.failed out.old.empty out.new.failed out.new.empty result }
+{
+    let args = arguments(alloc, request.arguments)?;
+    let links = [Link(first), Link(second)];
+    let text = Chain::new(&links).format_value(request.id, Some(&args), errors)?;
+    put(out, text.as_str().as_bytes())?;
+    put(out, b"\n")
+}
+
+/// The same in bundles of one resource each.
+fn show_both<'w, 'r, 's, W: Write>(
+    alloc: Global,
+    request: Request<'w>,
+    plurals: Plurals<'_>,
+    first: &'r FluentResource<'s>,
+    second: &'r FluentResource<'s>,
+    out: &mut Counting<W>,
+    errors: &mut Vec<FluentError>,
+) -> Result<Ending<'w>, WriteFault>
+    ensures text { let asked = asked_view request.entry in
+        let run = run_both asked (plurals_view plurals.entry) (entries_of first.now) (entries_of second.now) in
+        Took result run.output (W.contents out.old.inner) (W.contents out.new.inner) }
+    ensures errors { let asked = asked_view request.entry in
+        let run = run_both asked (plurals_view plurals.entry) (entries_of first.now) (entries_of second.now) in
+        Added result run.errors errors.old.items errors.new.items }
+    ensures first { let isolate = request.entry.options.isolate in
+        let plurals = plurals_view plurals.entry in
+        AddedFirst result (both_adding_errors plurals isolate (entries_of first.now) (entries_of second.now))
+        errors.old.items errors.new.items }
+    ensures ending { let asked = asked_view request.entry in
+        let run = run_both asked (plurals_view plurals.entry) (entries_of first.now) (entries_of second.now) in
+        IfOk result (λ ending. ending_view ending ≡ run.ending) }
+    ensures fault { Faulted out.old.failed out.old.empty out.new.failed out.new.empty result }
+{
+    let isolate = request.options.isolate;
+    let first = bundle_of(alloc, plurals, isolate, first, errors)?;
+    let second = bundle_of(alloc, plurals, isolate, second, errors)?;
+    write_chain(alloc, request, &first, &second, out, errors)?;
+    Ok(Ending::Shown)
+}
+
+/// The same of a source each.
+fn show_fallback<'w, W: Write>(
+    alloc: Global,
+    request: Request<'w>,
+    plurals: Plurals<'_>,
+    source: &str,
+    fallback: &str,
+    out: &mut Counting<W>,
+    errors: &mut Vec<FluentError>,
+) -> Result<Ending<'w>, WriteFault>
+    ensures text { let asked = asked_view request.entry in
+        let run = run_fallback asked (plurals_view plurals.entry) source.now fallback.now in
+        Took result run.output (W.contents out.old.inner) (W.contents out.new.inner) }
+    ensures errors { let asked = asked_view request.entry in
+        let run = run_fallback asked (plurals_view plurals.entry) source.now fallback.now in
+        Added result run.errors errors.old.items errors.new.items }
+    ensures first { let asked = asked_view request.entry in
+        AddedFirst result (errors_of_sources asked (plurals_view plurals.entry) source.now (Some fallback.now))
+        errors.old.items errors.new.items }
+    ensures ending { let asked = asked_view request.entry in
+        let run = run_fallback asked (plurals_view plurals.entry) source.now fallback.now in
+        IfOk result (λ ending. ending_view ending ≡ run.ending) }
+    ensures fault { Faulted out.old.failed out.old.empty out.new.failed out.new.empty result }
+{
+    let first = read(alloc, source, errors)?;
+    let second = read(alloc, fallback, errors)?;
+    show_both(alloc, request, plurals, &first, &second, out, errors)
+}
+
+// ---- both
 
 /// Writes the value of the message that was asked for, and adds what is to be reported.
 ///
 /// # Errors
 ///
 /// What was written and added so far begins what should have been. Before a write can fail, all that is wrong with
-/// the source itself was added.
+/// the sources themselves was added.
 pub fn show<'w, W: Write>(
     alloc: Global,
     request: Request<'w>,
+    plurals: Plurals<'_>,
     source: &str,
     out: &mut Counting<W>,
     errors: &mut Vec<FluentError>,
 ) -> Result<Ending<'w>, WriteFault>
-    ensures text { let run = run_source (asked_view request.entry) source.now in
+    ensures text { let run = run_source (asked_view request.entry) (plurals_view plurals.entry) source.now in
         Took result run.output (W.contents out.old.inner) (W.contents out.new.inner) }
-    ensures errors { let run = run_source (asked_view request.entry) source.now in
+    ensures errors { let run = run_source (asked_view request.entry) (plurals_view plurals.entry) source.now in
         Added result run.errors errors.old.items errors.new.items }
-    ensures first { AddedFirst result (source_errors (asked_view request.entry) source.now)
+    ensures first { let asked = asked_view request.entry in
+        AddedFirst result (source_errors asked (plurals_view plurals.entry) source.now)
         errors.old.items errors.new.items }
-    ensures ending { let run = run_source (asked_view request.entry) source.now in
+    ensures ending { let run = run_source (asked_view request.entry) (plurals_view plurals.entry) source.now in
         IfOk result (λ ending. ending_view ending ≡ run.ending) }
     ensures fault { Faulted out.old.failed out.old.empty out.new.failed out.new.empty result }
 {
-    let resource = read(alloc, source, errors)?;
-    show_resource(alloc, request, &resource, out, errors)
+    match request.options.fallback {
+        None => show_alone(alloc, request, plurals, source, out, errors),
+        Some(fallback) => { show_fallback(alloc, request, plurals, source, fallback, out, errors) }
+    }
 }

@@ -67,6 +67,22 @@ fn stops_where_writing_fails(rt: HostRuntime) -> Result<(), Fail> {
     Ok(())
 }
 
+/// The same of the text of a chain.
+#[test]
+fn stops_where_writing_of_a_fallback_fails(rt: HostRuntime) -> Result<(), Fail> {
+    let alloc = rt.alloc();
+    let words = ["--fallback", "intro = Welcome, { $name }.", "intro"];
+    let lines = "Resolver error: Unknown variable: $name\nfluent_show: writing failed\n";
+    for (room, fails, text) in ROOMS {
+        let out = of_room(alloc, *room, *fails);
+        let left = run_over(alloc, &words, b"a = 1".as_slice(), out, Vec::new(alloc))?;
+        let output = left.out.taken.as_slice();
+        let want = (3, *text, lines);
+        expect_outcome(&rt, left.status, output, left.err.as_slice(), want);
+    }
+    Ok(())
+}
+
 /// What an output without room leaves to report of a source that has errors of its own.
 const SOURCE_LINES: &str =
     "Parser error: unreadable entry at bytes 51..59\nAttempt to override an existing message: \"intro\".\nfluent_show: writing failed\n";

@@ -4,6 +4,10 @@
 #[cfg(test)]
 mod faults;
 #[cfg(test)]
+mod memory;
+#[cfg(test)]
+mod options;
+#[cfg(test)]
 mod outcome;
 #[cfg(test)]
 mod reads;

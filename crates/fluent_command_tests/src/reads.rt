@@ -94,6 +94,15 @@ fn takes_reads_that_fill_their_room(rt: HostRuntime) -> Result<(), Fail> {
     Ok(())
 }
 
+#[test]
+fn reads_nothing_where_a_rule_cannot_be_read(rt: HostRuntime) -> Result<(), Fail> {
+    let words = ["--cardinal", "one", "intro"];
+    let refused = (2, "", "fluent_show: bad plural rule\n");
+    let left = expect_run(&rt, rt.alloc(), &words, in_pieces(10, 0), refused)?;
+    assert_eq!(rt; left.reads, 0);
+    Ok(())
+}
+
 const KINDS: &[ErrorKind] = &[
     ErrorKind::Interrupted,
     ErrorKind::WouldBlock,

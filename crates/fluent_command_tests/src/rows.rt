@@ -5,11 +5,11 @@ use std::alloc::{AllocError, Global};
 use std::process::Abort;
 use std::test::Fail;
 
-type Row<'x> = (&'x [&'x str], &'x [u8], Outcome<'x>);
+pub type Row<'x> = (&'x [&'x str], &'x [u8], Outcome<'x>);
 
 const INTRO: &[u8] = b"intro = Welcome, { $name }.";
 
-fn expect_rows(rt: &impl Abort, alloc: Global, rows: &[Row]) -> Result<(), AllocError> {
+pub fn expect_rows(rt: &impl Abort, alloc: Global, rows: &[Row]) -> Result<(), AllocError> {
     for (words, source, want) in rows {
         expect_run(rt, alloc, *words, *source, *want)?;
     }
@@ -105,9 +105,9 @@ fn reports_errors_in_order(rt: HostRuntime) -> Result<(), Fail> {
     Ok(expect_rows(&rt, rt.alloc(), REPORTED)?)
 }
 
-const USAGE: &str = "usage: fluent_show [--no-isolate] ID [NAME=VALUE]..\n";
+pub const USAGE: &str = "usage: fluent_show [--no-isolate] ID [NAME=VALUE]..\n";
 
-const NOT_UTF8: &str = "fluent_show: standard input is not UTF-8\n";
+pub const NOT_UTF8: &str = "fluent_show: standard input is not UTF-8\n";
 
 const REFUSED: &[Row] = &[
     (

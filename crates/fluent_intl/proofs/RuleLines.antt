@@ -4,7 +4,7 @@ use Rattle.std.proofs.Common.{sym, refl, ap, ◌∙◌, arith, append_assoc, inl
 use Rattle.std.proofs.lemmas.List.{append-nil}
 use Rattle.std.proofs.lemmas.Bool.{cases_Bool}
 use Rattle.std.proofs.lemmas.Bool.Decides.{nat_tests}
-use Rattle.fluent_text.proofs.Runs.{run_len-stops}
+use Rattle.fluent_text.specs.Facts.Runs.{run_len-stops}
 use Rattle.fluent_text.specs.Parser.{Text, Read, run_len, run}
 use Rattle.fluent_intl.specs.RuleTree.{Rule}
 use Rattle.fluent_intl.specs.RuleGrammar.{is_of_line, is_blank, lines, line, before, with_line, rules_from, rules}

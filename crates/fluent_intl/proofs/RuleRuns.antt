@@ -4,7 +4,7 @@ use Rattle.std.proofs.lemmas.Bool.Decides.{nat_tests}
 use Rattle.std.specs.Str.{IsCharBoundary}
 use Rattle.fluent_text.specs.Parser.{run_len}
 use Rattle.fluent_text.specs.Lexical.{is_digit}
-use Rattle.fluent_text.proofs.Runs.{boundary-ascii, boundary-wide}
+use Rattle.fluent_text.specs.Facts.Runs.{boundary-ascii, boundary-wide}
 use Rattle.fluent_intl.specs.RuleGrammar.{is_blank, is_letter, is_of_line}
 use Rattle.fluent_intl.specs.RuleReading.{class_test}
 use Rattle.fluent_intl.specs.declared.rule_texts.lexical.Class.{Class}

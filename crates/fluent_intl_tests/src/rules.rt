@@ -117,6 +117,7 @@ fn have_texts(alloc: Global) -> Result<bool, AllocError> {
     )
 }
 
+/// Run with each allocation failing in turn.
 #[test]
 fn rules_select_categories(rt: HostRuntime) -> Result<(), RuleFault> {
     for row in CATEGORIES {
@@ -136,6 +137,7 @@ fn rules_select_categories(rt: HostRuntime) -> Result<(), RuleFault> {
     Ok(())
 }
 
+/// Run with each allocation failing in turn.
 #[test]
 fn rules_that_cannot_be_read_are_named(rt: HostRuntime) -> Result<(), AllocError> {
     for row in FAULTS {

@@ -5,10 +5,10 @@ use Rattle.std.proofs.lemmas.Bool.Decides.{nat_tests}
 use Rattle.std.proofs.lemmas.List.{append_cancel_right, take-append-le, drop-append-le}
 use Rattle.fluent_text.specs.Parser.{Read, Parser, ◌>>=◌, ◌>>◌, ◌<$>◌, ◌<|>◌, and_then, otherwise, pure, ignore, many_from, turn, go_on, run_len, run, run1, byte, first}
 use Rattle.fluent_syntax.specs.Expressions.{provided, taken, source_of}
-use Rattle.fluent_text.proofs.Turns.{more as a_turn}
-use Rattle.fluent_text.proofs.Runs.{run_len-le}
-use Rattle.fluent_syntax.proofs.Chunked.{taken_is}
-use Rattle.fluent_syntax.proofs.Fronts.{TakesTo, Takes, takes-bind, takes-pure, takes-or, takes-all, takes-many, takes-run, takes-run1, takes-byte, takes-source_of}
+use Rattle.fluent_text.specs.Facts.Turns.{more as a_turn}
+use Rattle.fluent_text.specs.Facts.Runs.{run_len-le}
+use Rattle.fluent_syntax.specs.Facts.Chunked.{taken_is}
+use Rattle.fluent_syntax.specs.Facts.Fronts.{TakesTo, Takes, takes-bind, takes-pure, takes-or, takes-all, takes-many, takes-run, takes-run1, takes-byte, takes-source_of}
 use Rattle.fluent_laws.specs.FrontLaws.{ReadByFrontAlone}
 use Rattle.fluent_laws.proofs.Near.{is_read, none_of, none_left, nothing_left}
 use Rattle.fluent_laws.proofs.Known.{lefts, values, both, taken_one, takes-provided, unread}

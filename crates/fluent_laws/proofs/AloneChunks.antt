@@ -7,9 +7,9 @@ use Rattle.fluent_tree.specs.Tree.{Entry}
 use Rattle.fluent_text.specs.Parser.{Read, Parser, ◌>>=◌, ◌>>◌, ◌<$>◌, ◌<|>◌, and_then, otherwise, pure, skip, ignore, count, one_more, many_from, turn, go_on, run_len, run, run1, byte, first}
 use Rattle.fluent_text.specs.Lexical.{is_letter, is_inside, is_space, blank_inline, line_break, line_end, blank_line, blank_block}
 use Rattle.fluent_syntax.specs.Chunks.{may_begin_entry, rest_of_line, comment_line, junk_line, junk, Part, entry_part, blank_part, junk_part, part, Chunk, with_bytes, chunk}
-use Rattle.fluent_syntax.proofs.OneLine.{stops}
-use Rattle.fluent_syntax.proofs.Chunked.{taken_is}
-use Rattle.fluent_text.proofs.Runs.{run_len-le}
+use Rattle.fluent_syntax.specs.Facts.OneLine.{stops}
+use Rattle.fluent_syntax.specs.Facts.Chunked.{taken_is}
+use Rattle.fluent_text.specs.Facts.Runs.{run_len-le}
 use Rattle.fluent_laws.proofs.Near.{is_read, none_left, none_of}
 use Rattle.fluent_laws.proofs.Known.{lefts, values, unread, taken_one}
 use Rattle.fluent_laws.proofs.Leads.{first_read, true_false, line_end_read, Starts, starts-bind, starts-byte, starts-or, starts-weaker}

@@ -4,7 +4,7 @@ use Rattle.std.specs.Prelude.{unwrap_or, replicate}
 use Rattle.std.proofs.lemmas.Bool.{cases_Bool}
 use Rattle.std.proofs.lemmas.Bool.Decides.{nat_tests}
 use Rattle.std.proofs.lemmas.List.{append_cancel_right}
-use Rattle.fluent_syntax.proofs.OneLine.{no_words, some_words}
+use Rattle.fluent_syntax.specs.Facts.OneLine.{no_words, some_words}
 use Rattle.fluent_tree.specs.Tree.{Expression, placeable, pattern_of}
 use Rattle.fluent_text.specs.Parser.{Read, Parser, ◌>>=◌, ◌<$>◌, ◌<|>◌, and_then, otherwise, pure, skip, optional, many_from, turn, go_on, count, one_more, run_len, run1, byte, first}
 use Rattle.fluent_text.specs.Lexical.{is_text, blank_inline, line_break, line_end, blank_line, blank_block}
@@ -12,9 +12,9 @@ use Rattle.fluent_syntax.specs.Layout.{Words, Piece, line, words, hole, lines, e
 use Rattle.fluent_syntax.specs.Pieces.{follows, words_after, inline_text, is_indented, indented_text, block_text, indent, block_placeable, pattern_element, pieces, pattern}
 use Rattle.fluent_syntax.specs.Expressions.{level}
 use Rattle.fluent_laws.specs.ReadLaws.{taken_words, taken_piece}
-use Rattle.fluent_text.proofs.Turns.{more as a_turn}
-use Rattle.fluent_syntax.proofs.Fronts.{TakesTo, Takes, takes-bind, takes-map, takes-or, takes-if, takes-many, takes-all, no_longer}
-use Rattle.fluent_syntax.proofs.LexicalFronts.{takes-words_after, takes-blank_inline, more_lines, takes-more_lines}
+use Rattle.fluent_text.specs.Facts.Turns.{more as a_turn}
+use Rattle.fluent_syntax.specs.Facts.Fronts.{TakesTo, Takes, takes-bind, takes-map, takes-or, takes-if, takes-many, takes-all, no_longer}
+use Rattle.fluent_syntax.specs.Facts.LexicalFronts.{takes-words_after, takes-blank_inline, more_lines, takes-more_lines}
 use Rattle.fluent_laws.proofs.Near.{is_read, none_of}
 use Rattle.fluent_laws.proofs.Known.{lefts, values, both, unread}
 use Rattle.fluent_laws.proofs.Leads.{first_read, either_read, true_false}

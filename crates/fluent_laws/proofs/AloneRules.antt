@@ -7,8 +7,8 @@ use Rattle.fluent_tree.specs.Tree.{no_call, call, no_attribute, attribute, strin
 use Rattle.fluent_text.specs.Parser.{Read, Parser, ◌>>=◌, ◌>>◌, ◌<$>◌, ◌<|>◌, and_then, otherwise, pure, ignore, skip, count, one_more, many_from, run_len, run, run1, byte, first}
 use Rattle.fluent_text.specs.Lexical.{is_letter, is_space, is_digit, is_quoted, is_identifier_byte, identifier, blank_inline, at_end, line_break, line_end, blank_turn, blank}
 use Rattle.fluent_syntax.specs.Expressions.{level, taken, source_of, hex_digit, hex_digits, escape, quoted_turn, digits, number_parts, string_literal, number_literal, literal, attribute_access, message_reference, is_function_name, function_reference, optional_call, term_reference, variable_reference}
-use Rattle.fluent_syntax.proofs.Fronts.{takes-nothing, takes-test, takes-drop}
-use Rattle.fluent_syntax.proofs.LexicalFronts.{takes-identifier, takes-at_end, takes-blanks}
+use Rattle.fluent_syntax.specs.Facts.Fronts.{takes-nothing, takes-test, takes-drop}
+use Rattle.fluent_syntax.specs.Facts.LexicalFronts.{takes-identifier, takes-at_end, takes-blanks}
 use Rattle.fluent_laws.proofs.Near.{is_read}
 use Rattle.fluent_laws.proofs.Known.{Behind, lefts, taken_one}
 use Rattle.fluent_laws.proofs.Leads.{first_read, true_false, end_read, Starts, starts-bind, starts-byte, starts-number_literal, may_start_number}

@@ -5,7 +5,7 @@ use Rattle.fluent_text.specs.Lexical.{is_inside, blank_block}
 use Rattle.fluent_syntax.specs.Entries.{entry}
 use Rattle.fluent_syntax.specs.Chunks.{rest_of_line, comment_line, junk_line, junk, Part, part, entry_part, blank_part, junk_part, Chunk, chunk, with_bytes, chunks, part_range, ranges_from, junk_ranges}
 use Rattle.fluent_laws.specs.ChunkLaws.{bytes_of, MadeOfChunks, NoneEmpty, InOrder, RangesWithin}
-use Rattle.fluent_syntax.proofs.Chunked.{CutsTo, chunk-cuts, chunk_lens, chunk_shorter, chunks-none, chunks-next}
+use Rattle.fluent_syntax.specs.Facts.Chunked.{CutsTo, chunk-cuts, chunk_lens, chunk_shorter, chunks-none, chunks-next}
 use Rattle.std.specs.Prelude.{nat_lt, Bool, true, false}
 use Rattle.std.proofs.lemmas.List.Elements.{All-nil, All-cons}
 

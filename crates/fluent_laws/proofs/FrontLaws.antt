@@ -8,7 +8,7 @@ use Rattle.fluent_syntax.specs.Entries.{name_of_value}
 use Rattle.fluent_syntax.specs.Chunks.{Chunk, chunks, comment_line, junk}
 use Rattle.fluent_laws.specs.ChunkLaws.{bytes_of}
 use Rattle.fluent_laws.specs.FrontLaws.{ReadByFront, ReadFromThereOn}
-use Rattle.fluent_syntax.proofs.Chunked.{chunks-none, chunks-next}
+use Rattle.fluent_syntax.specs.Facts.Chunked.{chunks-none, chunks-next}
 use Rattle.fluent_laws.proofs.ChunkLaws.{by_chunk, made_of_chunks}
 use Rattle.fluent_laws.proofs.Near.{two_alike, Near, NearTo}
 use Rattle.fluent_laws.proofs.NearRules.{near-identifier, near-variable_reference, near-message_reference, near-name_of_value, near-variant_head, near-words_after, near-blank, near-comment_line, near-junk}

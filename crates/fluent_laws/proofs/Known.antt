@@ -4,8 +4,8 @@ use Rattle.std.proofs.lemmas.Bool.Decides.{nat_tests}
 use Rattle.std.proofs.lemmas.List.{append_cancel_right}
 use Rattle.fluent_text.specs.Parser.{Read, Parser, ◌>>=◌, ◌>>◌, ◌<$>◌, ◌<|>◌, and_then, otherwise, pure, many_from, turn, go_on, byte}
 use Rattle.fluent_syntax.specs.Expressions.{provided}
-use Rattle.fluent_syntax.proofs.Fronts.{TakesTo, Takes, takes-many, takes-bind, takes-pure, takes-map, takes-nothing, takes-byte, takes-or, takes-all}
-use Rattle.fluent_text.proofs.Turns.{more as a_turn}
+use Rattle.fluent_syntax.specs.Facts.Fronts.{TakesTo, Takes, takes-many, takes-bind, takes-pure, takes-map, takes-nothing, takes-byte, takes-or, takes-all}
+use Rattle.fluent_text.specs.Facts.Turns.{more as a_turn}
 use Rattle.fluent_laws.proofs.Near.{closes, shows, Alike2, behind_front, NearTo, Near, Shuts, is_read, none_left}
 
 -- ---- the texts that may stand behind

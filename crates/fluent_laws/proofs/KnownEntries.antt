@@ -12,8 +12,8 @@ use Rattle.fluent_syntax.specs.Expressions.{level}
 use Rattle.fluent_syntax.specs.Entries as n
 use Rattle.fluent_syntax.specs.Entries.{value, name_of_value, attribute, value_first, attributes_alone, entry}
 use Rattle.fluent_laws.specs.FrontLaws.{behind_spaces, ends_indented, ends_flush, no_pattern, nothing_more, line_breaks, EndsBy, EndsPattern, EndsMessage, EndsEntry, ReadBefore, entry_line, EntryReadBefore}
-use Rattle.fluent_syntax.proofs.Fronts.{TakesTo}
-use Rattle.fluent_syntax.proofs.LexicalFronts.{takes-line_break}
+use Rattle.fluent_syntax.specs.Facts.Fronts.{TakesTo}
+use Rattle.fluent_syntax.specs.Facts.LexicalFronts.{takes-line_break}
 use Rattle.fluent_laws.proofs.Near.{closes, is_read, near-byte}
 use Rattle.fluent_laws.proofs.NearRules.{near-line_end, near-blanks, near-name_of_value}
 use Rattle.fluent_laws.proofs.Known.{Behind, closed_one, taken_one, Closed, closed_behind, cut, Known, Stops, Anywhere, lefts, Clash, way-clash, never, Enters, Fixed, fixed-near, fixed-bind, fixed-then, fixed-map, fixed-or, fixed-many}

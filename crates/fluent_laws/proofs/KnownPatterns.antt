@@ -10,12 +10,12 @@ use Rattle.fluent_syntax.specs.Layout.{Words, Piece, line, words, hole, elements
 use Rattle.fluent_syntax.specs.Pieces.{words_after, inline_text, is_indented, indented_text, block_text, indent, block_placeable, pattern_element, pieces, pattern}
 use Rattle.fluent_syntax.specs.Expressions.{Level, level, provided, inline_expression, variant_key, star, variant_head, variant, variant_list, is_selector, arrow, selector, select_expression, stands_alone, alone, expression, inline_placeable}
 use Rattle.fluent_laws.specs.FrontLaws.{ReadByFrontAlone}
-use Rattle.fluent_syntax.proofs.Fronts.{TakesTo}
+use Rattle.fluent_syntax.specs.Facts.Fronts.{TakesTo}
 use Rattle.fluent_laws.proofs.Near.{closes, Near, Shuts, near-byte, near-then, near-pure, near-map, near-or, near-if, sees_first, shuts-map, shuts-run1, is_read}
 use Rattle.fluent_laws.proofs.NearRules.{heedless-text, near-words_after, near-variant_head, near-line_end, near-blank_inline, near-blanks, near-spaces, shuts-blank_inline, shuts-bind}
 use Rattle.fluent_laws.proofs.Known.{Behind, Closed, closed_behind, Stops, Anywhere, kept, lefts, Clash, way-shut, way-clash, never, Enters, enters-closed, Closing, closing-bind, Fixed, fixed-near, fixed-weaker, fixed-any, fixed-bind, fixed-then, fixed-map, fixed-sift, fixed-byte, fixed-refuse, fixed-or, fixed-many}
 use Rattle.fluent_laws.proofs.Leads.{first_read, either_read, true_false, fails_at, is_blank, next, next_first, keep_of, keeps-bind, keeps-pure, keeps-blanks, keeps-blank_inline, keeps-blank_block, keeps-indent, keeps-line_end, line_end_text, line_end_brace, Leads, leads-bind, leads-keep, leads-byte, Starts, starts-bind, starts-byte}
-use Rattle.fluent_syntax.proofs.OneLine.{no_blank_inline, stops}
+use Rattle.fluent_syntax.specs.Facts.OneLine.{no_blank_inline, stops}
 use Rattle.fluent_laws.proofs.KnownRules.{Ahead, End, is, ends_inline, ahead, way-end, Firm, closed_end, closed_closed, inline_end, fixed-inline, closed_by, fixed-closed_by, closing-closed_by, leads-closed_by, fixed-call_arguments, leads-call_arguments}
 
 -- ---- single texts

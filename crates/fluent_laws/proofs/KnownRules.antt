@@ -6,8 +6,8 @@ use Rattle.fluent_tree.specs.Tree.{Text, Inline, Arguments, no_call, call, no_at
 use Rattle.fluent_text.specs.Parser.{Read, Parser, ◌>>=◌, ◌>>◌, ◌<$>◌, ◌<|>◌, and_then, otherwise, pure, skip, byte, first}
 use Rattle.fluent_text.specs.Lexical.{is_letter, identifier, blank}
 use Rattle.fluent_syntax.specs.Expressions.{Level, provided, string_literal, number_literal, literal, attribute_access, message_reference, is_function_name, function_reference, optional_call, term_reference, inline_expression, named_argument, Argument, positional, by_name, argument, Gathered, add, is_well_formed, arguments_of, comma, argument_comma, last_argument, argument_list, call_arguments, variable_reference}
-use Rattle.fluent_syntax.proofs.Fronts.{TakesTo, takes-then, takes-pure, takes-byte}
-use Rattle.fluent_syntax.proofs.LexicalFronts.{takes-blanks}
+use Rattle.fluent_syntax.specs.Facts.Fronts.{TakesTo, takes-then, takes-pure, takes-byte}
+use Rattle.fluent_syntax.specs.Facts.LexicalFronts.{takes-blanks}
 use Rattle.fluent_laws.proofs.Near.{closes, Near, near-byte, near-then, near-pure, shuts-map, is_read}
 use Rattle.fluent_laws.proofs.NearRules.{near-identifier, near-attribute_access, near-message_reference, near-variable_reference, near-blanks, shuts-number_literal}
 use Rattle.fluent_laws.proofs.NearStrings.{near-literal, near-named_argument}

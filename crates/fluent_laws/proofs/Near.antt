@@ -4,8 +4,8 @@ use Rattle.std.proofs.lemmas.Bool.{cases_Bool}
 use Rattle.std.proofs.lemmas.Bool.Decides.{nat_tests}
 use Rattle.fluent_text.specs.Parser.{Read, Parser, ◌>>=◌, ◌>>◌, ◌<$>◌, ◌<|>◌, and_then, otherwise, pure, ignore, skip, many_from, turn, go_on, count, one_more, run_len, run, run1, byte, first}
 use Rattle.fluent_syntax.specs.Expressions.{taken, source_of}
-use Rattle.fluent_text.proofs.Turns.{more as a_turn}
-use Rattle.fluent_syntax.proofs.Chunked.{taken_is}
+use Rattle.fluent_text.specs.Facts.Turns.{more as a_turn}
+use Rattle.fluent_syntax.specs.Facts.Chunked.{taken_is}
 
 -- ---- what shows of a text
 

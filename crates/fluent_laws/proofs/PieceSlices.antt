@@ -11,9 +11,9 @@ use Rattle.fluent_syntax.specs.Layout.{Words, Piece, line, words, hole}
 use Rattle.fluent_syntax.specs.Layout as y
 use Rattle.fluent_syntax.specs.Pieces.{follows, words_after, is_indented, indented_text, block_text, indent, block_placeable, pattern_element, pieces, pattern}
 use Rattle.fluent_laws.specs.SliceLaws.{IsSlice, SlicesOfExpression, SlicesOfPattern}
-use Rattle.fluent_syntax.proofs.Fronts.{takes-byte}
-use Rattle.fluent_text.proofs.Runs.{run_len-le}
-use Rattle.fluent_syntax.proofs.LexicalFronts.{takes-spaces, more_lines, takes-more_lines}
+use Rattle.fluent_syntax.specs.Facts.Fronts.{takes-byte}
+use Rattle.fluent_text.specs.Facts.Runs.{run_len-le}
+use Rattle.fluent_syntax.specs.Facts.LexicalFronts.{takes-spaces, more_lines, takes-more_lines}
 use Rattle.fluent_laws.proofs.Slices.{EndOf, later, slice_here, Gives, gives-bind, gives-or, gives-so, Behind, gives-takes, Ended, Within, within-bind, within-map, within-or, within-all}
 use Rattle.fluent_laws.proofs.LayoutSlices.{ending, blanks, spaces, OfPiece, OfPieces, pieces_append, slices_laid_out}
 

@@ -9,12 +9,12 @@ use Rattle.fluent_syntax.specs.Entries as n
 use Rattle.fluent_syntax.specs.Entries.{attribute, entry}
 use Rattle.fluent_syntax.specs.Chunks.{comment_line, junk_line, junk}
 use Rattle.fluent_laws.specs.FrontLaws.{TakesFront}
-use Rattle.fluent_syntax.proofs.Fronts.{takes-run1, TakesTo, Takes, takes-bind, takes-then, takes-pure}
-use Rattle.fluent_syntax.proofs.LexicalFronts.{takes-attribute_access, takes-identifier, takes-blank_inline, takes-line_end, takes-blank, takes-blank_block, takes-string_literal, takes-number_literal, takes-variant_key, takes-arrow, takes-words_after, takes-block_text}
-use Rattle.fluent_syntax.proofs.Sound.{takes-sound, sound-provided, sound-bind, sound-pure}
-use Rattle.fluent_syntax.proofs.Trees.{Any, good, sound-variable, sound-message, sound-function, sound-term, sound-inline, sound-named, sound-argument, sound-list, sound-block, sound-element, sound-pattern, sound-variant, sound-variants, sound-braces, sound-brackets}
-use Rattle.fluent_syntax.proofs.Rules.{takes-attribute, takes-message, takes-term, takes-entry}
-use Rattle.fluent_syntax.proofs.Chunked.{takes-comment_line, takes-junk_line, takes-junk}
+use Rattle.fluent_syntax.specs.Facts.Fronts.{takes-run1, TakesTo, Takes, takes-bind, takes-then, takes-pure}
+use Rattle.fluent_syntax.specs.Facts.LexicalFronts.{takes-attribute_access, takes-identifier, takes-blank_inline, takes-line_end, takes-blank, takes-blank_block, takes-string_literal, takes-number_literal, takes-variant_key, takes-arrow, takes-words_after, takes-block_text}
+use Rattle.fluent_syntax.specs.Facts.Sound.{takes-sound, sound-provided, sound-bind, sound-pure}
+use Rattle.fluent_syntax.specs.Facts.Trees.{Any, good, sound-variable, sound-message, sound-function, sound-term, sound-inline, sound-named, sound-argument, sound-list, sound-block, sound-element, sound-pattern, sound-variant, sound-variants, sound-braces, sound-brackets}
+use Rattle.fluent_syntax.specs.Facts.Rules.{takes-attribute, takes-message, takes-term, takes-entry}
+use Rattle.fluent_syntax.specs.Facts.Chunked.{takes-comment_line, takes-junk_line, takes-junk}
 
 front_of : {A : Type 0} (p : Parser A) → Takes p → (s : List ℕ) → TakesFront p s
 front_of p h s x behind e = subst (TakesTo s) e (h.front s)

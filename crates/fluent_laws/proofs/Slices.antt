@@ -4,7 +4,7 @@ use Rattle.fluent_tree.specs.Tree.{Text}
 use Rattle.fluent_text.specs.Parser.{Read, Parser, ◌>>=◌, ◌>>◌, ◌<$>◌, ◌<|>◌, and_then, otherwise, pure, refuse, many_from, turn, go_on, run, run_len}
 use Rattle.fluent_syntax.specs.Expressions.{provided, taken, source_of}
 use Rattle.fluent_laws.specs.SliceLaws.{IsSlice}
-use Rattle.fluent_syntax.proofs.Fronts.{TakesTo, Takes}
+use Rattle.fluent_syntax.specs.Facts.Fronts.{TakesTo, Takes}
 
 -- ---- slices
 

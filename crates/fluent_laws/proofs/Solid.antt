@@ -10,8 +10,8 @@ use Rattle.fluent_syntax.specs.Pieces.{follows, words_after, inline_text, is_ind
 use Rattle.fluent_syntax.specs.Expressions.{level, expression, inline_placeable}
 use Rattle.fluent_syntax.specs.Entries as n
 use Rattle.fluent_syntax.specs.Entries.{value, name_of_value, attribute, value_first, attributes_alone}
-use Rattle.fluent_syntax.proofs.Fronts.{TakesTo, Takes, takes-byte}
-use Rattle.fluent_syntax.proofs.LexicalFronts.{takes-blanks, takes-blank_inline, takes-blank_block, takes-line_end}
+use Rattle.fluent_syntax.specs.Facts.Fronts.{TakesTo, Takes, takes-byte}
+use Rattle.fluent_syntax.specs.Facts.LexicalFronts.{takes-blanks, takes-blank_inline, takes-blank_block, takes-line_end}
 use Rattle.fluent_laws.proofs.Near.{is_read}
 use Rattle.fluent_laws.proofs.Known.{lefts, taken_one}
 use Rattle.fluent_laws.proofs.Leads.{first_read, either_read}

@@ -5,6 +5,7 @@ pub mod Strikes
 pub mod Limits
 pub mod Worked
 pub mod Counted
+pub mod Beside
 pub mod Maps
 pub mod Added
 pub mod Answers

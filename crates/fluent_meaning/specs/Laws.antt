@@ -1,12 +1,16 @@
 -- The laws, as statements.
-use Rattle.std.specs.Prelude.{◌≡◌, ℕ, ◌+◌, ◌-◌, ◌*◌, ◌<◌, ◌≤◌, ◌↔◌, length, List, ◌∷◌, ◌++◌}
-use Rattle.fluent_tree.specs.Tree.{Text, Pattern}
+use Rattle.std.specs.Prelude.{◌≡◌, ℕ, ◌+◌, ◌-◌, ◌*◌, ◌<◌, ◌≤◌, ◌↔◌, length, List, [], ◌∷◌, ◌++◌, false}
+use Rattle.fluent_tree.specs.Tree.{Text, Pattern, Expression, Inline, Arguments}
+use Rattle.fluent_tree.specs.Fallback.{fallback_of}
 use Rattle.fluent_meaning.specs.Errors.{Error, resolver_error, too_many_placeables}
+use Rattle.fluent_meaning.specs.Value.{Value}
+use Rattle.fluent_meaning.specs.Arguments.{Map}
 use Rattle.fluent_meaning.specs.Bundle.{Bundle, stored}
-use Rattle.fluent_meaning.specs.Walk.{Environment, inner, whole}
-use Rattle.fluent_meaning.specs.Meaning.{Budget, left, struck, at_most, Outcome, Ran, nothing_more, within_budget, run, substituted, meaning}
+use Rattle.fluent_meaning.specs.Walk.{Environment, application, is_on, inner, go, expression, called, whole}
+use Rattle.fluent_meaning.specs.Meaning.{Budget, left, struck, at_most, closed, Outcome, Ran, nothing_more, within_budget, run, substituted, meaning}
 use Rattle.fluent_meaning.specs.Strike.{Until, passed, stopped, up_to_strike}
 use Rattle.fluent_meaning.specs.Work.{with_work, work, most_nodes}
+use Rattle.fluent_meaning.specs.Result.{written_pattern, tracked, maybe_tracked, arguments_of}
 
 -- What a pattern means within a budget is one walk over it, with the same meaning for those that it refers to.
 abbrev pub RunsByItself : Type 0 → Type 0
@@ -16,6 +20,13 @@ RunsByItself C = (b : Bundle C) (env : Environment C) (path : List Pattern) (p :
 pub record CountsByItself (C : Type 0) : Type 0 where
   pub is_the_run : (b : Bundle C) (env : Environment C) (path : List Pattern) (p : Pattern) (budget : Budget) → (work b env path p budget).ran ≡ run b env path p budget
   pub counts : (b : Bundle C) (env : Environment C) (path : List Pattern) (p : Pattern) (budget : Budget) → work b env path p budget ≡ whole with_work b (work b) env path p budget
+
+-- So it is with what the calls of a scope give, and a formatting call: each stands beside the counts of the walk over its part.
+pub record CallsByThemselves (C : Type 0) : Type 0 where
+  pub reference : (b : Bundle C) (env : Environment C) (path : List Pattern) (p : Pattern) (x : Inline) (budget : Budget) → tracked b env path p x budget ≡ (go with_work b (work b) env (is_on path p) env path x p budget).ran
+  pub placeable : (b : Bundle C) (env : Environment C) (path : List Pattern) (p : Pattern) (e : Expression) (budget : Budget) → maybe_tracked b env path p e budget ≡ closed false (fallback_of e) (expression with_work b (work b) env (inner path p) e budget).ran
+  pub arguments : (b : Bundle C) (env : Environment C) (path : List Pattern) (a : Arguments) (budget : Budget) → arguments_of b env path a budget ≡ (called with_work b (work b) env path a budget).ran
+  pub pattern : (b : Bundle C) (args : Map (Value C)) (p : Pattern) → written_pattern b args p ≡ (whole with_work b (work b) (application args) [] p (left b.limit)).ran
 
 -- A run never adds to its budget, and struck stays struck.
 pub record NeverAdds (C : Type 0) : Type 0 where

@@ -8,7 +8,7 @@ ghost use Rattle.fluent_meaning.specs.Value.{Value};
 ghost use Rattle.fluent_meaning.specs.Bundle.{Entry};
 ghost use Rattle.fluent_meaning.specs.Marks.{MarksAreBalanced, TextsAreWhole, is_whole};
 ghost use Rattle.fluent_meaning.specs.Users.{IsMap, MeansOneThing, AddingKeeps, LastWins, CutsAlike, NothingIsSame, TermsAreClosed, StrikesOnce, AlikeGiveTheSame, ReadsAsDefined};
-ghost use Rattle.fluent_meaning.specs.Laws.{RunsByItself, CountsByItself, NeverAdds, IsSettled, StrikesBeyond, SameWithin, StrikeBeginsBoth, WorkIsBounded};
+ghost use Rattle.fluent_meaning.specs.Laws.{RunsByItself, CountsByItself, CallsByThemselves, NeverAdds, IsSettled, StrikesBeyond, SameWithin, StrikeBeginsBoth, WorkIsBounded};
 
 /// The work of each run is bounded by its limit.
 pub fn work_is_bounded<C>()
@@ -32,6 +32,11 @@ pub fn budgets_pass_through<C>()
     ensures runs { RunsByItself C }
     ensures counts { CountsByItself C }
     ensures never_adds { NeverAdds C }
+{}
+
+/// What a scope's calls give, and a formatting call, stands beside the counts of the walk over its part.
+pub fn calls_pass_through<C>()
+    ensures { CallsByThemselves C }
 {}
 
 /// What arguments, ids and values come to.

@@ -2,7 +2,7 @@
 use Rattle.std.proofs.Common.{◌≡◌, ℕ, suc, ◌<◌, ◌≤◌, List, length, Some, None, ap, true, [], refl}
 use Rattle.fluent_text.specs.Parser.{Parser, and_then, many_from}
 use Rattle.fluent_syntax.specs.Expressions.{Level, Gathered, Argument, add, argument, comma, argument_comma, last_argument, argument_list}
-use Rattle.fluent_text.proofs.Turns.{more, none, empty, done}
+use Rattle.fluent_text.specs.Facts.Turns.{more, none, empty, done}
 
 -- what the rest of a list gives, after the arguments before it
 unfoldable pub gathers : Level → ℕ → Gathered → Parser Gathered

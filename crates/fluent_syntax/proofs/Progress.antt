@@ -12,15 +12,15 @@ use Rattle.fluent_syntax.specs.Layout.{Words, Piece, line, words, hole, unless_e
 use Rattle.fluent_syntax.specs.Pieces.{pattern, follows, is_indented, indented_text, words_after, inline_text, block_text, indent, block_placeable, pattern_element, pieces}
 use Rattle.fluent_syntax.specs.Expressions.{level, expression, inline_placeable}
 use Rattle.fluent_syntax.specs.Progress.{goes_on, Reached, ended, piece_of, text_pieces, hole_pieces}
-use Rattle.fluent_text.proofs.Runs.{run_len-le}
-use Rattle.fluent_text.proofs.Turns.{more}
-use Rattle.fluent_syntax.proofs.OneLine.{stops, stays, not_placeable, no_words, some_words, no_feed}
-use Rattle.fluent_syntax.proofs.Fronts.{Takes, takes-bind, takes-then, takes-byte, takes-pure, takes-if, Lessens, Eats, eats-bind, eats-then, eats-map, eats-or, eats-byte, eats-run1}
-use Rattle.fluent_syntax.proofs.LexicalFronts.{takes-blanks, takes-blank_inline, takes-words_after, takes-indent}
-use Rattle.fluent_syntax.proofs.Rules.{eats-blank_block}
-use Rattle.fluent_syntax.proofs.Sound.{takes-sound}
+use Rattle.fluent_text.specs.Facts.Runs.{run_len-le}
+use Rattle.fluent_text.specs.Facts.Turns.{more}
+use Rattle.fluent_syntax.specs.Facts.OneLine.{stops, stays, not_placeable, no_words, some_words, no_feed}
+use Rattle.fluent_syntax.specs.Facts.Fronts.{Takes, takes-bind, takes-then, takes-byte, takes-pure, takes-if, Lessens, Eats, eats-bind, eats-then, eats-map, eats-or, eats-byte, eats-run1}
+use Rattle.fluent_syntax.specs.Facts.LexicalFronts.{takes-blanks, takes-blank_inline, takes-words_after, takes-indent}
+use Rattle.fluent_syntax.specs.Facts.Rules.{eats-blank_block}
+use Rattle.fluent_syntax.specs.Facts.Sound.{takes-sound}
 use Rattle.fluent_syntax.specs.WellFormed.{IsWellFormed}
-use Rattle.fluent_syntax.proofs.Trees.{sound-braces, takes-expression}
+use Rattle.fluent_syntax.specs.Facts.Trees.{sound-braces, takes-expression}
 
 -- ---- turns to spare change nothing
 

@@ -7,7 +7,7 @@ use Rattle.fluent_syntax.specs.declared.parser.bytes.Class.TheVariants.{Identifi
 use Rattle.fluent_syntax.specs.Classes.{class_test}
 use Rattle.fluent_text.specs.Parser.{run_len}
 use Rattle.fluent_text.specs.Lexical.{is_identifier_byte, is_space, is_text, is_digit, is_inside, is_quoted, is_function_byte}
-use Rattle.fluent_text.proofs.Runs.{boundary-ascii, boundary-wide}
+use Rattle.fluent_text.specs.Facts.Runs.{boundary-ascii, boundary-wide}
 
 pub boundary : (class : Class) (s : List ℕ) → IsUtf8 s → IsCharBoundary s (run_len (class_test class) s)
 boundary Identifier s utf8 = boundary-ascii is_identifier_byte s utf8 (λ c d e. grind (arith, nat_tests))

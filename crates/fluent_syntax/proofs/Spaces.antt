@@ -3,7 +3,7 @@ use Rattle.std.proofs.Common.{◌≡◌, ◌==◌, ℕ, suc, ◌<◌, ◌≤◌,
 use Rattle.std.proofs.lemmas.Bool.Decides.{nat_tests}
 use Rattle.fluent_text.specs.Parser.{Read, Parser, ◌>>=◌, pure, otherwise, and_then, ignore, skip, count, many_from, one_more, first, byte, run1}
 use Rattle.fluent_text.specs.Lexical.{blank_inline, line_break, at_end, line_end, blank_turn, blank}
-use Rattle.fluent_text.proofs.Turns.{none}
+use Rattle.fluent_text.specs.Facts.Turns.{none}
 
 not_end : (s : List ℕ) → 0 < length s → at_end s ≡ None
 not_end s h = let some : (length s == 0) ≡ false = grind (arith, nat_tests) in rw some refl

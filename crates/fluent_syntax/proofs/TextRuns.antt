@@ -6,7 +6,7 @@ use Rattle.std.proofs.lemmas.List.{get_or_past}
 use Rattle.memchr.specs.Find.{Nowhere, Passes, is_byte3}
 use Rattle.fluent_text.specs.Parser.{first, run_len}
 use Rattle.fluent_text.specs.Lexical.{is_text}
-use Rattle.fluent_text.proofs.Runs.{run_len-le, run_len-stops, run_len-passes}
+use Rattle.fluent_text.specs.Facts.Runs.{run_len-le, run_len-stops, run_len-passes}
 
 pub not_both : (a : Bool) → a ≡ true → a ≡ false → ⊥
 not_both a e f = absurd (omega (arith, ap as_number (sym e ∙ f)))

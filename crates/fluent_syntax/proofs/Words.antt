@@ -8,7 +8,7 @@ use Rattle.fluent_text.specs.Parser.{run_len, run, run1}
 use Rattle.fluent_syntax.specs.Reading.{IsIndent}
 use Rattle.fluent_text.specs.Lexical.{is_space, is_text}
 use Rattle.fluent_syntax.specs.Pieces.{follows, words_after}
-use Rattle.fluent_text.proofs.Runs.{boundary-wide, run_len-le, run_len-passes, within_from_byte}
+use Rattle.fluent_text.specs.Facts.Runs.{boundary-wide, run_len-le, run_len-passes, within_from_byte}
 
 -- the end of a text behind an indent
 pub boundary-behind : (line text : List ℕ) (n m len : ℕ) → text ≡ drop n line → n ≤ length line → m ≡ n → IsUtf8 text → len ≡ run_len is_text text → IsCharBoundary line (m + len)

@@ -16,3 +16,4 @@ pub mod ContentView
 pub mod Chunks
 pub mod Parsed
 pub mod PartView
+pub mod Facts

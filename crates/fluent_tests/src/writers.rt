@@ -36,16 +36,21 @@ pub enum End {
     Whole,
     Memory,
     Writer,
+    Other,
     Zero,
 }
 
-/// How a call ended; a writer that is refused memory counts as memory.
+/// How a call ended; a writer that is refused memory counts as memory. The error that is answered is the one that the
+/// writers here fail with, a broken pipe; with another the call would end as no row says.
 pub fn end_of(outcome: Result<(), WriteFault>) -> End {
     match outcome {
         Ok(()) => End::Whole,
         Err(WriteFault::Memory) => End::Memory,
-        Err(WriteFault::Writer(error)) if error.kind() == io::ErrorKind::OutOfMemory => End::Memory,
-        Err(WriteFault::Writer(_)) => End::Writer,
+        Err(WriteFault::Writer(error)) => match error.kind() {
+            io::ErrorKind::OutOfMemory => End::Memory,
+            io::ErrorKind::BrokenPipe => End::Writer,
+            _ => End::Other,
+        },
         Err(WriteFault::Zero) => End::Zero,
     }
 }

@@ -1,6 +1,4 @@
 pub mod Front
-pub mod Runs
-pub mod Turns
 mod Hexadecimal
 mod Unescapes
 mod EscapeRows

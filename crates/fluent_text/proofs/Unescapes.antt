@@ -8,11 +8,11 @@ use Rattle.fluent_text.specs.Lexical.{is_plain}
 use Rattle.fluent_text.specs.Parser.{Read, Parser, many_from, turn, go_on, run, run1, run_len, byte}
 use Rattle.fluent_text.specs.Escapes.{value_of, part, unescaped}
 use Rattle.fluent_text.proofs.Front.{appends_twice}
-use Rattle.fluent_text.proofs.Runs.{run_len-stops}
+use Rattle.fluent_text.specs.Facts.Runs.{run_len-stops}
 use Rattle.std.specs.List.{All}
 use Rattle.std.proofs.lemmas.List.{take_all}
 use Rattle.std.proofs.lemmas.Bool.{cases_lt}
-use Rattle.fluent_text.proofs.Turns.{more}
+use Rattle.fluent_text.specs.Facts.Turns.{more}
 
 -- what is added to a text stays behind it
 abbrev pub Grows : (Text → Parser Text) → Type 0

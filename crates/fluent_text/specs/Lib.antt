@@ -1,5 +1,6 @@
 pub mod Taken
 pub mod Parser
+pub mod Facts
 pub mod Reading
 pub mod Lexical
 pub mod Escapes

@@ -30,7 +30,7 @@ pub fn eat(s: &str, byte: u8) -> Option<&str>
 }
 
 /// How many bytes stand before the first backslash.
-#[tactic(auto, using(crate::proofs::Runs::the_runs))]
+#[tactic(auto, using(crate::specs::Facts::Runs::the_runs))]
 fn plain_len(s: &str) -> usize
     ensures len { result ≡ parser.run_len is_plain s.now }
     ensures within { result ≤ length s.now }

@@ -14,7 +14,7 @@ use Rattle.fluent_meaning.specs.Bundle.{Bundle, Function, unknown, without_value
 use Rattle.fluent_meaning.specs.Walk.{Environment, application, local, variables, is_on, inner, has_one, is_marked, loses_as, loses, go, follow, missing, variable_text, variable_value, answer_text, function_text, function_value, elements, part, expression, matched, default_of, written, resolved, local_of, called, positional, named, whole}
 use Rattle.fluent_meaning.specs.Meaning.{Budget, left, struck, after_errors, after_text, first_mark, last_mark, ending}
 use Rattle.fluent_meaning.specs.Work.{Worked, together, with_work, work}
-use Rattle.fluent_meaning.proofs.Counted.{work_step}
+use Rattle.fluent_meaning.specs.Laws.{CountsByItself}
 use Rattle.fluent_values.specs.Along.{Below, given, can_open, less_one, mapping, lost_of, lost_error}
 use Rattle.fluent_values.specs.Sizes.{first_default, choice}
 
@@ -356,5 +356,5 @@ module _ (s : Bundle Text) (f : Below) (env : Environment Text) (path : List Pat
   whole_is p b = refl
 
 -- a pattern off the path is walked with itself on the path
-pub go_entered : (s : Bundle Text) (env : Environment Text) (path : List Pattern) (env' : Environment Text) (x : Inline) (p : Pattern) (b : Budget) → is_on path p ≡ false → go with_work s (work s) env (is_on path p) env' path x p b ≡ whole with_work s (work s) env' (path ++ p ∷ []) p b
-go_entered s env path env' x p b h = go_below s (work s) env path env' x p b h ∙ work_step s env' (path ++ p ∷ []) p b
+pub go_entered : CountsByItself Text → (s : Bundle Text) (env : Environment Text) (path : List Pattern) (env' : Environment Text) (x : Inline) (p : Pattern) (b : Budget) → is_on path p ≡ false → go with_work s (work s) env (is_on path p) env' path x p b ≡ whole with_work s (work s) env' (path ++ p ∷ []) p b
+go_entered law s env path env' x p b h = go_below s (work s) env path env' x p b h ∙ law.counts s env' (path ++ p ∷ []) p b

@@ -7,7 +7,7 @@ pub mod Took
 pub mod Outputs
 pub mod Views
 pub mod Cases
-pub mod CasesRan
+mod Stored
 pub mod Measures
 pub mod Own
 pub mod ByName
@@ -16,5 +16,6 @@ pub mod Passing
 pub mod Along
 pub mod Values
 pub mod Steps
+pub mod Texts
 pub mod Tracking
 pub mod Trails

@@ -7,13 +7,13 @@ use Rattle.fluent_tree.specs.declared.ast.NamedArgument.{NamedArgument}
 use Rattle.fluent_tree.specs.declared.ast.PatternElement.{PatternElement}
 use Rattle.fluent_meaning.specs.Value.{Value}
 use Rattle.fluent_meaning.specs.Arguments.{get}
-use Rattle.fluent_meaning.specs.Bundle.{Bundle, Target, unknown, without_value, found, message_target, term_target, stored}
+use Rattle.fluent_meaning.specs.Bundle.{Bundle, message_target, term_target}
 use Rattle.fluent_meaning.specs.Meaning.{Budget, left, struck, at_most}
-use Rattle.fluent_meaning.proofs.Deeper.{Stands, message_is_stored, term_is_stored}
 use Rattle.fluent_values.specs.Along.{can_open, less_one, Takes, Elsewhere}
 use Rattle.fluent_values.specs.Sizes.{size, element_size, inline_size, inlines_size, nameds_size, variants_size, sizes, bound, IsBelow, first_default, choice}
 use Rattle.fluent_values.specs.Status.{Status, Keeps}
 use Rattle.fluent_values.proofs.Passing.{at_true}
+use Rattle.fluent_values.proofs.Stored.{id_below, message_below, term_below}
 use Rattle.fluent_values.proofs.Views.{view_named}
 
 -- the weight of a tree of this size, where n more placeables may be opened
@@ -124,20 +124,10 @@ chosen_less goes v vs p h =
 
 -- WHAT A REFERENCE LEADS TO
 
-stands_below : (p : Pattern) (ps : List Pattern) → Stands p ps → size p < 1 + sizes ps
-stands_below p [] h = absurd h
-stands_below p (q ∷ ps) (inl h) = let same : size p ≡ size q = ap size h in omega (arith, same)
-stands_below p (q ∷ ps) (inr h) = omega (arith, stands_below p ps h)
-
-is_below : (k : ℕ) (t : Target) → ((p : Pattern) → t ≡ found p → size p < k) → IsBelow k t
-is_below k unknown h = tt
-is_below k without_value h = tt
-is_below k (found p) h = h p refl
-
 pub below_message : (b : Bundle Text) (id : Text) (a : Attribute) → IsBelow (bound b) (message_target (get id b.ids) a)
 unfolding bound
-below_message b id a = is_below (1 + sizes (stored b)) (message_target (get id b.ids) a) (λ p h. stands_below p (stored b) (message_is_stored b a id p h))
+below_message b id a = id_below (λ e. message_target e a) (λ e. message_below e a) tt id b.ids
 
 pub below_term : (b : Bundle Text) (id : Text) (a : Attribute) → IsBelow (bound b) (term_target (get id b.ids) a)
 unfolding bound
-below_term b id a = is_below (1 + sizes (stored b)) (term_target (get id b.ids) a) (λ p h. stands_below p (stored b) (term_is_stored b a id p h))
+below_term b id a = id_below (λ e. term_target e a) (λ e. term_below e a) tt id b.ids

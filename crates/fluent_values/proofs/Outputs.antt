@@ -2,10 +2,11 @@
 use Rattle.std.proofs.Common.{◌≡◌, refl, sym, ap, subst, ◌∙◌, ℕ, ◌++◌, Bool, true, false, Option, Result, Ok, OnOk, OnErr, Global, String, string_bytes}
 use Rattle.std.specs.Io.KnownBytes.{Appends}
 use Rattle.fluent_tree.specs.Tree.{Text}
-use Rattle.fluent_text.specs.Taken.{Faulted, TookFront}
-use Rattle.fluent_text.specs.declared.counting.Counting.{Counting}
+use Rattle.fluent_text.specs.Taken.{TookFront, Faulted}
 use Rattle.fluent_text.specs.declared.counting.WriteFault.{WriteFault}
-use Rattle.fluent_values.specs.Written.{Took, writer, at}
+use Rattle.fluent_text.specs.declared.counting.Counting.{Counting}
+use Rattle.fluent_values.specs.declared.resolver.output.Halt.{Halt}
+use Rattle.fluent_values.specs.Written.{Took, without_error, writer, at}
 use Rattle.fluent_values.proofs.Took.{took_by, took_whole}
 
 -- into the buffer
@@ -13,8 +14,8 @@ pub in_buffer : {W : Type 0} (contents : W → Option Text) (name name' : ℕ) (
 in_buffer contents name name' w s s' b t is h = subst (λ b. Took (Ok tt) t (at contents name w name' s b) (at contents name w name' s' b)) (sym is) (took_whole t _ _ h (refl, refl) refl refl)
 
 -- to the writer
-pub to_writer : {W : Type 0} {r : Result (Unit {0}) WriteFault} (contents : W → Option Text) (name name' : ℕ) (w w' : Counting W) (s : String Global) (b : Bool) (t : Text) → b ≡ false → OnOk r (Appends (contents w.inner) (contents w'.inner) t) → OnErr r (TookFront (contents w.inner) (contents w'.inner) t) → Faulted w.failed w.empty w'.failed w'.empty r → Took r t (at contents name w name' s b) (at contents name w' name' s b)
-to_writer {r = r} contents name name' w w' s b t is whole front fault = subst (λ b. Took r t (at contents name w name' s b) (at contents name w' name' s b)) (sym is) (took_by t _ _ whole front fault refl refl)
+pub to_writer : {W : Type 0} (r : Result (Unit {0}) WriteFault) (contents : W → Option Text) (name name' : ℕ) (w w' : Counting W) (s : String Global) (b : Bool) (t : Text) → b ≡ false → OnOk r (Appends (contents w.inner) (contents w'.inner) t) → OnErr r (TookFront (contents w.inner) (contents w'.inner) t) → Faulted w.failed w.empty w'.failed w'.empty r → Took (without_error r) t (at contents name w name' s b) (at contents name w' name' s b)
+to_writer r contents name name' w w' s b t is whole front fault = subst (λ b. Took (without_error r) t (at contents name w name' s b) (at contents name w' name' s b)) (sym is) (took_by r t _ _ whole front fault refl refl)
 
 -- which of the two takes texts is part of what stands
 which : {W : Type 0} (contents : W → Option Text) (n m : ℕ) (w : Counting W) (s : String Global) (b : Bool) → (at contents n w m s b).lent.1.1 ≡ b
@@ -24,14 +25,14 @@ which contents n m w s false = refl
 pub still : {W : Type 0} (contents : W → Option Text) (n n' m m' : ℕ) (w w' : Counting W) (s s' : String Global) (b b' : Bool) → (at contents n' w' m' s' b').lent ≡ (at contents n w m s b).lent → b' ≡ b
 still contents n n' m m' w w' s s' b b' same = sym (which contents n' m' w' s' b') ∙ ap (λ l. l.1.1) same ∙ which contents n m w s b
 
-abbrev At : {W : Type 0} {T : Type 0} → Result T WriteFault → (W → Option Text) → Text → ℕ → ℕ → ℕ → ℕ → Counting W → Counting W → String Global → String Global → Bool → Type 0
+abbrev At : {W : Type 0} {T : Type 0} → Result T Halt → (W → Option Text) → Text → ℕ → ℕ → ℕ → ℕ → Counting W → Counting W → String Global → String Global → Bool → Type 0
 At r contents t n n' m m' w w' s s' b = Took r t (at contents n w m s false) (at contents n' w' m' s' b)
 
-by_itself : {W : Type 0} {T : Type 0} {r : Result T WriteFault} (contents : W → Option Text) (n n' m m' : ℕ) (w w' : Counting W) (s s' : String Global) (t : Text) → At r contents t n n' m m' w w' s s' false → Took r t (writer contents w) (writer contents w')
+by_itself : {W : Type 0} {T : Type 0} {r : Result T Halt} (contents : W → Option Text) (n n' m m' : ℕ) (w w' : Counting W) (s s' : String Global) (t : Text) → At r contents t n n' m m' w w' s s' false → Took r t (writer contents w) (writer contents w')
 by_itself contents n n' m m' w w' s s' t h = record { taken = h.taken; left = h.left; held = h.held; begins = h.begins; done = h.done; fault = h.fault; beside = refl; lent = refl }
 
 -- what an output without a buffer took, its writer took
-pub by_writer : {W : Type 0} {T : Type 0} {r : Result T WriteFault} (contents : W → Option Text) (n n' m m' : ℕ) (w w' w'' : Counting W) (s s' : String Global) (b : Bool) (t : Text) → w'' ≡ w' → At r contents t n n' m m' w w' s s' b → Took r t (writer contents w) (writer contents w'')
+pub by_writer : {W : Type 0} {T : Type 0} {r : Result T Halt} (contents : W → Option Text) (n n' m m' : ℕ) (w w' w'' : Counting W) (s s' : String Global) (b : Bool) (t : Text) → w'' ≡ w' → At r contents t n n' m m' w w' s s' b → Took r t (writer contents w) (writer contents w'')
 by_writer {r = r} contents n n' m m' w w' w'' s s' b t same h =
     subst (λ v. Took r t (writer contents w) (writer contents v)) (sym same)
     (by_itself contents n n' m m' w w' s s' t (subst (At r contents t n n' m m' w w' s s') (still contents n n' m m' w w' s s' false b h.lent) h))

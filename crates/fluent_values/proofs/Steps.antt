@@ -1,9 +1,9 @@
 -- What each function of the resolver is to do, from its scope, as the steps of its code.
-use Rattle.std.proofs.Common.{◌≡◌, refl, sym, ap, subst, ◌∙◌, ℕ, zero, suc, ◌+◌, ◌<◌, ◌≤◌, length, get_or, drop, List, [], ◌∷◌, ◌++◌, Bool, true, false, Option, Some, None, map, Vec, Global, arith, unwrap_or}
+use Rattle.std.proofs.Common.{◌≡◌, refl, sym, ap, subst, ◌∙◌, ℕ, zero, suc, ◌+◌, ◌<◌, ◌≤◌, length, get_or, drop, List, [], ◌∷◌, ◌++◌, Bool, true, false, Option, Some, None, map, arith, unwrap_or}
 use Rattle.std.proofs.lemmas.List.{drop_more}
 use Rattle.std.specs.Option.{option_map}
 use Rattle.std.specs.Borrow.{Bor}
-use Rattle.fluent_tree.specs.Tree.{Text, Pattern, Inline, Expression, Attribute, Call, Arguments, placeable, text, function, term, variable, pattern_of, inlines_of, nameds_of, variants_of, Element, more}
+use Rattle.fluent_tree.specs.Tree.{Text, Pattern, Inline, Expression, Attribute, Call, Arguments, placeable, select, text, function, term, variable, pattern_of, inlines_of, nameds_of, variants_of, Element, more}
 use Rattle.fluent_tree.specs.Fallback.{fallback, in_braces}
 use Rattle.fluent_tree.specs.View.{pattern_view, element_view, expression_view, inline_view, named_view, variant_view, arguments_view}
 use Rattle.fluent_tree.specs.declared.ast.CallArguments as of_call
@@ -21,6 +21,7 @@ use Rattle.fluent_meaning.specs.Errors.{resolver_error, cyclic}
 use Rattle.fluent_meaning.specs.Meaning.{Budget, struck}
 use Rattle.fluent_meaning.specs.Walk.{Environment, is_on, inner, go, whole, local_of, application, local, variables, missing, loses, variable_text, variable_value, function_text, answer_text, elements, part, expression, written, resolved, positional, named, follow, has_one, function_value, called}
 use Rattle.fluent_meaning.specs.Work.{Worked, with_work, work}
+use Rattle.fluent_meaning.specs.Laws.{CountsByItself}
 use Rattle.fluent_values.specs.Along.{Below, Walk, walked, from_here, given, mapping, lost_of, shown_answer, Elsewhere, Starts, Ends}
 use Rattle.fluent_values.specs.Sizes.{choice, first_default}
 use Rattle.fluent_values.specs.Status.{Status, on_path}
@@ -28,7 +29,7 @@ use Rattle.fluent_values.specs.View.{value_view}
 use Rattle.fluent_values.specs.declared.types.value.FluentValue.{FluentValue}
 use Rattle.fluent_values.specs.declared.types.value.FluentValue.TheVariants as values
 use Rattle.fluent_values.proofs.Cases.{sequence, prepend, and_then, elements_end, elements_struck, elements_more, part_text, positional_none, positional_more, named_none, named_more, given_first, tells, loses_is, written_variable, variable_text_some, variable_text_none, missing_application, missing_local, resolved_variable, variable_value_some, variable_value_none, function_text_none, function_text_some, expression_inline, expression_select, chosen, chosen_is, meant, entering, go_cyclic, go_entered, whole_is, written_term, written_function, and_then_is, then_give, called_is}
-use Rattle.fluent_values.proofs.Views.{view_pattern, view_named, view_in, view_select_in, view_arguments}
+use Rattle.fluent_values.proofs.Views.{view_pattern, view_named, view_in, view_arguments}
 use Rattle.fluent_values.specs.Texts.{IsText}
 
 -- LISTS
@@ -277,10 +278,8 @@ inline_at a e x b h =
 abbrev pub choosing : Status → List Variant → Value Text → Budget → Worked Text
 choosing a vs v b = chosen a.bundle (work a.bundle) a.environment (on_path a.path) (variants_of (map variant_view vs)) v b
 
-pub select_at : (a : Status) (e : of_expression.Expression) (x : of_inline.InlineExpression) (vs : Vec Variant Global) (b : Budget) → e ≡ expressions.Select x vs → walked a (expressing (expression_view e)) b ≡ and_then (walked a (resolving (inline_view x)) b) (choosing a vs.items)
-select_at a e x vs b h =
-    ap (λ v. walked a (expressing v) b) (view_select_in e x vs h)
-    ∙ expression_select a.bundle (work a.bundle) a.environment (on_path a.path) (inline_view x) (variants_of (map variant_view vs.items)) b
+pub selecting_at : (a : Status) (x : of_inline.InlineExpression) (vs : List Variant) (b : Budget) → walked a (expressing (select (inline_view x) (variants_of (map variant_view vs)))) b ≡ and_then (walked a (resolving (inline_view x)) b) (choosing a vs)
+selecting_at a x vs b = expression_select a.bundle (work a.bundle) a.environment (on_path a.path) (inline_view x) (variants_of (map variant_view vs)) b
 
 pub choosing_at : (a : Status) (vs : List Variant) (v : Value Text) (o : Option Pattern) (b : Budget) → o ≡ choice (goes_to a.bundle) v (first_default (variants_of (map variant_view vs))) (variants_of (map variant_view vs)) → choosing a vs v b ≡ meant a.bundle (work a.bundle) a.environment (on_path a.path) o b
 choosing_at a vs v o b h = ap (λ m. m b) (chosen_is a.bundle (work a.bundle) a.environment (on_path a.path) (variants_of (map variant_view vs)) v o h)
@@ -301,10 +300,10 @@ wholing p s f env path = whole with_work s f env path p
 pub cyclic_at : (a : Status) (x : Inline) (p : Pattern) → is_on (on_path a.path) p ≡ true → from_here a (going x p) ≡ tells (resolver_error cyclic ∷ []) (given (in_braces (fallback x)) a.budget)
 cyclic_at a x p h = go_cyclic a.bundle (work a.bundle) a.environment (on_path a.path) a.environment x p a.budget h
 
-pub entered_at : (a b : Status) (x : Inline) (p : Bor of_pattern.Pattern) → is_on (on_path a.path) (pattern_view p.now) ≡ false → b.path ≡ a.path ++ Some p ∷ [] → Elsewhere a b → from_here a (going x (pattern_view p.now)) ≡ from_here b (wholing (pattern_view p.now))
-entered_at a b x p off entered before =
+pub entered_at : CountsByItself Text → (a b : Status) (x : Inline) (p : Bor of_pattern.Pattern) → is_on (on_path a.path) (pattern_view p.now) ≡ false → b.path ≡ a.path ++ Some p ∷ [] → Elsewhere a b → from_here a (going x (pattern_view p.now)) ≡ from_here b (wholing (pattern_view p.now))
+entered_at law a b x p off entered before =
     let q = pattern_view p.now in
-    go_entered a.bundle a.environment (on_path a.path) a.environment x q a.budget off
+    go_entered law a.bundle a.environment (on_path a.path) a.environment x q a.budget off
     ∙ sym (
     ap (λ s. whole with_work s (work s) b.environment (on_path b.path) q b.budget) before.bundle
     ∙ ap (λ e. whole with_work a.bundle (work a.bundle) e (on_path b.path) q b.budget) before.environment

@@ -6,11 +6,11 @@ use Rattle.fluent_tree.specs.Fallback.{fallback_of}
 use Rattle.fluent_meaning.specs.Meaning.{Budget, ending}
 use Rattle.fluent_meaning.specs.Walk.{inner}
 use Rattle.fluent_meaning.specs.Work.{Worked, work}
+use Rattle.fluent_meaning.specs.Laws.{CallsByThemselves}
 use Rattle.fluent_values.specs.Along.{walked, from_here, given, lost_of, Elsewhere}
 use Rattle.fluent_values.specs.Status.{Status, on_path}
 use Rattle.fluent_values.specs.Tracking.{Runs, called_run, calling, closes, losing, lost_run, maybe_tracks}
 use Rattle.fluent_values.proofs.Cases.{entering, loses_is, sequence}
-use Rattle.fluent_values.proofs.CasesRan.{arguments_of_is}
 use Rattle.fluent_values.proofs.Steps.{expressing}
 
 -- EXPRESSIONS
@@ -39,6 +39,6 @@ losing_runs a x =
     ∙ ap (λ es. record (lost_run x a.budget) { errors = es }) (append-nil (lost_of x))
 
 -- the values of arguments, or none
-pub calling_runs : (a : Status) (o : Option Arguments) → Runs a (calling o) (λ b env path. called_run b env path o)
-calling_runs a None = refl
-calling_runs a (Some k) = sym (arguments_of_is a.bundle a.environment (on_path a.path) k a.budget)
+pub calling_runs : CallsByThemselves Text → (a : Status) (o : Option Arguments) → Runs a (calling o) (λ b env path. called_run b env path o)
+calling_runs law a None = refl
+calling_runs law a (Some k) = sym (law.arguments a.bundle a.environment (on_path a.path) k a.budget)

@@ -1,17 +1,16 @@
 -- How far a call went along a walk that gives a value, step by step.
 use Rattle.std.proofs.Common.{◌≡◌, refl, sym, ap, subst, ◌∙◌, ℕ, List, [], ◌∷◌, ◌++◌, append-nil, append_assoc, Bool, true, false, Option, Some, Result, Ok, Err, OnOk, IfOk, Global, String, string_bytes}
 use Rattle.fluent_tree.specs.Tree.{Text}
-use Rattle.fluent_text.specs.Taken.{Faulted}
 use Rattle.fluent_text.specs.declared.counting.Counting.{Counting}
-use Rattle.fluent_text.specs.declared.counting.WriteFault.{WriteFault}
-use Rattle.fluent_text.specs.declared.counting.WriteFault.TheVariants.{Memory}
-use Rattle.fluent_text.specs.declared.counting.WriteFault.TheVariants as fault
+use Rattle.fluent_values.specs.declared.resolver.output.Halt.{Halt}
+use Rattle.fluent_values.specs.declared.resolver.output.Halt.TheVariants.{Memory}
+use Rattle.fluent_values.specs.declared.resolver.output.Halt.TheVariants as fault
 use Rattle.fluent_meaning.specs.Errors.{Error}
 use Rattle.fluent_meaning.specs.Meaning.{Budget, after_errors}
 use Rattle.fluent_meaning.specs.Work.{Worked, together}
 use Rattle.fluent_values.specs.Status.{Status}
 use Rattle.fluent_values.specs.Along.{Walk, walked, from_here, given, mapping, trace, Passed, Along, Wrote, Rests, Toward, Got, Gave, Added}
-use Rattle.fluent_values.specs.Written.{Sink, writer, beside, at}
+use Rattle.fluent_values.specs.Written.{Sink, CountsTell, writer, beside, at}
 use Rattle.fluent_values.proofs.Along.{asked, turns, halts, at_value}
 use Rattle.fluent_values.proofs.Cases.{tells, and_then, give_then}
 use Rattle.fluent_values.proofs.Outputs.{still}
@@ -26,10 +25,10 @@ never_if P h = subst (λ r. IfOk r P) (sym h) tt
 pub rests_same : {T : Type 0} {x : T} (w : Sink) → Rests (Ok x) w w
 rests_same w = record { held = refl; fault = (refl, refl); beside = refl; lent = refl }
 
-pub rests_memory : {T : Type 0} {r : Result T WriteFault} (w : Sink) → r ≡ Err Memory → Rests r w w
-rests_memory w is = record { held = refl; fault = subst (Faulted w.failed w.empty w.failed w.empty) (sym is) (refl, refl); beside = refl; lent = refl }
+pub rests_memory : {T : Type 0} {r : Result T Halt} (w : Sink) → r ≡ Err Memory → Rests r w w
+rests_memory w is = record { held = refl; fault = subst (CountsTell w.failed w.empty w.failed w.empty) (sym is) (refl, refl); beside = refl; lent = refl }
 
-pub rests_on : {S T : Type 0} {x : S} {r : Result T WriteFault} {w w1 w2 : Sink} → Rests (Ok x) w w1 → Rests r w1 w2 → Rests r w w2
+pub rests_on : {S T : Type 0} {x : S} {r : Result T Halt} {w w1 w2 : Sink} → Rests (Ok x) w w1 → Rests r w1 w2 → Rests r w w2
 rests_on {x = x} {r = r} {w = w} {w1 = w1} {w2 = w2} h k = record {
   held = k.held ∙ h.held;
   fault = faulted_on w.failed w.empty w1.failed w1.empty w2.failed w2.empty x r h.fault k.fault;
@@ -38,34 +37,34 @@ rests_on {x = x} {r = r} {w = w} {w1 = w1} {w2 = w2} h k = record {
 }
 
 -- where the call answered Ok
-pub rests_ok : {S T : Type 0} {q : Result S WriteFault} {v : S} {x : T} {w w' : Sink} → q ≡ Ok v → Rests q w w' → Rests (Ok x) w w'
+pub rests_ok : {S T : Type 0} {q : Result S Halt} {v : S} {x : T} {w w' : Sink} → q ≡ Ok v → Rests q w w' → Rests (Ok x) w w'
 rests_ok {v = v} {x = x} {w = w} {w' = w'} is h = record {
   held = h.held;
-  fault = subst (Faulted w.failed w.empty w'.failed w'.empty) is h.fault;
+  fault = subst (CountsTell w.failed w.empty w'.failed w'.empty) is h.fault;
   beside = h.beside;
   lent = h.lent;
 }
 
 -- where it met a fault, which is passed on
-err_fault : (S T : Type 0) (f e f' e' : ℕ) (x : WriteFault) → Faulted {T = S} f e f' e' (Err x) → Faulted {T = T} f e f' e' (Err x)
-err_fault S T f e f' e' (fault.Writer x) h = h
+err_fault : (S T : Type 0) (f e f' e' : ℕ) (x : Halt) → CountsTell {T = S} f e f' e' (Err x) → CountsTell {T = T} f e f' e' (Err x)
+err_fault S T f e f' e' fault.Writer h = h
 err_fault S T f e f' e' fault.Zero h = h
 err_fault S T f e f' e' Memory h = h
 
-pub rests_err : {S T : Type 0} {q : Result S WriteFault} {r : Result T WriteFault} {e : WriteFault} {w w' : Sink} → q ≡ Err e → r ≡ Err e → Rests q w w' → Rests r w w'
+pub rests_err : {S T : Type 0} {q : Result S Halt} {r : Result T Halt} {e : Halt} {w w' : Sink} → q ≡ Err e → r ≡ Err e → Rests q w w' → Rests r w w'
 rests_err {S = S} {T = T} {e = e} {w = w} {w' = w'} was is h = record {
   held = h.held;
-  fault = subst (Faulted w.failed w.empty w'.failed w'.empty) (sym is) (err_fault S T w.failed w.empty w'.failed w'.empty e (subst (Faulted w.failed w.empty w'.failed w'.empty) was h.fault));
+  fault = subst (CountsTell w.failed w.empty w'.failed w'.empty) (sym is) (err_fault S T w.failed w.empty w'.failed w'.empty e (subst (CountsTell w.failed w.empty w'.failed w'.empty) was h.fault));
   beside = h.beside;
   lent = h.lent;
 }
 
 -- a writer that was left alone, in an output
-pub outward : {W T : Type 0} {r : Result T WriteFault} (contents : W → Option Text) (n m : ℕ) (w w' : Counting W) (s : String Global) (b : Bool) → Rests r (writer contents w) (writer contents w') → Rests r (at contents n w m s b) (at contents n w' m s b)
+pub outward : {W T : Type 0} {r : Result T Halt} (contents : W → Option Text) (n m : ℕ) (w w' : Counting W) (s : String Global) (b : Bool) → Rests r (writer contents w) (writer contents w') → Rests r (at contents n w m s b) (at contents n w' m s b)
 outward contents n m w w' s true h = record { held = refl; fault = h.fault; beside = ap (λ o. Some o) h.held; lent = refl }
 outward contents n m w w' s false h = record { held = h.held; fault = h.fault; beside = refl; lent = refl }
 
-pub gave_outward : {A W T : Type 0} {r : Result T WriteFault} {see : T → A} {walk : Walk A} {a b : Status} (contents : W → Option Text) (n m : ℕ) (w w' : Counting W) (s : String Global) (d : Bool) → Gave r see walk (writer contents w) (writer contents w') a b → Gave r see walk (at contents n w m s d) (at contents n w' m s d) a b
+pub gave_outward : {A W T : Type 0} {r : Result T Halt} {see : T → A} {walk : Walk A} {a b : Status} (contents : W → Option Text) (n m : ℕ) (w w' : Counting W) (s : String Global) (d : Bool) → Gave r see walk (writer contents w) (writer contents w') a b → Gave r see walk (at contents n w m s d) (at contents n w' m s d) a b
 gave_outward contents n m w w' s d g = record { got = g.got; rests = outward contents n m w w' s d g.rests }
 
 -- STEPS
@@ -137,16 +136,16 @@ got_part {walk = walk} {walk' = walk'} {a = a} {b = b} g is means h = record {
 pub got_part_as : {A B S T E : Type 0} {q : Result S E} {r : Result T E} {e : E} {see : S → A} {see' : T → B} {walk : Walk A} {walk' : Walk B} {a b : Status} (g : A → B) → q ≡ Err e → r ≡ Err e → from_here a walk' ≡ mapping g (from_here a walk) → Got q see walk a b → Got r see' walk' a b
 got_part_as g was is means h = got_part g is means h
 
-pub asks : {A S T : Type 0} {q : Result S WriteFault} {v : S} {x : T} {see : S → A} {all : Worked Text} {w w1 w2 : Sink} {a b c : Status} {walk : Walk A} (k : A → Budget → Worked Text) → q ≡ Ok v → Gave q see walk w1 w2 b c → Along (Ok x) all (and_then (walked a walk b.budget) k) w w1 a b → Along (Ok x) all (k (see v) c.budget) w w2 a c
+pub asks : {A S T : Type 0} {q : Result S Halt} {v : S} {x : T} {see : S → A} {all : Worked Text} {w w1 w2 : Sink} {a b c : Status} {walk : Walk A} (k : A → Budget → Worked Text) → q ≡ Ok v → Gave q see walk w1 w2 b c → Along (Ok x) all (and_then (walked a walk b.budget) k) w w1 a b → Along (Ok x) all (k (see v) c.budget) w w2 a c
 asks {v = v} {x = x} {see = see} {c = c} k is g j =
     turns (ap (λ l. and_then l k) (at_value (λ x. g.got.left ≡ given (see x) c.budget) is g.got.done) ∙ give_then (see v) c.budget k)
     (asked k g (rests_ok {x = x} is g.rests).fault j)
 
-pub ask_stops : {A S T : Type 0} {q : Result S WriteFault} {r : Result T WriteFault} {e : WriteFault} {x : T} {see : S → A} {w w1 w2 : Sink} {a b c : Status} {walk : Walk A} {walk' : Walk Text} (k : A → Budget → Worked Text) → q ≡ Err e → r ≡ Err e → Gave q see walk w1 w2 b c → Along (Ok x) (from_here a walk') (and_then (walked a walk b.budget) k) w w1 a b → Wrote r walk' w w2 a c
+pub ask_stops : {A S T : Type 0} {q : Result S Halt} {r : Result T Halt} {e : Halt} {x : T} {see : S → A} {w w1 w2 : Sink} {a b c : Status} {walk : Walk A} {walk' : Walk Text} (k : A → Budget → Worked Text) → q ≡ Err e → r ≡ Err e → Gave q see walk w1 w2 b c → Along (Ok x) (from_here a walk') (and_then (walked a walk b.budget) k) w w1 a b → Wrote r walk' w w2 a c
 ask_stops k was is g j = halts is (asked k g (rests_err was is g.rests).fault j)
 
 -- a text that was written beside a writer is a value
-pub as_got : {T : Type 0} {r : Result T WriteFault} {walk : Walk Text} {W : Type 0} (contents : W → Option Text) (w w' : Counting W) (s s' : String Global) {a b : Status} → string_bytes s ≡ [] → Wrote r walk (beside contents w s) (beside contents w' s') a b → Got r (λ x. string_bytes s') walk a b
+pub as_got : {T : Type 0} {r : Result T Halt} {walk : Walk Text} {W : Type 0} (contents : W → Option Text) (w w' : Counting W) (s s' : String Global) {a b : Status} → string_bytes s ≡ [] → Wrote r walk (beside contents w s) (beside contents w' s') a b → Got r (λ x. string_bytes s') walk a b
 as_got {r = r} {walk = walk} contents w w' s s' {a = a} {b = b} empty h =
     let l = h.went.left in
     let way = h.went.along in
@@ -161,14 +160,14 @@ as_got {r = r} {walk = walk} contents w w' s s' {a = a} {b = b} empty h =
     if_ok (Ok x) f h = f h x
     if_ok (Err e) f h = h
 
-pub beside_rests : {T : Type 0} {r : Result T WriteFault} {walk : Walk Text} {W : Type 0} (contents : W → Option Text) (w w' : Counting W) (s s' : String Global) {a b : Status} → Wrote r walk (beside contents w s) (beside contents w' s') a b → Rests r (writer contents w) (writer contents w')
+pub beside_rests : {T : Type 0} {r : Result T Halt} {walk : Walk Text} {W : Type 0} (contents : W → Option Text) (w w' : Counting W) (s s' : String Global) {a b : Status} → Wrote r walk (beside contents w s) (beside contents w' s') a b → Rests r (writer contents w) (writer contents w')
 beside_rests contents w w' s s' h =
     let way = h.went.along in
     let same : Some (contents w'.inner) ≡ Some (contents w.inner) = way.beside in
     record { held = cc; fault = way.fault; beside = refl; lent = refl }
 
 -- what an output with a buffer took, its buffer took, and its writer was left alone
-beside_itself : {W T : Type 0} {r : Result T WriteFault} {walk : Walk Text} {a b : Status} (contents : W → Option Text) (n n' m m' : ℕ) (w w' : Counting W) (s s' : String Global) → Wrote r walk (at contents n w m s true) (at contents n' w' m' s' true) a b → Wrote r walk (beside contents w s) (beside contents w' s') a b
+beside_itself : {W T : Type 0} {r : Result T Halt} {walk : Walk Text} {a b : Status} (contents : W → Option Text) (n n' m m' : ℕ) (w w' : Counting W) (s s' : String Global) → Wrote r walk (at contents n w m s true) (at contents n' w' m' s' true) a b → Wrote r walk (beside contents w s) (beside contents w' s') a b
 beside_itself contents n n' m m' w w' s s' h =
     let way = h.went.along in
     record {
@@ -179,7 +178,7 @@ beside_itself contents n n' m m' w w' s s' h =
       };
     }
 
-pub by_buffer : {W T : Type 0} {r : Result T WriteFault} {walk : Walk Text} {a b : Status} (contents : W → Option Text) (n n' m m' : ℕ) (w w' w'' : Counting W) (s s' s'' : String Global) (d : Bool) → w'' ≡ w' → s'' ≡ s' → Wrote r walk (at contents n w m s true) (at contents n' w' m' s' d) a b → Wrote r walk (beside contents w s) (beside contents w'' s'') a b
+pub by_buffer : {W T : Type 0} {r : Result T Halt} {walk : Walk Text} {a b : Status} (contents : W → Option Text) (n n' m m' : ℕ) (w w' w'' : Counting W) (s s' s'' : String Global) (d : Bool) → w'' ≡ w' → s'' ≡ s' → Wrote r walk (at contents n w m s true) (at contents n' w' m' s' d) a b → Wrote r walk (beside contents w s) (beside contents w'' s'') a b
 by_buffer {r = r} {walk = walk} {a = a} {b = b} contents n n' m m' w w' w'' s s' s'' d same same' h =
     subst (λ v. Wrote r walk (beside contents w s) (beside contents v s'') a b) (sym same)
     (subst (λ v. Wrote r walk (beside contents w s) (beside contents w' v) a b) (sym same')

@@ -6,8 +6,6 @@ use Rattle.std.specs.Io.KnownBytes.{Appends}
 use Rattle.fluent_tree.specs.Tree.{Text, Pattern, Inline}
 use Rattle.fluent_tree.specs.Fallback.{fallback}
 use Rattle.fluent_tree.specs.declared.ast.Pattern as code
-use Rattle.fluent_text.specs.Taken.{Faulted}
-use Rattle.fluent_text.specs.declared.counting.WriteFault.{WriteFault}
 use Rattle.fluent_meaning.specs.Errors.{Error, resolver_error, lost, Reference, reference_of}
 use Rattle.fluent_meaning.specs.Bundle.{Bundle, shown}
 use Rattle.fluent_meaning.specs.Arguments.{Map}
@@ -16,7 +14,8 @@ use Rattle.fluent_meaning.specs.Walk.{Environment, application, inner}
 use Rattle.fluent_meaning.specs.Meaning.{Budget, left, struck, at_most}
 use Rattle.fluent_meaning.specs.Work.{Worked, counting, work}
 use Rattle.fluent_values.specs.Status.{Status, Tally, counted, with_errors, on_path, Keeps}
-use Rattle.fluent_values.specs.Written.{Sink}
+use Rattle.fluent_values.specs.declared.resolver.output.Halt.{Halt}
+use Rattle.fluent_values.specs.Written.{Sink, CountsTell}
 
 -- whether one more placeable may be opened, and what is left then
 abbrev pub can_open : Budget → Bool
@@ -87,31 +86,31 @@ pub record Passed (all rest : Trace) (s s' : Status) : Type 0 where
 -- ---- text
 
 -- What was written, reported and counted so far, and what is still to come, are the whole.
-pub record Along {T : Type 0} (result : Result T WriteFault) (all rest : Worked Text) (w w' : Sink) (s s' : Status) : Type 0 where
+pub record Along {T : Type 0} (result : Result T Halt) (all rest : Worked Text) (w w' : Sink) (s s' : Status) : Type 0 where
   pub taken : Text
   pub held : Appends w.held w'.held taken
   pub text : taken ++ rest.ran.value ≡ all.ran.value
   pub passed : Passed (trace all) (trace rest) s s'
-  pub fault : Faulted w.failed w.empty w'.failed w'.empty result
+  pub fault : CountsTell w.failed w.empty w'.failed w'.empty result
   pub beside : w'.beside ≡ w.beside
   pub lent : w'.lent ≡ w.lent
 
 -- Some way along, and where the answer is Ok until only the rest is to come.
-pub record Went {T : Type 0} (result : Result T WriteFault) (all rest : Worked Text) (w w' : Sink) (s s' : Status) : Type 0 where
+pub record Went {T : Type 0} (result : Result T Halt) (all rest : Worked Text) (w w' : Sink) (s s' : Status) : Type 0 where
   pub left : Worked Text
   pub along : Along result all left w w' s s'
   pub done : OnOk result (left ≡ rest)
 
 -- A beginning of a walk's text was written and a beginning of its errors added; where the answer is Ok, all of both, and budget and counts are the walk's.
-pub record Wrote {T : Type 0} (result : Result T WriteFault) (walk : Walk Text) (w w' : Sink) (s s' : Status) : Type 0 where
+pub record Wrote {T : Type 0} (result : Result T Halt) (walk : Walk Text) (w w' : Sink) (s s' : Status) : Type 0 where
   pub went : Went result (from_here s walk) (given [] s'.budget) w w' s s'
 
 -- ---- values
 
 -- Nothing was written; a fault is told by the counts.
-pub record Rests {T : Type 0} (result : Result T WriteFault) (w w' : Sink) : Type 0 where
+pub record Rests {T : Type 0} (result : Result T Halt) (w w' : Sink) : Type 0 where
   pub held : w'.held ≡ w.held
-  pub fault : Faulted w.failed w.empty w'.failed w'.empty result
+  pub fault : CountsTell w.failed w.empty w'.failed w'.empty result
   pub beside : w'.beside ≡ w.beside
   pub lent : w'.lent ≡ w.lent
 
@@ -127,7 +126,7 @@ pub record Got {A T E : Type 0} (result : Result T E) (see : T → A) (walk : Wa
   pub done : IfOk result (λ x. left ≡ given (see x) s'.budget)
 
 -- The same of a call that has a writer at hand, to which nothing was written.
-pub record Gave {A T : Type 0} (result : Result T WriteFault) (see : T → A) (walk : Walk A) (w w' : Sink) (s s' : Status) : Type 0 where
+pub record Gave {A T : Type 0} (result : Result T Halt) (see : T → A) (walk : Walk A) (w w' : Sink) (s s' : Status) : Type 0 where
   pub got : Got result see walk s s'
   pub rests : Rests result w w'
 

@@ -15,7 +15,7 @@ abbrev mutual
 
   pub expression_size : Expression → ℕ
   expression_size (inline x) = 1 + inline_size x
-  expression_size (select x vs) = 2 + inline_size x + variants_size vs
+  expression_size (select x vs) = 3 + inline_size x + variants_size vs
 
   pub variants_size : Variants → ℕ
   variants_size no_variants = 1
@@ -24,7 +24,7 @@ abbrev mutual
   pub inline_size : Inline → ℕ
   inline_size (string t) = 1
   inline_size (number t) = 1
-  inline_size (function f a) = 1 + arguments_size a
+  inline_size (function f a) = 2 + arguments_size a
   inline_size (message m a) = 1
   inline_size (term t a c) = 2 + call_size c
   inline_size (variable v) = 1

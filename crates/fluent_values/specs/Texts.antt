@@ -1,5 +1,5 @@
 -- Patterns of texts alone.
-use Rattle.std.specs.Prelude.{Option, None, Some, ⊤}
+use Rattle.std.specs.Prelude.{Bool, true, false, Option, None, Some, ⊤, [], ◌++◌}
 use Rattle.fluent_tree.specs.Tree.{Text, Pattern, nothing, more, text, placeable}
 
 -- a pattern of text elements alone
@@ -7,6 +7,18 @@ abbrev pub IsText : Pattern → Type 0
 IsText nothing = ⊤
 IsText (more (text t) rest) = IsText rest
 IsText (more (placeable e) rest) = ⊥
+
+-- whether a pattern is one of text elements alone
+abbrev pub is_text : Pattern → Bool
+is_text nothing = true
+is_text (more (text t) rest) = is_text rest
+is_text (more (placeable e) rest) = false
+
+-- the text elements of a pattern, one after the other
+abbrev pub texts_of : Pattern → Text
+texts_of nothing = []
+texts_of (more (text t) rest) = t ++ texts_of rest
+texts_of (more (placeable e) rest) = texts_of rest
 
 -- the text of a pattern that is one text element alone
 abbrev pub sole_text : Pattern → Option Text

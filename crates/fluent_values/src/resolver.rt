@@ -11,6 +11,7 @@ pub mod output;
 mod path;
 mod pattern;
 pub mod scope;
+pub mod texts;
 mod tracking;
 pub mod value;
 

@@ -32,6 +32,8 @@ impl<
 
     ghost is_plain = { is_plain };
 
+    ghost memory = { λ b. b.alloc };
+
     fn allocator(&self) -> Global {
         self.alloc
     }

@@ -41,7 +41,7 @@ fn and_group<'s>(alloc: Global, s: &'s str) -> Result<(Vec<Relation>, &'s str), 
 }
 
 /// Adds the relations that come next, each after `and`.
-#[tactic(auto, using(fluent_text::proofs::Turns::turns))]
+#[tactic(auto, using(fluent_text::specs::Facts::Turns::turns))]
 fn more_relations<'s>(
     alloc: Global,
     s: &'s str,
@@ -88,7 +88,7 @@ pub(super) fn condition<'s>(
 }
 
 /// Adds the groups that come next, each after `or`.
-#[tactic(auto, using(fluent_text::proofs::Turns::turns))]
+#[tactic(auto, using(fluent_text::specs::Facts::Turns::turns))]
 fn more_groups<'s>(
     alloc: Global,
     s: &'s str,

@@ -32,7 +32,7 @@ fn is_in(class: Class, byte: u8) -> bool
 
 /// How many bytes at the front are of the class.
 #[inline(always)]
-#[tactic(auto, using(fluent_text::proofs::Runs::the_runs))]
+#[tactic(auto, using(fluent_text::specs::Facts::Runs::the_runs))]
 pub(super) fn run_len(s: &str, class: Class) -> usize
     ensures len { result ≡ parser.run_len (class_test class) s.now }
     ensures within { result ≤ length s.now }

@@ -50,7 +50,7 @@ fn range_list<'s>(alloc: Global, s: &'s str) -> Result<(Vec<Range>, &'s str), St
 }
 
 /// Adds the ranges that come next.
-#[tactic(auto, using(fluent_text::proofs::Turns::turns))]
+#[tactic(auto, using(fluent_text::specs::Facts::Turns::turns))]
 fn more_ranges<'s>(s: &'s str, mut found: Vec<Range>) -> Result<(Vec<Range>, &'s str), Stop>
     ensures { Gives (λ v. v.items) result (spec.more spec.next_range found.items s.now) }
 {

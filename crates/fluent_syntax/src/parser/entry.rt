@@ -111,7 +111,7 @@ fn term<'s>(alloc: Global, s: &'s str) -> Result<(Entry<'s>, &'s str), Stop>
 }
 
 /// Adds the attributes that come next.
-#[tactic(auto, using(fluent_text::proofs::Turns::turns))]
+#[tactic(auto, using(fluent_text::specs::Facts::Turns::turns))]
 fn attributes<'s>(
     alloc: Global,
     s: &'s str,

@@ -35,7 +35,7 @@ fn rest_of_line(s: &str) -> &str
     }
 }
 
-#[tactic(auto, using(fluent_text::proofs::Turns::turns))]
+#[tactic(auto, using(fluent_text::specs::Facts::Turns::turns))]
 fn more_junk(s: &str) -> (usize, &str)
     ensures { parser.count spec.junk_line s.now ≡ Some (result.0, result.1.now) }
 {

@@ -103,7 +103,7 @@ fn blank(s: &str) -> Option<&str>
     Some(rest)
 }
 
-#[tactic(auto, using(fluent_text::proofs::Turns::turns))]
+#[tactic(auto, using(fluent_text::specs::Facts::Turns::turns))]
 fn more_blanks(s: &str) -> (usize, &str)
     ensures { parser.count spec.blank_turn s.now ≡ Some (result.0, result.1.now) }
 {
@@ -151,7 +151,7 @@ pub fn blank_block(s: &str) -> Option<(usize, &str)>
     Some((more + 1, rest))
 }
 
-#[tactic(auto, using(fluent_text::proofs::Turns::turns))]
+#[tactic(auto, using(fluent_text::specs::Facts::Turns::turns))]
 fn more_lines(s: &str) -> (usize, &str)
     ensures count { parser.count spec.blank_line s.now ≡ Some (result.0, result.1.now) }
     ensures within { result.0 ≤ length s.now }

@@ -28,7 +28,7 @@ fn hex_digit(s: &str) -> Option<&str>
 }
 
 /// After so many hexadecimal digits.
-#[tactic(auto, using(crate::proofs::Literals::hex_turns))]
+#[tactic(auto, using(crate::specs::Facts::Literals::hex_turns))]
 fn hex_digits(s: &str, count: usize) -> Option<&str>
     ensures { passed result ≡ spec.hex_digits count s.now }
 {
@@ -69,7 +69,7 @@ fn quoted_turn(s: &str) -> Option<&str>
     escape(s)
 }
 
-#[tactic(auto, using(fluent_text::proofs::Turns::turns))]
+#[tactic(auto, using(fluent_text::specs::Facts::Turns::turns))]
 fn quoted(s: &str) -> (usize, &str)
     ensures { parser.count spec.quoted_turn s.now ≡ Some (result.0, result.1.now) }
 {

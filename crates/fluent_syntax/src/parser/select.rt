@@ -111,7 +111,7 @@ impl<
     }
 
     /// Adds the variants that come next, none of which is the default.
-    #[tactic(auto, using(fluent_text::proofs::Turns::turns))]
+    #[tactic(auto, using(fluent_text::specs::Facts::Turns::turns))]
     fn variants(
         &self,
         s: &'s str,

@@ -2,7 +2,7 @@
 
 ghost use Rattle.std.specs.Prelude.{◌≡◌, [], ◌∷◌, ◌++◌, map, IfOk, OnOk};
 ghost use Rattle.std.specs.Option.{option_map};
-ghost use Rattle.fluent_tree.specs.Tree.{variable, inlines_of, nameds_of};
+ghost use Rattle.fluent_tree.specs.Tree.{function, variable, inlines_of, nameds_of};
 ghost use Rattle.fluent_tree.specs.View.{inline_view, arguments_view, call_of, named_view};
 ghost use Rattle.fluent_meaning.specs.Arguments.{get, set_all};
 ghost use Rattle.fluent_meaning.specs.Walk.{written, resolved, called, local_of, positional, named as named_arguments};
@@ -16,12 +16,12 @@ use super::context::Context;
 use super::environment::Environment;
 use super::found::{Place, answer_of};
 use super::inline_expression::{report_lost, write_inline};
-use super::output::Output;
+use super::output::{Halt, Output};
 use super::scope::Scope;
 use crate::args::FluentArgs;
 use crate::function::FluentFunction;
 use crate::types::{FluentType, FluentValue};
-use fluent_text::{Counting, WriteFault, unescape_unicode_to_string};
+use fluent_text::{Counting, unescape_unicode_to_string};
 use fluent_tree::ast::{CallArguments, Identifier, InlineExpression, NamedArgument};
 use std::alloc::{AllocError, Global};
 use std::borrow::CowStr;
@@ -35,7 +35,7 @@ pub(crate) fn resolve<'p, 's, W: Write, C: FluentType, F: FluentFunction<C>, B: 
     w: &mut Counting<W>,
     inline: &'p InlineExpression<'s>,
     place: Place,
-) -> Result<FluentValue<'p, C>, WriteFault>
+) -> Result<FluentValue<'p, C>, Halt>
     ensures { let at = status B.meant B.is_plain F.answer C.content in
         Gave result (value_view C.content)
         (λ b below env path. resolved with_work b below env path (inline_view inline.now))
@@ -48,10 +48,7 @@ pub(crate) fn resolve<'p, 's, W: Write, C: FluentType, F: FluentFunction<C>, B: 
         }
         InlineExpression::NumberLiteral { value } => Ok(FluentValue::try_number(value)),
         InlineExpression::FunctionReference { id, arguments } => {
-            let (positional, named) = resolve_call(scope, w, arguments, place)?;
-            let alloc = scope.bundle.allocator();
-            let answer = answer_of(scope.ids, alloc, id.name, &positional, &named)?;
-            Ok(answer.unwrap_or(FluentValue::Error))
+            resolve_function(scope, w, inline, id, arguments, place)
         }
         InlineExpression::VariableReference { id } => Ok(resolve_variable(scope, inline, id)?),
         _ => {
@@ -62,6 +59,29 @@ pub(crate) fn resolve<'p, 's, W: Write, C: FluentType, F: FluentFunction<C>, B: 
     }
 }
 
+/// A function's answer to its arguments; an error value where there is no such function. It stands by itself, as what
+/// a call may hold costs at its entry.
+#[cycle(resolve)]
+fn resolve_function<'p, 's, W: Write, C: FluentType, F: FluentFunction<C>, B: Context<C>>(
+    scope: &mut Scope<'_, 'p, '_, 's, '_, C, F, B>,
+    w: &mut Counting<W>,
+    inline: &InlineExpression<'_>,
+    id: &Identifier<'_>,
+    arguments: &'p CallArguments<'s>,
+    place: Place,
+) -> Result<FluentValue<'p, C>, Halt>
+    requires { inline_view inline.now ≡ function id.now.name.now (arguments_view arguments.now) }
+    ensures { let at = status B.meant B.is_plain F.answer C.content in
+        Gave result (value_view C.content)
+        (λ b below env path. resolved with_work b below env path (inline_view inline.now))
+        (writer W.contents w.old) (writer W.contents w.new) (at scope.old) (at scope.new) }
+{
+    let (positional, named) = resolve_call(scope, w, arguments, place)?;
+    let alloc = scope.bundle.allocator();
+    let answer = answer_of(scope.ids, alloc, id.name, &positional, &named)?;
+    Ok(answer.unwrap_or(FluentValue::Error))
+}
+
 /// Writes what an inline expression gives to a text, and leaves the writer alone.
 #[cycle(resolve)]
 fn write_beside<'p, 's, W: Write, C: FluentType, F: FluentFunction<C>, B: Context<C>>(
@@ -70,7 +90,7 @@ fn write_beside<'p, 's, W: Write, C: FluentType, F: FluentFunction<C>, B: Contex
     text: &mut String,
     inline: &'p InlineExpression<'s>,
     place: Place,
-) -> Result<(), WriteFault>
+) -> Result<(), Halt>
     ensures { let at = status B.meant B.is_plain F.answer C.content in
         Wrote result
         (λ b below env path. written with_work b below env path (inline_view inline.now))
@@ -81,6 +101,7 @@ fn write_beside<'p, 's, W: Write, C: FluentType, F: FluentFunction<C>, B: Contex
         writer: w,
         buffer: text,
         is_buffered: true,
+        error: None,
     };
     write_inline(scope, &mut out, inline, place)
 }
@@ -147,7 +168,7 @@ pub(crate) fn resolve_local<'p, 's, W: Write, C: FluentType, F: FluentFunction<C
     w: &mut Counting<W>,
     arguments: &'p Option<CallArguments<'s>>,
     place: Place,
-) -> Result<FluentArgs<'p, C>, WriteFault>
+) -> Result<FluentArgs<'p, C>, Halt>
     ensures { let at = status B.meant B.is_plain F.answer C.content in
         Gave result (named C.content)
         (λ b below env path. local_of with_work b below env path (call_of (option_map arguments_view arguments.now)))
@@ -169,7 +190,7 @@ pub(crate) fn resolve_call<'p, 's, W: Write, C: FluentType, F: FluentFunction<C>
     w: &mut Counting<W>,
     arguments: &'p CallArguments<'s>,
     place: Place,
-) -> Result<(Vec<FluentValue<'p, C>>, FluentArgs<'p, C>), WriteFault>
+) -> Result<(Vec<FluentValue<'p, C>>, FluentArgs<'p, C>), Halt>
     ensures { let at = status B.meant B.is_plain F.answer C.content in
         Gave result (λ v. (map (value_view C.content) v.0.items, named C.content v.1))
         (λ b below env path. called with_work b below env path (arguments_view arguments.now))
@@ -187,7 +208,7 @@ fn resolve_positional<'p, 's, W: Write, C: FluentType, F: FluentFunction<C>, B: 
     w: &mut Counting<W>,
     arguments: &'p [InlineExpression<'s>],
     place: Place,
-) -> Result<Vec<FluentValue<'p, C>>, WriteFault>
+) -> Result<Vec<FluentValue<'p, C>>, Halt>
     ensures { let at = status B.meant B.is_plain F.answer C.content in
         Gave result (λ v. map (value_view C.content) v.items)
         (λ b below env path. positional with_work b below env path (inlines_of (map inline_view arguments.now)))
@@ -221,7 +242,7 @@ fn resolve_named<'p, 's, W: Write, C: FluentType, F: FluentFunction<C>, B: Conte
     w: &mut Counting<W>,
     arguments: &'p [NamedArgument<'s>],
     place: Place,
-) -> Result<FluentArgs<'p, C>, WriteFault>
+) -> Result<FluentArgs<'p, C>, Halt>
     ensures { let at = status B.meant B.is_plain F.answer C.content in
         Gave result (named C.content)
         (λ b below env path n. mapping (λ m. set_all m [])

@@ -1,6 +1,7 @@
 //! What resolving a pattern asks of a bundle.
 
 ghost use Rattle.std.specs.Prelude.{◌≡◌, IfOk, IsOk, IsTrue, Bool};
+ghost use Rattle.std.specs.declared.alloc.Global.{Global as Heap};
 ghost use Rattle.std.specs.Cow.{cow_str_bytes};
 ghost use Rattle.fluent_tree.specs.Tree.{Text};
 ghost use Rattle.fluent_meaning.specs.Bundle.{Bundle, shown};
@@ -20,8 +21,12 @@ pub trait Context<C: FluentType> {
     /// Whether it changes no text.
     ghost is_plain: { Self → Bool };
 
+    /// The allocator that it works in.
+    ghost memory: { Self → Heap };
+
     /// The allocator of the bundle.
-    fn allocator(&self) -> Global;
+    fn allocator(&self) -> Global
+        ensures { result ≡ memory self.now };
 
     /// How many placeables one formatting call opens.
     fn placeable_limit(&self) -> u32

@@ -3,7 +3,7 @@
 ghost use Rattle.std.specs.Prelude.{◌≡◌, map};
 ghost use Rattle.std.specs.Option.{option_map};
 ghost use Rattle.fluent_tree.specs.Fallback.{fallback, fallback_of};
-ghost use Rattle.fluent_tree.specs.Tree.{variants_of};
+ghost use Rattle.fluent_tree.specs.Tree.{select, variants_of};
 ghost use Rattle.fluent_tree.specs.View.{expression_view, inline_view, pattern_view, variant_view, key_view};
 ghost use Rattle.fluent_meaning.specs.Bundle.{goes_to, key_value};
 ghost use Rattle.fluent_meaning.specs.Walk as walk;
@@ -19,13 +19,12 @@ use super::arguments::resolve;
 use super::context::Context;
 use super::found::Place;
 use super::inline_expression::write_inline;
-use super::output::Output;
+use super::output::{Halt, Output};
 use super::pattern::write_pattern;
 use super::scope::Scope;
 use crate::ResolverError;
 use crate::function::FluentFunction;
 use crate::types::{FluentType, FluentValue};
-use fluent_text::WriteFault;
 use fluent_tree::ast::{Expression, InlineExpression, Pattern, Variant, VariantKey};
 use std::borrow::CowStr;
 use std::io::Write;
@@ -44,7 +43,7 @@ pub(crate) fn write_expression<
     out: &mut Output<W>,
     expression: &'p Expression<'s>,
     place: Place,
-) -> Result<(), WriteFault>
+) -> Result<(), Halt>
     ensures { let at = status B.meant B.is_plain F.answer C.content in
         Wrote result
         (λ b below env path. walk.expression with_work b below env path (expression_view expression.now))
@@ -53,14 +52,31 @@ pub(crate) fn write_expression<
     match expression {
         Expression::Inline(inline) => write_inline(scope, out, inline, place),
         Expression::Select { selector, variants } => {
-            let value = resolve(scope, out.writer, selector, place)?;
-            match choose(scope.bundle, &value, variants) {
-                Some(variant) => write_pattern(scope, out, variant, place),
-                None => {
-                    scope.add_error(ResolverError::MissingDefault)?;
-                    Ok(())
-                }
-            }
+            write_select(scope, out, selector, variants, place)
+        }
+    }
+}
+
+/// Writes the variant that a selector's value goes to. It stands by itself, as what a call may hold costs at its entry.
+#[cycle(resolve)]
+fn write_select<'p, 's, W: Write, C: FluentType, F: FluentFunction<C>, B: Context<C>>(
+    scope: &mut Scope<'_, 'p, '_, 's, '_, C, F, B>,
+    out: &mut Output<W>,
+    selector: &'p InlineExpression<'s>,
+    variants: &'p [Variant<'s>],
+    place: Place,
+) -> Result<(), Halt>
+    ensures { let at = status B.meant B.is_plain F.answer C.content in
+        let e = select (inline_view selector.now) (variants_of (map variant_view variants.now)) in
+        Wrote result (λ b below env path. walk.expression with_work b below env path e)
+        (sink W.contents out.old) (sink W.contents out.new) (at scope.old) (at scope.new) }
+{
+    let value = resolve(scope, out.writer, selector, place)?;
+    match choose(scope.bundle, &value, variants) {
+        Some(variant) => write_pattern(scope, out, variant, place),
+        None => {
+            scope.add_error(ResolverError::MissingDefault)?;
+            Ok(())
         }
     }
 }

@@ -5,13 +5,12 @@ ghost use Rattle.fluent_tree.specs.Fallback.{fallback, dotted, in_braces};
 ghost use Rattle.fluent_tree.specs.View.{inline_view, attribute_of};
 ghost use Rattle.fluent_values.specs.Written.{sink, Took};
 
-use super::output::{Output, put_text};
-use fluent_text::WriteFault;
+use super::output::{Halt, Output, put_text};
 use fluent_tree::ast::{Expression, Identifier, InlineExpression};
 use std::io::Write;
 
 /// Writes a message's id in braces.
-pub(crate) fn put_id_in_braces<W: Write>(out: &mut Output<W>, id: &str) -> Result<(), WriteFault>
+pub(crate) fn put_id_in_braces<W: Write>(out: &mut Output<W>, id: &str) -> Result<(), Halt>
     ensures { Took result (in_braces id.now) (sink W.contents out.old) (sink W.contents out.new) }
 {
     put_text(out, "{")?;
@@ -23,7 +22,7 @@ pub(crate) fn put_id_in_braces<W: Write>(out: &mut Output<W>, id: &str) -> Resul
 pub(crate) fn put_in_braces<W: Write>(
     out: &mut Output<W>,
     expression: &InlineExpression,
-) -> Result<(), WriteFault>
+) -> Result<(), Halt>
     ensures { Took result (in_braces (fallback (inline_view expression.now))) (sink W.contents out.old) (sink W.contents out.new) }
 {
     put_text(out, "{")?;
@@ -35,7 +34,7 @@ pub(crate) fn put_in_braces<W: Write>(
 pub(crate) fn put_fallback<W: Write>(
     out: &mut Output<W>,
     expression: &InlineExpression,
-) -> Result<(), WriteFault>
+) -> Result<(), Halt>
     ensures { Took result (fallback (inline_view expression.now)) (sink W.contents out.old) (sink W.contents out.new) }
 {
     match expression {
@@ -73,7 +72,7 @@ fn put_dotted<W: Write>(
     out: &mut Output<W>,
     id: &Identifier,
     attribute: &Option<Identifier>,
-) -> Result<(), WriteFault>
+) -> Result<(), Halt>
     ensures { Took result (dotted id.now.name.now (attribute_of attribute.now)) (sink W.contents out.old) (sink W.contents out.new) }
 {
     put_text(out, id.name)?;

@@ -3,10 +3,11 @@
 ghost use Rattle.std.specs.Prelude.{◌≡◌, ◌<◌, ◌∷◌, [], map};
 ghost use Rattle.std.specs.Option.{option_map};
 ghost use Rattle.fluent_text.specs.Escapes.{unescaped};
-ghost use Rattle.fluent_tree.specs.Tree.{variable, term};
+ghost use Rattle.fluent_tree.specs.Tree.{function, variable, term};
 ghost use Rattle.fluent_tree.specs.View.{inline_view, attribute_of, call_of, arguments_view, pattern_view};
 ghost use Rattle.fluent_meaning.specs.Arguments.{get};
-ghost use Rattle.fluent_meaning.specs.Bundle.{function_found};
+ghost use Rattle.fluent_meaning.specs.Bundle.{function_found, shown};
+ghost use Rattle.fluent_meaning.specs.Value.{try_number};
 ghost use Rattle.fluent_meaning.specs.Errors.{resolver_error, no_value};
 ghost use Rattle.fluent_meaning.specs.Walk.{written, follow, go, is_on, loses, function_text};
 ghost use Rattle.fluent_meaning.specs.Work.{with_work};
@@ -23,7 +24,7 @@ use super::environment::Environment;
 use super::expression::write_expression;
 use super::fallback::{put_fallback, put_id_in_braces, put_in_braces};
 use super::found::{Found, Place, Target, answer_of};
-use super::output::{Output, put_text};
+use super::output::{Halt, Output, put_text, set_aside};
 use super::pattern::write_pattern;
 use super::scope::Scope;
 use super::value::put_value;
@@ -31,9 +32,11 @@ use crate::ResolverError;
 use crate::args::FluentArgs;
 use crate::function::FluentFunction;
 use crate::types::{FluentType, FluentValue};
-use fluent_text::{WriteFault, unescape_unicode, unescape_unicode_to_string};
+use fluent_meaning::laws::budgets_pass_through;
+use fluent_text::{unescape_unicode, unescape_unicode_to_string};
 use fluent_tree::ast::{CallArguments, Identifier, InlineExpression};
 use std::alloc::{AllocError, Global};
+use std::collections::LinkedList;
 use std::io::Write;
 use std::mem;
 
@@ -44,7 +47,7 @@ pub(crate) fn write_inline<'p, 's, W: Write, C: FluentType, F: FluentFunction<C>
     out: &mut Output<W>,
     inline: &'p InlineExpression<'s>,
     place: Place,
-) -> Result<(), WriteFault>
+) -> Result<(), Halt>
     ensures { let at = status B.meant B.is_plain F.answer C.content in
         Wrote result
         (λ b below env path. written with_work b below env path (inline_view inline.now))
@@ -54,12 +57,9 @@ pub(crate) fn write_inline<'p, 's, W: Write, C: FluentType, F: FluentFunction<C>
         InlineExpression::StringLiteral { value } => {
             put_unescaped(scope.bundle.allocator(), out, value)
         }
-        InlineExpression::NumberLiteral { value } => {
-            put_value(scope.bundle, out, &FluentValue::try_number(value))
-        }
+        InlineExpression::NumberLiteral { value } => { put_number(scope.bundle, out, value) }
         InlineExpression::FunctionReference { id, arguments } => {
-            let (positional, named) = resolve_call(scope, out.writer, arguments, place)?;
-            put_answer(scope, out, inline, id, &positional, &named)
+            write_function(scope, out, inline, id, arguments, place)
         }
         InlineExpression::MessageReference { id, attribute } => {
             let found = scope.ids.message(id.name, attribute, place);
@@ -78,19 +78,48 @@ pub(crate) fn write_inline<'p, 's, W: Write, C: FluentType, F: FluentFunction<C>
 }
 
 /// Writes the text of a string literal, with its escapes resolved.
-fn put_unescaped<W: Write>(
-    alloc: Global,
-    out: &mut Output<W>,
-    value: &str,
-) -> Result<(), WriteFault>
+fn put_unescaped<W: Write>(alloc: Global, out: &mut Output<W>, value: &str) -> Result<(), Halt>
     ensures { Took result (unescaped value.now) (sink W.contents out.old) (sink W.contents out.new) }
 {
     if out.is_buffered {
         let text = unescape_unicode_to_string(alloc, value)?;
         put_text(out, &text)
     } else {
-        unescape_unicode(out.writer, value)
+        let answer = unescape_unicode(out.writer, value);
+        set_aside(answer, &mut out.error)
     }
+}
+
+/// Writes the number that a literal's source is, as it is shown.
+fn put_number<W: Write, C: FluentType, B: Context<C>>(
+    bundle: &B,
+    out: &mut Output<W>,
+    source: &str,
+) -> Result<(), Halt>
+    ensures { Took result (shown (B.meant bundle.now) (try_number source.now))
+        (sink W.contents out.old) (sink W.contents out.new) }
+{
+    put_value(bundle, out, &FluentValue::try_number(source))
+}
+
+/// Writes what a function answers to its arguments. It stands by itself, as what a call may hold costs at its entry.
+#[cycle(resolve)]
+fn write_function<'p, 's, W: Write, C: FluentType, F: FluentFunction<C>, B: Context<C>>(
+    scope: &mut Scope<'_, 'p, '_, 's, '_, C, F, B>,
+    out: &mut Output<W>,
+    inline: &'p InlineExpression<'s>,
+    id: &Identifier<'_>,
+    arguments: &'p CallArguments<'s>,
+    place: Place,
+) -> Result<(), Halt>
+    requires { inline_view inline.now ≡ function id.now.name.now (arguments_view arguments.now) }
+    ensures { let at = status B.meant B.is_plain F.answer C.content in
+        Wrote result
+        (λ b below env path. written with_work b below env path (inline_view inline.now))
+        (sink W.contents out.old) (sink W.contents out.new) (at scope.old) (at scope.new) }
+{
+    let (positional, named) = resolve_call(scope, out.writer, arguments, place)?;
+    put_answer(scope, out, inline, id, &positional, &named)
 }
 
 /// Writes a term's pattern, in the environment that its arguments make.
@@ -103,7 +132,7 @@ fn write_term<'p, 's, W: Write, C: FluentType, F: FluentFunction<C>, B: Context<
     attribute: &Option<Identifier<'_>>,
     arguments: &'p Option<CallArguments<'s>>,
     place: Place,
-) -> Result<(), WriteFault>
+) -> Result<(), Halt>
     requires { inline_view inline.now
         ≡ term id.now.name.now (attribute_of attribute.now) (call_of (option_map arguments_view arguments.now)) }
     ensures { let at = status B.meant B.is_plain F.answer C.content in
@@ -127,7 +156,7 @@ fn follow<'p, 's, W: Write, C: FluentType, F: FluentFunction<C>, B: Context<C>>(
     inline: &InlineExpression<'_>,
     id: &Identifier<'_>,
     found: Found<'p, 's>,
-) -> Result<(), WriteFault>
+) -> Result<(), Halt>
     requires { IsBelow (bound (status B.meant B.is_plain F.answer C.content scope.old).bundle) (found_view found) }
     ensures { let at = status B.meant B.is_plain F.answer C.content in
         Wrote result
@@ -151,7 +180,7 @@ fn go<'p, 's, W: Write, C: FluentType, F: FluentFunction<C>, B: Context<C>>(
     out: &mut Output<W>,
     inline: &InlineExpression<'_>,
     target: Target<'p, 's>,
-) -> Result<(), WriteFault>
+) -> Result<(), Halt>
     requires { size (pattern_view target.pattern.now) < bound (status B.meant B.is_plain F.answer C.content scope.old).bundle }
     ensures { let at = status B.meant B.is_plain F.answer C.content in
         Wrote result
@@ -162,6 +191,7 @@ fn go<'p, 's, W: Write, C: FluentType, F: FluentFunction<C>, B: Context<C>>(
         scope.add_error(ResolverError::Cyclic)?;
         return put_in_braces(out, inline);
     }
+    budgets_pass_through::<LinkedList<u8>>();
     scope.enter(target.pattern)?;
     let written = write_pattern(scope, out, target.pattern, target.place);
     scope.leave();
@@ -176,7 +206,7 @@ fn put_answer<'p, W: Write, C: FluentType, F: FluentFunction<C>, B: Context<C>>(
     id: &Identifier<'_>,
     positional: &[FluentValue<'p, C>],
     arguments: &FluentArgs<'p, C>,
-) -> Result<(), WriteFault>
+) -> Result<(), Halt>
     ensures { let at = status B.meant B.is_plain F.answer C.content in
         Wrote result
         (λ b below env path. function_text with_work b below env (inline_view inline.now)
@@ -202,7 +232,7 @@ fn put_shown<W: Write, C: FluentType, B: Context<C>>(
     out: &mut Output<W>,
     inline: &InlineExpression<'_>,
     answer: &FluentValue<'_, C>,
-) -> Result<(), WriteFault>
+) -> Result<(), Halt>
     ensures { Took result (shown_answer (B.meant bundle.now) (inline_view inline.now) (value_view C.content answer.now))
         (sink W.contents out.old) (sink W.contents out.new) }
 {
@@ -219,7 +249,7 @@ fn write_variable<W: Write, C: FluentType, F: FluentFunction<C>, B: Context<C>>(
     out: &mut Output<W>,
     inline: &InlineExpression<'_>,
     id: &Identifier<'_>,
-) -> Result<(), WriteFault>
+) -> Result<(), Halt>
     requires { inline_view inline.now ≡ variable id.now.name.now }
     ensures { let at = status B.meant B.is_plain F.answer C.content in
         Wrote result
@@ -243,7 +273,7 @@ pub(crate) fn lose<W: Write, C: FluentType, F: FluentFunction<C>, B: Context<C>>
     scope: &mut Scope<'_, '_, '_, '_, '_, C, F, B>,
     out: &mut Output<W>,
     inline: &InlineExpression<'_>,
-) -> Result<(), WriteFault>
+) -> Result<(), Halt>
     ensures { let at = status B.meant B.is_plain F.answer C.content in
         Wrote result
         (λ b below env path. loses with_work b below env (inline_view inline.now))

@@ -16,12 +16,11 @@ use super::context::Context;
 use super::expression::{is_bare, shown_part, write_expression};
 use super::fallback::put_in_braces;
 use super::found::Place;
-use super::output::{Output, put_text};
+use super::output::{Halt, Output, put_text};
 use super::scope::{Budget, Scope};
 use crate::ResolverError;
 use crate::function::FluentFunction;
 use crate::types::FluentType;
-use fluent_text::WriteFault;
 use fluent_tree::ast::{Expression, Pattern, PatternElement};
 use std::io::Write;
 
@@ -33,13 +32,13 @@ pub fn write_pattern<'p, 's, W: Write, C: FluentType, F: FluentFunction<C>, B: C
     out: &mut Output<W>,
     pattern: &'p Pattern<'s>,
     place: Place,
-) -> Result<(), WriteFault>
+) -> Result<(), Halt>
     ensures wrote { let at = status B.meant B.is_plain F.answer C.content in
         Wrote result
         (λ b below env path. whole with_work b below env path (pattern_view pattern.now))
         (sink W.contents out.old) (sink W.contents out.new) (at scope.old) (at scope.new) }
     ensures memory { IsText (pattern_view pattern.now) → IsTrue (B.is_plain scope.old.bundle.now)
-        → out.old.is_buffered ≡ false → result ≢ Err WriteFault.Memory }
+        → out.old.is_buffered ≡ false → result ≢ Err Halt.Memory }
 {
     let begun = scope.begin(pattern);
     let written = write_elements(scope, out, pattern, place);
@@ -54,13 +53,13 @@ fn write_elements<'p, 's, W: Write, C: FluentType, F: FluentFunction<C>, B: Cont
     out: &mut Output<W>,
     pattern: &'p Pattern<'s>,
     place: Place,
-) -> Result<(), WriteFault>
+) -> Result<(), Halt>
     ensures wrote { let at = status B.meant B.is_plain F.answer C.content in
         Wrote result
         (λ b below env path. elements with_work b below env path (has_one (pattern_view pattern.now)) (pattern_view pattern.now))
         (sink W.contents out.old) (sink W.contents out.new) (at scope.old) (at scope.new) }
     ensures memory { IsText (pattern_view pattern.now) → IsTrue (B.is_plain scope.old.bundle.now)
-        → out.old.is_buffered ≡ false → result ≢ Err WriteFault.Memory }
+        → out.old.is_buffered ≡ false → result ≢ Err Halt.Memory }
 {
     let one = has_one(pattern);
     for element in &pattern.elements {
@@ -82,10 +81,10 @@ fn put_changed<W: Write, C: FluentType, F: FluentFunction<C>, B: Context<C>>(
     scope: &Scope<'_, '_, '_, '_, '_, C, F, B>,
     out: &mut Output<W>,
     text: &str,
-) -> Result<(), WriteFault>
+) -> Result<(), Halt>
     ensures took { Took result ((B.meant scope.now.bundle.now).transform text.now)
         (sink W.contents out.old) (sink W.contents out.new) }
-    ensures memory { IsTrue (B.is_plain scope.now.bundle.now) → out.old.is_buffered ≡ false → result ≢ Err WriteFault.Memory }
+    ensures memory { IsTrue (B.is_plain scope.now.bundle.now) → out.old.is_buffered ≡ false → result ≢ Err Halt.Memory }
 {
     let changed = scope.bundle.change(text)?;
     put_text(out, &changed)
@@ -106,7 +105,7 @@ fn write_placeable<'p, 's, W: Write, C: FluentType, F: FluentFunction<C>, B: Con
     one: bool,
     expression: &'p Expression<'s>,
     place: Place,
-) -> Result<(), WriteFault>
+) -> Result<(), Halt>
     requires { budget_view scope.old.budget ≢ struck }
     ensures { let at = status B.meant B.is_plain F.answer C.content in
         Wrote result
@@ -132,7 +131,7 @@ fn is_marked<C: FluentType, B: Context<C>>(bundle: &B, one: bool, expression: &E
 }
 
 /// U+2068 FIRST STRONG ISOLATE, where it is wanted.
-fn put_first_mark<W: Write>(out: &mut Output<W>, marked: bool) -> Result<(), WriteFault>
+fn put_first_mark<W: Write>(out: &mut Output<W>, marked: bool) -> Result<(), Halt>
     ensures { Took result (first_mark marked) (sink W.contents out.old) (sink W.contents out.new) }
 {
     if marked {
@@ -143,7 +142,7 @@ fn put_first_mark<W: Write>(out: &mut Output<W>, marked: bool) -> Result<(), Wri
 }
 
 /// U+2069 POP DIRECTIONAL ISOLATE, where it is wanted.
-fn put_last_mark<W: Write>(out: &mut Output<W>, marked: bool) -> Result<(), WriteFault>
+fn put_last_mark<W: Write>(out: &mut Output<W>, marked: bool) -> Result<(), Halt>
     ensures { Took result (last_mark marked) (sink W.contents out.old) (sink W.contents out.new) }
 {
     if marked {
@@ -158,7 +157,7 @@ pub(crate) fn put_ending<W: Write>(
     out: &mut Output<W>,
     expression: &Expression,
     budget: Budget,
-) -> Result<(), WriteFault>
+) -> Result<(), Halt>
     ensures { Took result (ending (fallback_of (expression_view expression.now)) (budget_view budget))
         (sink W.contents out.old) (sink W.contents out.new) }
 {

@@ -8,7 +8,7 @@ ghost use Rattle.fluent_values.specs.Along.{Got, Wrote};
 ghost use Rattle.fluent_values.specs.Status.{status};
 ghost use Rattle.fluent_values.specs.Tracking.{Runs, called_run, calling, closes, losing, lost_run, maybe_tracks, tracks};
 ghost use Rattle.fluent_values.specs.View.{named, value_view};
-ghost use Rattle.fluent_values.specs.Written.{sink, writer};
+ghost use Rattle.fluent_values.specs.Written.{sink, writer, without_error};
 
 use super::arguments::resolve_call;
 use super::context::Context;
@@ -16,16 +16,18 @@ use super::expression::write_expression;
 use super::fallback::put_in_braces;
 use super::found::Place;
 use super::inline_expression::lose;
-use super::output::Output;
+use super::output::{Halt, Output, with_error};
 use super::pattern::{put_ending, write_pattern};
 use super::scope::Scope;
 use crate::ResolverError;
 use crate::args::FluentArgs;
 use crate::function::FluentFunction;
 use crate::types::{FluentType, FluentValue};
+use fluent_meaning::laws::{budgets_pass_through, calls_pass_through};
 use fluent_text::{Counting, WriteFault};
 use fluent_tree::ast::{CallArguments, Expression, InlineExpression, Pattern};
 use std::alloc::AllocError;
+use std::collections::LinkedList;
 use std::io::Write;
 
 impl<'p, 's, C: FluentType, F: FluentFunction<C>, B: Context<C>> Scope<
@@ -53,20 +55,23 @@ impl<'p, 's, C: FluentType, F: FluentFunction<C>, B: Context<C>> Scope<
         inline: &InlineExpression<'_>,
     ) -> Result<(), WriteFault>
         ensures wrote { let at = status B.meant B.is_plain F.answer C.content in
-            Wrote result (tracks (pattern_view pattern.now) (inline_view inline.now))
+            Wrote (without_error result) (tracks (pattern_view pattern.now) (inline_view inline.now))
             (writer W.contents w.old) (writer W.contents w.new) (at self.old) (at self.new) }
         ensures runs { let at = status B.meant B.is_plain F.answer C.content in
             let p = pattern_view pattern.now in
             let x = inline_view inline.now in
             Runs (at self.old) (tracks p x) (λ b env path. tracked b env path p x) }
     {
+        calls_pass_through::<LinkedList<u8>>();
         let mut unused = String::new(self.bundle.allocator());
         let mut out = Output {
             writer: w,
             buffer: &mut unused,
             is_buffered: false,
+            error: None,
         };
-        write_tracked(self, &mut out, pattern, inline)
+        let written = write_tracked(self, &mut out, pattern, inline);
+        with_error(written, out.error)
     }
 
     /// Writes the expression of a placeable of a pattern, which stands on the path for it where that is empty, and
@@ -85,20 +90,23 @@ impl<'p, 's, C: FluentType, F: FluentFunction<C>, B: Context<C>> Scope<
         expression: &'p Expression<'s>,
     ) -> Result<(), WriteFault>
         ensures wrote { let at = status B.meant B.is_plain F.answer C.content in
-            Wrote result (maybe_tracks (pattern_view pattern.now) (expression_view expression.now))
+            Wrote (without_error result) (maybe_tracks (pattern_view pattern.now) (expression_view expression.now))
             (writer W.contents w.old) (writer W.contents w.new) (at self.old) (at self.new) }
         ensures runs { let at = status B.meant B.is_plain F.answer C.content in
             let p = pattern_view pattern.now in
             let e = expression_view expression.now in
             Runs (at self.old) (maybe_tracks p e) (λ b env path. maybe_tracked b env path p e) }
     {
+        calls_pass_through::<LinkedList<u8>>();
         let mut unused = String::new(self.bundle.allocator());
         let mut out = Output {
             writer: w,
             buffer: &mut unused,
             is_buffered: false,
+            error: None,
         };
-        write_maybe_tracked(self, &mut out, pattern, expression)
+        let written = write_maybe_tracked(self, &mut out, pattern, expression);
+        with_error(written, out.error)
     }
 
     /// Reports an expression as a reference that can't be found, and then writes its fallback in braces. What is no
@@ -115,7 +123,7 @@ impl<'p, 's, C: FluentType, F: FluentFunction<C>, B: Context<C>> Scope<
         inline: &InlineExpression<'_>,
     ) -> Result<(), WriteFault>
         ensures wrote { let at = status B.meant B.is_plain F.answer C.content in
-            Wrote result (losing (inline_view inline.now))
+            Wrote (without_error result) (losing (inline_view inline.now))
             (writer W.contents w.old) (writer W.contents w.new) (at self.old) (at self.new) }
         ensures runs { let at = status B.meant B.is_plain F.answer C.content in
             let x = inline_view inline.now in
@@ -126,8 +134,10 @@ impl<'p, 's, C: FluentType, F: FluentFunction<C>, B: Context<C>> Scope<
             writer: w,
             buffer: &mut unused,
             is_buffered: false,
+            error: None,
         };
-        lose(self, &mut out, inline)
+        let written = lose(self, &mut out, inline);
+        with_error(written, out.error)
     }
 
     /// The values of a call's arguments: positional ones in order, then named ones, of which the last of a name
@@ -149,6 +159,7 @@ impl<'p, 's, C: FluentType, F: FluentFunction<C>, B: Context<C>> Scope<
             Runs (at self.old) (calling given) (λ b env path. called_run b env path given) }
         ensures succeeds { arguments.entry ≡ None → IsOk result }
     {
+        calls_pass_through::<LinkedList<u8>>();
         let alloc = self.bundle.allocator();
         let Some(arguments) = arguments else {
             return Ok((Vec::new(alloc), FluentArgs::new(alloc)));
@@ -167,7 +178,7 @@ fn write_tracked<'p, 's, W: Write, C: FluentType, F: FluentFunction<C>, B: Conte
     out: &mut Output<W>,
     pattern: &'p Pattern<'s>,
     inline: &InlineExpression<'_>,
-) -> Result<(), WriteFault>
+) -> Result<(), Halt>
     ensures { let at = status B.meant B.is_plain F.answer C.content in
         Wrote result (tracks (pattern_view pattern.now) (inline_view inline.now))
         (sink W.contents out.old) (sink W.contents out.new) (at scope.old) (at scope.new) }
@@ -176,6 +187,7 @@ fn write_tracked<'p, 's, W: Write, C: FluentType, F: FluentFunction<C>, B: Conte
         scope.add_error(ResolverError::Cyclic)?;
         return put_in_braces(out, inline);
     }
+    budgets_pass_through::<LinkedList<u8>>();
     scope.enter(pattern)?;
     let written = write_pattern(scope, out, pattern, Place);
     scope.leave();
@@ -188,7 +200,7 @@ fn write_maybe_tracked<'p, 's, W: Write, C: FluentType, F: FluentFunction<C>, B:
     out: &mut Output<W>,
     pattern: &'p Pattern<'s>,
     expression: &'p Expression<'s>,
-) -> Result<(), WriteFault>
+) -> Result<(), Halt>
     ensures { let at = status B.meant B.is_plain F.answer C.content in
         Wrote result (maybe_tracks (pattern_view pattern.now) (expression_view expression.now))
         (sink W.contents out.old) (sink W.contents out.new) (at scope.old) (at scope.new) }
@@ -204,7 +216,7 @@ fn write_closed<'p, 's, W: Write, C: FluentType, F: FluentFunction<C>, B: Contex
     scope: &mut Scope<'_, 'p, '_, 's, '_, C, F, B>,
     out: &mut Output<W>,
     expression: &'p Expression<'s>,
-) -> Result<(), WriteFault>
+) -> Result<(), Halt>
     ensures { let at = status B.meant B.is_plain F.answer C.content in
         Wrote result (closes (expression_view expression.now))
         (sink W.contents out.old) (sink W.contents out.new) (at scope.old) (at scope.new) }

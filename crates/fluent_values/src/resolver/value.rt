@@ -5,10 +5,10 @@ ghost use Rattle.std.specs.Cow.{cow_str_bytes};
 ghost use Rattle.fluent_meaning.specs.Bundle.{shown};
 ghost use Rattle.fluent_meaning.specs.Value.{matches};
 ghost use Rattle.fluent_values.specs.View.{value_view};
-ghost use Rattle.fluent_values.specs.Written.{sink, writer, Took};
+ghost use Rattle.fluent_values.specs.Written.{sink, writer, without_error, Took};
 
 use super::context::Context;
-use super::output::{Output, put_text};
+use super::output::{Halt, Output, put_text, with_error};
 use super::scope::Scope;
 use crate::types::{FluentType, FluentValue};
 use fluent_text::{Counting, WriteFault};
@@ -21,7 +21,7 @@ pub fn put_value<W: Write, C: FluentType, B: Context<C>>(
     bundle: &B,
     out: &mut Output<W>,
     value: &FluentValue<'_, C>,
-) -> Result<(), WriteFault>
+) -> Result<(), Halt>
     ensures { Took result (shown (B.meant bundle.now) (value_view C.content value.now)) (sink W.contents out.old) (sink W.contents out.new) }
 {
     let text = bundle.show(value)?;
@@ -52,15 +52,18 @@ impl<'v, C: FluentType> FluentValue<'v, C> {
         w: &mut Counting<W>,
         scope: &Scope<'_, '_, '_, '_, '_, C, F, B>,
     ) -> Result<(), WriteFault>
-        ensures { Took result (shown (B.meant scope.now.bundle.now) (value_view C.content self.now)) (writer W.contents w.old) (writer W.contents w.new) }
+        ensures { Took (without_error result) (shown (B.meant scope.now.bundle.now) (value_view C.content self.now))
+            (writer W.contents w.old) (writer W.contents w.new) }
     {
         let mut unused = String::new(scope.bundle.allocator());
         let mut out = Output {
             writer: w,
             buffer: &mut unused,
             is_buffered: false,
+            error: None,
         };
-        put_value(scope.bundle, &mut out, self)
+        let written = put_value(scope.bundle, &mut out, self);
+        with_error(written, out.error)
     }
 
     /// What the value is shown as: the formatter's answer, where there is one, else its own text.

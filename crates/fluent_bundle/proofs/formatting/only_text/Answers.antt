@@ -1,7 +1,6 @@
 use Rattle.std.proofs.Common.{◌≡◌, sym, ap, ◌∙◌, length, rules}
 use Rattle.fluent_values.specs.Texts.{sole_text}
-use Rattle.fluent_values.proofs.Views.{view_pattern}
-use Rattle.fluent_bundle.proofs.Soles.{sole_none}
+use Rattle.fluent_bundle.proofs.Soles.{sole_none, view_pattern}
 use Rattle.fluent_bundle.proofs.formatting.only_text.Goals.{in_default-via-then-as_slice-lt1, in_default-via-else-as_slice-lt1+else-this-lt2}
 use Rattle.fluent_bundle.proofs.formatting.only_text.Goals as goal
 

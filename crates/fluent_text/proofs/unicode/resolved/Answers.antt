@@ -1,7 +1,7 @@
 use Rattle.std.proofs.Common.{◌-◌, ◌+◌, ◌++◌, ◌∙◌, ap, sym, length, arith, rules}
 use Rattle.std.specs.Prelude.{string_bytes}
 use Rattle.fluent_text.specs.Escapes.{part, value_of}
-use Rattle.fluent_text.proofs.Turns.{none, done, next}
+use Rattle.fluent_text.specs.Facts.Turns.{none, done, next}
 use Rattle.fluent_text.proofs.unicode.resolved.Goals as goal
 
 pub returns-in_default : goal.returns-in_default

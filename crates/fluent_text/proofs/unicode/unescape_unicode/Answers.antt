@@ -3,7 +3,7 @@ use Rattle.std.specs.Io.KnownBytes.{Appends}
 use Rattle.fluent_text.specs.Escapes.{part, value_of}
 use Rattle.fluent_text.specs.Unescaped.{bytes_of}
 use Rattle.fluent_text.proofs.Front.{appends_twice}
-use Rattle.fluent_text.proofs.Turns.{none, done, next, more}
+use Rattle.fluent_text.specs.Facts.Turns.{none, done, next, more}
 use Rattle.fluent_text.proofs.Unescapes.{began, on_err}
 use Rattle.fluent_text.proofs.unicode.unescape_unicode.Goals as goal
 

@@ -1,11 +1,11 @@
 use Rattle.std.proofs.Common.{ℕ, ◌≡◌, rules, arith, length, ap, sym, ◌∙◌, refl, Some, None, map, [], ◌∷◌, ◌++◌, ◌+◌, drop, subst, IsTrue, ◌<◌}
 use Rattle.std.specs.Option.{option_map}
 use Rattle.fluent_tree.specs.Fallback.{fallback, in_braces}
-use Rattle.fluent_tree.specs.Tree.{placeable, variants_of, pattern_of, inlines_of, nameds_of}
+use Rattle.fluent_tree.specs.Tree.{placeable, select, variants_of, pattern_of, inlines_of, nameds_of}
 use Rattle.fluent_tree.specs.declared.ast.CallArguments as of_call
 use Rattle.fluent_tree.specs.View.{inline_view, expression_view, pattern_view, element_view, variant_view, attribute_of, call_of, arguments_view, named_view}
 use Rattle.fluent_meaning.specs.Arguments.{get, set, set_all}
-use Rattle.fluent_meaning.specs.Bundle.{goes_to, message_target, term_target, shown, function_found}
+use Rattle.fluent_meaning.specs.Bundle.{goes_to, message_target, term_target, function_found}
 use Rattle.fluent_meaning.specs.Errors.{resolver_error, too_many_placeables}
 use Rattle.fluent_meaning.specs.Meaning.{first_mark, last_mark, at_most, struck}
 use Rattle.fluent_meaning.specs.Walk.{has_one, is_marked, part}
@@ -21,13 +21,13 @@ use Rattle.fluent_values.proofs.Cases.{sequence, prepend, unmarked, closing, ope
 use Rattle.fluent_values.proofs.Measures.{falls_to, less_weight, kept_weight, taken_weight, still_weight, less_found, element_less, place_less, label_less, some_variants, chosen_less, below_message, below_term}
 use Rattle.fluent_values.proofs.Outputs.{still}
 use Rattle.fluent_values.proofs.Passing.{passed_still, passed_counts, keeps_elsewhere, keeps_around, keeps_back, entered_counts, opened_on, struck_same}
-use Rattle.fluent_values.proofs.Steps.{inline_at, select_at, choosing, choosing_at, cyclic_at, entered_at, begun_at, back, term_at, inside, inside_at, function_at, answering, answered_value, wholing, elementing, following, giving, giving_all, giving_text, giving_placeable, giving_end, giving_struck, next_of, none_left, no_placeable, expressing, writing, resolving, locals, valued, place_walk, label_walk, placing_next, placing_end, placing_more, labelled, labelling_next, labelling_end, labelling_more, named_in, naming_after, pairing, calling_at, set_all_next}
+use Rattle.fluent_values.proofs.Steps.{inline_at, choosing, choosing_at, cyclic_at, entered_at, begun_at, back, term_at, inside, inside_at, selecting_at, function_at, answering, answered_value, wholing, elementing, following, giving, giving_all, giving_text, giving_placeable, giving_end, giving_struck, next_of, none_left, no_placeable, expressing, writing, resolving, locals, valued, place_walk, label_walk, placing_next, placing_end, placing_more, labelled, labelling_next, labelling_end, labelling_more, named_in, naming_after, pairing, calling_at, set_all_next}
 use Rattle.fluent_values.proofs.Took.{took_same}
 use Rattle.fluent_values.proofs.Values.{gave_outward, asks, ask_stops, misses, begins, reads, gets, gets_part, got_if, got_as, got_part_as, misses_as, rests_memory, rests_same, rests_err, rests_ok, rests_on, by_buffer, as_got, beside_rests, got, gathers_none, gathers_as, gathers_same, gathers_one, gathers_part, gathers_all, gathers_stops, gathers_stops_as}
 use Rattle.fluent_values.proofs.Views.{view_pattern, view_text_in, view_placeable_in, view_string_in, view_number_in, view_message_in, view_nested_in, view_function_in, view_in, view_select_in, view_term_in, view_variable_in, view_arguments, view_written}
 use Rattle.fluent_meaning.specs.Value.{text_value}
 use borrow.Author.Count.{falls}
-use Rattle.fluent_text.specs.declared.counting.WriteFault.TheVariants as fault
+use Rattle.fluent_values.specs.declared.resolver.output.Halt.TheVariants as fault
 use Rattle.fluent_values.proofs.resolver.+resolve.Goals as goal
 
 pub expression::write_expression-returns-in-Inline : goal.expression::write_expression-returns-in-Inline
@@ -35,57 +35,63 @@ expression::write_expression-returns-in-Inline g t c =
     let a = status g.B.Context.meant g.B.Context.is_plain g.F.FluentFunction.answer g.C.FluentType.content c.args.scope.now in
     wrote (tail c.write_inline.ensures (turns (inline_at a c.args.expression.now c.in-Inline.inline a.budget c.in-Inline.is) (starts a _ _)))
 
-pub expression::write_expression-returns-in_err-value-in-Select : goal.expression::write_expression-returns-in_err-value-in-Select
-expression::write_expression-returns-in_err-value-in-Select g t c =
+pub expression::write_expression-returns-in-Select : goal.expression::write_expression-returns-in-Select
+expression::write_expression-returns-in-Select g t c =
     let a = status g.B.Context.meant g.B.Context.is_plain g.F.FluentFunction.answer g.C.FluentType.content c.args.scope.now in
-    let out = c.args.out.now in
-    let gave = gave_outward g.W.Write.contents out.writer.ghost_name out.buffer.ghost_name out.writer.now c.resolve.new.w out.buffer.now out.is_buffered c.resolve.ensures in
-    let vs = c.in-Select.variants.items in
-    let begun = turns (select_at a c.args.expression.now c.in-Select.selector c.in-Select.variants a.budget c.in-Select.is) (starts a _ _) in
-    ask_stops (choosing a vs) c.in_err-value-in-Select.was (search rules) gave begun
+    let is = view_select_in c.args.expression.now c.in-Select.selector c.in-Select.variants c.in-Select.is ∙ ap (λ vs. select (inline_view c.in-Select.selector) (variants_of (map variant_view vs))) (sym c.deref.ensures.value) in
+    wrote (tail c.write_select.ensures (turns (ap (λ e. from_here a (expressing e)) is) (starts a _ _)))
 
-pub expression::write_expression-returns-in-Some : goal.expression::write_expression-returns-in-Some
-expression::write_expression-returns-in-Some g t c =
+pub expression::write_select-returns-in_err-value : goal.expression::write_select-returns-in_err-value
+expression::write_select-returns-in_err-value g t c =
     let a = status g.B.Context.meant g.B.Context.is_plain g.F.FluentFunction.answer g.C.FluentType.content c.args.scope.now in
     let out = c.args.out.now in
     let gave = gave_outward g.W.Write.contents out.writer.ghost_name out.buffer.ghost_name out.writer.now c.resolve.new.w out.buffer.now out.is_buffered c.resolve.ensures in
-    let vs = c.in-Select.variants.items in
-    let begun = turns (select_at a c.args.expression.now c.in-Select.selector c.in-Select.variants a.budget c.in-Select.is) (starts a _ _) in
-    let v = value_view g.C.FluentType.content c.in_ok-value-in-Select.value in
+    let vs = c.args.variants.now in
+    let begun = turns (selecting_at a c.args.selector.now c.args.variants.now a.budget) (starts a _ _) in
+    ask_stops (choosing a vs) c.in_err-value.was (search rules) gave begun
+
+pub expression::write_select-returns-in-Some : goal.expression::write_select-returns-in-Some
+expression::write_select-returns-in-Some g t c =
+    let a = status g.B.Context.meant g.B.Context.is_plain g.F.FluentFunction.answer g.C.FluentType.content c.args.scope.now in
+    let out = c.args.out.now in
+    let gave = gave_outward g.W.Write.contents out.writer.ghost_name out.buffer.ghost_name out.writer.now c.resolve.new.w out.buffer.now out.is_buffered c.resolve.ensures in
+    let vs = c.args.variants.now in
+    let begun = turns (selecting_at a c.args.selector.now c.args.variants.now a.budget) (starts a _ _) in
+    let v = value_view g.C.FluentType.content c.in_ok-value.value in
     let b = status g.B.Context.meant g.B.Context.is_plain g.F.FluentFunction.answer g.C.FluentType.content c.resolve.new.scope in
     let kept = c.resolve.ensures.got.toward.passed.keeps.bundle in
-    let chose = c.choose.ensures ∙ ap (λ vs. let all = variants_of (map variant_view vs) in choice (goes_to b.bundle) v (first_default all) all) c.deref.ensures.value ∙ ap (λ s. let all = variants_of (map variant_view vs) in choice (goes_to s) v (first_default all) all) kept in
-    let asked = asks (choosing a vs) c.in_ok-value-in-Select.was gave begun in
+    let chose = c.choose.ensures ∙ ap (λ s. let all = variants_of (map variant_view vs) in choice (goes_to s) v (first_default all) all) kept in
+    let asked = asks (choosing a vs) c.in_ok-value.was gave begun in
     let is = sym (ap (option_map (λ p. pattern_view p.now)) c.in-Some.is) ∙ chose in
     wrote (tail c.write_pattern.ensures.wrote (turns (choosing_at a vs v (Some (pattern_view c.in-Some.variant.now)) b.budget is) asked))
 
-pub expression::write_expression-returns-in_err-add_error-in-None : goal.expression::write_expression-returns-in_err-add_error-in-None
-expression::write_expression-returns-in_err-add_error-in-None g t c =
+pub expression::write_select-returns-in_err-add_error-in-None : goal.expression::write_select-returns-in_err-add_error-in-None
+expression::write_select-returns-in_err-add_error-in-None g t c =
     let a = status g.B.Context.meant g.B.Context.is_plain g.F.FluentFunction.answer g.C.FluentType.content c.args.scope.now in
     let out = c.args.out.now in
     let gave = gave_outward g.W.Write.contents out.writer.ghost_name out.buffer.ghost_name out.writer.now c.resolve.new.w out.buffer.now out.is_buffered c.resolve.ensures in
-    let vs = c.in-Select.variants.items in
-    let begun = turns (select_at a c.args.expression.now c.in-Select.selector c.in-Select.variants a.budget c.in-Select.is) (starts a _ _) in
-    let v = value_view g.C.FluentType.content c.in_ok-value-in-Select.value in
+    let vs = c.args.variants.now in
+    let begun = turns (selecting_at a c.args.selector.now c.args.variants.now a.budget) (starts a _ _) in
+    let v = value_view g.C.FluentType.content c.in_ok-value.value in
     let b = status g.B.Context.meant g.B.Context.is_plain g.F.FluentFunction.answer g.C.FluentType.content c.resolve.new.scope in
     let kept = c.resolve.ensures.got.toward.passed.keeps.bundle in
-    let chose = c.choose.ensures ∙ ap (λ vs. let all = variants_of (map variant_view vs) in choice (goes_to b.bundle) v (first_default all) all) c.deref.ensures.value ∙ ap (λ s. let all = variants_of (map variant_view vs) in choice (goes_to s) v (first_default all) all) kept in
-    let asked = asks (choosing a vs) c.in_ok-value-in-Select.was gave begun in
+    let chose = c.choose.ensures ∙ ap (λ s. let all = variants_of (map variant_view vs) in choice (goes_to s) v (first_default all) all) kept in
+    let asked = asks (choosing a vs) c.in_ok-value.was gave begun in
     let is = sym (ap (option_map (λ p. pattern_view p.now)) c.in-None.is) ∙ chose in
     refuses c.in_err-add_error-in-None.was (search rules) c.add_error.ensures.added (turns (choosing_at a vs v None b.budget is) asked)
 
-pub expression::write_expression-returns : goal.expression::write_expression-returns
-expression::write_expression-returns g t c =
+pub expression::write_select-returns : goal.expression::write_select-returns
+expression::write_select-returns g t c =
     let a = status g.B.Context.meant g.B.Context.is_plain g.F.FluentFunction.answer g.C.FluentType.content c.args.scope.now in
     let out = c.args.out.now in
     let gave = gave_outward g.W.Write.contents out.writer.ghost_name out.buffer.ghost_name out.writer.now c.resolve.new.w out.buffer.now out.is_buffered c.resolve.ensures in
-    let vs = c.in-Select.variants.items in
-    let begun = turns (select_at a c.args.expression.now c.in-Select.selector c.in-Select.variants a.budget c.in-Select.is) (starts a _ _) in
-    let v = value_view g.C.FluentType.content c.in_ok-value-in-Select.value in
+    let vs = c.args.variants.now in
+    let begun = turns (selecting_at a c.args.selector.now c.args.variants.now a.budget) (starts a _ _) in
+    let v = value_view g.C.FluentType.content c.in_ok-value.value in
     let b = status g.B.Context.meant g.B.Context.is_plain g.F.FluentFunction.answer g.C.FluentType.content c.resolve.new.scope in
     let kept = c.resolve.ensures.got.toward.passed.keeps.bundle in
-    let chose = c.choose.ensures ∙ ap (λ vs. let all = variants_of (map variant_view vs) in choice (goes_to b.bundle) v (first_default all) all) c.deref.ensures.value ∙ ap (λ s. let all = variants_of (map variant_view vs) in choice (goes_to s) v (first_default all) all) kept in
-    let asked = asks (choosing a vs) c.in_ok-value-in-Select.was gave begun in
+    let chose = c.choose.ensures ∙ ap (λ s. let all = variants_of (map variant_view vs) in choice (goes_to s) v (first_default all) all) kept in
+    let asked = asks (choosing a vs) c.in_ok-value.was gave begun in
     let is = sym (ap (option_map (λ p. pattern_view p.now)) c.in-None.is) ∙ chose in
     ends (turns (ap (given []) (sym c.add_error.ensures.added.budget)) (adds (given [] b.budget) c.in_ok-add_error-in-None.was c.add_error.ensures.added (turns (choosing_at a vs v None b.budget is) asked)))
 
@@ -123,7 +129,7 @@ inline_expression::go-returns g t c =
     let walk = wholing (pattern_view c.args.target.pattern.now) in
     wrote (lends before.errors after.errors (ap (λ n. adding n (trace (from_here b walk))) c.enter.ensures.tally) refl c.leave.ensures.tally after.budget
     (keeps_around before kept after (c.leave.ensures.left a.path (Some c.args.target.pattern) (kept.path ∙ entered)))
-    w (turns (entered_at a b x c.args.target.pattern (sym c.is_on.ensures ∙ c.if-is_on.false) entered before) (starts a _ _)))
+    w (turns (entered_at c.budgets_pass_through.ensures.counts a b x c.args.target.pattern (sym c.is_on.ensures ∙ c.if-is_on.false) entered before) (starts a _ _)))
 
 pub pattern::write_pattern-returns-clause-wrote : goal.pattern::write_pattern-returns-clause-wrote
 pattern::write_pattern-returns-clause-wrote g t c =
@@ -341,7 +347,7 @@ pub inline_expression::write_inline-returns-in-NumberLiteral : goal.inline_expre
 inline_expression::write_inline-returns-in-NumberLiteral g t c =
     let a = status g.B.Context.meant g.B.Context.is_plain g.F.FluentFunction.answer g.C.FluentType.content c.args.scope.now in
     let begun = turns (ap (λ x. from_here a (writing x)) (view_number_in c.args.inline.now c.in-NumberLiteral.value c.in-NumberLiteral.is) ∙ written_number a.bundle (work a.bundle) a.environment (on_path a.path) c.in-NumberLiteral.value.now a.budget) (starts a _ _) in
-    wrote (puts_last (took_same (ap (shown a.bundle) c.try_number.ensures) c.put_value.ensures) begun)
+    wrote (puts_last c.put_number.ensures begun)
 
 pub inline_expression::write_inline-returns-in-MessageReference : goal.inline_expression::write_inline-returns-in-MessageReference
 inline_expression::write_inline-returns-in-MessageReference g t c =
@@ -365,7 +371,7 @@ inline_expression::write_inline-returns-in-VariableReference g t c =
 pub inline_expression::write_inline-returns-in-Placeable : goal.inline_expression::write_inline-returns-in-Placeable
 inline_expression::write_inline-returns-in-Placeable g t c =
     let a = status g.B.Context.meant g.B.Context.is_plain g.F.FluentFunction.answer g.C.FluentType.content c.args.scope.now in
-    let begun = turns (ap (λ x. from_here a (writing x)) (view_nested_in c.args.inline.now c.in-Placeable.expression c.in-Placeable.is) ∙ written_nested a.bundle (work a.bundle) a.environment (on_path a.path) (expression_view c.in-Placeable.expression.value) a.budget ∙ ap (λ e. walked a (expressing (expression_view e)) a.budget) (sym c.deref-in-Placeable.ensures)) (starts a _ _) in
+    let begun = turns (ap (λ x. from_here a (writing x)) (view_nested_in c.args.inline.now c.in-Placeable.expression c.in-Placeable.is) ∙ written_nested a.bundle (work a.bundle) a.environment (on_path a.path) (expression_view c.in-Placeable.expression.value) a.budget ∙ ap (λ e. walked a (expressing (expression_view e)) a.budget) (sym c.deref.ensures)) (starts a _ _) in
     wrote (tail c.write_expression.ensures begun)
 
 pub arguments::resolve-returns-in_err-text-in-StringLiteral : goal.arguments::resolve-returns-in_err-text-in-StringLiteral
@@ -385,21 +391,24 @@ arguments::resolve-returns-in_ok-text-in-StringLiteral g t c =
     let means = ap (λ x. from_here a (resolving x)) (view_string_in c.args.inline.now c.in-StringLiteral.value c.in-StringLiteral.is) ∙ resolved_string a.bundle (work a.bundle) a.environment (on_path a.path) c.in-StringLiteral.value.now a.budget in
     record { got = got_if _ means (ap text_value (search rules)); rests = rests_same _ }
 
-pub arguments::resolve-returns-in_err-positional-in-FunctionReference : goal.arguments::resolve-returns-in_err-positional-in-FunctionReference
-arguments::resolve-returns-in_err-positional-in-FunctionReference g t c =
-    let a = status g.B.Context.meant g.B.Context.is_plain g.F.FluentFunction.answer g.C.FluentType.content c.args.scope.now in
-    let m = c.in-FunctionReference.id.name.now in
-    let k = valued a m in
-    let means = ap (λ x. from_here a (resolving x)) (view_function_in c.args.inline.now c.in-FunctionReference.id c.in-FunctionReference.arguments c.in-FunctionReference.is) ∙ resolved_function a.bundle (work a.bundle) a.environment (on_path a.path) m (arguments_view c.in-FunctionReference.arguments) a.budget in
-    record { got = misses_as c.in_err-positional-in-FunctionReference.was (search rules) (gets_part k c.resolve_call.ensures.got (reads means (begins a _))); rests = rests_err c.in_err-positional-in-FunctionReference.was (search rules) c.resolve_call.ensures.rests }
+pub arguments::resolve-returns-in-FunctionReference : goal.arguments::resolve-returns-in-FunctionReference
+arguments::resolve-returns-in-FunctionReference g t c = c.resolve_function.ensures
 
-pub arguments::resolve-returns-in_err-answer-in-FunctionReference : goal.arguments::resolve-returns-in_err-answer-in-FunctionReference
-arguments::resolve-returns-in_err-answer-in-FunctionReference g t c =
+pub arguments::resolve_function-returns-in_err-positional : goal.arguments::resolve_function-returns-in_err-positional
+arguments::resolve_function-returns-in_err-positional g t c =
     let a = status g.B.Context.meant g.B.Context.is_plain g.F.FluentFunction.answer g.C.FluentType.content c.args.scope.now in
-    let m = c.in-FunctionReference.id.name.now in
+    let m = c.args.id.now.name.now in
     let k = valued a m in
-    let means = ap (λ x. from_here a (resolving x)) (view_function_in c.args.inline.now c.in-FunctionReference.id c.in-FunctionReference.arguments c.in-FunctionReference.is) ∙ resolved_function a.bundle (work a.bundle) a.environment (on_path a.path) m (arguments_view c.in-FunctionReference.arguments) a.budget in
-    record { got = misses {e = fault.Memory} (search rules) (gets k c.in_ok-positional-in-FunctionReference.was c.resolve_call.ensures.got (reads means (begins a _))); rests = rests_on (rests_ok {T = ℕ} {x = 0} c.in_ok-positional-in-FunctionReference.was c.resolve_call.ensures.rests) (rests_memory _ (search rules)) }
+    let means = ap (λ x. from_here a (resolving x)) c.requires ∙ resolved_function a.bundle (work a.bundle) a.environment (on_path a.path) m (arguments_view c.args.arguments.now) a.budget in
+    record { got = misses_as c.in_err-positional.was (search rules) (gets_part k c.resolve_call.ensures.got (reads means (begins a _))); rests = rests_err c.in_err-positional.was (search rules) c.resolve_call.ensures.rests }
+
+pub arguments::resolve_function-returns-in_err-answer : goal.arguments::resolve_function-returns-in_err-answer
+arguments::resolve_function-returns-in_err-answer g t c =
+    let a = status g.B.Context.meant g.B.Context.is_plain g.F.FluentFunction.answer g.C.FluentType.content c.args.scope.now in
+    let m = c.args.id.now.name.now in
+    let k = valued a m in
+    let means = ap (λ x. from_here a (resolving x)) c.requires ∙ resolved_function a.bundle (work a.bundle) a.environment (on_path a.path) m (arguments_view c.args.arguments.now) a.budget in
+    record { got = misses {e = fault.Memory} (search rules) (gets k c.in_ok-positional.was c.resolve_call.ensures.got (reads means (begins a _))); rests = rests_on (rests_ok {T = ℕ} {x = 0} c.in_ok-positional.was c.resolve_call.ensures.rests) (rests_memory _ (search rules)) }
 
 pub arguments::resolve-returns-in_err-resolve_variable-in-VariableReference : goal.arguments::resolve-returns-in_err-resolve_variable-in-VariableReference
 arguments::resolve-returns-in_err-resolve_variable-in-VariableReference g t c =
@@ -443,8 +452,8 @@ arguments::resolve-slice_bounds-try_number-end g t c = search rules
 pub arguments::resolve-try_number-requires-text-text : goal.arguments::resolve-try_number-requires-text-text
 arguments::resolve-try_number-requires-text-text g t c = search rules
 
-pub arguments::resolve-answer_of-requires-text-id : goal.arguments::resolve-answer_of-requires-text-id
-arguments::resolve-answer_of-requires-text-id g t c = search rules
+pub arguments::resolve_function-answer_of-requires-text-id : goal.arguments::resolve_function-answer_of-requires-text-id
+arguments::resolve_function-answer_of-requires-text-id g t c = search rules
 
 pub inline_expression::follow-report_no_value-requires-text-id : goal.inline_expression::follow-report_no_value-requires-text-id
 inline_expression::follow-report_no_value-requires-text-id g t c = search rules
@@ -458,11 +467,11 @@ inline_expression::write_inline-slice_bounds-put_unescaped-end g t c = search ru
 pub inline_expression::write_inline-put_unescaped-requires-text-value : goal.inline_expression::write_inline-put_unescaped-requires-text-value
 inline_expression::write_inline-put_unescaped-requires-text-value g t c = search rules
 
-pub inline_expression::write_inline-slice_bounds-try_number-end : goal.inline_expression::write_inline-slice_bounds-try_number-end
-inline_expression::write_inline-slice_bounds-try_number-end g t c = search rules
+pub inline_expression::write_inline-slice_bounds-put_number-end : goal.inline_expression::write_inline-slice_bounds-put_number-end
+inline_expression::write_inline-slice_bounds-put_number-end g t c = search rules
 
-pub inline_expression::write_inline-try_number-requires-text-text : goal.inline_expression::write_inline-try_number-requires-text-text
-inline_expression::write_inline-try_number-requires-text-text g t c = search rules
+pub inline_expression::write_inline-put_number-requires-text-source : goal.inline_expression::write_inline-put_number-requires-text-source
+inline_expression::write_inline-put_number-requires-text-source g t c = search rules
 
 pub inline_expression::write_inline-message-found-requires-text-id : goal.inline_expression::write_inline-message-found-requires-text-id
 inline_expression::write_inline-message-found-requires-text-id g t c = search rules
@@ -482,11 +491,19 @@ pattern::write_elements-put_changed-requires-text-text g t c = search rules
 pub pattern::write_elements-loop-element-smaller : goal.pattern::write_elements-loop-element-smaller
 pattern::write_elements-loop-element-smaller g t c = search rules
 
-pub arguments::resolve-resolve_call-requires : goal.arguments::resolve-resolve_call-requires
-arguments::resolve-resolve_call-requires g t c =
+pub arguments::resolve-resolve_function-requires : goal.arguments::resolve-resolve_function-requires
+arguments::resolve-resolve_function-requires g t c =
     let a = status g.B.Context.meant g.B.Context.is_plain g.F.FluentFunction.answer g.C.FluentType.content c.args.scope.now in
-    let sized : inline_size (inline_view c.args.inline.now) ≡ 1 + arguments_size (arguments_view c.in-FunctionReference.arguments) = ap inline_size (view_function_in c.args.inline.now c.in-FunctionReference.id c.in-FunctionReference.arguments c.in-FunctionReference.is) in
-    let less = falls_to c.decreases (less_weight a.bundle a.bundle (arguments_size (arguments_view c.in-FunctionReference.arguments)) (2 + inline_size (inline_view c.args.inline.now)) (1 + at_most a.budget) (1 + at_most a.budget) refl (omega (arith, sized)) (omega arith)) in
+    let k = arguments_view c.in-FunctionReference.arguments in
+    let view = view_function_in c.args.inline.now c.in-FunctionReference.id c.in-FunctionReference.arguments c.in-FunctionReference.is in
+    let sized : inline_size (inline_view c.args.inline.now) ≡ 2 + arguments_size k = ap inline_size view in
+    let less = falls_to c.decreases (less_weight a.bundle a.bundle (1 + arguments_size k) (2 + inline_size (inline_view c.args.inline.now)) (1 + at_most a.budget) (1 + at_most a.budget) refl (omega (arith, sized)) (omega arith)) in
+    λ κs h. (less, (h.0, (h.1.0, (h.1.1.0, (h.1.1.1, view)))))
+
+pub arguments::resolve_function-resolve_call-requires : goal.arguments::resolve_function-resolve_call-requires
+arguments::resolve_function-resolve_call-requires g t c =
+    let a = status g.B.Context.meant g.B.Context.is_plain g.F.FluentFunction.answer g.C.FluentType.content c.args.scope.now in
+    let less = falls_to c.decreases (less_weight a.bundle a.bundle (arguments_size (arguments_view c.args.arguments.now)) (1 + arguments_size (arguments_view c.args.arguments.now)) (1 + at_most a.budget) (1 + at_most a.budget) refl (omega arith) (omega arith)) in
     λ κs h. (less, (h.0, (h.1.0, (h.1.1.0, h.1.1.1))))
 
 pub arguments::resolve-resolve_variable-requires : goal.arguments::resolve-resolve_variable-requires
@@ -547,25 +564,34 @@ expression::write_expression-write_inline-requires g t c =
     let less = falls_to c.decreases (less_weight a.bundle a.bundle (inline_size (inline_view c.in-Inline.inline)) (expression_size (expression_view c.args.expression.now)) (1 + at_most a.budget) (1 + at_most a.budget) refl (omega (arith, sized)) (omega arith)) in
     λ κs h. (less, (h.0, (h.1.0, (h.1.1.0, h.1.1.1))))
 
-pub expression::write_expression-resolve-requires : goal.expression::write_expression-resolve-requires
-expression::write_expression-resolve-requires g t c =
+pub expression::write_expression-write_select-requires : goal.expression::write_expression-write_select-requires
+expression::write_expression-write_select-requires g t c =
     let a = status g.B.Context.meant g.B.Context.is_plain g.F.FluentFunction.answer g.C.FluentType.content c.args.scope.now in
+    let x = inline_view c.in-Select.selector in
     let vs = variants_of (map variant_view c.in-Select.variants.items) in
-    let sized : expression_size (expression_view c.args.expression.now) ≡ 2 + inline_size (inline_view c.in-Select.selector) + variants_size vs = ap expression_size (view_select_in c.args.expression.now c.in-Select.selector c.in-Select.variants c.in-Select.is) in
-    let less = falls_to c.decreases (less_weight a.bundle a.bundle (2 + inline_size (inline_view c.in-Select.selector)) (expression_size (expression_view c.args.expression.now)) (1 + at_most a.budget) (1 + at_most a.budget) refl (omega (arith, sized, some_variants vs)) (omega arith)) in
+    let here = variants_of (map variant_view c.deref.result.now) in
+    let sized : expression_size (expression_view c.args.expression.now) ≡ 3 + inline_size x + variants_size vs = ap expression_size (view_select_in c.args.expression.now c.in-Select.selector c.in-Select.variants c.in-Select.is) in
+    let same : variants_size here ≡ variants_size vs = ap (λ vs. variants_size (variants_of (map variant_view vs))) c.deref.ensures.value in
+    let less = falls_to c.decreases (less_weight a.bundle a.bundle (2 + inline_size x + variants_size here) (expression_size (expression_view c.args.expression.now)) (1 + at_most a.budget) (1 + at_most a.budget) refl (omega (arith, sized, same)) (omega arith)) in
     λ κs h. (less, (h.0, (h.1.0, (h.1.1.0, h.1.1.1))))
 
-pub expression::write_expression-write_pattern-requires : goal.expression::write_expression-write_pattern-requires
-expression::write_expression-write_pattern-requires g t c =
+pub expression::write_select-resolve-requires : goal.expression::write_select-resolve-requires
+expression::write_select-resolve-requires g t c =
+    let a = status g.B.Context.meant g.B.Context.is_plain g.F.FluentFunction.answer g.C.FluentType.content c.args.scope.now in
+    let vs = variants_of (map variant_view c.args.variants.now) in
+    let less = falls_to c.decreases (less_weight a.bundle a.bundle (2 + inline_size (inline_view c.args.selector.now)) (2 + inline_size (inline_view c.args.selector.now) + variants_size vs) (1 + at_most a.budget) (1 + at_most a.budget) refl (omega (arith, some_variants vs)) (omega arith)) in
+    λ κs h. (less, (h.0, (h.1.0, (h.1.1.0, h.1.1.1))))
+
+pub expression::write_select-write_pattern-requires : goal.expression::write_select-write_pattern-requires
+expression::write_select-write_pattern-requires g t c =
     let a = status g.B.Context.meant g.B.Context.is_plain g.F.FluentFunction.answer g.C.FluentType.content c.args.scope.now in
     let b = status g.B.Context.meant g.B.Context.is_plain g.F.FluentFunction.answer g.C.FluentType.content c.resolve.new.scope in
-    let vs = variants_of (map variant_view c.in-Select.variants.items) in
-    let sized : expression_size (expression_view c.args.expression.now) ≡ 2 + inline_size (inline_view c.in-Select.selector) + variants_size vs = ap expression_size (view_select_in c.args.expression.now c.in-Select.selector c.in-Select.variants c.in-Select.is) in
-    let v = value_view g.C.FluentType.content c.in_ok-value-in-Select.value in
+    let vs = variants_of (map variant_view c.args.variants.now) in
+    let v = value_view g.C.FluentType.content c.in_ok-value.value in
     let p = pattern_view c.in-Some.variant.now in
-    let is : Some p ≡ choice (goes_to b.bundle) v (first_default vs) vs = sym (ap (option_map (λ p. pattern_view p.now)) c.in-Some.is) ∙ c.choose.ensures ∙ ap (λ vs. let all = variants_of (map variant_view vs) in choice (goes_to b.bundle) v (first_default all) all) c.deref.ensures.value in
+    let is : Some p ≡ choice (goes_to b.bundle) v (first_default vs) vs = sym (ap (option_map (λ p. pattern_view p.now)) c.in-Some.is) ∙ c.choose.ensures in
     let kept = c.resolve.ensures.got.toward.passed.keeps in
-    let less = falls_to c.decreases (less_weight a.bundle b.bundle (1 + size p) (expression_size (expression_view c.args.expression.now)) (at_most b.budget) (1 + at_most a.budget) kept.bundle (omega (arith, sized, chosen_less (goes_to b.bundle) v vs p is)) (omega (arith, kept.less))) in
+    let less = falls_to c.decreases (less_weight a.bundle b.bundle (1 + size p) (2 + inline_size (inline_view c.args.selector.now) + variants_size vs) (at_most b.budget) (1 + at_most a.budget) kept.bundle (omega (arith, chosen_less (goes_to b.bundle) v vs p is)) (omega (arith, kept.less))) in
     λ κs h. (less, (h.0, (h.1.0, (h.1.1.0, h.1.1.1))))
 
 pub inline_expression::follow-go-requires : goal.inline_expression::follow-go-requires
@@ -583,11 +609,19 @@ inline_expression::go-write_pattern-written-requires g t c =
     let less = falls_to c.decreases (still_weight (1 + size p) (2 + size p) c.enter.ensures.elsewhere (omega arith)) in
     λ κs h. (less, (h.0, (h.1.0, (h.1.1.0, h.1.1.1))))
 
-pub inline_expression::write_inline-resolve_call-requires : goal.inline_expression::write_inline-resolve_call-requires
-inline_expression::write_inline-resolve_call-requires g t c =
+pub inline_expression::write_inline-write_function-requires : goal.inline_expression::write_inline-write_function-requires
+inline_expression::write_inline-write_function-requires g t c =
     let a = status g.B.Context.meant g.B.Context.is_plain g.F.FluentFunction.answer g.C.FluentType.content c.args.scope.now in
-    let sized : inline_size (inline_view c.args.inline.now) ≡ 1 + arguments_size (arguments_view c.in-FunctionReference.arguments) = ap inline_size (view_function_in c.args.inline.now c.in-FunctionReference.id c.in-FunctionReference.arguments c.in-FunctionReference.is) in
-    let less = falls_to c.decreases (less_weight a.bundle a.bundle (arguments_size (arguments_view c.in-FunctionReference.arguments)) (inline_size (inline_view c.args.inline.now)) (1 + at_most a.budget) (1 + at_most a.budget) refl (omega (arith, sized)) (omega arith)) in
+    let k = arguments_view c.in-FunctionReference.arguments in
+    let view = view_function_in c.args.inline.now c.in-FunctionReference.id c.in-FunctionReference.arguments c.in-FunctionReference.is in
+    let sized : inline_size (inline_view c.args.inline.now) ≡ 2 + arguments_size k = ap inline_size view in
+    let less = falls_to c.decreases (less_weight a.bundle a.bundle (1 + arguments_size k) (inline_size (inline_view c.args.inline.now)) (1 + at_most a.budget) (1 + at_most a.budget) refl (omega (arith, sized)) (omega arith)) in
+    λ κs h. (less, (h.0, (h.1.0, (h.1.1.0, (h.1.1.1, view)))))
+
+pub inline_expression::write_function-resolve_call-requires : goal.inline_expression::write_function-resolve_call-requires
+inline_expression::write_function-resolve_call-requires g t c =
+    let a = status g.B.Context.meant g.B.Context.is_plain g.F.FluentFunction.answer g.C.FluentType.content c.args.scope.now in
+    let less = falls_to c.decreases (less_weight a.bundle a.bundle (arguments_size (arguments_view c.args.arguments.now)) (1 + arguments_size (arguments_view c.args.arguments.now)) (1 + at_most a.budget) (1 + at_most a.budget) refl (omega arith) (omega arith)) in
     λ κs h. (less, (h.0, (h.1.0, (h.1.1.0, h.1.1.1))))
 
 pub inline_expression::write_inline-follow-requires : goal.inline_expression::write_inline-follow-requires
@@ -613,8 +647,8 @@ pub inline_expression::write_inline-write_expression-requires : goal.inline_expr
 inline_expression::write_inline-write_expression-requires g t c =
     let a = status g.B.Context.meant g.B.Context.is_plain g.F.FluentFunction.answer g.C.FluentType.content c.args.scope.now in
     let sized : inline_size (inline_view c.args.inline.now) ≡ 1 + expression_size (expression_view c.in-Placeable.expression.value) = ap inline_size (view_nested_in c.args.inline.now c.in-Placeable.expression c.in-Placeable.is) in
-    let here : expression_size (expression_view c.deref-in-Placeable.result.now) ≡ expression_size (expression_view c.in-Placeable.expression.value) = ap (λ e. expression_size (expression_view e)) c.deref-in-Placeable.ensures in
-    let less = falls_to c.decreases (less_weight a.bundle a.bundle (expression_size (expression_view c.deref-in-Placeable.result.now)) (inline_size (inline_view c.args.inline.now)) (1 + at_most a.budget) (1 + at_most a.budget) refl (omega (arith, sized, here)) (omega arith)) in
+    let here : expression_size (expression_view c.deref.result.now) ≡ expression_size (expression_view c.in-Placeable.expression.value) = ap (λ e. expression_size (expression_view e)) c.deref.ensures in
+    let less = falls_to c.decreases (less_weight a.bundle a.bundle (expression_size (expression_view c.deref.result.now)) (inline_size (inline_view c.args.inline.now)) (1 + at_most a.budget) (1 + at_most a.budget) refl (omega (arith, sized, here)) (omega arith)) in
     λ κs h. (less, (h.0, (h.1.0, (h.1.1.0, h.1.1.1))))
 
 pub inline_expression::write_term-resolve_local-requires : goal.inline_expression::write_term-resolve_local-requires
@@ -662,29 +696,32 @@ pattern::write_placeable-write_expression-requires g t c =
     let less = falls_to c.decreases (taken_weight (expression_size (expression_view c.args.expression.now)) (1 + expression_size (expression_view c.args.expression.now)) c.if-not-take_one.false c.take_one.ensures.takes (omega arith)) in
     λ κs h. (less, (h.0, (h.1.0, (h.1.1.0, h.1.1.1))))
 
-pub inline_expression::write_inline-returns-in_err-positional-in-FunctionReference : goal.inline_expression::write_inline-returns-in_err-positional-in-FunctionReference
-inline_expression::write_inline-returns-in_err-positional-in-FunctionReference g t c =
-    let a = status g.B.Context.meant g.B.Context.is_plain g.F.FluentFunction.answer g.C.FluentType.content c.args.scope.now in
-    let out = c.args.out.now in
-    let x = inline_view c.args.inline.now in
-    let m = c.in-FunctionReference.id.name.now in
-    let k = arguments_view c.in-FunctionReference.arguments in
-    let gave = gave_outward g.W.Write.contents out.writer.ghost_name out.buffer.ghost_name out.writer.now c.resolve_call.new.w out.buffer.now out.is_buffered c.resolve_call.ensures in
-    let begun = turns (function_at a x m k a.budget (view_function_in c.args.inline.now c.in-FunctionReference.id c.in-FunctionReference.arguments c.in-FunctionReference.is)) (starts a _ _) in
-    ask_stops (λ p. walked a (answering x m p.0 p.1)) c.in_err-positional-in-FunctionReference.was (search rules) gave begun
+pub inline_expression::write_inline-returns-in-FunctionReference : goal.inline_expression::write_inline-returns-in-FunctionReference
+inline_expression::write_inline-returns-in-FunctionReference g t c = c.write_function.ensures
 
-pub inline_expression::write_inline-returns-in_ok-positional-in-FunctionReference : goal.inline_expression::write_inline-returns-in_ok-positional-in-FunctionReference
-inline_expression::write_inline-returns-in_ok-positional-in-FunctionReference g t c =
+pub inline_expression::write_function-returns-in_err-positional : goal.inline_expression::write_function-returns-in_err-positional
+inline_expression::write_function-returns-in_err-positional g t c =
     let a = status g.B.Context.meant g.B.Context.is_plain g.F.FluentFunction.answer g.C.FluentType.content c.args.scope.now in
     let out = c.args.out.now in
     let x = inline_view c.args.inline.now in
-    let m = c.in-FunctionReference.id.name.now in
-    let k = arguments_view c.in-FunctionReference.arguments in
+    let m = c.args.id.now.name.now in
+    let k = arguments_view c.args.arguments.now in
     let gave = gave_outward g.W.Write.contents out.writer.ghost_name out.buffer.ghost_name out.writer.now c.resolve_call.new.w out.buffer.now out.is_buffered c.resolve_call.ensures in
-    let begun = turns (function_at a x m k a.budget (view_function_in c.args.inline.now c.in-FunctionReference.id c.in-FunctionReference.arguments c.in-FunctionReference.is)) (starts a _ _) in
-    let asked = asks (λ p. walked a (answering x m p.0 p.1)) c.in_ok-positional-in-FunctionReference.was gave begun in
+    let begun = turns (function_at a x m k a.budget c.requires) (starts a _ _) in
+    ask_stops (λ p. walked a (answering x m p.0 p.1)) c.in_err-positional.was (search rules) gave begun
+
+pub inline_expression::write_function-returns : goal.inline_expression::write_function-returns
+inline_expression::write_function-returns g t c =
+    let a = status g.B.Context.meant g.B.Context.is_plain g.F.FluentFunction.answer g.C.FluentType.content c.args.scope.now in
+    let out = c.args.out.now in
+    let x = inline_view c.args.inline.now in
+    let m = c.args.id.now.name.now in
+    let k = arguments_view c.args.arguments.now in
+    let gave = gave_outward g.W.Write.contents out.writer.ghost_name out.buffer.ghost_name out.writer.now c.resolve_call.new.w out.buffer.now out.is_buffered c.resolve_call.ensures in
+    let begun = turns (function_at a x m k a.budget c.requires) (starts a _ _) in
+    let asked = asks (λ p. walked a (answering x m p.0 p.1)) c.in_ok-positional.was gave begun in
     let b = status g.B.Context.meant g.B.Context.is_plain g.F.FluentFunction.answer g.C.FluentType.content c.resolve_call.new.scope in
-    let given_named = named g.C.FluentType.content c.in_ok-positional-in-FunctionReference.named in
+    let given_named = named g.C.FluentType.content c.in_ok-positional.named in
     wrote (tail c.put_answer.ensures (turns (ap (λ ps. walked a (answering x m (map (value_view g.C.FluentType.content) ps) given_named) b.budget) (sym c.deref.ensures.value)) asked))
 
 pub inline_expression::write_term-returns-in_err-local : goal.inline_expression::write_term-returns-in_err-local
@@ -722,24 +759,24 @@ arguments::write_beside-returns g t c =
     let out = c.write_inline.new.out in
     by_buffer g.W.Write.contents _ out.writer.ghost_name _ out.buffer.ghost_name c.args.w.now out.writer.now c.w-1.given.0 c.args.text.now out.buffer.now c.text-1.given.0 out.is_buffered (search rules) (search rules) c.write_inline.ensures
 
-pub arguments::resolve-returns-in_ok-answer-in-FunctionReference : goal.arguments::resolve-returns-in_ok-answer-in-FunctionReference
-arguments::resolve-returns-in_ok-answer-in-FunctionReference g t c =
+pub arguments::resolve_function-returns : goal.arguments::resolve_function-returns
+arguments::resolve_function-returns g t c =
     let a = status g.B.Context.meant g.B.Context.is_plain g.F.FluentFunction.answer g.C.FluentType.content c.args.scope.now in
-    let m = c.in-FunctionReference.id.name.now in
+    let m = c.args.id.now.name.now in
     let k = valued a m in
-    let means = ap (λ x. from_here a (resolving x)) (view_function_in c.args.inline.now c.in-FunctionReference.id c.in-FunctionReference.arguments c.in-FunctionReference.is) ∙ resolved_function a.bundle (work a.bundle) a.environment (on_path a.path) m (arguments_view c.in-FunctionReference.arguments) a.budget in
-    let gathered = gets k c.in_ok-positional-in-FunctionReference.was c.resolve_call.ensures.got (reads means (begins a _)) in
+    let means = ap (λ x. from_here a (resolving x)) c.requires ∙ resolved_function a.bundle (work a.bundle) a.environment (on_path a.path) m (arguments_view c.args.arguments.now) a.budget in
+    let gathered = gets k c.in_ok-positional.was c.resolve_call.ensures.got (reads means (begins a _)) in
     let b = status g.B.Context.meant g.B.Context.is_plain g.F.FluentFunction.answer g.C.FluentType.content c.resolve_call.new.scope in
     let view = value_view g.C.FluentType.content in
-    let vs = map view c.in_ok-positional-in-FunctionReference.positional.items in
-    let ns = named g.C.FluentType.content c.in_ok-positional-in-FunctionReference.named in
-    let answer = c.in_ok-answer-in-FunctionReference.answer in
+    let vs = map view c.in_ok-positional.positional.items in
+    let ns = named g.C.FluentType.content c.in_ok-positional.named in
+    let answer = c.in_ok-answer.answer in
     let told =
-    at_value (λ o. option_map view o ≡ option_map (λ f. f (map view c.deref.result.now) ns) (function_found (get m b.bundle.ids))) c.in_ok-answer-in-FunctionReference.was c.answer_of.ensures
+    at_value (λ o. option_map view o ≡ option_map (λ f. f (map view c.deref.result.now) ns) (function_found (get m b.bundle.ids))) c.in_ok-answer.was c.answer_of.ensures
     ∙ ap (λ ps. option_map (λ f. f (map view ps) ns) (function_found (get m b.bundle.ids))) c.deref.ensures.value
     ∙ ap (λ s. option_map (λ f. f vs ns) (function_found (get m s.ids))) c.resolve_call.ensures.got.toward.passed.keeps.bundle in
     let same = ap view c.unwrap_or.ensures ∙ answered_value g.C.FluentType.content a m vs ns answer told in
-    record { got = got c.unwrap_or.result (reads (ap (λ y. given y b.budget) (sym same)) gathered); rests = rests_ok c.in_ok-positional-in-FunctionReference.was c.resolve_call.ensures.rests }
+    record { got = got c.unwrap_or.result (reads (ap (λ y. given y b.budget) (sym same)) gathered); rests = rests_ok c.in_ok-positional.was c.resolve_call.ensures.rests }
 
 pub arguments::resolve-returns-in_err-write_beside-in_default : goal.arguments::resolve-returns-in_err-write_beside-in_default
 arguments::resolve-returns-in_err-write_beside-in_default g t c =

@@ -1,13 +1,13 @@
 use Rattle.std.proofs.Common.{◌≡◌, ◌+◌, drop, map, List, [], Ok}
 use Rattle.std.specs.Option.{option_map}
-use Rattle.fluent_tree.specs.Tree.{Text, inlines_of, nameds_of}
+use Rattle.fluent_tree.specs.Tree.{Text, inlines_of, nameds_of, variants_of}
 use Rattle.fluent_meaning.specs.Value.{Value}
-use Rattle.fluent_tree.specs.View.{pattern_view, expression_view, inline_view, arguments_view, call_of, named_view}
+use Rattle.fluent_tree.specs.View.{pattern_view, expression_view, inline_view, variant_view, arguments_view, call_of, named_view}
 use Rattle.fluent_meaning.specs.Arguments.{set_all}
 use Rattle.fluent_meaning.specs.Meaning.{at_most}
 use Rattle.fluent_meaning.specs.Walk.{has_one}
 use Rattle.fluent_values.specs.Along.{Along, from_here, walked, Rests}
-use Rattle.fluent_values.specs.Sizes.{bound, size, expression_size, inline_size, inlines_size, nameds_size, call_size, arguments_size}
+use Rattle.fluent_values.specs.Sizes.{bound, size, expression_size, variants_size, inline_size, inlines_size, nameds_size, call_size, arguments_size}
 use Rattle.fluent_values.specs.Status.{status}
 use Rattle.fluent_values.specs.View.{value_view, named}
 use Rattle.fluent_values.specs.Written.{sink, writer}
@@ -36,6 +36,11 @@ decreases-expression::write_expression g l =
     let a = status g.B.Context.meant g.B.Context.is_plain g.F.FluentFunction.answer g.C.FluentType.content l.scope.now in
     weight (2 + bound a.bundle) (expression_size (expression_view l.expression.now)) (1 + at_most a.budget)
 
+abbrev pub decreases-expression::write_select : goal.decreases-expression::write_select
+decreases-expression::write_select g l =
+    let a = status g.B.Context.meant g.B.Context.is_plain g.F.FluentFunction.answer g.C.FluentType.content l.scope.now in
+    weight (2 + bound a.bundle) (2 + inline_size (inline_view l.selector.now) + variants_size (variants_of (map variant_view l.variants.now))) (1 + at_most a.budget)
+
 abbrev pub decreases-inline_expression::write_inline : goal.decreases-inline_expression::write_inline
 decreases-inline_expression::write_inline g l =
     let a = status g.B.Context.meant g.B.Context.is_plain g.F.FluentFunction.answer g.C.FluentType.content l.scope.now in
@@ -45,6 +50,11 @@ abbrev pub decreases-inline_expression::write_term : goal.decreases-inline_expre
 decreases-inline_expression::write_term g l =
     let a = status g.B.Context.meant g.B.Context.is_plain g.F.FluentFunction.answer g.C.FluentType.content l.scope.now in
     weight (2 + bound a.bundle) (1 + call_size (call_of (option_map arguments_view l.arguments.now))) (1 + at_most a.budget)
+
+abbrev pub decreases-inline_expression::write_function : goal.decreases-inline_expression::write_function
+decreases-inline_expression::write_function g l =
+    let a = status g.B.Context.meant g.B.Context.is_plain g.F.FluentFunction.answer g.C.FluentType.content l.scope.now in
+    weight (2 + bound a.bundle) (1 + arguments_size (arguments_view l.arguments.now)) (1 + at_most a.budget)
 
 abbrev pub decreases-inline_expression::follow : goal.decreases-inline_expression::follow
 decreases-inline_expression::follow g l =
@@ -60,6 +70,11 @@ abbrev pub decreases-arguments::resolve : goal.decreases-arguments::resolve
 decreases-arguments::resolve g l =
     let a = status g.B.Context.meant g.B.Context.is_plain g.F.FluentFunction.answer g.C.FluentType.content l.scope.now in
     weight (2 + bound a.bundle) (2 + inline_size (inline_view l.inline.now)) (1 + at_most a.budget)
+
+abbrev pub decreases-arguments::resolve_function : goal.decreases-arguments::resolve_function
+decreases-arguments::resolve_function g l =
+    let a = status g.B.Context.meant g.B.Context.is_plain g.F.FluentFunction.answer g.C.FluentType.content l.scope.now in
+    weight (2 + bound a.bundle) (1 + arguments_size (arguments_view l.arguments.now)) (1 + at_most a.budget)
 
 abbrev pub decreases-arguments::write_beside : goal.decreases-arguments::write_beside
 decreases-arguments::write_beside g l =

@@ -1,10 +1,26 @@
-use Rattle.std.proofs.Common.{rules, ap, sym, ◌∙◌}
+use Rattle.std.proofs.Common.{rules, ◌≡◌, ap, sym, ◌∙◌}
 use Rattle.std.specs.Option.{option_map}
+use Rattle.fluent_tree.specs.Tree.{Text}
 use Rattle.fluent_tree.specs.View.{pattern_view}
+use Rattle.fluent_meaning.specs.Bundle.{transform_of}
+use Rattle.fluent_meaning.specs.Result.{written_pattern}
 use Rattle.fluent_bundle.specs.BundleView.{meant, is_plain}
 use Rattle.fluent_values.specs.Status.{arguments_view, reported, status}
-use Rattle.fluent_bundle.proofs.Formats.{fresh, never_none, writes_of}
+use Rattle.fluent_bundle.proofs.Formats.{fresh, never_none, writes_of, writes_text}
+use Rattle.fluent_bundle.proofs.Givings.{texts_errors, texts_value, texts_where}
 use Rattle.fluent_bundle.proofs.bundle.FluentBundle.write_out.Goals as goal
+
+pub returns-then-writes_texts_alone-clause-writes : goal.returns-then-writes_texts_alone-clause-writes
+returns-then-writes_texts_alone-clause-writes g c =
+    let self = c.args.self.now in
+    let b = meant g.M.MemoizerKind.category g.C.FluentType.shown g.C.FluentType.alike g.F.FluentFunction.answer g.G.FluentFormatter.formatted g.T.Transform.changed self in
+    let env = arguments_view g.C.FluentType.content c.args.args in
+    let p = pattern_view c.args.pattern.now in
+    let here = texts_where self.transform p (sym c.writes_texts_alone.ensures ∙ c.if-writes_texts_alone.true) in
+    let plain : (u : Text) → b.transform u ≡ u = λ u. ap (λ o. transform_of (option_map g.T.Transform.changed o) u) here.0 in
+    writes_text (written_pattern b env p) c.args.errors.now.items
+    (texts_value b env p plain here.1)
+    (texts_errors b env p plain here.1) c.put_texts.ensures.took
 
 pub returns-in-Some-clause-writes : goal.returns-in-Some-clause-writes
 returns-in-Some-clause-writes g c =
@@ -13,7 +29,7 @@ returns-in-Some-clause-writes g c =
     let a = status of is_plain g.F.FluentFunction.answer g.C.FluentType.content c.new-scope.result in
     let held = ap (option_map (λ e. reported e.now.items)) (sym c.into_errors.ensures ∙ c.in-Some.is) in
     writes_of c.write_pattern-written.ensures.wrote
-    (fresh a (of c.args.self.now) (arguments_view g.C.FluentType.content c.args.args) (pattern_view c.args.pattern.now)
+    (fresh c.calls_pass_through.ensures a (of c.args.self.now) (arguments_view g.C.FluentType.content c.args.args) (pattern_view c.args.pattern.now)
     begins.bundle begins.environment begins.path begins.budget)
     (search (rules, c.new-scope.ensures.errors))
     (search (rules, held))

@@ -2,7 +2,7 @@ use Rattle.std.proofs.Common.{◌-◌, ◌+◌, ◌∙◌, length, arith, rules}
 use Rattle.fluent_text.specs.Parser.{push}
 use Rattle.fluent_intl.specs.RuleGrammar.{or_group}
 use Rattle.fluent_intl.specs.RuleReading.{all, group_view}
-use Rattle.fluent_text.proofs.Turns.{pushed, empty}
+use Rattle.fluent_text.specs.Facts.Turns.{pushed, empty}
 use Rattle.fluent_intl.proofs.rule_texts.condition.more_groups.Goals as goal
 
 pub groups-preserved : goal.groups-preserved

@@ -2,7 +2,7 @@ use Rattle.std.proofs.Common.{◌-◌, ◌+◌, ◌∙◌, length, arith, rules}
 use Rattle.fluent_text.specs.Parser.{push}
 use Rattle.fluent_intl.specs.RuleGrammar.{and_relation}
 use Rattle.fluent_intl.specs.RuleReading.{all, relation_view}
-use Rattle.fluent_text.proofs.Turns.{pushed, empty}
+use Rattle.fluent_text.specs.Facts.Turns.{pushed, empty}
 use Rattle.fluent_intl.proofs.rule_texts.condition.more_relations.Goals as goal
 
 pub relations-preserved : goal.relations-preserved

@@ -1,4 +1,4 @@
-use Rattle.fluent_text.proofs.Runs.{boundary-one}
+use Rattle.fluent_text.specs.Facts.Runs.{boundary-one}
 use Rattle.fluent_intl.proofs.rule_texts.lexical.after_first.Goals as goal
 
 pub range_from-requires : goal.range_from-requires

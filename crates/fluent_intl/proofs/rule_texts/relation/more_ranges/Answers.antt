@@ -1,7 +1,7 @@
 use Rattle.std.proofs.Common.{◌-◌, ◌+◌, ◌∙◌, sym, length, arith, rules}
 use Rattle.fluent_text.specs.Parser.{push}
 use Rattle.fluent_intl.specs.RuleGrammar.{next_range}
-use Rattle.fluent_text.proofs.Turns.{next, empty}
+use Rattle.fluent_text.specs.Facts.Turns.{next, empty}
 use Rattle.fluent_intl.proofs.rule_texts.relation.more_ranges.Goals as goal
 
 pub listed-preserved : goal.listed-preserved

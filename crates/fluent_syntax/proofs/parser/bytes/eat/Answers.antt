@@ -1,5 +1,5 @@
 use Rattle.std.proofs.Common.{◌<◌, get_or, arith}
-use Rattle.fluent_text.proofs.Runs.{boundary-one}
+use Rattle.fluent_text.specs.Facts.Runs.{boundary-one}
 use Rattle.fluent_syntax.proofs.parser.bytes.eat.Goals as goal
 
 pub range_from-requires : goal.range_from-requires

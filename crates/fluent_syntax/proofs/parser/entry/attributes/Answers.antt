@@ -3,7 +3,7 @@ use Rattle.fluent_tree.specs.View.{attribute_view}
 use Rattle.fluent_text.specs.Parser.{push}
 use Rattle.fluent_syntax.specs.Entries.{attribute}
 use Rattle.fluent_syntax.specs.Reading.{all}
-use Rattle.fluent_text.proofs.Turns.{pushed, empty}
+use Rattle.fluent_text.specs.Facts.Turns.{pushed, empty}
 use Rattle.fluent_syntax.proofs.parser.entry.attributes.Goals as goal
 
 pub attributes-preserved : goal.attributes-preserved

@@ -6,7 +6,7 @@ use Rattle.fluent_tree.specs.Tree.{placeable}
 use Rattle.fluent_tree.specs.View.{element_view}
 use Rattle.fluent_syntax.specs.Progress.{Places, Reached, piece_of}
 use Rattle.fluent_syntax.specs.Reading.{all}
-use Rattle.fluent_syntax.proofs.OneLine.{is_other}
+use Rattle.fluent_syntax.specs.Facts.OneLine.{is_other}
 use Rattle.fluent_syntax.proofs.Progress.{Plain, plain-append, plain-run, AreWhole, whole_here, whole_line, text_reached, hole_reached, no_hole, after_run, is_equal}
 use Rattle.fluent_syntax.proofs.parser.first_line.first_line.Goals as goal
 

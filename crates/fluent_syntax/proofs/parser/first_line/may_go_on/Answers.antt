@@ -1,7 +1,7 @@
 use Rattle.std.proofs.Common.{sym, ap, ◌∙◌}
 use Rattle.std.specs.Bool.{◌==◌}
 use Rattle.fluent_syntax.specs.Progress.{closes_pattern}
-use Rattle.fluent_syntax.proofs.OneLine.{ends, ends_at, closes}
+use Rattle.fluent_syntax.specs.Facts.OneLine.{ends, ends_at, closes}
 use Rattle.fluent_syntax.proofs.parser.first_line.may_go_on.Goals as goal
 
 pub returns-in_default-blank_inline : goal.returns-in_default-blank_inline

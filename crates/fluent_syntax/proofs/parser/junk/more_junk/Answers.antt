@@ -1,7 +1,7 @@
 use Rattle.std.proofs.Common.{◌-◌, ◌+◌, ◌∙◌, sym, length, arith, rules}
 use Rattle.fluent_text.specs.Parser.{one_more}
 use Rattle.fluent_syntax.specs.Chunks.{junk_line}
-use Rattle.fluent_text.proofs.Turns.{more}
+use Rattle.fluent_text.specs.Facts.Turns.{more}
 use Rattle.fluent_syntax.proofs.parser.junk.more_junk.Goals as goal
 
 pub junk-preserved : goal.junk-preserved

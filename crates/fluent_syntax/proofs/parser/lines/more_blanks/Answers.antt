@@ -1,7 +1,7 @@
 use Rattle.std.proofs.Common.{◌-◌, ◌+◌, ◌∙◌, sym, length, arith, rules}
 use Rattle.fluent_text.specs.Parser.{one_more}
 use Rattle.fluent_text.specs.Lexical.{blank_turn}
-use Rattle.fluent_text.proofs.Turns.{more}
+use Rattle.fluent_text.specs.Facts.Turns.{more}
 use Rattle.fluent_syntax.proofs.parser.lines.more_blanks.Goals as goal
 
 pub blanks-preserved : goal.blanks-preserved

@@ -1,7 +1,7 @@
 use Rattle.std.proofs.Common.{◌-◌, ◌+◌, ◌∙◌, sym, length, arith, rules}
 use Rattle.fluent_text.specs.Parser.{one_more}
 use Rattle.fluent_text.specs.Lexical.{blank_line}
-use Rattle.fluent_text.proofs.Turns.{more}
+use Rattle.fluent_text.specs.Facts.Turns.{more}
 use Rattle.fluent_syntax.proofs.parser.lines.more_lines.Goals as goal
 
 pub lines-preserved : goal.lines-preserved

@@ -1,5 +1,5 @@
 use Rattle.std.proofs.Common.{◌-◌, ◌+◌, ◌∙◌, sym, arith, rules}
-use Rattle.fluent_syntax.proofs.Literals.{hex_more}
+use Rattle.fluent_syntax.specs.Facts.Literals.{hex_more}
 use Rattle.fluent_syntax.proofs.parser.literal.hex_digits.Goals as goal
 
 pub digits-preserved : goal.digits-preserved

@@ -1,7 +1,7 @@
 use Rattle.std.proofs.Common.{◌-◌, ◌+◌, ◌∙◌, sym, length, arith, rules}
 use Rattle.fluent_text.specs.Parser.{one_more}
 use Rattle.fluent_syntax.specs.Expressions.{quoted_turn}
-use Rattle.fluent_text.proofs.Turns.{more}
+use Rattle.fluent_text.specs.Facts.Turns.{more}
 use Rattle.fluent_syntax.proofs.parser.literal.quoted.Goals as goal
 
 pub quoted-preserved : goal.quoted-preserved

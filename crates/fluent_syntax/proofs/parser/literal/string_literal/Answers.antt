@@ -1,8 +1,8 @@
 use Rattle.std.proofs.Common.{}
 use Rattle.fluent_text.specs.Parser.{count}
 use Rattle.fluent_syntax.specs.Expressions.{quoted_turn}
-use Rattle.fluent_syntax.proofs.Fronts.{left_within, left_end, takes-count}
-use Rattle.fluent_syntax.proofs.Literals.{takes-quoted_turn}
+use Rattle.fluent_syntax.specs.Facts.Fronts.{left_within, left_end, takes-count}
+use Rattle.fluent_syntax.specs.Facts.Literals.{takes-quoted_turn}
 use Rattle.fluent_syntax.proofs.parser.literal.string_literal.Goals as goal
 
 pub before-requires-clause-within : goal.before-requires-clause-within

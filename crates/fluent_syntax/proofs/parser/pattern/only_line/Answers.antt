@@ -1,7 +1,7 @@
 use Rattle.std.proofs.Common.{◌<◌, length, sym, ◌∙◌, arith}
 use Rattle.std.proofs.lemmas.Bool.Decides.{nat_tests}
 use Rattle.fluent_text.specs.Parser.{first}
-use Rattle.fluent_syntax.proofs.OneLine.{one_line_at, is_other}
+use Rattle.fluent_syntax.specs.Facts.OneLine.{one_line_at, is_other}
 use Rattle.fluent_syntax.proofs.parser.pattern.only_line.Goals as goal
 
 pub returns : goal.returns

@@ -1,7 +1,7 @@
 use Rattle.std.proofs.Common.{sym, ap, ◌∙◌, arith}
 use Rattle.fluent_text.specs.Parser.{run_len}
 use Rattle.fluent_text.specs.Lexical.{is_text}
-use Rattle.fluent_syntax.proofs.OneLine.{is_other}
+use Rattle.fluent_syntax.specs.Facts.OneLine.{is_other}
 use Rattle.fluent_syntax.proofs.Progress.{is_equal}
 use Rattle.fluent_syntax.proofs.TextRuns.{text_at_brace, text_at_feed, text_to_end, text_to_brace, text_none, text_to_return, text_to_feed}
 use Rattle.fluent_syntax.proofs.parser.text.text_len.Goals as goal

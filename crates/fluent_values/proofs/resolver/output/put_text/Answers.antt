@@ -1,5 +1,5 @@
-use Rattle.std.proofs.Common.{rules}
-use Rattle.fluent_values.proofs.Took.{took_same}
+use Rattle.std.proofs.Common.{rules, sym, ◌∙◌}
+use Rattle.fluent_values.proofs.Took.{took_same, took_as, stays_memory}
 use Rattle.fluent_values.proofs.Outputs.{in_buffer, to_writer}
 use Rattle.fluent_values.proofs.resolver.output.put_text.Goals as goal
 
@@ -9,5 +9,8 @@ returns-in_ok-push_str-clause-took g c = let out = c.args.out.now in in_buffer g
 pub returns-else-out-clause-took : goal.returns-else-out-clause-took
 returns-else-out-clause-took g c =
     let out = c.args.out.now in
-    let e = c.put.ensures in
-    took_same c.as_bytes.ensures.value (to_writer g.W.Write.contents out.writer.ghost_name out.buffer.ghost_name out.writer.now c.put.new.w out.buffer.now out.is_buffered c.as_bytes.result.now (search rules) e.whole e.front e.fault)
+    let e = c.put-answer.ensures in
+    took_as (sym c.set_aside.ensures) (took_same c.as_bytes.ensures.value (to_writer c.put-answer.result g.W.Write.contents out.writer.ghost_name out.buffer.ghost_name out.writer.now c.put-answer.new.w out.buffer.now out.is_buffered c.as_bytes.result.now (search rules) e.whole e.front e.fault))
+
+pub returns-else-out-clause-memory : goal.returns-else-out-clause-memory
+returns-else-out-clause-memory g c = λ bare is. c.put-answer.ensures.memory (stays_memory c.put-answer.result (sym c.set_aside.ensures ∙ is))

@@ -46,4 +46,4 @@ returns g c =
     let walk = wholing (pattern_view c.args.pattern.now) in
     wrote (lends before.errors after.errors (ap (λ n. adding n (trace (from_here b walk))) c.enter.ensures.tally) refl c.leave.ensures.tally after.budget
     (keeps_around before kept after (c.leave.ensures.left a.path (Some c.args.pattern) (kept.path ∙ entered)))
-    w (turns (entered_at a b x c.args.pattern (sym c.is_on.ensures ∙ c.if-is_on.false) entered before) (starts a _ _)))
+    w (turns (entered_at c.budgets_pass_through.ensures.counts a b x c.args.pattern (sym c.is_on.ensures ∙ c.if-is_on.false) entered before) (starts a _ _)))

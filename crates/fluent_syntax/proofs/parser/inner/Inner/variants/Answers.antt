@@ -3,7 +3,7 @@ use Rattle.fluent_tree.specs.View.{variant_view}
 use Rattle.fluent_text.specs.Parser.{push}
 use Rattle.fluent_syntax.specs.Expressions.{variant, level}
 use Rattle.fluent_syntax.specs.Reading.{all}
-use Rattle.fluent_text.proofs.Turns.{pushed, empty}
+use Rattle.fluent_text.specs.Facts.Turns.{pushed, empty}
 use Rattle.fluent_syntax.proofs.parser.inner.Inner.variants.Goals as goal
 
 pub variants-preserved : goal.variants-preserved

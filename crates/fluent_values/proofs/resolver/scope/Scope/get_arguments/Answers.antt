@@ -16,9 +16,9 @@ returns-in_default-clause-got g c =
 pub returns-in-Ok-clause-runs : goal.returns-in-Ok-clause-runs
 returns-in-Ok-clause-runs g c =
     let a = status g.B.Context.meant g.B.Context.is_plain g.F.FluentFunction.answer g.C.FluentType.content c.args.self.now in
-    calling_runs a (option_map (λ k. arguments_view k.now) c.args.arguments)
+    calling_runs c.calls_pass_through.ensures a (option_map (λ k. arguments_view k.now) c.args.arguments)
 
 pub returns-clause-runs : goal.returns-clause-runs
 returns-clause-runs g c =
     let a = status g.B.Context.meant g.B.Context.is_plain g.F.FluentFunction.answer g.C.FluentType.content c.args.self.now in
-    calling_runs a (option_map (λ k. arguments_view k.now) c.args.arguments)
+    calling_runs c.calls_pass_through.ensures a (option_map (λ k. arguments_view k.now) c.args.arguments)

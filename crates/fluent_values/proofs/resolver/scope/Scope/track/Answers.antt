@@ -1,10 +1,9 @@
 use Rattle.std.proofs.Common.{sym}
 use Rattle.fluent_tree.specs.View.{inline_view, pattern_view}
 use Rattle.fluent_values.specs.Status.{on_path, status}
-use Rattle.fluent_values.proofs.CasesRan.{tracked_is}
 use Rattle.fluent_values.proofs.resolver.scope.Scope.track.Goals as goal
 
 pub returns-clause-runs : goal.returns-clause-runs
 returns-clause-runs g c =
     let a = status g.B.Context.meant g.B.Context.is_plain g.F.FluentFunction.answer g.C.FluentType.content c.args.self.now in
-    sym (tracked_is a.bundle a.environment (on_path a.path) (pattern_view c.args.pattern.now) (inline_view c.args.inline.now) a.budget)
+    sym (c.calls_pass_through.ensures.reference a.bundle a.environment (on_path a.path) (pattern_view c.args.pattern.now) (inline_view c.args.inline.now) a.budget)

@@ -1,0 +1,69 @@
+-- What bundles in a chain answer: the first that has a pattern formats it.
+use Rattle.std.specs.Prelude.{◌≤◌, List, [], ◌∷◌, Option, Some, None, ⊤}
+use Rattle.std.specs.Option.{option_map, option_and_then}
+use Rattle.fluent_tree.specs.Tree.{Text, Pattern}
+use Rattle.fluent_meaning.specs.Value.{Value}
+use Rattle.fluent_meaning.specs.Arguments.{Map}
+use Rattle.fluent_meaning.specs.Errors.{Error}
+use Rattle.fluent_meaning.specs.Bundle.{Bundle}
+use Rattle.fluent_meaning.specs.Result.{formatted, written_pattern, substituted_pattern}
+use Rattle.fluent_values.specs.MessageView.{first_named}
+use Rattle.fluent_bundle.specs.BundleView.{message_at}
+
+-- ---- what a bundle has
+
+-- the value of the message that an id names
+abbrev pub value_at : {C : Type 0} → Text → Bundle C → Option Pattern
+value_at id b = option_and_then (λ message. message.value) (message_at id b)
+
+-- its first attribute of the name
+abbrev pub attribute_at : {C : Type 0} → Text → Text → Bundle C → Option Pattern
+attribute_at id name b = option_and_then (λ message. option_map (λ a. a.1) (first_named name message.attributes)) (message_at id b)
+
+-- ---- which bundle answers
+
+-- this bundle with its pattern, or what the others have
+abbrev pub or_others : {B : Type 0} → B → Option Pattern → Option (B × Pattern) → Option (B × Pattern)
+or_others b (Some p) others = Some (b, p)
+or_others b None others = others
+
+-- the first bundle that has a pattern, with that pattern
+abbrev pub first_with : {B : Type 0} → (B → Option Pattern) → List B → Option (B × Pattern)
+first_with has [] = None
+first_with has (b ∷ bs) = or_others b (has b) (first_with has bs)
+
+-- ---- what it answers
+
+-- a text, and what went wrong in it
+pub record Shown : Type 0 where
+  pub text : Text
+  pub errors : List Error
+
+-- the pattern as its bundle formats it, or the id alone where no bundle has one
+abbrev pub shown_of : {C : Type 0} → Text → Map (Value C) → Option (Bundle C × Pattern) → Shown
+shown_of id args None = record { text = id; errors = [] }
+shown_of id args (Some found) =
+    let means = written_pattern found.0 args found.1 in
+    record { text = formatted found.0 means.value; errors = means.errors }
+
+-- the same by substitution
+abbrev pub substituted_of : {C : Type 0} → Text → Map (Value C) → Option (Bundle C × Pattern) → Shown
+substituted_of id args None = record { text = id; errors = [] }
+substituted_of id args (Some found) =
+    let means = substituted_pattern found.0 args found.1 in
+    record { text = formatted found.0 means.value; errors = means.errors }
+
+-- which opens no more placeables than the limit of that bundle
+abbrev pub IsWithin : {C : Type 0} → Map (Value C) → Option (Bundle C × Pattern) → Type 0
+IsWithin args None = ⊤
+IsWithin args (Some found) = (substituted_pattern found.0 args found.1).opened ≤ found.0.limit
+
+-- ---- of these bundles
+
+-- the value of a message
+abbrev pub chain_value : {C : Type 0} → Text → Map (Value C) → List (Bundle C) → Shown
+chain_value id args bundles = shown_of id args (first_with (value_at id) bundles)
+
+-- an attribute of a message
+abbrev pub chain_attribute : {C : Type 0} → Text → Text → Map (Value C) → List (Bundle C) → Shown
+chain_attribute id name args bundles = shown_of id args (first_with (attribute_at id name) bundles)

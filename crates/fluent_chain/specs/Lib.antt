@@ -1,0 +1,3 @@
+pub mod Chain
+pub mod ChainView
+pub mod Rows

@@ -1,0 +1,7 @@
+//! A fallback over bundles: the first that has a message answers for all.
+#![tactic(auto)]
+
+pub mod chain;
+pub mod examples;
+
+pub use chain::{Chain, Link};

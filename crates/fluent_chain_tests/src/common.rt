@@ -1,0 +1,236 @@
+//! What the tests of chains share. A call that stands here without a contract keeps what the chain's contract says
+//! from the tests, which rest on none of it.
+use fluent_bundle::{
+    EnglishPlurals, FluentArgs, FluentBundle, FluentError, FluentResource, FluentValue, NoCustom,
+    NoFormatter, NoFunction, Transform, TryNewFault,
+};
+use fluent_chain::{Chain, Link};
+use std::alloc::{AllocError, Global};
+use std::borrow::CowStr;
+use std::process::Abort;
+use std::test::Fail;
+
+/// Makes ASCII letters upper case.
+#[derive(Clone, Copy, Drop)]
+pub struct Upper;
+
+impl Transform for Upper {
+    ghost use Rattle.std.specs.Str.{str_to_ascii_uppercase};
+
+    ghost changed = { λ _ t. str_to_ascii_uppercase t };
+
+    fn transform(&self, alloc: Global, text: &str) -> Result<String, AllocError> {
+        text.to_ascii_uppercase(alloc)
+    }
+}
+
+/// A bundle in English.
+pub type Bundle<'r, 's> = FluentBundle<
+    'r,
+    's,
+    EnglishPlurals,
+    NoCustom,
+    NoFunction,
+    NoFormatter,
+    Upper,
+>;
+
+/// A chain of such bundles.
+pub type Bundles<'c, 'b, 'r, 's> = Chain<
+    'c,
+    'b,
+    'r,
+    's,
+    EnglishPlurals,
+    NoCustom,
+    NoFunction,
+    NoFormatter,
+    Upper,
+>;
+
+/// A source as it is read, with Junk or without.
+fn read_once<'s>(alloc: Global, source: &'s str) -> Result<FluentResource<'s>, AllocError> {
+    match FluentResource::try_new(alloc, source) {
+        Ok(resource) => Ok(resource),
+        Err(TryNewFault::Parser(resource, _)) => Ok(resource),
+        Err(TryNewFault::Memory) => Err(AllocError),
+    }
+}
+
+/// The same, read a second time where memory is refused at the first.
+pub fn read<'s>(alloc: Global, source: &'s str) -> Result<FluentResource<'s>, AllocError> {
+    match read_once(alloc, source) {
+        Ok(resource) => Ok(resource),
+        Err(AllocError) => read_once(alloc, source),
+    }
+}
+
+fn bundle_once<'r, 's>(
+    alloc: Global,
+    resource: &'r FluentResource<'s>,
+) -> Result<Bundle<'r, 's>, AllocError> {
+    let mut bundle: Bundle<'r, 's> = FluentBundle::new(alloc, Vec::new(alloc), EnglishPlurals);
+    match bundle.add_resource(resource) {
+        Ok(()) => Ok(bundle),
+        Err(_) => Err(AllocError),
+    }
+}
+
+/// A bundle of a resource, made a second time where memory is refused at the first.
+pub fn bundle_of<'r, 's>(
+    alloc: Global,
+    resource: &'r FluentResource<'s>,
+) -> Result<Bundle<'r, 's>, AllocError> {
+    match bundle_once(alloc, resource) {
+        Ok(bundle) => Ok(bundle),
+        Err(AllocError) => bundle_once(alloc, resource),
+    }
+}
+
+/// The text of a message, or of an attribute where a name is given; the name and the text of an argument, where
+/// there is one.
+#[derive(Clone, Copy)]
+pub struct Asked {
+    pub id: &'static str,
+    pub attribute: Option<&'static str>,
+    pub argument: Option<(&'static str, &'static str)>,
+}
+
+/// A text, whether it is lent, and the lines of its errors.
+pub type Told = (&'static str, bool, &'static str);
+
+pub type Row = (Asked, Told);
+
+/// The value of a message.
+pub const fn value(id: &'static str) -> Asked {
+    Asked {
+        id,
+        attribute: None,
+        argument: None,
+    }
+}
+
+/// An attribute of a message.
+pub const fn attribute(id: &'static str, name: &'static str) -> Asked {
+    Asked {
+        id,
+        attribute: Some(name),
+        argument: None,
+    }
+}
+
+fn arguments(alloc: Global, asked: Asked) -> Result<FluentArgs<'static, NoCustom>, AllocError> {
+    let mut args = FluentArgs::new(alloc);
+    if let Some((name, text)) = asked.argument {
+        args.set(CowStr::Borrowed(name), FluentValue::try_number(text))?;
+    }
+    Ok(args)
+}
+
+/// A text in memory of its own, and whether it was lent.
+fn owned(alloc: Global, text: CowStr<'_>) -> Result<(String, bool), AllocError> {
+    let is_lent = matches!(text, CowStr::Borrowed(_));
+    Ok((text.into_owned(alloc)?, is_lent))
+}
+
+fn format<'r, 's: 'r>(
+    alloc: Global,
+    chain: &Bundles<'_, '_, 'r, 's>,
+    asked: Asked,
+    errors: &mut Vec<FluentError>,
+) -> Result<(String, bool), AllocError> {
+    let args = arguments(alloc, asked)?;
+    match asked.attribute {
+        None => owned(alloc, chain.format_value(asked.id, Some(&args), errors)?),
+        Some(name) => owned(
+            alloc,
+            chain.format_attribute(asked.id, name, Some(&args), errors)?,
+        ),
+    }
+}
+
+/// The texts of errors, each with a line feed.
+fn lines(alloc: Global, errors: &[FluentError]) -> Result<String, AllocError> {
+    let mut out = String::new(alloc);
+    for error in errors {
+        write!(out, "{error}\n")?;
+    }
+    Ok(out)
+}
+
+/// That a part is shown as a row says; `false` where memory is refused, which leaves a beginning of the errors.
+fn shown_once<'r, 's: 'r>(
+    rt: &impl Abort,
+    alloc: Global,
+    chain: &Bundles<'_, '_, 'r, 's>,
+    row: &Row,
+) -> Result<bool, Fail> {
+    let (asked, (text, lent, errors)) = *row;
+    let mut found = Vec::new(alloc);
+    let Ok((shown, is_lent)) = format(alloc, chain, asked, &mut found) else {
+        // What was added begins the errors.
+        let found = lines(alloc, found.as_slice())?;
+        assert!(rt; errors.starts_with(found.as_str()), "{text}");
+        return Ok(false);
+    };
+    let Ok(found) = lines(alloc, found.as_slice()) else {
+        return Ok(false);
+    };
+    assert!(rt; shown.as_str() == text, "{text}");
+    assert!(rt; is_lent == lent, "{text}");
+    assert!(rt; found.as_str() == errors, "{text}");
+    Ok(true)
+}
+
+/// The same, shown a second time where memory is refused at the first.
+pub fn shows<'r, 's: 'r>(
+    rt: &impl Abort,
+    alloc: Global,
+    chain: &Bundles<'_, '_, 'r, 's>,
+    rows: &[Row],
+) -> Result<(), Fail> {
+    for row in rows {
+        if !shown_once(rt, alloc, chain, row)? {
+            assert!(rt; shown_once(rt, alloc, chain, row)?);
+        }
+    }
+    Ok(())
+}
+
+/// That two bundles, the first of which is asked first, show these rows.
+pub fn both_show<'r, 's: 'r>(
+    rt: &impl Abort,
+    alloc: Global,
+    first: &Bundle<'r, 's>,
+    second: &Bundle<'r, 's>,
+    rows: &[Row],
+) -> Result<(), Fail> {
+    let links = [Link(first), Link(second)];
+    let chain = Chain::new(&links);
+    shows(rt, alloc, &chain, rows)
+}
+
+fn resources_show<'r, 's: 'r>(
+    rt: &impl Abort,
+    alloc: Global,
+    first: &'r FluentResource<'s>,
+    second: &'r FluentResource<'s>,
+    rows: &[Row],
+) -> Result<(), Fail> {
+    let first = bundle_of(alloc, first)?;
+    let second = bundle_of(alloc, second)?;
+    both_show(rt, alloc, &first, &second, rows)
+}
+
+/// That bundles of these sources, of which the first is asked first, show these rows.
+pub fn sources_show<'s>(
+    rt: &impl Abort,
+    alloc: Global,
+    first: &'s str,
+    second: &'s str,
+    rows: &[Row],
+) -> Result<(), Fail> {
+    let first = read(alloc, first)?;
+    let second = read(alloc, second)?;
+    resources_show(rt, alloc, &first, &second, rows)
+}

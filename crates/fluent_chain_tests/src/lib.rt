@@ -1,0 +1,11 @@
+//! Tests of chains of bundles: that calls succeed, which texts are lent, and rows of texts and errors.
+#![tactic(auto)]
+
+#[cfg(test)]
+mod common;
+#[cfg(test)]
+mod parts;
+#[cfg(test)]
+mod rows;
+#[cfg(test)]
+mod settings;

@@ -1,0 +1,99 @@
+use Rattle.std.proofs.Common.{rules, ◌≡◌, ◌++◌, ◌∙◌, [], ◌∷◌, false, ap, is_ok, List, Option, Result, subst, sym, refl}
+use Rattle.fluent_tree.specs.Tree.{Text, Entry}
+use Rattle.fluent_meaning.specs.Bundle.{Bundle}
+use Rattle.fluent_meaning.specs.Errors.{Error}
+use Rattle.fluent_meaning.specs.Value.{Plurals}
+use Rattle.fluent_values.specs.declared.errors.FluentError.{FluentError}
+use Rattle.fluent_bundle.specs.BundleView.{entries_of}
+use Rattle.fluent_chain.specs.Chain.{chain_value}
+use Rattle.fluent_command.specs.Words.{Asked}
+use Rattle.fluent_command.specs.WordsView.{asked_view}
+use Rattle.fluent_command.specs.PluralsView.{plurals_view}
+use Rattle.fluent_command.specs.Program.{adding_errors, arguments_of, both_adding_errors, bundle_of, run_chain, run_both}
+use Rattle.fluent_command.specs.Far.{Added, Took}
+use Rattle.fluent_command.proofs.Adding.{recast, added_then, added_short, first_of_ok}
+use Rattle.fluent_command.proofs.Taking.{took_none, took_recast}
+use Rattle.fluent_command.proofs.show.show_both.Goals as goal
+
+abbrev chain_errors : Asked → Bundle Text → Bundle Text → List Error
+chain_errors asked a b = (run_chain (chain_value asked.id (arguments_of asked.arguments) (a ∷ b ∷ []))).errors
+
+-- what was added over two bundles, which are those of the entries
+over : {T E : Type 0} (r : Result T E) (asked : Asked) (plurals : Plurals) (es fs : List Entry) (a b : Bundle Text) (old new : List FluentError)
+    → a ≡ bundle_of plurals asked.options.isolate es → b ≡ bundle_of plurals asked.options.isolate fs
+    → Added r (both_adding_errors plurals asked.options.isolate es fs ++ chain_errors asked a b) old new → Added r (run_both asked plurals es fs).errors old new
+over r asked plurals es fs a b old new first second h =
+    subst (λ w. Added r (both_adding_errors plurals asked.options.isolate es fs ++ chain_errors asked (bundle_of plurals asked.options.isolate es) w) old new) second
+    (subst (λ w. Added r (both_adding_errors plurals asked.options.isolate es fs ++ chain_errors asked w b) old new) first h)
+
+pub returns-in_err-write_chain-clause-errors : goal.returns-in_err-write_chain-clause-errors
+returns-in_err-write_chain-clause-errors g c =
+    let faulted : is_ok c.from_residual-in_err-write_chain.result ≡ false = search rules in
+    over c.from_residual-in_err-write_chain.result (asked_view c.args.request) (plurals_view c.args.plurals) (entries_of c.args.first.now) (entries_of c.args.second.now) _ _ _ _
+    c.in_ok-first.ensures.bundle c.in_ok-second.ensures.bundle
+    (recast c.write_chain.result _ _ _ _ _ (faulted ∙ sym (ap is_ok c.in_err-write_chain.was)) refl
+    (added_then c.bundle_of-2.result c.write_chain.result _ _ _ _ _ _ c.in_ok-second.was
+    (added_then c.bundle_of.result c.bundle_of-2.result _ _ _ _ _ _ c.in_ok-first.was c.bundle_of.ensures.errors c.bundle_of-2.ensures.errors)
+    c.write_chain.ensures.errors))
+
+pub returns-clause-errors : goal.returns-clause-errors
+returns-clause-errors g c =
+    over _ (asked_view c.args.request) (plurals_view c.args.plurals) (entries_of c.args.first.now) (entries_of c.args.second.now) _ _ _ _
+    c.in_ok-first.ensures.bundle c.in_ok-second.ensures.bundle
+    (recast c.write_chain.result _ _ _ _ _ (sym (ap is_ok c.in_ok-write_chain.was)) refl
+    (added_then c.bundle_of-2.result c.write_chain.result _ _ _ _ _ _ c.in_ok-second.was
+    (added_then c.bundle_of.result c.bundle_of-2.result _ _ _ _ _ _ c.in_ok-first.was c.bundle_of.ensures.errors c.bundle_of-2.ensures.errors)
+    c.write_chain.ensures.errors))
+
+pub returns-in_err-write_chain-clause-first : goal.returns-in_err-write_chain-clause-first
+returns-in_err-write_chain-clause-first g c =
+    let faulted : is_ok c.from_residual-in_err-write_chain.result ≡ false = search rules in
+    first_of_ok c.bundle_of-2.result c.from_residual-in_err-write_chain.result _ _ _ _ _ _ c.in_ok-second.was
+    (added_then c.bundle_of.result c.bundle_of-2.result _ _ _ _ _ _ c.in_ok-first.was c.bundle_of.ensures.errors c.bundle_of-2.ensures.errors)
+    (recast c.write_chain.result _ _ _ _ _ (faulted ∙ sym (ap is_ok c.in_err-write_chain.was)) refl c.write_chain.ensures.errors)
+
+-- the same of the text
+over_text : {T E : Type 0} (r : Result T E) (asked : Asked) (plurals : Plurals) (es fs : List Entry) (a b : Bundle Text) (old new : Option Text)
+    → a ≡ bundle_of plurals asked.options.isolate es → b ≡ bundle_of plurals asked.options.isolate fs
+    → Took r (run_chain (chain_value asked.id (arguments_of asked.arguments) (a ∷ b ∷ []))).output old new → Took r (run_both asked plurals es fs).output old new
+over_text r asked plurals es fs a b old new first second h =
+    subst (λ w. Took r (run_chain (chain_value asked.id (arguments_of asked.arguments) (bundle_of plurals asked.options.isolate es ∷ w ∷ []))).output old new) second
+    (subst (λ w. Took r (run_chain (chain_value asked.id (arguments_of asked.arguments) (w ∷ b ∷ []))).output old new) first h)
+
+pub returns-in_err-first-clause-errors : goal.returns-in_err-first-clause-errors
+returns-in_err-first-clause-errors g c =
+    let faulted : is_ok c.from_residual.result ≡ false = search rules in
+    let asked = asked_view c.args.request in
+    let plurals = plurals_view c.args.plurals in
+    let es = entries_of c.args.first.now in
+    let fs = entries_of c.args.second.now in
+    added_short c.from_residual.result c.from_residual.result (both_adding_errors plurals asked.options.isolate es fs) (chain_errors asked (bundle_of plurals asked.options.isolate es) (bundle_of plurals asked.options.isolate fs)) _ _ faulted
+    (added_short c.bundle_of.result c.from_residual.result (adding_errors plurals asked.options.isolate es) (adding_errors plurals asked.options.isolate fs) _ _ faulted c.bundle_of.ensures.errors)
+
+pub returns-in_err-second-clause-errors : goal.returns-in_err-second-clause-errors
+returns-in_err-second-clause-errors g c =
+    let faulted : is_ok c.from_residual-in_err-second.result ≡ false = search rules in
+    let asked = asked_view c.args.request in
+    let plurals = plurals_view c.args.plurals in
+    let es = entries_of c.args.first.now in
+    let fs = entries_of c.args.second.now in
+    added_short c.bundle_of-2.result c.from_residual-in_err-second.result (both_adding_errors plurals asked.options.isolate es fs) (chain_errors asked (bundle_of plurals asked.options.isolate es) (bundle_of plurals asked.options.isolate fs)) _ _ faulted
+    (added_then c.bundle_of.result c.bundle_of-2.result _ _ _ _ _ _ c.in_ok-first.was c.bundle_of.ensures.errors c.bundle_of-2.ensures.errors)
+
+pub returns-in_err-second-clause-text : goal.returns-in_err-second-clause-text
+returns-in_err-second-clause-text g c =
+    let faulted : is_ok c.from_residual-in_err-second.result ≡ false = search rules in
+    took_none c.from_residual-in_err-second.result _ _ faulted
+
+pub returns-in_err-write_chain-clause-text : goal.returns-in_err-write_chain-clause-text
+returns-in_err-write_chain-clause-text g c =
+    let faulted : is_ok c.from_residual-in_err-write_chain.result ≡ false = search rules in
+    over_text c.from_residual-in_err-write_chain.result (asked_view c.args.request) (plurals_view c.args.plurals) (entries_of c.args.first.now) (entries_of c.args.second.now) _ _ _ _
+    c.in_ok-first.ensures.bundle c.in_ok-second.ensures.bundle
+    (took_recast c.write_chain.result _ _ _ _ _ (faulted ∙ sym (ap is_ok c.in_err-write_chain.was)) refl c.write_chain.ensures.text)
+
+pub returns-clause-text : goal.returns-clause-text
+returns-clause-text g c =
+    over_text _ (asked_view c.args.request) (plurals_view c.args.plurals) (entries_of c.args.first.now) (entries_of c.args.second.now) _ _ _ _
+    c.in_ok-first.ensures.bundle c.in_ok-second.ensures.bundle
+    (took_recast c.write_chain.result _ _ _ _ _ (sym (ap is_ok c.in_ok-write_chain.was)) refl c.write_chain.ensures.text)

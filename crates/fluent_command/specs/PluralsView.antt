@@ -1,0 +1,17 @@
+-- The plural rules of a run, by content.
+use Rattle.std.specs.Prelude.{Option, Some, None}
+use Rattle.fluent_intl.specs.Plurals.{english}
+use Rattle.fluent_intl.specs.RuleTexts.{category_of}
+use Rattle.fluent_intl.specs.declared.rule_texts.RuleTexts.{RuleTexts}
+use Rattle.fluent_meaning.specs.Value as m
+use Rattle.fluent_command.specs.declared.plurals.Plurals.{Plurals}
+use Rattle.fluent_command.specs.declared.plurals.Plurals.TheVariants.{English, Rules}
+
+abbrev pub plurals_view : Plurals → m.Plurals
+plurals_view English = english
+plurals_view (Rules texts) = category_of texts.now
+
+-- those that were read, or English
+abbrev pub read_view : Option RuleTexts → m.Plurals
+read_view None = english
+read_view (Some texts) = category_of texts

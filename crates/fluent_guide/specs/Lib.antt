@@ -1,0 +1,4 @@
+pub mod Accents
+pub mod Functions
+pub mod Prices
+pub mod Versions

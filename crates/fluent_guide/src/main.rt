@@ -1,0 +1,65 @@
+//! The program of docs/GUIDE.md: it shows what the guide explains, by the messages on standard input.
+#![tactic(auto)]
+
+mod arguments;
+mod bundle;
+mod custom;
+mod formatter;
+mod functions;
+mod japanese;
+mod kept;
+mod message;
+mod missing;
+mod plurals;
+mod pseudo;
+mod reading;
+mod showing;
+mod welcome;
+
+use anyhow::Result;
+use bundle::english_bundle;
+use reading::read;
+use std::io;
+
+fn main(rt: HostRuntime) -> Result<()> {
+    println!(rt; "A text in a program")?;
+    welcome::show_welcome(&rt)?;
+
+    println!(rt; "A resource and its errors")?;
+    let source = io::read_to_string(rt.alloc(), rt.stdin())?;
+    let resource = read(&rt, source.as_str())?;
+
+    println!(rt; "A bundle")?;
+    bundle::show_twice(&rt, &resource)?;
+    let bundle = english_bundle(&rt, &resource)?;
+
+    println!(rt; "Arguments")?;
+    arguments::show_arguments(&rt, &bundle)?;
+
+    println!(rt; "A message and its attributes")?;
+    message::show_message(&rt, &bundle)?;
+
+    println!(rt; "What is missing")?;
+    missing::show_missing(&rt, &bundle)?;
+
+    println!(rt; "Functions of one's own")?;
+    functions::show_functions(&rt, &resource)?;
+
+    println!(rt; "A function that is kept")?;
+    kept::show_kept(&rt, &resource)?;
+
+    println!(rt; "A formatter")?;
+    formatter::show_formatter(&rt, &resource)?;
+
+    println!(rt; "A transform")?;
+    pseudo::show_transform(&rt, &resource)?;
+
+    println!(rt; "A value of one's own type")?;
+    custom::show_custom(&rt, &resource)?;
+
+    println!(rt; "The plural rules of a language")?;
+    plurals::show_plurals(&rt, &resource)?;
+
+    println!(rt; "A plural source of one's own")?;
+    japanese::show_one(&rt, &resource)
+}

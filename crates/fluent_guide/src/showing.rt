@@ -1,0 +1,40 @@
+//! Showing messages and errors.
+use anyhow::Result;
+use fluent_bundle::{
+    FluentArgs, FluentBundle, FluentError, FluentFormatter, FluentFunction, FluentType,
+    MemoizerKind, Transform,
+};
+
+/// Shows the value of a message, or its id where the bundle has none, and then what went wrong.
+pub fn show<
+    'r,
+    's: 'r,
+    M: MemoizerKind,
+    C: FluentType,
+    F: FluentFunction<C>,
+    G: FluentFormatter<C, M>,
+    T: Transform,
+>(
+    rt: &HostRuntime,
+    bundle: &FluentBundle<'r, 's, M, C, F, G, T>,
+    id: &str,
+    args: Option<&FluentArgs<'_, C>>,
+) -> Result<()> {
+    let mut errors = Vec::new(rt.alloc());
+    match bundle.get_message(id).and_then(|message| message.value()) {
+        Some(pattern) => {
+            let text = bundle.format_pattern(pattern, args, &mut errors)?;
+            println!(rt; "{}", text.as_str())?;
+        }
+        None => println!(rt; "{id}")?,
+    }
+    show_errors(rt, errors.as_slice())
+}
+
+/// Shows errors, each on a line.
+pub fn show_errors(rt: &HostRuntime, errors: &[FluentError]) -> Result<()> {
+    for error in errors {
+        println!(rt; "{error}")?;
+    }
+    Ok(())
+}

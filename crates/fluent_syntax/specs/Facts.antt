@@ -1,0 +1,10 @@
+-- Facts of the grammar, proved, for the proofs of this crate and of those above. No contract cites them.
+pub mod Fronts
+pub mod Literals
+pub mod LexicalFronts
+pub mod Sound
+pub mod LayoutTrees
+pub mod Trees
+pub mod OneLine
+pub mod Rules
+pub mod Chunked

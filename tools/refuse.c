@@ -1,0 +1,56 @@
+/* Refuses memory to the program that it is loaded into: the N-th request where REFUSE_AT is N, and each from the N-th
+   on where REFUSE_FROM is N. At the first refusal it makes the file that REFUSED names. */
+#define _GNU_SOURCE
+#include <dlfcn.h>
+#include <errno.h>
+#include <fcntl.h>
+#include <stdlib.h>
+#include <unistd.h>
+
+static unsigned long at, from, seen;
+static const char *told;
+static int has_begun;
+static void *(*next_malloc)(size_t);
+static void *(*next_realloc)(void *, size_t);
+
+static unsigned long number(const char *name)
+{
+    const char *word = getenv(name);
+    return word ? strtoul(word, 0, 10) : 0;
+}
+
+__attribute__((constructor)) static void begin(void)
+{
+    at = number("REFUSE_AT");
+    from = number("REFUSE_FROM");
+    told = getenv("REFUSED");
+    has_begun = 1;
+}
+
+static int is_refused(void)
+{
+    if (!has_begun)
+        return 0;
+    seen++;
+    if (seen != at && (!from || seen < from))
+        return 0;
+    int file = told ? open(told, O_CREAT | O_WRONLY, 0600) : -1;
+    if (file >= 0)
+        close(file);
+    errno = ENOMEM;
+    return 1;
+}
+
+void *malloc(size_t size)
+{
+    if (!next_malloc)
+        *(void **)&next_malloc = dlsym(RTLD_NEXT, "malloc");
+    return is_refused() ? 0 : next_malloc(size);
+}
+
+void *realloc(void *old, size_t size)
+{
+    if (!next_realloc)
+        *(void **)&next_realloc = dlsym(RTLD_NEXT, "realloc");
+    return is_refused() ? 0 : next_realloc(old, size);
+}
