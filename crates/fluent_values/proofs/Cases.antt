@@ -16,7 +16,7 @@ use Rattle.fluent_meaning.specs.Meaning.{Budget, left, struck, after_errors, aft
 use Rattle.fluent_meaning.specs.Work.{Worked, together, with_work, work}
 use Rattle.fluent_meaning.specs.Laws.{CountsByItself}
 use Rattle.fluent_values.specs.Along.{Below, given, can_open, less_one, mapping, lost_of, lost_error}
-use Rattle.fluent_values.specs.Sizes.{first_default, choice}
+use Rattle.fluent_values.specs.Choice.{first_default, choice}
 
 -- ---- walks after walks
 
@@ -103,7 +103,7 @@ meant s f env path (Some p) b = whole with_work s f env path p b
 
 -- what a select writes of its selector's value
 pub chosen : Bundle Text → Below → Environment Text → List Pattern → Variants → Value Text → Budget → Worked Text
-chosen s f env path vs v = meant s f env path (choice (goes_to s) v (first_default vs) vs)
+chosen s f env path vs v = meant s f env path (choice (goes_to s v) (first_default vs) vs)
 
 -- a message reference, a term reference or a nested placeable
 abbrev pub IsWritten : Inline → Type 0
@@ -175,11 +175,11 @@ module _ (s : Bundle Text) (f : Below) (env : Environment Text) (path : List Pat
   default_meant (variant k p true vs) b = refl
   default_meant (variant k p false vs) b = default_meant vs b
 
-  matched_meant : (v : Value Text) (m : Budget → Worked Text) (o : Option Pattern) (vs : Variants) (b : Budget) → m b ≡ meant s f env path o b → matched with_work s f env path v m vs b ≡ meant s f env path (choice (goes_to s) v o vs) b
+  matched_meant : (v : Value Text) (m : Budget → Worked Text) (o : Option Pattern) (vs : Variants) (b : Budget) → m b ≡ meant s f env path o b → matched with_work s f env path v m vs b ≡ meant s f env path (choice (goes_to s v) o vs) b
   unfolding elements
   matched_meant v m o no_variants b h = h
   matched_meant v m o (variant k p d vs) b h =
-      elim (goes_to s v k) as (λ y. elim y as (λ z. Budget → Worked Text) [ true ↦ whole with_work s f env path p | false ↦ matched with_work s f env path v m vs ] b ≡ meant s f env path (if y then Some p else choice (goes_to s) v o vs) b) [
+      elim (goes_to s v k) as (λ y. elim y as (λ z. Budget → Worked Text) [ true ↦ whole with_work s f env path p | false ↦ matched with_work s f env path v m vs ] b ≡ meant s f env path (if y then Some p else choice (goes_to s v) o vs) b) [
         | true ↦ refl
         | false ↦ matched_meant v m o vs b h
       ]
@@ -188,7 +188,7 @@ module _ (s : Bundle Text) (f : Below) (env : Environment Text) (path : List Pat
   unfolding elements chosen
   expression_select x vs b = and_then_is (resolved with_work s f env path x b) (λ v. matched with_work s f env path v (default_of with_work s f env path vs) vs) (chosen s f env path vs) (λ v b'. matched_meant v (default_of with_work s f env path vs) (first_default vs) vs b' (default_meant vs b'))
 
-  pub chosen_is : (vs : Variants) (v : Value Text) (o : Option Pattern) → o ≡ choice (goes_to s) v (first_default vs) vs → chosen s f env path vs v ≡ meant s f env path o
+  pub chosen_is : (vs : Variants) (v : Value Text) (o : Option Pattern) → o ≡ choice (goes_to s v) (first_default vs) vs → chosen s f env path vs v ≡ meant s f env path o
   unfolding chosen
   chosen_is vs v o h = ap (meant s f env path) (sym h)
 

@@ -6,6 +6,7 @@ pub mod Merging
 pub mod Took
 pub mod Outputs
 pub mod Views
+pub mod Choice
 pub mod Cases
 mod Stored
 pub mod Measures

@@ -1,16 +1,16 @@
 -- The measures of the resolver: each step into a placeable takes from the budget, and each other step goes to a smaller tree.
-use Rattle.std.proofs.Common.{◌≡◌, ℕ, zero, suc, ◌+◌, ◌*◌, ◌≤◌, ◌<◌, List, [], ◌∷◌, Option, Some, None, Bool, true, false, if◌then◌else◌, arith, rules, ap, refl, sym, subst, ◌∙◌, map, length, get_or, inl, inr}
+use Rattle.std.proofs.Common.{◌≡◌, ℕ, zero, suc, ◌+◌, ◌*◌, ◌≤◌, ◌<◌, List, [], ◌∷◌, Option, Some, None, Bool, true, false, if◌then◌else◌, arith, rules, ap, sym, subst, ◌∙◌, map, length, get_or}
 use Rattle.fluent_tree.specs.Tree.{Text, Key, Attribute, Pattern, nothing, more, Variants, no_variants, variant, pattern_of, inlines_of, nameds_of}
 use Rattle.fluent_tree.specs.View.{element_view, inline_view, named_view}
 use Rattle.fluent_tree.specs.declared.ast.InlineExpression.{InlineExpression}
 use Rattle.fluent_tree.specs.declared.ast.NamedArgument.{NamedArgument}
 use Rattle.fluent_tree.specs.declared.ast.PatternElement.{PatternElement}
-use Rattle.fluent_meaning.specs.Value.{Value}
 use Rattle.fluent_meaning.specs.Arguments.{get}
 use Rattle.fluent_meaning.specs.Bundle.{Bundle, message_target, term_target}
 use Rattle.fluent_meaning.specs.Meaning.{Budget, left, struck, at_most}
 use Rattle.fluent_values.specs.Along.{can_open, less_one, Takes, Elsewhere}
-use Rattle.fluent_values.specs.Sizes.{size, element_size, inline_size, inlines_size, nameds_size, variants_size, sizes, bound, IsBelow, first_default, choice}
+use Rattle.fluent_values.specs.Sizes.{size, element_size, inline_size, inlines_size, nameds_size, variants_size, bound, IsBelow}
+use Rattle.fluent_values.specs.Choice.{first_default, choice}
 use Rattle.fluent_values.specs.Status.{Status, Keeps}
 use Rattle.fluent_values.proofs.Passing.{at_true}
 use Rattle.fluent_values.proofs.Stored.{id_below, message_below, term_below}
@@ -111,16 +111,16 @@ default_less : (vs : Variants) → value_size (first_default vs) < variants_size
 default_less no_variants = omega arith
 default_less (variant k p d vs) = value_size_if d (Some p) (first_default vs) (variants_size (variant k p d vs)) (omega arith) (omega (arith, default_less vs))
 
-choice_less : (goes : Value Text → Key → Bool) (v : Value Text) (o : Option Pattern) (n : ℕ) (vs : Variants) → value_size o < n + variants_size vs → value_size (choice goes v o vs) < n + variants_size vs
-choice_less goes v o n no_variants h = h
-choice_less goes v o n (variant k p d vs) h =
-    value_size_if (goes v k) (Some p) (choice goes v o vs) (n + variants_size (variant k p d vs)) (omega arith)
-    (omega (arith, choice_less goes v o (n + 1 + size p) vs (omega (arith, h))))
+choice_less : (goes : Key → Bool) (o : Option Pattern) (n : ℕ) (vs : Variants) → value_size o < n + variants_size vs → value_size (choice goes o vs) < n + variants_size vs
+choice_less goes o n no_variants h = h
+choice_less goes o n (variant k p d vs) h =
+    value_size_if (goes k) (Some p) (choice goes o vs) (n + variants_size (variant k p d vs)) (omega arith)
+    (omega (arith, choice_less goes o (n + 1 + size p) vs (omega (arith, h))))
 
-pub chosen_less : (goes : Value Text → Key → Bool) (v : Value Text) (vs : Variants) (p : Pattern) → Some p ≡ choice goes v (first_default vs) vs → size p < variants_size vs
-chosen_less goes v vs p h =
-    let same : size p ≡ value_size (choice goes v (first_default vs) vs) = ap value_size h in
-    omega (arith, same, choice_less goes v (first_default vs) 0 vs (omega (arith, default_less vs)))
+pub chosen_less : (goes : Key → Bool) (vs : Variants) (p : Pattern) → Some p ≡ choice goes (first_default vs) vs → size p < variants_size vs
+chosen_less goes vs p h =
+    let same : size p ≡ value_size (choice goes (first_default vs) vs) = ap value_size h in
+    omega (arith, same, choice_less goes (first_default vs) 0 vs (omega (arith, default_less vs)))
 
 -- WHAT A REFERENCE LEADS TO
 

@@ -23,7 +23,7 @@ use Rattle.fluent_meaning.specs.Walk.{Environment, is_on, inner, go, whole, loca
 use Rattle.fluent_meaning.specs.Work.{Worked, with_work, work}
 use Rattle.fluent_meaning.specs.Laws.{CountsByItself}
 use Rattle.fluent_values.specs.Along.{Below, Walk, walked, from_here, given, mapping, lost_of, shown_answer, Elsewhere, Starts, Ends}
-use Rattle.fluent_values.specs.Sizes.{choice, first_default}
+use Rattle.fluent_values.specs.Choice.{choice, first_default}
 use Rattle.fluent_values.specs.Status.{Status, on_path}
 use Rattle.fluent_values.specs.View.{value_view}
 use Rattle.fluent_values.specs.declared.types.value.FluentValue.{FluentValue}
@@ -281,7 +281,7 @@ choosing a vs v b = chosen a.bundle (work a.bundle) a.environment (on_path a.pat
 pub selecting_at : (a : Status) (x : of_inline.InlineExpression) (vs : List Variant) (b : Budget) → walked a (expressing (select (inline_view x) (variants_of (map variant_view vs)))) b ≡ and_then (walked a (resolving (inline_view x)) b) (choosing a vs)
 selecting_at a x vs b = expression_select a.bundle (work a.bundle) a.environment (on_path a.path) (inline_view x) (variants_of (map variant_view vs)) b
 
-pub choosing_at : (a : Status) (vs : List Variant) (v : Value Text) (o : Option Pattern) (b : Budget) → o ≡ choice (goes_to a.bundle) v (first_default (variants_of (map variant_view vs))) (variants_of (map variant_view vs)) → choosing a vs v b ≡ meant a.bundle (work a.bundle) a.environment (on_path a.path) o b
+pub choosing_at : (a : Status) (vs : List Variant) (v : Value Text) (o : Option Pattern) (b : Budget) → o ≡ choice (goes_to a.bundle v) (first_default (variants_of (map variant_view vs))) (variants_of (map variant_view vs)) → choosing a vs v b ≡ meant a.bundle (work a.bundle) a.environment (on_path a.path) o b
 choosing_at a vs v o b h = ap (λ m. m b) (chosen_is a.bundle (work a.bundle) a.environment (on_path a.path) (variants_of (map variant_view vs)) v o h)
 
 -- REFERENCES
@@ -369,12 +369,12 @@ no_placeable (y ∷ es) zero e x t h is p = first_text (element_view y) t (ap el
   where
     first_text : (v : Element) → IsText (more v (pattern_of (map element_view es))) → v ≡ placeable x → ⊥
     first_text (text s) t p = cc
-    first_text (placeable z) t p = t
+    first_text (placeable z) t p = cc
 no_placeable (y ∷ es) (suc i) e x t h is p = no_placeable es i e x (rest_text (element_view y) t) (omega arith) is p
   where
     rest_text : (v : Element) → IsText (more v (pattern_of (map element_view es))) → IsText (pattern_of (map element_view es))
     rest_text (text s) t = t
-    rest_text (placeable z) t = absurd t
+    rest_text (placeable z) t = cc
 
 -- what is resolved of a function's answer
 abbrev pub valued : Status → Text → List (Value Text) × Map (Value Text) → Budget → Worked (Value Text)

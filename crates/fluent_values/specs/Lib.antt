@@ -8,7 +8,9 @@ pub mod Status
 pub mod Along
 pub mod Tracking
 pub mod Texts
+pub mod TextRows
 pub mod Sizes
+pub mod Choice
 pub mod Written
 pub mod Free
 pub mod MessageView

@@ -1,7 +1,6 @@
--- How large trees are, and which variant a value goes to.
-use Rattle.std.specs.Prelude.{ℕ, ◌+◌, ◌<◌, List, [], ◌∷◌, Bool, Option, Some, None, if◌then◌else◌, ⊤}
-use Rattle.fluent_tree.specs.Tree.{Text, Key, Pattern, nothing, more, Element, text, placeable, Expression, inline, select, Variants, no_variants, variant, Inline, string, number, function, message, term, variable, nested, Call, no_call, call, Arguments, arguments, Inlines, no_inlines, argument, Nameds, no_nameds, named_argument}
-use Rattle.fluent_meaning.specs.Value.{Value}
+-- How large trees are.
+use Rattle.std.specs.Prelude.{ℕ, ◌+◌, ◌<◌, List, [], ◌∷◌, ⊤}
+use Rattle.fluent_tree.specs.Tree.{Text, Pattern, nothing, more, Element, text, placeable, Expression, inline, select, Variants, no_variants, variant, Inline, string, number, function, message, term, variable, nested, Call, no_call, call, Arguments, arguments, Inlines, no_inlines, argument, Nameds, no_nameds, named_argument}
 use Rattle.fluent_meaning.specs.Bundle.{Bundle, Target, unknown, without_value, found, stored}
 
 abbrev mutual
@@ -59,13 +58,3 @@ abbrev pub IsBelow : ℕ → Target → Type 0
 IsBelow k unknown = ⊤
 IsBelow k without_value = ⊤
 IsBelow k (found p) = size p < k
-
--- the first default
-abbrev pub first_default : Variants → Option Pattern
-first_default no_variants = None
-first_default (variant k p d vs) = if d then Some p else first_default vs
-
--- the first variant whose key the value goes to, else the other
-abbrev pub choice : (Value Text → Key → Bool) → Value Text → Option Pattern → Variants → Option Pattern
-choice goes v otherwise no_variants = otherwise
-choice goes v otherwise (variant k p d vs) = if goes v k then Some p else choice goes v otherwise vs

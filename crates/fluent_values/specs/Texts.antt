@@ -1,18 +1,15 @@
 -- Patterns of texts alone.
-use Rattle.std.specs.Prelude.{Bool, true, false, Option, None, Some, ⊤, [], ◌++◌}
+use Rattle.std.specs.Prelude.{Bool, true, false, IsTrue, Option, None, Some, [], ◌++◌}
 use Rattle.fluent_tree.specs.Tree.{Text, Pattern, nothing, more, text, placeable}
-
--- a pattern of text elements alone
-abbrev pub IsText : Pattern → Type 0
-IsText nothing = ⊤
-IsText (more (text t) rest) = IsText rest
-IsText (more (placeable e) rest) = ⊥
 
 -- whether a pattern is one of text elements alone
 abbrev pub is_text : Pattern → Bool
 is_text nothing = true
 is_text (more (text t) rest) = is_text rest
 is_text (more (placeable e) rest) = false
+
+abbrev pub IsText : Pattern → Type 0
+IsText p = IsTrue (is_text p)
 
 -- the text elements of a pattern, one after the other
 abbrev pub texts_of : Pattern → Text

@@ -1,6 +1,7 @@
-//! Laws of equality: `==` of each type of error is true exactly for equal contents.
+//! Laws: `==` of each type of error is true exactly for equal contents; and rows of a definition.
 ghost use Rattle.std.specs.Prelude.{◌≡◌, ◌↔◌, IsTrue};
 ghost use Rattle.fluent_values.specs.View.{kind_view, reference_view, resolver_error_view, error_view};
+ghost use Rattle.fluent_values.specs.TextRows.{Rows};
 
 use crate::errors::{EntryKind, FluentError};
 use crate::resolver::errors::{ReferenceKind, ResolverError};
@@ -32,3 +33,8 @@ pub fn equal_errors(one: &FluentError, two: &FluentError) -> bool
 {
     one == two
 }
+
+/// Which patterns are texts alone, and what of a pattern is text.
+pub fn patterns_of_texts()
+    ensures { Rows }
+{}

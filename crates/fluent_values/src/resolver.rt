@@ -14,6 +14,7 @@ pub mod scope;
 pub mod texts;
 mod tracking;
 pub mod value;
+mod variants;
 
 pub use context::Context;
 pub use errors::{ReferenceKind, ResolverError};

@@ -60,16 +60,8 @@ impl<
         }
     }
 
-    fn matches(&self, value: &FluentValue<'_, C>, other: &FluentValue<'_, C>) -> bool {
-        match (value, other) {
-            (FluentValue::String(text), FluentValue::String(other)) => text.as_str()
-                == other.as_str(),
-            (FluentValue::Number(number), FluentValue::Number(other)) => number == other,
-            (FluentValue::String(text), FluentValue::Number(number)) => {
-                text.as_str() == word_of(category_of(&self.intls, number))
-            }
-            _ => false,
-        }
+    fn category_word(&self, number: &FluentNumber) -> &'static str {
+        word_of(category_of(&self.intls, number))
     }
 }
 

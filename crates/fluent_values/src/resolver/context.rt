@@ -4,11 +4,14 @@ ghost use Rattle.std.specs.Prelude.{◌≡◌, IfOk, IsOk, IsTrue, Bool};
 ghost use Rattle.std.specs.declared.alloc.Global.{Global as Heap};
 ghost use Rattle.std.specs.Cow.{cow_str_bytes};
 ghost use Rattle.fluent_tree.specs.Tree.{Text};
+ghost use Rattle.fluent_intl.specs.Number.{number_of};
 ghost use Rattle.fluent_meaning.specs.Bundle.{Bundle, shown};
-ghost use Rattle.fluent_meaning.specs.Value.{matches};
+ghost use Rattle.fluent_meaning.specs.Number.{category_word};
+ghost use Rattle.fluent_meaning.specs.Value.{category_of};
 ghost use Rattle.fluent_values.specs.View.{value_view};
 
 use crate::types::{FluentType, FluentValue};
+use fluent_intl::FluentNumber;
 use std::alloc::{AllocError, Global};
 use std::borrow::CowStr;
 
@@ -53,8 +56,7 @@ pub trait Context<C: FluentType> {
     fn show<'t>(&self, value: &'t FluentValue<'_, C>) -> Result<CowStr<'t>, AllocError>
         ensures { IfOk result (λ text. cow_str_bytes text ≡ shown (meant self.now) (value_view C.content value.now)) };
 
-    /// Whether a value matches another, as a variant's key a selector.
-    fn matches(&self, value: &FluentValue<'_, C>, other: &FluentValue<'_, C>) -> bool
-        ensures { result
-            ≡ matches (meant self.now).plurals (value_view C.content value.now) (value_view C.content other.now) };
+    /// The word of the plural category that a number has.
+    fn category_word(&self, number: &FluentNumber) -> &'static str
+        ensures { result.now ≡ category_word (category_of (meant self.now).plurals (number_of number.now)) };
 }

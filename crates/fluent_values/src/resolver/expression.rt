@@ -1,18 +1,14 @@
 //! Expressions.
 
 ghost use Rattle.std.specs.Prelude.{◌≡◌, map};
-ghost use Rattle.std.specs.Option.{option_map};
 ghost use Rattle.fluent_tree.specs.Fallback.{fallback, fallback_of};
 ghost use Rattle.fluent_tree.specs.Tree.{select, variants_of};
-ghost use Rattle.fluent_tree.specs.View.{expression_view, inline_view, pattern_view, variant_view, key_view};
-ghost use Rattle.fluent_meaning.specs.Bundle.{goes_to, key_value};
+ghost use Rattle.fluent_tree.specs.View.{expression_view, inline_view, variant_view};
 ghost use Rattle.fluent_meaning.specs.Walk as walk;
 ghost use Rattle.fluent_meaning.specs.Walk.{is_bare};
 ghost use Rattle.fluent_meaning.specs.Work.{with_work};
 ghost use Rattle.fluent_values.specs.Along.{Wrote};
-ghost use Rattle.fluent_values.specs.Sizes.{choice, first_default};
 ghost use Rattle.fluent_values.specs.Status.{status};
-ghost use Rattle.fluent_values.specs.View.{value_view};
 ghost use Rattle.fluent_values.specs.Written.{sink};
 
 use super::arguments::resolve;
@@ -22,11 +18,11 @@ use super::inline_expression::write_inline;
 use super::output::{Halt, Output};
 use super::pattern::write_pattern;
 use super::scope::Scope;
+use super::variants::choose;
 use crate::ResolverError;
 use crate::function::FluentFunction;
-use crate::types::{FluentType, FluentValue};
-use fluent_tree::ast::{Expression, InlineExpression, Pattern, Variant, VariantKey};
-use std::borrow::CowStr;
+use crate::types::FluentType;
+use fluent_tree::ast::{Expression, InlineExpression, Variant};
 use std::io::Write;
 
 /// Writes what an expression gives.
@@ -79,46 +75,6 @@ fn write_select<'p, 's, W: Write, C: FluentType, F: FluentFunction<C>, B: Contex
             Ok(())
         }
     }
-}
-
-/// The first variant whose key matches a value, else the first default.
-fn choose<'p, 's, C: FluentType, B: Context<C>>(
-    bundle: &B,
-    value: &FluentValue<'_, C>,
-    variants: &'p [Variant<'s>],
-) -> Option<&'p Pattern<'s>>
-    ensures { let vs = variants_of (map variant_view variants.now) in
-        option_map (λ p. pattern_view p.now) result
-        ≡ choice (goes_to (B.meant bundle.now)) (value_view C.content value.now) (first_default vs) vs }
-{
-    for variant in variants {
-        if bundle.matches(&value_of(&variant.key), value) {
-            return Some(&variant.value);
-        }
-    }
-    first_default(variants)
-}
-
-/// What a key is as a value: an identifier is a text, a number literal what its source is.
-fn value_of<'p, C: FluentType>(key: &VariantKey<'p>) -> FluentValue<'p, C>
-    ensures { value_view C.content result ≡ key_value (key_view key.now) }
-{
-    match key {
-        VariantKey::Identifier { name } => FluentValue::String(CowStr::Borrowed(*name)),
-        VariantKey::NumberLiteral { value } => FluentValue::try_number(value),
-    }
-}
-
-/// The first default among variants.
-fn first_default<'p, 's>(variants: &'p [Variant<'s>]) -> Option<&'p Pattern<'s>>
-    ensures { option_map (λ p. pattern_view p.now) result ≡ first_default (variants_of (map variant_view variants.now)) }
-{
-    for variant in variants {
-        if variant.default {
-            return Some(&variant.value);
-        }
-    }
-    None
 }
 
 /// Whether it is directly a message reference, a term reference or a string literal.

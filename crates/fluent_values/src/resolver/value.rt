@@ -38,7 +38,14 @@ impl<'v, C: FluentType> FluentValue<'v, C> {
     ) -> bool
         ensures { result ≡ matches (B.meant scope.now.bundle.now).plurals (value_view C.content self.now) (value_view C.content other.now) }
     {
-        scope.bundle.matches(self, other)
+        match (self, other) {
+            (FluentValue::String(one), FluentValue::String(two)) => one.as_str() == two.as_str(),
+            (FluentValue::Number(one), FluentValue::Number(two)) => one == two,
+            (FluentValue::String(word), FluentValue::Number(number)) => {
+                word.as_str() == scope.bundle.category_word(number)
+            }
+            _ => false,
+        }
     }
 
     /// Writes what the value is shown as: the formatter's answer, where there is one, else its own text.

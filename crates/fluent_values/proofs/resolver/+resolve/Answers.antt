@@ -12,7 +12,8 @@ use Rattle.fluent_meaning.specs.Walk.{has_one, is_marked, part}
 use Rattle.fluent_meaning.specs.Work.{work, with_work}
 use Rattle.fluent_values.specs.Along.{given, walked, from_here, adding, trace}
 use Rattle.fluent_values.specs.FoundView.{found_view}
-use Rattle.fluent_values.specs.Sizes.{choice, first_default, size, bound, IsBelow, element_size, expression_size, variants_size, inline_size, call_size, arguments_size, inlines_size, nameds_size}
+use Rattle.fluent_values.specs.Choice.{choice, first_default}
+use Rattle.fluent_values.specs.Sizes.{size, bound, IsBelow, element_size, expression_size, variants_size, inline_size, call_size, arguments_size, inlines_size, nameds_size}
 use Rattle.fluent_values.specs.Status.{status, on_path, environment_view}
 use Rattle.fluent_values.specs.Texts.{IsText}
 use Rattle.fluent_values.specs.View.{value_view, named}
@@ -60,7 +61,7 @@ expression::write_select-returns-in-Some g t c =
     let v = value_view g.C.FluentType.content c.in_ok-value.value in
     let b = status g.B.Context.meant g.B.Context.is_plain g.F.FluentFunction.answer g.C.FluentType.content c.resolve.new.scope in
     let kept = c.resolve.ensures.got.toward.passed.keeps.bundle in
-    let chose = c.choose.ensures ∙ ap (λ s. let all = variants_of (map variant_view vs) in choice (goes_to s) v (first_default all) all) kept in
+    let chose = c.choose.ensures ∙ ap (λ s. let all = variants_of (map variant_view vs) in choice (goes_to s v) (first_default all) all) kept in
     let asked = asks (choosing a vs) c.in_ok-value.was gave begun in
     let is = sym (ap (option_map (λ p. pattern_view p.now)) c.in-Some.is) ∙ chose in
     wrote (tail c.write_pattern.ensures.wrote (turns (choosing_at a vs v (Some (pattern_view c.in-Some.variant.now)) b.budget is) asked))
@@ -75,7 +76,7 @@ expression::write_select-returns-in_err-add_error-in-None g t c =
     let v = value_view g.C.FluentType.content c.in_ok-value.value in
     let b = status g.B.Context.meant g.B.Context.is_plain g.F.FluentFunction.answer g.C.FluentType.content c.resolve.new.scope in
     let kept = c.resolve.ensures.got.toward.passed.keeps.bundle in
-    let chose = c.choose.ensures ∙ ap (λ s. let all = variants_of (map variant_view vs) in choice (goes_to s) v (first_default all) all) kept in
+    let chose = c.choose.ensures ∙ ap (λ s. let all = variants_of (map variant_view vs) in choice (goes_to s v) (first_default all) all) kept in
     let asked = asks (choosing a vs) c.in_ok-value.was gave begun in
     let is = sym (ap (option_map (λ p. pattern_view p.now)) c.in-None.is) ∙ chose in
     refuses c.in_err-add_error-in-None.was (search rules) c.add_error.ensures.added (turns (choosing_at a vs v None b.budget is) asked)
@@ -90,7 +91,7 @@ expression::write_select-returns g t c =
     let v = value_view g.C.FluentType.content c.in_ok-value.value in
     let b = status g.B.Context.meant g.B.Context.is_plain g.F.FluentFunction.answer g.C.FluentType.content c.resolve.new.scope in
     let kept = c.resolve.ensures.got.toward.passed.keeps.bundle in
-    let chose = c.choose.ensures ∙ ap (λ s. let all = variants_of (map variant_view vs) in choice (goes_to s) v (first_default all) all) kept in
+    let chose = c.choose.ensures ∙ ap (λ s. let all = variants_of (map variant_view vs) in choice (goes_to s v) (first_default all) all) kept in
     let asked = asks (choosing a vs) c.in_ok-value.was gave begun in
     let is = sym (ap (option_map (λ p. pattern_view p.now)) c.in-None.is) ∙ chose in
     ends (turns (ap (given []) (sym c.add_error.ensures.added.budget)) (adds (given [] b.budget) c.in_ok-add_error-in-None.was c.add_error.ensures.added (turns (choosing_at a vs v None b.budget is) asked)))
@@ -589,9 +590,9 @@ expression::write_select-write_pattern-requires g t c =
     let vs = variants_of (map variant_view c.args.variants.now) in
     let v = value_view g.C.FluentType.content c.in_ok-value.value in
     let p = pattern_view c.in-Some.variant.now in
-    let is : Some p ≡ choice (goes_to b.bundle) v (first_default vs) vs = sym (ap (option_map (λ p. pattern_view p.now)) c.in-Some.is) ∙ c.choose.ensures in
+    let is : Some p ≡ choice (goes_to b.bundle v) (first_default vs) vs = sym (ap (option_map (λ p. pattern_view p.now)) c.in-Some.is) ∙ c.choose.ensures in
     let kept = c.resolve.ensures.got.toward.passed.keeps in
-    let less = falls_to c.decreases (less_weight a.bundle b.bundle (1 + size p) (2 + inline_size (inline_view c.args.selector.now) + variants_size vs) (at_most b.budget) (1 + at_most a.budget) kept.bundle (omega (arith, chosen_less (goes_to b.bundle) v vs p is)) (omega (arith, kept.less))) in
+    let less = falls_to c.decreases (less_weight a.bundle b.bundle (1 + size p) (2 + inline_size (inline_view c.args.selector.now) + variants_size vs) (at_most b.budget) (1 + at_most a.budget) kept.bundle (omega (arith, chosen_less (goes_to b.bundle v) vs p is)) (omega (arith, kept.less))) in
     λ κs h. (less, (h.0, (h.1.0, (h.1.1.0, h.1.1.1))))
 
 pub inline_expression::follow-go-requires : goal.inline_expression::follow-go-requires

@@ -1,4 +1,4 @@
-use Rattle.std.proofs.Common.{◌≡◌, drop, map, Result, List}
+use Rattle.std.proofs.Common.{◌≡◌, drop, map, Result}
 use Rattle.fluent_tree.specs.Tree.{pattern_of}
 use Rattle.fluent_tree.specs.View.{element_view, pattern_view}
 use Rattle.fluent_values.specs.Texts.{texts_of}

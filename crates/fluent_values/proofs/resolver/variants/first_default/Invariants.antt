@@ -1,8 +1,8 @@
 use Rattle.std.proofs.Common.{◌≡◌, drop, map}
 use Rattle.fluent_tree.specs.Tree.{variants_of}
 use Rattle.fluent_tree.specs.View.{variant_view}
-use Rattle.fluent_values.specs.Sizes.{first_default}
-use Rattle.fluent_values.proofs.resolver.expression.first_default.Given as goal
+use Rattle.fluent_values.specs.Choice.{first_default}
+use Rattle.fluent_values.proofs.resolver.variants.first_default.Given as goal
 
 -- the first default among those left is the first of all
 abbrev pub invariant-loop-variant : goal.invariant-loop-variant
