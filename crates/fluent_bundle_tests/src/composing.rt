@@ -1,0 +1,100 @@
+//! What an application composes of the bundle's calls, proved by their contracts alone.
+ghost use Rattle.std.specs.Prelude.{◌≡◌, [], ◌∷◌, IfOk, Some, codes};
+ghost use Rattle.fluent_meaning.specs.Bundle.{after_all, empty_bundle, set_transform, set_formatter, add_function, add_resource};
+ghost use Rattle.fluent_bundle.specs.BundleView.{entries_of, meant};
+
+use crate::resolver::formats;
+use fluent_bundle::bundle::AddFault;
+use fluent_bundle::{
+    FluentBundle, FluentFormatter, FluentFunction, FluentResource, FluentType, GetEntry,
+    MemoizerKind, NoCustom, Transform,
+};
+use fluent_fixtures::common::{Bundle, read, value_of};
+use fluent_fixtures::own::{Bracketed, Own, Upper};
+use fluent_intl::EnglishPlurals;
+use std::alloc::Global;
+use std::test::Fail;
+
+/// A bundle with a formatter, which looks at the plural source.
+fn with_formatter<
+    'r,
+    's,
+    M: MemoizerKind,
+    C: FluentType,
+    F: FluentFunction<C>,
+    G: FluentFormatter<C, M>,
+    T: Transform,
+>(alloc: Global, intls: M, formatter: G) -> FluentBundle<'r, 's, M, C, F, G, T>
+    ensures { let of = meant M.category C.shown C.alike F.answer G.formatted T.changed in
+        let empty = empty_bundle (M.category intls) (record { text = C.shown; same = C.alike }) in
+        of result ≡ after_all (set_formatter (Some (λ v. G.formatted formatter v intls)) ∷ []) empty }
+{
+    let mut bundle = FluentBundle::new(alloc, Vec::new(alloc), intls);
+    bundle.set_use_isolating(true);
+    bundle.set_formatter(Some(formatter));
+    bundle
+}
+
+/// A bundle with a transform, a function and a resource.
+fn with_function<
+    'r,
+    's,
+    M: MemoizerKind,
+    C: FluentType,
+    F: FluentFunction<C>,
+    G: FluentFormatter<C, M>,
+    T: Transform,
+>(
+    alloc: Global,
+    intls: M,
+    function: F,
+    transform: T,
+    resource: &'r FluentResource<'s>,
+) -> Result<FluentBundle<'r, 's, M, C, F, G, T>, AddFault>
+    ensures { let of = meant M.category C.shown C.alike F.answer G.formatted T.changed in
+        let empty = empty_bundle (M.category intls) (record { text = C.shown; same = C.alike }) in
+        let upper = set_transform (Some (T.changed transform)) in
+        let function = add_function (codes "F") (F.answer function) in
+        let resource = add_resource (entries_of resource.now) in
+        IfOk result (λ b. of b ≡ after_all (upper ∷ function ∷ resource ∷ []) empty) }
+{
+    let mut bundle = FluentBundle::new(alloc, Vec::new(alloc), intls);
+    bundle.set_transform(Some(transform));
+    bundle.add_function("F", function)?;
+    bundle.add_resource(resource)?;
+    Ok(bundle)
+}
+
+#[test]
+fn a_composed_formatter_is_asked(rt: HostRuntime) -> Result<(), Fail> {
+    let alloc = rt.alloc();
+    let resource = read(alloc, "m = Hello")?;
+    let bundle: Bundle<'_, '_> = with_formatter(alloc, EnglishPlurals, Bracketed);
+    formats(
+        &rt,
+        alloc,
+        &bundle,
+        value_of(&resource)?,
+        ("", ""),
+        ("[Hello]", ""),
+    )?;
+    Ok(())
+}
+
+type UpperBundle<'r, 's> = FluentBundle<'r, 's, EnglishPlurals, NoCustom, Own, Bracketed, Upper>;
+
+#[test]
+fn a_composed_transform_changes_and_a_composed_function_is_there(
+    rt: HostRuntime,
+) -> Result<(), Fail> {
+    let alloc = rt.alloc();
+    let resource = read(alloc, "m = Hello")?;
+    let made = with_function(alloc, EnglishPlurals, Own::Nothing, Upper, &resource);
+    let bundle: UpperBundle<'_, '_> = made.ok().ok_or("not made")?;
+    let mut errors = Vec::new(alloc);
+    let text = bundle.format_pattern(value_of(&resource)?, None, &mut errors)?;
+    assert!(rt; text.as_str() == "HELLO");
+    assert!(rt; errors.is_empty());
+    assert!(rt; bundle.get_entry_function("F").is_some());
+    Ok(())
+}

@@ -1,0 +1,105 @@
+//! Messages that call a closure of the application.
+ghost use Rattle.std.specs.Prelude.{unwrap_or, slice_get};
+ghost use Rattle.fluent_meaning.specs.Value.{error_value};
+
+use fluent_bundle::{
+    AddFault, AnswerRule, Answering, EnglishPlurals, FluentArgs, FluentBundle, FluentResource,
+    FluentValue, FunctionOf, NoCustom, NoFormatter,
+};
+use fluent_fixtures::common::read;
+use std::alloc::{AllocError, Global};
+use std::test::Fail;
+
+/// The first positional value, or an error where there is none.
+struct Identity;
+
+impl AnswerRule<NoCustom> for Identity {
+    ghost answer = { λ positional _. unwrap_or (slice_get positional 0) error_value };
+}
+
+type Bundle<'r, 's, K> = FluentBundle<
+    'r,
+    's,
+    EnglishPlurals,
+    NoCustom,
+    FunctionOf<NoCustom, K, Identity>,
+    NoFormatter,
+>;
+
+fn is_formatted<K: Answering<NoCustom, Identity> + Drop>(
+    alloc: Global,
+    bundle: &Bundle<'_, '_, K>,
+    id: &str,
+    text: &str,
+) -> Result<bool, Fail> {
+    let message = bundle.get_message(id).ok_or("no message")?;
+    let pattern = message.value().ok_or("no value")?;
+    let mut errors = Vec::new(alloc);
+    let found = bundle.format_pattern(pattern, None, &mut errors)?;
+    Ok(found.as_str() == text && errors.is_empty())
+}
+
+fn bundle_of<'r, 's, K: Answering<NoCustom, Identity> + Drop>(
+    alloc: Global,
+    resource: &'r FluentResource<'s>,
+    closure: K,
+) -> Result<Bundle<'r, 's, K>, AddFault>
+    requires { K.ready closure }
+{
+    let mut bundle: Bundle<'r, 's, K> = FluentBundle::new(alloc, Vec::new(alloc), EnglishPlurals);
+    bundle.add_function("ID", FunctionOf::new(closure))?;
+    bundle.add_resource(resource)?;
+    Ok(bundle)
+}
+
+fn is_called<K: Answering<NoCustom, Identity> + Drop>(
+    alloc: Global,
+    resource: &FluentResource<'_>,
+    closure: K,
+) -> Result<bool, Fail>
+    requires { K.ready closure }
+{
+    let bundle = bundle_of(alloc, resource, closure).ok().ok_or("not made")?;
+    Ok(
+        is_formatted(alloc, &bundle, "p", "q")?
+            && is_formatted(alloc, &bundle, "r", "ID()")?
+            && is_formatted(alloc, &bundle, "s", "ID()")?,
+    )
+}
+
+/// The same of a closure, to which the bound gives its shape.
+fn closure_is_called<K>(
+    alloc: Global,
+    resource: &FluentResource<'_>,
+    closure: K,
+) -> Result<bool, Fail>
+where
+    K: for<'a> Fn(
+        Global,
+        &[FluentValue<'a, NoCustom>],
+        &FluentArgs<'a, NoCustom>,
+    ) -> Result<FluentValue<'a, NoCustom>, AllocError>
+        + Drop,
+    requires { ⟦<K as Answering<NoCustom, Identity>>⟧.ready closure }
+{
+    is_called(alloc, resource, closure)
+}
+
+fn calls(alloc: Global, resource: &FluentResource<'_>) -> Result<bool, Fail> {
+    closure_is_called(
+        alloc,
+        resource,
+        |alloc, positional, _named| match positional.first() {
+            Some(value) => value.try_clone(alloc),
+            None => Ok(FluentValue::Error),
+        },
+    )
+}
+
+#[test]
+fn a_message_calls_a_closure(rt: HostRuntime) -> Result<(), Fail> {
+    let source = "-t = { ID(\"q\") }\np = { -t }\nr = { ID() }\ns = { ID(ID()) }\n";
+    let resource = read(rt.alloc(), source)?;
+    assert!(rt; calls(rt.alloc(), &resource)?);
+    Ok(())
+}

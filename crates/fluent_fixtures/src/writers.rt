@@ -1,0 +1,94 @@
+//! Writers that are short or fail, and how writing through one ends.
+use fluent_bundle::{Counting, WriteFault};
+use std::alloc::Global;
+use std::io;
+use std::io::Write;
+
+/// A writer that takes so many bytes at most in one write, and fails once it has taken all that it may.
+#[derive(Drop)]
+pub struct Slow {
+    taken: Vec<u8>,
+    at_once: usize,
+    in_all: usize,
+}
+
+impl Write for Slow {
+    fn write(&mut self, piece: &[u8]) -> io::Result<usize> {
+        let room = self.in_all.saturating_sub(self.taken.len());
+        if room == 0 {
+            return Err(io::Error::from(io::ErrorKind::BrokenPipe));
+        }
+        let n = piece.len().min(self.at_once).min(room);
+        match self.taken.extend_from_slice(&piece[..n]) {
+            Ok(()) => Ok(n),
+            Err(_) => Err(io::Error::from(io::ErrorKind::OutOfMemory)),
+        }
+    }
+
+    fn flush(&mut self) -> io::Result<()> {
+        Ok(())
+    }
+}
+
+/// How a call may end.
+#[derive(Clone, Copy, Drop, PartialEq, Eq)]
+pub enum End {
+    Whole,
+    Memory,
+    Writer,
+    Other,
+    Zero,
+}
+
+/// How a call ended; a writer that is refused memory counts as memory. The error that is answered is the one that the
+/// writers here fail with, a broken pipe; with another the call would end as no row says.
+pub fn end_of(outcome: Result<(), WriteFault>) -> End {
+    match outcome {
+        Ok(()) => End::Whole,
+        Err(WriteFault::Memory) => End::Memory,
+        Err(WriteFault::Writer(error)) => match error.kind() {
+            io::ErrorKind::OutOfMemory => End::Memory,
+            io::ErrorKind::BrokenPipe => End::Writer,
+            _ => End::Other,
+        },
+        Err(WriteFault::Zero) => End::Zero,
+    }
+}
+
+/// How many bytes a writer takes at once and in all, how writing through it ends, how often a write failed and took
+/// nothing, what was taken, and the lines of the errors.
+#[derive(Clone, Copy, Drop)]
+pub struct Told<'x> {
+    pub takes: (usize, usize),
+    pub end: End,
+    pub faults: (u64, u64),
+    pub text: &'x str,
+    pub errors: &'x str,
+}
+
+/// What a writer that takes all is told.
+pub fn all<'x>(text: &'x str, errors: &'x str) -> Told<'x> {
+    Told {
+        takes: (usize::MAX, usize::MAX),
+        end: End::Whole,
+        faults: (0, 0),
+        text,
+        errors,
+    }
+}
+
+/// The writer of a row, which has taken nothing.
+pub fn writer(alloc: Global, told: &Told<'_>) -> Counting<Slow> {
+    Counting::new(Slow {
+        taken: Vec::new(alloc),
+        at_once: told.takes.0,
+        in_all: told.takes.1,
+    })
+}
+
+/// That a writer has the faults and took the bytes that it should.
+pub fn has_taken(w: Counting<Slow>, told: &Told<'_>) -> bool {
+    w.failed() == told.faults.0
+        && w.empty() == told.faults.1
+        && w.into_inner().taken.as_slice() == told.text.as_bytes()
+}
