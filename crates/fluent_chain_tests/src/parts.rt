@@ -10,6 +10,7 @@ const FIRST: &str = "a = 1\nk =\n    .t = x\n";
 
 const SECOND: &str = "a = 2\n    .t = { $n }y\n    .t = z\nk = v\n    .u = { \"w\" }\n";
 
+/// Run with each allocation failing in turn.
 #[test]
 fn the_first_with_the_attribute_answers(rt: HostRuntime) -> Result<(), Fail> {
     let error = "Resolver error: Unknown variable: $n\n";

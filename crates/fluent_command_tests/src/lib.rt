@@ -2,6 +2,10 @@
 #![tactic(auto)]
 
 #[cfg(test)]
+mod each_read;
+#[cfg(test)]
+mod each_write;
+#[cfg(test)]
 mod faults;
 #[cfg(test)]
 mod memory;

@@ -5,4 +5,5 @@ pub mod common;
 pub mod objects;
 pub mod own;
 pub mod settings;
+pub mod stopping;
 pub mod writers;

@@ -1,0 +1,317 @@
+//! Calls that add to a bundle while memory is refused: where nothing is there, and where half of what comes is.
+use crate::found::{are, list, room};
+use fluent_bundle::bundle::AddFault;
+use fluent_bundle::{Call, FluentError, FluentResource, FunctionRef, GetEntry};
+use fluent_fixtures::common::{Bundle, add, empty, first_text, read};
+use fluent_fixtures::own::Own;
+use std::alloc::{AllocError, Global};
+use std::process::Abort;
+use std::test::Fail;
+
+// ---- what ids name
+
+/// An id, the text of its message, the text of its term, and its function; empty where there is none.
+type Held = (&'static str, &'static str, &'static str, &'static str);
+
+fn message_at<'x>(bundle: &'x Bundle<'_, '_>, id: &str) -> &'x str {
+    match bundle.get_entry_message(id) {
+        Some(message) => match &message.value {
+            Some(pattern) => first_text(pattern),
+            None => "",
+        },
+        None => "",
+    }
+}
+
+fn term_at<'x>(bundle: &'x Bundle<'_, '_>, id: &str) -> &'x str {
+    match bundle.get_entry_term(id) {
+        Some(term) => first_text(&term.value),
+        None => "",
+    }
+}
+
+fn function_at(bundle: &Bundle<'_, '_>, id: &str) -> &'static str {
+    match bundle.get_entry_function(id) {
+        Some(FunctionRef::Own(Own::Nothing)) => "nothing",
+        Some(FunctionRef::Own(Own::Fault)) => "fault",
+        Some(FunctionRef::Number) => "NUMBER",
+        None => "",
+    }
+}
+
+fn is_held(bundle: &Bundle<'_, '_>, held: &Held) -> bool {
+    message_at(bundle, held.0) == held.1
+        && term_at(bundle, held.0) == held.2
+        && function_at(bundle, held.0) == held.3
+}
+
+fn are_held(rt: &impl Abort, bundle: &Bundle<'_, '_>, all: &[Held]) {
+    for held in all {
+        assert!(rt; is_held(bundle, held), "{}", held.0);
+    }
+}
+
+// ---- calls
+
+/// A call on a bundle, of the resource of a row where it has one.
+#[derive(Clone, Copy)]
+enum Step {
+    Add,
+    Override,
+    Function(&'static str),
+    Builtins,
+    MakeAdd,
+    MakeOverride,
+    MakeFunction(&'static str),
+    MakeBuiltins,
+}
+
+/// The answer of a call that reports nothing.
+fn silent(answer: Result<(), AllocError>) -> Result<(), AddFault> {
+    match answer {
+        Ok(()) => Ok(()),
+        Err(AllocError) => Err(AddFault::Memory),
+    }
+}
+
+fn take<'r, 's>(
+    bundle: &mut Bundle<'r, 's>,
+    resource: &'r FluentResource<'s>,
+    step: Step,
+) -> Result<(), AddFault> {
+    match step {
+        Step::Add => bundle.add_resource(resource),
+        Step::Override => silent(bundle.add_resource_overriding(resource)),
+        Step::Function(id) => bundle.add_function(id, Own::Nothing),
+        Step::Builtins => bundle.add_builtins(),
+        Step::MakeAdd => silent(bundle.make(Call::AddResource(resource))),
+        Step::MakeOverride => silent(bundle.make(Call::AddResourceOverriding(resource))),
+        Step::MakeFunction(id) => silent(bundle.make(Call::AddFunction(id, Own::Nothing))),
+        Step::MakeBuiltins => silent(bundle.make(Call::AddBuiltins)),
+    }
+}
+
+/// What a call reports; `None` where memory is refused.
+fn reported(answer: Result<(), AddFault>, none: Vec<FluentError>) -> Option<Vec<FluentError>> {
+    match answer {
+        Ok(()) => Some(none),
+        Err(AddFault::Overriding(errors)) => Some(errors),
+        Err(AddFault::Memory) => None,
+    }
+}
+
+/// A call, the lines of its errors, and what ids name after it.
+type Row = (Step, &'static str, &'static [Held]);
+
+/// Puts errors behind the one that stands in each list.
+fn behind(alloc: Global, mut errors: Vec<FluentError>) -> Result<Vec<FluentError>, AllocError> {
+    let mut all = list(alloc)?;
+    all.append(&mut errors)?;
+    Ok(all)
+}
+
+/// Makes a call; `false` where memory is refused, after which all is as before.
+fn makes<'r, 's>(
+    rt: &impl Abort,
+    alloc: Global,
+    bundle: &mut Bundle<'r, 's>,
+    resource: &'r FluentResource<'s>,
+    row: &Row,
+    before: &[Held],
+) -> Result<bool, Fail> {
+    let mut room = room(alloc)?;
+    let answer = take(bundle, resource, row.0);
+    let Some(errors) = reported(answer, Vec::new(alloc)) else {
+        are_held(rt, bundle, before);
+        return Ok(false);
+    };
+    are_held(rt, bundle, row.2);
+    are(rt, &mut room, behind(alloc, errors)?.as_slice(), row.1)?;
+    Ok(true)
+}
+
+/// A bundle over a first source, with a function.
+fn started<'r, 's>(
+    alloc: Global,
+    first: &'r FluentResource<'s>,
+    has_function: bool,
+) -> Result<Bundle<'r, 's>, Fail> {
+    let mut bundle: Bundle<'r, 's> = empty(alloc);
+    if has_function {
+        bundle.add_function("G", Own::Fault).ok().ok_or(AllocError)?;
+    }
+    add(&mut bundle, first).ok().ok_or(AllocError)?;
+    Ok(bundle)
+}
+
+/// The source that is there, whether a function is, the source that comes, what ids name before, and calls.
+struct Table {
+    first: &'static str,
+    has_function: bool,
+    second: &'static str,
+    before: &'static [Held],
+    rows: &'static [Row],
+}
+
+fn is_made<'r, 's>(
+    rt: &impl Abort,
+    alloc: Global,
+    sources: (&'r FluentResource<'s>, &'r FluentResource<'s>),
+    table: &Table,
+    row: &Row,
+) -> Result<(), Fail> {
+    let mut bundle: Bundle<'r, 's> = started(alloc, sources.0, table.has_function)?;
+    are_held(rt, &bundle, table.before);
+    for _ in 0..2 {
+        if makes(rt, alloc, &mut bundle, sources.1, row, table.before)? {
+            return Ok(());
+        }
+    }
+    Err("refused again".into())
+}
+
+fn holds(rt: &impl Abort, alloc: Global, table: &Table) -> Result<(), Fail> {
+    let first = read(alloc, table.first)?;
+    let second = read(alloc, table.second)?;
+    for row in table.rows {
+        is_made(rt, alloc, (&first, &second), table, row)?;
+    }
+    Ok(())
+}
+
+// ---- half of them are there
+
+const THERE: &str = "a = 1\n-b = 2\nc = 3\n-d = 4\n";
+
+const COMING: &str = "u = 5\na = 6\n-v = 7\nb = 8\nw = 9\n-c = 10\n-x = 11\n-G = 12\n";
+
+const BEFORE: &[Held] = &[
+    ("a", "1", "", ""),
+    ("b", "", "2", ""),
+    ("c", "3", "", ""),
+    ("d", "", "4", ""),
+    ("u", "", "", ""),
+    ("v", "", "", ""),
+    ("w", "", "", ""),
+    ("x", "", "", ""),
+    ("G", "", "", "fault"),
+    ("H", "", "", ""),
+    ("NUMBER", "", "", ""),
+];
+
+const ADDED: &[Held] = &[
+    ("a", "1", "", ""),
+    ("b", "", "2", ""),
+    ("c", "3", "", ""),
+    ("d", "", "4", ""),
+    ("u", "5", "", ""),
+    ("v", "", "7", ""),
+    ("w", "9", "", ""),
+    ("x", "", "11", ""),
+    ("G", "", "", "fault"),
+];
+
+const OVERRIDDEN: &[Held] = &[
+    ("a", "6", "", ""),
+    ("b", "8", "", ""),
+    ("c", "", "10", ""),
+    ("d", "", "4", ""),
+    ("u", "5", "", ""),
+    ("v", "", "7", ""),
+    ("w", "9", "", ""),
+    ("x", "", "11", ""),
+    ("G", "", "12", ""),
+];
+
+const LEFT: &str = "Attempt to override an existing message: \"a\".
+Attempt to override an existing message: \"b\".
+Attempt to override an existing term: \"c\".
+Attempt to override an existing term: \"G\".
+";
+
+const HALF: Table = Table {
+    first: THERE,
+    has_function: true,
+    second: COMING,
+    before: BEFORE,
+    rows: &[
+        (Step::Add, LEFT, ADDED),
+        (Step::Override, "", OVERRIDDEN),
+        (Step::MakeAdd, "", ADDED),
+        (Step::MakeOverride, "", OVERRIDDEN),
+        (
+            Step::Function("a"),
+            "Attempt to override an existing function: \"a\".\n",
+            BEFORE,
+        ),
+        (
+            Step::Function("G"),
+            "Attempt to override an existing function: \"G\".\n",
+            BEFORE,
+        ),
+        (Step::Function("H"), "", &[("H", "", "", "nothing")]),
+        (Step::Builtins, "", &[("NUMBER", "", "", "NUMBER")]),
+        (Step::MakeFunction("b"), "", BEFORE),
+        (Step::MakeFunction("H"), "", &[("H", "", "", "nothing")]),
+        (Step::MakeBuiltins, "", &[("NUMBER", "", "", "NUMBER")]),
+    ],
+};
+
+// ---- nothing is there, and all is
+
+const ALONE: &[Held] = &[
+    ("u", "5", "", ""),
+    ("a", "6", "", ""),
+    ("v", "", "7", ""),
+    ("b", "8", "", ""),
+    ("c", "", "10", ""),
+    ("G", "", "12", ""),
+];
+
+const NONE: Table = Table {
+    first: "",
+    has_function: false,
+    second: COMING,
+    before: &[("u", "", "", ""), ("a", "", "", ""), ("NUMBER", "", "", "")],
+    rows: &[
+        (Step::Add, "", ALONE),
+        (Step::Override, "", ALONE),
+        (Step::Function("a"), "", &[("a", "", "", "nothing")]),
+        (Step::Builtins, "", &[("NUMBER", "", "", "NUMBER")]),
+    ],
+};
+
+const ALL: Table = Table {
+    first: "a = 1\nNUMBER = 2\n",
+    has_function: false,
+    second: "a = 3\n-NUMBER = 4\n",
+    before: &[("a", "1", "", ""), ("NUMBER", "2", "", "")],
+    rows: &[
+        (
+            Step::Add,
+            "Attempt to override an existing message: \"a\".\nAttempt to override an existing term: \"NUMBER\".\n",
+            &[("a", "1", "", ""), ("NUMBER", "2", "", "")],
+        ),
+        (
+            Step::Override,
+            "",
+            &[("a", "3", "", ""), ("NUMBER", "", "4", "")],
+        ),
+        (
+            Step::Builtins,
+            "Attempt to override an existing function: \"NUMBER\".\n",
+            &[("a", "1", "", ""), ("NUMBER", "2", "", "")],
+        ),
+    ],
+};
+
+const TABLES: &[Table] = &[HALF, NONE, ALL];
+
+/// Run with each allocation failing in turn, and all from each one on.
+#[test]
+fn calls_that_are_refused_leave_a_bundle_as_before(rt: HostRuntime) -> Result<(), Fail> {
+    for table in TABLES {
+        holds(&rt, rt.alloc(), table)?;
+    }
+    Ok(())
+}

@@ -1,0 +1,128 @@
+//! Each write of a pattern fails in turn: with each kind of error, behind a piece that was taken in part, and with no
+//! byte taken.
+use crate::cases::{CASES, Case};
+use crate::found::{are, list, room};
+use fluent_bundle::ast::Pattern;
+use fluent_bundle::{Counting, FluentArgs, FluentError, WriteFault};
+use fluent_fixtures::common::read;
+use fluent_fixtures::objects::Star;
+use fluent_fixtures::settings::{Bundle, arguments, bundle_of, value_in};
+use fluent_fixtures::stopping::{FAULTS, Fault, Stopping, stops_behind};
+use std::alloc::Global;
+use std::process::Abort;
+use std::test::Fail;
+
+fn write<'s>(
+    bundle: &Bundle<'_, 's>,
+    pattern: &Pattern<'s>,
+    args: &FluentArgs<'_, Star>,
+    w: &mut Counting<Stopping>,
+    errors: &mut Vec<FluentError>,
+) -> Result<(), WriteFault> {
+    bundle.write_pattern(w, pattern, Some(args), errors)
+}
+
+/// Whether a call answers that its writer stopped so, and how.
+fn is_answered(answer: &Result<(), WriteFault>, fault: Fault) -> bool {
+    match (answer, fault.0) {
+        (Err(WriteFault::Writer(error)), Some(kind)) => error.kind() == kind,
+        (Err(WriteFault::Zero), None) => true,
+        _ => false,
+    }
+}
+
+/// How often writes of a writer that stopped so failed, and took nothing.
+fn counted(fault: Fault) -> (u64, u64) {
+    match fault.0 {
+        Some(_) => (1, 0),
+        None => (0, 1),
+    }
+}
+
+/// The lines that are there where so much was written.
+fn lines_at(case: &Case, taken: usize) -> &'static str {
+    if taken >= case.from { case.lines } else { "" }
+}
+
+/// Writes a pattern to a writer that stops; `false` where the text is whole before.
+fn stops<'s>(
+    rt: &impl Abort,
+    alloc: Global,
+    bundle: &Bundle<'_, 's>,
+    pattern: &Pattern<'s>,
+    args: &FluentArgs<'_, Star>,
+    case: &Case,
+    left: u64,
+    fault: Fault,
+) -> Result<bool, Fail> {
+    let mut room = room(alloc)?;
+    let mut errors = list(alloc)?;
+    let mut w = Counting::new(stops_behind(alloc, left, fault));
+    let answer = write(bundle, pattern, args, &mut w, &mut errors);
+    let counts = (w.failed(), w.empty());
+    let left_in = w.into_inner();
+    let taken = left_in.taken.as_slice();
+    are(
+        rt,
+        &mut room,
+        errors.as_slice(),
+        lines_at(case, taken.len()),
+    )?;
+    if !left_in.has_stopped {
+        assert!(rt; answer.is_ok() && counts == (0, 0), "{}", case.text);
+        assert!(rt; taken == case.text.as_bytes(), "{}", case.text);
+        return Ok(false);
+    }
+    assert!(rt; is_answered(&answer, fault), "{} at {left}", case.text);
+    assert!(rt;
+        counts == counted(fault) && left_in.later == 0,
+        "{} at {left}",
+        case.text
+    );
+    assert!(rt;
+        case.text.as_bytes().starts_with(taken),
+        "{} at {left}",
+        case.text
+    );
+    Ok(true)
+}
+
+/// How many writes a text has at most.
+const MOST: u64 = 200;
+
+/// The writer stops at each write in turn.
+fn stops_anywhere<'s>(
+    rt: &impl Abort,
+    alloc: Global,
+    bundle: &Bundle<'_, 's>,
+    pattern: &Pattern<'s>,
+    case: &Case,
+    fault: Fault,
+) -> Result<(), Fail> {
+    let args = arguments(alloc, case.named)?;
+    for left in 0..MOST {
+        if !stops(rt, alloc, bundle, pattern, &args, case, left, fault)? {
+            return Ok(());
+        }
+    }
+    Err("no text is whole".into())
+}
+
+fn holds(rt: &impl Abort, alloc: Global, case: &Case) -> Result<(), Fail> {
+    let resource = read(alloc, case.source)?;
+    let bundle = bundle_of(alloc, case.settings, &resource)?;
+    let pattern = value_in(&bundle, "p").ok_or("no p")?;
+    for fault in FAULTS {
+        stops_anywhere(rt, alloc, &bundle, pattern, case, *fault)?;
+    }
+    Ok(())
+}
+
+/// Nothing is written after the fault, what was written begins the text, and an error is added before its fallback.
+#[test]
+fn a_writer_that_stops_anywhere_ends_the_call(rt: HostRuntime) -> Result<(), Fail> {
+    for case in CASES {
+        holds(&rt, rt.alloc(), case)?;
+    }
+    Ok(())
+}

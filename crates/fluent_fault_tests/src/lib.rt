@@ -1,0 +1,27 @@
+//! Tests of what stands where memory is refused, and where a writer or an object of the application's own fails.
+#![tactic(auto)]
+
+#[cfg(test)]
+mod adding;
+#[cfg(test)]
+mod cases;
+#[cfg(test)]
+mod each_write;
+#[cfg(test)]
+mod found;
+#[cfg(test)]
+mod ids;
+#[cfg(test)]
+mod objects;
+#[cfg(test)]
+mod quiet;
+#[cfg(test)]
+mod reading;
+#[cfg(test)]
+mod scope;
+#[cfg(test)]
+mod shown;
+#[cfg(test)]
+mod texts;
+#[cfg(test)]
+mod writing;

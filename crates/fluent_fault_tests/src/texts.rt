@@ -1,0 +1,203 @@
+//! Calls that make texts and copies while memory is refused: refused, they can be made again.
+use fluent_bundle::ast::{Identifier, InlineExpression};
+use fluent_bundle::{
+    EntryKind, FluentArgs, FluentError, FluentValue, ReferenceKind, ResolverError, builtins,
+};
+use fluent_fixtures::objects::Star;
+use fluent_intl::{Decimal, FluentNumber, FluentNumberOptions};
+use fluent_syntax::unescape_unicode_to_string;
+use std::alloc::{AllocError, Global};
+use std::borrow::CowStr;
+use std::test::Fail;
+
+// ---- numbers
+
+/// A number in a currency, with seven digits.
+fn price(alloc: Global) -> Result<FluentNumber, AllocError> {
+    let mut options = FluentNumberOptions::default();
+    options.currency = Some(String::from_str(alloc, "EUR")?);
+    options.minimum_fraction_digits = Some(7);
+    Ok(FluentNumber::new(Decimal::from_i64(-12), options))
+}
+
+/// The same number, where its parts are.
+fn is_price(number: &FluentNumber) -> bool {
+    let has_currency = match &number.options.currency {
+        Some(currency) => currency.as_str() == "EUR",
+        None => false,
+    };
+    has_currency
+        && number.value == Decimal::from_i64(-12)
+        && number.options.minimum_fraction_digits == Some(7)
+}
+
+fn number_is_written(alloc: Global) -> Result<bool, AllocError> {
+    Ok(Decimal::from_i64(-12).as_text(alloc, Some(7))?.as_str() == "-12.0000000")
+}
+
+fn number_is_shown(alloc: Global) -> Result<bool, AllocError> {
+    Ok(price(alloc)?.as_string(alloc)?.as_str() == "-12.0000000")
+}
+
+fn number_is_copied(alloc: Global) -> Result<bool, AllocError> {
+    Ok(is_price(&price(alloc)?.try_clone(alloc)?))
+}
+
+fn options_are_copied(alloc: Global) -> Result<bool, AllocError> {
+    let options = price(alloc)?.options.try_clone(alloc)?;
+    Ok(is_price(&FluentNumber::new(Decimal::from_i64(-12), options)))
+}
+
+// ---- values
+
+/// The first positional value with its options merged with these.
+fn number_is_asked(alloc: Global) -> Result<bool, AllocError> {
+    let mut named: FluentArgs<'_, Star> = FluentArgs::new(alloc);
+    named.set(CowStr::Borrowed("currency"), FluentValue::from("EUR"))?;
+    named.set(
+        CowStr::Borrowed("minimumFractionDigits"),
+        FluentValue::from(7u8),
+    )?;
+    let positional = [FluentValue::from(-12i8)];
+    match builtins::NUMBER(alloc, &positional, &named)? {
+        FluentValue::Number(number) => Ok(is_price(&number)),
+        _ => Ok(false),
+    }
+}
+
+type Pair = (CowStr<'static>, FluentValue<'static, Star>);
+
+/// Arguments of an iterator, of which one comes twice.
+fn arguments_are_gathered(alloc: Global) -> Result<bool, AllocError> {
+    let mut pairs: Vec<Pair> = Vec::new(alloc);
+    for (name, value) in [("b", "1"), ("a", "2"), ("b", "3")] {
+        pairs.push((CowStr::Borrowed(name), FluentValue::try_number(value)))?;
+    }
+    let args = FluentArgs::try_from_iter(alloc, pairs.into_iter())?;
+    Ok(has(&args, "a", "2") && has(&args, "b", "3") && args.iter().count() == 2)
+}
+
+fn has(args: &FluentArgs<'_, Star>, name: &str, value: &'static str) -> bool {
+    match args.get(name) {
+        Some(found) => found.same(&FluentValue::try_number(value)),
+        None => false,
+    }
+}
+
+// ---- errors
+
+fn attribute() -> InlineExpression<'static> {
+    InlineExpression::MessageReference {
+        id: Identifier { name: "m" },
+        attribute: Some(Identifier { name: "x" }),
+    }
+}
+
+/// Whether a reference is the one to that attribute.
+fn is_attribute(found: &ReferenceKind) -> bool {
+    match found {
+        ReferenceKind::Message { id, attribute } => match attribute {
+            Some(name) => id.as_str() == "m" && name.as_str() == "x",
+            None => false,
+        },
+        _ => false,
+    }
+}
+
+fn is_lost(found: &ResolverError) -> bool {
+    match found {
+        ResolverError::Reference(reference) => is_attribute(reference),
+        _ => false,
+    }
+}
+
+fn reference_is_made(alloc: Global) -> Result<bool, AllocError> {
+    match ReferenceKind::of(alloc, &attribute())? {
+        Some(found) => Ok(is_attribute(&found) && is_attribute(&found.try_clone(alloc)?)),
+        None => Ok(false),
+    }
+}
+
+fn error_is_made(alloc: Global) -> Result<bool, AllocError> {
+    match ResolverError::of(alloc, &attribute())? {
+        Some(found) => Ok(is_lost(&found) && is_lost(&found.try_clone(alloc)?)),
+        None => Ok(false),
+    }
+}
+
+fn report_is_copied(alloc: Global) -> Result<bool, AllocError> {
+    let id = String::from_str(alloc, "m")?;
+    let error = FluentError::Overriding {
+        kind: EntryKind::Term,
+        id,
+    };
+    match error.try_clone(alloc)? {
+        FluentError::Overriding { kind, id } => Ok(kind == EntryKind::Term && id.as_str() == "m"),
+        _ => Ok(false),
+    }
+}
+
+// ---- escapes
+
+fn text_is_unescaped(alloc: Global) -> Result<bool, AllocError> {
+    let text = unescape_unicode_to_string(alloc, "x\\u0041\\U01F602\\\"")?;
+    Ok(text.as_str() == "xA\u{1F602}\"")
+}
+
+// ---- all
+
+/// A call by what it makes.
+#[derive(Clone, Copy)]
+enum Made {
+    NumberText,
+    NumberShown,
+    NumberCopy,
+    OptionsCopy,
+    NumberAsked,
+    Arguments,
+    Reference,
+    Error,
+    Report,
+    Unescaped,
+}
+
+fn is_made(alloc: Global, made: Made) -> Result<bool, AllocError> {
+    match made {
+        Made::NumberText => number_is_written(alloc),
+        Made::NumberShown => number_is_shown(alloc),
+        Made::NumberCopy => number_is_copied(alloc),
+        Made::OptionsCopy => options_are_copied(alloc),
+        Made::NumberAsked => number_is_asked(alloc),
+        Made::Arguments => arguments_are_gathered(alloc),
+        Made::Reference => reference_is_made(alloc),
+        Made::Error => error_is_made(alloc),
+        Made::Report => report_is_copied(alloc),
+        Made::Unescaped => text_is_unescaped(alloc),
+    }
+}
+
+const ALL: &[Made] = &[
+    Made::NumberText,
+    Made::NumberShown,
+    Made::NumberCopy,
+    Made::OptionsCopy,
+    Made::NumberAsked,
+    Made::Arguments,
+    Made::Reference,
+    Made::Error,
+    Made::Report,
+    Made::Unescaped,
+];
+
+/// Run with each allocation failing in turn, and all from each one on.
+#[test]
+fn what_is_refused_can_be_made_again(rt: HostRuntime) -> Result<(), Fail> {
+    for (at, made) in ALL.iter().enumerate() {
+        let is_right = match is_made(rt.alloc(), *made) {
+            Ok(is_right) => is_right,
+            Err(AllocError) => is_made(rt.alloc(), *made).ok().ok_or("refused again")?,
+        };
+        assert!(rt; is_right, "at {at}");
+    }
+    Ok(())
+}
