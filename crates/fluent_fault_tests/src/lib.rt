@@ -18,6 +18,8 @@ mod quiet;
 #[cfg(test)]
 mod reading;
 #[cfg(test)]
+mod refusing;
+#[cfg(test)]
 mod scope;
 #[cfg(test)]
 mod shown;
