@@ -76,8 +76,7 @@ impl Transform for Refusing {
     }
 }
 
-type Bundle<'r, 's> =
-    FluentBundle<'r, 's, EnglishPlurals, Refusing, Refusing, Refusing, Refusing>;
+type Bundle<'r, 's> = FluentBundle<'r, 's, EnglishPlurals, Refusing, Refusing, Refusing, Refusing>;
 
 /// Which of them a bundle has besides the function `F` and the value `$x`.
 #[derive(Clone, Copy)]
@@ -129,12 +128,7 @@ const ROWS: &[Row] = &[
     ),
     // a transform, before and behind a placeable
     Row("m = a { $y } b", Has::Transform, "", ""),
-    Row(
-        "m = { $y } b",
-        Has::Transform,
-        "\u{2068}{$y}\u{2069}",
-        LOST,
-    ),
+    Row("m = { $y } b", Has::Transform, "\u{2068}{$y}\u{2069}", LOST),
     Row("m = b", Has::Transform, "", ""),
     // a formatter, of a number; what is lost is no value
     Row(
@@ -230,5 +224,10 @@ fn a_whole_text_that_is_not_shown_keeps_its_errors(rt: HostRuntime) -> Result<()
     assert!(rt; w.into_inner().as_slice() == "a \u{2068}{$y}\u{2069}".as_bytes());
     let formatted = format(&bundle, pattern, &args, &mut errors);
     assert!(rt; formatted.is_err());
-    are(&rt, &mut room, errors.as_slice(), "Resolver error: Unknown variable: $y\nResolver error: Unknown variable: $y\n")
+    are(
+        &rt,
+        &mut room,
+        errors.as_slice(),
+        "Resolver error: Unknown variable: $y\nResolver error: Unknown variable: $y\n",
+    )
 }

@@ -29,7 +29,11 @@ pub fn choose<'p, 's, C: FluentType, B: Context<C>>(
 {
     match value {
         FluentValue::String(text) => first_like(text.as_str(), None, variants),
-        FluentValue::Number(number) => first_like(bundle.category_word(number), Some(number), variants),
+        FluentValue::Number(number) => first_like(
+            bundle.category_word(number),
+            Some(number),
+            variants,
+        ),
         FluentValue::Custom(_) | FluentValue::None | FluentValue::Error => first_default(variants),
     }
 }
