@@ -3,7 +3,7 @@ pub mod DecimalLength
 pub mod DecimalPlaces
 pub mod DecimalPoints
 pub mod DecimalReading
-pub mod DecimalText
+pub mod DecimalTexts
 pub mod DecimalWhole
 pub mod Remainders
 pub mod OneOperands

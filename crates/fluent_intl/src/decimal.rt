@@ -10,6 +10,7 @@ ghost use Rattle.std.specs.Prelude.{◌≡◌, ◌+◌, ◌*◌, ◌^◌, ◌<�
 ghost use Rattle.std.specs.Result.{OkIff};
 ghost use Rattle.fluent_intl.specs.Decimal.{signed};
 
+pub use backward::DecimalText;
 pub use errors::{NotANumber, OutOfRange};
 pub use laws::{each_number_has_one_text, each_text_is_one_number, whole_numbers_are_kept};
 pub(crate) use read::value_of;

@@ -14,8 +14,8 @@ pub mod rule_texts;
 mod table;
 
 pub use decimal::{
-    Decimal, NotANumber, OutOfRange, each_number_has_one_text, each_text_is_one_number,
-    whole_numbers_are_kept,
+    Decimal, DecimalText, NotANumber, OutOfRange, each_number_has_one_text,
+    each_text_is_one_number, whole_numbers_are_kept,
 };
 pub use language::LanguageIdentifier;
 pub use languages::{LanguageRules, cldr_plurals, rules_for};

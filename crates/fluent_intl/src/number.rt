@@ -4,7 +4,7 @@ ghost use Rattle.std.specs.Cow.{cow_str_bytes};
 ghost use Rattle.fluent_intl.specs.Decimal.{IsText, decimal_text, whole};
 ghost use Rattle.fluent_intl.specs.Number.{number_of, number_with};
 
-use crate::decimal::{Decimal, NotANumber, OutOfRange};
+use crate::decimal::{Decimal, DecimalText, NotANumber, OutOfRange};
 use crate::options::FluentNumberOptions;
 use std::alloc::{AllocError, Global};
 use std::borrow::CowStr;
@@ -39,7 +39,18 @@ impl FluentNumber {
         })
     }
 
-    /// The text of the number, with its minimum of fraction digits, of which 18 count at most.
+    /// The text of the number, with its minimum of fraction digits, of which 18 count at most. Takes no memory.
+    pub fn text(&self) -> DecimalText
+        ensures { result ≡ decimal_text self.now.value self.now.options.minimum_fraction_digits }
+    {
+        self.value.text(self.options.minimum_fraction_digits)
+    }
+
+    /// The same in memory of `alloc`.
+    ///
+    /// # Errors
+    ///
+    /// Memory was refused.
     pub fn as_string(&self, alloc: Global) -> Result<CowStr<'static>, AllocError>
         ensures bytes { IfOk result (λ text. cow_str_bytes text ≡ decimal_text self.now.value self.now.options.minimum_fraction_digits) }
         ensures text { IfOk result (λ text. IsText self.now.value self.now.options.minimum_fraction_digits (cow_str_bytes text)) }

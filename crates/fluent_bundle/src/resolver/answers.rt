@@ -1,12 +1,11 @@
 //! What a bundle answers to the resolver.
 
 ghost use Rattle.std.specs.Prelude.{◌≡◌, IfOk, string_bytes};
-ghost use Rattle.std.specs.Cow.{cow_str_bytes};
 ghost use Rattle.std.specs.Option.{option_map};
 ghost use Rattle.fluent_intl.specs.Number.{number_of};
 ghost use Rattle.fluent_meaning.specs.Bundle.{formatter_of};
 ghost use Rattle.fluent_meaning.specs.Number.{category_word};
-ghost use Rattle.fluent_meaning.specs.Value.{value_text, category_of};
+ghost use Rattle.fluent_meaning.specs.Value.{category_of};
 ghost use Rattle.fluent_values.specs.View.{value_view};
 
 use crate::bundle::FluentBundle;
@@ -53,11 +52,8 @@ impl<
         }
     }
 
-    fn show<'t>(&self, value: &'t FluentValue<'_, C>) -> Result<CowStr<'t>, AllocError> {
-        match formatted(self.alloc, &self.formatter, value, &self.intls)? {
-            Some(text) => Ok(CowStr::Owned(text)),
-            None => own_text(self.alloc, value),
-        }
+    fn formatted(&self, value: &FluentValue<'_, C>) -> Result<Option<String>, AllocError> {
+        formatted(self.alloc, &self.formatter, value, &self.intls)
     }
 
     fn category_word(&self, number: &FluentNumber) -> &'static str {
@@ -77,21 +73,6 @@ pub(crate) fn formatted<M, C: FluentType, G: FluentFormatter<C, M>>(
     match formatter {
         Some(formatter) => formatter.format(alloc, value, intls),
         None => Ok(None),
-    }
-}
-
-/// A value's own text.
-fn own_text<'t, C: FluentType>(
-    alloc: Global,
-    value: &'t FluentValue<'_, C>,
-) -> Result<CowStr<'t>, AllocError>
-    ensures { IfOk result (λ text. cow_str_bytes text ≡ value_text (record { text = C.shown; same = C.alike }) (value_view C.content value.now)) }
-{
-    match value {
-        FluentValue::String(text) => Ok(CowStr::Borrowed(text.as_str())),
-        FluentValue::Number(number) => number.as_string(alloc),
-        FluentValue::Custom(custom) => Ok(CowStr::Owned(custom.as_string(alloc)?)),
-        FluentValue::None | FluentValue::Error => Ok(CowStr::Borrowed("")),
     }
 }
 

@@ -1,26 +1,24 @@
 //! A number's text while it is written, from its end to its front.
 
-ghost use Rattle.std.specs.Prelude.{◌≡◌, ◌+◌, ◌<◌, ◌≤◌, [], ◌∷◌, ◌++◌, length, map, if◌then◌else◌, IfOk};
+ghost use Rattle.std.specs.Prelude.{◌≡◌, ◌+◌, ◌<◌, ◌≤◌, [], ◌∷◌, ◌++◌, length, map, if◌then◌else◌};
 ghost use Rattle.std.specs.Option.{ForSome};
 ghost use Rattle.std.specs.Fmt.{decimal};
 ghost use Rattle.std.specs.List.{range_with_len};
-ghost use Rattle.std.specs.String.{string_bytes};
 ghost use Rattle.fluent_intl.specs.Decimal.{place_digit, point_text};
 
-use std::alloc::{AllocError, Global};
 use std::marker::Model;
 
 /// The most bytes of a number's text: a minus, 20 digits, a point and 18 digits.
 const LONGEST: usize = 40;
 
-/// ASCII text that is written from its end to its front.
+/// The text of a number. It stands in place and takes no memory; it is written from its end to its front.
 #[derive(Drop)]
-pub(super) struct Backward {
+pub struct DecimalText {
     bytes: [u8; LONGEST],
     start: usize,
 }
 
-impl Model for Backward {
+impl Model for DecimalText {
     ghost use Rattle.std.specs.Prelude.{◌≤◌, List, ℕ, drop};
     ghost use Rattle.std.specs.Str.{IsAscii};
 
@@ -31,12 +29,12 @@ impl Model for Backward {
     ghost invariant = { λ b. (b.start ≤ 40) × IsAscii (drop b.start b.bytes) };
 }
 
-impl Backward {
+impl DecimalText {
     /// No text.
-    pub(super) fn new() -> Backward
+    pub(super) fn new() -> DecimalText
         ensures { result ≡ [] }
     {
-        Backward {
+        DecimalText {
             bytes: [0; LONGEST],
             start: LONGEST,
         }
@@ -104,11 +102,11 @@ impl Backward {
     }
 
     /// The text.
-    pub(super) fn to_string(&self, alloc: Global) -> Result<String, AllocError>
-        ensures { IfOk result (λ s. string_bytes s ≡ self.now) }
+    pub fn as_str(&self) -> &str
+        ensures { result.now ≡ self.now }
     {
         match str::from_utf8(&self.bytes[self.start..]) {
-            Ok(text) => String::from_str(alloc, text),
+            Ok(text) => text,
             Err(_) => unreachable!(),
         }
     }

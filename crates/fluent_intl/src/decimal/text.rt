@@ -6,7 +6,7 @@ ghost use Rattle.std.specs.String.{string_bytes};
 ghost use Rattle.fluent_intl.specs.Decimal.{IsText, Reads, decimal_text, significant_places, text_places};
 
 use super::Decimal;
-use super::backward::Backward;
+use super::backward::DecimalText;
 use std::alloc::{AllocError, Global};
 
 /// How many digits a fraction in units has up to the last that is not 0.
@@ -14,6 +14,9 @@ pub(crate) fn significant_places(fraction: u64) -> usize
     ensures value { result ≡ significant_places fraction }
     ensures few { result ≤ 18 }
 {
+    if fraction == 0 {
+        return 0;
+    }
     let mut places = 18;
     let mut rest = fraction;
     while places > 0 && rest % 10 == 0 {
@@ -39,18 +42,31 @@ fn text_places(fraction: u64, minimum: Option<usize>) -> Option<usize>
 impl Decimal {
     /// The text of the number: a minus below 0, the whole part, and for a fraction a point and its digits without zeros at the end.
     ///
-    /// With a minimum, of which 18 counts at most, there are that many digits after the point or more, and the point is written even where no digit follows.
+    /// With a minimum, of which 18 counts at most, there are that many digits after the point or more, and the point is written even where no digit follows. Takes no memory.
+    pub fn text(&self, minimum: Option<usize>) -> DecimalText
+        ensures bytes { result ≡ decimal_text self.now minimum }
+        ensures text { IsText self.now minimum result }
+    {
+        let fraction = self.fraction();
+        let mut text = DecimalText::new();
+        text.put_point(fraction, text_places(fraction, minimum));
+        text.put_whole(self.whole());
+        text.put_sign(self.is_negative());
+        text
+    }
+
+    /// The same in memory of `alloc`.
+    ///
+    /// # Errors
+    ///
+    /// Memory was refused.
     pub fn as_text(&self, alloc: Global, minimum: Option<usize>) -> Result<String, AllocError>
         ensures bytes { IfOk result (λ s. string_bytes s ≡ decimal_text self.now minimum) }
         ensures text { IfOk result (λ s. IsText self.now minimum (string_bytes s)) }
         ensures reads_back { IfOk result (λ s. Reads (string_bytes s) self.now (text_places (unsigned_abs self.now % 10 ^ 18) minimum)) }
         ensures only { IfOk result (λ s. (other : List ℕ) → IsText self.now minimum other → other ≡ string_bytes s) }
     {
-        let fraction = self.fraction();
-        let mut text = Backward::new();
-        text.put_point(fraction, text_places(fraction, minimum));
-        text.put_whole(self.whole());
-        text.put_sign(self.is_negative());
-        text.to_string(alloc)
+        let written = self.text(minimum);
+        String::from_str(alloc, written.as_str())
     }
 }

@@ -1,11 +1,12 @@
 //! What resolving a pattern asks of a bundle.
 
-ghost use Rattle.std.specs.Prelude.{◌≡◌, IfOk, IsOk, IsTrue, Bool};
+ghost use Rattle.std.specs.Prelude.{◌≡◌, IfOk, IsOk, IsTrue, Bool, string_bytes};
+ghost use Rattle.std.specs.Option.{option_map};
 ghost use Rattle.std.specs.declared.alloc.Global.{Global as Heap};
 ghost use Rattle.std.specs.Cow.{cow_str_bytes};
 ghost use Rattle.fluent_tree.specs.Tree.{Text};
 ghost use Rattle.fluent_intl.specs.Number.{number_of};
-ghost use Rattle.fluent_meaning.specs.Bundle.{Bundle, shown};
+ghost use Rattle.fluent_meaning.specs.Bundle.{Bundle};
 ghost use Rattle.fluent_meaning.specs.Number.{category_word};
 ghost use Rattle.fluent_meaning.specs.Value.{category_of};
 ghost use Rattle.fluent_values.specs.View.{value_view};
@@ -48,13 +49,14 @@ pub trait Context<C: FluentType> {
         ensures text { IfOk result (λ changed. cow_str_bytes changed ≡ (meant self.now).transform text.now) }
         ensures succeeds { IsTrue (is_plain self.now) → IsOk result };
 
-    /// What a value is shown as: the formatter's answer, where there is one, else its own text.
+    /// The formatter's answer for a value: what it is shown as in place of its own text, if it says so.
     ///
     /// # Errors
     ///
     /// Memory was refused.
-    fn show<'t>(&self, value: &'t FluentValue<'_, C>) -> Result<CowStr<'t>, AllocError>
-        ensures { IfOk result (λ text. cow_str_bytes text ≡ shown (meant self.now) (value_view C.content value.now)) };
+    fn formatted(&self, value: &FluentValue<'_, C>) -> Result<Option<String>, AllocError>
+        ensures answer { IfOk result (λ text. option_map string_bytes text ≡ (meant self.now).formatter (value_view C.content value.now)) }
+        ensures custom { (meant self.now).custom ≡ record { text = C.shown; same = C.alike } };
 
     /// The word of the plural category that a number has.
     fn category_word(&self, number: &FluentNumber) -> &'static str

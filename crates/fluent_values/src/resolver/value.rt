@@ -1,9 +1,9 @@
 //! How values are shown, and which they match.
 
-ghost use Rattle.std.specs.Prelude.{◌≡◌, IfOk};
+ghost use Rattle.std.specs.Prelude.{◌≡◌, IfOk, string_bytes};
 ghost use Rattle.std.specs.Cow.{cow_str_bytes};
 ghost use Rattle.fluent_meaning.specs.Bundle.{shown};
-ghost use Rattle.fluent_meaning.specs.Value.{matches};
+ghost use Rattle.fluent_meaning.specs.Value.{matches, value_text};
 ghost use Rattle.fluent_values.specs.View.{value_view};
 ghost use Rattle.fluent_values.specs.Written.{sink, writer, without_error, Took};
 
@@ -12,7 +12,7 @@ use super::output::{Halt, Output, put_text, with_error};
 use super::scope::Scope;
 use crate::types::{FluentType, FluentValue};
 use fluent_text::{Counting, WriteFault};
-use std::alloc::AllocError;
+use std::alloc::{AllocError, Global};
 use std::borrow::CowStr;
 use std::io::Write;
 
@@ -24,8 +24,41 @@ pub fn put_value<W: Write, C: FluentType, B: Context<C>>(
 ) -> Result<(), Halt>
     ensures { Took result (shown (B.meant bundle.now) (value_view C.content value.now)) (sink W.contents out.old) (sink W.contents out.new) }
 {
-    let text = bundle.show(value)?;
-    put_text(out, &text)
+    match bundle.formatted(value)? {
+        Some(text) => put_text(out, text.as_str()),
+        None => put_own(bundle.allocator(), out, value),
+    }
+}
+
+/// Writes a value's own text; a number's takes no memory.
+fn put_own<W: Write, C: FluentType>(
+    alloc: Global,
+    out: &mut Output<W>,
+    value: &FluentValue<'_, C>,
+) -> Result<(), Halt>
+    ensures { Took result (value_text (record { text = C.shown; same = C.alike }) (value_view C.content value.now)) (sink W.contents out.old) (sink W.contents out.new) }
+{
+    match value {
+        FluentValue::String(text) => put_text(out, text.as_str()),
+        FluentValue::Number(number) => put_text(out, number.text().as_str()),
+        FluentValue::Custom(custom) => put_text(out, custom.as_string(alloc)?.as_str()),
+        FluentValue::None | FluentValue::Error => Ok(()),
+    }
+}
+
+/// A value's own text.
+fn own_text<C: FluentType>(
+    alloc: Global,
+    value: &FluentValue<'_, C>,
+) -> Result<String, AllocError>
+    ensures { IfOk result (λ text. string_bytes text ≡ value_text (record { text = C.shown; same = C.alike }) (value_view C.content value.now)) }
+{
+    match value {
+        FluentValue::String(text) => String::from_str(alloc, text.as_str()),
+        FluentValue::Number(number) => String::from_str(alloc, number.text().as_str()),
+        FluentValue::Custom(custom) => custom.as_string(alloc),
+        FluentValue::None | FluentValue::Error => Ok(String::new(alloc)),
+    }
 }
 
 impl<'v, C: FluentType> FluentValue<'v, C> {
@@ -84,8 +117,11 @@ impl<'v, C: FluentType> FluentValue<'v, C> {
     ) -> Result<CowStr<'v>, AllocError>
         ensures { IfOk result (λ text. cow_str_bytes text ≡ shown (B.meant scope.now.bundle.now) (value_view C.content self.now)) }
     {
-        let text = scope.bundle.show(self)?;
-        Ok(CowStr::Owned(text.into_owned(scope.bundle.allocator())?))
+        let text = match scope.bundle.formatted(self)? {
+            Some(text) => text,
+            None => own_text(scope.bundle.allocator(), self)?,
+        };
+        Ok(CowStr::Owned(text))
     }
 
     /// The same, of a value that is not wanted any more.

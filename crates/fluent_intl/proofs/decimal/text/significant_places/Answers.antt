@@ -1,4 +1,5 @@
-use Rattle.std.proofs.Common.{◌%◌, arith, rules, sym, ap, ◌∙◌}
+use Rattle.std.proofs.Common.{refl, ◌%◌, arith, rules, sym, ap, ◌∙◌}
+use Rattle.fluent_intl.specs.Decimal.{significant_places}
 use Rattle.fluent_intl.proofs.DecimalPlaces.{one_place_fewer, significant_is}
 use Rattle.fluent_intl.proofs.decimal.text.significant_places.Goals as goal
 
@@ -16,3 +17,7 @@ pub returns-after-loop-places-clause-value : goal.returns-after-loop-places-clau
 returns-after-loop-places-clause-value c =
     let i = c.loop-places.invariant in
     sym (significant_is c.args.fraction c.loop-places.places i.0 i.2 (λ some _. omega (arith, some, c.loop-places-test.false)))
+
+pub returns-then-fraction-eq0-clause-value : goal.returns-then-fraction-eq0-clause-value
+unfolding significant_places
+returns-then-fraction-eq0-clause-value c = rw c.if-fraction-eq0.true refl

@@ -2,7 +2,7 @@ use Rattle.std.proofs.Common.{◌≡◌, ◌+◌, ◌/◌, ◌%◌, ◌∷◌, �
 use Rattle.std.specs.Fmt.{decimal}
 use Rattle.std.proofs.lemmas.Fmt.{decimal_nonempty}
 use Rattle.fluent_intl.proofs.DecimalWhole.{decimal_step_onto, length-decimal_step, decimal_digit_onto}
-use Rattle.fluent_intl.proofs.decimal.backward.Backward.put_whole.Goals as goal
+use Rattle.fluent_intl.proofs.decimal.backward.DecimalText.put_whole.Goals as goal
 
 pub put-requires-clause-room : goal.put-requires-clause-room
 put-requires-clause-room c = omega (arith, c.loop-rest.invariant.1, decimal_nonempty c.loop-rest.rest (search rules))

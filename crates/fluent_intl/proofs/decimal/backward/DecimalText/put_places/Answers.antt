@@ -2,7 +2,7 @@ use Rattle.std.proofs.Common.{◌-◌, ◌++◌, arith, rules, sym, ap, ◌∙�
 use Rattle.std.specs.List.{range_with_len}
 use Rattle.fluent_intl.specs.Decimal.{place_digit}
 use Rattle.fluent_intl.proofs.DecimalPlaces.{ten_power_pos, last_place_onto, quotient_before}
-use Rattle.fluent_intl.proofs.decimal.backward.Backward.put_places.Goals as goal
+use Rattle.fluent_intl.proofs.decimal.backward.DecimalText.put_places.Goals as goal
 
 pub nonzero_div-rest : goal.nonzero_div-rest
 nonzero_div-rest c = search (rules, ten_power_pos)

@@ -1,6 +1,6 @@
 use Rattle.std.proofs.Common.{◌≡◌, ◌+◌, ◌≤◌, ◌++◌, length}
 use Rattle.std.specs.Fmt.{decimal}
-use Rattle.fluent_intl.proofs.decimal.backward.Backward.put_whole.Given as goal
+use Rattle.fluent_intl.proofs.decimal.backward.DecimalText.put_whole.Given as goal
 
 abbrev pub invariant-loop-rest : goal.invariant-loop-rest
 invariant-loop-rest l = (decimal l.rest ++ l.self ≡ decimal l.fn.whole ++ l.fn.self) × (length (decimal l.rest) + length l.self ≤ 40)

@@ -1,6 +1,6 @@
 use Rattle.std.proofs.Common.{arith, ap, length}
 use Rattle.fluent_intl.proofs.DecimalLength.{length-places}
-use Rattle.fluent_intl.proofs.decimal.backward.Backward.put_point.Goals as goal
+use Rattle.fluent_intl.proofs.decimal.backward.DecimalText.put_point.Goals as goal
 
 pub put-requires-clause-room : goal.put-requires-clause-room
 put-requires-clause-room c =

@@ -1,7 +1,7 @@
 use Rattle.std.proofs.Common.{◌≡◌, ◌+◌, ◌-◌, ◌/◌, ◌^◌, ◌≤◌, ◌++◌, length, map}
 use Rattle.std.specs.List.{range_with_len}
 use Rattle.fluent_intl.specs.Decimal.{place_digit}
-use Rattle.fluent_intl.proofs.decimal.backward.Backward.put_places.Given as goal
+use Rattle.fluent_intl.proofs.decimal.backward.DecimalText.put_places.Given as goal
 
 abbrev pub invariant-loop-left : goal.invariant-loop-left
 invariant-loop-left l =
