@@ -1,5 +1,6 @@
 pub mod Keyed
 pub mod Ordered
+pub mod Pairs
 pub mod Setting
 pub mod Reading
 pub mod Merging

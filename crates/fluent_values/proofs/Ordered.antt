@@ -28,7 +28,7 @@ both_of : (a b : Bool) → T a → T b → T (a && b)
 both_of true b h j = j
 both_of false b h j = absurd h
 
-less_of : (r : Ordering) → T (is_lt r) → r ≡ Less
+pub less_of : (r : Ordering) → T (is_lt r) → r ≡ Less
 less_of Less h = refl
 less_of Equal h = absurd h
 less_of Greater h = absurd h

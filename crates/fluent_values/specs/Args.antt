@@ -1,6 +1,8 @@
 -- Arguments one after another.
 use Rattle.std.specs.Prelude.{map}
 use Rattle.std.specs.Cow.{cow_str_bytes}
+use Rattle.std.specs.Slice.Iter.{iter_rest}
+use Rattle.std.specs.Vec.Iter.{into_iter_items}
 use Rattle.std.specs.declared.borrow.CowStr.{CowStr}
 use Rattle.std.proofs.Common.{Global}
 use Rattle.fluent_tree.specs.Tree.{Text}
@@ -17,7 +19,7 @@ pair_view content p = (cow_str_bytes p.0, value_view content p.1)
 
 -- what an iterator has left to give
 abbrev pub shown_left : {C : Type 0} → (C → Text) → ArgsIter C → Map (Value Text)
-shown_left content s = map (pair_view content) s.inner
+shown_left content s = map (pair_view content) (iter_rest s.inner)
 
 abbrev pub given_left : {C : Type 0} → (C → Text) → ArgsIntoIter C → Map (Value Text)
-given_left content s = map (pair_view content) s.inner
+given_left content s = map (pair_view content) (into_iter_items s.inner)

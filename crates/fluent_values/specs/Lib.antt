@@ -1,5 +1,7 @@
 pub mod View
 pub mod Args
+pub mod Names
+pub mod Gathered
 pub mod Given
 pub mod Merging
 pub mod Ended

@@ -39,7 +39,7 @@ by_name es = entries (from_entries {R = slice_cmp nat_cmp} es)
 
 -- what each name means
 abbrev pub named : {C : Type 0} → (C → Text) → FluentArgs C → Map (Value Text)
-named content a = by_name (map (λ e. (cow_str_bytes e.0, value_view content e.1)) a.entries.entries)
+named content a = map (λ e. (cow_str_bytes e.0, value_view content e.1)) a.pairs.items
 
 abbrev pub kind_view : EntryKind → Kind
 kind_view kinds.Message = message_kind

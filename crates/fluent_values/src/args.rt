@@ -1,30 +1,37 @@
 //! The arguments of a formatting call.
-ghost use Rattle.std.specs.Prelude.{◌≡◌, [], None, List, map, IfOk, IsOk, OnOk, OnErr};
-ghost use Rattle.std.specs.Option.{option_map};
-ghost use Rattle.std.specs.Cow.{cow_str_bytes};
-ghost use Rattle.std.specs.Iterator.{IsFinite, Drains};
-ghost use Rattle.fluent_meaning.specs.Arguments as fin;
-ghost use Rattle.fluent_values.specs.View.{value_view, named};
-ghost use Rattle.fluent_values.specs.Args.{pair_view, shown_left};
+ghost use Rattle.fluent_values.specs.Names.{NamesRise};
 
 use crate::types::{FluentType, FluentValue};
 use std::alloc::{AllocError, Global};
 use std::borrow::CowStr;
-use std::collections::{BTreeMap, btree_map};
+use std::{slice, vec};
 
 /// The values of variables: a map from name to value.
+///
+/// The pairs stand in the order of the names' bytes. Most calls have a few, which are found in one block of memory
+/// faster than in a tree.
 #[derive(Drop)]
 pub struct FluentArgs<'a, C> {
-    entries: BTreeMap<CowStr<'a>, FluentValue<'a, C>>,
+    pairs: Vec<(CowStr<'a>, FluentValue<'a, C>)>,
+    ghost ordered: { NamesRise pairs.items },
 }
 
 impl<'a, C: FluentType> FluentArgs<'a, C> {
+    ghost use Rattle.std.specs.Prelude.{◌≡◌, [], None, List, map, IfOk, IsOk, OnOk, OnErr};
+    ghost use Rattle.std.specs.Option.{option_map};
+    ghost use Rattle.std.specs.Cow.{cow_str_bytes};
+    ghost use Rattle.std.specs.Iterator.{IsFinite, Drains};
+    ghost use Rattle.fluent_meaning.specs.Arguments as fin;
+    ghost use Rattle.fluent_values.specs.View.{value_view, named};
+    ghost use Rattle.fluent_values.specs.Args.{pair_view, shown_left};
+    ghost use Rattle.fluent_values.specs.Names.{IsPlaceOf};
+
     /// Makes a map with no names in it. It keeps the allocator and takes no memory yet.
     pub fn new(alloc: Global) -> FluentArgs<'a, C>
         ensures { named C.content result ≡ [] }
     {
         FluentArgs {
-            entries: BTreeMap::new(alloc),
+            pairs: Vec::new(alloc),
         }
     }
 
@@ -64,7 +71,10 @@ impl<'a, C: FluentType> FluentArgs<'a, C> {
     pub fn get(&self, name: &str) -> Option<&FluentValue<'a, C>>
         ensures { option_map (λ v. value_view C.content v.now) result ≡ fin.get name.now (named C.content self.now) }
     {
-        self.entries.get(name)
+        match self.place_of(name) {
+            Ok(at) => Some(&self.pairs[at].1),
+            Err(_) => None,
+        }
     }
 
     /// Gives the name the value, in place of one that it had.
@@ -78,8 +88,24 @@ impl<'a, C: FluentType> FluentArgs<'a, C> {
         ensures err { OnErr result (named C.content self.new ≡ named C.content self.old) }
         ensures new_name { OnErr result (fin.get (cow_str_bytes name.entry) (named C.content self.old) ≡ None) }
     {
-        self.entries.insert(name, value)?;
-        Ok(())
+        match self.place_of(name.as_str()) {
+            Ok(at) => {
+                self.pairs[at] = (name, value);
+                Ok(())
+            }
+            Err(at) => {
+                self.pairs.insert(at, (name, value))?;
+                Ok(())
+            }
+        }
+    }
+
+    /// Where a name stands, or else where it belongs.
+    fn place_of(&self, name: &str) -> Result<usize, usize>
+        ensures { IsPlaceOf name.now self.now.pairs.items result }
+    {
+        self.pairs
+            .binary_search_by(|pair| pair.0.as_str().cmp(name))
     }
 
     /// The names with their values, each name once, in the order of their bytes. Takes no memory.
@@ -87,7 +113,7 @@ impl<'a, C: FluentType> FluentArgs<'a, C> {
         ensures { shown_left C.content result ≡ named C.content self.now }
     {
         ArgsIter {
-            inner: self.entries.iter(),
+            inner: self.pairs.iter(),
         }
     }
 }
@@ -95,7 +121,7 @@ impl<'a, C: FluentType> FluentArgs<'a, C> {
 /// The names of arguments with their values, lent in the order of the names' bytes.
 #[derive(Drop)]
 pub struct ArgsIter<'x, 'a, C> {
-    inner: btree_map::Iter<'x, CowStr<'a>, FluentValue<'a, C>>,
+    inner: slice::Iter<'x, (CowStr<'a>, FluentValue<'a, C>)>,
 }
 
 impl<'x, 'a, C: FluentType> Iterator for ArgsIter<'x, 'a, C> {
@@ -111,7 +137,7 @@ impl<'x, 'a, C: FluentType> Iterator for ArgsIter<'x, 'a, C> {
 
     fn next(&mut self) -> Option<(&'x str, &'x FluentValue<'a, C>)> {
         match self.inner.next() {
-            Some((name, value)) => Some((name.as_str(), value)),
+            Some(pair) => Some((pair.0.as_str(), &pair.1)),
             None => None,
         }
     }
@@ -130,7 +156,7 @@ impl<'a, C: FluentType> IntoIterator for FluentArgs<'a, C> {
 
     fn into_iter(self) -> ArgsIntoIter<'a, C> {
         ArgsIntoIter {
-            inner: self.entries.into_iter(),
+            inner: self.pairs.into_iter(),
         }
     }
 }
@@ -138,7 +164,7 @@ impl<'a, C: FluentType> IntoIterator for FluentArgs<'a, C> {
 /// The names of arguments with their values, given away in the order of the names' bytes.
 #[derive(Drop)]
 pub struct ArgsIntoIter<'a, C> {
-    inner: btree_map::IntoIter<CowStr<'a>, FluentValue<'a, C>>,
+    inner: vec::IntoIter<(CowStr<'a>, FluentValue<'a, C>)>,
 }
 
 impl<'a, C: FluentType> Iterator for ArgsIntoIter<'a, C> {

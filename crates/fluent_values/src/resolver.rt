@@ -6,6 +6,7 @@ pub mod errors;
 mod expression;
 mod fallback;
 pub mod found;
+mod gathered;
 mod inline_expression;
 pub mod output;
 mod path;

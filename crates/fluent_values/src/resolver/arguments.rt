@@ -15,6 +15,7 @@ ghost use Rattle.fluent_values.specs.Written.{writer, beside};
 use super::context::Context;
 use super::environment::Environment;
 use super::found::{Place, answer_of};
+use super::gathered::Gathered;
 use super::inline_expression::{report_lost, write_inline};
 use super::output::{Halt, Output};
 use super::scope::Scope;
@@ -249,10 +250,11 @@ fn resolve_named<'p, 's, W: Write, C: FluentType, F: FluentFunction<C>, B: Conte
         (named_arguments with_work b below env path (nameds_of (map named_view arguments.now)) n))
         (writer W.contents w.old) (writer W.contents w.new) (at scope.old) (at scope.new) }
 {
-    let mut values = FluentArgs::new(scope.bundle.allocator());
+    let mut values = Gathered::new(scope.bundle.allocator(), arguments.len());
     for argument in arguments {
         let value = resolve(scope, w, &argument.value, place)?;
         values.set(CowStr::Borrowed(argument.name.name), value)?;
     }
-    Ok(values)
+    let args = values.finish(scope.bundle.allocator())?;
+    Ok(args)
 }

@@ -47,10 +47,7 @@ fn put_own<W: Write, C: FluentType>(
 }
 
 /// A value's own text.
-fn own_text<C: FluentType>(
-    alloc: Global,
-    value: &FluentValue<'_, C>,
-) -> Result<String, AllocError>
+fn own_text<C: FluentType>(alloc: Global, value: &FluentValue<'_, C>) -> Result<String, AllocError>
     ensures { IfOk result (λ text. string_bytes text ≡ value_text (record { text = C.shown; same = C.alike }) (value_view C.content value.now)) }
 {
     match value {

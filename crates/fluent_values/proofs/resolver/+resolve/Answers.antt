@@ -893,7 +893,7 @@ arguments::resolve_named-loop-argument-preserved g t c =
     let here = gathers_as (labelling_next a _ rest x b.budget next) before.gathers in
     let v = value_view g.C.FluentType.content c.in_ok-value.value in
     let one = gathers_one (labelled k) (λ n. walked a (label_walk rest) n) c.in_ok-value.was c.resolve.ensures.got here in
-    record { done = before.done ++ labelled k v ∷ []; is = c.in_ok-set.ensures.ok ∙ ap (set k v) before.is ∙ sym (set_all_next before.done k v []); gathers = one; rests = rests_on before.rests (rests_ok c.in_ok-value.was c.resolve.ensures.rests) }
+    record { done = before.done ++ labelled k v ∷ []; is = c.in_ok-set.ensures ∙ ap (set k v) before.is ∙ sym (set_all_next before.done k v []); gathers = one; rests = rests_on before.rests (rests_ok c.in_ok-value.was c.resolve.ensures.rests) }
 
 pub arguments::resolve_named-returns-in_err-value : goal.arguments::resolve_named-returns-in_err-value
 arguments::resolve_named-returns-in_err-value g t c =
@@ -920,13 +920,20 @@ arguments::resolve_named-returns-in_err-set g t c =
     let one = gathers_one (labelled k) (λ n. walked a (label_walk rest) n) c.in_ok-value.was c.resolve.ensures.got here in
     record { got = gathers_stops {e = fault.Memory} (label_walk c.args.arguments.now) (λ m. set_all m []) (search rules) refl one; rests = rests_on (rests_on before.rests (rests_ok {T = Unit {0}} {x = tt} c.in_ok-value.was c.resolve.ensures.rests)) (rests_memory _ (search rules)) }
 
+pub arguments::resolve_named-returns-in_err-args : goal.arguments::resolve_named-returns-in_err-args
+arguments::resolve_named-returns-in_err-args g t c =
+    let a = status g.B.Context.meant g.B.Context.is_plain g.F.FluentFunction.answer g.C.FluentType.content c.args.scope.now in
+    let b = status g.B.Context.meant g.B.Context.is_plain g.F.FluentFunction.answer g.C.FluentType.content c.loop-argument.scope in
+    let before = c.loop-argument.invariant in
+    record { got = gathers_stops {e = fault.Memory} (label_walk c.args.arguments.now) (λ m. set_all m []) (search rules) refl before.gathers; rests = rests_on before.rests (rests_memory _ (search rules)) }
+
 pub arguments::resolve_named-returns : goal.arguments::resolve_named-returns
 arguments::resolve_named-returns g t c =
     let a = status g.B.Context.meant g.B.Context.is_plain g.F.FluentFunction.answer g.C.FluentType.content c.args.scope.now in
     let b = status g.B.Context.meant g.B.Context.is_plain g.F.FluentFunction.answer g.C.FluentType.content c.loop-argument.scope in
     let before = c.loop-argument.invariant in
     let none = none_left c.args.arguments.now c.loop-argument.argument-index c.loop-argument-test.false in
-    record { got = gathers_all (label_walk c.args.arguments.now) (λ m. set_all m []) c.loop-argument.values before.is refl (gathers_as (labelling_end a _ b.budget none) before.gathers); rests = rests_ok {v = tt} refl before.rests }
+    record { got = gathers_all (label_walk c.args.arguments.now) (λ m. set_all m []) c.in_ok-args.args (c.in_ok-args.ensures ∙ before.is) refl (gathers_as (labelling_end a _ b.budget none) before.gathers); rests = rests_ok {v = tt} refl before.rests }
 
 pub arguments::resolve_positional-offset_bounds-arguments-argument-index : goal.arguments::resolve_positional-offset_bounds-arguments-argument-index
 arguments::resolve_positional-offset_bounds-arguments-argument-index g t c = search rules

@@ -9,7 +9,8 @@ use Rattle.fluent_meaning.specs.Walk.{has_one}
 use Rattle.fluent_values.specs.Along.{Along, from_here, walked, Rests}
 use Rattle.fluent_values.specs.Sizes.{bound, size, expression_size, variants_size, inline_size, inlines_size, nameds_size, call_size, arguments_size}
 use Rattle.fluent_values.specs.Status.{status}
-use Rattle.fluent_values.specs.View.{value_view, named}
+use Rattle.fluent_values.specs.View.{value_view}
+use Rattle.fluent_values.specs.Gathered.{gathered}
 use Rattle.fluent_values.specs.Written.{sink, writer}
 use Rattle.fluent_values.proofs.Measures.{weight}
 use Rattle.fluent_values.proofs.Steps.{elementing, giving, place_walk, label_walk}
@@ -124,7 +125,7 @@ invariant-arguments::resolve_named-loop-argument g l =
     let b = status g.B.Context.meant g.B.Context.is_plain g.F.FluentFunction.answer g.C.FluentType.content l.scope in
     record {
       done : List (Text × Value Text);
-      is : named g.C.FluentType.content l.values ≡ set_all done [];
+      is : gathered g.C.FluentType.content l.values ≡ set_all done [];
       gathers : Gathers (from_here a (label_walk l.arguments)) (walked a (label_walk (drop l.argument-index l.arguments)) b.budget) done a b;
       rests : Rests {T = Unit {0}} (Ok tt) (writer g.W.Write.contents l.initial.w) (writer g.W.Write.contents l.w);
     }

@@ -1,13 +1,16 @@
-use Rattle.std.proofs.Common.{sym, ◌∙◌, ap}
-use Rattle.std.specs.Option.{option_map}
+use Rattle.std.proofs.Common.{sym, ap, ◌∙◌, Some}
 use Rattle.std.specs.Cow.{cow_str_bytes}
-use Rattle.std.specs.FinMap.{get-entries}
 use Rattle.fluent_values.specs.View.{value_view}
-use Rattle.fluent_values.proofs.Keyed.{copied_meaning, get_both}
+use Rattle.fluent_values.proofs.Pairs.{find_there, find_in_gap, rise_seen}
 use Rattle.fluent_values.proofs.args.FluentArgs.get.Goals as goal
 
-pub returns : goal.returns
-returns g c =
+pub returns-in-Ok : goal.returns-in-Ok
+returns-in-Ok g c =
     let of = value_view g.C.FluentType.content in
-    copied_meaning of _ ∙ ap (option_map of) c.get.ensures.value
-    ∙ sym (get_both cow_str_bytes of c.args.self.now.entries.entries c.args.name.now) ∙ get-entries _ _
+    let pairs = c.args.self.now.pairs.items in
+    let up = rise_seen of pairs c.args.self.now.ordered in
+    ap (λ p. Some (of p.1)) c.index.ensures
+    ∙ sym (find_there cow_str_bytes of pairs c.in-Ok.at c.args.name.now c.index.result.now up c.in-Ok.ensures.0 c.in-Ok.ensures.1)
+
+pub returns-in-Err : goal.returns-in-Err
+returns-in-Err g c = sym (find_in_gap cow_str_bytes (value_view g.C.FluentType.content) c.args.self.now.pairs.items c.in-Err.field-0 c.args.name.now c.in-Err.ensures.1 c.in-Err.ensures.2)

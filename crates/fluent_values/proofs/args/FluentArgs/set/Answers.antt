@@ -1,24 +1,39 @@
-use Rattle.std.proofs.Common.{◌≡◌, None, refl, sym, ◌∙◌, ap, rules}
-use Rattle.std.specs.Option.{option_map}
+use Rattle.std.proofs.Common.{◌≡◌, ◌∙◌, None, Ok, Err, ap, subst, rules}
 use Rattle.std.specs.Cow.{cow_str_bytes}
-use Rattle.std.specs.Cmp.Lexicographic.{nat_list_cmp_total}
-use Rattle.std.specs.FinMap.{entries, entries-insert, get-entries}
-use Rattle.std.specs.declared.borrow.CowStr.TheVariants as text
 use Rattle.fluent_meaning.specs.Arguments as fin
+use Rattle.fluent_values.specs.Names.{IsPlaceOf}
 use Rattle.fluent_values.specs.View.{value_view, named}
-use Rattle.fluent_values.proofs.Keyed.{insert_both, get_both}
+use Rattle.fluent_values.proofs.Keyed.{both}
+use Rattle.fluent_values.proofs.Pairs.{put_there, put_in_gap, rise_there, rise_after, find_in_gap, rise_seen}
 use Rattle.fluent_values.proofs.args.FluentArgs.set.Goals as goal
 
-pub returns-clause-ok : goal.returns-clause-ok
-returns-clause-ok g c =
-    ap entries (
-    insert_both cow_str_bytes (value_view g.C.FluentType.content) c.args.self.now.entries.entries c.insert.new.self.entries c.args.name c.args.value
-    (λ bs. text.Borrowed (record { ref_ptr = (0, 0); now = bs })) (λ bs. refl) c.in_ok-insert.ensures.updates.0
-    ) ∙ entries-insert nat_list_cmp_total _ _ _
+pub invariant_of-self : goal.invariant_of-self
+invariant_of-self g c =
+    let at = subst (λ t. IsPlaceOf t c.args.self.now.pairs.items (Ok c.in-Ok.at)) c.as_str.ensures.value c.in-Ok.ensures in
+    record { ordered = rise_there c.args.self.now.pairs.items c.in-Ok.at c.args.name c.args.value c.args.self.now.ordered at.0 at.1 }
 
-pub returns-in_err-insert-clause-new_name : goal.returns-in_err-insert-clause-new_name
-returns-in_err-insert-clause-new_name g c =
-    let of = value_view g.C.FluentType.content in
+pub invariant_of-self-in-Err : goal.invariant_of-self-in-Err
+invariant_of-self-in-Err g c =
+    let at = subst (λ t. IsPlaceOf t c.args.self.now.pairs.items (Err c.in-Err.at)) c.as_str.ensures.value c.in-Err.ensures in
+    record { ordered = rise_after c.insert.result c.args.self.now.pairs.items c.insert.new.self.items c.in-Err.at c.args.name c.args.value c.args.self.now.ordered at c.insert.ensures.items }
+
+pub returns-in_err-insert-in-Err-clause-new_name : goal.returns-in_err-insert-in-Err-clause-new_name
+returns-in_err-insert-in-Err-clause-new_name g c =
+    let at = subst (λ t. IsPlaceOf t c.args.self.now.pairs.items (Err c.in-Err.at)) c.as_str.ensures.value c.in-Err.ensures in
     let absent : fin.get (cow_str_bytes c.args.name) (named g.C.FluentType.content c.args.self.now) ≡ None =
-    sym (get-entries _ _) ∙ get_both cow_str_bytes of c.args.self.now.entries.entries (cow_str_bytes c.args.name) ∙ ap (option_map of) c.in_err-insert.ensures.absent in
+    find_in_gap cow_str_bytes (value_view g.C.FluentType.content) c.args.self.now.pairs.items c.in-Err.at (cow_str_bytes c.args.name) at.1 at.2 in
     search (rules, absent)
+
+pub returns-in-Ok-clause-ok : goal.returns-in-Ok-clause-ok
+returns-in-Ok-clause-ok g c =
+    let at = subst (λ t. IsPlaceOf t c.args.self.now.pairs.items (Ok c.in-Ok.at)) c.as_str.ensures.value c.in-Ok.ensures in
+    let of = value_view g.C.FluentType.content in
+    let up = rise_seen of c.args.self.now.pairs.items c.args.self.now.ordered in
+    put_there cow_str_bytes of c.args.self.now.pairs.items c.in-Ok.at c.args.name c.args.value up at.0 at.1
+
+pub returns-in_ok-insert-in-Err-clause-ok : goal.returns-in_ok-insert-in-Err-clause-ok
+returns-in_ok-insert-in-Err-clause-ok g c =
+    let at = subst (λ t. IsPlaceOf t c.args.self.now.pairs.items (Err c.in-Err.at)) c.as_str.ensures.value c.in-Err.ensures in
+    let of = value_view g.C.FluentType.content in
+    ap (both cow_str_bytes of) c.in_ok-insert-in-Err.ensures.items
+    ∙ put_in_gap cow_str_bytes of c.args.self.now.pairs.items c.in-Err.at c.args.name c.args.value at.0 at.1 at.2

@@ -1,12 +1,12 @@
 use Rattle.std.proofs.Common.{◌∙◌, ap}
-use Rattle.std.specs.FinMap.{entries_sorted}
-use Rattle.fluent_values.specs.View.{named}
+use Rattle.fluent_values.specs.View.{value_view, named}
 use Rattle.fluent_values.specs.Merging.{with_kinds, with_digits}
 use Rattle.fluent_values.proofs.Merging.{merged_by_names}
+use Rattle.fluent_values.proofs.Pairs.{rise_seen}
 use Rattle.fluent_values.proofs.types.merge.FluentNumberOptionsMergeArgs.merge.Goals as goal
 
 pub returns-clause-ok : goal.returns-clause-ok
 returns-clause-ok g c =
     let m = named g.C.FluentType.content c.args.args.now in
     c.merge_digits.ensures ∙ ap (with_digits m) (c.merge_kinds.ensures ∙ ap (with_kinds m) c.in_ok-merge_currency.ensures.ok)
-    ∙ merged_by_names m _ (entries_sorted _)
+    ∙ merged_by_names m _ (rise_seen (value_view g.C.FluentType.content) c.args.args.now.pairs.items c.args.args.now.ordered)
