@@ -13,7 +13,7 @@ use Rattle.fluent_meaning.specs.Value.{Value}
 use Rattle.fluent_meaning.specs.Arguments.{Map}
 use Rattle.fluent_meaning.specs.Bundle.{Bundle}
 use Rattle.fluent_meaning.specs.Meaning.{Ran, left}
-use Rattle.fluent_meaning.specs.Walk.{Environment, application, whole}
+use Rattle.fluent_meaning.specs.Walk.{application, whole}
 use Rattle.fluent_meaning.specs.Work.{with_work, work}
 use Rattle.fluent_meaning.specs.Laws.{CallsByThemselves}
 use Rattle.fluent_meaning.specs.Result.{written_pattern, substituted_pattern}

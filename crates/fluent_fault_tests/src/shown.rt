@@ -27,7 +27,7 @@ enum Shown {
     AsString,
     IntoString,
     PutValue,
-    Show,
+    Formatted,
     Change,
     PutText,
     PutTexts,
@@ -145,9 +145,12 @@ fn unescaped(alloc: Global) -> Result<bool, AllocError> {
     Ok(is_whole && is_text(w.into_inner().as_slice(), "xA"))
 }
 
-fn shows(bundle: &Bundle<'_, '_>) -> Result<bool, AllocError> {
+fn formats_a_value(bundle: &Bundle<'_, '_>) -> Result<bool, AllocError> {
     let value = value();
-    Ok(bundle.show(&value)?.as_str() == "number")
+    match bundle.formatted(&value)? {
+        Some(text) => Ok(text.as_str() == "number"),
+        None => Ok(false),
+    }
 }
 
 fn changes(bundle: &Bundle<'_, '_>) -> Result<bool, AllocError> {
@@ -161,7 +164,7 @@ fn is_asked(alloc: Global, bundle: &Bundle<'_, '_>, shown: Shown) -> Result<bool
         Shown::AsString => as_string(bundle),
         Shown::IntoString => into_string(bundle),
         Shown::PutValue => value_fills(alloc, bundle),
-        Shown::Show => shows(bundle),
+        Shown::Formatted => formats_a_value(bundle),
         _ => changes(bundle),
     }
 }
@@ -186,7 +189,7 @@ const ALL: &[Shown] = &[
     Shown::AsString,
     Shown::IntoString,
     Shown::PutValue,
-    Shown::Show,
+    Shown::Formatted,
     Shown::Change,
     Shown::PutText,
     Shown::PutTexts,

@@ -1,4 +1,4 @@
-use Rattle.std.proofs.Common.{rules, sym, ap, subst, ◌∙◌, [], ◌∷◌, ◌++◌, append_assoc, ◌≡◌, true, false}
+use Rattle.std.proofs.Common.{rules, sym, ap, ◌∙◌, [], ◌∷◌, ◌++◌, append_assoc, ◌≡◌, true, false}
 use Rattle.std.proofs.lemmas.Iterator.Adapters.{YieldsList-from_vec}
 use Rattle.std.proofs.lemmas.Iterator.Consumers.{YieldsList-end}
 use Rattle.fluent_bundle.specs.Calls.{asked, TakesNoMemory}
