@@ -86,7 +86,8 @@ impl<
             let args = arguments_view C.content args.entry in
             KeepsLimit (of self.now) args (pattern_view pattern.now) }
         ensures fault { Faulted w.old.failed w.old.empty w.new.failed w.new.empty result }
-        ensures memory { IsText (pattern_view pattern.now) → self.now.transform ≡ None → result ≢ Err WriteFault.Memory }
+        ensures memory { IsText (pattern_view pattern.now) → self.now.transform ≡ None →
+            result ≢ Err WriteFault.Memory }
     {
         laws::limits_are_kept();
         let mut unused = String::new(self.alloc);
@@ -128,7 +129,8 @@ impl<
         ensures limit { let of = ⟦<Self as Context<C>>⟧.meant in
             let args = arguments_view C.content args.entry in
             KeepsLimit (of self.now) args (pattern_view pattern.now) }
-        ensures lent { is_some (sole_text (pattern_view pattern.now)) ≡ true → self.now.transform ≡ None → self.now.formatter ≡ None → IsOk result }
+        ensures lent { is_some (sole_text (pattern_view pattern.now)) ≡ true →
+            self.now.transform ≡ None → self.now.formatter ≡ None → IsOk result }
     {
         laws::limits_are_kept();
         if let Some(text) = self.sole_text(pattern) {
@@ -143,7 +145,9 @@ impl<
 
     /// The text of a pattern that is one text, where no transform and no formatter is set.
     fn sole_text<'p>(&self, pattern: &Pattern<'p>) -> Option<&'p str>
-        ensures { option_map (λ t. t.now) result ≡ (if not (is_some self.now.transform) && not (is_some self.now.formatter) then sole_text (pattern_view pattern.now) else None) }
+        ensures { option_map (λ t. t.now) result ≡ (if not (is_some self.now.transform)
+            && not (is_some self.now.formatter) then sole_text (pattern_view pattern.now)
+            else None) }
     {
         if self.transform.is_none() && self.formatter.is_none() {
             only_text(pattern)
@@ -154,7 +158,8 @@ impl<
 
     /// Whether the text of a pattern is its own: it holds nothing else, and no transform is set.
     fn writes_texts_alone(&self, pattern: &Pattern<'_>) -> bool
-        ensures { result ≡ (not (is_some self.now.transform) && is_text (pattern_view pattern.now)) }
+        ensures { result ≡ (not (is_some self.now.transform)
+            && is_text (pattern_view pattern.now)) }
     {
         self.transform.is_none() && is_text(pattern)
     }
@@ -162,7 +167,8 @@ impl<
     /// The formatter's answer for a whole text.
     fn formatted_text(&self, text: &str) -> Result<Option<String>, AllocError>
         ensures { let of = ⟦<Self as Context<C>>⟧.meant in
-            IfOk result (λ shown. option_map string_bytes shown ≡ (of self.now).formatter (text_value text.now)) }
+            IfOk result (λ shown. option_map string_bytes shown
+            ≡ (of self.now).formatter (text_value text.now)) }
     {
         let value = FluentValue::String(CowStr::Borrowed(text));
         formatted(self.alloc, &self.formatter, &value, &self.intls)
@@ -181,7 +187,8 @@ impl<
             Writes result (written_pattern (of self.now) args (pattern_view pattern.now))
             (sink W.contents out.old) (sink W.contents out.new)
             errors.old.items errors.new.items }
-        ensures memory { IsText (pattern_view pattern.now) → self.now.transform ≡ None → out.old.is_buffered ≡ false → result ≢ Err Halt.Memory }
+        ensures memory { IsText (pattern_view pattern.now) → self.now.transform ≡ None →
+            out.old.is_buffered ≡ false → result ≢ Err Halt.Memory }
     {
         if self.writes_texts_alone(pattern) {
             return put_texts(out, pattern);
@@ -204,10 +211,12 @@ impl<
     ) -> Result<String, AllocError>
         ensures text { let of = ⟦<Self as Context<C>>⟧.meant in
             let args = arguments_view C.content args.entry in
-            IfOk result (λ text. string_bytes text ≡ (written_pattern (of self.now) args (pattern_view pattern.now)).value) }
+            IfOk result (λ text. string_bytes text ≡ (written_pattern (of self.now) args
+            (pattern_view pattern.now)).value) }
         ensures errors { let of = ⟦<Self as Context<C>>⟧.meant in
             let args = arguments_view C.content args.entry in
-            OnOk result (AddsAll (written_pattern (of self.now) args (pattern_view pattern.now)).errors
+            OnOk result (AddsAll (written_pattern (of self.now) args
+            (pattern_view pattern.now)).errors
             errors.old.items errors.new.items) }
         ensures front { let of = ⟦<Self as Context<C>>⟧.meant in
             let args = arguments_view C.content args.entry in
@@ -234,16 +243,19 @@ impl<
         ensures text { let of = ⟦<Self as Context<C>>⟧.meant in
             let args = arguments_view C.content args.entry in
             OnOk result (string_bytes text.new
-            ≡ string_bytes text.old ++ (written_pattern (of self.now) args (pattern_view pattern.now)).value) }
+            ≡ string_bytes text.old ++ (written_pattern (of self.now) args
+            (pattern_view pattern.now)).value) }
         ensures errors { let of = ⟦<Self as Context<C>>⟧.meant in
             let args = arguments_view C.content args.entry in
-            OnOk result (AddsAll (written_pattern (of self.now) args (pattern_view pattern.now)).errors
+            OnOk result (AddsAll (written_pattern (of self.now) args
+            (pattern_view pattern.now)).errors
             errors.old.items errors.new.items) }
         ensures front { let of = ⟦<Self as Context<C>>⟧.meant in
             let args = arguments_view C.content args.entry in
             AddsFront (written_pattern (of self.now) args (pattern_view pattern.now)).errors
             errors.old.items errors.new.items }
-        ensures fault { CountsTell unused.old.failed unused.old.empty unused.new.failed unused.new.empty result }
+        ensures fault { CountsTell unused.old.failed unused.old.empty unused.new.failed
+            unused.new.empty result }
     {
         let mut out = Output {
             writer: unused,

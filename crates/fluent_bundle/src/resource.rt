@@ -64,7 +64,8 @@ impl<'s> FluentResource<'s> {
 
     /// The entry at an index, or `None` past the end. Junk counts as an entry.
     pub fn get_entry(&self, index: usize) -> Option<&ast::Entry<'s>>
-        ensures { option_map (λ e. entry_view e.now) result ≡ slice_get (entries_of self.now) index }
+        ensures { option_map (λ e. entry_view e.now) result
+            ≡ slice_get (entries_of self.now) index }
     {
         self.body.body.get(index)
     }

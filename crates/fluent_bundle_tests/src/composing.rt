@@ -27,7 +27,8 @@ fn with_formatter<
 >(alloc: Global, intls: M, formatter: G) -> FluentBundle<'r, 's, M, C, F, G, T>
     ensures { let of = meant M.category C.shown C.alike F.answer G.formatted T.changed in
         let empty = empty_bundle (M.category intls) (record { text = C.shown; same = C.alike }) in
-        of result ≡ after_all (set_formatter (Some (λ v. G.formatted formatter v intls)) ∷ []) empty }
+        of result ≡ after_all (set_formatter (Some (λ v. G.formatted formatter v intls)) ∷ [])
+        empty }
 {
     let mut bundle = FluentBundle::new(alloc, Vec::new(alloc), intls);
     bundle.set_use_isolating(true);

@@ -68,7 +68,8 @@ impl<
     /// stands for the text.
     pub fn has_attribute(&self, id: &str, name: &str) -> bool
         ensures { let of = meant M.category C.shown C.alike F.answer G.formatted T.changed in
-            result ≡ list_any (λ b. is_some (attribute_at id.now name.now (of b))) (bundles_of self.now) }
+            result ≡ list_any (λ b. is_some (attribute_at id.now name.now (of b)))
+            (bundles_of self.now) }
     {
         self.find(id, Some(name)).is_some()
     }
@@ -135,7 +136,8 @@ impl<
             let found = first_with (attribute_at id.now name.now) (map of (bundles_of self.now)) in
             AddsBeginning id.now args found errors.old.items errors.new.items }
         ensures lent { let of = meant M.category C.shown C.alike F.answer G.formatted T.changed in
-            let found = first_with (λ b. attribute_at id.now name.now (of b)) (bundles_of self.now) in
+            let found = first_with (λ b. attribute_at id.now name.now (of b))
+            (bundles_of self.now) in
             TakesNoMemory found → IsOk result }
     {
         self.format(id, Some(name), args, errors)

@@ -48,7 +48,8 @@ pub(crate) fn word_of(word: &str) -> Word
 
 /// The options, where no text was given before.
 fn once<'w>(before: Option<&'w str>, options: Options<'w>) -> Option<Options<'w>>
-    ensures { option_map options_view result ≡ once (text_view before.entry) (options_view options.entry) }
+    ensures { option_map options_view result ≡ once (text_view before.entry)
+        (options_view options.entry) }
 {
     match before {
         None => Some(options),
@@ -85,7 +86,8 @@ impl<'w> Options<'w> {
 
     /// The same with the text of an option; `None` where that had one.
     pub(crate) fn with_text(self, named: Named, text: &'w str) -> Option<Options<'w>>
-        ensures { option_map options_view result ≡ with_text named text.now (options_view self.entry) }
+        ensures { option_map options_view result ≡ with_text named text.now
+            (options_view self.entry) }
     {
         let text = Some(text);
         match named {

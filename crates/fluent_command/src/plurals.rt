@@ -53,7 +53,8 @@ pub(crate) fn read_rules(
     alloc: Global,
     options: Options<'_>,
 ) -> Result<Option<RuleTexts>, RuleFault>
-    ensures ok { IfOk result (λ read. plurals_asked (options_view options.entry) ≡ Some (read_view read)) }
+    ensures ok { IfOk result (λ read. plurals_asked (options_view options.entry)
+        ≡ Some (read_view read)) }
     ensures syntax { IfErr result (λ fault.
         fault ≢ RuleFault.Memory → plurals_asked (options_view options.entry) ≡ None) }
 {

@@ -176,10 +176,12 @@ pub fn say<E: Write>(ending: Ending<'_>, err: &mut Counting<E>) -> u8
     ensures line { result ≢ 3 → Appends (E.contents err.old.inner) (E.contents err.new.inner)
         (ending_line (ending_view ending.entry)) }
     ensures said { result ≡ 3 →
-        ((status (ending_view ending.entry) ≡ 3) × Appends (E.contents err.old.inner) (E.contents err.new.inner)
+        ((status (ending_view ending.entry) ≡ 3) × Appends (E.contents err.old.inner)
+        (E.contents err.new.inner)
         (ending_line (ending_view ending.entry)))
         ⊎ (Rose err.old.failed err.old.empty err.new.failed err.new.empty
-        × TookFront (E.contents err.old.inner) (E.contents err.new.inner) (ending_line (ending_view ending.entry))) }
+        × TookFront (E.contents err.old.inner) (E.contents err.new.inner)
+        (ending_line (ending_view ending.entry))) }
 {
     match put_ending(ending, err) {
         Ok(()) => ending.status(),

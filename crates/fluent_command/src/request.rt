@@ -78,7 +78,8 @@ impl<'w> Request<'w> {
 
     /// What the words from the id on ask for.
     fn from_id(options: Options<'w>, words: &'w [String]) -> Option<Request<'w>>
-        ensures { option_map asked_view result ≡ asked_from (options_view options.entry) (map string_bytes words.now) }
+        ensures { option_map asked_view result ≡ asked_from (options_view options.entry)
+            (map string_bytes words.now) }
     {
         let (id, arguments) = words.split_first()?;
         if is_option(id.as_str()) {

@@ -90,7 +90,8 @@ fn start<'p, 'r, 's>(
     plurals: Plurals<'p>,
     isolate: bool,
 ) -> Result<Bundle<'p, 'r, 's>, AllocError>
-    ensures { IfOk result (λ bundle. bundle_view bundle ≡ start (plurals_view plurals.entry) isolate) }
+    ensures { IfOk result (λ bundle. bundle_view bundle
+        ≡ start (plurals_view plurals.entry) isolate) }
 {
     let mut bundle = FluentBundle::new(alloc, Vec::new(alloc), plurals);
     bundle.set_use_isolating(isolate);
@@ -110,7 +111,8 @@ fn bundle_of<'p, 'r, 's>(
     errors: &mut Vec<FluentError>,
 ) -> Result<Bundle<'p, 'r, 's>, AllocError>
     ensures bundle { let entries = entries_of resource.now in
-        IfOk result (λ bundle. bundle_view bundle ≡ bundle_of (plurals_view plurals.entry) isolate entries) }
+        IfOk result (λ bundle. bundle_view bundle ≡ bundle_of
+        (plurals_view plurals.entry) isolate entries) }
     ensures errors { let entries = entries_of resource.now in
         Added result (adding_errors (plurals_view plurals.entry) isolate entries)
         errors.old.items errors.new.items }
@@ -138,10 +140,12 @@ fn write_value<'p, 'r, 's: 'r, W: Write>(
     errors: &mut Vec<FluentError>,
 ) -> Result<(), WriteFault>
     ensures text { let args = arguments_of (map name_and_value (map string_bytes words.now)) in
-        let run = run_pattern (written_pattern (bundle_view bundle.now) args (pattern_view pattern.now)) in
+        let run = run_pattern (written_pattern (bundle_view bundle.now) args
+        (pattern_view pattern.now)) in
         Took result run.output (W.contents out.old.inner) (W.contents out.new.inner) }
     ensures errors { let args = arguments_of (map name_and_value (map string_bytes words.now)) in
-        let run = run_pattern (written_pattern (bundle_view bundle.now) args (pattern_view pattern.now)) in
+        let run = run_pattern (written_pattern (bundle_view bundle.now) args
+        (pattern_view pattern.now)) in
         Added result run.errors errors.old.items errors.new.items }
     ensures fault { Faulted out.old.failed out.old.empty out.new.failed out.new.empty result }
 {
@@ -195,7 +199,8 @@ fn show_resource<'w, W: Write>(
         let run = run_entries asked (plurals_view plurals.entry) (entries_of resource.now) in
         Added result run.errors errors.old.items errors.new.items }
     ensures first { let isolate = request.entry.options.isolate in
-        AddedFirst result (adding_errors (plurals_view plurals.entry) isolate (entries_of resource.now))
+        AddedFirst result (adding_errors (plurals_view plurals.entry) isolate
+        (entries_of resource.now))
         errors.old.items errors.new.items }
     ensures ending { let asked = asked_view request.entry in
         let run = run_entries asked (plurals_view plurals.entry) (entries_of resource.now) in
@@ -215,14 +220,17 @@ fn show_alone<'w, W: Write>(
     out: &mut Counting<W>,
     errors: &mut Vec<FluentError>,
 ) -> Result<Ending<'w>, WriteFault>
-    ensures text { let run = run_alone (asked_view request.entry) (plurals_view plurals.entry) source.now in
+    ensures text { let run = run_alone (asked_view request.entry)
+        (plurals_view plurals.entry) source.now in
         Took result run.output (W.contents out.old.inner) (W.contents out.new.inner) }
-    ensures errors { let run = run_alone (asked_view request.entry) (plurals_view plurals.entry) source.now in
+    ensures errors { let run = run_alone (asked_view request.entry)
+        (plurals_view plurals.entry) source.now in
         Added result run.errors errors.old.items errors.new.items }
     ensures first { let asked = asked_view request.entry in
         AddedFirst result (errors_of_sources asked (plurals_view plurals.entry) source.now None)
         errors.old.items errors.new.items }
-    ensures ending { let run = run_alone (asked_view request.entry) (plurals_view plurals.entry) source.now in
+    ensures ending { let run = run_alone (asked_view request.entry)
+        (plurals_view plurals.entry) source.now in
         IfOk result (λ ending. ending_view ending ≡ run.ending) }
     ensures fault { Faulted out.old.failed out.old.empty out.new.failed out.new.empty result }
 {
@@ -269,17 +277,21 @@ fn show_both<'w, 'r, 's, W: Write>(
     errors: &mut Vec<FluentError>,
 ) -> Result<Ending<'w>, WriteFault>
     ensures text { let asked = asked_view request.entry in
-        let run = run_both asked (plurals_view plurals.entry) (entries_of first.now) (entries_of second.now) in
+        let run = run_both asked (plurals_view plurals.entry) (entries_of first.now)
+        (entries_of second.now) in
         Took result run.output (W.contents out.old.inner) (W.contents out.new.inner) }
     ensures errors { let asked = asked_view request.entry in
-        let run = run_both asked (plurals_view plurals.entry) (entries_of first.now) (entries_of second.now) in
+        let run = run_both asked (plurals_view plurals.entry) (entries_of first.now)
+        (entries_of second.now) in
         Added result run.errors errors.old.items errors.new.items }
     ensures first { let isolate = request.entry.options.isolate in
         let plurals = plurals_view plurals.entry in
-        AddedFirst result (both_adding_errors plurals isolate (entries_of first.now) (entries_of second.now))
+        AddedFirst result (both_adding_errors plurals isolate (entries_of first.now)
+        (entries_of second.now))
         errors.old.items errors.new.items }
     ensures ending { let asked = asked_view request.entry in
-        let run = run_both asked (plurals_view plurals.entry) (entries_of first.now) (entries_of second.now) in
+        let run = run_both asked (plurals_view plurals.entry) (entries_of first.now)
+        (entries_of second.now) in
         IfOk result (λ ending. ending_view ending ≡ run.ending) }
     ensures fault { Faulted out.old.failed out.old.empty out.new.failed out.new.empty result }
 {
@@ -307,7 +319,8 @@ fn show_fallback<'w, W: Write>(
         let run = run_fallback asked (plurals_view plurals.entry) source.now fallback.now in
         Added result run.errors errors.old.items errors.new.items }
     ensures first { let asked = asked_view request.entry in
-        AddedFirst result (errors_of_sources asked (plurals_view plurals.entry) source.now (Some fallback.now))
+        AddedFirst result (errors_of_sources asked (plurals_view plurals.entry) source.now
+        (Some fallback.now))
         errors.old.items errors.new.items }
     ensures ending { let asked = asked_view request.entry in
         let run = run_fallback asked (plurals_view plurals.entry) source.now fallback.now in
@@ -335,14 +348,17 @@ pub fn show<'w, W: Write>(
     out: &mut Counting<W>,
     errors: &mut Vec<FluentError>,
 ) -> Result<Ending<'w>, WriteFault>
-    ensures text { let run = run_source (asked_view request.entry) (plurals_view plurals.entry) source.now in
+    ensures text { let run = run_source (asked_view request.entry)
+        (plurals_view plurals.entry) source.now in
         Took result run.output (W.contents out.old.inner) (W.contents out.new.inner) }
-    ensures errors { let run = run_source (asked_view request.entry) (plurals_view plurals.entry) source.now in
+    ensures errors { let run = run_source (asked_view request.entry)
+        (plurals_view plurals.entry) source.now in
         Added result run.errors errors.old.items errors.new.items }
     ensures first { let asked = asked_view request.entry in
         AddedFirst result (source_errors asked (plurals_view plurals.entry) source.now)
         errors.old.items errors.new.items }
-    ensures ending { let run = run_source (asked_view request.entry) (plurals_view plurals.entry) source.now in
+    ensures ending { let run = run_source (asked_view request.entry)
+        (plurals_view plurals.entry) source.now in
         IfOk result (λ ending. ending_view ending ≡ run.ending) }
     ensures fault { Faulted out.old.failed out.old.empty out.new.failed out.new.empty result }
 {

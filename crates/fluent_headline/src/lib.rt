@@ -175,7 +175,8 @@ pub fn write_after<
     errors: &mut Vec<FluentError>,
 ) -> Result<(), WriteFault>
     // By substitution, where that opens no more placeables than the limit.
-    ensures within { let steps = map (step F.answer G.formatted T.changed intls) calls.entry.items in
+    ensures within { let steps = map (step F.answer G.formatted T.changed intls)
+        calls.entry.items in
         let b = bundle_after (M.category intls) (custom_by C.shown C.alike) steps in
         WritesWithin b (arguments_view C.content args.entry) (pattern_view pattern.now) result
         (W.contents w.old.inner) (W.contents w.new.inner) errors.old.items errors.new.items }
@@ -226,7 +227,8 @@ pub fn format_after<
     errors: &mut Vec<FluentError>,
 ) -> Result<CowStr<'s>, AllocError>
     // By substitution, where that opens no more placeables than the limit.
-    ensures within { let steps = map (step F.answer G.formatted T.changed intls) calls.entry.items in
+    ensures within { let steps = map (step F.answer G.formatted T.changed intls)
+        calls.entry.items in
         let b = bundle_after (M.category intls) (custom_by C.shown C.alike) steps in
         GivesWithin b (arguments_view C.content args.entry) (pattern_view pattern.now) result
         errors.old.items errors.new.items }

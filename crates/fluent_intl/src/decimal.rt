@@ -54,7 +54,8 @@ fn signed_units(negative: bool, size: u128) -> i128
 impl Decimal {
     /// The number with this sign, this whole part and this fraction in units of 10^-18. `None` where the fraction is 1 or more.
     pub fn new(negative: bool, whole: u64, fraction: u64) -> Option<Decimal>
-        ensures { MatchOption result (10 ^ 18 ≤ fraction) (λ d. (d ≡ signed negative (whole * 10 ^ 18 + fraction)) × (fraction < 10 ^ 18)) }
+        ensures { MatchOption result (10 ^ 18 ≤ fraction)
+            (λ d. (d ≡ signed negative (whole * 10 ^ 18 + fraction)) × (fraction < 10 ^ 18)) }
     {
         let fraction = fraction as u128;
         if fraction >= UNIT {

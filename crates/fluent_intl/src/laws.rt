@@ -15,11 +15,21 @@ use std::hash::Hash;
 
 /// Equal decimals, number types, styles, currency styles and options feed a hasher alike.
 pub fn equal_values_hash_alike()
-    ensures decimals { (a b : ℤ) → IsTrue (⟦<Decimal as PartialEq>⟧.eq a b) → ⟦<Decimal as Hash>⟧.hash_input a ≡ ⟦<Decimal as Hash>⟧.hash_input b }
-    ensures types { (a b : FluentNumberType) → IsTrue (⟦<FluentNumberType as PartialEq>⟧.eq a b) → ⟦<FluentNumberType as Hash>⟧.hash_input a ≡ ⟦<FluentNumberType as Hash>⟧.hash_input b }
-    ensures styles { (a b : FluentNumberStyle) → IsTrue (⟦<FluentNumberStyle as PartialEq>⟧.eq a b) → ⟦<FluentNumberStyle as Hash>⟧.hash_input a ≡ ⟦<FluentNumberStyle as Hash>⟧.hash_input b }
-    ensures currencies { (a b : FluentNumberCurrencyDisplayStyle) → IsTrue (⟦<FluentNumberCurrencyDisplayStyle as PartialEq>⟧.eq a b) → ⟦<FluentNumberCurrencyDisplayStyle as Hash>⟧.hash_input a ≡ ⟦<FluentNumberCurrencyDisplayStyle as Hash>⟧.hash_input b }
-    ensures options { (a b : FluentNumberOptions) → IsTrue (⟦<FluentNumberOptions as PartialEq>⟧.eq a b) → ⟦<FluentNumberOptions as Hash>⟧.hash_input a ≡ ⟦<FluentNumberOptions as Hash>⟧.hash_input b }
+    ensures decimals { (a b : ℤ) → IsTrue (⟦<Decimal as PartialEq>⟧.eq a b) →
+        ⟦<Decimal as Hash>⟧.hash_input a ≡ ⟦<Decimal as Hash>⟧.hash_input b }
+    ensures types { (a b : FluentNumberType) → IsTrue (⟦<FluentNumberType as PartialEq>⟧.eq a b) →
+        ⟦<FluentNumberType as Hash>⟧.hash_input a ≡ ⟦<FluentNumberType as Hash>⟧.hash_input b }
+    ensures styles { (a b : FluentNumberStyle) → IsTrue
+        (⟦<FluentNumberStyle as PartialEq>⟧.eq a b) →
+        ⟦<FluentNumberStyle as Hash>⟧.hash_input a ≡ ⟦<FluentNumberStyle as Hash>⟧.hash_input b }
+    ensures currencies { (a b : FluentNumberCurrencyDisplayStyle) →
+        IsTrue (⟦<FluentNumberCurrencyDisplayStyle as PartialEq>⟧.eq a b) →
+        ⟦<FluentNumberCurrencyDisplayStyle as Hash>⟧.hash_input a
+        ≡ ⟦<FluentNumberCurrencyDisplayStyle as Hash>⟧.hash_input b }
+    ensures options { (a b : FluentNumberOptions) →
+        IsTrue (⟦<FluentNumberOptions as PartialEq>⟧.eq a b) →
+        ⟦<FluentNumberOptions as Hash>⟧.hash_input a ≡ ⟦<FluentNumberOptions as Hash>⟧.hash_input
+        b }
 {
     hash_alike::<Decimal>();
     hash_alike::<FluentNumberType>();

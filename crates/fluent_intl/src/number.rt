@@ -52,8 +52,10 @@ impl FluentNumber {
     ///
     /// Memory was refused.
     pub fn as_string(&self, alloc: Global) -> Result<CowStr<'static>, AllocError>
-        ensures bytes { IfOk result (λ text. cow_str_bytes text ≡ decimal_text self.now.value self.now.options.minimum_fraction_digits) }
-        ensures text { IfOk result (λ text. IsText self.now.value self.now.options.minimum_fraction_digits (cow_str_bytes text)) }
+        ensures bytes { IfOk result (λ text. cow_str_bytes text
+            ≡ decimal_text self.now.value self.now.options.minimum_fraction_digits) }
+        ensures text { IfOk result (λ text. IsText self.now.value
+            self.now.options.minimum_fraction_digits (cow_str_bytes text)) }
     {
         let text = self
             .value
@@ -63,14 +65,17 @@ impl FluentNumber {
 
     /// A whole number of 128 bits with a sign, with the default options. `OutOfRange` where its size is above `u64::MAX`.
     pub fn try_from_i128(value: i128) -> Result<FluentNumber, OutOfRange>
-        ensures { MatchResult result (λ n. (unsigned_abs value < 2 ^ 64) × (number_of n ≡ number_with (whole value) None)) (λ _. unsigned_abs value < 2 ^ 64 → ⊥) }
+        ensures { MatchResult result (λ n. (unsigned_abs value < 2 ^ 64)
+            × (number_of n ≡ number_with (whole value) None))
+            (λ _. unsigned_abs value < 2 ^ 64 → ⊥) }
     {
         Ok(plain(Decimal::try_from_i128(value)?))
     }
 
     /// A whole number of 128 bits, with the default options. `OutOfRange` where it is above `u64::MAX`.
     pub fn try_from_u128(value: u128) -> Result<FluentNumber, OutOfRange>
-        ensures { MatchResult result (λ n. (value < 2 ^ 64) × (number_of n ≡ number_with (whole (pos value)) None)) (λ _. value < 2 ^ 64 → ⊥) }
+        ensures { MatchResult result (λ n. (value < 2 ^ 64)
+            × (number_of n ≡ number_with (whole (pos value)) None)) (λ _. value < 2 ^ 64 → ⊥) }
     {
         Ok(plain(Decimal::try_from_u128(value)?))
     }

@@ -27,7 +27,8 @@ impl PluralOperands {
     /// The operands of a number that is shown with a minimum of fraction digits, of which 18 count at most.
     pub fn of(value: &Decimal, minimum: Option<usize>) -> PluralOperands
         ensures means { IsOperands value.now minimum result }
-        ensures only { (other : PluralOperands) → IsOperands value.now minimum other → other ≡ result }
+        ensures only { (other : PluralOperands) → IsOperands value.now minimum other →
+            other ≡ result }
         ensures value { result ≡ operands_of value.now minimum }
     {
         let fraction = value.fraction();

@@ -84,7 +84,8 @@ fn rows_hold()
     ensures half { decimal_text (pos (10 ^ 18 / 2)) (Some 2) ≡ codes "0.50" }
     ensures quarter { decimal_text (pos (10 ^ 18 + 10 ^ 18 / 4)) (Some 1) ≡ codes "1.25" }
     ensures quarter_alone { decimal_text (pos (10 ^ 18 + 10 ^ 18 / 4)) None ≡ codes "1.25" }
-    ensures capped { decimal_text (pos (10 ^ 18 + 10 ^ 18 / 4)) (Some 400) ≡ codes "1.250000000000000000" }
+    ensures capped { decimal_text (pos (10 ^ 18 + 10 ^ 18 / 4)) (Some 400)
+        ≡ codes "1.250000000000000000" }
     ensures below { decimal_text (neg_ℤ (pos (3 * 10 ^ 18 / 2))) None ≡ codes "-1.5" }
     ensures read_five { Reads (codes "5") (pos (5 * 10 ^ 18)) None }
     ensures read_plus { Reads (codes "+5.") (pos (5 * 10 ^ 18)) (Some 0) }

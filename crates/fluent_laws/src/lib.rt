@@ -73,22 +73,27 @@ pub fn rules_take_a_front(source: &str)
     ensures accessor { TakesFront attribute_access source.now }
     ensures variable { TakesFront variable_reference source.now }
     ensures message_reference { TakesFront message_reference source.now }
-    ensures function_reference { (depth : ℕ) → TakesFront (function_reference (level depth)) source.now }
+    ensures function_reference { (depth : ℕ) → TakesFront
+        (function_reference (level depth)) source.now }
     ensures term_reference { (depth : ℕ) → TakesFront (term_reference (level depth)) source.now }
-    ensures inline_expression { (depth : ℕ) → TakesFront (inline_expression (level depth)) source.now }
+    ensures inline_expression { (depth : ℕ) → TakesFront
+        (inline_expression (level depth)) source.now }
     ensures named_argument { TakesFront named_argument source.now }
     ensures argument { (depth : ℕ) → TakesFront (argument (level depth)) source.now }
     ensures argument_list { (depth : ℕ) → TakesFront (argument_list (level depth)) source.now }
     ensures call_arguments { (depth : ℕ) → TakesFront (level depth).brackets source.now }
     ensures variant_key { TakesFront variant_key source.now }
-    ensures variant { (depth : ℕ) (default : Bool) → TakesFront (variant (level depth) default) source.now }
+    ensures variant { (depth : ℕ) (default : Bool) →
+        TakesFront (variant (level depth) default) source.now }
     ensures variant_list { (depth : ℕ) → TakesFront (variant_list (level depth)) source.now }
     ensures select { (depth : ℕ) → TakesFront (select_expression (level depth)) source.now }
     ensures placeable { (depth : ℕ) → TakesFront (level depth).braces source.now }
     ensures inline_text { TakesFront inline_text source.now }
     ensures block_text { TakesFront block_text source.now }
-    ensures block_placeable { (depth : ℕ) → TakesFront (block_placeable (level depth).braces) source.now }
-    ensures pattern_element { (depth : ℕ) → TakesFront (pattern_element (level depth).braces) source.now }
+    ensures block_placeable { (depth : ℕ) → TakesFront
+        (block_placeable (level depth).braces) source.now }
+    ensures pattern_element { (depth : ℕ) → TakesFront
+        (pattern_element (level depth).braces) source.now }
     ensures pattern { (depth : ℕ) → TakesFront (pattern (level depth).braces) source.now }
     ensures attribute { TakesFront attribute source.now }
     ensures message { TakesFront entries.message source.now }
@@ -186,7 +191,8 @@ pub fn read_by_front_alone(source: &str)
 /// that can't belong to them. An entry takes the line break; before the others it stays the same one.
 #[tactic(auto, using(crate::proofs::KnownEntries::rules_before))]
 pub fn read_before_an_end(source: &str)
-    ensures pattern { (depth : ℕ) → ReadBefore EndsPattern (pattern (level depth).braces) source.now }
+    ensures pattern { (depth : ℕ) → ReadBefore EndsPattern
+        (pattern (level depth).braces) source.now }
     ensures attribute { ReadBefore EndsPattern attribute source.now }
     ensures message { ReadBefore EndsMessage entries.message source.now }
     ensures term { ReadBefore EndsMessage entries.term source.now }

@@ -25,7 +25,8 @@ fn words(rt: &HostRuntime) -> io::Result<Vec<String>> {
 
 /// Words that can't be had end the program, too: one that is no text is a fault of usage.
 fn refusal(error: &io::Error) -> Ending<'static>
-    ensures memory { error_kind error.now ≡ ErrorKind.OutOfMemory → ending_view result ≡ out_of_memory }
+    ensures memory { error_kind error.now ≡ ErrorKind.OutOfMemory →
+        ending_view result ≡ out_of_memory }
     ensures word { error_kind error.now ≢ ErrorKind.OutOfMemory → ending_view result ≡ bad_usage }
 {
     match error.kind() {

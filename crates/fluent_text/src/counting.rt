@@ -83,10 +83,13 @@ impl<W: Write> Counting<W> {
     /// One single write: how many bytes of the piece were taken, or why it failed, and one of the counts raised where
     /// that is due.
     pub fn write(&mut self, piece: &[u8]) -> io::Result<usize>
-        ensures bytes { WriteAppends (W.contents self.old.inner) (W.contents self.new.inner) result piece.now }
+        ensures bytes { WriteAppends (W.contents self.old.inner)
+            (W.contents self.new.inner) result piece.now }
         ensures bound { WritesAtMost result piece.now }
-        ensures failed { self.new.failed ≡ (if is_ok result then self.old.failed else raised self.old.failed) }
-        ensures empty { self.new.empty ≡ (if took_nothing result piece.now then raised self.old.empty else self.old.empty) }
+        ensures failed { self.new.failed ≡ (if is_ok result then self.old.failed
+            else raised self.old.failed) }
+        ensures empty { self.new.empty ≡ (if took_nothing result piece.now
+            then raised self.old.empty else self.old.empty) }
     {
         let outcome = self.inner.write(piece);
         match &outcome {
@@ -107,8 +110,10 @@ impl<W: Write> Counting<W> {
 /// A write that fails or takes nothing ends it, and is the one that raised a count; the writer took a front of the piece
 /// then. It takes no memory.
 pub fn put<W: Write>(w: &mut Counting<W>, piece: &[u8]) -> Result<(), WriteFault>
-    ensures whole { OnOk result (Appends (W.contents w.old.inner) (W.contents w.new.inner) piece.now) }
-    ensures front { OnErr result (TookFront (W.contents w.old.inner) (W.contents w.new.inner) piece.now) }
+    ensures whole { OnOk result (Appends (W.contents w.old.inner)
+        (W.contents w.new.inner) piece.now) }
+    ensures front { OnErr result (TookFront (W.contents w.old.inner)
+        (W.contents w.new.inner) piece.now) }
     ensures fault { Faulted w.old.failed w.old.empty w.new.failed w.new.empty result }
     ensures memory { result ≢ Err WriteFault.Memory }
 {

@@ -30,8 +30,10 @@ enum Unescaped<'s> {
 /// The one error is a fault of the writer: `Writer` with its error, or `Zero` where a write took no byte.
 /// After it the writer has taken a beginning of that text, and nothing is written any more.
 pub fn unescape_unicode<W: Write>(w: &mut Counting<W>, text: &str) -> Result<(), WriteFault>
-    ensures whole { OnOk result (Appends (W.contents w.old.inner) (W.contents w.new.inner) (spec.unescaped text.now)) }
-    ensures front { OnErr result (TookFront (W.contents w.old.inner) (W.contents w.new.inner) (spec.unescaped text.now)) }
+    ensures whole { OnOk result (Appends (W.contents w.old.inner) (W.contents w.new.inner)
+        (spec.unescaped text.now)) }
+    ensures front { OnErr result (TookFront (W.contents w.old.inner) (W.contents w.new.inner)
+        (spec.unescaped text.now)) }
     ensures fault { Faulted w.old.failed w.old.empty w.new.failed w.new.empty result }
     ensures writer { ByWriter result }
 {
@@ -47,8 +49,10 @@ pub fn unescape_unicode<W: Write>(w: &mut Counting<W>, text: &str) -> Result<(),
 }
 
 fn put_part<W: Write>(w: &mut Counting<W>, part: Unescaped) -> Result<(), WriteFault>
-    ensures whole { OnOk result (Appends (W.contents w.old.inner) (W.contents w.new.inner) (bytes_of part.entry)) }
-    ensures front { OnErr result (TookFront (W.contents w.old.inner) (W.contents w.new.inner) (bytes_of part.entry)) }
+    ensures whole { OnOk result (Appends (W.contents w.old.inner) (W.contents w.new.inner)
+        (bytes_of part.entry)) }
+    ensures front { OnErr result (TookFront (W.contents w.old.inner) (W.contents w.new.inner)
+        (bytes_of part.entry)) }
     ensures fault { Faulted w.old.failed w.old.empty w.new.failed w.new.empty result }
     ensures writer { ByWriter result }
 {

@@ -234,7 +234,8 @@ fn same_target(
     b: &Identifier,
     q: &Option<Identifier>,
 ) -> bool
-    ensures { IsTrue result ↔ ((a.now.name.now ≡ b.now.name.now) × (attribute_of p.now ≡ attribute_of q.now)) }
+    ensures { IsTrue result ↔ ((a.now.name.now ≡ b.now.name.now)
+        × (attribute_of p.now ≡ attribute_of q.now)) }
 {
     a.name == b.name && same_attribute_name(p, q)
 }

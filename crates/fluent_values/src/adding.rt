@@ -23,7 +23,8 @@ use std::collections::HashSet;
 /// Gives the entry's id its meaning where it is free, in a map that has room for it.
 fn add_entry<'r, 's, F: Drop>(known: &mut Ids<'r, 's, F>, entry: &'r ast::Entry<'s>)
     requires { 0 < room known.old }
-    ensures after { (answer : F → Function Text) → ids answer known.new ≡ added (entry_view entry.now ∷ []) (ids answer known.old) }
+    ensures after { (answer : F → Function Text) →
+        ids answer known.new ≡ added (entry_view entry.now ∷ []) (ids answer known.old) }
     ensures room { room known.old ≤ room known.new + 1 }
 {
     match entry {
@@ -38,7 +39,8 @@ fn add_entry<'r, 's, F: Drop>(known: &mut Ids<'r, 's, F>, entry: &'r ast::Entry<
 /// Gives each free id its meaning, in a map that has room for all.
 fn add_all<'r, 's, F: Drop>(known: &mut Ids<'r, 's, F>, entries: &'r [ast::Entry<'s>])
     requires { length entries.now ≤ room known.old }
-    ensures { (answer : F → Function Text) → ids answer known.new ≡ added (map entry_view entries.now) (ids answer known.old) }
+    ensures { (answer : F → Function Text) → ids answer known.new
+        ≡ added (map entry_view entries.now) (ids answer known.old) }
 {
     for entry in entries {
         add_entry(known, entry);
@@ -48,7 +50,8 @@ fn add_all<'r, 's, F: Drop>(known: &mut Ids<'r, 's, F>, entries: &'r [ast::Entry
 /// Gives the entry's id its meaning in place of what it had, in a map that has room for it.
 fn override_entry<'r, 's, F: Drop>(known: &mut Ids<'r, 's, F>, entry: &'r ast::Entry<'s>)
     requires { 0 < room known.old }
-    ensures after { (answer : F → Function Text) → ids answer known.new ≡ overridden (entry_view entry.now ∷ []) (ids answer known.old) }
+    ensures after { (answer : F → Function Text) →
+        ids answer known.new ≡ overridden (entry_view entry.now ∷ []) (ids answer known.old) }
     ensures room { room known.old ≤ room known.new + 1 }
 {
     match entry {
@@ -63,7 +66,8 @@ fn override_entry<'r, 's, F: Drop>(known: &mut Ids<'r, 's, F>, entry: &'r ast::E
 /// Gives each id its meaning in place of what it had, in a map that has room for all.
 fn override_all<'r, 's, F: Drop>(known: &mut Ids<'r, 's, F>, entries: &'r [ast::Entry<'s>])
     requires { length entries.now ≤ room known.old }
-    ensures { (answer : F → Function Text) → ids answer known.new ≡ overridden (map entry_view entries.now) (ids answer known.old) }
+    ensures { (answer : F → Function Text) → ids answer known.new
+        ≡ overridden (map entry_view entries.now) (ids answer known.old) }
 {
     for entry in entries {
         override_entry(known, entry);
@@ -88,9 +92,14 @@ fn add_where_free<'r, 's, F: Drop>(
     function: Entry<'r, 's, F>,
 ) -> Result<Vec<FluentError>, AllocError>
     requires own { IsTrue (is_named (cow_str_bytes id) function) }
-    ensures after { OnOk result ((answer : F → Function Text) → ids answer known.new ≡ add_free (cow_str_bytes id.entry) (entry_of answer function.entry) (ids answer known.old)) }
-    ensures errors { IfOk result (λ errors. (answer : F → Function Text) → map error_view errors.items ≡ error_if_taken e.function_kind (cow_str_bytes id.entry) (ids answer known.old)) }
-    ensures err { OnErr result ((answer : F → Function Text) → ids answer known.new ≡ ids answer known.old) }
+    ensures after { OnOk result ((answer : F → Function Text) →
+        ids answer known.new ≡ add_free (cow_str_bytes id.entry) (entry_of answer function.entry)
+        (ids answer known.old)) }
+    ensures errors { IfOk result (λ errors. (answer : F → Function Text) →
+        map error_view errors.items ≡ error_if_taken e.function_kind (cow_str_bytes id.entry)
+        (ids answer known.old)) }
+    ensures err { OnErr result ((answer : F → Function Text) →
+        ids answer known.new ≡ ids answer known.old) }
 {
     let mut errors = Vec::new(alloc);
     if known.is_known(id.as_str()) {
@@ -103,7 +112,8 @@ fn add_where_free<'r, 's, F: Drop>(
 
 /// Whether an id is known, or was seen before.
 fn is_taken<'r, 's, F>(known: &Ids<'r, 's, F>, seen: &HashSet<&'s str>, id: &str) -> bool
-    ensures { (answer : F → Function Text) → result ≡ (is_some (get id.now (ids answer known.now)) || has seen.now id.now) }
+    ensures { (answer : F → Function Text) → result
+        ≡ (is_some (get id.now (ids answer known.now)) || has seen.now id.now) }
 {
     known.is_known(id) || seen.contains(id)
 }
@@ -117,8 +127,12 @@ fn look_for<'r, 's, F>(
     id: &'s str,
     errors: &mut Vec<FluentError>,
 ) -> Result<(), AllocError>
-    ensures told { OnOk result ((answer : F → Function Text) (taken : Map (m.Entry Text)) → AreTaken answer known.now seen.old taken → map error_view errors.new.items ≡ map error_view errors.old.items ++ error_if_taken (kind_view kind) id.now taken) }
-    ensures seen { OnOk result ((answer : F → Function Text) (taken : Map (m.Entry Text)) (entry : m.Entry Text) → AreTaken answer known.now seen.old taken → AreTaken answer known.now seen.new (add_free id.now entry taken)) }
+    ensures told { OnOk result ((answer : F → Function Text) (taken : Map (m.Entry Text)) →
+        AreTaken answer known.now seen.old taken → map error_view errors.new.items
+        ≡ map error_view errors.old.items ++ error_if_taken (kind_view kind) id.now taken) }
+    ensures seen { OnOk result ((answer : F → Function Text) (taken : Map (m.Entry Text))
+        (entry : m.Entry Text) → AreTaken answer known.now seen.old taken →
+        AreTaken answer known.now seen.new (add_free id.now entry taken)) }
 {
     if is_taken(known, seen, id) {
         errors.push(left(alloc, kind, id)?)?;
@@ -136,8 +150,12 @@ fn look_at<'r, 's, F>(
     entry: &ast::Entry<'s>,
     errors: &mut Vec<FluentError>,
 ) -> Result<(), AllocError>
-    ensures told { OnOk result ((answer : F → Function Text) (taken : Map (m.Entry Text)) → AreTaken answer known.now seen.old taken → map error_view errors.new.items ≡ map error_view errors.old.items ++ not_added (entry_view entry.now ∷ []) taken) }
-    ensures seen { OnOk result ((answer : F → Function Text) (taken : Map (m.Entry Text)) → AreTaken answer known.now seen.old taken → AreTaken answer known.now seen.new (added (entry_view entry.now ∷ []) taken)) }
+    ensures told { OnOk result ((answer : F → Function Text) (taken : Map (m.Entry Text)) →
+        AreTaken answer known.now seen.old taken → map error_view errors.new.items
+        ≡ map error_view errors.old.items ++ not_added (entry_view entry.now ∷ []) taken) }
+    ensures seen { OnOk result ((answer : F → Function Text) (taken : Map (m.Entry Text)) →
+        AreTaken answer known.now seen.old taken → AreTaken answer known.now seen.new
+        (added (entry_view entry.now ∷ []) taken)) }
 {
     match entry {
         ast::Entry::Message(message) => {
@@ -163,7 +181,9 @@ fn look<'r, 's, F>(
     known: &Ids<'r, 's, F>,
     entries: &[ast::Entry<'s>],
 ) -> Result<Vec<FluentError>, AllocError>
-    ensures { IfOk result (λ errors. (answer : F → Function Text) → map error_view errors.items ≡ not_added (map entry_view entries.now) (ids answer known.now)) }
+    ensures { IfOk result (λ errors. (answer : F → Function Text) →
+        map error_view errors.items ≡ not_added (map entry_view entries.now)
+        (ids answer known.now)) }
 {
     let mut seen: HashSet<&'s str> = HashSet::new(alloc);
     let mut errors = Vec::new(alloc);
@@ -185,9 +205,13 @@ impl<'r, 's, F: Drop> Ids<'r, 's, F> {
         alloc: Global,
         entries: &'r [ast::Entry<'s>],
     ) -> Result<Vec<FluentError>, AllocError>
-        ensures after { OnOk result ((answer : F → Function Text) → ids answer self.new ≡ added (map entry_view entries.now) (ids answer self.old)) }
-        ensures errors { IfOk result (λ errors. (answer : F → Function Text) → map error_view errors.items ≡ not_added (map entry_view entries.now) (ids answer self.old)) }
-        ensures err { OnErr result ((answer : F → Function Text) → ids answer self.new ≡ ids answer self.old) }
+        ensures after { OnOk result ((answer : F → Function Text) →
+            ids answer self.new ≡ added (map entry_view entries.now) (ids answer self.old)) }
+        ensures errors { IfOk result (λ errors. (answer : F → Function Text) →
+            map error_view errors.items ≡ not_added (map entry_view entries.now)
+            (ids answer self.old)) }
+        ensures err { OnErr result ((answer : F → Function Text) →
+            ids answer self.new ≡ ids answer self.old) }
     {
         let errors = look(alloc, self, entries)?;
         self.make_room(entries.len())?;
@@ -201,8 +225,10 @@ impl<'r, 's, F: Drop> Ids<'r, 's, F> {
     ///
     /// Memory was refused: the map is as before.
     pub fn override_entries(&mut self, entries: &'r [ast::Entry<'s>]) -> Result<(), AllocError>
-        ensures after { OnOk result ((answer : F → Function Text) → ids answer self.new ≡ overridden (map entry_view entries.now) (ids answer self.old)) }
-        ensures err { OnErr result ((answer : F → Function Text) → ids answer self.new ≡ ids answer self.old) }
+        ensures after { OnOk result ((answer : F → Function Text) →
+            ids answer self.new ≡ overridden (map entry_view entries.now) (ids answer self.old)) }
+        ensures err { OnErr result ((answer : F → Function Text) →
+            ids answer self.new ≡ ids answer self.old) }
     {
         self.make_room(entries.len())?;
         override_all(self, entries);
@@ -220,9 +246,14 @@ impl<'r, 's, F: Drop> Ids<'r, 's, F> {
         id: CowStr<'s>,
         function: F,
     ) -> Result<Vec<FluentError>, AllocError>
-        ensures after { OnOk result ((answer : F → Function Text) → ids answer self.new ≡ add_free (cow_str_bytes id.entry) (a_function (answer function)) (ids answer self.old)) }
-        ensures errors { IfOk result (λ errors. (answer : F → Function Text) → map error_view errors.items ≡ error_if_taken e.function_kind (cow_str_bytes id.entry) (ids answer self.old)) }
-        ensures err { OnErr result ((answer : F → Function Text) → ids answer self.new ≡ ids answer self.old) }
+        ensures after { OnOk result ((answer : F → Function Text) →
+            ids answer self.new ≡ add_free (cow_str_bytes id.entry) (a_function (answer function))
+            (ids answer self.old)) }
+        ensures errors { IfOk result (λ errors. (answer : F → Function Text) →
+            map error_view errors.items ≡ error_if_taken e.function_kind (cow_str_bytes id.entry)
+            (ids answer self.old)) }
+        ensures err { OnErr result ((answer : F → Function Text) →
+            ids answer self.new ≡ ids answer self.old) }
     {
         add_where_free(alloc, self, id, Entry::Function(function))
     }
@@ -237,9 +268,14 @@ impl<'r, 's, F: Drop> Ids<'r, 's, F> {
         alloc: Global,
         id: CowStr<'s>,
     ) -> Result<Vec<FluentError>, AllocError>
-        ensures after { OnOk result ((answer : F → Function Text) → ids answer self.new ≡ add_free (cow_str_bytes id.entry) number_builtin (ids answer self.old)) }
-        ensures errors { IfOk result (λ errors. (answer : F → Function Text) → map error_view errors.items ≡ error_if_taken e.function_kind (cow_str_bytes id.entry) (ids answer self.old)) }
-        ensures err { OnErr result ((answer : F → Function Text) → ids answer self.new ≡ ids answer self.old) }
+        ensures after { OnOk result ((answer : F → Function Text) →
+            ids answer self.new ≡ add_free (cow_str_bytes id.entry) number_builtin
+            (ids answer self.old)) }
+        ensures errors { IfOk result (λ errors. (answer : F → Function Text) →
+            map error_view errors.items ≡ error_if_taken e.function_kind (cow_str_bytes id.entry)
+            (ids answer self.old)) }
+        ensures err { OnErr result ((answer : F → Function Text) →
+            ids answer self.new ≡ ids answer self.old) }
     {
         add_where_free(alloc, self, id, Entry::Number)
     }

@@ -58,7 +58,8 @@ impl<'a, C: FluentType> FluentArgs<'a, C> {
     ) -> Result<FluentArgs<'a, C>, AllocError>
         requires can { I.can_next pairs }
         requires ends { IsFinite (I.remaining pairs) }
-        ensures { IfOk result (λ args. (given : List _) × Drains I.next_gives pairs given × (named C.content args ≡ fin.set_all (map (pair_view C.content) given) [])) }
+        ensures { IfOk result (λ args. (given : List _) × Drains I.next_gives pairs given
+            × (named C.content args ≡ fin.set_all (map (pair_view C.content) given) [])) }
     {
         let mut args = FluentArgs::new(alloc);
         for (name, value) in pairs {
@@ -69,7 +70,8 @@ impl<'a, C: FluentType> FluentArgs<'a, C> {
 
     /// The value of a name, or `None` where it has none. Takes no memory.
     pub fn get(&self, name: &str) -> Option<&FluentValue<'a, C>>
-        ensures { option_map (λ v. value_view C.content v.now) result ≡ fin.get name.now (named C.content self.now) }
+        ensures { option_map (λ v. value_view C.content v.now) result
+            ≡ fin.get name.now (named C.content self.now) }
     {
         match self.place_of(name) {
             Ok(at) => Some(&self.pairs[at].1),
@@ -84,9 +86,12 @@ impl<'a, C: FluentType> FluentArgs<'a, C> {
     /// Memory was refused, which only a new name can meet: the arguments are as before, and the pair is
     /// dropped.
     pub fn set(&mut self, name: CowStr<'a>, value: FluentValue<'a, C>) -> Result<(), AllocError>
-        ensures ok { OnOk result (named C.content self.new ≡ fin.set (cow_str_bytes name.entry) (value_view C.content value.entry) (named C.content self.old)) }
+        ensures ok { OnOk result (named C.content self.new
+            ≡ fin.set (cow_str_bytes name.entry) (value_view C.content value.entry)
+            (named C.content self.old)) }
         ensures err { OnErr result (named C.content self.new ≡ named C.content self.old) }
-        ensures new_name { OnErr result (fin.get (cow_str_bytes name.entry) (named C.content self.old) ≡ None) }
+        ensures new_name { OnErr result (fin.get (cow_str_bytes name.entry)
+            (named C.content self.old) ≡ None) }
     {
         match self.place_of(name.as_str()) {
             Ok(at) => {

@@ -20,8 +20,11 @@ pub fn NUMBER<'a, C: FluentType>(
     positional: &[FluentValue<'a, C>],
     arguments: &FluentArgs<'a, C>,
 ) -> Result<FluentValue<'a, C>, AllocError>
-    ensures same { IfOk result (λ v. value_view C.content v ≡ number_function (map (value_view C.content) positional.now) (named C.content arguments.now)) }
-    ensures memory { OnErr result (AsksForCurrency (map (value_view C.content) positional.now) (named C.content arguments.now)) }
+    ensures same { IfOk result (λ v. value_view C.content v
+        ≡ number_function (map (value_view C.content) positional.now)
+        (named C.content arguments.now)) }
+    ensures memory { OnErr result (AsksForCurrency (map (value_view C.content) positional.now)
+        (named C.content arguments.now)) }
 {
     match positional.first() {
         Some(FluentValue::Number(number)) => {

@@ -41,12 +41,14 @@ pub trait GetEntry<'s, F> {
 
     /// The message that the id names, or `None`.
     fn get_entry_message(&self, id: &str) -> Option<&ast::Message<'s>>
-        ensures content { option_map (λ x. content_of x.now) result ≡ message_content (named self.now id.now) }
+        ensures content { option_map (λ x. content_of x.now) result
+            ≡ message_content (named self.now id.now) }
         ensures own { IfSome result (λ x. x.now.id.name.now ≡ id.now) };
 
     /// The term that the id names, without its dash, or `None`.
     fn get_entry_term(&self, id: &str) -> Option<&ast::Term<'s>>
-        ensures content { option_map (λ x. term_content_of x.now) result ≡ term_content (named self.now id.now) }
+        ensures content { option_map (λ x. term_content_of x.now) result
+            ≡ term_content (named self.now id.now) }
         ensures own { IfSome result (λ x. x.now.id.name.now ≡ id.now) };
 
     /// The function that the id names, or `None`.

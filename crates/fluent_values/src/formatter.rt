@@ -25,7 +25,8 @@ pub trait FluentFormatter<C: FluentType, M>: Drop {
         value: &FluentValue<'a, C>,
         intls: &M,
     ) -> Result<Option<String>, AllocError>
-        ensures { IfOk result (λ text. option_map string_bytes text ≡ formatted self.now (value_view C.content value.now) intls.now) };
+        ensures { IfOk result (λ text. option_map string_bytes text
+            ≡ formatted self.now (value_view C.content value.now) intls.now) };
 }
 
 /// No formatter: each value is shown by its own text.

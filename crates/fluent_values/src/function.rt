@@ -28,7 +28,9 @@ pub trait FluentFunction<C: FluentType>: Drop {
         positional: &[FluentValue<'a, C>],
         arguments: &FluentArgs<'a, C>,
     ) -> Result<FluentValue<'a, C>, AllocError>
-        ensures { IfOk result (λ v. value_view C.content v ≡ answer self.now (map (value_view C.content) positional.now) (named C.content arguments.now)) };
+        ensures { IfOk result (λ v. value_view C.content v
+            ≡ answer self.now (map (value_view C.content) positional.now)
+            (named C.content arguments.now)) };
 }
 
 /// No function of the application's own: whatever it is asked, it answers an error.

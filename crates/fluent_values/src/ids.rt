@@ -34,7 +34,8 @@ impl<'r, 's, F> Ids<'r, 's, F> {
 
     /// What an id names, or `None`. Takes no memory.
     pub fn named<'m>(&'m self, id: &str) -> Option<&'m Entry<'r, 's, F>>
-        ensures content { (answer : F → Function Text) → option_map (λ e. entry_of answer e.now) result ≡ get id.now (ids answer self.now) }
+        ensures content { (answer : F → Function Text) →
+            option_map (λ e. entry_of answer e.now) result ≡ get id.now (ids answer self.now) }
         ensures own { IfSome result (λ e. IsTrue (is_named id.now e.now)) }
     {
         self.known.get(id)
@@ -42,7 +43,8 @@ impl<'r, 's, F> Ids<'r, 's, F> {
 
     /// Whether an id names something.
     pub(crate) fn is_known(&self, id: &str) -> bool
-        ensures { (answer : F → Function Text) → result ≡ is_some (get id.now (ids answer self.now)) }
+        ensures { (answer : F → Function Text) → result
+            ≡ is_some (get id.now (ids answer self.now)) }
     {
         self.known.contains_key(id)
     }
@@ -60,8 +62,11 @@ impl<'r, 's, F: Drop> Ids<'r, 's, F> {
     /// Gives the id its meaning.
     pub(crate) fn put(&mut self, id: CowStr<'s>, entry: Entry<'r, 's, F>) -> Result<(), AllocError>
         requires own { IsTrue (is_named (cow_str_bytes id) entry) }
-        ensures ok { OnOk result ((answer : F → Function Text) → ids answer self.new ≡ set (cow_str_bytes id.entry) (entry_of answer entry.entry) (ids answer self.old)) }
-        ensures err { OnErr result ((answer : F → Function Text) → ids answer self.new ≡ ids answer self.old) }
+        ensures ok { OnOk result ((answer : F → Function Text) →
+            ids answer self.new ≡ set (cow_str_bytes id.entry) (entry_of answer entry.entry)
+            (ids answer self.old)) }
+        ensures err { OnErr result ((answer : F → Function Text) →
+            ids answer self.new ≡ ids answer self.old) }
     {
         self.known.insert(id, entry)?;
         Ok(())
@@ -79,7 +84,8 @@ impl<'r, 's, F: Drop> Ids<'r, 's, F> {
     pub(crate) fn put_in_room(&mut self, id: &'s str, entry: Entry<'r, 's, F>)
         requires room { 0 < room self.old }
         requires own { IsTrue (is_named id.now entry) }
-        ensures after { (answer : F → Function Text) → ids answer self.new ≡ set id.now (entry_of answer entry.entry) (ids answer self.old) }
+        ensures after { (answer : F → Function Text) →
+            ids answer self.new ≡ set id.now (entry_of answer entry.entry) (ids answer self.old) }
         ensures room { room self.old ≤ room self.new + 1 }
     {
         let put: Result<_, _> = self.known.insert(CowStr::Borrowed(id), entry);
@@ -90,7 +96,9 @@ impl<'r, 's, F: Drop> Ids<'r, 's, F> {
     pub(crate) fn put_where_free(&mut self, id: &'s str, entry: Entry<'r, 's, F>)
         requires room { 0 < room self.old }
         requires own { IsTrue (is_named id.now entry) }
-        ensures after { (answer : F → Function Text) → ids answer self.new ≡ add_free id.now (entry_of answer entry.entry) (ids answer self.old) }
+        ensures after { (answer : F → Function Text) →
+            ids answer self.new ≡ add_free id.now (entry_of answer entry.entry)
+            (ids answer self.old) }
         ensures room { room self.old ≤ room self.new + 1 }
     {
         if !self.is_known(id) {

@@ -35,7 +35,8 @@ impl<'m, 's> FluentMessage<'m, 's> {
 
     /// The first attribute of the name, or `None` where none has it.
     pub fn get_attribute(&self, name: &str) -> Option<FluentAttribute<'m, 's>>
-        ensures { option_map attribute_content result ≡ first_named name.now (message_view self.now).attributes }
+        ensures { option_map attribute_content result
+            ≡ first_named name.now (message_view self.now).attributes }
     {
         for attribute in &self.node.attributes {
             if attribute.id.name == name {

@@ -21,7 +21,8 @@ fn first<'a>(
     positional: &[FluentValue<'a, NoCustom>],
     _arguments: &FluentArgs<'a, NoCustom>,
 ) -> Result<FluentValue<'a, NoCustom>, AllocError>
-    ensures { IfOk result (λ v. value_view (λ _. []) v ≡ unwrap_or (slice_get (map (value_view (λ _. [])) positional.now) 0) error_value) }
+    ensures { IfOk result (λ v. value_view (λ _. []) v
+        ≡ unwrap_or (slice_get (map (value_view (λ _. [])) positional.now) 0) error_value) }
 {
     match positional.first() {
         Some(value) => value.try_clone(alloc),

@@ -11,7 +11,8 @@ use std::borrow::CowStr;
 use std::test::Fail;
 
 fn places_are_kept<'s>() -> FluentValue<'s, NoCustom>
-    ensures { value_view (λ _. []) result ≡ number_value (number_with (pos 3141569000000000000) (Some 6)) }
+    ensures { value_view (λ _. []) result ≡ number_value
+        (number_with (pos 3141569000000000000) (Some 6)) }
 {
     FluentValue::try_number("3.141569")
 }
@@ -29,7 +30,8 @@ fn zeros_may_lead<'s>() -> FluentValue<'s, NoCustom>
 }
 
 fn the_whole_part_may_be_missing<'s>() -> FluentValue<'s, NoCustom>
-    ensures { value_view (λ _. []) result ≡ number_value (number_with (pos (5 * 10 ^ 17)) (Some 1)) }
+    ensures { value_view (λ _. []) result ≡ number_value
+        (number_with (pos (5 * 10 ^ 17)) (Some 1)) }
 {
     FluentValue::try_number("+.5")
 }

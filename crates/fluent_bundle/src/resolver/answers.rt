@@ -68,7 +68,9 @@ pub(crate) fn formatted<M, C: FluentType, G: FluentFormatter<C, M>>(
     value: &FluentValue<'_, C>,
     intls: &M,
 ) -> Result<Option<String>, AllocError>
-    ensures { IfOk result (λ text. option_map string_bytes text ≡ formatter_of (option_map (λ g v. G.formatted g v intls.now) formatter.now) (value_view C.content value.now)) }
+    ensures { IfOk result (λ text. option_map string_bytes text
+        ≡ formatter_of (option_map (λ g v. G.formatted g v intls.now) formatter.now)
+        (value_view C.content value.now)) }
 {
     match formatter {
         Some(formatter) => formatter.format(alloc, value, intls),

@@ -14,7 +14,8 @@ impl Decimal {
     /// An optional `+` or `-`, digits, and an optional point, which may stand before, among or after them, with one digit at least.
     /// `NotANumber` for every other text, for a whole part above `u64::MAX`, and for more than 18 digits after the point.
     pub fn from_text(text: &str) -> Result<(Decimal, Option<usize>), NotANumber>
-        ensures { MatchResult result (λ p. Reads text.now p.0 p.1) (λ _. (z : _) (places : _) → Reads text.now z places → ⊥) }
+        ensures { MatchResult result (λ p. Reads text.now p.0 p.1)
+            (λ _. (z : _) (places : _) → Reads text.now z places → ⊥) }
     {
         let bytes = text.as_bytes();
         let negative = has_minus(bytes);
@@ -48,7 +49,8 @@ fn without_sign(text: &[u8]) -> &[u8]
 
 /// The size in units of a text without a sign, and the count of its digits after the point.
 fn unsigned_units(text: &[u8]) -> Option<(u128, Option<usize>)>
-    ensures { MatchOption result ((n : _) (places : _) → ReadsUnsigned text.now n places → ⊥) (λ p. ReadsUnsigned text.now p.0 p.1 × (p.0 < 2 ^ 64 * 10 ^ 18)) }
+    ensures { MatchOption result ((n : _) (places : _) → ReadsUnsigned text.now n places → ⊥)
+        (λ p. ReadsUnsigned text.now p.0 p.1 × (p.0 < 2 ^ 64 * 10 ^ 18)) }
 {
     match point_in(text) {
         None => whole_units(text),
@@ -65,7 +67,8 @@ fn point_in(text: &[u8]) -> Option<usize>
 
 fn whole_units(text: &[u8]) -> Option<(u128, Option<usize>)>
     requires { position (λ b. b == 46) text.now ≡ None }
-    ensures { MatchOption result ((n : _) (places : _) → ReadsUnsigned text.now n places → ⊥) (λ p. ReadsUnsigned text.now p.0 p.1 × (p.0 < 2 ^ 64 * 10 ^ 18)) }
+    ensures { MatchOption result ((n : _) (places : _) → ReadsUnsigned text.now n places → ⊥)
+        (λ p. ReadsUnsigned text.now p.0 p.1 × (p.0 < 2 ^ 64 * 10 ^ 18)) }
 {
     if text.is_empty() {
         return None;
@@ -78,7 +81,8 @@ fn whole_units(text: &[u8]) -> Option<(u128, Option<usize>)>
 
 fn pointed_units(text: &[u8], at: usize) -> Option<(u128, Option<usize>)>
     requires { position (λ b. b == 46) text.now ≡ Some at }
-    ensures { MatchOption result ((n : _) (places : _) → ReadsUnsigned text.now n places → ⊥) (λ p. ReadsUnsigned text.now p.0 p.1 × (p.0 < 2 ^ 64 * 10 ^ 18)) }
+    ensures { MatchOption result ((n : _) (places : _) → ReadsUnsigned text.now n places → ⊥)
+        (λ p. ReadsUnsigned text.now p.0 p.1 × (p.0 < 2 ^ 64 * 10 ^ 18)) }
 {
     let before = &text[..at];
     let after = &text[at + 1..];
@@ -97,7 +101,8 @@ fn pointed_units(text: &[u8], at: usize) -> Option<(u128, Option<usize>)>
 
 /// The number of the digits, where they are digits and it fits.
 pub(crate) fn value_of(digits: &[u8]) -> Option<u64>
-    ensures { SomeIff result (AllDigits 10 digits.now × (digits_value 10 digits.now < 2 ^ 64)) (digits_value 10 digits.now) }
+    ensures { SomeIff result (AllDigits 10 digits.now × (digits_value 10 digits.now < 2 ^ 64))
+        (digits_value 10 digits.now) }
 {
     let mut value = 0u64;
     for digit in digits {

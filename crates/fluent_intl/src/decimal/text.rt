@@ -63,8 +63,10 @@ impl Decimal {
     pub fn as_text(&self, alloc: Global, minimum: Option<usize>) -> Result<String, AllocError>
         ensures bytes { IfOk result (λ s. string_bytes s ≡ decimal_text self.now minimum) }
         ensures text { IfOk result (λ s. IsText self.now minimum (string_bytes s)) }
-        ensures reads_back { IfOk result (λ s. Reads (string_bytes s) self.now (text_places (unsigned_abs self.now % 10 ^ 18) minimum)) }
-        ensures only { IfOk result (λ s. (other : List ℕ) → IsText self.now minimum other → other ≡ string_bytes s) }
+        ensures reads_back { IfOk result (λ s. Reads (string_bytes s) self.now
+            (text_places (unsigned_abs self.now % 10 ^ 18) minimum)) }
+        ensures only { IfOk result (λ s. (other : List ℕ) → IsText self.now minimum other →
+            other ≡ string_bytes s) }
     {
         let written = self.text(minimum);
         String::from_str(alloc, written.as_str())

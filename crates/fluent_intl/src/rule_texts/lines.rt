@@ -13,7 +13,8 @@ use std::alloc::Global;
 
 /// Adds the rule of a line, if the line has one.
 fn add_line(alloc: Global, text: &str, found: &mut Vec<Rule>) -> Result<(), Stop>
-    ensures { AddsLine (all rule_view found.old) (all rule_view found.new) result (spec.line text.now) }
+    ensures { AddsLine (all rule_view found.old) (all rule_view found.new) result
+        (spec.line text.now) }
 {
     if let (Some(rule), _) = line(alloc, text)? {
         found.push(rule)?;

@@ -123,7 +123,8 @@ fn comparison(s: &str) -> Option<(bool, &str)>
 
 /// What may stand after an operand.
 fn optional_divisor(s: &str) -> (Option<NonZeroU64>, &str)
-    ensures { parser.optional spec.divisor s.now ≡ Some (option_map number_view result.0, result.1.now) }
+    ensures { parser.optional spec.divisor s.now ≡ Some
+        (option_map number_view result.0, result.1.now) }
 {
     match divisor(s) {
         Some((divisor, rest)) => (Some(divisor), rest),

@@ -35,7 +35,8 @@ pub struct Gathered<'s> {
 impl<'s> Gathered<'s> {
     #[inline(always)]
     fn add(&mut self, argument: Argument<'s>) -> Result<(), AllocError>
-        ensures { OnOk result (gathered_view self.new ≡ spec.add (gathered_view self.old) (argument_view argument.entry)) }
+        ensures { OnOk result (gathered_view self.new
+            ≡ spec.add (gathered_view self.old) (argument_view argument.entry)) }
     {
         match argument {
             Argument::Positional(x) => {
@@ -76,8 +77,10 @@ impl<
     #[inline(always)]
     #[tactic(auto, unfolding(crate::specs::Expressions::argument))]
     fn argument(&self, s: &'s str) -> Result<(Argument<'s>, &'s str), Stop>
-        requires braces { Reads expression_view (spec.level self.now.depth).braces self.now.depth (F.pre self.now.braces) (F.post self.now.braces) }
-        requires brackets { Reads arguments_view (spec.level self.now.depth).brackets self.now.depth (G.pre self.now.brackets) (G.post self.now.brackets) }
+        requires braces { Reads expression_view (spec.level self.now.depth).braces self.now.depth
+            (F.pre self.now.braces) (F.post self.now.braces) }
+        requires brackets { Reads arguments_view (spec.level self.now.depth).brackets self.now.depth
+            (G.pre self.now.brackets) (G.post self.now.brackets) }
         ensures { Gives argument_view result (spec.argument (spec.level self.now.depth) s.now) }
     {
         if let Some((n, rest)) = named_argument(s) {
@@ -90,9 +93,12 @@ impl<
     /// The arguments and the commas between them. Each argument is read once, whether a comma follows it or not.
     #[tactic(auto, using(crate::proofs::Gathers::gathered))]
     fn argument_list(&self, s: &'s str) -> Result<(Gathered<'s>, &'s str), Stop>
-        requires braces { Reads expression_view (spec.level self.now.depth).braces self.now.depth (F.pre self.now.braces) (F.post self.now.braces) }
-        requires brackets { Reads arguments_view (spec.level self.now.depth).brackets self.now.depth (G.pre self.now.brackets) (G.post self.now.brackets) }
-        ensures { Gives gathered_view result (spec.argument_list (spec.level self.now.depth) s.now) }
+        requires braces { Reads expression_view (spec.level self.now.depth).braces self.now.depth
+            (F.pre self.now.braces) (F.post self.now.braces) }
+        requires brackets { Reads arguments_view (spec.level self.now.depth).brackets self.now.depth
+            (G.pre self.now.brackets) (G.post self.now.brackets) }
+        ensures { Gives gathered_view result (spec.argument_list
+            (spec.level self.now.depth) s.now) }
     {
         let mut found = Gathered {
             positional: Vec::new(self.alloc),
@@ -126,9 +132,12 @@ impl<
         s: &'s str,
         mut found: Gathered<'s>,
     ) -> Result<(Gathered<'s>, &'s str), Stop>
-        requires braces { Reads expression_view (spec.level self.now.depth).braces self.now.depth (F.pre self.now.braces) (F.post self.now.braces) }
-        requires brackets { Reads arguments_view (spec.level self.now.depth).brackets self.now.depth (G.pre self.now.brackets) (G.post self.now.brackets) }
-        ensures { Gives gathered_view result (spec.last_argument (spec.level self.now.depth) (gathered_view found.entry) s.now) }
+        requires braces { Reads expression_view (spec.level self.now.depth).braces self.now.depth
+            (F.pre self.now.braces) (F.post self.now.braces) }
+        requires brackets { Reads arguments_view (spec.level self.now.depth).brackets self.now.depth
+            (G.pre self.now.brackets) (G.post self.now.brackets) }
+        ensures { Gives gathered_view result (spec.last_argument (spec.level self.now.depth)
+            (gathered_view found.entry) s.now) }
     {
         match self.argument(s) {
             Ok((a, rest)) => {
@@ -142,9 +151,12 @@ impl<
 
     #[tactic(auto, unfolding(crate::specs::Expressions::call_arguments))]
     pub fn call_arguments(&self, s: &'s str) -> Result<(CallArguments<'s>, &'s str), Stop>
-        requires braces { Reads expression_view (spec.level self.now.depth).braces self.now.depth (F.pre self.now.braces) (F.post self.now.braces) }
-        requires brackets { Reads arguments_view (spec.level self.now.depth).brackets self.now.depth (G.pre self.now.brackets) (G.post self.now.brackets) }
-        ensures { Gives arguments_view result (spec.call_arguments (spec.level self.now.depth) s.now) }
+        requires braces { Reads expression_view (spec.level self.now.depth).braces self.now.depth
+            (F.pre self.now.braces) (F.post self.now.braces) }
+        requires brackets { Reads arguments_view (spec.level self.now.depth).brackets self.now.depth
+            (G.pre self.now.brackets) (G.post self.now.brackets) }
+        ensures { Gives arguments_view result (spec.call_arguments
+            (spec.level self.now.depth) s.now) }
     {
         let opened = eat(after_blank(s), b'(').ok_or(Stop::Absent)?;
         let (all, rest) = self.argument_list(after_blank(opened))?;

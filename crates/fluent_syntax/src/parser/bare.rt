@@ -47,7 +47,8 @@ fn bare_reference<'s>(s: &'s str) -> Option<(InlineExpression<'s>, &'s str)>
 /// The same between braces, with nothing else there.
 #[inline(always)]
 pub fn bare_placeable<'s>(s: &'s str) -> Option<(Expression<'s>, &'s str)>
-    ensures { IfSome result (λ p. (depth : ℕ) → (level (suc depth)).braces s.now ≡ Some (expression_view p.0, p.1.now)) }
+    ensures { IfSome result (λ p. (depth : ℕ) → (level (suc depth)).braces s.now
+        ≡ Some (expression_view p.0, p.1.now)) }
 {
     let inside = after_blank(eat(s, b'{')?);
     let (x, rest) = bare_reference(inside)?;

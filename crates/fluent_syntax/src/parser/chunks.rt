@@ -43,8 +43,10 @@ impl<'s> Found<'s> {
     /// Adds what a chunk at this offset leaves.
     fn add(&mut self, start: usize, chunk: Chunk<'s>) -> Result<(), AllocError>
         requires { start + length chunk.text.now < 2 ^ 64 }
-        ensures entries { OnOk result (all entry_view self.new.body ≡ all entry_view self.old.body ++ spec.entry_of (chunk_view chunk.entry)) }
-        ensures errors { OnOk result (all error_range self.new.errors ≡ all error_range self.old.errors ++ spec.junk_range start (chunk_view chunk.entry)) }
+        ensures entries { OnOk result (all entry_view self.new.body
+            ≡ all entry_view self.old.body ++ spec.entry_of (chunk_view chunk.entry)) }
+        ensures errors { OnOk result (all error_range self.new.errors
+            ≡ all error_range self.old.errors ++ spec.junk_range start (chunk_view chunk.entry)) }
     {
         let Chunk { text, part } = chunk;
         match part {

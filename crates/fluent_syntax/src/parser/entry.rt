@@ -117,7 +117,8 @@ fn attributes<'s>(
     s: &'s str,
     mut found: Vec<Attribute<'s>>,
 ) -> Result<(Vec<Attribute<'s>>, &'s str), Stop>
-    ensures { Gives (all attribute_view) result (parser.many_from parser.push spec.attribute (length s.now) (all attribute_view found.entry) s.now) }
+    ensures { Gives (all attribute_view) result (parser.many_from parser.push spec.attribute
+        (length s.now) (all attribute_view found.entry) s.now) }
 {
     let mut rest = s;
     'attributes: for _turn in 0..s.len() {

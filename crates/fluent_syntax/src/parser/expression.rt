@@ -49,8 +49,10 @@ impl<
     #[inline(always)]
     #[tactic(auto, unfolding(crate::specs::Expressions::expression))]
     fn expression(&self, s: &'s str) -> Result<(Expression<'s>, &'s str), Stop>
-        requires braces { Reads expression_view (spec.level self.now.depth).braces self.now.depth (F.pre self.now.braces) (F.post self.now.braces) }
-        requires brackets { Reads arguments_view (spec.level self.now.depth).brackets self.now.depth (G.pre self.now.brackets) (G.post self.now.brackets) }
+        requires braces { Reads expression_view (spec.level self.now.depth).braces self.now.depth
+            (F.pre self.now.braces) (F.post self.now.braces) }
+        requires brackets { Reads arguments_view (spec.level self.now.depth).brackets self.now.depth
+            (G.pre self.now.brackets) (G.post self.now.brackets) }
         ensures { Gives expression_view result (spec.expression (spec.level self.now.depth) s.now) }
     {
         let (x, rest) = self.inline_expression(s)?;
@@ -75,9 +77,12 @@ impl<
 
     #[tactic(auto, unfolding(crate::specs::Expressions::inline_placeable))]
     fn inline_placeable(&self, s: &'s str) -> Result<(Expression<'s>, &'s str), Stop>
-        requires braces { Reads expression_view (spec.level self.now.depth).braces self.now.depth (F.pre self.now.braces) (F.post self.now.braces) }
-        requires brackets { Reads arguments_view (spec.level self.now.depth).brackets self.now.depth (G.pre self.now.brackets) (G.post self.now.brackets) }
-        ensures { Gives expression_view result (spec.inline_placeable (spec.level self.now.depth) s.now) }
+        requires braces { Reads expression_view (spec.level self.now.depth).braces self.now.depth
+            (F.pre self.now.braces) (F.post self.now.braces) }
+        requires brackets { Reads arguments_view (spec.level self.now.depth).brackets self.now.depth
+            (G.pre self.now.brackets) (G.post self.now.brackets) }
+        ensures { Gives expression_view result (spec.inline_placeable
+            (spec.level self.now.depth) s.now) }
     {
         let opened = eat(s, b'{').ok_or(Stop::Absent)?;
         let (x, rest) = self.expression(after_blank(opened))?;

@@ -50,7 +50,8 @@ fn closes_pattern(byte: u8) -> bool
 /// Adds a text, unless it is empty.
 #[inline(never)]
 fn push_text<'s>(found: &mut Vec<PatternElement<'s>>, value: &'s str) -> Result<(), AllocError>
-    ensures { OnOk result (all element_view found.new ≡ all element_view found.old ++ unless_empty value.now) }
+    ensures { OnOk result (all element_view found.new
+        ≡ all element_view found.old ++ unless_empty value.now) }
 {
     if value.is_empty() {
         return Ok(());
@@ -67,8 +68,10 @@ fn push_placeable<'s, F: Fn(Global, &'s str, usize) -> Result<(Expression<'s>, &
     braces: &F,
     found: &mut Vec<PatternElement<'s>>,
 ) -> Result<&'s str, Stop>
-    requires braces { Reads expression_view (level depth).braces depth (F.pre braces.now) (F.post braces.now) }
-    ensures { Places result (all element_view found.old) (all element_view found.new) ((level depth).braces s.now) }
+    requires braces { Reads expression_view (level depth).braces depth (F.pre braces.now)
+        (F.post braces.now) }
+    ensures { Places result (all element_view found.old) (all element_view found.new)
+        ((level depth).braces s.now) }
 {
     if depth > 0
         && let Some((expression, rest)) = bare_placeable(s)
@@ -87,8 +90,10 @@ fn push_any_placeable<'s, F: Fn(Global, &'s str, usize) -> Result<(Expression<'s
     braces: &F,
     found: &mut Vec<PatternElement<'s>>,
 ) -> Result<&'s str, Stop>
-    requires braces { Reads expression_view (level depth).braces depth (F.pre braces.now) (F.post braces.now) }
-    ensures { Places result (all element_view found.old) (all element_view found.new) ((level depth).braces s.now) }
+    requires braces { Reads expression_view (level depth).braces depth (F.pre braces.now)
+        (F.post braces.now) }
+    ensures { Places result (all element_view found.old) (all element_view found.new)
+        ((level depth).braces s.now) }
 {
     let (expression, rest) = braces(alloc, s, depth)?;
     push(found, PatternElement::Placeable { expression })?;
@@ -102,7 +107,8 @@ pub fn first_line<'s, F: Fn(Global, &'s str, usize) -> Result<(Expression<'s>, &
     depth: usize,
     braces: &F,
 ) -> Result<(Vec<PatternElement<'s>>, Line<'s>), AllocError>
-    requires braces { Reads expression_view (level depth).braces depth (F.pre braces.now) (F.post braces.now) }
+    requires braces { Reads expression_view (level depth).braces depth (F.pre braces.now)
+        (F.post braces.now) }
     ensures { IfOk result (λ p. IsFirstLine depth s.now (all element_view p.0) p.1) }
 {
     let mut found = Vec::new(alloc);

@@ -18,7 +18,8 @@ pub fn elements<'s>(
     alloc: Global,
     pieces: Vec<Piece<'s>>,
 ) -> Result<Vec<PatternElement<'s>>, AllocError>
-    ensures { IfOk result (λ v. map element_view v.items ≡ spec.elements (map piece_view pieces.entry.items)) }
+    ensures { IfOk result (λ v. map element_view v.items
+        ≡ spec.elements (map piece_view pieces.entry.items)) }
 {
     let common = common_indent(&pieces);
     let mut out = backwards(alloc, pieces, common)?;
@@ -48,7 +49,8 @@ fn push_words<'s>(
     common: usize,
     after_line: bool,
 ) -> Result<(), AllocError>
-    ensures { OnOk result ((done : List spec.Piece) → map element_view out.old.items ≡ backwards (lines common done)
+    ensures { OnOk result ((done : List spec.Piece) →
+        map element_view out.old.items ≡ backwards (lines common done)
         → after_line ≡ starts_line done
         → map element_view out.new.items ≡ backwards (lines common (spec.words words.now ∷ done))) }
 {
@@ -74,10 +76,13 @@ fn push_piece<'s>(
     common: usize,
     after_line: bool,
 ) -> Result<bool, AllocError>
-    ensures out { OnOk result ((done : List spec.Piece) → map element_view out.old.items ≡ backwards (lines common done)
+    ensures out { OnOk result ((done : List spec.Piece) →
+        map element_view out.old.items ≡ backwards (lines common done)
         → after_line ≡ starts_line done
-        → map element_view out.new.items ≡ backwards (lines common (piece_view piece.entry ∷ done))) }
-    ensures line { IfOk result (λ at_line. (done : List spec.Piece) → at_line ≡ starts_line (piece_view piece.entry ∷ done)) }
+        → map element_view out.new.items ≡ backwards (lines common
+        (piece_view piece.entry ∷ done))) }
+    ensures line { IfOk result (λ at_line. (done : List spec.Piece) →
+        at_line ≡ starts_line (piece_view piece.entry ∷ done)) }
 {
     match piece {
         Piece::Line(count) => {
@@ -101,7 +106,8 @@ fn backwards<'s>(
     pieces: Vec<Piece<'s>>,
     common: usize,
 ) -> Result<Vec<PatternElement<'s>>, AllocError>
-    ensures { IfOk result (λ v. map element_view v.items ≡ backwards (lines common (map piece_view pieces.entry.items))) }
+    ensures { IfOk result (λ v. map element_view v.items
+        ≡ backwards (lines common (map piece_view pieces.entry.items))) }
 {
     let mut out = Vec::with_capacity(alloc, pieces.len())?;
     let mut left = pieces;
@@ -145,7 +151,8 @@ fn smaller(a: Option<usize>, b: Option<usize>) -> Option<usize>
 /// Takes the line feeds off the end, which is the front of the pattern.
 #[inline(always)]
 fn drop_feeds<'s>(out: &mut Vec<PatternElement<'s>>)
-    ensures { map element_view out.new.items ≡ spec.without_last spec.is_feed (map element_view out.old.items) }
+    ensures { map element_view out.new.items ≡ spec.without_last spec.is_feed
+        (map element_view out.old.items) }
 {
     let mut end = out.len();
     'feeds: while end > 0 && is_feed(&out[end - 1]) {
@@ -167,7 +174,8 @@ fn is_feed(element: &PatternElement<'_>) -> bool
 /// Where the last element is text, takes the spaces off its end, and takes it away where nothing is left.
 #[inline(always)]
 pub fn trim_last<'s>(out: &mut Vec<PatternElement<'s>>) -> Result<(), AllocError>
-    ensures { OnOk result (map element_view out.new.items ≡ spec.trim_last (map element_view out.old.items)) }
+    ensures { OnOk result (map element_view out.new.items
+        ≡ spec.trim_last (map element_view out.old.items)) }
 {
     match out.pop() {
         None => Ok(()),

@@ -26,7 +26,8 @@ pub fn pattern<'s, F: Fn(Global, &'s str, usize) -> Result<(Expression<'s>, &'s 
     depth: usize,
     braces: &F,
 ) -> Result<(Pattern<'s>, &'s str), Stop>
-    requires braces { Reads expression_view (level depth).braces depth (F.pre braces.now) (F.post braces.now) }
+    requires braces { Reads expression_view (level depth).braces depth (F.pre braces.now)
+        (F.post braces.now) }
     ensures { Gives pattern_view result (spec.pattern (level depth).braces s.now) }
 {
     if let Some((line, rest)) = only_line(s) {
@@ -38,7 +39,8 @@ pub fn pattern<'s, F: Fn(Global, &'s str, usize) -> Result<(Expression<'s>, &'s 
 
 /// The text of a line, where it is a whole pattern: nothing behind it goes on with it.
 fn only_line<'s>(s: &'s str) -> Option<(&'s str, &'s str)>
-    ensures { IfSome result (λ p. (depth : ℕ) → spec.pattern (level depth).braces s.now ≡ Some (pattern_of (unless_empty (trim_spaces p.0.now)), p.1.now)) }
+    ensures { IfSome result (λ p. (depth : ℕ) → spec.pattern (level depth).braces s.now
+        ≡ Some (pattern_of (unless_empty (trim_spaces p.0.now)), p.1.now)) }
 {
     let (line, rest) = split_run(s, Class::Text);
     if line.is_empty() || byte_at(rest, 0) == b'{' || may_go_on(rest) {
@@ -50,7 +52,8 @@ fn only_line<'s>(s: &'s str) -> Option<(&'s str, &'s str)>
 /// The text of a line as the only element, without the spaces at its end.
 #[inline(never)]
 fn one_element<'s>(alloc: Global, line: &'s str) -> Result<Vec<PatternElement<'s>>, AllocError>
-    ensures { IfOk result (λ elements. all element_view elements ≡ unless_empty (trim_spaces line.now)) }
+    ensures { IfOk result (λ elements. all element_view elements
+        ≡ unless_empty (trim_spaces line.now)) }
 {
     let value = without_spaces(line);
     if value.is_empty() {
@@ -69,7 +72,8 @@ fn long_pattern<'s, F: Fn(Global, &'s str, usize) -> Result<(Expression<'s>, &'s
     depth: usize,
     braces: &F,
 ) -> Result<(Pattern<'s>, &'s str), Stop>
-    requires braces { Reads expression_view (level depth).braces depth (F.pre braces.now) (F.post braces.now) }
+    requires braces { Reads expression_view (level depth).braces depth (F.pre braces.now)
+        (F.post braces.now) }
     ensures { Gives pattern_view result (spec.pattern (level depth).braces s.now) }
 {
     let (mut elements, line) = first_line(alloc, s, depth, braces)?;
@@ -94,8 +98,11 @@ fn many_lines<'s, F: Fn(Global, &'s str, usize) -> Result<(Expression<'s>, &'s s
     braces: &F,
     front: Vec<PatternElement<'s>>,
 ) -> Result<(Pattern<'s>, &'s str), Stop>
-    requires braces { Reads expression_view (level depth).braces depth (F.pre braces.now) (F.post braces.now) }
-    ensures { (whole : List ℕ) → Reached depth whole (map piece_of (all element_view front.entry)) s.now → Gives pattern_view result (spec.pattern (level depth).braces whole) }
+    requires braces { Reads expression_view (level depth).braces depth (F.pre braces.now)
+        (F.post braces.now) }
+    ensures { (whole : List ℕ) → Reached depth whole
+        (map piece_of (all element_view front.entry)) s.now →
+        Gives pattern_view result (spec.pattern (level depth).braces whole) }
 {
     let found = as_pieces(alloc, front)?;
     let (pieces, rest) = more_pieces(alloc, s, depth, braces, found)?;

@@ -21,7 +21,8 @@ pub fn as_pieces<'s>(
     alloc: Global,
     front: Vec<PatternElement<'s>>,
 ) -> Result<Vec<Piece<'s>>, AllocError>
-    ensures { IfOk result (λ found. all piece_view found ≡ map piece_of (all element_view front.entry)) }
+    ensures { IfOk result (λ found. all piece_view found
+        ≡ map piece_of (all element_view front.entry)) }
 {
     let mut pieces = Vec::with_capacity(alloc, front.len())?;
     'elements: for element in front {
@@ -47,8 +48,10 @@ pub fn more_pieces<'s, F: Fn(Global, &'s str, usize) -> Result<(Expression<'s>, 
     braces: &F,
     mut found: Vec<Piece<'s>>,
 ) -> Result<(Vec<Piece<'s>>, &'s str), Stop>
-    requires braces { Reads expression_view (level depth).braces depth (F.pre braces.now) (F.post braces.now) }
-    ensures { (whole : List ℕ) → Reached depth whole (all piece_view found.entry) s.now → Gives (all piece_view) result (pieces (level depth).braces whole) }
+    requires braces { Reads expression_view (level depth).braces depth (F.pre braces.now)
+        (F.post braces.now) }
+    ensures { (whole : List ℕ) → Reached depth whole (all piece_view found.entry) s.now →
+        Gives (all piece_view) result (pieces (level depth).braces whole) }
 {
     let mut rest = s;
     'pieces: while !rest.is_empty() {
@@ -79,8 +82,10 @@ fn push_element<'s, F: Fn(Global, &'s str, usize) -> Result<(Expression<'s>, &'s
     braces: &F,
     found: &mut Vec<Piece<'s>>,
 ) -> Result<&'s str, Stop>
-    requires braces { Reads expression_view (level depth).braces depth (F.pre braces.now) (F.post braces.now) }
-    ensures { Adds result (all piece_view found.old) (all piece_view found.new) (pattern_element (level depth).braces s.now) }
+    requires braces { Reads expression_view (level depth).braces depth (F.pre braces.now)
+        (F.post braces.now) }
+    ensures { Adds result (all piece_view found.old) (all piece_view found.new)
+        (pattern_element (level depth).braces s.now) }
 {
     match push_words(s, found) {
         Ok(rest) => Ok(rest),
@@ -90,7 +95,8 @@ fn push_element<'s, F: Fn(Global, &'s str, usize) -> Result<(Expression<'s>, &'s
 }
 
 fn push_words<'s>(s: &'s str, found: &mut Vec<Piece<'s>>) -> Result<&'s str, Stop>
-    ensures { Adds result (all piece_view found.old) (all piece_view found.new) (text_pieces s.now) }
+    ensures { Adds result (all piece_view found.old) (all piece_view found.new)
+        (text_pieces s.now) }
 {
     if let Some((words, rest)) = inline_text(s) {
         push(found, Piece::Words(words))?;
@@ -114,8 +120,10 @@ fn push_hole<'s, F: Fn(Global, &'s str, usize) -> Result<(Expression<'s>, &'s st
     braces: &F,
     found: &mut Vec<Piece<'s>>,
 ) -> Result<&'s str, Stop>
-    requires braces { Reads expression_view (level depth).braces depth (F.pre braces.now) (F.post braces.now) }
-    ensures { Adds result (all piece_view found.old) (all piece_view found.new) (hole_pieces depth s.now) }
+    requires braces { Reads expression_view (level depth).braces depth (F.pre braces.now)
+        (F.post braces.now) }
+    ensures { Adds result (all piece_view found.old) (all piece_view found.new)
+        (hole_pieces depth s.now) }
 {
     if depth > 0
         && let Some((x, rest)) = bare_placeable(s)
@@ -135,8 +143,10 @@ fn push_any_hole<'s, F: Fn(Global, &'s str, usize) -> Result<(Expression<'s>, &'
     braces: &F,
     found: &mut Vec<Piece<'s>>,
 ) -> Result<&'s str, Stop>
-    requires braces { Reads expression_view (level depth).braces depth (F.pre braces.now) (F.post braces.now) }
-    ensures { Adds result (all piece_view found.old) (all piece_view found.new) (hole_pieces depth s.now) }
+    requires braces { Reads expression_view (level depth).braces depth (F.pre braces.now)
+        (F.post braces.now) }
+    ensures { Adds result (all piece_view found.old) (all piece_view found.new)
+        (hole_pieces depth s.now) }
 {
     match braces(alloc, s, depth) {
         Ok((x, rest)) => {

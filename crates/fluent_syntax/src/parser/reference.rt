@@ -66,8 +66,10 @@ impl<
     #[inline(always)]
     #[tactic(auto, unfolding(crate::specs::Expressions::function_reference))]
     fn function_reference(&self, s: &'s str) -> Result<(InlineExpression<'s>, &'s str), Stop>
-        requires brackets { Reads arguments_view (spec.level self.now.depth).brackets self.now.depth (G.pre self.now.brackets) (G.post self.now.brackets) }
-        ensures { Gives inline_view result (spec.function_reference (spec.level self.now.depth) s.now) }
+        requires brackets { Reads arguments_view (spec.level self.now.depth).brackets self.now.depth
+            (G.pre self.now.brackets) (G.post self.now.brackets) }
+        ensures { Gives inline_view result (spec.function_reference
+            (spec.level self.now.depth) s.now) }
     {
         let (id, rest) = identifier(s).ok_or(Stop::Absent)?;
         if !is_function_name(id.name) {
@@ -80,7 +82,8 @@ impl<
     #[inline(always)]
     #[tactic(auto, unfolding(crate::specs::Expressions::optional_call))]
     fn optional_call(&self, s: &'s str) -> Result<(Option<CallArguments<'s>>, &'s str), Stop>
-        requires brackets { Reads arguments_view (spec.level self.now.depth).brackets self.now.depth (G.pre self.now.brackets) (G.post self.now.brackets) }
+        requires brackets { Reads arguments_view (spec.level self.now.depth).brackets self.now.depth
+            (G.pre self.now.brackets) (G.post self.now.brackets) }
         ensures { Gives call_view result (spec.optional_call (spec.level self.now.depth) s.now) }
     {
         match (self.brackets)(self.alloc, s, self.depth) {
@@ -93,7 +96,8 @@ impl<
     #[inline(always)]
     #[tactic(auto, unfolding(crate::specs::Expressions::term_reference))]
     fn term_reference(&self, s: &'s str) -> Result<(InlineExpression<'s>, &'s str), Stop>
-        requires brackets { Reads arguments_view (spec.level self.now.depth).brackets self.now.depth (G.pre self.now.brackets) (G.post self.now.brackets) }
+        requires brackets { Reads arguments_view (spec.level self.now.depth).brackets self.now.depth
+            (G.pre self.now.brackets) (G.post self.now.brackets) }
         ensures { Gives inline_view result (spec.term_reference (spec.level self.now.depth) s.now) }
     {
         let name = eat(s, b'-').ok_or(Stop::Absent)?;
@@ -114,9 +118,12 @@ impl<
     #[inline(always)]
     #[tactic(auto, using(crate::proofs::References::variable_first))]
     pub fn inline_expression(&self, s: &'s str) -> Result<(InlineExpression<'s>, &'s str), Stop>
-        requires braces { Reads expression_view (spec.level self.now.depth).braces self.now.depth (F.pre self.now.braces) (F.post self.now.braces) }
-        requires brackets { Reads arguments_view (spec.level self.now.depth).brackets self.now.depth (G.pre self.now.brackets) (G.post self.now.brackets) }
-        ensures { Gives inline_view result (spec.inline_expression (spec.level self.now.depth) s.now) }
+        requires braces { Reads expression_view (spec.level self.now.depth).braces self.now.depth
+            (F.pre self.now.braces) (F.post self.now.braces) }
+        requires brackets { Reads arguments_view (spec.level self.now.depth).brackets self.now.depth
+            (G.pre self.now.brackets) (G.post self.now.brackets) }
+        ensures { Gives inline_view result (spec.inline_expression
+            (spec.level self.now.depth) s.now) }
     {
         if let Some((x, rest)) = variable_reference(s) {
             return Ok((x, rest));
@@ -127,9 +134,12 @@ impl<
     #[inline(never)]
     #[tactic(auto, unfolding(crate::specs::Expressions::inline_expression))]
     fn any_expression(&self, s: &'s str) -> Result<(InlineExpression<'s>, &'s str), Stop>
-        requires braces { Reads expression_view (spec.level self.now.depth).braces self.now.depth (F.pre self.now.braces) (F.post self.now.braces) }
-        requires brackets { Reads arguments_view (spec.level self.now.depth).brackets self.now.depth (G.pre self.now.brackets) (G.post self.now.brackets) }
-        ensures { Gives inline_view result (spec.inline_expression (spec.level self.now.depth) s.now) }
+        requires braces { Reads expression_view (spec.level self.now.depth).braces self.now.depth
+            (F.pre self.now.braces) (F.post self.now.braces) }
+        requires brackets { Reads arguments_view (spec.level self.now.depth).brackets self.now.depth
+            (G.pre self.now.brackets) (G.post self.now.brackets) }
+        ensures { Gives inline_view result (spec.inline_expression
+            (spec.level self.now.depth) s.now) }
     {
         if let Some((x, rest)) = literal(s) {
             return Ok((x, rest));

@@ -79,8 +79,10 @@ impl<
 > Inner<F, G> {
     #[tactic(auto, unfolding(crate::specs::Expressions::variant))]
     fn variant(&self, s: &'s str, default: bool) -> Result<(Variant<'s>, &'s str), Stop>
-        requires braces { Reads expression_view (spec.level self.now.depth).braces self.now.depth (F.pre self.now.braces) (F.post self.now.braces) }
-        ensures { Gives variant_view result (spec.variant (spec.level self.now.depth) default s.now) }
+        requires braces { Reads expression_view (spec.level self.now.depth).braces self.now.depth
+            (F.pre self.now.braces) (F.post self.now.braces) }
+        ensures { Gives variant_view result (spec.variant
+            (spec.level self.now.depth) default s.now) }
     {
         let (key, rest) = variant_head(s, default).ok_or(Stop::Absent)?;
         let (value, end) = pattern(self.alloc, rest, self.depth, &self.braces)?;
@@ -98,8 +100,10 @@ impl<
     #[inline(never)]
     #[tactic(auto, unfolding(crate::specs::Expressions::variant_list))]
     pub fn variant_list(&self, s: &'s str) -> Result<(Vec<Variant<'s>>, &'s str), Stop>
-        requires braces { Reads expression_view (spec.level self.now.depth).braces self.now.depth (F.pre self.now.braces) (F.post self.now.braces) }
-        ensures { Gives (all variant_view) result (spec.variant_list (spec.level self.now.depth) s.now) }
+        requires braces { Reads expression_view (spec.level self.now.depth).braces self.now.depth
+            (F.pre self.now.braces) (F.post self.now.braces) }
+        ensures { Gives (all variant_view) result (spec.variant_list
+            (spec.level self.now.depth) s.now) }
     {
         let (before, rest) = self.variants(s, Vec::new(self.alloc))?;
         let (default, rest) = self.variant(rest, true)?;
@@ -117,8 +121,11 @@ impl<
         s: &'s str,
         mut found: Vec<Variant<'s>>,
     ) -> Result<(Vec<Variant<'s>>, &'s str), Stop>
-        requires braces { Reads expression_view (spec.level self.now.depth).braces self.now.depth (F.pre self.now.braces) (F.post self.now.braces) }
-        ensures { Gives (all variant_view) result (parser.many_from parser.push (spec.variant (spec.level self.now.depth) false) (length s.now) (all variant_view found.entry) s.now) }
+        requires braces { Reads expression_view (spec.level self.now.depth).braces self.now.depth
+            (F.pre self.now.braces) (F.post self.now.braces) }
+        ensures { Gives (all variant_view) result (parser.many_from parser.push
+            (spec.variant (spec.level self.now.depth) false) (length s.now)
+            (all variant_view found.entry) s.now) }
     {
         let mut rest = s;
         'variants: for _turn in 0..s.len() {

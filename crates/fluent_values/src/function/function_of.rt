@@ -34,7 +34,9 @@ pub trait Answering<C: FluentType, N: AnswerRule<C>> {
         arguments: &FluentArgs<'a, C>,
     ) -> Result<FluentValue<'a, C>, AllocError>
         requires { ready self.now }
-        ensures { IfOk result (λ v. value_view C.content v ≡ N.answer (map (value_view C.content) positional.now) (named C.content arguments.now)) };
+        ensures { IfOk result (λ v. value_view C.content v
+            ≡ N.answer (map (value_view C.content) positional.now)
+            (named C.content arguments.now)) };
 }
 
 impl<C: FluentType, K, N: AnswerRule<C>> Answering<C, N> for K

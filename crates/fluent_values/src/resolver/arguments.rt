@@ -141,7 +141,8 @@ pub(crate) fn argument<'p, 'args, C: FluentType>(
     args: Option<&'p FluentArgs<'args, C>>,
     name: &str,
 ) -> Option<&'p FluentValue<'args, C>>
-    ensures { option_map (λ v. value_view C.content v.now) result ≡ get name.now (given_arguments C.content args.entry) }
+    ensures { option_map (λ v. value_view C.content v.now) result
+        ≡ get name.now (given_arguments C.content args.entry) }
 {
     match args {
         Some(args) => args.get(name),
@@ -172,7 +173,8 @@ pub(crate) fn resolve_local<'p, 's, W: Write, C: FluentType, F: FluentFunction<C
 ) -> Result<FluentArgs<'p, C>, Halt>
     ensures { let at = status B.meant B.is_plain F.answer C.content in
         Gave result (named C.content)
-        (λ b below env path. local_of with_work b below env path (call_of (option_map arguments_view arguments.now)))
+        (λ b below env path. local_of with_work b below env path
+        (call_of (option_map arguments_view arguments.now)))
         (writer W.contents w.old) (writer W.contents w.new) (at scope.old) (at scope.new) }
 {
     match arguments {
@@ -212,7 +214,8 @@ fn resolve_positional<'p, 's, W: Write, C: FluentType, F: FluentFunction<C>, B: 
 ) -> Result<Vec<FluentValue<'p, C>>, Halt>
     ensures { let at = status B.meant B.is_plain F.answer C.content in
         Gave result (λ v. map (value_view C.content) v.items)
-        (λ b below env path. positional with_work b below env path (inlines_of (map inline_view arguments.now)))
+        (λ b below env path. positional with_work b below env path
+        (inlines_of (map inline_view arguments.now)))
         (writer W.contents w.old) (writer W.contents w.new) (at scope.old) (at scope.new) }
 {
     let mut values = Vec::new(scope.bundle.allocator());

@@ -46,7 +46,8 @@ pub trait Context<C: FluentType> {
     ///
     /// Memory was refused.
     fn change<'t>(&self, text: &'t str) -> Result<CowStr<'t>, AllocError>
-        ensures text { IfOk result (λ changed. cow_str_bytes changed ≡ (meant self.now).transform text.now) }
+        ensures text { IfOk result (λ changed. cow_str_bytes changed
+            ≡ (meant self.now).transform text.now) }
         ensures succeeds { IsTrue (is_plain self.now) → IsOk result };
 
     /// The formatter's answer for a value: what it is shown as in place of its own text, if it says so.
@@ -55,10 +56,12 @@ pub trait Context<C: FluentType> {
     ///
     /// Memory was refused.
     fn formatted(&self, value: &FluentValue<'_, C>) -> Result<Option<String>, AllocError>
-        ensures answer { IfOk result (λ text. option_map string_bytes text ≡ (meant self.now).formatter (value_view C.content value.now)) }
+        ensures answer { IfOk result (λ text. option_map string_bytes text
+            ≡ (meant self.now).formatter (value_view C.content value.now)) }
         ensures custom { (meant self.now).custom ≡ record { text = C.shown; same = C.alike } };
 
     /// The word of the plural category that a number has.
     fn category_word(&self, number: &FluentNumber) -> &'static str
-        ensures { result.now ≡ category_word (category_of (meant self.now).plurals (number_of number.now)) };
+        ensures { result.now ≡ category_word (category_of (meant self.now).plurals
+            (number_of number.now)) };
 }

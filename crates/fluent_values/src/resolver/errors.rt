@@ -66,7 +66,8 @@ impl ReferenceKind {
         alloc: Global,
         expression: &InlineExpression<'_>,
     ) -> Result<Option<ReferenceKind>, AllocError>
-        ensures found { IfOk result (λ found. option_map reference_view found ≡ reference_of (inline_view expression.now)) }
+        ensures found { IfOk result (λ found. option_map reference_view found
+            ≡ reference_of (inline_view expression.now)) }
         ensures succeeds { reference_of (inline_view expression.now) ≡ None → IsOk result }
     {
         match expression {
@@ -146,7 +147,8 @@ impl ResolverError {
         alloc: Global,
         expression: &InlineExpression<'_>,
     ) -> Result<Option<ResolverError>, AllocError>
-        ensures found { IfOk result (λ found. option_map resolver_error_view found ≡ option_map lost (reference_of (inline_view expression.now))) }
+        ensures found { IfOk result (λ found. option_map resolver_error_view found
+            ≡ option_map lost (reference_of (inline_view expression.now))) }
         ensures succeeds { reference_of (inline_view expression.now) ≡ None → IsOk result }
     {
         match ReferenceKind::of(alloc, expression)? {
@@ -161,7 +163,8 @@ impl ResolverError {
     ///
     /// Memory was refused, which only an error with a text can meet.
     pub fn try_clone(&self, alloc: Global) -> Result<ResolverError, AllocError>
-        ensures same { IfOk result (λ copy. resolver_error_view copy ≡ resolver_error_view self.now) }
+        ensures same { IfOk result (λ copy. resolver_error_view copy
+            ≡ resolver_error_view self.now) }
         ensures succeeds { NamesNothing self.now → IsOk result }
     {
         match self {

@@ -42,7 +42,8 @@ pub(crate) fn write_expression<
 ) -> Result<(), Halt>
     ensures { let at = status B.meant B.is_plain F.answer C.content in
         Wrote result
-        (λ b below env path. walk.expression with_work b below env path (expression_view expression.now))
+        (λ b below env path. walk.expression with_work b below env path
+        (expression_view expression.now))
         (sink W.contents out.old) (sink W.contents out.new) (at scope.old) (at scope.new) }
 {
     match expression {

@@ -23,7 +23,8 @@ pub(crate) fn put_in_braces<W: Write>(
     out: &mut Output<W>,
     expression: &InlineExpression,
 ) -> Result<(), Halt>
-    ensures { Took result (in_braces (fallback (inline_view expression.now))) (sink W.contents out.old) (sink W.contents out.new) }
+    ensures { Took result (in_braces (fallback (inline_view expression.now)))
+        (sink W.contents out.old) (sink W.contents out.new) }
 {
     put_text(out, "{")?;
     put_fallback(out, expression)?;
@@ -35,7 +36,8 @@ pub(crate) fn put_fallback<W: Write>(
     out: &mut Output<W>,
     expression: &InlineExpression,
 ) -> Result<(), Halt>
-    ensures { Took result (fallback (inline_view expression.now)) (sink W.contents out.old) (sink W.contents out.new) }
+    ensures { Took result (fallback (inline_view expression.now)) (sink W.contents out.old)
+        (sink W.contents out.new) }
 {
     match expression {
         InlineExpression::StringLiteral { value } => {
@@ -73,7 +75,8 @@ fn put_dotted<W: Write>(
     id: &Identifier,
     attribute: &Option<Identifier>,
 ) -> Result<(), Halt>
-    ensures { Took result (dotted id.now.name.now (attribute_of attribute.now)) (sink W.contents out.old) (sink W.contents out.new) }
+    ensures { Took result (dotted id.now.name.now (attribute_of attribute.now))
+        (sink W.contents out.old) (sink W.contents out.new) }
 {
     put_text(out, id.name)?;
     if let Some(attribute) = attribute {

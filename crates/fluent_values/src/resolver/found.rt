@@ -47,7 +47,8 @@ impl<'r, 's, F> Ids<'r, 's, F> {
         _place: Place,
     ) -> Found<'p, 's>
         ensures { (answer : F → Function Text) →
-            found_view result ≡ message_target (get id.now (ids answer self.now)) (attribute_of attribute.now) }
+            found_view result ≡ message_target (get id.now (ids answer self.now))
+            (attribute_of attribute.now) }
     {
         match self.named(id) {
             Some(Entry::Message(message)) => match attribute {
@@ -66,7 +67,8 @@ impl<'r, 's, F> Ids<'r, 's, F> {
         _place: Place,
     ) -> Found<'p, 's>
         ensures { (answer : F → Function Text) →
-            found_view result ≡ term_target (get id.now (ids answer self.now)) (attribute_of attribute.now) }
+            found_view result ≡ term_target (get id.now (ids answer self.now))
+            (attribute_of attribute.now) }
     {
         match self.named(id) {
             Some(Entry::Term(term)) => match attribute {

@@ -49,7 +49,9 @@ impl<'a, C: FluentType> Gathered<'a, C> {
         name: CowStr<'a>,
         value: FluentValue<'a, C>,
     ) -> Result<(), AllocError>
-        ensures { OnOk result (gathered C.content self.new ≡ fin.set (cow_str_bytes name.entry) (value_view C.content value.entry) (gathered C.content self.old)) }
+        ensures { OnOk result (gathered C.content self.new
+            ≡ fin.set (cow_str_bytes name.entry) (value_view C.content value.entry)
+            (gathered C.content self.old)) }
     {
         match self {
             Gathered::Few(args) => args.set(name, value),
@@ -80,7 +82,8 @@ fn in_order<'a, C: FluentType>(
     alloc: Global,
     tree: BTreeMap<CowStr<'a>, FluentValue<'a, C>>,
 ) -> Result<FluentArgs<'a, C>, AllocError>
-    ensures { IfOk result (λ args. named C.content args ≡ by_name (map (λ e. (cow_str_bytes e.0, value_view C.content e.1)) tree.entry.entries)) }
+    ensures { IfOk result (λ args. named C.content args
+        ≡ by_name (map (λ e. (cow_str_bytes e.0, value_view C.content e.1)) tree.entry.entries)) }
 {
     let mut args = FluentArgs::new(alloc);
     for (name, value) in tree {

@@ -79,7 +79,8 @@ pub(crate) fn write_inline<'p, 's, W: Write, C: FluentType, F: FluentFunction<C>
 
 /// Writes the text of a string literal, with its escapes resolved.
 fn put_unescaped<W: Write>(alloc: Global, out: &mut Output<W>, value: &str) -> Result<(), Halt>
-    ensures { Took result (unescaped value.now) (sink W.contents out.old) (sink W.contents out.new) }
+    ensures { Took result (unescaped value.now) (sink W.contents out.old)
+        (sink W.contents out.new) }
 {
     if out.is_buffered {
         let text = unescape_unicode_to_string(alloc, value)?;
@@ -134,7 +135,8 @@ fn write_term<'p, 's, W: Write, C: FluentType, F: FluentFunction<C>, B: Context<
     place: Place,
 ) -> Result<(), Halt>
     requires { inline_view inline.now
-        ≡ term id.now.name.now (attribute_of attribute.now) (call_of (option_map arguments_view arguments.now)) }
+        ≡ term id.now.name.now (attribute_of attribute.now)
+        (call_of (option_map arguments_view arguments.now)) }
     ensures { let at = status B.meant B.is_plain F.answer C.content in
         Wrote result
         (λ b below env path. written with_work b below env path (inline_view inline.now))
@@ -157,10 +159,12 @@ fn follow<'p, 's, W: Write, C: FluentType, F: FluentFunction<C>, B: Context<C>>(
     id: &Identifier<'_>,
     found: Found<'p, 's>,
 ) -> Result<(), Halt>
-    requires { IsBelow (bound (status B.meant B.is_plain F.answer C.content scope.old).bundle) (found_view found) }
+    requires { IsBelow (bound (status B.meant B.is_plain F.answer C.content scope.old).bundle)
+        (found_view found) }
     ensures { let at = status B.meant B.is_plain F.answer C.content in
         Wrote result
-        (λ b below env path. follow with_work b below env env path (inline_view inline.now) id.now.name.now (found_view found.entry))
+        (λ b below env path. follow with_work b below env env path
+        (inline_view inline.now) id.now.name.now (found_view found.entry))
         (sink W.contents out.old) (sink W.contents out.new) (at scope.old) (at scope.new) }
 {
     match found {
@@ -181,10 +185,13 @@ fn go<'p, 's, W: Write, C: FluentType, F: FluentFunction<C>, B: Context<C>>(
     inline: &InlineExpression<'_>,
     target: Target<'p, 's>,
 ) -> Result<(), Halt>
-    requires { size (pattern_view target.pattern.now) < bound (status B.meant B.is_plain F.answer C.content scope.old).bundle }
+    requires { size (pattern_view target.pattern.now)
+        < bound (status B.meant B.is_plain F.answer C.content scope.old).bundle }
     ensures { let at = status B.meant B.is_plain F.answer C.content in
         Wrote result
-        (λ b below env path. go with_work b below env (is_on path (pattern_view target.entry.pattern.now)) env path (inline_view inline.now) (pattern_view target.entry.pattern.now))
+        (λ b below env path. go with_work b below env
+        (is_on path (pattern_view target.entry.pattern.now)) env path (inline_view inline.now)
+        (pattern_view target.entry.pattern.now))
         (sink W.contents out.old) (sink W.contents out.new) (at scope.old) (at scope.new) }
 {
     if scope.path.is_on(target.pattern) {
@@ -233,7 +240,8 @@ fn put_shown<W: Write, C: FluentType, B: Context<C>>(
     inline: &InlineExpression<'_>,
     answer: &FluentValue<'_, C>,
 ) -> Result<(), Halt>
-    ensures { Took result (shown_answer (B.meant bundle.now) (inline_view inline.now) (value_view C.content answer.now))
+    ensures { Took result (shown_answer (B.meant bundle.now) (inline_view inline.now)
+        (value_view C.content answer.now))
         (sink W.contents out.old) (sink W.contents out.new) }
 {
     match answer {

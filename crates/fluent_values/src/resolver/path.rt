@@ -64,7 +64,8 @@ impl<'p, 's> Path<'p, 's> {
 
     /// Puts a pattern there where there is none, and says whether it did.
     pub(crate) fn begin(&mut self, pattern: &'p Pattern<'s>) -> bool
-        ensures inner { on_path (trail self.new) ≡ inner (on_path (trail self.old)) (pattern_view pattern.now) }
+        ensures inner { on_path (trail self.new) ≡ inner (on_path (trail self.old))
+            (pattern_view pattern.now) }
         ensures begun { OnTrue result (trail self.old ≡ []) }
         ensures same { OnFalse result (trail self.new ≡ trail self.old) }
     {
@@ -108,7 +109,8 @@ impl<'p, 's> Path<'p, 's> {
 
     /// Takes the last pattern off.
     pub(crate) fn leave(&mut self)
-        ensures { (before : List _) → (last : _) → trail self.old ≡ before ++ last ∷ [] → trail self.new ≡ before }
+        ensures { (before : List _) → (last : _) → trail self.old ≡ before ++ last ∷ [] →
+            trail self.new ≡ before }
     {
         if self.others.is_empty() {
             self.bottom = None;

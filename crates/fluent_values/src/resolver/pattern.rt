@@ -56,7 +56,8 @@ fn write_elements<'p, 's, W: Write, C: FluentType, F: FluentFunction<C>, B: Cont
 ) -> Result<(), Halt>
     ensures wrote { let at = status B.meant B.is_plain F.answer C.content in
         Wrote result
-        (λ b below env path. elements with_work b below env path (has_one (pattern_view pattern.now)) (pattern_view pattern.now))
+        (λ b below env path. elements with_work b below env path
+        (has_one (pattern_view pattern.now)) (pattern_view pattern.now))
         (sink W.contents out.old) (sink W.contents out.new) (at scope.old) (at scope.new) }
     ensures memory { IsText (pattern_view pattern.now) → IsTrue (B.is_plain scope.old.bundle.now)
         → out.old.is_buffered ≡ false → result ≢ Err Halt.Memory }
@@ -84,7 +85,8 @@ fn put_changed<W: Write, C: FluentType, F: FluentFunction<C>, B: Context<C>>(
 ) -> Result<(), Halt>
     ensures took { Took result ((B.meant scope.now.bundle.now).transform text.now)
         (sink W.contents out.old) (sink W.contents out.new) }
-    ensures memory { IsTrue (B.is_plain scope.now.bundle.now) → out.old.is_buffered ≡ false → result ≢ Err Halt.Memory }
+    ensures memory { IsTrue (B.is_plain scope.now.bundle.now) → out.old.is_buffered ≡ false →
+        result ≢ Err Halt.Memory }
 {
     let changed = scope.bundle.change(text)?;
     put_text(out, &changed)
@@ -109,7 +111,8 @@ fn write_placeable<'p, 's, W: Write, C: FluentType, F: FluentFunction<C>, B: Con
     requires { budget_view scope.old.budget ≢ struck }
     ensures { let at = status B.meant B.is_plain F.answer C.content in
         Wrote result
-        (λ b below env path. part with_work b below env path one (placeable (expression_view expression.now)))
+        (λ b below env path. part with_work b below env path one
+        (placeable (expression_view expression.now)))
         (sink W.contents out.old) (sink W.contents out.new) (at scope.old) (at scope.new) }
 {
     if !scope.take_one() {
@@ -125,7 +128,8 @@ fn write_placeable<'p, 's, W: Write, C: FluentType, F: FluentFunction<C>, B: Con
 
 /// Whether a placeable stands between isolation marks.
 fn is_marked<C: FluentType, B: Context<C>>(bundle: &B, one: bool, expression: &Expression) -> bool
-    ensures { result ≡ is_marked (B.meant bundle.now).isolates one (expression_view expression.now) }
+    ensures { result ≡ is_marked (B.meant bundle.now).isolates one
+        (expression_view expression.now) }
 {
     bundle.uses_isolating() && !one && !is_bare(expression)
 }
@@ -158,7 +162,8 @@ pub(crate) fn put_ending<W: Write>(
     expression: &Expression,
     budget: Budget,
 ) -> Result<(), Halt>
-    ensures { Took result (ending (fallback_of (expression_view expression.now)) (budget_view budget))
+    ensures { Took result (ending (fallback_of (expression_view expression.now))
+        (budget_view budget))
         (sink W.contents out.old) (sink W.contents out.new) }
 {
     match budget {

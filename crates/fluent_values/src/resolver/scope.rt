@@ -124,7 +124,8 @@ impl<'errors, 'p, 'r, 's, 'args, C: FluentType, F: FluentFunction<C>, B: Context
 
     /// Whether a placeable past the limit was met.
     pub fn dirty(&self) -> bool
-        ensures { IsTrue result ↔ ((status B.meant B.is_plain F.answer C.content self.now).budget ≡ struck) }
+        ensures { IsTrue result ↔ ((status B.meant B.is_plain F.answer C.content self.now).budget
+            ≡ struck) }
     {
         matches!(self.budget, Budget::Struck)
     }
@@ -143,7 +144,8 @@ impl<'errors, 'p, 'r, 's, 'args, C: FluentType, F: FluentFunction<C>, B: Context
     /// Memory was refused, which only a list can meet: it is as before.
     pub fn add_error(&mut self, error: ResolverError) -> Result<(), AllocError>
         ensures added { let at = status B.meant B.is_plain F.answer C.content in
-            Added result (resolver_error (resolver_error_view error) ∷ []) (at self.old) (at self.new) }
+            Added result (resolver_error (resolver_error_view error) ∷ []) (at self.old)
+            (at self.new) }
         ensures bundle { self.new.bundle ≡ self.old.bundle }
         ensures succeeds { IfNone self.old.errors (IsOk result) }
     {

@@ -23,7 +23,8 @@ pub fn is_text(pattern: &Pattern) -> bool
 
 /// Writes the texts of a pattern as they stand, in order, and none of its placeables.
 pub fn put_texts<W: Write>(out: &mut Output<W>, pattern: &Pattern) -> Result<(), Halt>
-    ensures took { Took result (texts_of (pattern_view pattern.now)) (sink W.contents out.old) (sink W.contents out.new) }
+    ensures took { Took result (texts_of (pattern_view pattern.now)) (sink W.contents out.old)
+        (sink W.contents out.new) }
     ensures memory { out.old.is_buffered ≡ false → result ≢ Err Halt.Memory }
 {
     for element in &pattern.elements {

@@ -55,7 +55,8 @@ impl<'p, 's, C: FluentType, F: FluentFunction<C>, B: Context<C>> Scope<
         inline: &InlineExpression<'_>,
     ) -> Result<(), WriteFault>
         ensures wrote { let at = status B.meant B.is_plain F.answer C.content in
-            Wrote (without_error result) (tracks (pattern_view pattern.now) (inline_view inline.now))
+            Wrote (without_error result) (tracks (pattern_view pattern.now)
+            (inline_view inline.now))
             (writer W.contents w.old) (writer W.contents w.new) (at self.old) (at self.new) }
         ensures runs { let at = status B.meant B.is_plain F.answer C.content in
             let p = pattern_view pattern.now in
@@ -90,7 +91,8 @@ impl<'p, 's, C: FluentType, F: FluentFunction<C>, B: Context<C>> Scope<
         expression: &'p Expression<'s>,
     ) -> Result<(), WriteFault>
         ensures wrote { let at = status B.meant B.is_plain F.answer C.content in
-            Wrote (without_error result) (maybe_tracks (pattern_view pattern.now) (expression_view expression.now))
+            Wrote (without_error result) (maybe_tracks (pattern_view pattern.now)
+            (expression_view expression.now))
             (writer W.contents w.old) (writer W.contents w.new) (at self.old) (at self.new) }
         ensures runs { let at = status B.meant B.is_plain F.answer C.content in
             let p = pattern_view pattern.now in
@@ -152,7 +154,8 @@ impl<'p, 's, C: FluentType, F: FluentFunction<C>, B: Context<C>> Scope<
     ) -> Result<(Vec<FluentValue<'p, C>>, FluentArgs<'p, C>), AllocError>
         ensures got { let at = status B.meant B.is_plain F.answer C.content in
             let given = option_map (λ a. arguments_view a.now) arguments.entry in
-            Got result (λ v. (map (value_view C.content) v.0.items, named C.content v.1)) (calling given)
+            Got result (λ v. (map (value_view C.content) v.0.items, named C.content v.1))
+            (calling given)
             (at self.old) (at self.new) }
         ensures runs { let at = status B.meant B.is_plain F.answer C.content in
             let given = option_map (λ a. arguments_view a.now) arguments.entry in

@@ -22,7 +22,8 @@ pub fn put_value<W: Write, C: FluentType, B: Context<C>>(
     out: &mut Output<W>,
     value: &FluentValue<'_, C>,
 ) -> Result<(), Halt>
-    ensures { Took result (shown (B.meant bundle.now) (value_view C.content value.now)) (sink W.contents out.old) (sink W.contents out.new) }
+    ensures { Took result (shown (B.meant bundle.now) (value_view C.content value.now))
+        (sink W.contents out.old) (sink W.contents out.new) }
 {
     match bundle.formatted(value)? {
         Some(text) => put_text(out, text.as_str()),
@@ -36,7 +37,8 @@ fn put_own<W: Write, C: FluentType>(
     out: &mut Output<W>,
     value: &FluentValue<'_, C>,
 ) -> Result<(), Halt>
-    ensures { Took result (value_text (record { text = C.shown; same = C.alike }) (value_view C.content value.now)) (sink W.contents out.old) (sink W.contents out.new) }
+    ensures { Took result (value_text (record { text = C.shown; same = C.alike })
+        (value_view C.content value.now)) (sink W.contents out.old) (sink W.contents out.new) }
 {
     match value {
         FluentValue::String(text) => put_text(out, text.as_str()),
@@ -48,7 +50,8 @@ fn put_own<W: Write, C: FluentType>(
 
 /// A value's own text.
 fn own_text<C: FluentType>(alloc: Global, value: &FluentValue<'_, C>) -> Result<String, AllocError>
-    ensures { IfOk result (λ text. string_bytes text ≡ value_text (record { text = C.shown; same = C.alike }) (value_view C.content value.now)) }
+    ensures { IfOk result (λ text. string_bytes text
+        ≡ value_text (record { text = C.shown; same = C.alike }) (value_view C.content value.now)) }
 {
     match value {
         FluentValue::String(text) => String::from_str(alloc, text.as_str()),
@@ -66,7 +69,8 @@ impl<'v, C: FluentType> FluentValue<'v, C> {
         other: &FluentValue<'_, C>,
         scope: &Scope<'_, '_, '_, '_, '_, C, F, B>,
     ) -> bool
-        ensures { result ≡ matches (B.meant scope.now.bundle.now).plurals (value_view C.content self.now) (value_view C.content other.now) }
+        ensures { result ≡ matches (B.meant scope.now.bundle.now).plurals
+            (value_view C.content self.now) (value_view C.content other.now) }
     {
         match (self, other) {
             (FluentValue::String(one), FluentValue::String(two)) => one.as_str() == two.as_str(),
@@ -89,7 +93,8 @@ impl<'v, C: FluentType> FluentValue<'v, C> {
         w: &mut Counting<W>,
         scope: &Scope<'_, '_, '_, '_, '_, C, F, B>,
     ) -> Result<(), WriteFault>
-        ensures { Took (without_error result) (shown (B.meant scope.now.bundle.now) (value_view C.content self.now))
+        ensures { Took (without_error result) (shown (B.meant scope.now.bundle.now)
+            (value_view C.content self.now))
             (writer W.contents w.old) (writer W.contents w.new) }
     {
         let mut unused = String::new(scope.bundle.allocator());
@@ -112,7 +117,8 @@ impl<'v, C: FluentType> FluentValue<'v, C> {
         &self,
         scope: &Scope<'_, '_, '_, '_, '_, C, F, B>,
     ) -> Result<CowStr<'v>, AllocError>
-        ensures { IfOk result (λ text. cow_str_bytes text ≡ shown (B.meant scope.now.bundle.now) (value_view C.content self.now)) }
+        ensures { IfOk result (λ text. cow_str_bytes text
+            ≡ shown (B.meant scope.now.bundle.now) (value_view C.content self.now)) }
     {
         let text = match scope.bundle.formatted(self)? {
             Some(text) => text,
@@ -130,7 +136,8 @@ impl<'v, C: FluentType> FluentValue<'v, C> {
         self,
         scope: &Scope<'_, '_, '_, '_, '_, C, F, B>,
     ) -> Result<CowStr<'v>, AllocError>
-        ensures { IfOk result (λ text. cow_str_bytes text ≡ shown (B.meant scope.now.bundle.now) (value_view C.content self.entry)) }
+        ensures { IfOk result (λ text. cow_str_bytes text
+            ≡ shown (B.meant scope.now.bundle.now) (value_view C.content self.entry)) }
     {
         self.as_string(scope)
     }

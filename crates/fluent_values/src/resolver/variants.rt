@@ -25,7 +25,8 @@ pub fn choose<'p, 's, C: FluentType, B: Context<C>>(
 ) -> Option<&'p Pattern<'s>>
     ensures { let vs = variants_of (map variant_view variants.now) in
         option_map (λ p. pattern_view p.now) result
-        ≡ choice (goes_to (B.meant bundle.now) (value_view C.content value.now)) (first_default vs) vs }
+        ≡ choice (goes_to (B.meant bundle.now) (value_view C.content value.now))
+        (first_default vs) vs }
 {
     match value {
         FluentValue::String(text) => first_like(text.as_str(), None, variants),
@@ -46,7 +47,8 @@ fn first_like<'p, 's>(
 ) -> Option<&'p Pattern<'s>>
     ensures { let vs = variants_of (map variant_view variants.now) in
         let like = is_like word.now (option_map (λ n. number_of n.now) number.entry) in
-        option_map (λ p. pattern_view p.now) result ≡ choice (λ key. like (key_value key)) (first_default vs) vs }
+        option_map (λ p. pattern_view p.now) result ≡ choice (λ key. like (key_value key))
+        (first_default vs) vs }
 {
     for variant in variants {
         if is_like(word, number, &variant.key) {
@@ -59,7 +61,8 @@ fn first_like<'p, 's>(
 /// Whether a key is a word, or a number like that one.
 fn is_like(word: &str, number: Option<&FluentNumber>, key: &VariantKey) -> bool
     ensures { result
-        ≡ is_like word.now (option_map (λ n. number_of n.now) number.entry) (key_value (key_view key.now)) }
+        ≡ is_like word.now (option_map (λ n. number_of n.now) number.entry)
+        (key_value (key_view key.now)) }
 {
     match key {
         VariantKey::Identifier { name } => *name == word,
@@ -69,7 +72,8 @@ fn is_like(word: &str, number: Option<&FluentNumber>, key: &VariantKey) -> bool
 
 /// Whether the source of a key is that of a number like this one, or, where it is no number's, this word.
 fn is_source_like(word: &str, number: Option<&FluentNumber>, source: &str) -> bool
-    ensures { result ≡ is_like word.now (option_map (λ n. number_of n.now) number.entry) (try_number source.now) }
+    ensures { result ≡ is_like word.now (option_map (λ n. number_of n.now) number.entry)
+        (try_number source.now) }
 {
     numbers_read_as_defined();
     match FluentNumber::from_str(source) {
@@ -83,7 +87,8 @@ fn is_source_like(word: &str, number: Option<&FluentNumber>, source: &str) -> bo
 
 /// The first default among variants.
 fn first_default<'p, 's>(variants: &'p [Variant<'s>]) -> Option<&'p Pattern<'s>>
-    ensures { option_map (λ p. pattern_view p.now) result ≡ first_default (variants_of (map variant_view variants.now)) }
+    ensures { option_map (λ p. pattern_view p.now) result
+        ≡ first_default (variants_of (map variant_view variants.now)) }
 {
     for variant in variants {
         if variant.default {

@@ -28,9 +28,11 @@ pub trait MergeArgs<C: FluentType> {
     ///
     /// Memory was refused, which only a text for `currency` can meet: the options are as before.
     fn merge(&mut self, alloc: Global, args: &FluentArgs<'_, C>) -> Result<(), AllocError>
-        ensures ok { OnOk result (options self.new ≡ fin.merge (named C.content args.now) (options self.old)) }
+        ensures ok { OnOk result (options self.new ≡ fin.merge (named C.content args.now)
+            (options self.old)) }
         ensures err { OnErr result (options self.new ≡ options self.old) }
-        ensures memory { OnErr result (IsTextGiven (fin.get (codes "currency") (named C.content args.now))) };
+        ensures memory { OnErr result (IsTextGiven (fin.get (codes "currency")
+            (named C.content args.now))) };
 }
 
 impl<C: FluentType> MergeArgs<C> for FluentNumberOptions {
@@ -50,9 +52,11 @@ fn merge_currency<C: FluentType>(
     alloc: Global,
     args: &FluentArgs<'_, C>,
 ) -> Result<(), AllocError>
-    ensures ok { OnOk result (options_of options.new ≡ with_currency (named C.content args.now) (options_of options.old)) }
+    ensures ok { OnOk result (options_of options.new
+        ≡ with_currency (named C.content args.now) (options_of options.old)) }
     ensures err { OnErr result (options.new ≡ options.old) }
-    ensures memory { OnErr result (IsTextGiven (fin.get (codes "currency") (named C.content args.now))) }
+    ensures memory { OnErr result (IsTextGiven (fin.get (codes "currency")
+        (named C.content args.now))) }
 {
     match args.get("currency") {
         Some(FluentValue::String(code)) => {
@@ -65,7 +69,8 @@ fn merge_currency<C: FluentType>(
 }
 
 fn merge_kinds<C: FluentType>(options: &mut FluentNumberOptions, args: &FluentArgs<'_, C>)
-    ensures { options_of options.new ≡ with_kinds (named C.content args.now) (options_of options.old) }
+    ensures { options_of options.new ≡ with_kinds (named C.content args.now)
+        (options_of options.old) }
 {
     options.number_type = number_type(args, options.number_type);
     options.style = style(args, options.style);
@@ -77,7 +82,8 @@ fn number_type<C: FluentType>(
     args: &FluentArgs<'_, C>,
     before: FluentNumberType,
 ) -> FluentNumberType
-    ensures { result ≡ with_argument (by_text type_named) (fin.get (codes "type") (named C.content args.now)) before }
+    ensures { result ≡ with_argument (by_text type_named)
+        (fin.get (codes "type") (named C.content args.now)) before }
 {
     match args.get("type") {
         Some(FluentValue::String(word)) => FluentNumberType::from(word.as_str()),
@@ -86,7 +92,8 @@ fn number_type<C: FluentType>(
 }
 
 fn style<C: FluentType>(args: &FluentArgs<'_, C>, before: FluentNumberStyle) -> FluentNumberStyle
-    ensures { result ≡ with_argument (by_text style_named) (fin.get (codes "style") (named C.content args.now)) before }
+    ensures { result ≡ with_argument (by_text style_named)
+        (fin.get (codes "style") (named C.content args.now)) before }
 {
     match args.get("style") {
         Some(FluentValue::String(word)) => FluentNumberStyle::from(word.as_str()),
@@ -98,7 +105,8 @@ fn currency_display<C: FluentType>(
     args: &FluentArgs<'_, C>,
     before: FluentNumberCurrencyDisplayStyle,
 ) -> FluentNumberCurrencyDisplayStyle
-    ensures { result ≡ with_argument (by_text currency_display_named) (fin.get (codes "currencyDisplay") (named C.content args.now)) before }
+    ensures { result ≡ with_argument (by_text currency_display_named)
+        (fin.get (codes "currencyDisplay") (named C.content args.now)) before }
 {
     match args.get("currencyDisplay") {
         Some(FluentValue::String(word)) => FluentNumberCurrencyDisplayStyle::from(word.as_str()),
@@ -107,7 +115,8 @@ fn currency_display<C: FluentType>(
 }
 
 fn use_grouping<C: FluentType>(args: &FluentArgs<'_, C>, before: bool) -> bool
-    ensures { result ≡ with_argument (by_text (λ t. not (is_text t (codes "false")))) (fin.get (codes "useGrouping") (named C.content args.now)) before }
+    ensures { result ≡ with_argument (by_text (λ t. not (is_text t (codes "false"))))
+        (fin.get (codes "useGrouping") (named C.content args.now)) before }
 {
     match args.get("useGrouping") {
         Some(FluentValue::String(word)) => word.as_str() != "false",
@@ -116,7 +125,8 @@ fn use_grouping<C: FluentType>(args: &FluentArgs<'_, C>, before: bool) -> bool
 }
 
 fn merge_digits<C: FluentType>(options: &mut FluentNumberOptions, args: &FluentArgs<'_, C>)
-    ensures { options_of options.new ≡ with_digits (named C.content args.now) (options_of options.old) }
+    ensures { options_of options.new ≡ with_digits (named C.content args.now)
+        (options_of options.old) }
 {
     options.minimum_integer_digits = count(
         args,
@@ -147,7 +157,8 @@ fn count<C: FluentType>(
     name: &str,
     before: Option<usize>,
 ) -> Option<usize>
-    ensures { result ≡ with_argument (by_count Some) (fin.get name.now (named C.content args.now)) before }
+    ensures { result ≡ with_argument (by_count Some)
+        (fin.get name.now (named C.content args.now)) before }
 {
     match args.get(name) {
         Some(FluentValue::Number(number)) => Some(usize::from(number)),
@@ -157,7 +168,8 @@ fn count<C: FluentType>(
 
 /// The minimum of fraction digits, of which 18 count at most.
 fn fraction_digits<C: FluentType>(args: &FluentArgs<'_, C>, before: Option<usize>) -> Option<usize>
-    ensures { result ≡ with_argument (by_count (λ n. Some (min n 18))) (fin.get (codes "minimumFractionDigits") (named C.content args.now)) before }
+    ensures { result ≡ with_argument (by_count (λ n. Some (min n 18)))
+        (fin.get (codes "minimumFractionDigits") (named C.content args.now)) before }
 {
     match args.get("minimumFractionDigits") {
         Some(FluentValue::Number(number)) => Some(usize::from(number).min(18)),

@@ -43,7 +43,8 @@ impl<'s, C: FluentType> FluentValue<'s, C> {
     /// and all of their options, custom values as their type says. `None` and `Error` are the same as nothing,
     /// not even as themselves. Takes no memory.
     pub fn same(&self, other: &FluentValue<'s, C>) -> bool
-        ensures { result ≡ meaning.same (record { text = C.shown; same = C.alike }) (value_view C.content self.now) (value_view C.content other.now) }
+        ensures { result ≡ meaning.same (record { text = C.shown; same = C.alike })
+            (value_view C.content self.now) (value_view C.content other.now) }
     {
         match (self, other) {
             (FluentValue::String(one), FluentValue::String(two)) => one.as_str() == two.as_str(),
@@ -59,7 +60,8 @@ impl<'s, C: FluentType> FluentValue<'s, C> {
     ///
     /// Memory was refused, which only a text of its own, a currency or a custom value can meet.
     pub fn try_clone(&self, alloc: Global) -> Result<FluentValue<'s, C>, AllocError>
-        ensures same { IfOk result (λ copy. value_view C.content copy ≡ value_view C.content self.now) }
+        ensures same { IfOk result (λ copy. value_view C.content copy
+            ≡ value_view C.content self.now) }
         ensures succeeds { IsLent self.now → IsOk result }
     {
         match self {
@@ -76,7 +78,8 @@ impl<'s, C: FluentType> FluentValue<'s, C> {
     ///
     /// Memory was refused, which only a text, a currency or a custom value can meet.
     pub fn into_owned<'b>(&self, alloc: Global) -> Result<FluentValue<'b, C>, AllocError>
-        ensures same { IfOk result (λ copy. value_view C.content copy ≡ value_view C.content self.now) }
+        ensures same { IfOk result (λ copy. value_view C.content copy
+            ≡ value_view C.content self.now) }
         ensures succeeds { IsTextless self.now → IsOk result }
     {
         match self {
