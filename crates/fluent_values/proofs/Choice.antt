@@ -39,7 +39,7 @@ custom_chooses b x o vs = none_chosen (goes_to b (custom_value x)) o vs (λ k. c
 nothing_chooses : (b : Bundle Text) (o : Option Pattern) (vs : Variants) → choice (goes_to b no_value) o vs ≡ o
 nothing_chooses b o vs = none_chosen (goes_to b no_value) o vs (λ k. nothing_unlike b.plurals (key_value k))
 
-error_chooses : (b : Bundle Text) (o : Option Pattern) (vs : Variants) → choice (goes_to b error_value) o vs ≡ o
+pub error_chooses : (b : Bundle Text) (o : Option Pattern) (vs : Variants) → choice (goes_to b error_value) o vs ≡ o
 error_chooses b o vs = none_chosen (goes_to b error_value) o vs (λ k. error_unlike b.plurals (key_value k))
 
 -- a value of the application's own, or none at all, chooses nothing

@@ -23,12 +23,12 @@ use Rattle.fluent_meaning.specs.Walk.{Environment, is_on, inner, go, whole, loca
 use Rattle.fluent_meaning.specs.Work.{Worked, with_work, work}
 use Rattle.fluent_meaning.specs.Laws.{CountsByItself}
 use Rattle.fluent_values.specs.Along.{Below, Walk, walked, from_here, given, mapping, lost_of, shown_answer, Elsewhere, Starts, Ends}
-use Rattle.fluent_values.specs.Choice.{choice, first_default}
+use Rattle.fluent_values.specs.Choice.{choice, choosing, first_default}
 use Rattle.fluent_values.specs.Status.{Status, on_path}
 use Rattle.fluent_values.specs.View.{value_view}
 use Rattle.fluent_values.specs.declared.types.value.FluentValue.{FluentValue}
 use Rattle.fluent_values.specs.declared.types.value.FluentValue.TheVariants as values
-use Rattle.fluent_values.proofs.Cases.{sequence, prepend, and_then, elements_end, elements_struck, elements_more, part_text, positional_none, positional_more, named_none, named_more, given_first, tells, loses_is, written_variable, variable_text_some, variable_text_none, missing_application, missing_local, resolved_variable, variable_value_some, variable_value_none, function_text_none, function_text_some, expression_inline, expression_select, chosen, chosen_is, meant, entering, go_cyclic, go_entered, whole_is, written_term, written_function, and_then_is, then_give, called_is}
+use Rattle.fluent_values.proofs.Cases.{sequence, prepend, and_then, elements_end, elements_struck, elements_more, part_text, positional_none, positional_more, named_none, named_more, given_first, tells, loses_is, written_variable, variable_text_some, variable_text_none, missing_application, missing_local, resolved_variable, variable_value_some, variable_value_none, function_text_none, function_text_some, expression_inline, expression_select, chosen, chosen_is, meant, entering, go_cyclic, go_entered, whole_is, written_term, written_function, and_then_is, mapping_then, then_give, called_is}
 use Rattle.fluent_values.proofs.Views.{view_pattern, view_named, view_in, view_arguments}
 use Rattle.fluent_values.specs.Texts.{IsText}
 
@@ -274,15 +274,19 @@ inline_at a e x b h =
     ap (λ v. walked a (expressing v) b) (view_in e x h)
     ∙ expression_inline a.bundle (work a.bundle) a.environment (on_path a.path) (inline_view x) b
 
--- the chosen variant's walk
-abbrev pub choosing : Status → List Variant → Value Text → Budget → Worked Text
-choosing a vs v b = chosen a.bundle (work a.bundle) a.environment (on_path a.path) (variants_of (map variant_view vs)) v b
+-- the walk of a variant that was chosen
+abbrev pub chosen_walk : Status → Option Pattern → Budget → Worked Text
+chosen_walk a = meant a.bundle (work a.bundle) a.environment (on_path a.path)
 
-pub selecting_at : (a : Status) (x : of_inline.InlineExpression) (vs : List Variant) (b : Budget) → walked a (expressing (select (inline_view x) (variants_of (map variant_view vs)))) b ≡ and_then (walked a (resolving (inline_view x)) b) (choosing a vs)
-selecting_at a x vs b = expression_select a.bundle (work a.bundle) a.environment (on_path a.path) (inline_view x) (variants_of (map variant_view vs)) b
-
-pub choosing_at : (a : Status) (vs : List Variant) (v : Value Text) (o : Option Pattern) (b : Budget) → o ≡ choice (goes_to a.bundle v) (first_default (variants_of (map variant_view vs))) (variants_of (map variant_view vs)) → choosing a vs v b ≡ meant a.bundle (work a.bundle) a.environment (on_path a.path) o b
-choosing_at a vs v o b h = ap (λ m. m b) (chosen_is a.bundle (work a.bundle) a.environment (on_path a.path) (variants_of (map variant_view vs)) v o h)
+pub selecting_at : (a : Status) (x : of_inline.InlineExpression) (vs : List Variant) (b : Budget) → walked a (expressing (select (inline_view x) (variants_of (map variant_view vs)))) b ≡ and_then (walked a (choosing (inline_view x) (variants_of (map variant_view vs))) b) (chosen_walk a)
+selecting_at a x vs b =
+    let all = variants_of (map variant_view vs) in
+    let goes : Value Text → Option Pattern = λ v. choice (goes_to a.bundle v) (first_default all) all in
+    let value = walked a (resolving (inline_view x)) b in
+    let means : (v : Value Text) (n : Budget) → chosen a.bundle (work a.bundle) a.environment (on_path a.path) all v n ≡ chosen_walk a (goes v) n = λ v n. ap (λ m. m n) (chosen_is a.bundle (work a.bundle) a.environment (on_path a.path) all v (goes v) refl) in
+    expression_select a.bundle (work a.bundle) a.environment (on_path a.path) (inline_view x) all b
+    ∙ and_then_is value (chosen a.bundle (work a.bundle) a.environment (on_path a.path) all) (λ v. chosen_walk a (goes v)) means
+    ∙ sym (mapping_then goes value (chosen_walk a))
 
 -- REFERENCES
 

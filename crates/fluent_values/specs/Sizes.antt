@@ -14,7 +14,7 @@ abbrev mutual
 
   pub expression_size : Expression → ℕ
   expression_size (inline x) = 1 + inline_size x
-  expression_size (select x vs) = 3 + inline_size x + variants_size vs
+  expression_size (select x vs) = 5 + inline_size x + variants_size vs
 
   pub variants_size : Variants → ℕ
   variants_size no_variants = 1

@@ -11,14 +11,13 @@ ghost use Rattle.fluent_values.specs.Along.{Wrote};
 ghost use Rattle.fluent_values.specs.Status.{status};
 ghost use Rattle.fluent_values.specs.Written.{sink};
 
-use super::arguments::resolve;
 use super::context::Context;
 use super::found::Place;
 use super::inline_expression::write_inline;
 use super::output::{Halt, Output};
 use super::pattern::write_pattern;
 use super::scope::Scope;
-use super::variants::choose;
+use super::variants::choose_variant;
 use crate::ResolverError;
 use crate::function::FluentFunction;
 use crate::types::FluentType;
@@ -68,8 +67,7 @@ fn write_select<'p, 's, W: Write, C: FluentType, F: FluentFunction<C>, B: Contex
         Wrote result (λ b below env path. walk.expression with_work b below env path e)
         (sink W.contents out.old) (sink W.contents out.new) (at scope.old) (at scope.new) }
 {
-    let value = resolve(scope, out.writer, selector, place)?;
-    match choose(scope.bundle, &value, variants) {
+    match choose_variant(scope, out.writer, selector, variants, place)? {
         Some(variant) => write_pattern(scope, out, variant, place),
         None => {
             scope.add_error(ResolverError::MissingDefault)?;

@@ -2,20 +2,102 @@
 
 ghost use Rattle.std.specs.Prelude.{◌≡◌, map};
 ghost use Rattle.std.specs.Option.{option_map};
-ghost use Rattle.fluent_tree.specs.Tree.{variants_of};
-ghost use Rattle.fluent_tree.specs.View.{pattern_view, variant_view, key_view};
+ghost use Rattle.fluent_tree.specs.Tree.{variable, variants_of};
+ghost use Rattle.fluent_tree.specs.View.{inline_view, pattern_view, variant_view, key_view};
 ghost use Rattle.fluent_intl.specs.Number.{number_of};
 ghost use Rattle.fluent_meaning.specs.Bundle.{goes_to, key_value};
 ghost use Rattle.fluent_meaning.specs.Value.{try_number};
-ghost use Rattle.fluent_values.specs.Choice.{choice, first_default, is_like};
+ghost use Rattle.fluent_values.specs.Along.{Gave, Got};
+ghost use Rattle.fluent_values.specs.Choice.{choice, choosing, first_default, is_like};
+ghost use Rattle.fluent_values.specs.Status.{status};
 ghost use Rattle.fluent_values.specs.View.{value_view};
+ghost use Rattle.fluent_values.specs.Written.{writer};
 
+use super::arguments::{argument, resolve};
 use super::context::Context;
+use super::environment::Environment;
+use super::found::Place;
+use super::inline_expression::report_lost;
+use super::output::Halt;
+use super::scope::Scope;
+use crate::function::FluentFunction;
 use crate::types::{FluentType, FluentValue};
 use fluent_intl::FluentNumber;
 use fluent_meaning::laws::numbers_read_as_defined;
-use fluent_tree::ast::{Pattern, Variant, VariantKey};
+use fluent_text::Counting;
+use fluent_tree::ast::{Identifier, InlineExpression, Pattern, Variant, VariantKey};
+use std::alloc::AllocError;
+use std::io::Write;
 use std::str::FromStr;
+
+/// The variant that a selector's value goes to. The value of a variable stays where it is.
+#[cycle(resolve)]
+pub(crate) fn choose_variant<'p, 's, W: Write, C: FluentType, F: FluentFunction<C>, B: Context<C>>(
+    scope: &mut Scope<'_, 'p, '_, 's, '_, C, F, B>,
+    w: &mut Counting<W>,
+    selector: &'p InlineExpression<'s>,
+    variants: &'p [Variant<'s>],
+    place: Place,
+) -> Result<Option<&'p Pattern<'s>>, Halt>
+    ensures { let at = status B.meant B.is_plain F.answer C.content in
+        let vs = variants_of (map variant_view variants.now) in
+        Gave result (option_map (λ p. pattern_view p.now)) (choosing (inline_view selector.now) vs)
+        (writer W.contents w.old) (writer W.contents w.new) (at scope.old) (at scope.new) }
+{
+    match selector {
+        InlineExpression::VariableReference { id } => {
+            Ok(choose_by_variable(scope, selector, id, variants)?)
+        }
+        _ => choose_by_value(scope, w, selector, variants, place),
+    }
+}
+
+/// The same of any selector. It stands by itself, as what a call may hold costs at its entry.
+#[cycle(resolve)]
+fn choose_by_value<'p, 's, W: Write, C: FluentType, F: FluentFunction<C>, B: Context<C>>(
+    scope: &mut Scope<'_, 'p, '_, 's, '_, C, F, B>,
+    w: &mut Counting<W>,
+    selector: &'p InlineExpression<'s>,
+    variants: &'p [Variant<'s>],
+    place: Place,
+) -> Result<Option<&'p Pattern<'s>>, Halt>
+    ensures { let at = status B.meant B.is_plain F.answer C.content in
+        let vs = variants_of (map variant_view variants.now) in
+        Gave result (option_map (λ p. pattern_view p.now)) (choosing (inline_view selector.now) vs)
+        (writer W.contents w.old) (writer W.contents w.new) (at scope.old) (at scope.new) }
+{
+    let value = resolve(scope, w, selector, place)?;
+    Ok(choose(scope.bundle, &value, variants))
+}
+
+/// The variant that a variable's value goes to. One that is missing goes to the default, with the error that it has
+/// where it is written.
+fn choose_by_variable<'p, 's, C: FluentType, F: FluentFunction<C>, B: Context<C>>(
+    scope: &mut Scope<'_, 'p, '_, 's, '_, C, F, B>,
+    selector: &InlineExpression<'_>,
+    id: &Identifier<'_>,
+    variants: &'p [Variant<'s>],
+) -> Result<Option<&'p Pattern<'s>>, AllocError>
+    requires { inline_view selector.now ≡ variable id.now.name.now }
+    ensures { let at = status B.meant B.is_plain F.answer C.content in
+        let vs = variants_of (map variant_view variants.now) in
+        Got result (option_map (λ p. pattern_view p.now)) (choosing (inline_view selector.now) vs)
+        (at scope.old) (at scope.new) }
+{
+    match &scope.environment {
+        Environment::Local(args) => match args.get(id.name) {
+            Some(value) => Ok(choose(scope.bundle, value, variants)),
+            None => Ok(first_default(variants)),
+        },
+        Environment::Application(args) => match argument(*args, id.name) {
+            Some(value) => Ok(choose(scope.bundle, value, variants)),
+            None => {
+                report_lost(scope, selector)?;
+                Ok(first_default(variants))
+            }
+        },
+    }
+}
 
 /// The first variant whose key matches a value, else the first default. What category a number has is asked once.
 pub fn choose<'p, 's, C: FluentType, B: Context<C>>(

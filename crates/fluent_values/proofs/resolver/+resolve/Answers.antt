@@ -1,15 +1,17 @@
-use Rattle.std.proofs.Common.{ℕ, ◌≡◌, rules, arith, length, ap, sym, ◌∙◌, refl, Some, None, map, [], ◌∷◌, ◌++◌, ◌+◌, drop, subst, IsTrue, ◌<◌}
+use Rattle.std.proofs.Common.{ℕ, Option, ◌≡◌, rules, arith, length, ap, sym, ◌∙◌, refl, Some, None, map, [], ◌∷◌, ◌++◌, ◌+◌, drop, subst, IsTrue, ◌<◌}
 use Rattle.std.specs.Option.{option_map}
+use Rattle.std.specs.Borrow.{Bor}
 use Rattle.fluent_tree.specs.Fallback.{fallback, in_braces}
-use Rattle.fluent_tree.specs.Tree.{placeable, select, variants_of, pattern_of, inlines_of, nameds_of}
+use Rattle.fluent_tree.specs.Tree.{Text, placeable, select, variants_of, pattern_of, inlines_of, nameds_of}
 use Rattle.fluent_tree.specs.declared.ast.CallArguments as of_call
+use Rattle.fluent_tree.specs.declared.ast.Pattern as of_pattern
 use Rattle.fluent_tree.specs.View.{inline_view, expression_view, pattern_view, element_view, variant_view, attribute_of, call_of, arguments_view, named_view}
 use Rattle.fluent_meaning.specs.Arguments.{get, set, set_all}
 use Rattle.fluent_meaning.specs.Bundle.{goes_to, message_target, term_target, function_found}
 use Rattle.fluent_meaning.specs.Errors.{resolver_error, too_many_placeables}
 use Rattle.fluent_meaning.specs.Meaning.{first_mark, last_mark, at_most, struck}
 use Rattle.fluent_meaning.specs.Walk.{has_one, is_marked, part}
-use Rattle.fluent_meaning.specs.Work.{work, with_work}
+use Rattle.fluent_meaning.specs.Work.{Worked, work, with_work}
 use Rattle.fluent_values.specs.Along.{given, walked, from_here, adding, trace}
 use Rattle.fluent_values.specs.FoundView.{found_view}
 use Rattle.fluent_values.specs.Choice.{choice, first_default}
@@ -22,7 +24,7 @@ use Rattle.fluent_values.proofs.Cases.{sequence, prepend, unmarked, closing, ope
 use Rattle.fluent_values.proofs.Measures.{falls_to, less_weight, kept_weight, taken_weight, still_weight, less_found, element_less, place_less, label_less, some_variants, chosen_less, below_message, below_term}
 use Rattle.fluent_values.proofs.Outputs.{still}
 use Rattle.fluent_values.proofs.Passing.{passed_still, passed_counts, keeps_elsewhere, keeps_around, keeps_back, entered_counts, opened_on, struck_same}
-use Rattle.fluent_values.proofs.Steps.{inline_at, choosing, choosing_at, cyclic_at, entered_at, begun_at, back, term_at, inside, inside_at, selecting_at, function_at, answering, answered_value, wholing, elementing, following, giving, giving_all, giving_text, giving_placeable, giving_end, giving_struck, next_of, none_left, no_placeable, expressing, writing, resolving, locals, valued, place_walk, label_walk, placing_next, placing_end, placing_more, labelled, labelling_next, labelling_end, labelling_more, named_in, naming_after, pairing, calling_at, set_all_next}
+use Rattle.fluent_values.proofs.Steps.{inline_at, cyclic_at, entered_at, begun_at, back, term_at, inside, inside_at, selecting_at, chosen_walk, function_at, answering, answered_value, wholing, elementing, following, giving, giving_all, giving_text, giving_placeable, giving_end, giving_struck, next_of, none_left, no_placeable, expressing, writing, resolving, locals, valued, place_walk, label_walk, placing_next, placing_end, placing_more, labelled, labelling_next, labelling_end, labelling_more, named_in, naming_after, pairing, calling_at, set_all_next}
 use Rattle.fluent_values.proofs.Took.{took_same}
 use Rattle.fluent_values.proofs.Values.{gave_outward, asks, ask_stops, misses, begins, reads, gets, gets_part, got_if, got_as, got_part_as, misses_as, rests_memory, rests_same, rests_err, rests_ok, rests_on, by_buffer, as_got, beside_rests, got, gathers_none, gathers_as, gathers_same, gathers_one, gathers_part, gathers_all, gathers_stops, gathers_stops_as}
 use Rattle.fluent_values.proofs.Views.{view_pattern, view_text_in, view_placeable_in, view_string_in, view_number_in, view_message_in, view_nested_in, view_function_in, view_in, view_select_in, view_term_in, view_variable_in, view_arguments, view_written}
@@ -42,59 +44,46 @@ expression::write_expression-returns-in-Select g t c =
     let is = view_select_in c.args.expression.now c.in-Select.selector c.in-Select.variants c.in-Select.is ∙ ap (λ vs. select (inline_view c.in-Select.selector) (variants_of (map variant_view vs))) (sym c.deref.ensures.value) in
     wrote (tail c.write_select.ensures (turns (ap (λ e. from_here a (expressing e)) is) (starts a _ _)))
 
-pub expression::write_select-returns-in_err-value : goal.expression::write_select-returns-in_err-value
-expression::write_select-returns-in_err-value g t c =
+pub expression::write_select-returns-in_err-variant : goal.expression::write_select-returns-in_err-variant
+expression::write_select-returns-in_err-variant g t c =
     let a = status g.B.Context.meant g.B.Context.is_plain g.F.FluentFunction.answer g.C.FluentType.content c.args.scope.now in
     let out = c.args.out.now in
-    let gave = gave_outward g.W.Write.contents out.writer.ghost_name out.buffer.ghost_name out.writer.now c.resolve.new.w out.buffer.now out.is_buffered c.resolve.ensures in
-    let vs = c.args.variants.now in
+    let gave = gave_outward g.W.Write.contents out.writer.ghost_name out.buffer.ghost_name out.writer.now c.choose_variant.new.w out.buffer.now out.is_buffered c.choose_variant.ensures in
     let begun = turns (selecting_at a c.args.selector.now c.args.variants.now a.budget) (starts a _ _) in
-    ask_stops (choosing a vs) c.in_err-value.was (search rules) gave begun
+    ask_stops (chosen_walk a) c.in_err-variant.was (search rules) gave begun
 
 pub expression::write_select-returns-in-Some : goal.expression::write_select-returns-in-Some
 expression::write_select-returns-in-Some g t c =
     let a = status g.B.Context.meant g.B.Context.is_plain g.F.FluentFunction.answer g.C.FluentType.content c.args.scope.now in
     let out = c.args.out.now in
-    let gave = gave_outward g.W.Write.contents out.writer.ghost_name out.buffer.ghost_name out.writer.now c.resolve.new.w out.buffer.now out.is_buffered c.resolve.ensures in
-    let vs = c.args.variants.now in
+    let gave = gave_outward g.W.Write.contents out.writer.ghost_name out.buffer.ghost_name out.writer.now c.choose_variant.new.w out.buffer.now out.is_buffered c.choose_variant.ensures in
     let begun = turns (selecting_at a c.args.selector.now c.args.variants.now a.budget) (starts a _ _) in
-    let v = value_view g.C.FluentType.content c.in_ok-value.value in
-    let b = status g.B.Context.meant g.B.Context.is_plain g.F.FluentFunction.answer g.C.FluentType.content c.resolve.new.scope in
-    let kept = c.resolve.ensures.got.toward.passed.keeps.bundle in
-    let chose = c.choose.ensures ∙ ap (λ s. let all = variants_of (map variant_view vs) in choice (goes_to s v) (first_default all) all) kept in
-    let asked = asks (choosing a vs) c.in_ok-value.was gave begun in
-    let is = sym (ap (option_map (λ p. pattern_view p.now)) c.in-Some.is) ∙ chose in
-    wrote (tail c.write_pattern.ensures.wrote (turns (choosing_at a vs v (Some (pattern_view c.in-Some.variant.now)) b.budget is) asked))
+    let b = status g.B.Context.meant g.B.Context.is_plain g.F.FluentFunction.answer g.C.FluentType.content c.choose_variant.new.scope in
+    let asked = asks (chosen_walk a) c.in_ok-variant.was gave begun in
+    let seen : Option (Bor of_pattern.Pattern) → Worked Text = λ o. chosen_walk a (option_map (λ p. pattern_view p.now) o) b.budget in
+    wrote (tail c.write_pattern.ensures.wrote (turns (ap seen c.in-Some.is) asked))
 
 pub expression::write_select-returns-in_err-add_error-in-None : goal.expression::write_select-returns-in_err-add_error-in-None
 expression::write_select-returns-in_err-add_error-in-None g t c =
     let a = status g.B.Context.meant g.B.Context.is_plain g.F.FluentFunction.answer g.C.FluentType.content c.args.scope.now in
     let out = c.args.out.now in
-    let gave = gave_outward g.W.Write.contents out.writer.ghost_name out.buffer.ghost_name out.writer.now c.resolve.new.w out.buffer.now out.is_buffered c.resolve.ensures in
-    let vs = c.args.variants.now in
+    let gave = gave_outward g.W.Write.contents out.writer.ghost_name out.buffer.ghost_name out.writer.now c.choose_variant.new.w out.buffer.now out.is_buffered c.choose_variant.ensures in
     let begun = turns (selecting_at a c.args.selector.now c.args.variants.now a.budget) (starts a _ _) in
-    let v = value_view g.C.FluentType.content c.in_ok-value.value in
-    let b = status g.B.Context.meant g.B.Context.is_plain g.F.FluentFunction.answer g.C.FluentType.content c.resolve.new.scope in
-    let kept = c.resolve.ensures.got.toward.passed.keeps.bundle in
-    let chose = c.choose.ensures ∙ ap (λ s. let all = variants_of (map variant_view vs) in choice (goes_to s v) (first_default all) all) kept in
-    let asked = asks (choosing a vs) c.in_ok-value.was gave begun in
-    let is = sym (ap (option_map (λ p. pattern_view p.now)) c.in-None.is) ∙ chose in
-    refuses c.in_err-add_error-in-None.was (search rules) c.add_error.ensures.added (turns (choosing_at a vs v None b.budget is) asked)
+    let b = status g.B.Context.meant g.B.Context.is_plain g.F.FluentFunction.answer g.C.FluentType.content c.choose_variant.new.scope in
+    let asked = asks (chosen_walk a) c.in_ok-variant.was gave begun in
+    let seen : Option (Bor of_pattern.Pattern) → Worked Text = λ o. chosen_walk a (option_map (λ p. pattern_view p.now) o) b.budget in
+    refuses c.in_err-add_error-in-None.was (search rules) c.add_error.ensures.added (turns (ap seen c.in-None.is) asked)
 
-pub expression::write_select-returns : goal.expression::write_select-returns
-expression::write_select-returns g t c =
+pub expression::write_select-returns-in_ok-add_error-in-None : goal.expression::write_select-returns-in_ok-add_error-in-None
+expression::write_select-returns-in_ok-add_error-in-None g t c =
     let a = status g.B.Context.meant g.B.Context.is_plain g.F.FluentFunction.answer g.C.FluentType.content c.args.scope.now in
     let out = c.args.out.now in
-    let gave = gave_outward g.W.Write.contents out.writer.ghost_name out.buffer.ghost_name out.writer.now c.resolve.new.w out.buffer.now out.is_buffered c.resolve.ensures in
-    let vs = c.args.variants.now in
+    let gave = gave_outward g.W.Write.contents out.writer.ghost_name out.buffer.ghost_name out.writer.now c.choose_variant.new.w out.buffer.now out.is_buffered c.choose_variant.ensures in
     let begun = turns (selecting_at a c.args.selector.now c.args.variants.now a.budget) (starts a _ _) in
-    let v = value_view g.C.FluentType.content c.in_ok-value.value in
-    let b = status g.B.Context.meant g.B.Context.is_plain g.F.FluentFunction.answer g.C.FluentType.content c.resolve.new.scope in
-    let kept = c.resolve.ensures.got.toward.passed.keeps.bundle in
-    let chose = c.choose.ensures ∙ ap (λ s. let all = variants_of (map variant_view vs) in choice (goes_to s v) (first_default all) all) kept in
-    let asked = asks (choosing a vs) c.in_ok-value.was gave begun in
-    let is = sym (ap (option_map (λ p. pattern_view p.now)) c.in-None.is) ∙ chose in
-    ends (turns (ap (given []) (sym c.add_error.ensures.added.budget)) (adds (given [] b.budget) c.in_ok-add_error-in-None.was c.add_error.ensures.added (turns (choosing_at a vs v None b.budget is) asked)))
+    let b = status g.B.Context.meant g.B.Context.is_plain g.F.FluentFunction.answer g.C.FluentType.content c.choose_variant.new.scope in
+    let asked = asks (chosen_walk a) c.in_ok-variant.was gave begun in
+    let seen : Option (Bor of_pattern.Pattern) → Worked Text = λ o. chosen_walk a (option_map (λ p. pattern_view p.now) o) b.budget in
+    ends (turns (ap (given []) (sym c.add_error.ensures.added.budget)) (adds (given [] b.budget) c.in_ok-add_error-in-None.was c.add_error.ensures.added (turns (ap seen c.in-None.is) asked)))
 
 pub inline_expression::go-returns-in_err-add_error : goal.inline_expression::go-returns-in_err-add_error
 inline_expression::go-returns-in_err-add_error g t c =
@@ -571,29 +560,42 @@ expression::write_expression-write_select-requires g t c =
     let x = inline_view c.in-Select.selector in
     let vs = variants_of (map variant_view c.in-Select.variants.items) in
     let here = variants_of (map variant_view c.deref.result.now) in
-    let sized : expression_size (expression_view c.args.expression.now) ≡ 3 + inline_size x + variants_size vs = ap expression_size (view_select_in c.args.expression.now c.in-Select.selector c.in-Select.variants c.in-Select.is) in
+    let sized : expression_size (expression_view c.args.expression.now) ≡ 5 + inline_size x + variants_size vs = ap expression_size (view_select_in c.args.expression.now c.in-Select.selector c.in-Select.variants c.in-Select.is) in
     let same : variants_size here ≡ variants_size vs = ap (λ vs. variants_size (variants_of (map variant_view vs))) c.deref.ensures.value in
-    let less = falls_to c.decreases (less_weight a.bundle a.bundle (2 + inline_size x + variants_size here) (expression_size (expression_view c.args.expression.now)) (1 + at_most a.budget) (1 + at_most a.budget) refl (omega (arith, sized, same)) (omega arith)) in
-    λ κs h. (less, (h.0, (h.1.0, (h.1.1.0, h.1.1.1))))
-
-pub expression::write_select-resolve-requires : goal.expression::write_select-resolve-requires
-expression::write_select-resolve-requires g t c =
-    let a = status g.B.Context.meant g.B.Context.is_plain g.F.FluentFunction.answer g.C.FluentType.content c.args.scope.now in
-    let vs = variants_of (map variant_view c.args.variants.now) in
-    let less = falls_to c.decreases (less_weight a.bundle a.bundle (2 + inline_size (inline_view c.args.selector.now)) (2 + inline_size (inline_view c.args.selector.now) + variants_size vs) (1 + at_most a.budget) (1 + at_most a.budget) refl (omega (arith, some_variants vs)) (omega arith)) in
+    let less = falls_to c.decreases (less_weight a.bundle a.bundle (4 + inline_size x + variants_size here) (expression_size (expression_view c.args.expression.now)) (1 + at_most a.budget) (1 + at_most a.budget) refl (omega (arith, sized, same)) (omega arith)) in
     λ κs h. (less, (h.0, (h.1.0, (h.1.1.0, h.1.1.1))))
 
 pub expression::write_select-write_pattern-requires : goal.expression::write_select-write_pattern-requires
 expression::write_select-write_pattern-requires g t c =
     let a = status g.B.Context.meant g.B.Context.is_plain g.F.FluentFunction.answer g.C.FluentType.content c.args.scope.now in
-    let b = status g.B.Context.meant g.B.Context.is_plain g.F.FluentFunction.answer g.C.FluentType.content c.resolve.new.scope in
+    let b = status g.B.Context.meant g.B.Context.is_plain g.F.FluentFunction.answer g.C.FluentType.content c.choose_variant.new.scope in
     let vs = variants_of (map variant_view c.args.variants.now) in
-    let v = value_view g.C.FluentType.content c.in_ok-value.value in
     let p = pattern_view c.in-Some.variant.now in
-    let is : Some p ≡ choice (goes_to b.bundle v) (first_default vs) vs = sym (ap (option_map (λ p. pattern_view p.now)) c.in-Some.is) ∙ c.choose.ensures in
-    let kept = c.resolve.ensures.got.toward.passed.keeps in
-    let less = falls_to c.decreases (less_weight a.bundle b.bundle (1 + size p) (2 + inline_size (inline_view c.args.selector.now) + variants_size vs) (at_most b.budget) (1 + at_most a.budget) kept.bundle (omega (arith, chosen_less (goes_to b.bundle v) vs p is)) (omega (arith, kept.less))) in
+    let got = c.choose_variant.ensures.got in
+    let value = (walked a (resolving (inline_view c.args.selector.now)) a.budget).ran.value in
+    let is : Some p ≡ choice (goes_to a.bundle value) (first_default vs) vs =
+    sym (ap (option_map (λ p. pattern_view p.now)) c.in-Some.is)
+    ∙ sym (ap (λ m. m.ran.value) (at_value (λ o. got.left ≡ given (option_map (λ p. pattern_view p.now) o) b.budget) c.in_ok-variant.was got.done))
+    ∙ got.toward.value in
+    let kept = got.toward.passed.keeps in
+    let less = falls_to c.decreases (less_weight a.bundle b.bundle (1 + size p) (4 + inline_size (inline_view c.args.selector.now) + variants_size vs) (at_most b.budget) (1 + at_most a.budget) kept.bundle (omega (arith, chosen_less (goes_to a.bundle value) vs p is)) (omega (arith, kept.less))) in
     λ κs h. (less, (h.0, (h.1.0, (h.1.1.0, h.1.1.1))))
+
+pub variants::choose_by_value-resolve-requires : goal.variants::choose_by_value-resolve-requires
+variants::choose_by_value-resolve-requires g t c =
+    let a = status g.B.Context.meant g.B.Context.is_plain g.F.FluentFunction.answer g.C.FluentType.content c.args.scope.now in
+    let vs = variants_of (map variant_view c.args.variants.now) in
+    let less = falls_to c.decreases (less_weight a.bundle a.bundle (2 + inline_size (inline_view c.args.selector.now)) (2 + inline_size (inline_view c.args.selector.now) + variants_size vs) (1 + at_most a.budget) (1 + at_most a.budget) refl (omega (arith, some_variants vs)) (omega arith)) in
+    λ κs h. (less, (h.0, (h.1.0, (h.1.1.0, h.1.1.1))))
+
+pub variants::choose_by_value-returns-in_err-value : goal.variants::choose_by_value-returns-in_err-value
+variants::choose_by_value-returns-in_err-value g t c =
+    let a = status g.B.Context.meant g.B.Context.is_plain g.F.FluentFunction.answer g.C.FluentType.content c.args.scope.now in
+    let vs = variants_of (map variant_view c.args.variants.now) in
+    record {
+      got = got_part_as (λ v. choice (goes_to a.bundle v) (first_default vs) vs) c.in_err-value.was (search rules) refl c.resolve.ensures.got;
+      rests = rests_err c.in_err-value.was (search rules) c.resolve.ensures.rests;
+    }
 
 pub inline_expression::follow-go-requires : goal.inline_expression::follow-go-requires
 inline_expression::follow-go-requires g t c =

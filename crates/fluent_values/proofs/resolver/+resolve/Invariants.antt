@@ -40,6 +40,16 @@ decreases-expression::write_expression g l =
 abbrev pub decreases-expression::write_select : goal.decreases-expression::write_select
 decreases-expression::write_select g l =
     let a = status g.B.Context.meant g.B.Context.is_plain g.F.FluentFunction.answer g.C.FluentType.content l.scope.now in
+    weight (2 + bound a.bundle) (4 + inline_size (inline_view l.selector.now) + variants_size (variants_of (map variant_view l.variants.now))) (1 + at_most a.budget)
+
+abbrev pub decreases-variants::choose_variant : goal.decreases-variants::choose_variant
+decreases-variants::choose_variant g l =
+    let a = status g.B.Context.meant g.B.Context.is_plain g.F.FluentFunction.answer g.C.FluentType.content l.scope.now in
+    weight (2 + bound a.bundle) (3 + inline_size (inline_view l.selector.now) + variants_size (variants_of (map variant_view l.variants.now))) (1 + at_most a.budget)
+
+abbrev pub decreases-variants::choose_by_value : goal.decreases-variants::choose_by_value
+decreases-variants::choose_by_value g l =
+    let a = status g.B.Context.meant g.B.Context.is_plain g.F.FluentFunction.answer g.C.FluentType.content l.scope.now in
     weight (2 + bound a.bundle) (2 + inline_size (inline_view l.selector.now) + variants_size (variants_of (map variant_view l.variants.now))) (1 + at_most a.budget)
 
 abbrev pub decreases-inline_expression::write_inline : goal.decreases-inline_expression::write_inline
