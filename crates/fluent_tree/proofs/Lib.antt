@@ -2,3 +2,5 @@ mod Lists
 mod Inverse
 mod Alike
 mod Decided
+mod Listed
+mod ReferenceRows

@@ -116,7 +116,7 @@ impl<
 
     /// An expression that is no select. Variables, which most are, are tried first: nothing else begins as they do.
     #[inline(always)]
-    #[tactic(auto, using(crate::proofs::References::variable_first))]
+    #[tactic(auto, using(crate::proofs::BareReferences::variable_first))]
     pub fn inline_expression(&self, s: &'s str) -> Result<(InlineExpression<'s>, &'s str), Stop>
         requires braces { Reads expression_view (spec.level self.now.depth).braces self.now.depth
             (F.pre self.now.braces) (F.post self.now.braces) }

@@ -2,7 +2,7 @@ use Rattle.std.proofs.Common.{sym, ◌∙◌, subst}
 use Rattle.fluent_syntax.specs.Bare.{IsBare}
 use Rattle.fluent_text.specs.Parser.{first}
 use Rattle.fluent_syntax.specs.Facts.OneLine.{is_other}
-use Rattle.fluent_syntax.proofs.References.{bare_variable, bare_message, bare_term}
+use Rattle.fluent_syntax.proofs.BareReferences.{bare_variable, bare_message, bare_term}
 use Rattle.fluent_syntax.proofs.Views.{view_variable, view_message, view_term}
 use Rattle.fluent_syntax.proofs.parser.bare.bare_reference.Goals as goal
 

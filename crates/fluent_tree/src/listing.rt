@@ -1,0 +1,151 @@
+//! What a pattern refers to, listed.
+
+ghost use Rattle.std.specs.Prelude.{◌≡◌, IfOk, OnOk};
+ghost use Rattle.fluent_tree.specs.View.{arguments_view, expression_view, inline_view, pattern_view};
+ghost use Rattle.fluent_tree.specs.References.{Adds, in_arguments, in_expression, in_inline, in_named, in_positional, in_variants, inlines_view, nameds_view, references, references_view, variants_view};
+
+use crate::ast::{
+    CallArguments, Expression, InlineExpression, NamedArgument, Pattern, PatternElement, Variant,
+};
+use std::alloc::{AllocError, Global};
+
+/// A reference to a message, a term or a function, by its id as the tree has it: a term's stands without the dash.
+/// Whether it asks for an attribute isn't told.
+#[derive(Clone, Copy, Debug, Drop, PartialEq, Eq)]
+pub enum Reference<'s> {
+    Message(&'s str),
+    Term(&'s str),
+    Function(&'s str),
+}
+
+/// Lists what a pattern refers to, in the order of the tree and as often as it stands there: a reference before what
+/// stands in its arguments, positional ones before named ones, a select's selector before its variants. Of what is
+/// referred to it looks at nothing. The ids are lent by the source.
+///
+/// Memory is taken for the list alone. Where that is refused, nothing is left of it, and the call can be made again.
+pub fn references<'s>(
+    alloc: Global,
+    pattern: &Pattern<'s>,
+) -> Result<Vec<Reference<'s>>, AllocError>
+    ensures { IfOk result (λ list. references_view list ≡ references (pattern_view pattern.now)) }
+{
+    let mut list = Vec::new(alloc);
+    add_pattern(&mut list, pattern)?;
+    Ok(list)
+}
+
+#[cycle(listing)]
+#[tactic(auto, using(crate::proofs::Listed::listed))]
+fn add_pattern<'s>(list: &mut Vec<Reference<'s>>, pattern: &Pattern<'s>) -> Result<(), AllocError>
+    ensures { OnOk result (Adds list.old list.new (references (pattern_view pattern.now))) }
+{
+    for element in &pattern.elements {
+        if let PatternElement::Placeable { expression } = element {
+            add_expression(list, expression)?;
+        }
+    }
+    Ok(())
+}
+
+#[cycle(listing)]
+#[tactic(auto, using(crate::proofs::Listed::listed))]
+fn add_expression<'s>(
+    list: &mut Vec<Reference<'s>>,
+    expression: &Expression<'s>,
+) -> Result<(), AllocError>
+    ensures { OnOk result
+        (Adds list.old list.new (in_expression (expression_view expression.now))) }
+{
+    match expression {
+        Expression::Inline(inline) => add_inline(list, inline),
+        Expression::Select { selector, variants } => {
+            add_inline(list, selector)?;
+            add_variants(list, variants)
+        }
+    }
+}
+
+#[cycle(listing)]
+#[tactic(auto, using(crate::proofs::Listed::listed))]
+fn add_variants<'s>(
+    list: &mut Vec<Reference<'s>>,
+    variants: &[Variant<'s>],
+) -> Result<(), AllocError>
+    ensures { OnOk result (Adds list.old list.new (in_variants (variants_view variants.now))) }
+{
+    for variant in variants {
+        add_pattern(list, &variant.value)?;
+    }
+    Ok(())
+}
+
+#[cycle(listing)]
+#[tactic(auto, using(crate::proofs::Listed::listed))]
+fn add_inline<'s>(
+    list: &mut Vec<Reference<'s>>,
+    inline: &InlineExpression<'s>,
+) -> Result<(), AllocError>
+    ensures { OnOk result (Adds list.old list.new (in_inline (inline_view inline.now))) }
+{
+    match inline {
+        InlineExpression::FunctionReference { id, arguments } => {
+            list.push(Reference::Function(id.name))?;
+            add_arguments(list, arguments)
+        }
+        InlineExpression::MessageReference { id, .. } => {
+            list.push(Reference::Message(id.name))?;
+            Ok(())
+        }
+        InlineExpression::TermReference { id, arguments, .. } => {
+            list.push(Reference::Term(id.name))?;
+            match arguments {
+                Some(arguments) => add_arguments(list, arguments),
+                None => Ok(()),
+            }
+        }
+        InlineExpression::Placeable { expression } => add_expression(list, expression),
+        InlineExpression::StringLiteral { .. }
+        | InlineExpression::NumberLiteral { .. }
+        | InlineExpression::VariableReference { .. } => Ok(()),
+    }
+}
+
+#[cycle(listing)]
+#[tactic(auto, using(crate::proofs::Listed::listed))]
+fn add_arguments<'s>(
+    list: &mut Vec<Reference<'s>>,
+    arguments: &CallArguments<'s>,
+) -> Result<(), AllocError>
+    ensures { OnOk result (Adds list.old list.new (in_arguments (arguments_view arguments.now))) }
+{
+    add_positional(list, &arguments.positional)?;
+    add_named(list, &arguments.named)
+}
+
+#[cycle(listing)]
+#[tactic(auto, using(crate::proofs::Listed::listed))]
+fn add_positional<'s>(
+    list: &mut Vec<Reference<'s>>,
+    positional: &[InlineExpression<'s>],
+) -> Result<(), AllocError>
+    ensures { OnOk result (Adds list.old list.new (in_positional (inlines_view positional.now))) }
+{
+    for argument in positional {
+        add_inline(list, argument)?;
+    }
+    Ok(())
+}
+
+#[cycle(listing)]
+#[tactic(auto, using(crate::proofs::Listed::listed))]
+fn add_named<'s>(
+    list: &mut Vec<Reference<'s>>,
+    named: &[NamedArgument<'s>],
+) -> Result<(), AllocError>
+    ensures { OnOk result (Adds list.old list.new (in_named (nameds_view named.now))) }
+{
+    for argument in named {
+        add_inline(list, &argument.value)?;
+    }
+    Ok(())
+}
