@@ -2,6 +2,7 @@
 //! byte taken.
 use crate::cases::{CASES, Case};
 use crate::found::{are, list, room};
+use crate::stopped::ended;
 use fluent_bundle::ast::Pattern;
 use fluent_bundle::{Counting, FluentArgs, FluentError, WriteFault};
 use fluent_fixtures::common::read;
@@ -20,23 +21,6 @@ fn write<'s>(
     errors: &mut Vec<FluentError>,
 ) -> Result<(), WriteFault> {
     bundle.write_pattern(w, pattern, Some(args), errors)
-}
-
-/// Whether a call answers that its writer stopped so, and how.
-fn is_answered(answer: &Result<(), WriteFault>, fault: Fault) -> bool {
-    match (answer, fault.0) {
-        (Err(WriteFault::Writer(error)), Some(kind)) => error.kind() == kind,
-        (Err(WriteFault::Zero), None) => true,
-        _ => false,
-    }
-}
-
-/// How often writes of a writer that stopped so failed, and took nothing.
-fn counted(fault: Fault) -> (u64, u64) {
-    match fault.0 {
-        Some(_) => (1, 0),
-        None => (0, 1),
-    }
 }
 
 /// The lines that are there where so much was written.
@@ -59,32 +43,9 @@ fn stops<'s>(
     let mut errors = list(alloc)?;
     let mut w = Counting::new(stops_behind(alloc, left, fault));
     let answer = write(bundle, pattern, args, &mut w, &mut errors);
-    let counts = (w.failed(), w.empty());
-    let left_in = w.into_inner();
-    let taken = left_in.taken.as_slice();
-    are(
-        rt,
-        &mut room,
-        errors.as_slice(),
-        lines_at(case, taken.len()),
-    )?;
-    if !left_in.has_stopped {
-        assert!(rt; answer.is_ok() && counts == (0, 0), "{}", case.text);
-        assert!(rt; taken == case.text.as_bytes(), "{}", case.text);
-        return Ok(false);
-    }
-    assert!(rt; is_answered(&answer, fault), "{} at {left}", case.text);
-    assert!(rt;
-        counts == counted(fault) && left_in.later == 0,
-        "{} at {left}",
-        case.text
-    );
-    assert!(rt;
-        case.text.as_bytes().starts_with(taken),
-        "{} at {left}",
-        case.text
-    );
-    Ok(true)
+    let end = ended(rt, &answer, w, fault, case.text);
+    are(rt, &mut room, errors.as_slice(), lines_at(case, end.taken))?;
+    Ok(!end.is_whole)
 }
 
 /// How many writes a text has at most.

@@ -14,7 +14,25 @@ mod ids;
 #[cfg(test)]
 mod objects;
 #[cfg(test)]
-mod quiet;
+mod quiet_bundle;
+#[cfg(test)]
+mod quiet_chain;
+#[cfg(test)]
+mod quiet_conversions;
+#[cfg(test)]
+mod quiet_errors;
+#[cfg(test)]
+mod quiet_numbers;
+#[cfg(test)]
+mod quiet_plurals;
+#[cfg(test)]
+mod quiet_scope;
+#[cfg(test)]
+mod quiet_settings;
+#[cfg(test)]
+mod quiet_texts;
+#[cfg(test)]
+mod quiet_values;
 #[cfg(test)]
 mod reading;
 #[cfg(test)]
@@ -23,6 +41,8 @@ mod refusing;
 mod scope;
 #[cfg(test)]
 mod shown;
+#[cfg(test)]
+mod stopped;
 #[cfg(test)]
 mod texts;
 #[cfg(test)]

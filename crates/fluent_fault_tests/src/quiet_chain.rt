@@ -1,0 +1,99 @@
+//! A chain of bundles, as far as it takes no memory: each call answers alike whichever request fails, and where none is
+//! met any more.
+use fluent_bundle::{EnglishPlurals, FluentError, NoCustom};
+use fluent_chain::{Chain, Link};
+use fluent_fixtures::common::{Bundle, add, empty, read};
+use fluent_fixtures::own::{Bracketed, Own};
+use std::alloc::{AllocError, Global};
+use std::borrow::CowStr;
+use std::process::Abort;
+use std::test::Fail;
+
+type Bundles<'c, 'b, 'r, 's> = Chain<'c, 'b, 'r, 's, EnglishPlurals, NoCustom, Own, Bracketed>;
+
+const FIRST: &str = "a = 1\nk =\n    .t = x\n";
+
+const SECOND: &str = "a = 2\n    .t = y\n    .t = z\nk = v\n    .u = w\n";
+
+/// An id, the name of an attribute where that is asked for, whether one of the bundles has it, and the text that is
+/// given, which is lent.
+type Row = (&'static str, Option<&'static str>, bool, &'static str);
+
+const ROWS: &[Row] = &[
+    ("a", None, true, "1"),
+    ("k", None, true, "v"),
+    ("c", None, false, "c"),
+    ("", None, false, ""),
+    ("a", Some("t"), true, "y"),
+    ("k", Some("t"), true, "x"),
+    ("k", Some("u"), true, "w"),
+    ("a", Some("u"), false, "a"),
+    ("c", Some("t"), false, "c"),
+];
+
+fn has(chain: &Bundles<'_, '_, '_, '_>, row: &Row) -> bool {
+    match row.1 {
+        None => chain.has_value(row.0),
+        Some(name) => chain.has_attribute(row.0, name),
+    }
+}
+
+fn format<'r, 's: 'r>(
+    chain: &Bundles<'_, '_, 'r, 's>,
+    row: &Row,
+    errors: &mut Vec<FluentError>,
+) -> Result<CowStr<'s>, AllocError>
+where
+    's: 'static,
+{
+    match row.1 {
+        None => chain.format_value(row.0, None, errors),
+        Some(name) => chain.format_attribute(row.0, name, None, errors),
+    }
+}
+
+/// Whether a text is given as a row says, lent and without an error.
+fn is_given(alloc: Global, chain: &Bundles<'_, '_, '_, 'static>, row: &Row) -> bool {
+    let mut errors = Vec::new(alloc);
+    match format(chain, row, &mut errors) {
+        Ok(CowStr::Borrowed(text)) => text == row.3 && errors.is_empty(),
+        _ => false,
+    }
+}
+
+/// Adds the messages of a source, whose ids are free.
+fn fill<'r, 's>(
+    bundle: &mut Bundle<'r, 's>,
+    resource: &'r fluent_bundle::FluentResource<'s>,
+) -> Result<(), Fail> {
+    match add(bundle, resource) {
+        Ok(()) => Ok(()),
+        Err(_) => Err(AllocError.into()),
+    }
+}
+
+fn answer_alike(
+    rt: &impl Abort,
+    alloc: Global,
+    one: &Bundle<'_, 'static>,
+    two: &Bundle<'_, 'static>,
+) {
+    let links = [Link(one), Link(two)];
+    let chain = Chain::new(&links);
+    assert!(rt; chain.bundles.len() == 2);
+    for row in ROWS {
+        assert!(rt; has(&chain, row) == row.2, "{}", row.0);
+        assert!(rt; is_given(alloc, &chain, row), "{}", row.0);
+    }
+}
+
+/// Run with each allocation failing in turn, and all from each one on.
+#[test]
+fn a_chain_takes_no_memory(rt: HostRuntime) -> Result<(), Fail> {
+    let (one, two) = (read(rt.alloc(), FIRST)?, read(rt.alloc(), SECOND)?);
+    let (mut first, mut second) = (empty(rt.alloc()), empty(rt.alloc()));
+    fill(&mut first, &one)?;
+    fill(&mut second, &two)?;
+    answer_alike(&rt, rt.alloc(), &first, &second);
+    Ok(())
+}
