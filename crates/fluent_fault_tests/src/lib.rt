@@ -6,6 +6,10 @@ mod adding;
 #[cfg(test)]
 mod cases;
 #[cfg(test)]
+mod each_scope_write;
+#[cfg(test)]
+mod each_value_write;
+#[cfg(test)]
 mod each_write;
 #[cfg(test)]
 mod found;

@@ -22,7 +22,7 @@ a = x{ -t(n: 1) }{ m }{ a }{ $n }{ F($q) }
 c = { F($q, -t(n: 1), m, $n, x: 3) }
 ";
 
-type Scoped<'errors, 'p, 'r, 's> = Scope<
+pub type Scoped<'errors, 'p, 'r, 's> = Scope<
     'errors,
     'p,
     'r,
@@ -222,7 +222,7 @@ fn asks<'p, 's>(
 }
 
 /// What stands in the list of a scope.
-fn listed<'x>(scope: &'x Scoped<'_, '_, '_, '_>) -> &'x [FluentError] {
+pub fn listed<'x>(scope: &'x Scoped<'_, '_, '_, '_>) -> &'x [FluentError] {
     scope.errors().unwrap_or(&[])
 }
 

@@ -1,0 +1,94 @@
+//! Each write of a value fails in turn: with each kind of error, behind a piece that was taken in part, and with no byte
+//! taken.
+use crate::found::{are, list, room};
+use crate::scope::{Scoped, listed};
+use crate::stopped::{ended, writer};
+use fluent_bundle::{Counting, FluentValue, Scope, WriteFault};
+use fluent_fixtures::common::read;
+use fluent_fixtures::objects::Star;
+use fluent_fixtures::settings::{Given, Setting, arguments, bundle_of};
+use fluent_fixtures::stopping::{FAULTS, Fault, Stopping};
+use std::alloc::{AllocError, Global};
+use std::process::Abort;
+use std::test::Fail;
+
+/// What is set in a bundle, a value, and what it is shown as.
+type Row = (&'static [Setting], Given, &'static str);
+
+const ROWS: &[Row] = &[
+    // a value's own text: a number has its digits at least
+    (&[], Given::Text("ab\u{e9}"), "ab\u{e9}"),
+    (&[], Given::Read("-12.500"), "-12.500"),
+    (&[], Given::Star, "*"),
+    (&[], Given::Nothing, ""),
+    (&[], Given::Fault, ""),
+    // the formatter's answer
+    (&[Setting::Kinds], Given::Text("ab"), "text"),
+    (&[Setting::Kinds], Given::Read("-12.500"), "number"),
+    (&[Setting::Kinds], Given::Star, "custom"),
+    (&[Setting::Kinds], Given::Nothing, "nothing"),
+    (&[Setting::Kinds], Given::Fault, "error"),
+];
+
+fn write(
+    value: &FluentValue<'_, Star>,
+    w: &mut Counting<Stopping>,
+    scope: &Scoped<'_, '_, '_, '_>,
+) -> Result<(), WriteFault> {
+    value.write(w, scope)
+}
+
+/// Writes a value to a writer that stops; `false` where the text is whole before.
+fn stops(
+    rt: &impl Abort,
+    alloc: Global,
+    scope: &Scoped<'_, '_, '_, '_>,
+    value: &FluentValue<'_, Star>,
+    text: &str,
+    left: u64,
+    fault: Fault,
+) -> Result<bool, AllocError> {
+    let mut w = writer(alloc, left, fault)?;
+    let answer = write(value, &mut w, scope);
+    Ok(!ended(rt, &answer, w, fault, text).is_whole)
+}
+
+/// The writer stops at each write in turn.
+fn stops_anywhere(
+    rt: &impl Abort,
+    alloc: Global,
+    scope: &Scoped<'_, '_, '_, '_>,
+    value: &FluentValue<'_, Star>,
+    text: &str,
+    fault: Fault,
+) -> Result<(), Fail> {
+    for left in 0..10 {
+        if !stops(rt, alloc, scope, value, text, left, fault)? {
+            return Ok(());
+        }
+    }
+    Err("no text is whole".into())
+}
+
+fn holds(rt: &impl Abort, alloc: Global, row: &Row) -> Result<(), Fail> {
+    let resource = read(alloc, "m = x\n")?;
+    let bundle = bundle_of(alloc, row.0, &resource)?;
+    let args = arguments(alloc, &[("v", row.1)])?;
+    let value = args.get("v").ok_or("no value")?;
+    let mut errors = list(alloc)?;
+    let scope = Scope::new(&bundle, bundle.ids(), Some(&args), Some(&mut errors));
+    for fault in FAULTS {
+        stops_anywhere(rt, alloc, &scope, value, row.2, *fault)?;
+    }
+    assert!(rt; scope.counts().entered == 0 && !scope.dirty());
+    are(rt, &mut room(alloc)?, listed(&scope), "")
+}
+
+/// Nothing is written after the fault, and what was written begins the text.
+#[test]
+fn a_value_that_is_written_ends_where_its_writer_stops(rt: HostRuntime) -> Result<(), Fail> {
+    for row in ROWS {
+        holds(&rt, rt.alloc(), row)?;
+    }
+    Ok(())
+}
