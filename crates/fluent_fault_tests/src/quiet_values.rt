@@ -95,10 +95,12 @@ fn is_copied(alloc: Global, given: Given) -> bool {
         Ok(copy) => is(&copy, given),
         Err(AllocError) => false,
     };
-    match (given, value(given).into_owned(alloc)) {
-        (Given::Text(_), _) => is_right,
-        (_, Ok(copy)) => is_right && is(&copy, given),
-        (_, Err(AllocError)) => false,
+    if matches!(given, Given::Text(_)) {
+        return is_right;
+    }
+    match value(given).into_owned(alloc) {
+        Ok(copy) => is_right && is(&copy, given),
+        Err(AllocError) => false,
     }
 }
 
