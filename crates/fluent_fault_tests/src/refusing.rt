@@ -112,14 +112,8 @@ const ROWS: &[Row] = &[
         "\u{2068}{$y}\u{2069} c \u{2068}",
         LOST,
     ),
-    // a value that is shown, that is a selector, that is an argument
+    // a value that is shown, that is an argument
     Row("m = a { $x } b", Has::Neither, "a \u{2068}", ""),
-    Row(
-        "m = a { $x ->\n   *[o] b\n } c",
-        Has::Neither,
-        "a \u{2068}",
-        "",
-    ),
     Row(
         "m = a { NUMBER($y, $x) } c",
         Has::Neither,
@@ -207,6 +201,22 @@ fn want_of_memory_that_an_object_answers_is_answered(rt: HostRuntime) -> Result<
         is_refused(&rt, rt.alloc(), row)?;
     }
     Ok(())
+}
+
+/// A value that is a selector is lent: it isn't asked for a copy.
+#[test]
+fn a_selector_is_not_copied(rt: HostRuntime) -> Result<(), Fail> {
+    let alloc = rt.alloc();
+    let resource = read(alloc, "m = a { $x ->\n   *[o] b\n } c")?;
+    let bundle = bundle_of(alloc, Has::Neither, &resource)?;
+    let pattern = value_of(&resource)?;
+    let args = arguments(alloc)?;
+    let mut room = room(alloc)?;
+    let mut errors = list(alloc)?;
+    let mut w = Counting::new(Vec::new(alloc));
+    assert!(rt; write(&bundle, pattern, &args, &mut w, &mut errors).is_ok());
+    assert!(rt; w.into_inner().as_slice() == "a \u{2068}b\u{2069} c".as_bytes());
+    are(&rt, &mut room, errors.as_slice(), "")
 }
 
 /// A formatter is asked once more for the whole text, when it is written already.
