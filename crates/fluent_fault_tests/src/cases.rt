@@ -15,7 +15,7 @@ pub struct Case {
 
 const TOO_MANY: &str = "Resolver error: Too many placeables\n";
 
-const MISSING: Case = Case {
+pub const MISSING: Case = Case {
     settings: &[],
     source: "p = Welcome, { $name }.\n",
     named: &[],
@@ -36,7 +36,7 @@ pub const RANK: &str = "p = { NUMBER($n, type: \"ordinal\") ->
 }
 ";
 
-const ORDINAL: Case = Case {
+pub const ORDINAL: Case = Case {
     settings: &[Setting::Builtins],
     source: RANK,
     named: &[("n", Given::Read("22"))],

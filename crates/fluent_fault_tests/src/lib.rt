@@ -16,6 +16,8 @@ mod found;
 #[cfg(test)]
 mod ids;
 #[cfg(test)]
+mod narrow;
+#[cfg(test)]
 mod objects;
 #[cfg(test)]
 mod quiet_bundle;

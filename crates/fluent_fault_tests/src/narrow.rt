@@ -1,0 +1,116 @@
+//! Writers that take so many bytes at once and in all: a text is taken byte by byte, and two stop at a placeable's mark
+//! and behind it.
+use crate::cases::{Case, MISSING, ORDINAL};
+use crate::found::{are, list, room};
+use fluent_bundle::Counting;
+use fluent_fixtures::common::read;
+use fluent_fixtures::settings::{arguments, bundle_of, value_in};
+use fluent_fixtures::writers::{End, end_of};
+use std::alloc::Global;
+use std::io;
+use std::io::Write;
+use std::process::Abort;
+use std::test::Fail;
+
+/// Takes so many bytes at once, and where there is no room left it fails or takes none.
+#[derive(Drop)]
+struct Narrow {
+    taken: Vec<u8>,
+    at_once: usize,
+    room: usize,
+    fails: bool,
+}
+
+impl Write for Narrow {
+    fn write(&mut self, piece: &[u8]) -> io::Result<usize> {
+        let n = piece.len().min(self.at_once).min(self.room);
+        if self.room == 0 && self.fails {
+            return Err(io::Error::from(io::ErrorKind::BrokenPipe));
+        }
+        match self.taken.extend_from_slice(&piece[..n]) {
+            Ok(()) => {
+                self.room -= n;
+                Ok(n)
+            }
+            Err(_) => Err(io::Error::from(io::ErrorKind::OutOfMemory)),
+        }
+    }
+
+    fn flush(&mut self) -> io::Result<()> {
+        Ok(())
+    }
+}
+
+/// How many bytes a writer takes at once and in all, and whether it fails then; how the call ends, how often a write
+/// failed and took nothing, what was taken, and the lines of the errors.
+struct Row {
+    case: &'static Case,
+    takes: (usize, usize, bool),
+    end: End,
+    faults: (u64, u64),
+    text: &'static str,
+    lines: &'static str,
+}
+
+const ROWS: &[Row] = &[
+    Row {
+        case: &ORDINAL,
+        takes: (1, 1000, true),
+        end: End::Whole,
+        faults: (0, 0),
+        text: "\u{2068}22\u{2069}nd",
+        lines: "",
+    },
+    Row {
+        case: &MISSING,
+        takes: (100, 9, false),
+        end: End::Zero,
+        faults: (0, 1),
+        text: "Welcome, ",
+        lines: "",
+    },
+    Row {
+        case: &MISSING,
+        takes: (100, 12, true),
+        end: End::Writer,
+        faults: (1, 0),
+        text: "Welcome, \u{2068}",
+        lines: "Resolver error: Unknown variable: $name\n",
+    },
+];
+
+fn writer(alloc: Global, takes: (usize, usize, bool)) -> Counting<Narrow> {
+    Counting::new(Narrow {
+        taken: Vec::new(alloc),
+        at_once: takes.0,
+        room: takes.1,
+        fails: takes.2,
+    })
+}
+
+fn ends_so(rt: &impl Abort, alloc: Global, row: &Row) -> Result<(), Fail> {
+    let resource = read(alloc, row.case.source)?;
+    let bundle = bundle_of(alloc, row.case.settings, &resource)?;
+    let pattern = value_in(&bundle, "p").ok_or("no p")?;
+    let args = arguments(alloc, row.case.named)?;
+    let mut room = room(alloc)?;
+    let mut errors = list(alloc)?;
+    let mut w = writer(alloc, row.takes);
+    let end = end_of(bundle.write_pattern(&mut w, pattern, Some(&args), &mut errors));
+    assert!(rt; end == row.end, "{}", row.text);
+    assert!(rt; (w.failed(), w.empty()) == row.faults, "{}", row.text);
+    assert!(rt;
+        w.into_inner().taken.as_slice() == row.text.as_bytes(),
+        "{}",
+        row.text
+    );
+    are(rt, &mut room, errors.as_slice(), row.lines)
+}
+
+#[test]
+fn a_writer_that_takes_little_ends_the_call_so(rt: HostRuntime) -> Result<(), Fail> {
+    for row in ROWS {
+        ends_so(&rt, rt.alloc(), row)?;
+    }
+    Ok(())
+}
