@@ -31,7 +31,7 @@ unfolding digits run1
 no_digit [] e = refl
 no_digit (c ∷ cs) e = rw e refl
 
-no_number : (s : List ℕ) → (first s == 45) ≡ false → is_digit (first s) 0 ≡ false → number_literal s ≡ None
+pub no_number : (s : List ℕ) → (first s == 45) ≡ false → is_digit (first s) 0 ≡ false → number_literal s ≡ None
 unfolding number_literal number_parts
 no_number s b d = rw (no_byte 45 s b, no_digit s d) refl
 
@@ -39,7 +39,7 @@ no_negative : (s t : List ℕ) → byte 45 s ≡ Some (tt, t) → is_digit (firs
 unfolding number_literal number_parts
 no_negative s t b d = rw (b, no_digit t d) refl
 
-no_literal : (s : List ℕ) → (first s == 34) ≡ false → number_literal s ≡ None → literal s ≡ None
+pub no_literal : (s : List ℕ) → (first s == 34) ≡ false → number_literal s ≡ None → literal s ≡ None
 unfolding literal string_literal
 no_literal s q n = rw (no_byte 34 s q, n) refl
 
@@ -47,7 +47,7 @@ no_name : (s : List ℕ) → is_letter (first s) ≡ false → identifier s ≡ 
 unfolding identifier
 no_name s e = rw e refl
 
-name_letter : (s r : List ℕ) (id : Text) → identifier s ≡ Some (id, r) → is_letter (first s) ≡ true
+pub name_letter : (s r : List ℕ) (id : Text) → identifier s ≡ Some (id, r) → is_letter (first s) ≡ true
 name_letter s r id e =
     elim (cases_Bool (is_letter (first s))) [
       | inl letter ↦ letter
@@ -93,7 +93,7 @@ term_at : (g : Level) (s t r : List ℕ) (id : Text) → literal s ≡ None → 
 unfolding inline_expression term_reference optional_call
 term_at g s t r id l f m b e a c = rw (l, f, m, b, e, a, c) refl
 
-letter_else : (c : ℕ) → is_letter c ≡ true → ((c == 34) ≡ false) × ((c == 45) ≡ false) × (is_digit c 0 ≡ false)
+pub letter_else : (c : ℕ) → is_letter c ≡ true → ((c == 34) ≡ false) × ((c == 45) ≡ false) × (is_digit c 0 ≡ false)
 letter_else c e = (grind (arith, nat_tests), grind (arith, nat_tests), grind (arith, nat_tests))
 
 sigil_else : (c : ℕ) → (c == 36) ≡ true → ((c == 34) ≡ false) × ((c == 45) ≡ false) × (is_digit c 0 ≡ false) × (is_letter c ≡ false)

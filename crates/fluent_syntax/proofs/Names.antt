@@ -1,5 +1,5 @@
 -- Names that differ, from the last to the first.
-use Rattle.std.proofs.Common.{◌≡◌, ℕ, zero, suc, ◌+◌, ◌<◌, Bool, true, false, not, ◌&&◌, ◌||◌, cond, List, [], ◌∷◌, length, map, drop, get_or, refl, sym, ap, ◌∙◌}
+use Rattle.std.proofs.Common.{◌≡◌, ℕ, zero, suc, ◌+◌, ◌<◌, Bool, true, false, not, ◌&&◌, ◌||◌, cond, List, [], ◌∷◌, length, map, drop, get_or, refl, sym, ap, ◌∙◌, arith}
 use Rattle.std.specs.Str.{bytes_eq}
 use Rattle.std.specs.Set.{is_member}
 use Rattle.std.proofs.lemmas.List.{drop_more}
@@ -18,6 +18,12 @@ use Rattle.fluent_syntax.specs.Expressions.{names, differ}
 pub names-drop : {A : Type 0} (view : A → Named) (xs : List A) (i : ℕ) (x : A) → i < length xs → x ≡ get_or xs i x
     → names (map view (drop i xs)) ≡ (view x).0 ∷ names (map view (drop (i + 1) xs))
 names-drop view xs i x h e = ap (λ l. names (map view l)) (drop_more xs i x h) ∙ ap (λ y. (view y).0 ∷ names (map view (drop (i + 1) xs))) (sym e)
+
+-- one name differs from no other
+pub differ-few : {A : Type 0} (view : A → Named) (xs : List A) → length xs < 2 → differ (names (map view xs)) ≡ true
+differ-few view [] h = refl
+differ-few view (x ∷ []) h = refl
+differ-few view (x ∷ y ∷ xs) h = absurd (omega arith)
 
 and_false : (b c : Bool) → c ≡ false → (b && c) ≡ false
 and_false true c e = e

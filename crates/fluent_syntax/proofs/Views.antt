@@ -1,8 +1,8 @@
 -- The content of each case of an element.
-use Rattle.std.proofs.Common.{◌≡◌, ℕ, List, Vec, Global, None, map, ap, ◌∙◌, rules}
+use Rattle.std.proofs.Common.{◌≡◌, ℕ, List, Vec, Global, Option, None, map, ap, ◌∙◌, rules}
 use Rattle.std.specs.Borrow.{Bor}
-use Rattle.fluent_tree.specs.Tree.{text, placeable, pattern_of, inline, variable, message, term, no_attribute, no_call}
-use Rattle.fluent_tree.specs.View.{element_view, expression_view, inline_view, pattern_view}
+use Rattle.fluent_tree.specs.Tree.{text, placeable, pattern_of, inline, variable, message, term, function, no_attribute, no_call}
+use Rattle.fluent_tree.specs.View.{element_view, expression_view, inline_view, pattern_view, name_view, attribute_of, arguments_view, named_view}
 use Rattle.fluent_tree.specs.declared.ast.Expression as of_expression
 use Rattle.fluent_tree.specs.declared.ast.PatternElement as of_element
 use Rattle.fluent_tree.specs.declared.ast.PatternElement.TheVariants as elements
@@ -11,7 +11,9 @@ use Rattle.fluent_tree.specs.declared.ast.InlineExpression.TheVariants as inline
 use Rattle.fluent_tree.specs.declared.ast.Expression.TheVariants as expressions
 use Rattle.fluent_tree.specs.declared.ast.Identifier.{Identifier}
 use Rattle.fluent_tree.specs.declared.ast.Pattern as of_pattern
-use Rattle.fluent_tree.specs.declared.ast.Expression.TheViews.{roll-Pattern}
+use Rattle.fluent_tree.specs.declared.ast.CallArguments.{CallArguments}
+use Rattle.fluent_tree.specs.declared.ast.NamedArgument as of_named
+use Rattle.fluent_tree.specs.declared.ast.Expression.TheViews.{roll-Pattern, roll-NamedArgument}
 
 pub view_text : (t : Bor (List ℕ)) → element_view (elements.TextElement t) ≡ text t.now
 view_text t = search (rules, of_element.the_lemmas)
@@ -39,3 +41,12 @@ view_message id = search (rules, of_inline.the_lemmas)
 
 pub view_term : (id : Identifier) → inline_view (inlines.TermReference id None None) ≡ term id.name.now no_attribute no_call
 view_term id = search (rules, of_inline.the_lemmas)
+
+pub view_reference : (id : Identifier) (a : Option Identifier) → inline_view (inlines.MessageReference id a) ≡ message (name_view id) (attribute_of a)
+view_reference id a = search (rules, of_inline.the_lemmas)
+
+pub view_function : (id : Identifier) (a : CallArguments) → inline_view (inlines.FunctionReference id a) ≡ function (name_view id) (arguments_view a)
+view_function id a = search (rules, of_inline.the_lemmas)
+
+pub view_named : (id : Identifier) (x : of_inline.InlineExpression) → named_view (roll-NamedArgument (record { name = id; value = x })) ≡ (name_view id, inline_view x)
+view_named id x = search (rules, of_named.the_lemmas)

@@ -3,17 +3,17 @@ ghost use Rattle.std.specs.Prelude.{◌≡◌, map, OnOk, IfOk};
 ghost use Rattle.fluent_syntax.specs.Expressions as spec;
 ghost use Rattle.fluent_text.specs.Reading.{found, passed};
 ghost use Rattle.fluent_syntax.specs.Reading.{Gives};
-ghost use Rattle.fluent_syntax.specs.Gathering.{argument_view, gathered_view};
+ghost use Rattle.fluent_syntax.specs.Gathering.{argument_view, gathered_view, positional_argument, value_argument, call_argument, message_argument, reference_argument, Gathers};
 ghost use Rattle.fluent_syntax.specs.Nests.{Reads};
-ghost use Rattle.fluent_tree.specs.View.{named_view, expression_view, arguments_view};
+ghost use Rattle.fluent_tree.specs.View.{named_view, name_view, expression_view, arguments_view};
 
 use crate::parser::bytes::eat;
 use crate::parser::inner::Inner;
 use crate::parser::lines::{after_blank, identifier};
 use crate::parser::list::push;
-use crate::parser::reference::literal;
+use crate::parser::reference::{attribute_access, is_function_name, literal};
 use crate::parser::stop::Stop;
-use fluent_tree::ast::{CallArguments, Expression, InlineExpression, NamedArgument};
+use fluent_tree::ast::{CallArguments, Expression, Identifier, InlineExpression, NamedArgument};
 use std::alloc::{AllocError, Global};
 use std::collections::BTreeSet;
 
@@ -50,17 +50,6 @@ impl<'s> Gathered<'s> {
 }
 
 #[inline(always)]
-#[tactic(auto, unfolding(crate::specs::Expressions::named_argument))]
-fn named_argument<'s>(s: &'s str) -> Option<(NamedArgument<'s>, &'s str)>
-    ensures { found named_view result ≡ spec.named_argument s.now }
-{
-    let (name, rest) = identifier(s)?;
-    let rest = eat(after_blank(rest), b':')?;
-    let (value, rest) = literal(after_blank(rest))?;
-    Some((NamedArgument { name, value }, rest))
-}
-
-#[inline(always)]
 #[tactic(auto, unfolding(crate::specs::Expressions::comma))]
 fn comma(s: &str) -> Option<&str>
     ensures { passed result ≡ spec.comma s.now }
@@ -69,25 +58,120 @@ fn comma(s: &str) -> Option<&str>
     Some(after_blank(rest))
 }
 
+/// Reads the value of an argument whose name and colon were read, and adds the argument.
+#[inline(never)]
+fn push_named<'s>(
+    name: Identifier<'s>,
+    s: &'s str,
+    found: &mut Gathered<'s>,
+) -> Result<&'s str, Stop>
+    ensures { Gathers result (gathered_view found.old) (gathered_view found.new)
+        (value_argument (name_view name.entry) s.now) }
+{
+    let Some((value, end)) = literal(s) else {
+        return Err(Stop::Absent);
+    };
+    found.add(Argument::Named(NamedArgument { name, value }))?;
+    Ok(end)
+}
+
+/// Reads the attribute behind the name of a message, if one is there, and adds the reference.
+#[inline(always)]
+fn push_message<'s>(
+    id: Identifier<'s>,
+    s: &'s str,
+    found: &mut Gathered<'s>,
+) -> Result<&'s str, Stop>
+    ensures { Gathers result (gathered_view found.old) (gathered_view found.new)
+        (message_argument (name_view id.entry) s.now) }
+{
+    let (attribute, end) = attribute_access(s);
+    found.add(Argument::Positional(InlineExpression::MessageReference { id, attribute }))?;
+    Ok(end)
+}
+
 impl<
     's,
     F: Fn(Global, &'s str, usize) -> Result<(Expression<'s>, &'s str), Stop>,
     G: Fn(Global, &'s str, usize) -> Result<(CallArguments<'s>, &'s str), Stop>,
 > Inner<F, G> {
+    /// Reads an argument and adds it. A name is read once, whether an argument's, a function's or a message's.
     #[inline(always)]
-    #[tactic(auto, unfolding(crate::specs::Expressions::argument))]
-    fn argument(&self, s: &'s str) -> Result<(Argument<'s>, &'s str), Stop>
+    fn push_argument(&self, s: &'s str, found: &mut Gathered<'s>) -> Result<&'s str, Stop>
         requires braces { Reads expression_view (spec.level self.now.depth).braces self.now.depth
             (F.pre self.now.braces) (F.post self.now.braces) }
         requires brackets { Reads arguments_view (spec.level self.now.depth).brackets self.now.depth
             (G.pre self.now.brackets) (G.post self.now.brackets) }
-        ensures { Gives argument_view result (spec.argument (spec.level self.now.depth) s.now) }
+        ensures { Gathers result (gathered_view found.old) (gathered_view found.new)
+            (spec.argument (spec.level self.now.depth) s.now) }
     {
-        if let Some((n, rest)) = named_argument(s) {
-            return Ok((Argument::Named(n), rest));
+        let Some((id, rest)) = identifier(s) else {
+            return self.push_nameless(s, found);
+        };
+        let Some(colon) = eat(after_blank(rest), b':') else {
+            return self.push_reference(id, rest, found);
+        };
+        match push_named(id, after_blank(colon), found) {
+            Ok(end) => Ok(end),
+            Err(Stop::Memory) => Err(Stop::Memory),
+            Err(Stop::Absent) => self.push_reference(id, rest, found),
         }
+    }
+
+    /// Reads what follows the name of a function or a message, and adds the reference.
+    #[inline(always)]
+    fn push_reference(
+        &self,
+        id: Identifier<'s>,
+        s: &'s str,
+        found: &mut Gathered<'s>,
+    ) -> Result<&'s str, Stop>
+        requires brackets { Reads arguments_view (spec.level self.now.depth).brackets self.now.depth
+            (G.pre self.now.brackets) (G.post self.now.brackets) }
+        ensures { Gathers result (gathered_view found.old) (gathered_view found.new)
+            (reference_argument (spec.level self.now.depth) (name_view id.entry) s.now) }
+    {
+        if !is_function_name(id.name) {
+            return push_message(id, s, found);
+        }
+        match self.push_call(id, s, found) {
+            Ok(end) => Ok(end),
+            Err(Stop::Memory) => Err(Stop::Memory),
+            Err(Stop::Absent) => push_message(id, s, found),
+        }
+    }
+
+    /// Reads the arguments of a function whose name was read, and adds the call.
+    #[inline(never)]
+    fn push_call(
+        &self,
+        id: Identifier<'s>,
+        s: &'s str,
+        found: &mut Gathered<'s>,
+    ) -> Result<&'s str, Stop>
+        requires brackets { Reads arguments_view (spec.level self.now.depth).brackets self.now.depth
+            (G.pre self.now.brackets) (G.post self.now.brackets) }
+        ensures { Gathers result (gathered_view found.old) (gathered_view found.new)
+            (call_argument (spec.level self.now.depth) (name_view id.entry) s.now) }
+    {
+        let (arguments, end) = (self.brackets)(self.alloc, s, self.depth)?;
+        found.add(Argument::Positional(InlineExpression::FunctionReference { id, arguments }))?;
+        Ok(end)
+    }
+
+    /// Reads an argument that begins with no name, and adds it.
+    #[inline(never)]
+    fn push_nameless(&self, s: &'s str, found: &mut Gathered<'s>) -> Result<&'s str, Stop>
+        requires braces { Reads expression_view (spec.level self.now.depth).braces self.now.depth
+            (F.pre self.now.braces) (F.post self.now.braces) }
+        requires brackets { Reads arguments_view (spec.level self.now.depth).brackets self.now.depth
+            (G.pre self.now.brackets) (G.post self.now.brackets) }
+        ensures { Gathers result (gathered_view found.old) (gathered_view found.new)
+            (positional_argument (spec.level self.now.depth) s.now) }
+    {
         let (x, rest) = self.inline_expression(s)?;
-        Ok((Argument::Positional(x), rest))
+        found.add(Argument::Positional(x))?;
+        Ok(rest)
     }
 
     /// The arguments and the commas between them. Each argument is read once, whether a comma follows it or not.
@@ -107,9 +191,8 @@ impl<
         };
         let mut rest = s;
         'arguments: for _turn in 0..s.len() {
-            match self.argument(rest) {
-                Ok((next, after)) => {
-                    found.add(next)?;
+            match self.push_argument(rest, &mut found) {
+                Ok(after) => {
                     let Some(behind) = comma(after) else {
                         return Ok((found, after));
                     };
@@ -126,7 +209,7 @@ impl<
     }
 
     /// Adds an argument that may come next.
-    #[inline(always)]
+    #[inline(never)]
     fn last_argument(
         &self,
         s: &'s str,
@@ -139,11 +222,8 @@ impl<
         ensures { Gives gathered_view result (spec.last_argument (spec.level self.now.depth)
             (gathered_view found.entry) s.now) }
     {
-        match self.argument(s) {
-            Ok((a, rest)) => {
-                found.add(a)?;
-                Ok((found, rest))
-            }
+        match self.push_argument(s, &mut found) {
+            Ok(rest) => Ok((found, rest)),
             Err(Stop::Absent) => Ok((found, s)),
             Err(Stop::Memory) => Err(Stop::Memory),
         }
@@ -184,6 +264,9 @@ fn name_of<'s>(argument: &NamedArgument<'s>) -> &'s str
 fn differ(alloc: Global, named: &[NamedArgument]) -> Result<bool, AllocError>
     ensures { IfOk result (λ yes. yes ≡ spec.differ (spec.names (map named_view named.now))) }
 {
+    if named.len() < 2 {
+        return Ok(true);
+    }
     let mut later = BTreeSet::new(alloc);
     let mut at = named.len();
     'names: while 0 < at {

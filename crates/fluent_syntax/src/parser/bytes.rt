@@ -49,12 +49,32 @@ pub fn eat(s: &str, byte: u8) -> Option<&str>
     }
 }
 
+/// 1 for each byte that may stand in an identifier. One look-up takes the place of up to six comparisons, and names are most of what is read byte by byte.
+static NAME_BYTES: [u8; 256] = [
+    0, 0, 0, 0, 0, 0, 0, 0, 0, 0, 0, 0, 0, 0, 0, 0, 0, 0, 0, 0, 0, 0, 0, 0, 0, 0, 0, 0, 0, 0, 0, 0,
+    0, 0, 0, 0, 0, 0, 0, 0, 0, 0, 0, 0, 0, 1, 0, 0, 1, 1, 1, 1, 1, 1, 1, 1, 1, 1, 0, 0, 0, 0, 0, 0,
+    0, 1, 1, 1, 1, 1, 1, 1, 1, 1, 1, 1, 1, 1, 1, 1, 1, 1, 1, 1, 1, 1, 1, 1, 1, 1, 1, 0, 0, 0, 0, 1,
+    0, 1, 1, 1, 1, 1, 1, 1, 1, 1, 1, 1, 1, 1, 1, 1, 1, 1, 1, 1, 1, 1, 1, 1, 1, 1, 1, 0, 0, 0, 0, 0,
+    0, 0, 0, 0, 0, 0, 0, 0, 0, 0, 0, 0, 0, 0, 0, 0, 0, 0, 0, 0, 0, 0, 0, 0, 0, 0, 0, 0, 0, 0, 0, 0,
+    0, 0, 0, 0, 0, 0, 0, 0, 0, 0, 0, 0, 0, 0, 0, 0, 0, 0, 0, 0, 0, 0, 0, 0, 0, 0, 0, 0, 0, 0, 0, 0,
+    0, 0, 0, 0, 0, 0, 0, 0, 0, 0, 0, 0, 0, 0, 0, 0, 0, 0, 0, 0, 0, 0, 0, 0, 0, 0, 0, 0, 0, 0, 0, 0,
+    0, 0, 0, 0, 0, 0, 0, 0, 0, 0, 0, 0, 0, 0, 0, 0, 0, 0, 0, 0, 0, 0, 0, 0, 0, 0, 0, 0, 0, 0, 0, 0,
+];
+
+#[inline(always)]
+#[tactic(auto, using(crate::proofs::NameBytes::name_bytes))]
+fn is_name_byte(byte: u8) -> bool
+    ensures { result ≡ spec.is_identifier_byte byte 0 }
+{
+    NAME_BYTES[byte as usize] != 0
+}
+
 #[inline(always)]
 fn is_in(class: Class, byte: u8, next: u8) -> bool
     ensures { result ≡ class_test class byte next }
 {
     match class {
-        Class::Identifier => byte.is_ascii_alphanumeric() || byte == b'_' || byte == b'-',
+        Class::Identifier => is_name_byte(byte),
         Class::Space => byte == b' ',
         Class::Digit => byte.is_ascii_digit(),
         Class::Inside => byte != b'\n',

@@ -29,7 +29,7 @@ pub fn literal<'s>(s: &'s str) -> Option<(InlineExpression<'s>, &'s str)>
 
 #[inline(always)]
 #[tactic(auto, unfolding(crate::specs::Expressions::attribute_access))]
-fn attribute_access<'s>(s: &'s str) -> (Option<Identifier<'s>>, &'s str)
+pub fn attribute_access<'s>(s: &'s str) -> (Option<Identifier<'s>>, &'s str)
     ensures { spec.attribute_access s.now ≡ Some (attribute_of result.0, result.1.now) }
 {
     if let Some(name) = eat(s, b'.')
@@ -52,7 +52,7 @@ fn message_reference<'s>(s: &'s str) -> Option<(InlineExpression<'s>, &'s str)>
 
 /// In upper case: capital letters, digits, `_` and `-`, a letter first.
 #[inline(always)]
-fn is_function_name(name: &str) -> bool
+pub fn is_function_name(name: &str) -> bool
     ensures { result ≡ spec.is_function_name name.now }
 {
     byte_at(name, 0).is_ascii_uppercase() && run_len(name, Class::Function) == name.len()

@@ -3,7 +3,7 @@ use Rattle.std.specs.Str.{bytes_eq}
 use Rattle.std.specs.Set.{is_member}
 use Rattle.fluent_tree.specs.View.{named_view}
 use Rattle.fluent_syntax.specs.Expressions.{names, differ}
-use Rattle.fluent_syntax.proofs.Names.{Holds, names-drop, differ-later, differ-seen, differ-new, members-more, was_there, was_absent}
+use Rattle.fluent_syntax.proofs.Names.{Holds, names-drop, differ-later, differ-seen, differ-new, differ-few, members-more, was_there, was_absent}
 use Rattle.fluent_syntax.proofs.parser.argument.differ.Goals as goal
 
 pub returns-then-not-branch : goal.returns-then-not-branch
@@ -33,3 +33,6 @@ names-preserved c =
       fresh = ap differ split ∙ differ-new key.now ts new (ap (λ k. differ (names (map named_view (drop k xs)))) at ∙ c.names.invariant.fresh);
       members = subst (Holds c.insert.new.self) (sym split) (members-more c.names.later c.insert.new.self key ts holds c.in_ok-insert.ensures.updates);
     }
+
+pub returns-then-named-lt2 : goal.returns-then-named-lt2
+returns-then-named-lt2 c = sym (differ-few named_view c.args.named.now c.if-named-lt2.true)

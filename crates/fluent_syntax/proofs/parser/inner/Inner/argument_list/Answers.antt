@@ -1,6 +1,6 @@
 use Rattle.std.proofs.Common.{◌-◌, ◌+◌, ◌∙◌, sym, ap, length, arith, rules}
 use Rattle.fluent_syntax.specs.Expressions.{level}
-use Rattle.fluent_syntax.specs.Gathering.{gathered_view, argument_view}
+use Rattle.fluent_syntax.specs.Gathering.{gathered_view}
 use Rattle.fluent_syntax.proofs.Gathers.{gathers, gathers-more}
 use Rattle.fluent_syntax.proofs.parser.inner.Inner.argument_list.Goals as goal
 
@@ -9,9 +9,10 @@ arguments-preserved g c =
     let n = length c.args.s.now in
     let l = level c.args.self.now.depth in
     let j = n - (c.arguments._turn + 1) in
-    let behind = c.in-Some.behind.now in (
+    let behind = c.in-Some.behind.now in
+    let read = c.in-Ok.ensures in (
       search rules,
       c.arguments.invariant.1
-          ∙ gathers-more l (n - c.arguments._turn) j (gathered_view c.arguments.found) c.arguments.rest.now (argument_view c.in-Ok.next) c.in-Ok.after.now behind (omega arith) c.in-Ok.ensures (sym c.in-Some.ensures) (omega arith)
-          ∙ ap (λ b. gathers l j b behind) (sym c.in_ok-add-in-Ok.ensures),
+          ∙ gathers-more l (n - c.arguments._turn) j (gathered_view c.arguments.found) c.arguments.rest.now read.0 c.in-Ok.after.now behind (omega arith) read.1 (sym c.in-Some.ensures) (omega arith)
+          ∙ ap (λ b. gathers l j b behind) (sym read.2),
     )

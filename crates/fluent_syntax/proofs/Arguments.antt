@@ -1,0 +1,92 @@
+-- What an argument is, by what follows a name.
+use Rattle.std.proofs.Common.{◌≡◌, ℕ, Bool, true, false, List, Some, None, refl}
+use Rattle.fluent_text.specs.Parser.{Text, Read, ◌<$>◌, ◌>>◌, and_then, otherwise, pure, skip, first, byte}
+use Rattle.fluent_text.specs.Lexical.{identifier, blank}
+use Rattle.fluent_tree.specs.Tree.{Attribute, attribute, no_attribute, Inline, Arguments, function, message}
+use Rattle.fluent_syntax.specs.Expressions.{Level, Argument, by_name, literal, attribute_access, message_reference, is_function_name, function_reference, inline_expression, named_argument, argument}
+use Rattle.fluent_syntax.specs.Gathering.{positional_argument, value_argument, message_argument, reference_argument}
+use Rattle.fluent_syntax.proofs.BareReferences.{no_number, no_literal, name_letter, letter_else}
+
+-- a name is no literal
+name_no_literal : (s r : List ℕ) (id : Text) → identifier s ≡ Some (id, r) → literal s ≡ None
+name_no_literal s r id e =
+    let other = letter_else (first s) (name_letter s r id e) in
+    no_literal s other.0 (no_number s other.1 other.2)
+
+-- an attribute or none
+access_some : (r : List ℕ) → (p : Attribute × List ℕ) × (attribute_access r ≡ Some p)
+unfolding attribute_access
+access_some r = read ((attribute <$> (byte 46 >> identifier)) r)
+  where
+    read : (x : Read Attribute) → (p : Attribute × List ℕ) × (otherwise x (pure no_attribute) r ≡ Some p)
+    read None = ((no_attribute, r), refl)
+    read (Some p) = (p, refl)
+
+calls : (g : Level) (s r : List ℕ) (id : Text) (b : Read Arguments) → identifier s ≡ Some (id, r) → is_function_name id ≡ true → g.brackets r ≡ b → function_reference g s ≡ and_then b (λ a. pure (function id a))
+unfolding function_reference
+calls g s r id b e f h = rw (e, f, h) refl
+
+no_call : (g : Level) (s r : List ℕ) (id : Text) → identifier s ≡ Some (id, r) → is_function_name id ≡ false → function_reference g s ≡ None
+unfolding function_reference
+no_call g s r id e f = rw (e, f) refl
+
+refers : (s r : List ℕ) (id : Text) (p : Attribute × List ℕ) → identifier s ≡ Some (id, r) → attribute_access r ≡ Some p → message_reference s ≡ Some (message id p.0, p.1)
+unfolding message_reference
+refers s r id p e a = rw (e, a) refl
+
+a_call : (g : Level) (s : List ℕ) (p : Inline × List ℕ) → literal s ≡ None → function_reference g s ≡ Some p → inline_expression g s ≡ Some p
+unfolding inline_expression
+a_call g s p l f = rw (l, f) refl
+
+a_message : (g : Level) (s : List ℕ) (p : Inline × List ℕ) → literal s ≡ None → function_reference g s ≡ None → message_reference s ≡ Some p → inline_expression g s ≡ Some p
+unfolding inline_expression
+a_message g s p l f m = rw (l, f, m) refl
+
+message_at : (g : Level) (s r : List ℕ) (id : Text) → identifier s ≡ Some (id, r) → function_reference g s ≡ None → positional_argument g s ≡ message_argument id r
+message_at g s r id e f =
+    let a = access_some r in
+    rw (a_message g s (message id a.0.0, a.0.1) (name_no_literal s r id e) f (refers s r id a.0 e a.1), a.1) refl
+
+reference_by : (g : Level) (s r : List ℕ) (id : Text) (v : Bool) (b : Read Arguments) → identifier s ≡ Some (id, r) → is_function_name id ≡ v → g.brackets r ≡ b → positional_argument g s ≡ reference_argument g id r
+reference_by g s r id false b e f h = rw (f, message_at g s r id e (no_call g s r id e f)) refl
+reference_by g s r id true None e f h = rw (f, h, message_at g s r id e (calls g s r id None e f h)) refl
+reference_by g s r id true (Some p) e f h = rw (f, h, a_call g s (function id p.0, p.1) (name_no_literal s r id e) (calls g s r id (Some p) e f h)) refl
+
+-- a name is a function's before its arguments, else a message's
+pub reference_at : (g : Level) (s r : List ℕ) (id : Text) → identifier s ≡ Some (id, r) → positional_argument g s ≡ reference_argument g id r
+reference_at g s r id e = reference_by g s r id (is_function_name id) (g.brackets r) e refl refl
+
+-- no name, no named argument
+nameless : (s : List ℕ) → identifier s ≡ None → named_argument s ≡ None
+unfolding named_argument
+nameless s e = rw e refl
+
+pub nameless_at : (g : Level) (s : List ℕ) → identifier s ≡ None → argument g s ≡ positional_argument g s
+unfolding argument
+nameless_at g s e = rw (nameless s e) refl
+
+-- no colon
+no_colon : (s r c : List ℕ) (id : Text) → identifier s ≡ Some (id, r) → skip blank r ≡ Some (tt, c) → byte 58 c ≡ None → named_argument s ≡ None
+unfolding named_argument
+no_colon s r c id e b n = rw (e, b, n) refl
+
+pub plain_at : (g : Level) (s r c : List ℕ) (id : Text) → identifier s ≡ Some (id, r) → skip blank r ≡ Some (tt, c) → byte 58 c ≡ None → argument g s ≡ reference_argument g id r
+unfolding argument
+plain_at g s r c id e b n = rw (no_colon s r c id e b n, reference_at g s r id e) refl
+
+-- a colon
+colon : (s r c d v : List ℕ) (id : Text) → identifier s ≡ Some (id, r) → skip blank r ≡ Some (tt, c) → byte 58 c ≡ Some (tt, d) → skip blank d ≡ Some (tt, v) → (by_name <$> named_argument) s ≡ value_argument id v
+unfolding named_argument
+colon s r c d v id e b n k = rw (e, b, n, k) (valued (literal v))
+  where
+    valued : (x : Read Inline) → and_then (and_then x (λ i. pure (id, i))) (λ n. pure (by_name n)) ≡ and_then x (λ i. pure (by_name (id, i)))
+    valued None = refl
+    valued (Some p) = refl
+
+pub named_at : (g : Level) (s r c d v rest : List ℕ) (id : Text) (a : Argument) → identifier s ≡ Some (id, r) → skip blank r ≡ Some (tt, c) → byte 58 c ≡ Some (tt, d) → skip blank d ≡ Some (tt, v) → value_argument id v ≡ Some (a, rest) → argument g s ≡ Some (a, rest)
+unfolding argument
+named_at g s r c d v rest id a e b n k h = rw (colon s r c d v id e b n k, h) refl
+
+pub unnamed_at : (g : Level) (s r c d v : List ℕ) (id : Text) → identifier s ≡ Some (id, r) → skip blank r ≡ Some (tt, c) → byte 58 c ≡ Some (tt, d) → skip blank d ≡ Some (tt, v) → value_argument id v ≡ None → argument g s ≡ reference_argument g id r
+unfolding argument
+unnamed_at g s r c d v id e b n k h = rw (colon s r c d v id e b n k, h, reference_at g s r id e) refl

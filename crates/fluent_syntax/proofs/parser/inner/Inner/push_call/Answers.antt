@@ -1,0 +1,13 @@
+use Rattle.std.proofs.Common.{refl}
+use Rattle.fluent_tree.specs.View.{inline_view}
+use Rattle.fluent_tree.specs.declared.ast.InlineExpression.TheVariants.{FunctionReference}
+use Rattle.fluent_syntax.specs.Expressions.{positional}
+use Rattle.fluent_syntax.proofs.Views.{view_function}
+use Rattle.fluent_syntax.proofs.parser.inner.Inner.push_call.Goals as goal
+
+pub returns : goal.returns
+returns g c = (
+  positional (inline_view (FunctionReference c.args.id c.in_ok-arguments.arguments)),
+  rw (c.requires.brackets.reads c.args.self.now.alloc c.args.s _ c.in_ok-arguments.ensures, view_function c.args.id c.in_ok-arguments.arguments) refl,
+  c.in_ok-add.ensures,
+)
