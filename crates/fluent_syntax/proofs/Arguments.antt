@@ -1,11 +1,12 @@
--- What an argument is, by what follows a name.
+-- What an expression or an argument is, by whether it begins with a name and what follows that.
 use Rattle.std.proofs.Common.{◌≡◌, ℕ, Bool, true, false, List, Some, None, refl}
-use Rattle.fluent_text.specs.Parser.{Text, Read, ◌<$>◌, ◌>>◌, and_then, otherwise, pure, skip, first, byte}
+use Rattle.fluent_text.specs.Parser.{Text, Read, ◌<$>◌, ◌<|>◌, ◌>>◌, and_then, otherwise, pure, skip, first, byte}
 use Rattle.fluent_text.specs.Lexical.{identifier, blank}
-use Rattle.fluent_tree.specs.Tree.{Attribute, attribute, no_attribute, Inline, Arguments, function, message}
-use Rattle.fluent_syntax.specs.Expressions.{Level, Argument, by_name, literal, attribute_access, message_reference, is_function_name, function_reference, inline_expression, named_argument, argument}
+use Rattle.fluent_tree.specs.Tree.{Attribute, attribute, no_attribute, Inline, Arguments, function, message, nested}
+use Rattle.fluent_syntax.specs.Expressions.{Level, Argument, by_name, literal, attribute_access, message_reference, is_function_name, function_reference, term_reference, variable_reference, inline_expression, named_argument, argument}
 use Rattle.fluent_syntax.specs.Gathering.{positional_argument, value_argument, message_argument, reference_argument}
-use Rattle.fluent_syntax.proofs.BareReferences.{no_number, no_literal, name_letter, letter_else}
+use Rattle.fluent_syntax.proofs.BareReferences.{no_number, no_literal, name_letter, letter_else, no_function, no_message, variable_first}
+use Rattle.fluent_syntax.specs.Parts.{message_to, reference_to, nameless}
 
 -- a name is no literal
 name_no_literal : (s r : List ℕ) (id : Text) → identifier s ≡ Some (id, r) → literal s ≡ None
@@ -56,14 +57,42 @@ reference_by g s r id true (Some p) e f h = rw (f, h, a_call g s (function id p.
 pub reference_at : (g : Level) (s r : List ℕ) (id : Text) → identifier s ≡ Some (id, r) → positional_argument g s ≡ reference_argument g id r
 reference_at g s r id e = reference_by g s r id (is_function_name id) (g.brackets r) e refl refl
 
+-- the same of an expression
+inline_message : (g : Level) (s r : List ℕ) (id : Text) → identifier s ≡ Some (id, r) → function_reference g s ≡ None → inline_expression g s ≡ message_to id r
+inline_message g s r id e f =
+    let a = access_some r in
+    rw (a_message g s (message id a.0.0, a.0.1) (name_no_literal s r id e) f (refers s r id a.0 e a.1), a.1) refl
+
+inline_by : (g : Level) (s r : List ℕ) (id : Text) (v : Bool) (b : Read Arguments) → identifier s ≡ Some (id, r) → is_function_name id ≡ v → g.brackets r ≡ b → inline_expression g s ≡ reference_to g id r
+inline_by g s r id false b e f h = rw (f, inline_message g s r id e (no_call g s r id e f)) refl
+inline_by g s r id true None e f h = rw (f, h, inline_message g s r id e (calls g s r id None e f h)) refl
+inline_by g s r id true (Some p) e f h = rw (f, h, a_call g s (function id p.0, p.1) (name_no_literal s r id e) (calls g s r id (Some p) e f h)) refl
+
+pub inline_at : (g : Level) (s r : List ℕ) (id : Text) → identifier s ≡ Some (id, r) → inline_expression g s ≡ reference_to g id r
+inline_at g s r id e = inline_by g s r id (is_function_name id) (g.brackets r) e refl refl
+
+pub inline_nameless : (g : Level) (s : List ℕ) → identifier s ≡ None → variable_reference s ≡ None → inline_expression g s ≡ nameless g s
+unfolding inline_expression
+inline_nameless g s e v = by_literal (literal s)
+  where
+    by_term : (t : Read Inline) → otherwise t (variable_reference <|> (nested <$> g.braces)) s ≡ otherwise t (nested <$> g.braces) s
+    by_term None = rw v refl
+    by_term (Some p) = refl
+
+    by_literal : (l : Read Inline) → otherwise l (function_reference g <|> message_reference <|> term_reference g <|> variable_reference <|> (nested <$> g.braces)) s ≡ otherwise l (term_reference g <|> (nested <$> g.braces)) s
+    by_literal None = rw (no_function g s e, no_message s e) (by_term (term_reference g s))
+    by_literal (Some p) = refl
+
+pub ruleset inline_kinds = (variable_first, inline_at, inline_nameless)
+
 -- no name, no named argument
-nameless : (s : List ℕ) → identifier s ≡ None → named_argument s ≡ None
+no_named : (s : List ℕ) → identifier s ≡ None → named_argument s ≡ None
 unfolding named_argument
-nameless s e = rw e refl
+no_named s e = rw e refl
 
 pub nameless_at : (g : Level) (s : List ℕ) → identifier s ≡ None → argument g s ≡ positional_argument g s
 unfolding argument
-nameless_at g s e = rw (nameless s e) refl
+nameless_at g s e = rw (no_named s e) refl
 
 -- no colon
 no_colon : (s r c : List ℕ) (id : Text) → identifier s ≡ Some (id, r) → skip blank r ≡ Some (tt, c) → byte 58 c ≡ None → named_argument s ≡ None

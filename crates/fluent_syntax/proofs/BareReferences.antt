@@ -12,7 +12,7 @@ use Rattle.fluent_syntax.proofs.TextRuns.{not_both}
 
 -- ---- what a first byte rules out
 
-no_byte : (k : ℕ) (s : List ℕ) → (first s == k) ≡ false → byte k s ≡ None
+pub no_byte : (k : ℕ) (s : List ℕ) → (first s == k) ≡ false → byte k s ≡ None
 unfolding byte
 no_byte k s e = rw e refl
 
@@ -54,11 +54,11 @@ name_letter s r id e =
       | inr other ↦ absurd (none_some (identifier s) (id, r) (no_name s other) e)
     ]
 
-no_function : (g : Level) (s : List ℕ) → identifier s ≡ None → function_reference g s ≡ None
+pub no_function : (g : Level) (s : List ℕ) → identifier s ≡ None → function_reference g s ≡ None
 unfolding function_reference
 no_function g s e = rw e refl
 
-no_message : (s : List ℕ) → identifier s ≡ None → message_reference s ≡ None
+pub no_message : (s : List ℕ) → identifier s ≡ None → message_reference s ≡ None
 unfolding message_reference
 no_message s e = rw e refl
 

@@ -12,6 +12,7 @@ pub mod Gathering
 pub mod Nests
 pub mod WellFormed
 pub mod Entries
+pub mod Parts
 pub mod ContentView
 pub mod Chunks
 pub mod Parsed

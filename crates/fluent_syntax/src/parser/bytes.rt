@@ -5,7 +5,7 @@ ghost use Rattle.fluent_text.specs.Lexical as spec;
 ghost use Rattle.fluent_syntax.specs.Classes.{class_test};
 ghost use Rattle.fluent_text.specs.Reading.{passed};
 
-use crate::parser::text::text_len;
+use crate::parser::text::{line_len, text_len};
 
 /// A set of bytes, each judged with the byte after it.
 #[derive(Clone, Copy)]
@@ -99,6 +99,9 @@ pub fn run_len(s: &str, class: Class) -> usize
 {
     if let Class::Text = class {
         return text_len(s);
+    }
+    if let Class::Inside = class {
+        return line_len(s);
     }
     let bytes = s.as_bytes();
     'bytes: for at in 0..bytes.len() {

@@ -2,7 +2,8 @@
 ghost use Rattle.std.specs.Prelude.{◌≡◌, length};
 ghost use Rattle.fluent_syntax.specs.Entries as spec;
 ghost use Rattle.fluent_text.specs.Parser as parser;
-ghost use Rattle.fluent_text.specs.Reading.{found};
+ghost use Rattle.fluent_syntax.specs.Parts as parts;
+ghost use Rattle.fluent_text.specs.Reading.{found, passed};
 ghost use Rattle.fluent_syntax.specs.Reading.{Gives, all};
 ghost use Rattle.fluent_syntax.specs.ContentView.{content_view};
 ghost use Rattle.fluent_tree.specs.View.{name_view, pattern_view, attribute_view, entry_view};
@@ -110,9 +111,26 @@ fn term<'s>(alloc: Global, s: &'s str) -> Result<(Entry<'s>, &'s str), Stop>
     Ok((Entry::Term(term), rest))
 }
 
-/// Adds the attributes that come next.
-#[tactic(auto, using(fluent_text::specs::Facts::Turns::turns))]
+/// Adds the attributes that come next. Most entries have none, which is told at once.
+#[inline(always)]
+#[tactic(auto, using(crate::proofs::Parts::no_attributes))]
 fn attributes<'s>(
+    alloc: Global,
+    s: &'s str,
+    found: Vec<Attribute<'s>>,
+) -> Result<(Vec<Attribute<'s>>, &'s str), Stop>
+    ensures { Gives (all attribute_view) result (parser.many_from parser.push spec.attribute
+        (length s.now) (all attribute_view found.entry) s.now) }
+{
+    if attribute_dot(s).is_none() {
+        return Ok((found, s));
+    }
+    more_attributes(alloc, s, found)
+}
+
+#[inline(never)]
+#[tactic(auto, using(fluent_text::specs::Facts::Turns::turns))]
+fn more_attributes<'s>(
     alloc: Global,
     s: &'s str,
     mut found: Vec<Attribute<'s>>,
@@ -137,17 +155,34 @@ fn attributes<'s>(
     Ok((found, rest))
 }
 
-#[tactic(auto, unfolding(crate::specs::Entries::attribute))]
+/// What follows the dot of an attribute.
+#[inline(always)]
+fn attribute_dot(s: &str) -> Option<&str>
+    ensures { passed result ≡ parts.attribute_dot s.now }
+{
+    eat(after_blank(line_end(s)?), b'.')
+}
+
+#[inline(always)]
+#[tactic(auto, using(crate::proofs::Parts::attribute_parts))]
 fn attribute<'s>(alloc: Global, s: &'s str) -> Result<(Attribute<'s>, &'s str), Stop>
     ensures { Gives attribute_view result (spec.attribute s.now) }
 {
-    let line = after_blank(line_end(s).ok_or(Stop::Absent)?);
-    let name = eat(line, b'.').ok_or(Stop::Absent)?;
-    let (id, rest) = name_of_value(name).ok_or(Stop::Absent)?;
+    let name = attribute_dot(s).ok_or(Stop::Absent)?;
+    named_attribute(alloc, name)
+}
+
+/// An attribute behind its dot. It stands in a function of its own, since most entries end where an attribute could stand.
+#[inline(never)]
+fn named_attribute<'s>(alloc: Global, s: &'s str) -> Result<(Attribute<'s>, &'s str), Stop>
+    ensures { Gives attribute_view result (parts.named_attribute s.now) }
+{
+    let (id, rest) = name_of_value(s).ok_or(Stop::Absent)?;
     let (value, rest) = value(alloc, rest)?;
     Ok((Attribute { id, value }, rest))
 }
 
+#[inline(always)]
 #[tactic(auto, unfolding(crate::specs::Entries::value))]
 fn value<'s>(alloc: Global, s: &'s str) -> Result<(Pattern<'s>, &'s str), Stop>
     ensures { Gives pattern_view result (spec.value s.now) }

@@ -2,6 +2,7 @@
 ghost use Rattle.std.specs.Prelude.{◌≡◌, ◌-◌, ◌≤◌, Some, length, take, drop};
 ghost use Rattle.fluent_text.specs.Parser as parser;
 ghost use Rattle.fluent_syntax.specs.Expressions as spec;
+ghost use Rattle.fluent_syntax.specs.Parts as parts;
 ghost use Rattle.fluent_text.specs.Reading.{found, passed};
 ghost use Rattle.fluent_syntax.specs.Reading.{text_view};
 
@@ -89,14 +90,22 @@ fn quoted(s: &str) -> (usize, &str)
 }
 
 /// The text between the quotes.
+#[inline(always)]
 #[tactic(auto, unfolding(crate::specs::Expressions::string_literal))]
 pub fn string_literal<'s>(s: &'s str) -> Option<(&'s str, &'s str)>
     ensures { found text_view result ≡ spec.string_literal s.now }
 {
-    let body = eat(s, b'"')?;
-    let (_, end) = quoted(body);
+    quoted_text(eat(s, b'"')?)
+}
+
+/// The text behind a quote, up to the next.
+#[inline(never)]
+fn quoted_text<'s>(s: &'s str) -> Option<(&'s str, &'s str)>
+    ensures { found text_view result ≡ parts.quoted_text s.now }
+{
+    let (_, end) = quoted(s);
     let rest = eat(end, b'"')?;
-    Some((before(body, end), rest))
+    Some((before(s, end), rest))
 }
 
 #[tactic(auto, unfolding(crate::specs::Expressions::digits, fluent_text::specs::Parser::run1))]

@@ -50,7 +50,7 @@ fn only_line<'s>(s: &'s str) -> Option<(&'s str, &'s str)>
 }
 
 /// The text of a line as the only element, without the spaces at its end.
-#[inline(never)]
+#[inline(always)]
 fn one_element<'s>(alloc: Global, line: &'s str) -> Result<Vec<PatternElement<'s>>, AllocError>
     ensures { IfOk result (λ elements. all element_view elements
         ≡ unless_empty (trim_spaces line.now)) }

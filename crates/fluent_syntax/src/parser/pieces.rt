@@ -9,6 +9,7 @@ ghost use Rattle.fluent_syntax.specs.Reading.{Gives, all};
 ghost use Rattle.fluent_tree.specs.View.{element_view, expression_view};
 
 use crate::parser::bare::bare_placeable;
+use crate::parser::bytes::byte_at;
 use crate::parser::lines::blank_block;
 use crate::parser::list::push;
 use crate::parser::piece::{Piece, Slice, block_text, indent, inline_text};
@@ -148,7 +149,7 @@ fn push_any_hole<'s, F: Fn(Global, &'s str, usize) -> Result<(Expression<'s>, &'
     ensures { Adds result (all piece_view found.old) (all piece_view found.new)
         (hole_pieces depth s.now) }
 {
-    match braces(alloc, s, depth) {
+    match at_brace(alloc, s, depth, braces) {
         Ok((x, rest)) => {
             push(found, Piece::Placeable(x))?;
             return Ok(rest);
@@ -165,4 +166,23 @@ fn push_any_hole<'s, F: Fn(Global, &'s str, usize) -> Result<(Expression<'s>, &'
     push(found, Piece::Words(words))?;
     push(found, Piece::Placeable(x))?;
     Ok(rest)
+}
+
+/// A placeable, which is looked for only at a brace.
+#[inline(always)]
+#[tactic(auto, using(crate::proofs::Braces::no_brace))]
+fn at_brace<'s, F: Fn(Global, &'s str, usize) -> Result<(Expression<'s>, &'s str), Stop>>(
+    alloc: Global,
+    s: &'s str,
+    depth: usize,
+    braces: &F,
+) -> Result<(Expression<'s>, &'s str), Stop>
+    requires braces { Reads expression_view (level depth).braces depth (F.pre braces.now)
+        (F.post braces.now) }
+    ensures { Gives expression_view result ((level depth).braces s.now) }
+{
+    if byte_at(s, 0) != b'{' {
+        return Err(Stop::Absent);
+    }
+    braces(alloc, s, depth)
 }

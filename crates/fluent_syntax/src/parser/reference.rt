@@ -1,10 +1,11 @@
 //! References to messages, terms and functions, and the expressions that are no select.
 ghost use Rattle.std.specs.Prelude.{◌≡◌, Some, length};
 ghost use Rattle.fluent_syntax.specs.Expressions as spec;
+ghost use Rattle.fluent_syntax.specs.Parts as parts;
 ghost use Rattle.fluent_text.specs.Reading.{found};
 ghost use Rattle.fluent_syntax.specs.Reading.{Gives};
 ghost use Rattle.fluent_syntax.specs.Nests.{Reads};
-ghost use Rattle.fluent_tree.specs.View.{inline_view, expression_view, arguments_view, attribute_of, call_view};
+ghost use Rattle.fluent_tree.specs.View.{name_view, inline_view, expression_view, arguments_view, attribute_of, call_view};
 
 use crate::parser::bytes::{Class, byte_at, eat, run_len};
 use crate::parser::inner::Inner;
@@ -40,14 +41,13 @@ pub fn attribute_access<'s>(s: &'s str) -> (Option<Identifier<'s>>, &'s str)
     (None, s)
 }
 
+/// The message whose name was read.
 #[inline(always)]
-#[tactic(auto, unfolding(crate::specs::Expressions::message_reference))]
-fn message_reference<'s>(s: &'s str) -> Option<(InlineExpression<'s>, &'s str)>
-    ensures { found inline_view result ≡ spec.message_reference s.now }
+fn message_reference<'s>(id: Identifier<'s>, s: &'s str) -> (InlineExpression<'s>, &'s str)
+    ensures { parts.message_to (name_view id.entry) s.now ≡ Some (inline_view result.0, result.1.now) }
 {
-    let (id, rest) = identifier(s)?;
-    let (attribute, rest) = attribute_access(rest);
-    Some((InlineExpression::MessageReference { id, attribute }, rest))
+    let (attribute, rest) = attribute_access(s);
+    (InlineExpression::MessageReference { id, attribute }, rest)
 }
 
 /// In upper case: capital letters, digits, `_` and `-`, a letter first.
@@ -63,20 +63,27 @@ impl<
     F: Fn(Global, &'s str, usize) -> Result<(Expression<'s>, &'s str), Stop>,
     G: Fn(Global, &'s str, usize) -> Result<(CallArguments<'s>, &'s str), Stop>,
 > Inner<F, G> {
-    #[inline(always)]
-    #[tactic(auto, unfolding(crate::specs::Expressions::function_reference))]
-    fn function_reference(&self, s: &'s str) -> Result<(InlineExpression<'s>, &'s str), Stop>
+    /// What a name refers to that was read: a function before its arguments, else a message.
+    #[inline(never)]
+    fn reference(
+        &self,
+        id: Identifier<'s>,
+        s: &'s str,
+    ) -> Result<(InlineExpression<'s>, &'s str), Stop>
         requires brackets { Reads arguments_view (spec.level self.now.depth).brackets self.now.depth
             (G.pre self.now.brackets) (G.post self.now.brackets) }
-        ensures { Gives inline_view result (spec.function_reference
-            (spec.level self.now.depth) s.now) }
+        ensures { Gives inline_view result (parts.reference_to (spec.level self.now.depth) (name_view id.entry) s.now) }
     {
-        let (id, rest) = identifier(s).ok_or(Stop::Absent)?;
         if !is_function_name(id.name) {
-            return Err(Stop::Absent);
+            return Ok(message_reference(id, s));
         }
-        let (arguments, rest) = (self.brackets)(self.alloc, rest, self.depth)?;
-        Ok((InlineExpression::FunctionReference { id, arguments }, rest))
+        match (self.brackets)(self.alloc, s, self.depth) {
+            Ok((arguments, rest)) => {
+                Ok((InlineExpression::FunctionReference { id, arguments }, rest))
+            }
+            Err(Stop::Memory) => Err(Stop::Memory),
+            Err(Stop::Absent) => Ok(message_reference(id, s)),
+        }
     }
 
     #[inline(always)]
@@ -114,9 +121,9 @@ impl<
         ))
     }
 
-    /// An expression that is no select. Variables, which most are, are tried first: nothing else begins as they do.
+    /// An expression that is no select, told by how it begins: as a variable, which most are, with a name, or neither.
     #[inline(always)]
-    #[tactic(auto, using(crate::proofs::BareReferences::variable_first))]
+    #[tactic(auto, using(crate::proofs::Arguments::inline_kinds))]
     pub fn inline_expression(&self, s: &'s str) -> Result<(InlineExpression<'s>, &'s str), Stop>
         requires braces { Reads expression_view (spec.level self.now.depth).braces self.now.depth
             (F.pre self.now.braces) (F.post self.now.braces) }
@@ -128,37 +135,28 @@ impl<
         if let Some((x, rest)) = variable_reference(s) {
             return Ok((x, rest));
         }
-        self.any_expression(s)
+        if let Some((id, rest)) = identifier(s) {
+            return self.reference(id, rest);
+        }
+        self.nameless_expression(s)
     }
 
+    /// A literal, a term or a placeable.
     #[inline(never)]
-    #[tactic(auto, unfolding(crate::specs::Expressions::inline_expression))]
-    fn any_expression(&self, s: &'s str) -> Result<(InlineExpression<'s>, &'s str), Stop>
+    fn nameless_expression(&self, s: &'s str) -> Result<(InlineExpression<'s>, &'s str), Stop>
         requires braces { Reads expression_view (spec.level self.now.depth).braces self.now.depth
             (F.pre self.now.braces) (F.post self.now.braces) }
         requires brackets { Reads arguments_view (spec.level self.now.depth).brackets self.now.depth
             (G.pre self.now.brackets) (G.post self.now.brackets) }
-        ensures { Gives inline_view result (spec.inline_expression
-            (spec.level self.now.depth) s.now) }
+        ensures { Gives inline_view result (parts.nameless (spec.level self.now.depth) s.now) }
     {
         if let Some((x, rest)) = literal(s) {
-            return Ok((x, rest));
-        }
-        match self.function_reference(s) {
-            Ok((x, rest)) => return Ok((x, rest)),
-            Err(Stop::Memory) => return Err(Stop::Memory),
-            Err(Stop::Absent) => {}
-        }
-        if let Some((x, rest)) = message_reference(s) {
             return Ok((x, rest));
         }
         match self.term_reference(s) {
             Ok((x, rest)) => return Ok((x, rest)),
             Err(Stop::Memory) => return Err(Stop::Memory),
             Err(Stop::Absent) => {}
-        }
-        if let Some((x, rest)) = variable_reference(s) {
-            return Ok((x, rest));
         }
         let (inner, rest) = (self.braces)(self.alloc, s, self.depth)?;
         let expression = Box::new(self.alloc, inner)?;

@@ -1,6 +1,7 @@
 //! Selects: keys, variants and lists of them.
 ghost use Rattle.std.specs.Prelude.{◌≡◌, false, length};
 ghost use Rattle.fluent_syntax.specs.Expressions as spec;
+ghost use Rattle.fluent_syntax.specs.Parts as parts;
 ghost use Rattle.fluent_text.specs.Parser as parser;
 ghost use Rattle.fluent_text.specs.Reading.{found, passed};
 ghost use Rattle.fluent_syntax.specs.Reading.{Gives, all};
@@ -51,24 +52,22 @@ fn key_inside<'s>(s: &'s str) -> Option<(VariantKey<'s>, &'s str)>
     Some((VariantKey::Identifier { name: id.name }, rest))
 }
 
-#[tactic(auto, unfolding(crate::specs::Expressions::variant_key))]
-fn variant_key<'s>(s: &'s str) -> Option<(VariantKey<'s>, &'s str)>
-    ensures { found key_view result ≡ spec.variant_key s.now }
-{
-    let rest = eat(s, b'[')?;
-    let (key, rest) = key_inside(after_blank(rest))?;
-    let rest = eat(after_blank(rest), b']')?;
-    Some((key, rest))
-}
-
-/// The key of a variant, with what stands around it.
-#[tactic(auto, unfolding(crate::specs::Expressions::variant_head))]
-fn variant_head<'s>(s: &'s str, default: bool) -> Option<(VariantKey<'s>, &'s str)>
-    ensures { found key_view result ≡ spec.variant_head default s.now }
+/// What follows the bracket that opens a key.
+#[inline(always)]
+fn key_opened(s: &str, default: bool) -> Option<&str>
+    ensures { passed result ≡ parts.key_opened default s.now }
 {
     let rest = after_blank(line_end(s)?);
     let rest = if default { eat(rest, b'*')? } else { rest };
-    let (key, rest) = variant_key(rest)?;
+    eat(rest, b'[')
+}
+
+/// The key behind its bracket, up to the pattern.
+fn key_closed<'s>(s: &'s str) -> Option<(VariantKey<'s>, &'s str)>
+    ensures { found key_view result ≡ parts.key_closed s.now }
+{
+    let (key, rest) = key_inside(after_blank(s))?;
+    let rest = eat(after_blank(rest), b']')?;
     Some((key, after_spaces(rest)))
 }
 
@@ -77,14 +76,27 @@ impl<
     F: Fn(Global, &'s str, usize) -> Result<(Expression<'s>, &'s str), Stop>,
     G: Fn(Global, &'s str, usize) -> Result<(CallArguments<'s>, &'s str), Stop>,
 > Inner<F, G> {
-    #[tactic(auto, unfolding(crate::specs::Expressions::variant))]
+    #[inline(always)]
+    #[tactic(auto, using(crate::proofs::Parts::variant_parts))]
     fn variant(&self, s: &'s str, default: bool) -> Result<(Variant<'s>, &'s str), Stop>
         requires braces { Reads expression_view (spec.level self.now.depth).braces self.now.depth
             (F.pre self.now.braces) (F.post self.now.braces) }
         ensures { Gives variant_view result (spec.variant
             (spec.level self.now.depth) default s.now) }
     {
-        let (key, rest) = variant_head(s, default).ok_or(Stop::Absent)?;
+        let opened = key_opened(s, default).ok_or(Stop::Absent)?;
+        self.opened_variant(opened, default)
+    }
+
+    /// A variant behind the bracket of its key.
+    #[inline(never)]
+    fn opened_variant(&self, s: &'s str, default: bool) -> Result<(Variant<'s>, &'s str), Stop>
+        requires braces { Reads expression_view (spec.level self.now.depth).braces self.now.depth
+            (F.pre self.now.braces) (F.post self.now.braces) }
+        ensures { Gives variant_view result (parts.opened_variant
+            (spec.level self.now.depth) default s.now) }
+    {
+        let (key, rest) = key_closed(s).ok_or(Stop::Absent)?;
         let (value, end) = pattern(self.alloc, rest, self.depth, &self.braces)?;
         Ok((
             Variant {

@@ -1,10 +1,10 @@
 //! How far the text of a line goes.
 ghost use Rattle.std.specs.Prelude.{◌≡◌};
 ghost use Rattle.fluent_text.specs.Parser as parser;
-ghost use Rattle.fluent_text.specs.Lexical.{is_text};
+ghost use Rattle.fluent_text.specs.Lexical.{is_text, is_inside};
 
 use crate::parser::bytes::byte_at;
-use memchr::memchr3;
+use memchr::{memchr, memchr3};
 
 /// How many bytes at the front are text: up to a brace or the end of the line, which may be a carriage return and a line feed.
 #[inline(always)]
@@ -32,4 +32,15 @@ pub fn text_len(s: &str) -> usize
         return at - 1;
     }
     at
+}
+
+/// How many bytes at the front stand before a line feed.
+pub fn line_len(s: &str) -> usize
+    ensures { result ≡ parser.run_len is_inside s.now }
+{
+    let bytes = s.as_bytes();
+    match memchr(b'\n', bytes) {
+        Some(at) => at,
+        None => bytes.len(),
+    }
 }

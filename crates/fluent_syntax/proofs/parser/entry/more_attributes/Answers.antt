@@ -4,7 +4,7 @@ use Rattle.fluent_text.specs.Parser.{push}
 use Rattle.fluent_syntax.specs.Entries.{attribute}
 use Rattle.fluent_syntax.specs.Reading.{all}
 use Rattle.fluent_text.specs.Facts.Turns.{pushed, empty}
-use Rattle.fluent_syntax.proofs.parser.entry.attributes.Goals as goal
+use Rattle.fluent_syntax.proofs.parser.entry.more_attributes.Goals as goal
 
 pub attributes-preserved : goal.attributes-preserved
 attributes-preserved c =
