@@ -1,7 +1,7 @@
 -- Lists without their last elements, and from the last.
-use Rattle.std.proofs.Common.{◌≡◌, ℕ, zero, suc, ◌+◌, ◌-◌, ◌<◌, ◌≤◌, Bool, true, map, List, [], ◌∷◌, ◌++◌, length, get_or, take, drop, refl, sym, ap, ◌∙◌, arith, append_assoc, append-nil, length-append, length-drop, add-one}
+use Rattle.std.proofs.Common.{◌≡◌, ℕ, zero, suc, ◌+◌, ◌-◌, ◌<◌, ◌≤◌, Bool, true, map, List, [], ◌∷◌, ◌++◌, length, get_or, take, drop, Some, refl, sym, ap, ◌∙◌, arith, append_assoc, append-nil, length-append, length-drop, add-one}
 use Rattle.std.specs.Prelude.{reverse}
-use Rattle.std.specs.List.{prefix_len, suffix_len}
+use Rattle.std.specs.List.{prefix_len, suffix_len, slice_get}
 use Rattle.std.proofs.Math.Seq.{take-append_seam}
 use Rattle.std.proofs.lemmas.List.{length-map, take-map, reverse-append, map-append, take-append-drop}
 use Rattle.std.proofs.lemmas.List.Sums.{suffix_len-take_yes}
@@ -79,3 +79,18 @@ pub trimmed_away : {A : Type 0} (view : A → Element) (old new : List A) (x : A
 trimmed_away view old new x x' e vx t =
     let whole : map view old ≡ map view new ++ x' ∷ [] = ap (map view) e ∙ (map-append view new (x ∷ []) ∙ ap (λ w. map view new ++ w ∷ []) vx) in
     sym (append-nil (map view new)) ∙ (ap (λ w. map view new ++ w) t ∙ (sym (trim_last-is (map view new) x') ∙ ap trim_last (sym whole)))
+
+-- a list up to its last element
+up_to_last : {A : Type 0} (xs : List A) (x : A) (i : ℕ) → i ≡ length xs - 1 → slice_get xs i ≡ Some x → (front : List A) × (xs ≡ front ++ x ∷ [])
+up_to_last [] x i e h = absurd (cc)
+up_to_last (y ∷ []) x zero e h = ([], cc)
+up_to_last (y ∷ []) x (suc i) e h = absurd (omega arith)
+up_to_last (y ∷ z ∷ zs) x zero e h = absurd (omega arith)
+up_to_last (y ∷ z ∷ zs) x (suc i) e h = let p = up_to_last (z ∷ zs) x i (omega arith) h in (y ∷ p.0, ap (λ w. y ∷ w) p.1)
+
+-- the last element stays as it is
+pub kept_last : {A : Type 0} (view : A → Element) (xs : List A) (x : A) → Some x ≡ slice_get xs (length xs - 1) → trimmed (view x) ≡ view x ∷ [] → map view xs ≡ trim_last (map view xs)
+kept_last view xs x h t =
+    let s = up_to_last xs x (length xs - 1) refl (sym h) in
+    let whole : map view xs ≡ map view s.0 ++ view x ∷ [] = ap (map view) s.1 ∙ map-append view s.0 (x ∷ []) in
+    whole ∙ (ap (λ w. map view s.0 ++ w) (sym t) ∙ (sym (trim_last-is (map view s.0) (view x)) ∙ ap trim_last (sym whole)))

@@ -1,5 +1,5 @@
 //! From the pieces of a pattern to its elements.
-ghost use Rattle.std.specs.Prelude.{◌≡◌, ◌∷◌, ◌++◌, List, map, replicate, IfOk, OnOk};
+ghost use Rattle.std.specs.Prelude.{true, [], ◌≡◌, ◌∷◌, ◌++◌, List, map, replicate, IfOk, OnOk};
 ghost use Rattle.fluent_syntax.specs.Layout as spec;
 ghost use Rattle.fluent_syntax.specs.Layout.{lines, starts_line};
 ghost use Rattle.fluent_tree.specs.Tree.{Element};
@@ -171,12 +171,45 @@ fn is_feed(element: &PatternElement<'_>) -> bool
     }
 }
 
+/// Whether the last element stays as it is where it is trimmed, and so need not be moved.
+#[inline(always)]
+fn is_trimmed(elements: &[PatternElement<'_>]) -> bool
+    ensures { (result ≡ true) → map element_view elements.now
+        ≡ spec.trim_last (map element_view elements.now) }
+{
+    match elements.last() {
+        None => true,
+        Some(last) => stays(last),
+    }
+}
+
+/// Whether an element is a placeable, or a text with no spaces at its end.
+#[inline(always)]
+fn stays(element: &PatternElement<'_>) -> bool
+    ensures { (result ≡ true) → spec.trimmed (element_view element.now)
+        ≡ element_view element.now ∷ [] }
+{
+    match element {
+        PatternElement::TextElement { value } => {
+            let text = without_spaces(value);
+            if text.is_empty() {
+                return false;
+            }
+            text.len() == value.len()
+        }
+        PatternElement::Placeable { .. } => true,
+    }
+}
+
 /// Where the last element is text, takes the spaces off its end, and takes it away where nothing is left.
 #[inline(always)]
 pub fn trim_last<'s>(out: &mut Vec<PatternElement<'s>>) -> Result<(), AllocError>
     ensures { OnOk result (map element_view out.new.items
         ≡ spec.trim_last (map element_view out.old.items)) }
 {
+    if is_trimmed(out) {
+        return Ok(());
+    }
     match out.pop() {
         None => Ok(()),
         Some(PatternElement::TextElement { value }) => {
