@@ -48,7 +48,7 @@ fn closes_pattern(byte: u8) -> bool
 }
 
 /// Adds a text, unless it is empty.
-#[inline(never)]
+#[inline(always)]
 fn push_text<'s>(found: &mut Vec<PatternElement<'s>>, value: &'s str) -> Result<(), AllocError>
     ensures { OnOk result (all element_view found.new
         ≡ all element_view found.old ++ unless_empty value.now) }
@@ -60,7 +60,7 @@ fn push_text<'s>(found: &mut Vec<PatternElement<'s>>, value: &'s str) -> Result<
 }
 
 /// Reads a placeable and adds it. One that holds a reference alone, as most do, is read at once.
-#[inline(never)]
+#[inline(always)]
 fn push_placeable<'s, F: Fn(Global, &'s str, usize) -> Result<(Expression<'s>, &'s str), Stop>>(
     alloc: Global,
     s: &'s str,
