@@ -1,0 +1,5 @@
+mod Distinct
+mod Fed
+mod Gathered
+mod Passed
+mod Slotted

@@ -1,0 +1,41 @@
+-- Parts passed over one by one.
+use Rattle.std.proofs.Common.{◌≡◌, ℕ, zero, suc, ◌≤◌, length, drop, arith, List, [], ◌∷◌, ◌++◌, None, Vec, Global, refl, ap, sym, ◌∙◌}
+use Rattle.fluent_tree.specs.View.{pattern_view, expression_view, inline_view, arguments_view}
+use Rattle.fluent_tree.specs.References.{Reference, references, in_arguments, in_expression, in_inline, in_positional, in_named, in_variants, variants_view, inlines_view, nameds_view}
+use Rattle.fluent_tree.specs.declared.ast.Pattern as of_pattern
+use Rattle.fluent_tree.specs.declared.ast.Expression as of_expression
+use Rattle.fluent_tree.specs.declared.ast.Expression.TheVariants as expressions
+use Rattle.fluent_tree.specs.declared.ast.InlineExpression as of_inline
+use Rattle.fluent_tree.specs.declared.ast.CallArguments as of_call
+use Rattle.fluent_tree.specs.declared.ast.Variant as of_variant
+use Rattle.fluent_links.specs.Links.{Links, behind}
+use Rattle.fluent_links.specs.Places.{seen}
+use Rattle.fluent_links.specs.PlaceLaws.{behind_append, behind_none}
+use Rattle.fluent_links.specs.PlaceSteps.{in_elements}
+use Rattle.fluent_links.specs.PlaceParts.{in_pattern_is, in_select_is, in_arguments_is}
+use Rattle.fluent_links.specs.declared.place.Place.{Place}
+
+two_parts : (xs ys : List Reference) (p q r : Links) → q ≡ behind xs p → r ≡ behind ys q → r ≡ behind (xs ++ ys) p
+two_parts xs ys p q r first second = second ∙ (ap (behind ys) first ∙ sym (behind_append xs ys p))
+
+unseen_links : (rs : List Reference) (p : Links) → p ≡ None → p ≡ behind rs p
+unseen_links rs p h = h ∙ (sym (behind_none rs) ∙ sym (ap (behind rs) h))
+
+-- a place without links stays as it is
+pub unseen : (rs : List Reference) (place : Place) → place.links ≡ None → seen place ≡ behind rs (seen place)
+unseen rs place h = unseen_links rs (seen place) (ap (λ o. seen (record { links = o })) h)
+
+pub pattern_passed : (p : of_pattern.Pattern) (before after : Links) → after ≡ behind (in_elements p.elements.items) before → after ≡ behind (references (pattern_view p)) before
+pattern_passed p before after h = h ∙ ap (λ rs. behind rs before) (sym (in_pattern_is p))
+
+pub select_passed : (e : of_expression.Expression) (x : of_inline.InlineExpression) (vs : Vec of_variant.Variant Global) (p q r : Links) → e ≡ expressions.Select x vs → q ≡ behind (in_inline (inline_view x)) p → r ≡ behind (in_variants (variants_view vs.items)) q → r ≡ behind (in_expression (expression_view e)) p
+select_passed e x vs p q r is first second = two_parts (in_inline (inline_view x)) (in_variants (variants_view vs.items)) p q r first second ∙ ap (λ rs. behind rs p) (sym (in_select_is e x vs is))
+
+pub arguments_passed : (a : of_call.CallArguments) (p q r : Links) → q ≡ behind (in_positional (inlines_view (of_call.out-CallArguments a).positional.items)) p → r ≡ behind (in_named (nameds_view (of_call.out-CallArguments a).named.items)) q → r ≡ behind (in_arguments (arguments_view a)) p
+arguments_passed a p q r first second = two_parts (in_positional (inlines_view (of_call.out-CallArguments a).positional.items)) (in_named (nameds_view (of_call.out-CallArguments a).named.items)) p q r first second ∙ ap (λ rs. behind rs p) (sym (in_arguments_is a))
+
+pub none_left : {X : Type 0} (xs : List X) (i : ℕ) → length xs ≤ i → drop i xs ≡ []
+none_left [] zero h = refl
+none_left [] (suc i) h = refl
+none_left (x ∷ xs) zero h = absurd (omega arith)
+none_left (x ∷ xs) (suc i) h = none_left xs i (omega arith)

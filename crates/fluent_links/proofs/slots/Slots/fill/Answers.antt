@@ -1,0 +1,14 @@
+use Rattle.std.proofs.Common.{ap, position, Some}
+use Rattle.std.specs.Cow.{cow_str_bytes}
+use Rattle.std.specs.Str.{bytes_eq}
+use Rattle.fluent_links.specs.Slots.{slots}
+use Rattle.fluent_links.proofs.Slotted.{keys_set, filled}
+use Rattle.fluent_links.proofs.slots.Slots.fill.Goals as goal
+
+pub returns-in-Some-clause-numbers : goal.returns-in-Some-clause-numbers
+unfolding slots
+returns-in-Some-clause-numbers g c = λ id. ap (position (bytes_eq id)) (keys_set cow_str_bytes c.args.self.now.ids.entries c.args.number (Some c.args.x))
+
+pub returns-in-Some-clause-filled : goal.returns-in-Some-clause-filled
+unfolding slots
+returns-in-Some-clause-filled g c = filled cow_str_bytes c.args.self.now.ids.entries c.args.number c.args.x

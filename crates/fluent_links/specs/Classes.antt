@@ -1,0 +1,15 @@
+-- Classes: the numbers of the contents that are stored.
+use Rattle.std.specs.Prelude.{◌≡◌, ℕ, List, slice_get, Some}
+use Rattle.fluent_tree.specs.Tree.{Pattern}
+
+-- no content stands twice
+abbrev pub AreDistinct : List Pattern → Type 0
+AreDistinct table = (i j : ℕ) (p : Pattern) → slice_get table i ≡ Some p → slice_get table j ≡ Some p → i ≡ j
+
+-- a class is the number of a content
+abbrev pub HasClass : List Pattern → ℕ → Pattern → Type 0
+HasClass table c p = slice_get table c ≡ Some p
+
+-- every class that a content had is still its own
+abbrev pub Grows : List Pattern → List Pattern → Type 0
+Grows before after = (c : ℕ) (p : Pattern) → HasClass before c p → HasClass after c p

@@ -1,0 +1,14 @@
+pub mod Links
+pub mod Slots
+pub mod Places
+pub mod PlaceLaws
+pub mod PlaceSteps
+pub mod PlaceParts
+pub mod Hashed
+pub mod Content
+pub mod Classes
+pub mod Table
+pub mod ClassLaws
+pub mod Numbered
+pub mod Linking
+pub mod Linked

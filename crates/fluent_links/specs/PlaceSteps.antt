@@ -1,0 +1,83 @@
+-- Steps of a walk over a list of parts: what is left refers to what the next part does, and then the rest.
+use Rattle.std.specs.Prelude.{◌≡◌, ℕ, ◌+◌, ◌<◌, List, ◌∷◌, ◌++◌, length, map, Option, drop, refl}
+use Rattle.std.proofs.Common.{rules, get_or, sym, ap, subst, ◌∙◌}
+use Rattle.std.proofs.lemmas.List.{drop_more}
+use Rattle.fluent_tree.specs.Tree.{Text, pattern_of}
+use Rattle.fluent_tree.specs.View.{element_view, variant_view, inline_view, named_view, pattern_view}
+use Rattle.fluent_tree.specs.References.{Reference, references, in_element, in_inline, in_variants, in_positional, in_named, variants_view, inlines_view, nameds_view}
+use Rattle.fluent_tree.specs.declared.ast.PatternElement.{PatternElement}
+use Rattle.fluent_tree.specs.declared.ast.Variant as of_the_variant
+use Rattle.fluent_tree.specs.declared.ast.Variant.{Variant}
+use Rattle.fluent_tree.specs.declared.ast.InlineExpression.{InlineExpression}
+use Rattle.fluent_tree.specs.declared.ast.NamedArgument as of_the_argument
+use Rattle.fluent_tree.specs.declared.ast.NamedArgument.{NamedArgument}
+use Rattle.fluent_links.specs.Links.{Links, behind, IsBefore}
+use Rattle.fluent_links.specs.PlaceLaws.{front, back, behind_append}
+
+-- what each part of a list refers to, and what the list does
+
+abbrev pub in_elements : List PatternElement → List Reference
+in_elements es = references (pattern_of (map element_view es))
+
+abbrev pub of_element : PatternElement → List Reference
+of_element e = in_element (element_view e)
+
+abbrev pub of_variant : Variant → List Reference
+of_variant v = references (pattern_view v.value)
+
+abbrev pub of_positional : InlineExpression → List Reference
+of_positional x = in_inline (inline_view x)
+
+abbrev pub of_named : NamedArgument → List Reference
+of_named n = in_inline (inline_view n.value)
+
+abbrev pub in_variant_list : List Variant → List Reference
+in_variant_list vs = in_variants (variants_view vs)
+
+abbrev pub in_positional_list : List InlineExpression → List Reference
+in_positional_list xs = in_positional (inlines_view xs)
+
+abbrev pub in_named_list : List NamedArgument → List Reference
+in_named_list ns = in_named (nameds_view ns)
+
+-- the list refers to what its first part does and then to what the others do
+abbrev pub IsInTurn : {X : Type 0} → (X → List Reference) → (List X → List Reference) → Type 0
+IsInTurn {X = X} f L = (x : X) (xs : List X) → L (x ∷ xs) ≡ f x ++ L xs
+
+pub element_in_turn : IsInTurn of_element in_elements
+element_in_turn e es = refl
+
+view_value : (v : Variant) → (variant_view v).1 ≡ pattern_view v.value
+view_value v = search (rules, of_the_variant.the_lemmas)
+
+pub variant_in_turn : IsInTurn of_variant in_variant_list
+variant_in_turn v vs = ap (λ p. references p ++ in_variant_list vs) (view_value v)
+
+pub positional_in_turn : IsInTurn of_positional in_positional_list
+positional_in_turn x xs = refl
+
+view_argument : (n : NamedArgument) → (named_view n).1 ≡ inline_view n.value
+view_argument n = search (rules, of_the_argument.the_lemmas)
+
+pub named_in_turn : IsInTurn of_named in_named_list
+named_in_turn n ns = ap (λ x. in_inline x ++ in_named_list ns) (view_argument n)
+
+-- a loop over parts in turn, at its part x, the i-th
+module _ {X : Type 0} (f : X → List Reference) (L : List X → List Reference) (step : IsInTurn f L) (xs : List X) (i : ℕ) (x : X) (h : i < length xs) (is : x ≡ get_or xs i x) where
+  here : L (drop i xs) ≡ f x ++ L (drop (i + 1) xs)
+  here = ap L (drop_more xs i x h ∙ ap (λ y. y ∷ drop (i + 1) xs) (sym is)) ∙ step x (drop (i + 1) xs)
+
+  -- it was passed over
+  pub passed : (p q r : Links) → q ≡ behind (f x) p → behind (L (drop i xs)) p ≡ r → behind (L (drop (i + 1) xs)) q ≡ r
+  passed p q r at kept =
+      ap (behind (L (drop (i + 1) xs))) at
+      ∙ (sym (behind_append (f x) (L (drop (i + 1) xs)) p)
+      ∙ (ap (λ rs. behind rs p) (sym here) ∙ kept))
+
+  -- it may be entered
+  pub enters : (number : Text → Option ℕ) (p : Links) → IsBefore number (L (drop i xs)) p → IsBefore number (f x) p
+  enters number p at = front number (f x) (L (drop (i + 1) xs)) p (subst (λ rs. IsBefore number rs p) here at)
+
+  -- behind it stand the others
+  pub leaves : (number : Text → Option ℕ) (p q : Links) → q ≡ behind (f x) p → IsBefore number (L (drop i xs)) p → IsBefore number (L (drop (i + 1) xs)) q
+  leaves number p q is_behind at = subst (λ q. IsBefore number (L (drop (i + 1) xs)) q) (sym is_behind) (back number (f x) (L (drop (i + 1) xs)) p (subst (λ rs. IsBefore number rs p) here at))

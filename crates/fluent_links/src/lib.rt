@@ -1,0 +1,17 @@
+//! What a bundle keeps of its patterns to resolve them fast: a number and a slot for each id, the numbers of what a
+//! pattern refers to, and a number for each content of a pattern.
+#![tactic(auto)]
+
+mod classes;
+mod hashing;
+mod linked;
+mod linking;
+mod passing;
+mod place;
+mod slots;
+mod stored;
+
+pub use classes::Classes;
+pub use linked::Linked;
+pub use place::Place;
+pub use slots::Slots;

@@ -1,0 +1,71 @@
+//! What is kept of a stored pattern.
+ghost use Rattle.std.specs.Prelude.{◌≡◌, ℕ, List, Option, Some, IfOk};
+ghost use Rattle.fluent_tree.specs.Tree as t;
+ghost use Rattle.fluent_tree.specs.Tree.{Text};
+ghost use Rattle.fluent_tree.specs.View.{pattern_view};
+ghost use Rattle.fluent_tree.specs.References.{references};
+ghost use Rattle.fluent_links.specs.Links.{IsBefore, Keeps};
+ghost use Rattle.fluent_links.specs.Classes.{Grows};
+ghost use Rattle.fluent_links.specs.Places.{seen};
+ghost use Rattle.fluent_links.specs.Slots.{named, number, slots as slots_of};
+ghost use Rattle.fluent_links.specs.Table.{table};
+
+use crate::classes::Classes;
+use crate::linking::link_pattern;
+use crate::place::Place;
+use crate::slots::Slots;
+use fluent_tree::ast::Pattern;
+use std::alloc::{AllocError, Global};
+
+/// What is kept of a stored pattern: the number of its content among all that are stored, and the numbers of the ids
+/// that it refers to, in the order of the tree.
+#[derive(Drop)]
+pub struct Linked {
+    class: u32,
+    links: Vec<u32>,
+}
+
+impl Linked {
+    ghost use Rattle.fluent_links.specs.Linked.{class_of, links_of, IsOf};
+
+    /// The class of its content.
+    pub fn class(&self) -> u32
+        ensures { result ≡ class_of self.now }
+    {
+        self.class
+    }
+
+    /// The place before all that it refers to.
+    pub fn place(&self) -> Place<'_>
+        ensures links { seen result ≡ Some (links_of self.now) }
+        ensures before { (number : Text → Option ℕ) (table : List t.Pattern) (p : t.Pattern) →
+            IsOf number table p self.now → IsBefore number (references p) (seen result) }
+    {
+        Place::from_links(&self.links)
+    }
+
+    /// Links a pattern that is going to be stored: it gets its class, and each id that it refers to a number. What ids
+    /// name stays. Of a pattern that refers to nothing no links are kept.
+    ///
+    /// # Errors
+    ///
+    /// Memory was refused, or there are 2^32 numbers or classes: each id still has its number and each content its
+    /// class, and the call can be made again.
+    pub fn link<'r, 's, X: Drop>(
+        alloc: Global,
+        slots: &mut Slots<'s, X>,
+        classes: &mut Classes<'r, 's>,
+        pattern: &'r Pattern<'s>,
+    ) -> Result<Linked, AllocError>
+        ensures linked { IfOk result
+            (IsOf (number (slots_of slots.new)) (table classes.new) (pattern_view pattern.now)) }
+        ensures numbers { Keeps (number (slots_of slots.old)) (number (slots_of slots.new)) }
+        ensures named { (q : Text) → named q (slots_of slots.new) ≡ named q (slots_of slots.old) }
+        ensures classes { Grows (table classes.old) (table classes.new) }
+    {
+        let mut links = Vec::new(alloc);
+        link_pattern(&mut links, slots, pattern)?;
+        let class = classes.class_of(pattern)?;
+        Ok(Linked { class, links })
+    }
+}

@@ -1,0 +1,189 @@
+//! Links gathered in the order of the tree.
+ghost use Rattle.std.specs.Prelude.{◌≡◌, [], ◌∷◌, OnOk};
+ghost use Rattle.fluent_tree.specs.View.{arguments_view, call_view, element_view, expression_view, inline_view, pattern_view};
+ghost use Rattle.fluent_tree.specs.References.{Reference, in_arguments, in_call, in_element, in_expression, in_inline, in_named, in_positional, in_variants, inlines_view, nameds_view, references, variants_view};
+ghost use Rattle.fluent_links.specs.Links.{id_of};
+ghost use Rattle.fluent_links.specs.Linking.{Adds, Stays};
+ghost use Rattle.fluent_links.specs.Slots.{slots as slots_of};
+
+use crate::slots::Slots;
+use fluent_tree::ast::{
+    CallArguments, Expression, InlineExpression, NamedArgument, Pattern, PatternElement, Variant,
+};
+use std::alloc::AllocError;
+use std::borrow::CowStr;
+
+/// Adds the number of one id.
+fn link_one<'s, X: Drop>(
+    links: &mut Vec<u32>,
+    slots: &mut Slots<'s, X>,
+    id: &'s str,
+) -> Result<(), AllocError>
+    ensures ok { OnOk result ((r : Reference) → id_of r ≡ id.now →
+        Adds (slots_of slots.old) (slots_of slots.new) links.old.items links.new.items (r ∷ [])) }
+    ensures stays { Stays (slots_of slots.old) (slots_of slots.new) }
+{
+    links.push(slots.number_of(CowStr::Borrowed(id))?)?;
+    Ok(())
+}
+
+/// Adds the numbers of what a pattern refers to.
+#[cycle(linking)]
+pub fn link_pattern<'s, X: Drop>(
+    links: &mut Vec<u32>,
+    slots: &mut Slots<'s, X>,
+    pattern: &Pattern<'s>,
+) -> Result<(), AllocError>
+    ensures ok { OnOk result (Adds (slots_of slots.old) (slots_of slots.new)
+        links.old.items links.new.items (references (pattern_view pattern.now))) }
+    ensures stays { Stays (slots_of slots.old) (slots_of slots.new) }
+{
+    for element in &pattern.elements {
+        link_element(links, slots, element)?;
+    }
+    Ok(())
+}
+
+#[cycle(linking)]
+fn link_element<'s, X: Drop>(
+    links: &mut Vec<u32>,
+    slots: &mut Slots<'s, X>,
+    element: &PatternElement<'s>,
+) -> Result<(), AllocError>
+    ensures ok { OnOk result (Adds (slots_of slots.old) (slots_of slots.new)
+        links.old.items links.new.items (in_element (element_view element.now))) }
+    ensures stays { Stays (slots_of slots.old) (slots_of slots.new) }
+{
+    match element {
+        PatternElement::TextElement { .. } => Ok(()),
+        PatternElement::Placeable { expression } => link_expression(links, slots, expression),
+    }
+}
+
+#[cycle(linking)]
+fn link_expression<'s, X: Drop>(
+    links: &mut Vec<u32>,
+    slots: &mut Slots<'s, X>,
+    expression: &Expression<'s>,
+) -> Result<(), AllocError>
+    ensures ok { OnOk result (Adds (slots_of slots.old) (slots_of slots.new)
+        links.old.items links.new.items (in_expression (expression_view expression.now))) }
+    ensures stays { Stays (slots_of slots.old) (slots_of slots.new) }
+{
+    match expression {
+        Expression::Inline(inline) => link_inline(links, slots, inline),
+        Expression::Select { selector, variants } => {
+            link_inline(links, slots, selector)?;
+            link_variants(links, slots, variants)?;
+            Ok(())
+        }
+    }
+}
+
+#[cycle(linking)]
+fn link_variants<'s, X: Drop>(
+    links: &mut Vec<u32>,
+    slots: &mut Slots<'s, X>,
+    variants: &[Variant<'s>],
+) -> Result<(), AllocError>
+    ensures ok { OnOk result (Adds (slots_of slots.old) (slots_of slots.new)
+        links.old.items links.new.items (in_variants (variants_view variants.now))) }
+    ensures stays { Stays (slots_of slots.old) (slots_of slots.new) }
+{
+    for variant in variants {
+        link_pattern(links, slots, &variant.value)?;
+    }
+    Ok(())
+}
+
+#[cycle(linking)]
+fn link_inline<'s, X: Drop>(
+    links: &mut Vec<u32>,
+    slots: &mut Slots<'s, X>,
+    inline: &InlineExpression<'s>,
+) -> Result<(), AllocError>
+    ensures ok { OnOk result (Adds (slots_of slots.old) (slots_of slots.new)
+        links.old.items links.new.items (in_inline (inline_view inline.now))) }
+    ensures stays { Stays (slots_of slots.old) (slots_of slots.new) }
+{
+    match inline {
+        InlineExpression::FunctionReference { id, arguments } => {
+            link_one(links, slots, id.name)?;
+            link_arguments(links, slots, arguments)?;
+            Ok(())
+        }
+        InlineExpression::MessageReference { id, .. } => link_one(links, slots, id.name),
+        InlineExpression::TermReference { id, arguments, .. } => {
+            link_one(links, slots, id.name)?;
+            link_call(links, slots, arguments)?;
+            Ok(())
+        }
+        InlineExpression::Placeable { expression } => link_expression(links, slots, expression),
+        InlineExpression::StringLiteral { .. }
+        | InlineExpression::NumberLiteral { .. }
+        | InlineExpression::VariableReference { .. } => Ok(()),
+    }
+}
+
+#[cycle(linking)]
+fn link_call<'s, X: Drop>(
+    links: &mut Vec<u32>,
+    slots: &mut Slots<'s, X>,
+    arguments: &Option<CallArguments<'s>>,
+) -> Result<(), AllocError>
+    ensures ok { OnOk result (Adds (slots_of slots.old) (slots_of slots.new)
+        links.old.items links.new.items (in_call (call_view arguments.now))) }
+    ensures stays { Stays (slots_of slots.old) (slots_of slots.new) }
+{
+    match arguments {
+        Some(arguments) => link_arguments(links, slots, arguments),
+        None => Ok(()),
+    }
+}
+
+#[cycle(linking)]
+fn link_arguments<'s, X: Drop>(
+    links: &mut Vec<u32>,
+    slots: &mut Slots<'s, X>,
+    arguments: &CallArguments<'s>,
+) -> Result<(), AllocError>
+    ensures ok { OnOk result (Adds (slots_of slots.old) (slots_of slots.new)
+        links.old.items links.new.items (in_arguments (arguments_view arguments.now))) }
+    ensures stays { Stays (slots_of slots.old) (slots_of slots.new) }
+{
+    link_positional(links, slots, &arguments.positional)?;
+    link_named(links, slots, &arguments.named)?;
+    Ok(())
+}
+
+#[cycle(linking)]
+fn link_positional<'s, X: Drop>(
+    links: &mut Vec<u32>,
+    slots: &mut Slots<'s, X>,
+    positional: &[InlineExpression<'s>],
+) -> Result<(), AllocError>
+    ensures ok { OnOk result (Adds (slots_of slots.old) (slots_of slots.new)
+        links.old.items links.new.items (in_positional (inlines_view positional.now))) }
+    ensures stays { Stays (slots_of slots.old) (slots_of slots.new) }
+{
+    for argument in positional {
+        link_inline(links, slots, argument)?;
+    }
+    Ok(())
+}
+
+#[cycle(linking)]
+fn link_named<'s, X: Drop>(
+    links: &mut Vec<u32>,
+    slots: &mut Slots<'s, X>,
+    named: &[NamedArgument<'s>],
+) -> Result<(), AllocError>
+    ensures ok { OnOk result (Adds (slots_of slots.old) (slots_of slots.new)
+        links.old.items links.new.items (in_named (nameds_view named.now))) }
+    ensures stays { Stays (slots_of slots.old) (slots_of slots.new) }
+{
+    for argument in named {
+        link_inline(links, slots, &argument.value)?;
+    }
+    Ok(())
+}

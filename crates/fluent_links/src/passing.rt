@@ -1,0 +1,123 @@
+//! How links are passed over part by part, in the order of the tree.
+ghost use Rattle.std.specs.Prelude.{◌≡◌, Some};
+ghost use Rattle.fluent_tree.specs.View.{arguments_view, element_view, expression_view, inline_view, pattern_view};
+ghost use Rattle.fluent_tree.specs.References.{in_arguments, in_element, in_expression, in_inline, in_named, in_positional, in_variants, inlines_view, nameds_view, references, variants_view};
+ghost use Rattle.fluent_links.specs.Links.{next};
+ghost use Rattle.fluent_links.specs.Places.{Passes};
+
+use fluent_tree::ast::{
+    CallArguments, Expression, InlineExpression, NamedArgument, Pattern, PatternElement, Variant,
+};
+
+/// The links behind one reference.
+pub fn pass_one(links: &[u32]) -> &[u32]
+    ensures { Some result.now ≡ next (Some links.now) }
+{
+    match links.split_first() {
+        Some((_, rest)) => rest,
+        None => links,
+    }
+}
+
+/// The links behind a pattern.
+#[cycle(passing)]
+pub fn pass_pattern<'b>(links: &'b [u32], pattern: &Pattern<'_>) -> &'b [u32]
+    ensures { Passes links.entry.now result.now (references (pattern_view pattern.now)) }
+{
+    let mut links = links;
+    for element in &pattern.elements {
+        links = pass_element(links, element);
+    }
+    links
+}
+
+/// The links behind an element of a pattern.
+#[cycle(passing)]
+pub fn pass_element<'b>(links: &'b [u32], element: &PatternElement<'_>) -> &'b [u32]
+    ensures { Passes links.entry.now result.now (in_element (element_view element.now)) }
+{
+    match element {
+        PatternElement::TextElement { .. } => links,
+        PatternElement::Placeable { expression } => pass_expression(links, expression),
+    }
+}
+
+/// The links behind what stands between the braces of a placeable.
+#[cycle(passing)]
+pub fn pass_expression<'b>(links: &'b [u32], expression: &Expression<'_>) -> &'b [u32]
+    ensures { Passes links.entry.now result.now (in_expression (expression_view expression.now)) }
+{
+    match expression {
+        Expression::Inline(inline) => pass_inline(links, inline),
+        Expression::Select { selector, variants } => {
+            pass_variants(pass_inline(links, selector), variants)
+        }
+    }
+}
+
+/// The links behind these variants.
+#[cycle(passing)]
+pub fn pass_variants<'b>(links: &'b [u32], variants: &[Variant<'_>]) -> &'b [u32]
+    ensures { Passes links.entry.now result.now (in_variants (variants_view variants.now)) }
+{
+    let mut links = links;
+    for variant in variants {
+        links = pass_pattern(links, &variant.value);
+    }
+    links
+}
+
+/// The links behind an inline expression.
+#[cycle(passing)]
+pub fn pass_inline<'b>(links: &'b [u32], inline: &InlineExpression<'_>) -> &'b [u32]
+    ensures { Passes links.entry.now result.now (in_inline (inline_view inline.now)) }
+{
+    match inline {
+        InlineExpression::FunctionReference { arguments, .. } => {
+            pass_arguments(pass_one(links), arguments)
+        }
+        InlineExpression::MessageReference { .. } => pass_one(links),
+        InlineExpression::TermReference { arguments, .. } => match arguments {
+            Some(arguments) => pass_arguments(pass_one(links), arguments),
+            None => pass_one(links),
+        },
+        InlineExpression::Placeable { expression } => pass_expression(links, expression),
+        InlineExpression::StringLiteral { .. }
+        | InlineExpression::NumberLiteral { .. }
+        | InlineExpression::VariableReference { .. } => links,
+    }
+}
+
+/// The links behind the arguments of a function or a term.
+#[cycle(passing)]
+pub fn pass_arguments<'b>(links: &'b [u32], arguments: &CallArguments<'_>) -> &'b [u32]
+    ensures { Passes links.entry.now result.now (in_arguments (arguments_view arguments.now)) }
+{
+    pass_named(
+        pass_positional(links, &arguments.positional),
+        &arguments.named,
+    )
+}
+
+/// The links behind positional arguments.
+#[cycle(passing)]
+pub fn pass_positional<'b>(links: &'b [u32], positional: &[InlineExpression<'_>]) -> &'b [u32]
+    ensures { Passes links.entry.now result.now (in_positional (inlines_view positional.now)) }
+{
+    let mut links = links;
+    for argument in positional {
+        links = pass_inline(links, argument);
+    }
+    links
+}
+
+#[cycle(passing)]
+fn pass_named<'b>(links: &'b [u32], named: &[NamedArgument<'_>]) -> &'b [u32]
+    ensures { Passes links.entry.now result.now (in_named (nameds_view named.now)) }
+{
+    let mut links = links;
+    for argument in named {
+        links = pass_inline(links, &argument.value);
+    }
+    links
+}

@@ -1,0 +1,104 @@
+//! Slots by number.
+ghost use Rattle.std.specs.Prelude.{◌≡◌, [], ◌∷◌, ◌++◌, IfOk, OnOk, OnErr, Some, None, if◌then◌else◌};
+ghost use Rattle.std.specs.Cow.{cow_str_bytes};
+ghost use Rattle.std.specs.Option.{option_map};
+ghost use Rattle.std.specs.Str.{bytes_eq};
+ghost use Rattle.fluent_tree.specs.Tree.{Text};
+ghost use Rattle.fluent_links.specs.Links.{Keeps};
+ghost use Rattle.fluent_links.specs.Slots.{slots, number as number_in, named, slot_at};
+
+use indexmap::IndexMap;
+use std::alloc::{AllocError, Global};
+use std::borrow::CowStr;
+
+/// The place as a number, which has 32 bits.
+fn as_number(place: usize) -> Result<u32, AllocError>
+    ensures { IfOk result (λ n. n ≡ place) }
+{
+    u32::try_from(place).map_err(|_| AllocError)
+}
+
+/// A slot for each id that was seen, in the order in which they were seen: what the id names, or nothing.
+#[derive(Drop)]
+pub struct Slots<'s, X> {
+    ids: IndexMap<CowStr<'s>, Option<X>>,
+}
+
+impl<'s, X> Slots<'s, X> {
+    /// No slots. They take no memory yet.
+    #[tactic(auto, unfolding(crate::specs::Slots::slots))]
+    pub fn new(alloc: Global) -> Slots<'s, X>
+        ensures { slots result ≡ [] }
+    {
+        Slots {
+            ids: IndexMap::new(alloc),
+        }
+    }
+
+    /// What an id names, or `None`. Takes no memory.
+    pub fn find(&self, id: &str) -> Option<&X>
+        ensures { option_map (λ x. x.now) result ≡ named id.now (slots self.now) }
+    {
+        self.ids.get(id)?.as_ref()
+    }
+
+    /// What stands in the slot of a number, or `None`. Takes no memory.
+    #[tactic(auto, unfolding(crate::specs::Slots::slots))]
+    pub fn at(&self, number: u32) -> Option<&X>
+        ensures slot { option_map (λ x. x.now) result ≡ slot_at number (slots self.now) }
+        // By the number of an id it is what the id names.
+        ensures by_id { (id : Text) → number_in (slots self.now) id ≡ Some number →
+            option_map (λ x. x.now) result ≡ named id (slots self.now) }
+    {
+        let (_, slot) = self.ids.get_index(number as usize)?;
+        slot.as_ref()
+    }
+}
+
+impl<'s, X: Drop> Slots<'s, X> {
+    /// The number of an id: its own, or a new one with an empty slot. What ids name stays.
+    ///
+    /// # Errors
+    ///
+    /// Memory was refused, or there are 2^32 numbers: every number is still its id's.
+    pub fn number_of(&mut self, id: CowStr<'s>) -> Result<u32, AllocError>
+        ensures number { IfOk result (λ n.
+            number_in (slots self.new) (cow_str_bytes id.entry) ≡ Some n) }
+        ensures kept { Keeps (number_in (slots self.old)) (number_in (slots self.new)) }
+        ensures named { (q : Text) → named q (slots self.new) ≡ named q (slots self.old) }
+    {
+        if let Some(place) = self.ids.get_index_of(id.as_str()) {
+            return as_number(place);
+        }
+        as_number(self.add(id)?)
+    }
+
+    /// An empty slot for an id that has none yet.
+    #[tactic(auto, unfolding(crate::specs::Slots::slots))]
+    fn add(&mut self, id: CowStr<'s>) -> Result<usize, AllocError>
+        requires { number_in (slots self.old) (cow_str_bytes id) ≡ None }
+        ensures place { IfOk result (λ n.
+            number_in (slots self.new) (cow_str_bytes id.entry) ≡ Some n) }
+        ensures ok { OnOk result (slots self.new
+            ≡ slots self.old ++ (cow_str_bytes id.entry, None) ∷ []) }
+        ensures err { OnErr result (slots self.new ≡ slots self.old) }
+    {
+        let put: Result<_, _> = self.ids.insert_full(id, None);
+        let (place, _) = put?;
+        Ok(place)
+    }
+
+    /// Puts what it names into the slot of an id with this number, in place of what stood there.
+    #[tactic(auto, unfolding(crate::specs::Slots::slots))]
+    pub fn fill(&mut self, number: u32, x: X)
+        ensures numbers { (id : Text) →
+            number_in (slots self.new) id ≡ number_in (slots self.old) id }
+        ensures filled { (id : Text) → number_in (slots self.old) id ≡ Some number → (q : Text) →
+            named q (slots self.new)
+            ≡ (if bytes_eq id q then Some x else named q (slots self.old)) }
+    {
+        if let Some(slot) = self.ids.get_index_mut(number as usize) {
+            *slot = Some(x);
+        }
+    }
+}
