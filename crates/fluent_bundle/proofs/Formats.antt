@@ -18,7 +18,8 @@ use Rattle.fluent_meaning.specs.Work.{with_work, work}
 use Rattle.fluent_meaning.specs.Laws.{CallsByThemselves}
 use Rattle.fluent_meaning.specs.Result.{written_pattern, substituted_pattern}
 use Rattle.fluent_bundle.specs.Formatted.{AddsAll, WritesAll, Writes}
-use Rattle.fluent_values.specs.Status.{Status, on_path, reported, with_errors}
+use Rattle.fluent_values.specs.Status.{Status, reported, with_errors}
+use Rattle.fluent_values.specs.Trail.{on_path}
 use Rattle.fluent_values.specs.Along.{Walk, Wrote, from_here, given}
 use Rattle.fluent_bundle.specs.Limits.{KeepsLimit}
 use Rattle.fluent_values.specs.Written.{Sink, Took, CountsTell, without_error, writer, at}

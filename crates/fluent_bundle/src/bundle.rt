@@ -191,7 +191,7 @@ impl<
             OnErr result (of self.new ≡ of self.old) }
         ensures kept { Kept self.old self.new }
     {
-        self.entries.override_entries(resource.all())
+        self.entries.override_entries(self.alloc, resource.all())
     }
 
     /// Adds a function of the application under an id, which is copied.

@@ -195,7 +195,7 @@ impl<
         }
         calls_pass_through::<LinkedList<u8>>();
         let mut scope = Scope::new(self, &self.entries, args, Some(errors));
-        let written = write_pattern(&mut scope, out, pattern, Place);
+        let written = write_pattern(&mut scope, out, pattern, Place::by_name());
         match scope.into_errors() {
             Some(_list) => written,
             None => written,

@@ -1,5 +1,5 @@
 -- Errors that are added at the end of a list, one by one or at once.
-use Rattle.std.proofs.Common.{◌≡◌, ◌∙◌, sym, ap, subst, refl, false, ℕ, ◌+◌, ◌<◌, List, [], ◌∷◌, ◌++◌, map, take, drop, length, get_or, append_assoc, append-nil, add-one, Result, Ok, Err, is_ok}
+use Rattle.std.proofs.Common.{◌≡◌, ◌∙◌, sym, ap, subst, refl, false, ℕ, ◌+◌, ◌<◌, List, [], ◌∷◌, ◌++◌, map, take, drop, length, get_or, append_assoc, append-nil, add-one, Result, Ok, Err, is_ok, is_err, true}
 use Rattle.std.specs.Result.{OnOk}
 use Rattle.std.proofs.Math.Seq.{take-suc}
 use Rattle.std.proofs.lemmas.List.{take-append-drop, map-append}
@@ -15,6 +15,10 @@ pub always : {T E P : Type 0} (r : Result T E) → P → OnOk r P
 always (Ok x) p = p
 always (Err e) p = tt
 
+pub not_ok : {T E : Type 0} (r : Result T E) → is_err r ≡ true → is_ok r ≡ false
+not_ok (Ok x) failed = cc
+not_ok (Err e) failed = refl
+
 -- all at once
 pub added_all : {T E : Type 0} (r : Result T E) (errors : List Error) (old found : List FluentError) → map error_view found ≡ errors → Added r errors old (old ++ found)
 added_all r errors old found e = record {
@@ -24,6 +28,21 @@ added_all r errors old found e = record {
   list = map-append error_view old found ∙ ap (λ w. reported old ++ w) e;
   all = always r refl;
 }
+
+-- none, where the answer is no Ok
+pub added_nothing : {T E : Type 0} (r : Result T E) (errors : List Error) (old new : List FluentError) → is_ok r ≡ false → new ≡ old → Added r errors old new
+added_nothing (Ok x) errors old new faulted same = cc
+added_nothing (Err e) errors old new faulted same = record {
+  front = [];
+  rest = errors;
+  begins = refl;
+  list = ap reported same ∙ sym (append-nil (reported old));
+  all = tt;
+}
+
+-- all of them, whatever is answered
+pub added_by : {T E : Type 0} (r : Result T E) (errors : List Error) (old new : List FluentError) → reported new ≡ reported old ++ errors → Added r errors old new
+added_by r errors old new h = record { front = errors; rest = []; begins = sym (append-nil errors); list = h; all = always r refl }
 
 module _ {X : Type 0} (f : X → Error) where
   -- one more of them

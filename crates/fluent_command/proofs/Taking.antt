@@ -1,10 +1,12 @@
 -- A text that is taken piece by piece.
-use Rattle.std.proofs.Common.{◌≡◌, ◌∙◌, sym, ap, subst, refl, false, List, [], ◌++◌, append_assoc, append-nil, Option, Result, Ok, Err, is_ok}
-use Rattle.std.specs.Result.{OnOk, OnErr}
+use Rattle.std.proofs.Common.{◌≡◌, ◌∙◌, sym, ap, subst, refl, false, true, ℕ, List, [], ◌++◌, append_assoc, append-nil, Option, Result, Ok, Err, is_ok, is_err}
+use Rattle.std.specs.Result.{IsErrAnd, OnOk, OnErr}
 use Rattle.std.specs.Io.KnownBytes.{Appends}
 use Rattle.std.proofs.KnownBytes.{Appends-nil, Appends-trans}
 use Rattle.fluent_tree.specs.Tree.{Text}
-use Rattle.fluent_text.specs.Taken.{TookFront}
+use Rattle.fluent_text.specs.Taken.{Faulted, TookFront}
+use Rattle.fluent_text.specs.declared.counting.WriteFault.{WriteFault}
+use Rattle.fluent_text.specs.declared.counting.WriteFault.TheVariants.{Memory, Writer, Zero}
 use Rattle.fluent_meaning.specs.Errors.{Error}
 use Rattle.fluent_bundle.specs.Formatted.{AddsAll, AddsFront, WritesAll, WritesFront}
 use Rattle.fluent_values.specs.declared.errors.FluentError.{FluentError}
@@ -45,6 +47,14 @@ took_recast (Ok x) (Ok y) s t old new same e h = record { front = h.front; rest 
 took_recast (Ok x) (Err y) s t old new same e h = record { front = h.front; rest = h.rest; begins = sym e ∙ h.begins; held = h.held; all = tt }
 took_recast (Err x) (Ok y) s t old new same e h = cc
 took_recast (Err x) (Err y) s t old new same e h = record { front = h.front; rest = h.rest; begins = sym e ∙ h.begins; held = h.held; all = tt }
+
+-- a fault that is handed on raised the count that it raised
+pub faulted_on : {T U : Type 0} (r : Result T WriteFault) (r' : Result U WriteFault) (e : WriteFault) (f m f' m' : ℕ) → r ≡ Err e → is_err r' ≡ true → IsErrAnd r' (λ x. x ≡ e)
+    → Faulted f m f' m' r → Faulted f m f' m' r'
+faulted_on r (Ok y) e f m f' m' was failed is h = cc
+faulted_on r (Err (Writer c)) e f m f' m' was failed is h = subst (λ w. Faulted f m f' m' w) (was ∙ ap Err (sym is)) h
+faulted_on r (Err Zero) e f m f' m' was failed is h = subst (λ w. Faulted f m f' m' w) (was ∙ ap Err (sym is)) h
+faulted_on r (Err Memory) e f m f' m' was failed is h = subst (λ w. Faulted f m f' m' w) (was ∙ ap Err (sym is)) h
 
 -- what a formatting call took
 pub took_written : {T E : Type 0} (r : Result T E) (text : Text) (errors : List Error) (held held' : Option Text) (old new : List FluentError)

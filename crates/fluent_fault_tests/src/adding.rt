@@ -183,7 +183,9 @@ fn holds(rt: &impl Abort, alloc: Global, table: &Table) -> Result<(), Fail> {
 
 const THERE: &str = "a = 1\n-b = 2\nc = 3\n-d = 4\n";
 
-const COMING: &str = "u = 5\na = 6\n-v = 7\nb = 8\nw = 9\n-c = 10\n-x = 11\n-G = 12\n";
+/// Some refer to what is there, to what comes and to what never comes, so that links take memory too.
+const COMING: &str =
+    "u = 5\na = 6{ u }{ never }\n-v = 7\nb = 8\nw = 9{ G(u, later) }\n    .at = { a }{ c }\n-c = 10\n-x = 11{ -v(n: 1) }\n-G = 12\n";
 
 const BEFORE: &[Held] = &[
     ("a", "1", "", ""),

@@ -49,7 +49,7 @@ fn take<'r, 's>(
     match step {
         Step::Add => ids.add_entries(alloc, entries),
         Step::Override => {
-            ids.override_entries(entries)?;
+            ids.override_entries(alloc, entries)?;
             Ok(Vec::new(alloc))
         }
         Step::Function(id) => ids.add_function(alloc, CowStr::Borrowed(id), Own::Nothing),

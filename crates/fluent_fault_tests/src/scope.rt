@@ -111,7 +111,7 @@ fn write<'p, 's>(
         is_buffered: false,
         error: None,
     };
-    let written = write_pattern(scope, &mut out, pattern, Place);
+    let written = write_pattern(scope, &mut out, pattern, Place::by_name());
     with_error(written, out.error)
 }
 

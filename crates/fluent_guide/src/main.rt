@@ -18,8 +18,23 @@ mod welcome;
 
 use anyhow::Result;
 use bundle::english_bundle;
+use fluent_bundle::FluentResource;
 use reading::read;
 use std::io;
+
+/// Shows what a bundle in English gives.
+fn show_english(rt: &HostRuntime, resource: &FluentResource<'_>) -> Result<()> {
+    let bundle = english_bundle(rt, resource)?;
+
+    println!(rt; "Arguments")?;
+    arguments::show_arguments(rt, &bundle)?;
+
+    println!(rt; "A message and its attributes")?;
+    message::show_message(rt, &bundle)?;
+
+    println!(rt; "What is missing")?;
+    missing::show_missing(rt, &bundle)
+}
 
 fn main(rt: HostRuntime) -> Result<()> {
     println!(rt; "A text in a program")?;
@@ -31,16 +46,7 @@ fn main(rt: HostRuntime) -> Result<()> {
 
     println!(rt; "A bundle")?;
     bundle::show_twice(&rt, &resource)?;
-    let bundle = english_bundle(&rt, &resource)?;
-
-    println!(rt; "Arguments")?;
-    arguments::show_arguments(&rt, &bundle)?;
-
-    println!(rt; "A message and its attributes")?;
-    message::show_message(&rt, &bundle)?;
-
-    println!(rt; "What is missing")?;
-    missing::show_missing(&rt, &bundle)?;
+    show_english(&rt, &resource)?;
 
     println!(rt; "Functions of one's own")?;
     functions::show_functions(&rt, &resource)?;

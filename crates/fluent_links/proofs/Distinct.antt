@@ -1,5 +1,5 @@
 -- A set of contents has each once, and keeps the places of those that it has.
-use Rattle.std.proofs.Common.{◌≡◌, ℕ, zero, suc, List, [], ◌∷◌, ◌++◌, true, false, Bool, ap, sym, subst, ◌∙◌, refl, map, Some, slice_get, unwrap_or, if◌then◌else◌}
+use Rattle.std.proofs.Common.{◌≡◌, ℕ, zero, suc, List, [], ◌∷◌, ◌++◌, true, false, Bool, ap, sym, subst, ◌∙◌, refl, map, Some, slice_get, unwrap_or, if◌then◌else◌, ◌||◌}
 use Rattle.std.specs.List.{IsDistinct, list_any, AllByRecursion}
 use Rattle.std.proofs.lemmas.Map.Keys.{IsDistinct-tail, IsDistinct-head}
 use Rattle.std.proofs.lemmas.Option.{slice_get-map}
@@ -7,7 +7,7 @@ use Rattle.std.proofs.lemmas.List.{map-append}
 use Rattle.std.proofs.lemmas.Bool.{false≢true}
 use Rattle.std.specs.Option.{option_map}
 use Rattle.fluent_tree.specs.Tree.{Pattern, is_yes, pattern_same}
-use Rattle.fluent_links.specs.Classes.{HasClass}
+use Rattle.fluent_links.specs.Classes.{HasClass, with_class}
 use Rattle.fluent_links.specs.Content.{content}
 use Rattle.fluent_links.specs.declared.stored.Stored.{Stored}
 
@@ -49,6 +49,18 @@ kept_in ks k c p at = by (list_any (alike k) ks)
     by : (b : Bool) → HasClass (map content (if b then ks else ks ++ k ∷ [])) c p
     by true = at
     by false = subst (λ ps. HasClass ps c p) (sym (map-append content ks (k ∷ []))) (still (map content ks) (map content (k ∷ [])) c p at)
+
+any_mapped : (t : Pattern → Bool) (ks : List Stored) → list_any t (map content ks) ≡ list_any (λ k. t (content k)) ks
+any_mapped t [] = refl
+any_mapped t (k ∷ ks) = ap (λ b. t (content k) || b) (any_mapped t ks)
+
+-- the contents behind an insertion
+pub stored_in : (ks : List Stored) (k : Stored) → map content (if list_any (alike k) ks then ks else ks ++ k ∷ []) ≡ with_class (content k) (map content ks)
+stored_in ks k = by (list_any (alike k) ks) ∙ sym (ap (λ b. if b then map content ks else map content ks ++ content k ∷ []) (any_mapped (λ q. is_yes (pattern_same (content k) q)) ks))
+  where
+    by : (b : Bool) → map content (if b then ks else ks ++ k ∷ []) ≡ (if b then map content ks else map content ks ++ content k ∷ [])
+    by true = refl
+    by false = map-append content ks (k ∷ [])
 
 pub class_is : (ks : List Stored) (c : ℕ) (k v : Stored) → slice_get ks c ≡ Some k → alike v k ≡ true → HasClass (map content ks) c (content v)
 class_is ks c k v at same = slice_get-map content ks c ∙ (ap (option_map content) at ∙ ap Some (sym (same_content (pattern_same (content v) (content k)) same)))

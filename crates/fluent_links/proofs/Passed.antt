@@ -1,5 +1,5 @@
 -- Parts passed over one by one.
-use Rattle.std.proofs.Common.{◌≡◌, ℕ, zero, suc, ◌≤◌, length, drop, arith, List, [], ◌∷◌, ◌++◌, None, Vec, Global, refl, ap, sym, ◌∙◌}
+use Rattle.std.proofs.Common.{◌≡◌, List, ◌++◌, None, Vec, Global, ap, sym, ◌∙◌}
 use Rattle.fluent_tree.specs.View.{pattern_view, expression_view, inline_view, arguments_view}
 use Rattle.fluent_tree.specs.References.{Reference, references, in_arguments, in_expression, in_inline, in_positional, in_named, in_variants, variants_view, inlines_view, nameds_view}
 use Rattle.fluent_tree.specs.declared.ast.Pattern as of_pattern
@@ -33,9 +33,3 @@ select_passed e x vs p q r is first second = two_parts (in_inline (inline_view x
 
 pub arguments_passed : (a : of_call.CallArguments) (p q r : Links) → q ≡ behind (in_positional (inlines_view (of_call.out-CallArguments a).positional.items)) p → r ≡ behind (in_named (nameds_view (of_call.out-CallArguments a).named.items)) q → r ≡ behind (in_arguments (arguments_view a)) p
 arguments_passed a p q r first second = two_parts (in_positional (inlines_view (of_call.out-CallArguments a).positional.items)) (in_named (nameds_view (of_call.out-CallArguments a).named.items)) p q r first second ∙ ap (λ rs. behind rs p) (sym (in_arguments_is a))
-
-pub none_left : {X : Type 0} (xs : List X) (i : ℕ) → length xs ≤ i → drop i xs ≡ []
-none_left [] zero h = refl
-none_left [] (suc i) h = refl
-none_left (x ∷ xs) zero h = absurd (omega arith)
-none_left (x ∷ xs) (suc i) h = none_left xs i (omega arith)

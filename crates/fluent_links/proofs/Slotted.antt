@@ -1,5 +1,5 @@
 -- Look-ups among slots by id and by number, and what a new slot and a filled one change.
-use Rattle.std.proofs.Common.{◌≡◌, ℕ, zero, suc, ◌+◌, ◌<◌, List, [], ◌∷◌, ◌++◌, map, length, position, slice_get, nat_lt, not, Option, Some, None, Bool, true, false, cond, refl, sym, ap, subst, ◌∙◌, arith, is_some, true≢false, unwrap_or, lt-ltb, ltb-true, Global, Bor, Result, Ok, Err, IfOk}
+use Rattle.std.proofs.Common.{◌≡◌, ℕ, zero, suc, ◌+◌, ◌<◌, List, [], ◌∷◌, ◌++◌, map, length, position, slice_get, nat_lt, not, Option, Some, None, Bool, true, false, cond, refl, sym, ap, subst, ◌∙◌, arith, is_some, true≢false, unwrap_or, if◌then◌else◌, lt-ltb, ltb-true, Global, Bor, Result, Ok, Err, IfOk, OnErr, OnOk}
 use Rattle.std.proofs.lemmas.Grind.{common_steps}
 use Rattle.std.proofs.lemmas.List.{map-append, length-append}
 use Rattle.std.proofs.lemmas.List.Folds.{position_or_len_push}
@@ -13,11 +13,11 @@ use Rattle.std.specs.List.{position_or_len}
 use Rattle.std.specs.Map.{lookup, keys_of}
 use Rattle.std.specs.Option.{option_map, option_copied}
 use Rattle.std.specs.Str.{bytes_eq}
-use Rattle.indexmap.proofs.MapLemmas.{Found-position, some_index}
+use Rattle.indexmap.proofs.MapLemmas.{Found-position, Missing-position, some_index}
 use Rattle.indexmap.proofs.CallerLemmas.{insert_entry-new}
 use Rattle.indexmap.specs.IndexMap.{IndexMap, insert_entry, set_value_at}
 use Rattle.fluent_tree.specs.Tree.{Text}
-use Rattle.fluent_links.specs.Slots.{number, named, flat, slot_at}
+use Rattle.fluent_links.specs.Slots.{number, named, flat, slot_at, with_slot}
 
 -- in the slot of an id's number stands what the id names
 pub by_number : {X : Type 0} (ss : List (Text × Option X)) (id : Text) (n : ℕ) → number ss id ≡ Some n → slot_at n ss ≡ named id ss
@@ -41,15 +41,25 @@ module _ {X : Type 0} (ss : List (Text × Option X)) (id : Text) (x : Option X) 
   number_kept q n h =
       ap (position (bytes_eq q)) keys_more ∙ grind (arith, common_steps, position_or_len_push (bytes_eq q) (keys_of ss) id, h)
 
-  -- and its id has the number that the code answers
-  pub number_new : number (ss ++ (id, x) ∷ []) id ≡ Some (position_or_len (bytes_eq id) (keys_of ss))
-  number_new =
+  number_placed : number (ss ++ (id, x) ∷ []) id ≡ Some (position_or_len (bytes_eq id) (keys_of ss))
+  number_placed =
       let ks = keys_of ss in
       let here : position_or_len (bytes_eq id) (ks ++ id ∷ []) ≡ position_or_len (bytes_eq id) ks = first_in_push (bytes_eq id) ks id ((bytes_eq-Decides id id).1 refl) in
       let within : position_or_len (bytes_eq id) ks < length (ks ++ id ∷ []) = omega (arith, length-append ks (id ∷ []), prefix_len-le-length (λ y. not (bytes_eq id y)) ks) in
       ap (position (bytes_eq id)) keys_more
       ∙ ap (λ n. cond (nat_lt n (length (ks ++ id ∷ []))) (Some n) None) here
       ∙ ap (λ b. cond b (Some (position_or_len (bytes_eq id) ks)) None) (lt-ltb _ _ within)
+
+  -- and the number of its id is the place behind the others
+  pub number_new : number ss id ≡ None → number (ss ++ (id, x) ∷ []) id ≡ Some (length ss)
+  number_new none = number_placed ∙ ap Some (Missing-position (bytes_eq id) ss none).or_len
+
+-- an id that has a slot gets no other
+pub slot_stays : {X : Type 0} (ss : List (Text × Option X)) (id : Text) (n : ℕ) → number ss id ≡ Some n → ss ≡ with_slot id ss
+slot_stays ss id n h = sym (ap (λ o. if is_some o then ss else ss ++ (id, None) ∷ []) h)
+
+pub slot_new : {X : Type 0} (ss : List (Text × Option X)) (id : Text) → number ss id ≡ None → with_slot id ss ≡ ss ++ (id, None) ∷ []
+slot_new ss id h = ap (λ o. if is_some o then ss else ss ++ (id, None) ∷ []) h
 
 -- an empty slot more names nothing
 pub named_new : {X : Type 0} (ss : List (Text × Option X)) (id q : Text) → named q (ss ++ (id, None) ∷ []) ≡ named q ss
@@ -88,6 +98,20 @@ module _ {K X : Type 0} (key : K → Text) where
   keys_set [] n w = refl
   keys_set (e ∷ es) zero w = refl
   keys_set (e ∷ es) (suc n) w = ap (λ ks. key e.0 ∷ ks) (keys_set es n w)
+
+  pub set_seen : (es : List (K × X)) (n : ℕ) (w : X) → seen (set_value_at es n w) ≡ set_value_at (seen es) n w
+  set_seen [] n w = refl
+  set_seen (e ∷ es) zero w = refl
+  set_seen (e ∷ es) (suc n) w = ap (λ fs. (key e.0, e.1) ∷ fs) (set_seen es n w)
+
+  -- there is no value at a place beyond them
+  past : (es : List (K × X)) (n : ℕ) (w : X) → slice_get (map (λ e. e.1) es) n ≡ None → set_value_at es n w ≡ es
+  past [] n w h = refl
+  past (e ∷ es) zero w h = absurd cc
+  past (e ∷ es) (suc n) w h = ap (λ fs. e ∷ fs) (past es n w h)
+
+  pub set_past : (es : List (K × X)) (n : ℕ) (w : X) → slice_get (map (λ e. e.1) es) n ≡ None → seen es ≡ set_value_at (seen es) n w
+  set_past es n w h = ap seen (sym (past es n w h)) ∙ set_seen es n w
 
   set_here : (id q k : Text) (w v : X) (rest : Option X) → bytes_eq id k ≡ true
       → cond (bytes_eq q k) (Some w) rest ≡ cond (bytes_eq id q) (Some w) (cond (bytes_eq q k) (Some v) rest)
@@ -155,6 +179,22 @@ added_seen m k es none is =
 pub if_ok : {E : Type 0} (r : Result ℕ E) (place : ℕ) (at : Option ℕ) → IfOk r (λ n. n ≡ place) → at ≡ Some place → IfOk r (λ n. at ≡ Some n)
 if_ok (Ok n) place at h is = is ∙ ap Some (sym h)
 if_ok (Err e) place at h is = tt
+
+pub on_ok : {A E P : Type 0} (r : Result A E) → P → OnOk r P
+on_ok (Ok a) p = p
+on_ok (Err e) p = tt
+
+pub on_err : {A E P : Type 0} (r : Result A E) → P → OnErr r P
+on_err (Ok a) p = tt
+on_err (Err e) p = p
+
+pub ok_is : {A E P Q : Type 0} (r : Result A E) → (P → Q) → OnOk r P → OnOk r Q
+ok_is (Ok a) f p = f p
+ok_is (Err e) f p = tt
+
+pub err_is : {A E P Q : Type 0} (r : Result A E) → (P → Q) → OnErr r P → OnErr r Q
+err_is (Ok a) f p = tt
+err_is (Err e) f p = f p
 
 pub copied_now : {X : Type 0} (o : Option (Bor X)) → option_map (λ x. x.now) o ≡ option_copied o
 copied_now None = refl

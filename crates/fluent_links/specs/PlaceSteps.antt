@@ -64,7 +64,7 @@ named_in_turn n ns = ap (λ x. in_inline x ++ in_named_list ns) (view_argument n
 
 -- a loop over parts in turn, at its part x, the i-th
 module _ {X : Type 0} (f : X → List Reference) (L : List X → List Reference) (step : IsInTurn f L) (xs : List X) (i : ℕ) (x : X) (h : i < length xs) (is : x ≡ get_or xs i x) where
-  here : L (drop i xs) ≡ f x ++ L (drop (i + 1) xs)
+  pub here : L (drop i xs) ≡ f x ++ L (drop (i + 1) xs)
   here = ap L (drop_more xs i x h ∙ ap (λ y. y ∷ drop (i + 1) xs) (sym is)) ∙ step x (drop (i + 1) xs)
 
   -- it was passed over

@@ -1,5 +1,5 @@
 -- Slots: each id that was seen, in order, with what it names, if anything.
-use Rattle.std.specs.Prelude.{ℕ, List, map, position, slice_get, Option, Some, None}
+use Rattle.std.specs.Prelude.{ℕ, List, [], ◌∷◌, ◌++◌, map, position, slice_get, Option, Some, None, is_some, if◌then◌else◌}
 use Rattle.std.specs.Cow.{cow_str_bytes}
 use Rattle.std.specs.Map.{lookup, keys_of}
 use Rattle.std.specs.Option.{option_map}
@@ -25,3 +25,7 @@ named id ss = flat (lookup (bytes_eq id) ss)
 -- what stands in the slot of a number
 abbrev pub slot_at : {X : Type 0} → ℕ → List (Text × Option X) → Option X
 slot_at n ss = flat (option_map (λ s. s.1) (slice_get ss n))
+
+-- with an empty slot for an id that has none
+abbrev pub with_slot : {X : Type 0} → Text → List (Text × Option X) → List (Text × Option X)
+with_slot id ss = if is_some (number ss id) then ss else ss ++ (id, None) ∷ []

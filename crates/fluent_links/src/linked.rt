@@ -1,11 +1,12 @@
 //! What is kept of a stored pattern.
-ghost use Rattle.std.specs.Prelude.{◌≡◌, ℕ, List, Option, Some, IfOk};
+ghost use Rattle.std.specs.Prelude.{◌≡◌, ℕ, List, Option, Some, IfOk, OnErr, OnOk};
 ghost use Rattle.fluent_tree.specs.Tree as t;
 ghost use Rattle.fluent_tree.specs.Tree.{Text};
 ghost use Rattle.fluent_tree.specs.View.{pattern_view};
 ghost use Rattle.fluent_tree.specs.References.{references};
 ghost use Rattle.fluent_links.specs.Links.{IsBefore, Keeps};
-ghost use Rattle.fluent_links.specs.Classes.{Grows};
+ghost use Rattle.fluent_links.specs.Classes.{Grows, with_class};
+ghost use Rattle.fluent_links.specs.Linking.{Begins, with_slots};
 ghost use Rattle.fluent_links.specs.Places.{seen};
 ghost use Rattle.fluent_links.specs.Slots.{named, number, slots as slots_of};
 ghost use Rattle.fluent_links.specs.Table.{table};
@@ -62,6 +63,15 @@ impl Linked {
         ensures numbers { Keeps (number (slots_of slots.old)) (number (slots_of slots.new)) }
         ensures named { (q : Text) → named q (slots_of slots.new) ≡ named q (slots_of slots.old) }
         ensures classes { Grows (table classes.old) (table classes.new) }
+        // Each reference has a slot, and the content a class.
+        ensures slots { OnOk result (slots_of slots.new
+            ≡ with_slots (references (pattern_view pattern.now)) (slots_of slots.old)) }
+        ensures stored { OnOk result (table classes.new
+            ≡ with_class (pattern_view pattern.now) (table classes.old)) }
+        // The first references may have slots, but no content is stored.
+        ensures begun { OnErr result (Begins (slots_of slots.old) (slots_of slots.new)
+            (references (pattern_view pattern.now))) }
+        ensures refused { OnErr result (table classes.new ≡ table classes.old) }
     {
         let mut links = Vec::new(alloc);
         link_pattern(&mut links, slots, pattern)?;

@@ -1,9 +1,9 @@
 //! Links gathered in the order of the tree.
-ghost use Rattle.std.specs.Prelude.{◌≡◌, [], ◌∷◌, OnOk};
+ghost use Rattle.std.specs.Prelude.{◌≡◌, [], ◌∷◌, OnErr, OnOk};
 ghost use Rattle.fluent_tree.specs.View.{arguments_view, call_view, element_view, expression_view, inline_view, pattern_view};
 ghost use Rattle.fluent_tree.specs.References.{Reference, in_arguments, in_call, in_element, in_expression, in_inline, in_named, in_positional, in_variants, inlines_view, nameds_view, references, variants_view};
 ghost use Rattle.fluent_links.specs.Links.{id_of};
-ghost use Rattle.fluent_links.specs.Linking.{Adds, Stays};
+ghost use Rattle.fluent_links.specs.Linking.{Adds, Begins};
 ghost use Rattle.fluent_links.specs.Slots.{slots as slots_of};
 
 use crate::slots::Slots;
@@ -21,7 +21,8 @@ fn link_one<'s, X: Drop>(
 ) -> Result<(), AllocError>
     ensures ok { OnOk result ((r : Reference) → id_of r ≡ id.now →
         Adds (slots_of slots.old) (slots_of slots.new) links.old.items links.new.items (r ∷ [])) }
-    ensures stays { Stays (slots_of slots.old) (slots_of slots.new) }
+    ensures err { OnErr result ((r : Reference) → id_of r ≡ id.now →
+        Begins (slots_of slots.old) (slots_of slots.new) (r ∷ [])) }
 {
     links.push(slots.number_of(CowStr::Borrowed(id))?)?;
     Ok(())
@@ -36,7 +37,8 @@ pub fn link_pattern<'s, X: Drop>(
 ) -> Result<(), AllocError>
     ensures ok { OnOk result (Adds (slots_of slots.old) (slots_of slots.new)
         links.old.items links.new.items (references (pattern_view pattern.now))) }
-    ensures stays { Stays (slots_of slots.old) (slots_of slots.new) }
+    ensures err { OnErr result (Begins (slots_of slots.old) (slots_of slots.new)
+        (references (pattern_view pattern.now))) }
 {
     for element in &pattern.elements {
         link_element(links, slots, element)?;
@@ -52,7 +54,8 @@ fn link_element<'s, X: Drop>(
 ) -> Result<(), AllocError>
     ensures ok { OnOk result (Adds (slots_of slots.old) (slots_of slots.new)
         links.old.items links.new.items (in_element (element_view element.now))) }
-    ensures stays { Stays (slots_of slots.old) (slots_of slots.new) }
+    ensures err { OnErr result (Begins (slots_of slots.old) (slots_of slots.new)
+        (in_element (element_view element.now))) }
 {
     match element {
         PatternElement::TextElement { .. } => Ok(()),
@@ -68,7 +71,8 @@ fn link_expression<'s, X: Drop>(
 ) -> Result<(), AllocError>
     ensures ok { OnOk result (Adds (slots_of slots.old) (slots_of slots.new)
         links.old.items links.new.items (in_expression (expression_view expression.now))) }
-    ensures stays { Stays (slots_of slots.old) (slots_of slots.new) }
+    ensures err { OnErr result (Begins (slots_of slots.old) (slots_of slots.new)
+        (in_expression (expression_view expression.now))) }
 {
     match expression {
         Expression::Inline(inline) => link_inline(links, slots, inline),
@@ -88,7 +92,8 @@ fn link_variants<'s, X: Drop>(
 ) -> Result<(), AllocError>
     ensures ok { OnOk result (Adds (slots_of slots.old) (slots_of slots.new)
         links.old.items links.new.items (in_variants (variants_view variants.now))) }
-    ensures stays { Stays (slots_of slots.old) (slots_of slots.new) }
+    ensures err { OnErr result (Begins (slots_of slots.old) (slots_of slots.new)
+        (in_variants (variants_view variants.now))) }
 {
     for variant in variants {
         link_pattern(links, slots, &variant.value)?;
@@ -104,7 +109,8 @@ fn link_inline<'s, X: Drop>(
 ) -> Result<(), AllocError>
     ensures ok { OnOk result (Adds (slots_of slots.old) (slots_of slots.new)
         links.old.items links.new.items (in_inline (inline_view inline.now))) }
-    ensures stays { Stays (slots_of slots.old) (slots_of slots.new) }
+    ensures err { OnErr result (Begins (slots_of slots.old) (slots_of slots.new)
+        (in_inline (inline_view inline.now))) }
 {
     match inline {
         InlineExpression::FunctionReference { id, arguments } => {
@@ -133,7 +139,8 @@ fn link_call<'s, X: Drop>(
 ) -> Result<(), AllocError>
     ensures ok { OnOk result (Adds (slots_of slots.old) (slots_of slots.new)
         links.old.items links.new.items (in_call (call_view arguments.now))) }
-    ensures stays { Stays (slots_of slots.old) (slots_of slots.new) }
+    ensures err { OnErr result (Begins (slots_of slots.old) (slots_of slots.new)
+        (in_call (call_view arguments.now))) }
 {
     match arguments {
         Some(arguments) => link_arguments(links, slots, arguments),
@@ -149,7 +156,8 @@ fn link_arguments<'s, X: Drop>(
 ) -> Result<(), AllocError>
     ensures ok { OnOk result (Adds (slots_of slots.old) (slots_of slots.new)
         links.old.items links.new.items (in_arguments (arguments_view arguments.now))) }
-    ensures stays { Stays (slots_of slots.old) (slots_of slots.new) }
+    ensures err { OnErr result (Begins (slots_of slots.old) (slots_of slots.new)
+        (in_arguments (arguments_view arguments.now))) }
 {
     link_positional(links, slots, &arguments.positional)?;
     link_named(links, slots, &arguments.named)?;
@@ -164,7 +172,8 @@ fn link_positional<'s, X: Drop>(
 ) -> Result<(), AllocError>
     ensures ok { OnOk result (Adds (slots_of slots.old) (slots_of slots.new)
         links.old.items links.new.items (in_positional (inlines_view positional.now))) }
-    ensures stays { Stays (slots_of slots.old) (slots_of slots.new) }
+    ensures err { OnErr result (Begins (slots_of slots.old) (slots_of slots.new)
+        (in_positional (inlines_view positional.now))) }
 {
     for argument in positional {
         link_inline(links, slots, argument)?;
@@ -180,7 +189,8 @@ fn link_named<'s, X: Drop>(
 ) -> Result<(), AllocError>
     ensures ok { OnOk result (Adds (slots_of slots.old) (slots_of slots.new)
         links.old.items links.new.items (in_named (nameds_view named.now))) }
-    ensures stays { Stays (slots_of slots.old) (slots_of slots.new) }
+    ensures err { OnErr result (Begins (slots_of slots.old) (slots_of slots.new)
+        (in_named (nameds_view named.now))) }
 {
     for argument in named {
         link_inline(links, slots, &argument.value)?;

@@ -92,7 +92,8 @@ impl<'b> Place<'b> {
     /// Behind all of these variants.
     #[tactic(auto, using(crate::proofs::Passed::unseen))]
     pub fn behind_variants(self, variants: &[Variant<'_>]) -> Self
-        ensures { seen result ≡ behind (in_variants (variants_view variants.now)) (seen self.entry) }
+        ensures { seen result
+            ≡ behind (in_variants (variants_view variants.now)) (seen self.entry) }
     {
         match self.links {
             Some(links) => Place::from_links(pass_variants(links, variants)),

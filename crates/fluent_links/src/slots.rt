@@ -3,9 +3,10 @@ ghost use Rattle.std.specs.Prelude.{◌≡◌, [], ◌∷◌, ◌++◌, IfOk, On
 ghost use Rattle.std.specs.Cow.{cow_str_bytes};
 ghost use Rattle.std.specs.Option.{option_map};
 ghost use Rattle.std.specs.Str.{bytes_eq};
+ghost use Rattle.indexmap.specs.Layout.{set_value_at};
 ghost use Rattle.fluent_tree.specs.Tree.{Text};
 ghost use Rattle.fluent_links.specs.Links.{Keeps};
-ghost use Rattle.fluent_links.specs.Slots.{slots, number as number_in, named, slot_at};
+ghost use Rattle.fluent_links.specs.Slots.{slots, number as number_in, named, slot_at, with_slot};
 
 use indexmap::IndexMap;
 use std::alloc::{AllocError, Global};
@@ -60,32 +61,34 @@ impl<'s, X: Drop> Slots<'s, X> {
     ///
     /// # Errors
     ///
-    /// Memory was refused, or there are 2^32 numbers: every number is still its id's.
+    /// Memory was refused, or there are 2^32 numbers: no slot is added.
     pub fn number_of(&mut self, id: CowStr<'s>) -> Result<u32, AllocError>
         ensures number { IfOk result (λ n.
             number_in (slots self.new) (cow_str_bytes id.entry) ≡ Some n) }
         ensures kept { Keeps (number_in (slots self.old)) (number_in (slots self.new)) }
         ensures named { (q : Text) → named q (slots self.new) ≡ named q (slots self.old) }
+        ensures ok { OnOk result (slots self.new
+            ≡ with_slot (cow_str_bytes id.entry) (slots self.old)) }
+        ensures err { OnErr result (slots self.new ≡ slots self.old) }
     {
         if let Some(place) = self.ids.get_index_of(id.as_str()) {
             return as_number(place);
         }
-        as_number(self.add(id)?)
+        let number = as_number(self.ids.len())?;
+        self.add(id)?;
+        Ok(number)
     }
 
     /// An empty slot for an id that has none yet.
     #[tactic(auto, unfolding(crate::specs::Slots::slots))]
-    fn add(&mut self, id: CowStr<'s>) -> Result<usize, AllocError>
+    fn add(&mut self, id: CowStr<'s>) -> Result<(), AllocError>
         requires { number_in (slots self.old) (cow_str_bytes id) ≡ None }
-        ensures place { IfOk result (λ n.
-            number_in (slots self.new) (cow_str_bytes id.entry) ≡ Some n) }
         ensures ok { OnOk result (slots self.new
             ≡ slots self.old ++ (cow_str_bytes id.entry, None) ∷ []) }
         ensures err { OnErr result (slots self.new ≡ slots self.old) }
     {
-        let put: Result<_, _> = self.ids.insert_full(id, None);
-        let (place, _) = put?;
-        Ok(place)
+        self.ids.insert(id, None)?;
+        Ok(())
     }
 
     /// Puts what it names into the slot of an id with this number, in place of what stood there.
@@ -96,6 +99,8 @@ impl<'s, X: Drop> Slots<'s, X> {
         ensures filled { (id : Text) → number_in (slots self.old) id ≡ Some number → (q : Text) →
             named q (slots self.new)
             ≡ (if bytes_eq id q then Some x else named q (slots self.old)) }
+        // A number beyond them changes nothing.
+        ensures set { slots self.new ≡ set_value_at (slots self.old) number (Some x) }
     {
         if let Some(slot) = self.ids.get_index_mut(number as usize) {
             *slot = Some(x);

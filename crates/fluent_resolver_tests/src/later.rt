@@ -1,4 +1,4 @@
-//! What references lead to after further calls on a bundle: they are looked up where they are resolved.
+//! What references lead to after further calls on a bundle: what their ids name then.
 use crate::rows::{Row, are_given};
 use fluent_bundle::{Call, FluentResource};
 use fluent_fixtures::common::read;
@@ -132,6 +132,28 @@ const BUILTIN: List = (
     ],
 );
 
+/// A message that another refers to, by which it is resolved, refers to one that is added later and overridden.
+const BELOW: List = (
+    "top = { a }{ c }\na = { b }\nc = { $n ->\n    [1] { b }\n   *[other] { d }{ b }\n}\n",
+    "b = 1\nd = 3\nb = 2\n",
+    &[(
+        "top",
+        &[],
+        "{b}{d}{b}",
+        "Resolver error: Unknown message: b\nResolver error: Unknown variable: $n\nResolver error: Unknown message: d\nResolver error: Unknown message: b\n",
+    )],
+    &[
+        (Step::Add, &[("top", &[("n", Given::Read("2"))], "131", "")]),
+        (
+            Step::Override,
+            &[
+                ("top", &[("n", Given::Read("2"))], "232", ""),
+                ("top", &[("n", Given::Read("1"))], "22", ""),
+            ],
+        ),
+    ],
+);
+
 const CYCLIC: Row = (
     "a",
     &[("n", Given::Read("2"))],
@@ -234,10 +256,12 @@ fn is_taken(rt: &impl Abort, alloc: Global, list: &List) -> Result<(), Fail> {
     are_taken(rt, alloc, &first, &second, list)
 }
 
-const LISTS: &[List] = &[FUNCTION, MESSAGE, TERM, BUILTIN, SAME, GREETINGS, LIMIT];
+const LISTS: &[List] = &[
+    FUNCTION, MESSAGE, TERM, BUILTIN, BELOW, SAME, GREETINGS, LIMIT,
+];
 
 #[test]
-fn references_are_looked_up_when_they_are_resolved(rt: HostRuntime) -> Result<(), Fail> {
+fn references_follow_later_calls(rt: HostRuntime) -> Result<(), Fail> {
     for list in LISTS {
         is_taken(&rt, rt.alloc(), list)?;
     }

@@ -14,6 +14,8 @@ mod in_one_scope;
 #[cfg(test)]
 mod later;
 #[cfg(test)]
+mod linked;
+#[cfg(test)]
 mod references;
 #[cfg(test)]
 mod rows;

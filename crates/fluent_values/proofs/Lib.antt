@@ -8,12 +8,15 @@ pub mod Took
 pub mod Outputs
 pub mod Views
 pub mod Choice
+pub mod Classed
 pub mod Cases
 mod Stored
 pub mod Measures
 pub mod Own
 pub mod ByName
 pub mod Added
+pub mod Waiting
+pub mod Linking
 pub mod Passing
 pub mod Along
 pub mod Values
@@ -21,3 +24,5 @@ pub mod Steps
 pub mod Texts
 pub mod Tracking
 pub mod Trails
+pub mod Placed
+pub mod Kept

@@ -4,13 +4,14 @@ use Rattle.std.specs.Bool.{OnTrue, OnFalse}
 use Rattle.fluent_meaning.specs.Errors.{Error}
 use Rattle.fluent_meaning.specs.Meaning.{Budget, at_most}
 use Rattle.fluent_meaning.specs.Work.{work}
-use Rattle.fluent_values.specs.Status.{Status, Tally, counted, with_errors, on_path, Keeps}
+use Rattle.fluent_values.specs.Status.{Status, Tally, counted, with_errors, Keeps}
+use Rattle.fluent_values.specs.Trail.{on_path}
 use Rattle.fluent_values.specs.Along.{Walk, walked, from_here, Trace, follows, adding, Reports, Passed, Elsewhere, Added, Takes}
 
 -- SCOPES
 
 pub keeps_same : (a : Status) → Keeps a a
-keeps_same a = record { bundle = refl; environment = refl; path = refl; list = refl; is_plain = refl; less = omega arith }
+keeps_same a = record { bundle = refl; environment = refl; path = refl; list = refl; stored = refl; is_plain = refl; less = omega arith }
 
 pub keeps_on : {a b c : Status} → Keeps a b → Keeps b c → Keeps a c
 keeps_on h j = record {
@@ -18,6 +19,7 @@ keeps_on h j = record {
   environment = j.environment ∙ h.environment;
   path = j.path ∙ h.path;
   list = j.list ∙ h.list;
+  stored = j.stored ∙ h.stored;
   is_plain = j.is_plain ∙ h.is_plain;
   less = omega (arith, h.less, j.less);
 }
@@ -133,7 +135,7 @@ passed_lent {all = all} {rest = rest} {a = a} {b = b} {c = c} {d = d} {e = e} {m
 -- CHANGES OF A SCOPE
 
 pub keeps_elsewhere : {a b : Status} → Elsewhere a b → b.path ≡ a.path → Keeps a b
-keeps_elsewhere {a = a} h p = record { bundle = h.bundle; environment = h.environment; path = p; list = h.list; is_plain = h.is_plain; less = subst (λ n. at_most n ≤ at_most a.budget) (sym h.budget) (omega arith) }
+keeps_elsewhere {a = a} h p = record { bundle = h.bundle; environment = h.environment; path = p; list = h.list; stored = h.stored; is_plain = h.is_plain; less = subst (λ n. at_most n ≤ at_most a.budget) (sym h.budget) (omega arith) }
 
 -- changed, walked and changed back
 pub keeps_around : {a b d e : Status} → Elsewhere a b → Keeps b d → Elsewhere d e → e.path ≡ a.path → Keeps a e
@@ -142,18 +144,20 @@ keeps_around {a = a} {d = d} h k j p = record {
   environment = j.environment ∙ k.environment ∙ h.environment;
   path = p;
   list = j.list ∙ k.list ∙ h.list;
+  stored = j.stored ∙ k.stored ∙ h.stored;
   is_plain = j.is_plain ∙ k.is_plain ∙ h.is_plain;
   less = subst (λ n. at_most n ≤ at_most a.budget) (sym j.budget) (subst (λ n. at_most d.budget ≤ at_most n) h.budget k.less);
 }
 
 -- another environment for a walk, and the old one again
-pub keeps_back : {a b c d e : Status} → Keeps a b → Keeps c d → c.bundle ≡ b.bundle → c.path ≡ b.path → c.list ≡ b.list → c.is_plain ≡ b.is_plain → c.budget ≡ b.budget
-    → e.bundle ≡ d.bundle → e.path ≡ d.path → e.list ≡ d.list → e.is_plain ≡ d.is_plain → e.budget ≡ d.budget → e.environment ≡ b.environment → Keeps a e
-keeps_back {a = a} {c = c} {d = d} k w cb cp cl ci cn eb ep el ei en ee = record {
+pub keeps_back : {a b c d e : Status} → Keeps a b → Keeps c d → c.bundle ≡ b.bundle → c.path ≡ b.path → c.list ≡ b.list → c.stored ≡ b.stored → c.is_plain ≡ b.is_plain → c.budget ≡ b.budget
+    → e.bundle ≡ d.bundle → e.path ≡ d.path → e.list ≡ d.list → e.stored ≡ d.stored → e.is_plain ≡ d.is_plain → e.budget ≡ d.budget → e.environment ≡ b.environment → Keeps a e
+keeps_back {a = a} {c = c} {d = d} k w cb cp cl cs ci cn eb ep el es ei en ee = record {
   bundle = eb ∙ w.bundle ∙ cb ∙ k.bundle;
   environment = ee ∙ k.environment;
   path = ep ∙ w.path ∙ cp ∙ k.path;
   list = el ∙ w.list ∙ cl ∙ k.list;
+  stored = es ∙ w.stored ∙ cs ∙ k.stored;
   is_plain = ei ∙ w.is_plain ∙ ci ∙ k.is_plain;
   less =
       let first : at_most c.budget ≤ at_most a.budget = subst (λ n. at_most n ≤ at_most a.budget) (sym cn) k.less in

@@ -2,7 +2,6 @@
 use Rattle.std.proofs.Common.{◌≡◌, refl, sym, ap, subst, ◌∙◌, ℕ, zero, suc, ◌+◌, ◌<◌, ◌≤◌, length, get_or, drop, List, [], ◌∷◌, ◌++◌, Bool, true, false, Option, Some, None, map, arith, unwrap_or}
 use Rattle.std.proofs.lemmas.List.{drop_more}
 use Rattle.std.specs.Option.{option_map}
-use Rattle.std.specs.Borrow.{Bor}
 use Rattle.fluent_tree.specs.Tree.{Text, Pattern, Inline, Expression, Attribute, Call, Arguments, placeable, select, text, function, term, variable, pattern_of, inlines_of, nameds_of, variants_of, Element, more}
 use Rattle.fluent_tree.specs.Fallback.{fallback, in_braces}
 use Rattle.fluent_tree.specs.View.{pattern_view, element_view, expression_view, inline_view, named_view, variant_view, arguments_view}
@@ -24,7 +23,9 @@ use Rattle.fluent_meaning.specs.Work.{Worked, with_work, work}
 use Rattle.fluent_meaning.specs.Laws.{CountsByItself}
 use Rattle.fluent_values.specs.Along.{Below, Walk, walked, from_here, given, mapping, lost_of, shown_answer, Elsewhere, Starts, Ends}
 use Rattle.fluent_values.specs.Choice.{choice, choosing, first_default}
-use Rattle.fluent_values.specs.Status.{Status, on_path}
+use Rattle.fluent_values.specs.Status.{Status}
+use Rattle.fluent_values.specs.Trail.{on_path, content_at}
+use Rattle.fluent_values.specs.declared.resolver.path.Step.{Step}
 use Rattle.fluent_values.specs.View.{value_view}
 use Rattle.fluent_values.specs.declared.types.value.FluentValue.{FluentValue}
 use Rattle.fluent_values.specs.declared.types.value.FluentValue.TheVariants as values
@@ -290,10 +291,10 @@ selecting_at a x vs b =
 
 -- REFERENCES
 
-pub on_path_more : (ps : List (Option (Bor of_pattern.Pattern))) (p : Bor of_pattern.Pattern) → on_path (ps ++ Some p ∷ []) ≡ on_path ps ++ pattern_view p.now ∷ []
-on_path_more [] p = refl
-on_path_more (None ∷ ps) p = on_path_more ps p
-on_path_more (Some q ∷ ps) p = ap (λ xs. pattern_view q.now ∷ xs) (on_path_more ps p)
+pub on_path_more : (ps : List (Option Step)) (x : Step) → on_path (ps ++ Some x ∷ []) ≡ on_path ps ++ content_at x ∷ []
+on_path_more [] x = refl
+on_path_more (None ∷ ps) x = on_path_more ps x
+on_path_more (Some y ∷ ps) x = ap (λ xs. content_at y ∷ xs) (on_path_more ps x)
 
 abbrev pub going : Inline → Pattern → Walk Text
 going x p s f env path = go with_work s f env (is_on path p) env path x p
@@ -304,9 +305,9 @@ wholing p s f env path = whole with_work s f env path p
 pub cyclic_at : (a : Status) (x : Inline) (p : Pattern) → is_on (on_path a.path) p ≡ true → from_here a (going x p) ≡ tells (resolver_error cyclic ∷ []) (given (in_braces (fallback x)) a.budget)
 cyclic_at a x p h = go_cyclic a.bundle (work a.bundle) a.environment (on_path a.path) a.environment x p a.budget h
 
-pub entered_at : CountsByItself Text → (a b : Status) (x : Inline) (p : Bor of_pattern.Pattern) → is_on (on_path a.path) (pattern_view p.now) ≡ false → b.path ≡ a.path ++ Some p ∷ [] → Elsewhere a b → from_here a (going x (pattern_view p.now)) ≡ from_here b (wholing (pattern_view p.now))
+pub entered_at : CountsByItself Text → (a b : Status) (x : Inline) (p : Step) → is_on (on_path a.path) (content_at p) ≡ false → b.path ≡ a.path ++ Some p ∷ [] → Elsewhere a b → from_here a (going x (content_at p)) ≡ from_here b (wholing (content_at p))
 entered_at law a b x p off entered before =
-    let q = pattern_view p.now in
+    let q = content_at p in
     go_entered law a.bundle a.environment (on_path a.path) a.environment x q a.budget off
     ∙ sym (
     ap (λ s. whole with_work s (work s) b.environment (on_path b.path) q b.budget) before.bundle

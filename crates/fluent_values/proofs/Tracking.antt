@@ -8,7 +8,8 @@ use Rattle.fluent_meaning.specs.Walk.{inner}
 use Rattle.fluent_meaning.specs.Work.{Worked, work}
 use Rattle.fluent_meaning.specs.Laws.{CallsByThemselves}
 use Rattle.fluent_values.specs.Along.{walked, from_here, given, lost_of, Elsewhere}
-use Rattle.fluent_values.specs.Status.{Status, on_path}
+use Rattle.fluent_values.specs.Status.{Status}
+use Rattle.fluent_values.specs.Trail.{on_path}
 use Rattle.fluent_values.specs.Tracking.{Runs, called_run, calling, closes, losing, lost_run, maybe_tracks}
 use Rattle.fluent_values.proofs.Cases.{entering, loses_is, sequence}
 use Rattle.fluent_values.proofs.Steps.{expressing}

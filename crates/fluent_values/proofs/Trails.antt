@@ -1,19 +1,19 @@
 -- The patterns on a path, one after the other.
 use Rattle.std.specs.Prelude.{◌≡◌, ℕ, zero, suc, ◌+◌, ◌-◌, ◌^◌, ◌<◌, ◌↔◌, min, List, [], ◌∷◌, ◌++◌, length, slice_get, Bool, false, nat_eq, Option, None, Some, IsSome, refl}
 use Rattle.std.specs.Option.{option_to_list}
-use Rattle.std.specs.Borrow.{Bor}
 use Rattle.std.proofs.Common.{sym, ◌∙◌, ap, arith}
 use Rattle.std.proofs.lemmas.Bool.{false≢true, true≢false}
-use Rattle.fluent_tree.specs.declared.ast.Pattern.{Pattern}
-use Rattle.fluent_values.specs.Status.{trail_of, on_path, counted}
+use Rattle.fluent_values.specs.Status.{counted}
+use Rattle.fluent_values.specs.Trail.{trail_of, on_path}
+use Rattle.fluent_values.specs.declared.resolver.path.Step.{Step}
 
 -- where each place has one, as many stand there as there are places
-on_whole : (ps : List (Option (Bor Pattern))) → ((k : ℕ) → slice_get ps k ≡ Some None → ⊥) → length (on_path ps) ≡ length ps
+on_whole : (ps : List (Option Step)) → ((k : ℕ) → slice_get ps k ≡ Some None → ⊥) → length (on_path ps) ≡ length ps
 on_whole [] whole = refl
 on_whole (None ∷ ps) whole = absurd (whole 0 refl)
 on_whole (Some p ∷ ps) whole = ap (λ n. suc n) (on_whole ps (λ k. whole (suc k)))
 
-pub trail_length : (b : Option (Bor Pattern)) (p : Bor Pattern) (ps : List (Option (Bor Pattern))) (n r : ℕ) → b ≡ Some p → ((k : ℕ) → slice_get ps k ≡ Some None → ⊥)
+pub trail_length : (b : Option Step) (p : Step) (ps : List (Option Step)) (n r : ℕ) → b ≡ Some p → ((k : ℕ) → slice_get ps k ≡ Some None → ⊥)
     → n ≡ length ps → r ≡ min (n + 1) (2 ^ 64 - 1) → r ≡ counted (length (on_path (trail_of b ps)))
 trail_length b p ps n r is whole len e =
     let more : n + 1 ≡ suc (length (on_path ps)) = omega (arith, len, on_whole ps whole) in
@@ -44,8 +44,8 @@ some_places zero b is h = absurd (true≢false (sym is ∙ h))
 some_places (suc n) b is h = omega arith
 
 -- the last is taken off
-pub taken_off : (b : Option (Bor Pattern)) (old new : List (Option (Bor Pattern))) (r : Option (Option (Bor Pattern))) → old ≡ new ++ option_to_list r → (IsSome r ↔ (0 < length old)) → 0 < length old
-    → (before : List (Option (Bor Pattern))) (last : Option (Bor Pattern)) → trail_of b old ≡ before ++ last ∷ [] → trail_of b new ≡ before
+pub taken_off : (b : Option Step) (old new : List (Option Step)) (r : Option (Option Step)) → old ≡ new ++ option_to_list r → (IsSome r ↔ (0 < length old)) → 0 < length old
+    → (before : List (Option Step)) (last : Option Step) → trail_of b old ≡ before ++ last ∷ [] → trail_of b new ≡ before
 taken_off None old new r is some lt before last e = no_snoc before last e
 taken_off (Some p) old new None is some lt before last e = absurd (false≢true (some.1 lt))
 taken_off (Some p) old new (Some x) is some lt before last e = same_fronts (Some p ∷ new) before x last (ap (λ l. Some p ∷ l) (sym is) ∙ e)

@@ -1,11 +1,9 @@
 -- How far a call of the resolver went along a walk.
 use Rattle.std.specs.Prelude.{◌≡◌, ℕ, zero, suc, ◌+◌, max, List, [], ◌∷◌, ◌++◌, length, Bool, true, false, Option, None, Some, Result, OnOk, OnErr, IfOk}
 use Rattle.std.specs.Bool.{OnTrue, OnFalse}
-use Rattle.std.specs.Borrow.{Bor}
 use Rattle.std.specs.Io.KnownBytes.{Appends}
 use Rattle.fluent_tree.specs.Tree.{Text, Pattern, Inline}
 use Rattle.fluent_tree.specs.Fallback.{fallback}
-use Rattle.fluent_tree.specs.declared.ast.Pattern as code
 use Rattle.fluent_meaning.specs.Errors.{Error, resolver_error, lost, Reference, reference_of}
 use Rattle.fluent_meaning.specs.Bundle.{Bundle, shown}
 use Rattle.fluent_meaning.specs.Arguments.{Map}
@@ -13,7 +11,9 @@ use Rattle.fluent_meaning.specs.Value.{Value, error_value}
 use Rattle.fluent_meaning.specs.Walk.{Environment, application, inner}
 use Rattle.fluent_meaning.specs.Meaning.{Budget, left, struck, at_most}
 use Rattle.fluent_meaning.specs.Work.{Worked, counting, work}
-use Rattle.fluent_values.specs.Status.{Status, Tally, counted, with_errors, on_path, Keeps}
+use Rattle.fluent_values.specs.Status.{Status, Tally, counted, with_errors, Keeps}
+use Rattle.fluent_values.specs.Trail.{on_path}
+use Rattle.fluent_values.specs.declared.resolver.path.Step.{Step}
 use Rattle.fluent_values.specs.declared.resolver.output.Halt.{Halt}
 use Rattle.fluent_values.specs.Written.{Sink, CountsTell}
 
@@ -170,6 +170,7 @@ pub record Elsewhere (s s' : Status) : Type 0 where
   pub errors : s'.errors ≡ s.errors
   pub list : s'.list ≡ s.list
   pub budget : s'.budget ≡ s.budget
+  pub stored : s'.stored ≡ s.stored
   pub is_plain : s'.is_plain ≡ s.is_plain
 
 -- one was taken from the budget, or it was struck
@@ -197,14 +198,14 @@ pub record Ends (begun : Bool) (s s' : Status) : Type 0 where
   pub elsewhere : Elsewhere s s'
 
 -- a pattern was put on the path, or none, where the answer is no Ok
-pub record Enters {T E : Type 0} (result : Result T E) (p : Bor code.Pattern) (s s' : Status) : Type 0 where
-  pub entered : OnOk result (s'.path ≡ s.path ++ Some p ∷ [])
+pub record Enters {T E : Type 0} (result : Result T E) (x : Step) (s s' : Status) : Type 0 where
+  pub entered : OnOk result (s'.path ≡ s.path ++ Some x ∷ [])
   pub refused : OnErr result (s'.path ≡ s.path)
   pub tally : s'.tally ≡ s.tally
   pub elsewhere : Elsewhere s s'
 
 -- the last pattern was taken off the path
 pub record Leaves (s s' : Status) : Type 0 where
-  pub left : (before : List (Option (Bor code.Pattern))) → (last : Option (Bor code.Pattern)) → s.path ≡ before ++ last ∷ [] → s'.path ≡ before
+  pub left : (before : List (Option Step)) → (last : Option Step) → s.path ≡ before ++ last ∷ [] → s'.path ≡ before
   pub tally : s'.tally ≡ s.tally
   pub elsewhere : Elsewhere s s'

@@ -1,7 +1,7 @@
 -- What ids name, by content.
-use Rattle.std.specs.Prelude.{ℕ, Bool, map, Option, Some, None}
-use Rattle.std.specs.Cow.{cow_str_bytes}
-use Rattle.std.specs.HashMap.{spare}
+use Rattle.std.specs.Prelude.{Bool, List, map, Option, Some, None}
+use Rattle.std.specs.List.{filter_map}
+use Rattle.std.specs.Option.{option_map}
 use Rattle.std.specs.HashSet.{HashSet, contains_by}
 use Rattle.std.specs.Str.{bytes_eq}
 use Rattle.std.proofs.Common.{Bor}
@@ -9,6 +9,7 @@ use Rattle.fluent_tree.specs.Tree.{Text, Pattern, Attributes}
 use Rattle.fluent_tree.specs.View as view
 use Rattle.fluent_tree.specs.View.{attribute_view, pattern_view}
 use Rattle.fluent_tree.specs.declared.ast.Term.{Term}
+use Rattle.fluent_links.specs.Slots.{slots, named}
 use Rattle.fluent_meaning.specs.Arguments.{Map, number_function}
 use Rattle.fluent_meaning.specs.Bundle.{Function, a_message, a_term, a_function, number_builtin}
 use Rattle.fluent_meaning.specs.Bundle as m
@@ -26,12 +27,12 @@ entry_of answer (entry.Term x) = a_term (pattern_view x.now.value) (map attribut
 entry_of answer (entry.Function f) = a_function (answer f)
 entry_of answer entry.Number = number_builtin
 
-abbrev pub ids : {F : Type 0} → (F → Function Text) → Ids F → Map (m.Entry Text)
-ids answer m = by_name (map (λ e. (cow_str_bytes e.0, entry_of answer e.1)) m.known.entries)
+-- each id that names something, with it
+abbrev pub filled : {X Y : Type 0} → (X → Y) → List (Text × Option X) → List (Text × Y)
+filled f ss = filter_map (λ s. option_map (λ x. (s.0, f x)) (named s.0 ss)) ss
 
--- how many more ids it takes without memory
-abbrev pub room : {F : Type 0} → Ids F → ℕ
-room m = spare m.known
+unfoldable pub ids : {F : Type 0} → (F → Function Text) → Ids F → Map (m.Entry Text)
+ids answer m = by_name (filled (λ s. entry_of answer s.entry) (slots m.known))
 
 -- a set of texts has this one
 abbrev pub has : {S : Type 0} → HashSet (Bor Text) S → Text → Bool

@@ -6,6 +6,7 @@ pub mod Given
 pub mod Merging
 pub mod Ended
 pub mod FoundView
+pub mod Trail
 pub mod Status
 pub mod Along
 pub mod Tracking
@@ -13,9 +14,12 @@ pub mod Texts
 pub mod TextRows
 pub mod Sizes
 pub mod Choice
+pub mod ChosenView
 pub mod Written
 pub mod Free
 pub mod MessageView
 pub mod Named
+pub mod Numbered
+pub mod Linking
 pub mod EntryView
 pub mod Adding

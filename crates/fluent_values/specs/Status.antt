@@ -1,11 +1,9 @@
 -- What a scope is, by content.
-use Rattle.std.specs.Prelude.{◌≡◌, ℕ, ◌-◌, ◌^◌, ◌≤◌, min, List, [], ◌∷◌, ◌++◌, map, Bool, true, false, Option, None, Some}
+use Rattle.std.specs.Prelude.{◌≡◌, ℕ, ◌-◌, ◌^◌, ◌≤◌, min, List, [], ◌++◌, map, Bool, true, false, Option, None, Some}
 use Rattle.std.specs.Option.{option_map}
 use Rattle.std.specs.Borrow.{Bor}
 use Rattle.fluent_tree.specs.Tree.{Text}
 use Rattle.fluent_tree.specs.Tree as t
-use Rattle.fluent_tree.specs.View.{pattern_view}
-use Rattle.fluent_tree.specs.declared.ast.Pattern.{Pattern}
 use Rattle.fluent_meaning.specs.Errors.{Error}
 use Rattle.fluent_meaning.specs.Value.{Value}
 use Rattle.fluent_meaning.specs.Arguments.{Map}
@@ -13,12 +11,15 @@ use Rattle.fluent_meaning.specs.Bundle.{Bundle, Entry, Function}
 use Rattle.fluent_meaning.specs.Walk.{Environment, application, local}
 use Rattle.fluent_meaning.specs.Meaning.{Budget, left, struck, at_most}
 use Rattle.fluent_values.specs.EntryView.{ids}
+use Rattle.fluent_values.specs.Numbered.{numbers, table}
+use Rattle.fluent_values.specs.Trail.{trail}
 use Rattle.fluent_values.specs.View.{error_view, named}
 use Rattle.fluent_values.specs.declared.args.FluentArgs.{FluentArgs}
 use Rattle.fluent_values.specs.declared.errors.FluentError.{FluentError}
+use Rattle.fluent_values.specs.declared.ids.Ids.{Ids}
 use Rattle.fluent_values.specs.declared.resolver.environment.Environment as environments
 use Rattle.fluent_values.specs.declared.resolver.environment.Environment.TheVariants as environment
-use Rattle.fluent_values.specs.declared.resolver.path.Path.{Path}
+use Rattle.fluent_values.specs.declared.resolver.path.Step.{Step}
 use Rattle.fluent_values.specs.declared.resolver.scope.Budget as budgets
 use Rattle.fluent_values.specs.declared.resolver.scope.Budget.TheVariants as budget
 use Rattle.fluent_values.specs.declared.resolver.scope.Counts.{Counts}
@@ -51,22 +52,6 @@ abbrev pub budget_view : budgets.Budget → Budget
 budget_view (budget.Left n) = left n
 budget_view budget.Struck = struck
 
--- ---- the path
-
--- Which patterns stand on a path, as it holds them.
-abbrev pub trail_of : Option (Bor Pattern) → List (Option (Bor Pattern)) → List (Option (Bor Pattern))
-trail_of None others = []
-trail_of (Some p) others = Some p ∷ others
-
-abbrev pub trail : Path → List (Option (Bor Pattern))
-trail p = trail_of p.bottom p.others.items
-
--- the same by content
-abbrev pub on_path : List (Option (Bor Pattern)) → List t.Pattern
-on_path [] = []
-on_path (None ∷ ps) = on_path ps
-on_path (Some p ∷ ps) = pattern_view p.now ∷ on_path ps
-
 -- ---- what was counted
 
 -- placeables opened, the longest path, patterns entered
@@ -88,15 +73,24 @@ tally c = record { opened = counted c.opened; longest = counted c.longest; enter
 abbrev pub with_ids : Bundle Text → Map (Entry Text) → Bundle Text
 with_ids b m = record b { ids = m }
 
+-- the numbers of the ids, and the contents that are stored
+pub record Stored : Type 0 where
+  pub numbers : Text → Option ℕ
+  pub table : List t.Pattern
+
+abbrev pub stored_in : {F : Type 0} → Ids F → Stored
+stored_in m = record { numbers = numbers m; table = table m }
+
 -- Its bundle, its environment, its path, what stands in its list of errors and which borrow that is, its budget, and what it counted.
 pub record Status : Type 0 where
   pub bundle : Bundle Text
   pub environment : Environment Text
-  pub path : List (Option (Bor Pattern))
+  pub path : List (Option Step)
   pub errors : Option (List Error)
   pub list : Option ℕ
   pub budget : Budget
   pub tally : Tally
+  pub stored : Stored
   -- whether the bundle changes no text
   pub is_plain : Bool
 
@@ -109,6 +103,7 @@ status meant is_plain answer content s = record {
   list = option_map (λ e. e.ghost_name) s.errors;
   budget = budget_view s.budget;
   tally = tally s.counts;
+  stored = stored_in s.ids.now;
   is_plain = is_plain s.bundle.now;
 }
 
@@ -117,6 +112,7 @@ pub record Keeps (s s' : Status) : Type 0 where
   pub bundle : s'.bundle ≡ s.bundle
   pub environment : s'.environment ≡ s.environment
   pub path : s'.path ≡ s.path
+  pub stored : s'.stored ≡ s.stored
   pub list : s'.list ≡ s.list
   pub is_plain : s'.is_plain ≡ s.is_plain
   pub less : at_most s'.budget ≤ at_most s.budget

@@ -10,7 +10,8 @@ use Rattle.fluent_meaning.specs.Meaning.{Budget, Ran, closed}
 use Rattle.fluent_meaning.specs.Result.{arguments_of}
 use Rattle.fluent_meaning.specs.Work.{with_work}
 use Rattle.fluent_values.specs.Along.{Walk, from_here, lost_of}
-use Rattle.fluent_values.specs.Status.{Status, on_path}
+use Rattle.fluent_values.specs.Status.{Status}
+use Rattle.fluent_values.specs.Trail.{on_path}
 
 -- the pattern that an expression refers to
 abbrev pub tracks : Pattern → Inline → Walk Text

@@ -1,76 +1,157 @@
-//! Adding the entries of a resource: first a look at the ids, then room, then steps that can't fail.
-ghost use Rattle.std.specs.Prelude.{◌≡◌, ◌<◌, ◌≤◌, ◌+◌, ◌++◌, ◌||◌, [], ◌∷◌, IfOk, OnOk, OnErr, IsTrue, length, is_some, map};
+//! Adding the entries of a resource: first a look at the ids, then what is kept of each entry, then steps that can't fail.
+ghost use Rattle.std.specs.Prelude.{◌≡◌, ◌<◌, ◌≤◌, ◌+◌, ◌++◌, ◌||◌, [], ◌∷◌, IfOk, OnOk, OnErr, IsTrue, None, is_some, map};
+ghost use Rattle.std.specs.Option.{option_map};
 ghost use Rattle.std.specs.Cow.{cow_str_bytes};
 ghost use Rattle.fluent_tree.specs.Tree.{Text};
-ghost use Rattle.fluent_tree.specs.View.{entry_view};
-ghost use Rattle.fluent_meaning.specs.Arguments.{Map, get};
+ghost use Rattle.fluent_tree.specs.View.{entry_view, pattern_view};
+ghost use Rattle.fluent_meaning.specs.Arguments.{Map, get, set_all};
 ghost use Rattle.fluent_meaning.specs.Bundle.{Function, a_function, number_builtin, added, overridden, add_free, error_if_taken, not_added};
 ghost use Rattle.fluent_meaning.specs.Bundle as m;
 ghost use Rattle.fluent_meaning.specs.Errors as e;
 ghost use Rattle.fluent_values.specs.View.{error_view, kind_view};
-ghost use Rattle.fluent_values.specs.EntryView.{ids, entry_of, room, has};
+ghost use Rattle.fluent_values.specs.EntryView.{ids, entry_of, has};
 ghost use Rattle.fluent_values.specs.Named.{is_named};
-ghost use Rattle.fluent_values.specs.Adding.{AreTaken};
+ghost use Rattle.fluent_values.specs.Linking.{AreOf, IsLinked, attributes_in, patterns, value_in};
+ghost use Rattle.fluent_values.specs.Numbered.{Grown, numbers, table};
+ghost use Rattle.fluent_values.specs.Adding.{AreTaken, AreReady, waiting, given, add_each};
 
 use crate::entry::Entry;
 use crate::ids::Ids;
+use crate::ready::Ready;
+use crate::slot::{Slot, plain};
 use crate::{EntryKind, FluentError};
+use fluent_links::Linked;
 use fluent_tree::ast;
 use std::alloc::{AllocError, Global};
 use std::borrow::CowStr;
 use std::collections::HashSet;
 
-/// Gives the entry's id its meaning where it is free, in a map that has room for it.
-fn add_entry<'r, 's, F: Drop>(known: &mut Ids<'r, 's, F>, entry: &'r ast::Entry<'s>)
-    requires { 0 < room known.old }
-    ensures after { (answer : F → Function Text) →
-        ids answer known.new ≡ added (entry_view entry.now ∷ []) (ids answer known.old) }
-    ensures room { room known.old ≤ room known.new + 1 }
+/// What is kept of each attribute's pattern, in order.
+fn linked_attributes<'r, 's, F: Drop>(
+    alloc: Global,
+    known: &mut Ids<'r, 's, F>,
+    attributes: &'r [ast::Attribute<'s>],
+) -> Result<Vec<Linked>, AllocError>
+    ensures linked { IfOk result (λ list.
+        AreOf (numbers known.new) (table known.new) (patterns attributes.now) list.items) }
+    ensures grown { Grown known.old known.new }
+    ensures same { (answer : F → Function Text) → ids answer known.new ≡ ids answer known.old }
+{
+    let mut list = Vec::with_capacity(alloc, attributes.len())?;
+    for attribute in attributes {
+        let linked = known.link(alloc, &attribute.value)?;
+        list.push(linked)?;
+    }
+    Ok(list)
+}
+
+/// The entry with what is kept of its patterns, which are these.
+fn linked_slot<'r, 's, F: Drop>(
+    alloc: Global,
+    known: &mut Ids<'r, 's, F>,
+    entry: Entry<'r, 's, F>,
+    value: Option<&'r ast::Pattern<'s>>,
+    attributes: &'r [ast::Attribute<'s>],
+) -> Result<Slot<'r, 's, F>, AllocError>
+    requires value { option_map (λ p. pattern_view p.now) value ≡ value_in entry }
+    requires attributes { patterns attributes.now ≡ attributes_in entry }
+    ensures entry { IfOk result (λ slot. slot.entry ≡ entry.entry) }
+    ensures linked { IfOk result (IsLinked (numbers known.new) (table known.new)) }
+    ensures grown { Grown known.old known.new }
+    ensures same { (answer : F → Function Text) → ids answer known.new ≡ ids answer known.old }
+{
+    let attributes = linked_attributes(alloc, known, attributes)?;
+    match value {
+        Some(pattern) => {
+            let value = Some(known.link(alloc, pattern)?);
+            Ok(Slot {
+                entry,
+                value,
+                attributes,
+            })
+        }
+        None => {
+            Ok(Slot {
+                entry,
+                value: None,
+                attributes,
+            })
+        }
+    }
+}
+
+/// Puts the entry with the number of its id behind those that wait. Junk is passed over.
+fn make_ready<'r, 's, F: Drop>(
+    alloc: Global,
+    known: &mut Ids<'r, 's, F>,
+    entry: &'r ast::Entry<'s>,
+    list: &mut Vec<Ready<'r, 's, F>>,
+) -> Result<(), AllocError>
+    ensures ready { OnOk result (AreReady (numbers known.old) (table known.old) list.old.items →
+        AreReady (numbers known.new) (table known.new) list.new.items) }
+    ensures given { OnOk result ((answer : F → Function Text) →
+        map (waiting answer) list.new.items
+        ≡ map (waiting answer) list.old.items ++ given (entry_view entry.now ∷ [])) }
+    ensures same { (answer : F → Function Text) → ids answer known.new ≡ ids answer known.old }
 {
     match entry {
         ast::Entry::Message(message) => {
-            known.put_where_free(message.id.name, Entry::Message(message));
+            let number = known.number_of(CowStr::Borrowed(message.id.name))?;
+            let entry = Entry::Message(message);
+            let value = message.value.as_ref();
+            let slot = linked_slot(alloc, known, entry, value, &message.attributes)?;
+            list.push(Ready { number, slot })?;
         }
-        ast::Entry::Term(term) => known.put_where_free(term.id.name, Entry::Term(term)),
+        ast::Entry::Term(term) => {
+            let number = known.number_of(CowStr::Borrowed(term.id.name))?;
+            let entry = Entry::Term(term);
+            let value = Some(&term.value);
+            let slot = linked_slot(alloc, known, entry, value, &term.attributes)?;
+            list.push(Ready { number, slot })?;
+        }
         ast::Entry::Junk { .. } => {}
     }
+    Ok(())
 }
 
-/// Gives each free id its meaning, in a map that has room for all.
-fn add_all<'r, 's, F: Drop>(known: &mut Ids<'r, 's, F>, entries: &'r [ast::Entry<'s>])
-    requires { length entries.now ≤ room known.old }
-    ensures { (answer : F → Function Text) → ids answer known.new
-        ≡ added (map entry_view entries.now) (ids answer known.old) }
+/// The messages and terms, each with the number of its id and with what is kept of its patterns.
+fn all_ready<'r, 's, F: Drop>(
+    alloc: Global,
+    known: &mut Ids<'r, 's, F>,
+    entries: &'r [ast::Entry<'s>],
+) -> Result<Vec<Ready<'r, 's, F>>, AllocError>
+    ensures ready { IfOk result (λ list.
+        AreReady (numbers known.new) (table known.new) list.items) }
+    ensures given { IfOk result (λ list. (answer : F → Function Text) →
+        map (waiting answer) list.items ≡ given (map entry_view entries.now)) }
+    ensures same { (answer : F → Function Text) → ids answer known.new ≡ ids answer known.old }
 {
+    let mut list = Vec::with_capacity(alloc, entries.len())?;
     for entry in entries {
-        add_entry(known, entry);
+        make_ready(alloc, known, entry, &mut list)?;
+    }
+    Ok(list)
+}
+
+/// Gives each free id its meaning, in order.
+fn add_all<'r, 's, F: Drop>(known: &mut Ids<'r, 's, F>, list: Vec<Ready<'r, 's, F>>)
+    requires { AreReady (numbers known.old) (table known.old) list.items }
+    ensures { (answer : F → Function Text) → ids answer known.new
+        ≡ add_each (map (waiting answer) list.entry.items) (ids answer known.old) }
+{
+    for ready in list {
+        known.put_where_free(ready.number, ready.slot);
     }
 }
 
-/// Gives the entry's id its meaning in place of what it had, in a map that has room for it.
-fn override_entry<'r, 's, F: Drop>(known: &mut Ids<'r, 's, F>, entry: &'r ast::Entry<'s>)
-    requires { 0 < room known.old }
-    ensures after { (answer : F → Function Text) →
-        ids answer known.new ≡ overridden (entry_view entry.now ∷ []) (ids answer known.old) }
-    ensures room { room known.old ≤ room known.new + 1 }
-{
-    match entry {
-        ast::Entry::Message(message) => {
-            known.put_in_room(message.id.name, Entry::Message(message));
-        }
-        ast::Entry::Term(term) => known.put_in_room(term.id.name, Entry::Term(term)),
-        ast::Entry::Junk { .. } => {}
-    }
-}
-
-/// Gives each id its meaning in place of what it had, in a map that has room for all.
-fn override_all<'r, 's, F: Drop>(known: &mut Ids<'r, 's, F>, entries: &'r [ast::Entry<'s>])
-    requires { length entries.now ≤ room known.old }
+/// Gives each id its meaning in place of what it had, in order.
+fn override_all<'r, 's, F: Drop>(known: &mut Ids<'r, 's, F>, list: Vec<Ready<'r, 's, F>>)
+    requires { AreReady (numbers known.old) (table known.old) list.items }
     ensures { (answer : F → Function Text) → ids answer known.new
-        ≡ overridden (map entry_view entries.now) (ids answer known.old) }
+        ≡ set_all (map (waiting answer) list.entry.items) (ids answer known.old) }
 {
-    for entry in entries {
-        override_entry(known, entry);
+    for ready in list {
+        known.put(ready.number, ready.slot);
     }
 }
 
@@ -92,6 +173,8 @@ fn add_where_free<'r, 's, F: Drop>(
     function: Entry<'r, 's, F>,
 ) -> Result<Vec<FluentError>, AllocError>
     requires own { IsTrue (is_named (cow_str_bytes id) function) }
+    requires value { value_in function ≡ None }
+    requires attributes { attributes_in function ≡ [] }
     ensures after { OnOk result ((answer : F → Function Text) →
         ids answer known.new ≡ add_free (cow_str_bytes id.entry) (entry_of answer function.entry)
         (ids answer known.old)) }
@@ -105,7 +188,8 @@ fn add_where_free<'r, 's, F: Drop>(
     if known.is_known(id.as_str()) {
         errors.push(left(alloc, EntryKind::Function, id.as_str())?)?;
     } else {
-        known.put(id, function)?;
+        let number = known.number_of(id)?;
+        known.put(number, plain(alloc, function));
     }
     Ok(errors)
 }
@@ -214,8 +298,8 @@ impl<'r, 's, F: Drop> Ids<'r, 's, F> {
             ids answer self.new ≡ ids answer self.old) }
     {
         let errors = look(alloc, self, entries)?;
-        self.make_room(entries.len())?;
-        add_all(self, entries);
+        let list = all_ready(alloc, self, entries)?;
+        add_all(self, list);
         Ok(errors)
     }
 
@@ -224,14 +308,18 @@ impl<'r, 's, F: Drop> Ids<'r, 's, F> {
     /// # Errors
     ///
     /// Memory was refused: the map is as before.
-    pub fn override_entries(&mut self, entries: &'r [ast::Entry<'s>]) -> Result<(), AllocError>
+    pub fn override_entries(
+        &mut self,
+        alloc: Global,
+        entries: &'r [ast::Entry<'s>],
+    ) -> Result<(), AllocError>
         ensures after { OnOk result ((answer : F → Function Text) →
             ids answer self.new ≡ overridden (map entry_view entries.now) (ids answer self.old)) }
         ensures err { OnErr result ((answer : F → Function Text) →
             ids answer self.new ≡ ids answer self.old) }
     {
-        self.make_room(entries.len())?;
-        override_all(self, entries);
+        let list = all_ready(alloc, self, entries)?;
+        override_all(self, list);
         Ok(())
     }
 

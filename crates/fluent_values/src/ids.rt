@@ -1,34 +1,47 @@
 //! The map of ids.
+ghost use Rattle.std.proofs.Props.{props};
+ghost use Rattle.fluent_links.specs.Slots.{slots};
+ghost use Rattle.fluent_links.specs.Table.{table as contents};
+ghost use Rattle.fluent_values.specs.Linking.{AreLinked, content_set};
 ghost use Rattle.fluent_values.specs.Named.{AreNamed};
 
 use crate::entry::Entry;
+use crate::slot::Slot;
+use fluent_links::{Classes, Linked, Slots};
+use fluent_tree::ast::Pattern;
 use std::alloc::{AllocError, Global};
 use std::borrow::CowStr;
-use std::collections::HashMap;
 
-/// What each id names: ids of a source are slices of it, those of functions are copied.
+/// What each id names: ids of a source are slices of it, those of functions are copied. Each id that was seen has a
+/// number, and each content of a pattern a class, which stay their own.
 #[derive(Drop)]
 pub struct Ids<'r, 's, F> {
-    known: HashMap<CowStr<'s>, Entry<'r, 's, F>>,
+    known: Slots<'s, Slot<'r, 's, F>>,
+    classes: Classes<'r, 's>,
     /// A message or a term stands under its own id.
-    ghost named: { AreNamed known.entries },
+    ghost named: { AreNamed (slots known) },
+    /// What is kept in a slot is that of its entry's patterns.
+    ghost linked: { AreLinked (slots known) (contents classes) } by { Prim.hlevel (props, content_set) },
 }
 
 impl<'r, 's, F> Ids<'r, 's, F> {
-    ghost use Rattle.std.specs.Prelude.{◌≡◌, [], IfSome, IsTrue, is_some};
+    ghost use Rattle.std.specs.Prelude.{◌≡◌, [], IfSome, IsTrue, Some, is_some};
     ghost use Rattle.std.specs.Option.{option_map};
     ghost use Rattle.fluent_tree.specs.Tree.{Text};
     ghost use Rattle.fluent_meaning.specs.Arguments.{get};
     ghost use Rattle.fluent_meaning.specs.Bundle.{Function};
     ghost use Rattle.fluent_values.specs.EntryView.{ids, entry_of};
+    ghost use Rattle.fluent_values.specs.Linking.{IsLinked};
     ghost use Rattle.fluent_values.specs.Named.{is_named};
+    ghost use Rattle.fluent_values.specs.Numbered.{numbers, table};
 
     /// A map that names nothing. It takes no memory yet.
     pub fn new(alloc: Global) -> Ids<'r, 's, F>
         ensures { (answer : F → Function Text) → ids answer result ≡ [] }
     {
         Ids {
-            known: HashMap::new(alloc),
+            known: Slots::new(alloc),
+            classes: Classes::new(alloc),
         }
     }
 
@@ -38,7 +51,24 @@ impl<'r, 's, F> Ids<'r, 's, F> {
             option_map (λ e. entry_of answer e.now) result ≡ get id.now (ids answer self.now) }
         ensures own { IfSome result (λ e. IsTrue (is_named id.now e.now)) }
     {
-        self.known.get(id)
+        let slot = self.slot(id, None)?;
+        Some(&slot.entry)
+    }
+
+    /// What an id names, with what is kept of its patterns: by the id's number where that is known, else by look-up.
+    /// Takes no memory.
+    pub(crate) fn slot<'m>(&'m self, id: &str, number: Option<u32>) -> Option<&'m Slot<'r, 's, F>>
+        requires { IfSome number (λ n. numbers self.now id.now ≡ Some n) }
+        ensures content { (answer : F → Function Text) →
+            option_map (λ s. entry_of answer s.now.entry) result
+            ≡ get id.now (ids answer self.now) }
+        ensures own { IfSome result (λ s. IsTrue (is_named id.now s.now.entry)) }
+        ensures linked { IfSome result (λ s. IsLinked (numbers self.now) (table self.now) s.now) }
+    {
+        match number {
+            Some(number) => self.known.at(number),
+            None => self.known.find(id),
+        }
     }
 
     /// Whether an id names something.
@@ -46,63 +76,82 @@ impl<'r, 's, F> Ids<'r, 's, F> {
         ensures { (answer : F → Function Text) → result
             ≡ is_some (get id.now (ids answer self.now)) }
     {
-        self.known.contains_key(id)
+        self.known.find(id).is_some()
+    }
+
+    /// Whether the id with this number names something.
+    pub(crate) fn is_filled(&self, number: u32) -> bool
+        ensures { (id : Text) → numbers self.now id ≡ Some number →
+            (answer : F → Function Text) → result ≡ is_some (get id (ids answer self.now)) }
+    {
+        self.known.at(number).is_some()
     }
 }
 
 impl<'r, 's, F: Drop> Ids<'r, 's, F> {
-    ghost use Rattle.std.specs.Prelude.{◌≡◌, ◌<◌, ◌≤◌, ◌+◌, OnOk, OnErr, IsTrue};
+    ghost use Rattle.std.specs.Prelude.{◌≡◌, IfOk, IsTrue, Some};
     ghost use Rattle.std.specs.Cow.{cow_str_bytes};
     ghost use Rattle.fluent_tree.specs.Tree.{Text};
+    ghost use Rattle.fluent_tree.specs.View.{pattern_view};
+    ghost use Rattle.fluent_links.specs.Linked.{IsOf};
     ghost use Rattle.fluent_meaning.specs.Arguments.{set};
     ghost use Rattle.fluent_meaning.specs.Bundle.{Function, add_free};
-    ghost use Rattle.fluent_values.specs.EntryView.{ids, entry_of, room};
+    ghost use Rattle.fluent_values.specs.EntryView.{ids, entry_of};
+    ghost use Rattle.fluent_values.specs.Linking.{IsLinked};
     ghost use Rattle.fluent_values.specs.Named.{is_named};
+    ghost use Rattle.fluent_values.specs.Numbered.{Grown, numbers, table};
 
-    /// Gives the id its meaning.
-    pub(crate) fn put(&mut self, id: CowStr<'s>, entry: Entry<'r, 's, F>) -> Result<(), AllocError>
-        requires own { IsTrue (is_named (cow_str_bytes id) entry) }
-        ensures ok { OnOk result ((answer : F → Function Text) →
-            ids answer self.new ≡ set (cow_str_bytes id.entry) (entry_of answer entry.entry)
-            (ids answer self.old)) }
-        ensures err { OnErr result ((answer : F → Function Text) →
-            ids answer self.new ≡ ids answer self.old) }
-    {
-        self.known.insert(id, entry)?;
-        Ok(())
-    }
-
-    /// Makes room for so many more.
-    pub(crate) fn make_room(&mut self, count: usize) -> Result<(), AllocError>
+    /// The number of an id, a new one where it has none. What ids name stays.
+    pub(crate) fn number_of(&mut self, id: CowStr<'s>) -> Result<u32, AllocError>
+        ensures number { IfOk result (λ n. numbers self.new (cow_str_bytes id.entry) ≡ Some n) }
+        ensures grown { Grown self.old self.new }
         ensures same { (answer : F → Function Text) → ids answer self.new ≡ ids answer self.old }
-        ensures room { OnOk result (count ≤ room self.new) }
     {
-        self.known.reserve(count)
+        self.known.number_of(id)
     }
 
-    /// Gives the id its meaning, in a map that has room for one more.
-    pub(crate) fn put_in_room(&mut self, id: &'s str, entry: Entry<'r, 's, F>)
-        requires room { 0 < room self.old }
-        requires own { IsTrue (is_named id.now entry) }
-        ensures after { (answer : F → Function Text) →
-            ids answer self.new ≡ set id.now (entry_of answer entry.entry) (ids answer self.old) }
-        ensures room { room self.old ≤ room self.new + 1 }
+    /// What is kept of a pattern that is going to be stored: its class, and the numbers of what it refers to. What ids
+    /// name stays.
+    pub(crate) fn link(
+        &mut self,
+        alloc: Global,
+        pattern: &'r Pattern<'s>,
+    ) -> Result<Linked, AllocError>
+        ensures linked { IfOk result
+            (IsOf (numbers self.new) (table self.new) (pattern_view pattern.now)) }
+        ensures grown { Grown self.old self.new }
+        ensures same { (answer : F → Function Text) → ids answer self.new ≡ ids answer self.old }
     {
-        let put: Result<_, _> = self.known.insert(CowStr::Borrowed(id), entry);
-        let _ = put.unwrap();
+        Linked::link(alloc, &mut self.known, &mut self.classes, pattern)
     }
 
-    /// Gives a free id its meaning, in a map that has room for one more.
-    pub(crate) fn put_where_free(&mut self, id: &'s str, entry: Entry<'r, 's, F>)
-        requires room { 0 < room self.old }
-        requires own { IsTrue (is_named id.now entry) }
-        ensures after { (answer : F → Function Text) →
-            ids answer self.new ≡ add_free id.now (entry_of answer entry.entry)
-            (ids answer self.old) }
-        ensures room { room self.old ≤ room self.new + 1 }
+    /// Gives the id with this number its meaning, in place of what it had.
+    pub(crate) fn put(&mut self, number: u32, slot: Slot<'r, 's, F>)
+        requires own { (id : Text) × (numbers self.old id ≡ Some number)
+            × IsTrue (is_named id slot.entry) }
+        requires linked { IsLinked (numbers self.old) (table self.old) slot }
+        ensures numbers { (id : Text) → numbers self.new id ≡ numbers self.old id }
+        ensures table { table self.new ≡ table self.old }
+        ensures after { (id : Text) → numbers self.old id ≡ Some number →
+            (answer : F → Function Text) → ids answer self.new
+            ≡ set id (entry_of answer slot.entry.entry) (ids answer self.old) }
     {
-        if !self.is_known(id) {
-            self.put_in_room(id, entry);
+        self.known.fill(number, slot);
+    }
+
+    /// Gives the id with this number its meaning, where it names nothing yet.
+    pub(crate) fn put_where_free(&mut self, number: u32, slot: Slot<'r, 's, F>)
+        requires own { (id : Text) × (numbers self.old id ≡ Some number)
+            × IsTrue (is_named id slot.entry) }
+        requires linked { IsLinked (numbers self.old) (table self.old) slot }
+        ensures numbers { (id : Text) → numbers self.new id ≡ numbers self.old id }
+        ensures table { table self.new ≡ table self.old }
+        ensures after { (id : Text) → numbers self.old id ≡ Some number →
+            (answer : F → Function Text) → ids answer self.new
+            ≡ add_free id (entry_of answer slot.entry.entry) (ids answer self.old) }
+    {
+        if !self.is_filled(number) {
+            self.put(number, slot);
         }
     }
 }

@@ -12,7 +12,9 @@ mod ids;
 pub mod laws;
 pub mod memoizer;
 mod message;
+mod ready;
 pub mod resolver;
+mod slot;
 mod transform;
 pub mod types;
 

@@ -19,6 +19,8 @@ mod variants;
 
 pub use context::Context;
 pub use errors::{ReferenceKind, ResolverError};
-pub use found::{Found, Place, Target};
+pub use fluent_links::Place;
+pub use found::{Found, Target};
+pub use path::Step;
 pub use pattern::write_pattern;
 pub use scope::{Budget, Counts, Scope};

@@ -2,19 +2,21 @@
 
 ghost use Rattle.std.specs.Prelude.{◌≡◌, [], ◌∷◌, ◌++◌, map, IfOk, OnOk};
 ghost use Rattle.std.specs.Option.{option_map};
+ghost use Rattle.fluent_tree.specs.References.{in_arguments, in_call, in_inline, in_named, in_positional};
 ghost use Rattle.fluent_tree.specs.Tree.{function, variable, inlines_of, nameds_of};
 ghost use Rattle.fluent_tree.specs.View.{inline_view, arguments_view, call_of, named_view};
 ghost use Rattle.fluent_meaning.specs.Arguments.{get, set_all};
 ghost use Rattle.fluent_meaning.specs.Walk.{written, resolved, called, local_of, positional, named as named_arguments};
 ghost use Rattle.fluent_meaning.specs.Work.{with_work};
 ghost use Rattle.fluent_values.specs.Along.{Gave, Got, Wrote, mapping};
+ghost use Rattle.fluent_values.specs.Numbered.{IsPlaced};
 ghost use Rattle.fluent_values.specs.Status.{status, arguments_view as given_arguments};
 ghost use Rattle.fluent_values.specs.View.{value_view, named};
 ghost use Rattle.fluent_values.specs.Written.{writer, beside};
 
 use super::context::Context;
 use super::environment::Environment;
-use super::found::{Place, answer_of};
+use super::found::answer_of;
 use super::gathered::Gathered;
 use super::inline_expression::{report_lost, write_inline};
 use super::output::{Halt, Output};
@@ -22,6 +24,7 @@ use super::scope::Scope;
 use crate::args::FluentArgs;
 use crate::function::FluentFunction;
 use crate::types::{FluentType, FluentValue};
+use fluent_links::Place;
 use fluent_text::{Counting, unescape_unicode_to_string};
 use fluent_tree::ast::{CallArguments, Identifier, InlineExpression, NamedArgument};
 use std::alloc::{AllocError, Global};
@@ -35,8 +38,9 @@ pub(crate) fn resolve<'p, 's, W: Write, C: FluentType, F: FluentFunction<C>, B: 
     scope: &mut Scope<'_, 'p, '_, 's, '_, C, F, B>,
     w: &mut Counting<W>,
     inline: &'p InlineExpression<'s>,
-    place: Place,
+    place: Place<'p>,
 ) -> Result<FluentValue<'p, C>, Halt>
+    requires { IsPlaced scope.old.ids.now (in_inline (inline_view inline.now)) place }
     ensures { let at = status B.meant B.is_plain F.answer C.content in
         Gave result (value_view C.content)
         (λ b below env path. resolved with_work b below env path (inline_view inline.now))
@@ -69,17 +73,19 @@ fn resolve_function<'p, 's, W: Write, C: FluentType, F: FluentFunction<C>, B: Co
     inline: &InlineExpression<'_>,
     id: &Identifier<'_>,
     arguments: &'p CallArguments<'s>,
-    place: Place,
+    place: Place<'p>,
 ) -> Result<FluentValue<'p, C>, Halt>
-    requires { inline_view inline.now ≡ function id.now.name.now (arguments_view arguments.now) }
+    requires view { inline_view inline.now
+        ≡ function id.now.name.now (arguments_view arguments.now) }
+    requires placed { IsPlaced scope.old.ids.now (in_inline (inline_view inline.now)) place }
     ensures { let at = status B.meant B.is_plain F.answer C.content in
         Gave result (value_view C.content)
         (λ b below env path. resolved with_work b below env path (inline_view inline.now))
         (writer W.contents w.old) (writer W.contents w.new) (at scope.old) (at scope.new) }
 {
-    let (positional, named) = resolve_call(scope, w, arguments, place)?;
+    let (positional, named) = resolve_call(scope, w, arguments, place.after_one())?;
     let alloc = scope.bundle.allocator();
-    let answer = answer_of(scope.ids, alloc, id.name, &positional, &named)?;
+    let answer = answer_of(scope.ids, alloc, id.name, &positional, &named, place)?;
     Ok(answer.unwrap_or(FluentValue::Error))
 }
 
@@ -90,8 +96,9 @@ fn write_beside<'p, 's, W: Write, C: FluentType, F: FluentFunction<C>, B: Contex
     w: &mut Counting<W>,
     text: &mut String,
     inline: &'p InlineExpression<'s>,
-    place: Place,
+    place: Place<'p>,
 ) -> Result<(), Halt>
+    requires { IsPlaced scope.old.ids.now (in_inline (inline_view inline.now)) place }
     ensures { let at = status B.meant B.is_plain F.answer C.content in
         Wrote result
         (λ b below env path. written with_work b below env path (inline_view inline.now))
@@ -169,8 +176,10 @@ pub(crate) fn resolve_local<'p, 's, W: Write, C: FluentType, F: FluentFunction<C
     scope: &mut Scope<'_, 'p, '_, 's, '_, C, F, B>,
     w: &mut Counting<W>,
     arguments: &'p Option<CallArguments<'s>>,
-    place: Place,
+    place: Place<'p>,
 ) -> Result<FluentArgs<'p, C>, Halt>
+    requires { let call = call_of (option_map arguments_view arguments.now) in
+        IsPlaced scope.old.ids.now (in_call call) place }
     ensures { let at = status B.meant B.is_plain F.answer C.content in
         Gave result (named C.content)
         (λ b below env path. local_of with_work b below env path
@@ -192,15 +201,17 @@ pub(crate) fn resolve_call<'p, 's, W: Write, C: FluentType, F: FluentFunction<C>
     scope: &mut Scope<'_, 'p, '_, 's, '_, C, F, B>,
     w: &mut Counting<W>,
     arguments: &'p CallArguments<'s>,
-    place: Place,
+    place: Place<'p>,
 ) -> Result<(Vec<FluentValue<'p, C>>, FluentArgs<'p, C>), Halt>
+    requires { IsPlaced scope.old.ids.now (in_arguments (arguments_view arguments.now)) place }
     ensures { let at = status B.meant B.is_plain F.answer C.content in
         Gave result (λ v. (map (value_view C.content) v.0.items, named C.content v.1))
         (λ b below env path. called with_work b below env path (arguments_view arguments.now))
         (writer W.contents w.old) (writer W.contents w.new) (at scope.old) (at scope.new) }
 {
     let positional = resolve_positional(scope, w, &arguments.positional, place)?;
-    let named = resolve_named(scope, w, &arguments.named, place)?;
+    let behind = place.behind_positional(&arguments.positional);
+    let named = resolve_named(scope, w, &arguments.named, behind)?;
     Ok((positional, named))
 }
 
@@ -210,8 +221,10 @@ fn resolve_positional<'p, 's, W: Write, C: FluentType, F: FluentFunction<C>, B: 
     scope: &mut Scope<'_, 'p, '_, 's, '_, C, F, B>,
     w: &mut Counting<W>,
     arguments: &'p [InlineExpression<'s>],
-    place: Place,
+    place: Place<'p>,
 ) -> Result<Vec<FluentValue<'p, C>>, Halt>
+    requires { IsPlaced scope.old.ids.now
+        (in_positional (inlines_of (map inline_view arguments.now))) place }
     ensures { let at = status B.meant B.is_plain F.answer C.content in
         Gave result (λ v. map (value_view C.content) v.items)
         (λ b below env path. positional with_work b below env path
@@ -219,9 +232,11 @@ fn resolve_positional<'p, 's, W: Write, C: FluentType, F: FluentFunction<C>, B: 
         (writer W.contents w.old) (writer W.contents w.new) (at scope.old) (at scope.new) }
 {
     let mut values = Vec::new(scope.bundle.allocator());
+    let mut place = place;
     for argument in arguments {
         let value = resolve(scope, w, argument, place)?;
         push_value(&mut values, value)?;
+        place = place.behind_inline(argument);
     }
     Ok(values)
 }
@@ -245,8 +260,10 @@ fn resolve_named<'p, 's, W: Write, C: FluentType, F: FluentFunction<C>, B: Conte
     scope: &mut Scope<'_, 'p, '_, 's, '_, C, F, B>,
     w: &mut Counting<W>,
     arguments: &'p [NamedArgument<'s>],
-    place: Place,
+    place: Place<'p>,
 ) -> Result<FluentArgs<'p, C>, Halt>
+    requires { IsPlaced scope.old.ids.now (in_named (nameds_of (map named_view arguments.now)))
+        place }
     ensures { let at = status B.meant B.is_plain F.answer C.content in
         Gave result (named C.content)
         (λ b below env path n. mapping (λ m. set_all m [])
@@ -254,9 +271,11 @@ fn resolve_named<'p, 's, W: Write, C: FluentType, F: FluentFunction<C>, B: Conte
         (writer W.contents w.old) (writer W.contents w.new) (at scope.old) (at scope.new) }
 {
     let mut values = Gathered::new(scope.bundle.allocator(), arguments.len());
+    let mut place = place;
     for argument in arguments {
         let value = resolve(scope, w, &argument.value, place)?;
         values.set(CowStr::Borrowed(argument.name.name), value)?;
+        place = place.behind_inline(&argument.value);
     }
     let args = values.finish(scope.bundle.allocator())?;
     Ok(args)

@@ -2,17 +2,18 @@
 
 ghost use Rattle.std.specs.Prelude.{◌≡◌, map};
 ghost use Rattle.fluent_tree.specs.Fallback.{fallback, fallback_of};
+ghost use Rattle.fluent_tree.specs.References.{in_expression};
 ghost use Rattle.fluent_tree.specs.Tree.{select, variants_of};
 ghost use Rattle.fluent_tree.specs.View.{expression_view, inline_view, variant_view};
 ghost use Rattle.fluent_meaning.specs.Walk as walk;
 ghost use Rattle.fluent_meaning.specs.Walk.{is_bare};
 ghost use Rattle.fluent_meaning.specs.Work.{with_work};
 ghost use Rattle.fluent_values.specs.Along.{Wrote};
+ghost use Rattle.fluent_values.specs.Numbered.{IsPlaced};
 ghost use Rattle.fluent_values.specs.Status.{status};
 ghost use Rattle.fluent_values.specs.Written.{sink};
 
 use super::context::Context;
-use super::found::Place;
 use super::inline_expression::write_inline;
 use super::output::{Halt, Output};
 use super::pattern::write_pattern;
@@ -21,6 +22,7 @@ use super::variants::choose_variant;
 use crate::ResolverError;
 use crate::function::FluentFunction;
 use crate::types::FluentType;
+use fluent_links::Place;
 use fluent_tree::ast::{Expression, InlineExpression, Variant};
 use std::io::Write;
 
@@ -37,8 +39,9 @@ pub(crate) fn write_expression<
     scope: &mut Scope<'_, 'p, '_, 's, '_, C, F, B>,
     out: &mut Output<W>,
     expression: &'p Expression<'s>,
-    place: Place,
+    place: Place<'p>,
 ) -> Result<(), Halt>
+    requires { IsPlaced scope.old.ids.now (in_expression (expression_view expression.now)) place }
     ensures { let at = status B.meant B.is_plain F.answer C.content in
         Wrote result
         (λ b below env path. walk.expression with_work b below env path
@@ -60,15 +63,17 @@ fn write_select<'p, 's, W: Write, C: FluentType, F: FluentFunction<C>, B: Contex
     out: &mut Output<W>,
     selector: &'p InlineExpression<'s>,
     variants: &'p [Variant<'s>],
-    place: Place,
+    place: Place<'p>,
 ) -> Result<(), Halt>
+    requires { let e = select (inline_view selector.now) (variants_of (map variant_view variants.now)) in
+        IsPlaced scope.old.ids.now (in_expression e) place }
     ensures { let at = status B.meant B.is_plain F.answer C.content in
         let e = select (inline_view selector.now) (variants_of (map variant_view variants.now)) in
         Wrote result (λ b below env path. walk.expression with_work b below env path e)
         (sink W.contents out.old) (sink W.contents out.new) (at scope.old) (at scope.new) }
 {
     match choose_variant(scope, out.writer, selector, variants, place)? {
-        Some(variant) => write_pattern(scope, out, variant, place),
+        Some(chosen) => write_pattern(scope, out, chosen.pattern, chosen.place),
         None => {
             scope.add_error(ResolverError::MissingDefault)?;
             Ok(())

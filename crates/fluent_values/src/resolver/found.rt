@@ -1,33 +1,34 @@
 //! What references lead to.
 
-ghost use Rattle.std.specs.Prelude.{◌≡◌, IfOk, map};
+ghost use Rattle.std.specs.Prelude.{◌≡◌, ◌∷◌, [], IfOk, List, Option, ℕ, drop, map};
 ghost use Rattle.std.specs.Option.{option_map};
-ghost use Rattle.fluent_tree.specs.Tree.{Text};
-ghost use Rattle.fluent_tree.specs.View.{attribute_of, attribute_view, value_view as optional_view};
+ghost use Rattle.fluent_tree.specs.References.{a_function, a_message, a_term};
+ghost use Rattle.fluent_tree.specs.Tree.{Text, Pattern as Content};
+ghost use Rattle.fluent_tree.specs.View.{attribute_of, attribute_view, pattern_view, value_view as optional_view};
 ghost use Rattle.fluent_meaning.specs.Arguments.{get};
 ghost use Rattle.fluent_meaning.specs.Bundle.{Function, message_target, term_target, value_target, first_of, function_found};
 ghost use Rattle.fluent_values.specs.EntryView.{ids, ids as ids_of};
-ghost use Rattle.fluent_values.specs.FoundView.{found_view};
+ghost use Rattle.fluent_values.specs.FoundView.{IsLed, IsLedBy, IsStoredBy, OfPattern, OfPatterns, OfValue, found_view};
+ghost use Rattle.fluent_values.specs.Numbered.{IsPlaced};
+ghost use Rattle.fluent_values.specs.Trail.{content_at};
 ghost use Rattle.fluent_values.specs.View.{value_view, named};
 
+use super::path::Step;
 use crate::args::FluentArgs;
 use crate::builtins::NUMBER;
 use crate::entry::Entry;
 use crate::function::FluentFunction;
 use crate::ids::Ids;
 use crate::types::{FluentType, FluentValue};
+use fluent_links::{Linked, Place};
 use fluent_tree::ast::{Attribute, Identifier, Pattern};
 use std::alloc::{AllocError, Global};
 
-/// Where a part of a pattern stands, for finding what it refers to: by name.
-#[derive(Clone, Copy, Drop)]
-pub struct Place;
-
-/// A pattern that a reference leads to.
+/// A pattern that a reference leads to, and where it begins.
 #[derive(Clone, Copy, Drop)]
 pub struct Target<'p, 's> {
-    pub pattern: &'p Pattern<'s>,
-    pub place: Place,
+    pub step: Step<'p, 's>,
+    pub place: Place<'p>,
 }
 
 /// What a reference leads to: nothing, a message without a value, or a pattern.
@@ -44,16 +45,21 @@ impl<'r, 's, F> Ids<'r, 's, F> {
         &'p self,
         id: &str,
         attribute: &Option<Identifier<'_>>,
-        _place: Place,
+        place: Place<'_>,
     ) -> Found<'p, 's>
-        ensures { (answer : F → Function Text) →
+        requires { IsPlaced self.now (a_message id.now ∷ []) place }
+        ensures content { (answer : F → Function Text) →
             found_view result ≡ message_target (get id.now (ids answer self.now))
             (attribute_of attribute.now) }
+        ensures led { IsLed self.now result }
     {
-        match self.named(id) {
-            Some(Entry::Message(message)) => match attribute {
-                None => value_of(&message.value),
-                Some(name) => first_of(&message.attributes, name.name),
+        let Some(slot) = self.slot(id, place.first()) else {
+            return Found::Unknown;
+        };
+        match &slot.entry {
+            Entry::Message(message) => match attribute {
+                None => value_of(&message.value, &slot.value),
+                Some(name) => first_of(&message.attributes, &slot.attributes, name.name),
             },
             _ => Found::Unknown,
         }
@@ -64,21 +70,47 @@ impl<'r, 's, F> Ids<'r, 's, F> {
         &'p self,
         id: &str,
         attribute: &Option<Identifier<'_>>,
-        _place: Place,
+        place: Place<'_>,
     ) -> Found<'p, 's>
-        ensures { (answer : F → Function Text) →
+        requires { IsPlaced self.now (a_term id.now ∷ []) place }
+        ensures content { (answer : F → Function Text) →
             found_view result ≡ term_target (get id.now (ids answer self.now))
             (attribute_of attribute.now) }
+        ensures led { IsLed self.now result }
     {
-        match self.named(id) {
-            Some(Entry::Term(term)) => match attribute {
-                None => Found::Pattern(Target {
-                    pattern: &term.value,
-                    place: Place,
-                }),
-                Some(name) => first_of(&term.attributes, name.name),
+        let Some(slot) = self.slot(id, place.first()) else {
+            return Found::Unknown;
+        };
+        match &slot.entry {
+            Entry::Term(term) => match attribute {
+                None => Found::Pattern(Target::of(&term.value, slot.value.as_ref())),
+                Some(name) => first_of(&term.attributes, &slot.attributes, name.name),
             },
             _ => Found::Unknown,
+        }
+    }
+}
+
+impl<'p, 's> Target<'p, 's> {
+    /// A pattern with what is kept of it. Of one of which nothing is kept, ids are looked up.
+    fn of(pattern: &'p Pattern<'s>, linked: Option<&'p Linked>) -> Self
+        ensures content { content_at result.step ≡ pattern_view pattern.now }
+        ensures stored { (number : Text → Option ℕ) (table : List Content) →
+            OfPattern number table (pattern_view pattern.now) linked.entry →
+            IsStoredBy number table result }
+    {
+        match linked {
+            Some(linked) => Target {
+                step: Step {
+                    pattern,
+                    class: Some(linked.class()),
+                },
+                place: linked.place(),
+            },
+            None => Target {
+                step: Step::own(pattern),
+                place: Place::by_name(),
+            },
         }
     }
 }
@@ -90,44 +122,64 @@ pub(crate) fn answer_of<'a, C: FluentType, F: FluentFunction<C>>(
     id: &str,
     positional: &[FluentValue<'a, C>],
     arguments: &FluentArgs<'a, C>,
+    place: Place<'_>,
 ) -> Result<Option<FluentValue<'a, C>>, AllocError>
+    requires { IsPlaced ids.now (a_function id.now ∷ []) place }
     ensures { IfOk result (λ answer.
         option_map (value_view C.content) answer
         ≡ option_map
         (λ f. f (map (value_view C.content) positional.now) (named C.content arguments.now))
         (function_found (get id.now (ids_of F.answer ids.now)))) }
 {
-    match ids.named(id) {
-        Some(Entry::Function(function)) => Ok(Some(function.call(alloc, positional, arguments)?)),
-        Some(Entry::Number) => Ok(Some(NUMBER(alloc, positional, arguments)?)),
+    let Some(slot) = ids.slot(id, place.first()) else {
+        return Ok(None);
+    };
+    match &slot.entry {
+        Entry::Function(function) => Ok(Some(function.call(alloc, positional, arguments)?)),
+        Entry::Number => Ok(Some(NUMBER(alloc, positional, arguments)?)),
         _ => Ok(None),
     }
 }
 
 /// A message's value, if it has one.
-fn value_of<'p, 's>(value: &'p Option<Pattern<'s>>) -> Found<'p, 's>
-    ensures { found_view result ≡ value_target (optional_view value.now) }
+fn value_of<'p, 's>(value: &'p Option<Pattern<'s>>, linked: &'p Option<Linked>) -> Found<'p, 's>
+    ensures content { found_view result ≡ value_target (optional_view value.now) }
+    ensures led { (number : Text → Option ℕ) (table : List Content) →
+        OfValue number table (optional_view value.now) linked.now → IsLedBy number table result }
 {
     match value {
         None => Found::WithoutValue,
-        Some(pattern) => Found::Pattern(Target {
-            pattern,
-            place: Place,
-        }),
+        Some(pattern) => Found::Pattern(Target::of(pattern, linked.as_ref())),
     }
 }
 
 /// The first attribute of a name.
-fn first_of<'p, 's>(attributes: &'p [Attribute<'s>], name: &str) -> Found<'p, 's>
-    ensures { found_view result ≡ first_of name.now (map attribute_view attributes.now) }
+fn first_of<'p, 's>(
+    attributes: &'p [Attribute<'s>],
+    linked: &'p [Linked],
+    name: &str,
+) -> Found<'p, 's>
+    ensures content { found_view result ≡ first_of name.now (map attribute_view attributes.now) }
+    ensures led { (number : Text → Option ℕ) (table : List Content) →
+        OfPatterns number table (map (λ a. pattern_view a.value) attributes.now) linked.now →
+        IsLedBy number table result }
 {
+    let mut kept = linked;
     for attribute in attributes {
         if attribute.id.name == name {
-            return Found::Pattern(Target {
-                pattern: &attribute.value,
-                place: Place,
-            });
+            return Found::Pattern(Target::of(&attribute.value, kept.first()));
         }
+        kept = behind_first(kept);
     }
     Found::Unknown
+}
+
+/// All but the first.
+fn behind_first(kept: &[Linked]) -> &[Linked]
+    ensures { result.now ≡ drop 1 kept.now }
+{
+    match kept.split_first() {
+        Some((_, rest)) => rest,
+        None => kept,
+    }
 }

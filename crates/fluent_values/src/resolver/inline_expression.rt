@@ -3,8 +3,9 @@
 ghost use Rattle.std.specs.Prelude.{◌≡◌, ◌<◌, ◌∷◌, [], map};
 ghost use Rattle.std.specs.Option.{option_map};
 ghost use Rattle.fluent_text.specs.Escapes.{unescaped};
+ghost use Rattle.fluent_tree.specs.References.{a_function, in_inline};
 ghost use Rattle.fluent_tree.specs.Tree.{function, variable, term};
-ghost use Rattle.fluent_tree.specs.View.{inline_view, attribute_of, call_of, arguments_view, pattern_view};
+ghost use Rattle.fluent_tree.specs.View.{inline_view, attribute_of, call_of, arguments_view};
 ghost use Rattle.fluent_meaning.specs.Arguments.{get};
 ghost use Rattle.fluent_meaning.specs.Bundle.{function_found, shown};
 ghost use Rattle.fluent_meaning.specs.Value.{try_number};
@@ -12,7 +13,9 @@ ghost use Rattle.fluent_meaning.specs.Errors.{resolver_error, no_value};
 ghost use Rattle.fluent_meaning.specs.Walk.{written, follow, go, is_on, loses, function_text};
 ghost use Rattle.fluent_meaning.specs.Work.{with_work};
 ghost use Rattle.fluent_values.specs.Along.{Wrote, Added, lost_of, shown_answer};
-ghost use Rattle.fluent_values.specs.FoundView.{found_view};
+ghost use Rattle.fluent_values.specs.FoundView.{IsLed, IsStored, found_view};
+ghost use Rattle.fluent_values.specs.Trail.{content_at};
+ghost use Rattle.fluent_values.specs.Numbered.{IsPlaced};
 ghost use Rattle.fluent_values.specs.Sizes.{size, bound, IsBelow};
 ghost use Rattle.fluent_values.specs.Status.{status};
 ghost use Rattle.fluent_values.specs.View.{value_view, named};
@@ -23,7 +26,7 @@ use super::context::Context;
 use super::environment::Environment;
 use super::expression::write_expression;
 use super::fallback::{put_fallback, put_id_in_braces, put_in_braces};
-use super::found::{Found, Place, Target, answer_of};
+use super::found::{Found, Target, answer_of};
 use super::output::{Halt, Output, put_text, set_aside};
 use super::pattern::write_pattern;
 use super::scope::Scope;
@@ -32,6 +35,7 @@ use crate::ResolverError;
 use crate::args::FluentArgs;
 use crate::function::FluentFunction;
 use crate::types::{FluentType, FluentValue};
+use fluent_links::Place;
 use fluent_meaning::laws::budgets_pass_through;
 use fluent_text::{unescape_unicode, unescape_unicode_to_string};
 use fluent_tree::ast::{CallArguments, Identifier, InlineExpression};
@@ -46,8 +50,9 @@ pub(crate) fn write_inline<'p, 's, W: Write, C: FluentType, F: FluentFunction<C>
     scope: &mut Scope<'_, 'p, '_, 's, '_, C, F, B>,
     out: &mut Output<W>,
     inline: &'p InlineExpression<'s>,
-    place: Place,
+    place: Place<'p>,
 ) -> Result<(), Halt>
+    requires { IsPlaced scope.old.ids.now (in_inline (inline_view inline.now)) place }
     ensures { let at = status B.meant B.is_plain F.answer C.content in
         Wrote result
         (λ b below env path. written with_work b below env path (inline_view inline.now))
@@ -111,16 +116,18 @@ fn write_function<'p, 's, W: Write, C: FluentType, F: FluentFunction<C>, B: Cont
     inline: &'p InlineExpression<'s>,
     id: &Identifier<'_>,
     arguments: &'p CallArguments<'s>,
-    place: Place,
+    place: Place<'p>,
 ) -> Result<(), Halt>
-    requires { inline_view inline.now ≡ function id.now.name.now (arguments_view arguments.now) }
+    requires view { inline_view inline.now
+        ≡ function id.now.name.now (arguments_view arguments.now) }
+    requires placed { IsPlaced scope.old.ids.now (in_inline (inline_view inline.now)) place }
     ensures { let at = status B.meant B.is_plain F.answer C.content in
         Wrote result
         (λ b below env path. written with_work b below env path (inline_view inline.now))
         (sink W.contents out.old) (sink W.contents out.new) (at scope.old) (at scope.new) }
 {
-    let (positional, named) = resolve_call(scope, out.writer, arguments, place)?;
-    put_answer(scope, out, inline, id, &positional, &named)
+    let (positional, named) = resolve_call(scope, out.writer, arguments, place.after_one())?;
+    put_answer(scope, out, inline, id, &positional, &named, place)
 }
 
 /// Writes a term's pattern, in the environment that its arguments make.
@@ -132,17 +139,18 @@ fn write_term<'p, 's, W: Write, C: FluentType, F: FluentFunction<C>, B: Context<
     id: &Identifier<'_>,
     attribute: &Option<Identifier<'_>>,
     arguments: &'p Option<CallArguments<'s>>,
-    place: Place,
+    place: Place<'p>,
 ) -> Result<(), Halt>
-    requires { inline_view inline.now
+    requires view { inline_view inline.now
         ≡ term id.now.name.now (attribute_of attribute.now)
         (call_of (option_map arguments_view arguments.now)) }
+    requires placed { IsPlaced scope.old.ids.now (in_inline (inline_view inline.now)) place }
     ensures { let at = status B.meant B.is_plain F.answer C.content in
         Wrote result
         (λ b below env path. written with_work b below env path (inline_view inline.now))
         (sink W.contents out.old) (sink W.contents out.new) (at scope.old) (at scope.new) }
 {
-    let local = resolve_local(scope, out.writer, arguments, place)?;
+    let local = resolve_local(scope, out.writer, arguments, place.after_one())?;
     let found = scope.ids.term(id.name, attribute, place);
     let outer = mem::replace(&mut scope.environment, Environment::Local(local));
     let written = follow(scope, out, inline, id, found);
@@ -159,8 +167,9 @@ fn follow<'p, 's, W: Write, C: FluentType, F: FluentFunction<C>, B: Context<C>>(
     id: &Identifier<'_>,
     found: Found<'p, 's>,
 ) -> Result<(), Halt>
-    requires { IsBelow (bound (status B.meant B.is_plain F.answer C.content scope.old).bundle)
+    requires below { IsBelow (bound (status B.meant B.is_plain F.answer C.content scope.old).bundle)
         (found_view found) }
+    requires led { IsLed scope.old.ids.now found }
     ensures { let at = status B.meant B.is_plain F.answer C.content in
         Wrote result
         (λ b below env path. follow with_work b below env env path
@@ -185,22 +194,23 @@ fn go<'p, 's, W: Write, C: FluentType, F: FluentFunction<C>, B: Context<C>>(
     inline: &InlineExpression<'_>,
     target: Target<'p, 's>,
 ) -> Result<(), Halt>
-    requires { size (pattern_view target.pattern.now)
+    requires size { size (content_at target.step)
         < bound (status B.meant B.is_plain F.answer C.content scope.old).bundle }
+    requires stored { IsStored scope.old.ids.now target }
     ensures { let at = status B.meant B.is_plain F.answer C.content in
         Wrote result
         (λ b below env path. go with_work b below env
-        (is_on path (pattern_view target.entry.pattern.now)) env path (inline_view inline.now)
-        (pattern_view target.entry.pattern.now))
+        (is_on path (content_at target.entry.step)) env path (inline_view inline.now)
+        (content_at target.entry.step))
         (sink W.contents out.old) (sink W.contents out.new) (at scope.old) (at scope.new) }
 {
-    if scope.path.is_on(target.pattern) {
+    if scope.is_on(&target.step) {
         scope.add_error(ResolverError::Cyclic)?;
         return put_in_braces(out, inline);
     }
     budgets_pass_through::<LinkedList<u8>>();
-    scope.enter(target.pattern)?;
-    let written = write_pattern(scope, out, target.pattern, target.place);
+    scope.enter(target.step)?;
+    let written = write_pattern(scope, out, target.step.pattern, target.place);
     scope.leave();
     written
 }
@@ -213,7 +223,9 @@ fn put_answer<'p, W: Write, C: FluentType, F: FluentFunction<C>, B: Context<C>>(
     id: &Identifier<'_>,
     positional: &[FluentValue<'p, C>],
     arguments: &FluentArgs<'p, C>,
+    place: Place<'p>,
 ) -> Result<(), Halt>
+    requires { IsPlaced scope.old.ids.now (a_function id.now.name.now ∷ []) place }
     ensures { let at = status B.meant B.is_plain F.answer C.content in
         Wrote result
         (λ b below env path. function_text with_work b below env (inline_view inline.now)
@@ -227,6 +239,7 @@ fn put_answer<'p, W: Write, C: FluentType, F: FluentFunction<C>, B: Context<C>>(
         id.name,
         positional,
         arguments,
+        place,
     )? {
         None => lose(scope, out, inline),
         Some(answer) => put_shown(scope.bundle, out, inline, &answer),

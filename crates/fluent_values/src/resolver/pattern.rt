@@ -2,12 +2,14 @@
 
 ghost use Rattle.std.specs.Prelude.{◌≡◌, ◌≢◌, Err, false, IsTrue};
 ghost use Rattle.fluent_tree.specs.Fallback.{fallback_of};
+ghost use Rattle.fluent_tree.specs.References.{in_expression, references};
 ghost use Rattle.fluent_tree.specs.Tree.{placeable};
 ghost use Rattle.fluent_tree.specs.View.{expression_view, pattern_view};
 ghost use Rattle.fluent_meaning.specs.Meaning.{first_mark, last_mark, ending, struck};
 ghost use Rattle.fluent_meaning.specs.Walk.{has_one, is_marked, elements, part, whole};
 ghost use Rattle.fluent_meaning.specs.Work.{with_work};
 ghost use Rattle.fluent_values.specs.Along.{Wrote};
+ghost use Rattle.fluent_values.specs.Numbered.{IsPlaced};
 ghost use Rattle.fluent_values.specs.Status.{budget_view, status};
 ghost use Rattle.fluent_values.specs.Texts.{IsText};
 ghost use Rattle.fluent_values.specs.Written.{sink, Took};
@@ -15,12 +17,12 @@ ghost use Rattle.fluent_values.specs.Written.{sink, Took};
 use super::context::Context;
 use super::expression::{is_bare, shown_part, write_expression};
 use super::fallback::put_in_braces;
-use super::found::Place;
 use super::output::{Halt, Output, put_text};
 use super::scope::{Budget, Scope};
 use crate::ResolverError;
 use crate::function::FluentFunction;
 use crate::types::FluentType;
+use fluent_links::Place;
 use fluent_tree::ast::{Expression, Pattern, PatternElement};
 use std::io::Write;
 
@@ -31,8 +33,9 @@ pub fn write_pattern<'p, 's, W: Write, C: FluentType, F: FluentFunction<C>, B: C
     scope: &mut Scope<'_, 'p, '_, 's, '_, C, F, B>,
     out: &mut Output<W>,
     pattern: &'p Pattern<'s>,
-    place: Place,
+    place: Place<'p>,
 ) -> Result<(), Halt>
+    requires { IsPlaced scope.old.ids.now (references (pattern_view pattern.now)) place }
     ensures wrote { let at = status B.meant B.is_plain F.answer C.content in
         Wrote result
         (λ b below env path. whole with_work b below env path (pattern_view pattern.now))
@@ -52,8 +55,9 @@ fn write_elements<'p, 's, W: Write, C: FluentType, F: FluentFunction<C>, B: Cont
     scope: &mut Scope<'_, 'p, '_, 's, '_, C, F, B>,
     out: &mut Output<W>,
     pattern: &'p Pattern<'s>,
-    place: Place,
+    place: Place<'p>,
 ) -> Result<(), Halt>
+    requires { IsPlaced scope.old.ids.now (references (pattern_view pattern.now)) place }
     ensures wrote { let at = status B.meant B.is_plain F.answer C.content in
         Wrote result
         (λ b below env path. elements with_work b below env path
@@ -63,6 +67,7 @@ fn write_elements<'p, 's, W: Write, C: FluentType, F: FluentFunction<C>, B: Cont
         → out.old.is_buffered ≡ false → result ≢ Err Halt.Memory }
 {
     let one = has_one(pattern);
+    let mut place = place;
     for element in &pattern.elements {
         if scope.dirty() {
             break;
@@ -73,6 +78,7 @@ fn write_elements<'p, 's, W: Write, C: FluentType, F: FluentFunction<C>, B: Cont
                 scope, out, one, expression, place,
             )?,
         }
+        place = place.behind_element(element);
     }
     Ok(())
 }
@@ -106,9 +112,11 @@ fn write_placeable<'p, 's, W: Write, C: FluentType, F: FluentFunction<C>, B: Con
     out: &mut Output<W>,
     one: bool,
     expression: &'p Expression<'s>,
-    place: Place,
+    place: Place<'p>,
 ) -> Result<(), Halt>
-    requires { budget_view scope.old.budget ≢ struck }
+    requires left { budget_view scope.old.budget ≢ struck }
+    requires placed { IsPlaced scope.old.ids.now (in_expression (expression_view expression.now))
+        place }
     ensures { let at = status B.meant B.is_plain F.answer C.content in
         Wrote result
         (λ b below env path. part with_work b below env path one

@@ -1,18 +1,12 @@
 //! The state of one formatting call.
 
-ghost use Rattle.std.specs.Prelude.{◌≡◌, ◌↔◌, ◌∷◌, ◌++◌, [], OnOk, OnErr, IfNone, IsOk, IsTrue, None, Some, map};
-ghost use Rattle.std.specs.Option.{option_map};
-ghost use Rattle.fluent_meaning.specs.Errors.{resolver_error};
-ghost use Rattle.fluent_meaning.specs.Meaning.{struck};
-ghost use Rattle.fluent_values.specs.View.{error_view, resolver_error_view};
-ghost use Rattle.fluent_values.specs.EntryView.{ids as ids_of};
-ghost use Rattle.fluent_values.specs.Status.{arguments_view, budget_view, status, with_ids};
-ghost use Rattle.fluent_values.specs.Along.{can_open, Added, Takes, Begins, Starts, Ends, Enters, Leaves};
-ghost use Rattle.fluent_tree.specs.View.{pattern_view};
+ghost use Rattle.fluent_values.specs.Numbered.{table};
+ghost use Rattle.fluent_values.specs.Trail.{AreClassed, content_set, trail};
+ghost use Rattle.std.proofs.Props.{props};
 
 use super::context::Context;
 use super::environment::Environment;
-use super::path::Path;
+use super::path::{Path, Step};
 use crate::function::FluentFunction;
 use crate::ids::Ids;
 use crate::types::FluentType;
@@ -46,6 +40,8 @@ pub struct Scope<'errors, 'p, 'r, 's, 'args, C, F, B> {
     pub(crate) path: Path<'p, 's>,
     pub(crate) budget: Budget,
     pub(crate) counts: Counts,
+    /// The numbers on the path are those of its patterns.
+    ghost classed: { AreClassed (table ids.now) (trail path) } by { Prim.hlevel (props, content_set) },
 }
 
 impl<'errors, 'p, 'r, 's, 'args, C: FluentType, F: FluentFunction<C>, B: Context<C>> Scope<
@@ -58,6 +54,18 @@ impl<'errors, 'p, 'r, 's, 'args, C: FluentType, F: FluentFunction<C>, B: Context
     F,
     B,
 > {
+    ghost use Rattle.std.specs.Prelude.{◌≡◌, ◌↔◌, ◌∷◌, ◌++◌, [], OnOk, OnErr, IfNone, IsOk, IsTrue, None, Some, map};
+    ghost use Rattle.std.specs.Option.{option_map};
+    ghost use Rattle.fluent_meaning.specs.Errors.{resolver_error};
+    ghost use Rattle.fluent_meaning.specs.Meaning.{struck};
+    ghost use Rattle.fluent_values.specs.View.{error_view, resolver_error_view};
+    ghost use Rattle.fluent_values.specs.EntryView.{ids as ids_of};
+    ghost use Rattle.fluent_values.specs.Status.{arguments_view, budget_view, status, with_ids};
+    ghost use Rattle.fluent_meaning.specs.Walk.{is_on};
+    ghost use Rattle.fluent_values.specs.Along.{can_open, Added, Takes, Begins, Starts, Ends, Enters, Leaves};
+    ghost use Rattle.fluent_tree.specs.View.{pattern_view};
+    ghost use Rattle.fluent_values.specs.Trail.{IsClassed, content_at, on_path};
+
     /// The state in which a call begins, with the whole budget of its bundle, whose ids it is handed too. Errors
     /// are added at the end of the list, if there is one. Without arguments each variable is missing. It takes no
     /// memory yet.
@@ -177,6 +185,15 @@ impl<'errors, 'p, 'r, 's, 'args, C: FluentType, F: FluentFunction<C>, B: Context
         }
     }
 
+    /// Whether a pattern has the content of one that is being written.
+    pub(crate) fn is_on(&self, step: &Step<'_, 's>) -> bool
+        requires { IsClassed (table self.now.ids.now) step.now }
+        ensures { let at = status B.meant B.is_plain F.answer C.content self.now in
+            result ≡ is_on (on_path at.path) (content_at step.now) }
+    {
+        self.path.is_on(step)
+    }
+
     /// Puts a pattern on the path where that is empty, counts the pattern, and says whether it put it there.
     pub(crate) fn begin(&mut self, pattern: &'p Pattern<'s>) -> bool
         ensures { let at = status B.meant B.is_plain F.answer C.content in
@@ -202,11 +219,12 @@ impl<'errors, 'p, 'r, 's, 'args, C: FluentType, F: FluentFunction<C>, B: Context
     /// # Errors
     ///
     /// Memory was refused: the path is as before.
-    pub(crate) fn enter(&mut self, pattern: &'p Pattern<'s>) -> Result<(), AllocError>
+    pub(crate) fn enter(&mut self, step: Step<'p, 's>) -> Result<(), AllocError>
+        requires { IsClassed (table self.old.ids.now) step }
         ensures { let at = status B.meant B.is_plain F.answer C.content in
-            Enters result pattern.entry (at self.old) (at self.new) }
+            Enters result step.entry (at self.old) (at self.new) }
     {
-        self.path.enter(pattern)
+        self.path.enter(step)
     }
 
     /// Takes the last pattern off the path.

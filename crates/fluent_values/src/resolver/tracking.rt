@@ -14,15 +14,16 @@ use super::arguments::resolve_call;
 use super::context::Context;
 use super::expression::write_expression;
 use super::fallback::put_in_braces;
-use super::found::Place;
 use super::inline_expression::lose;
 use super::output::{Halt, Output, with_error};
+use super::path::Step;
 use super::pattern::{put_ending, write_pattern};
 use super::scope::Scope;
 use crate::ResolverError;
 use crate::args::FluentArgs;
 use crate::function::FluentFunction;
 use crate::types::{FluentType, FluentValue};
+use fluent_links::Place;
 use fluent_meaning::laws::{budgets_pass_through, calls_pass_through};
 use fluent_text::{Counting, WriteFault};
 use fluent_tree::ast::{CallArguments, Expression, InlineExpression, Pattern};
@@ -168,7 +169,7 @@ impl<'p, 's, C: FluentType, F: FluentFunction<C>, B: Context<C>> Scope<
             return Ok((Vec::new(alloc), FluentArgs::new(alloc)));
         };
         let mut unused = Counting::new(Vec::new(alloc));
-        match resolve_call(self, &mut unused, arguments, Place) {
+        match resolve_call(self, &mut unused, arguments, Place::by_name()) {
             Ok(values) => Ok(values),
             Err(_) => Err(AllocError),
         }
@@ -186,13 +187,14 @@ fn write_tracked<'p, 's, W: Write, C: FluentType, F: FluentFunction<C>, B: Conte
         Wrote result (tracks (pattern_view pattern.now) (inline_view inline.now))
         (sink W.contents out.old) (sink W.contents out.new) (at scope.old) (at scope.new) }
 {
-    if scope.path.is_on(pattern) {
+    let step = Step::own(pattern);
+    if scope.is_on(&step) {
         scope.add_error(ResolverError::Cyclic)?;
         return put_in_braces(out, inline);
     }
     budgets_pass_through::<LinkedList<u8>>();
-    scope.enter(pattern)?;
-    let written = write_pattern(scope, out, pattern, Place);
+    scope.enter(step)?;
+    let written = write_pattern(scope, out, pattern, Place::by_name());
     scope.leave();
     written
 }
@@ -224,6 +226,6 @@ fn write_closed<'p, 's, W: Write, C: FluentType, F: FluentFunction<C>, B: Contex
         Wrote result (closes (expression_view expression.now))
         (sink W.contents out.old) (sink W.contents out.new) (at scope.old) (at scope.new) }
 {
-    write_expression(scope, out, expression, Place)?;
+    write_expression(scope, out, expression, Place::by_name())?;
     put_ending(out, expression, scope.budget)
 }

@@ -1,4 +1,4 @@
-use Rattle.std.proofs.Common.{rules, ◌≡◌, ◌++◌, ◌∙◌, [], ◌∷◌, false, ap, is_ok, List, Option, Result, subst, sym, refl}
+use Rattle.std.proofs.Common.{◌≡◌, ◌++◌, ◌∙◌, [], ◌∷◌, false, ap, is_ok, List, Option, Result, subst, sym, refl}
 use Rattle.fluent_tree.specs.Tree.{Text, Entry}
 use Rattle.fluent_meaning.specs.Bundle.{Bundle}
 use Rattle.fluent_meaning.specs.Errors.{Error}
@@ -11,8 +11,8 @@ use Rattle.fluent_command.specs.WordsView.{asked_view}
 use Rattle.fluent_command.specs.PluralsView.{plurals_view}
 use Rattle.fluent_command.specs.Program.{adding_errors, arguments_of, both_adding_errors, bundle_of, run_chain, run_both}
 use Rattle.fluent_command.specs.Far.{Added, Took}
-use Rattle.fluent_command.proofs.Adding.{recast, added_then, added_short, first_of_ok}
-use Rattle.fluent_command.proofs.Taking.{took_none, took_recast}
+use Rattle.fluent_command.proofs.Adding.{recast, added_then, added_short, first_of_ok, not_ok}
+use Rattle.fluent_command.proofs.Taking.{faulted_on, took_none, took_recast}
 use Rattle.fluent_command.proofs.show.show_both.Goals as goal
 
 abbrev chain_errors : Asked → Bundle Text → Bundle Text → List Error
@@ -28,7 +28,7 @@ over r asked plurals es fs a b old new first second h =
 
 pub returns-in_err-write_chain-clause-errors : goal.returns-in_err-write_chain-clause-errors
 returns-in_err-write_chain-clause-errors g c =
-    let faulted : is_ok c.from_residual-in_err-write_chain.result ≡ false = search rules in
+    let faulted : is_ok c.from_residual-in_err-write_chain.result ≡ false = not_ok c.from_residual-in_err-write_chain.result c.from_residual-in_err-write_chain.ensures.0 in
     over c.from_residual-in_err-write_chain.result (asked_view c.args.request) (plurals_view c.args.plurals) (entries_of c.args.first.now) (entries_of c.args.second.now) _ _ _ _
     c.in_ok-first.ensures.bundle c.in_ok-second.ensures.bundle
     (recast c.write_chain.result _ _ _ _ _ (faulted ∙ sym (ap is_ok c.in_err-write_chain.was)) refl
@@ -47,7 +47,7 @@ returns-clause-errors g c =
 
 pub returns-in_err-write_chain-clause-first : goal.returns-in_err-write_chain-clause-first
 returns-in_err-write_chain-clause-first g c =
-    let faulted : is_ok c.from_residual-in_err-write_chain.result ≡ false = search rules in
+    let faulted : is_ok c.from_residual-in_err-write_chain.result ≡ false = not_ok c.from_residual-in_err-write_chain.result c.from_residual-in_err-write_chain.ensures.0 in
     first_of_ok c.bundle_of-2.result c.from_residual-in_err-write_chain.result _ _ _ _ _ _ c.in_ok-second.was
     (added_then c.bundle_of.result c.bundle_of-2.result _ _ _ _ _ _ c.in_ok-first.was c.bundle_of.ensures.errors c.bundle_of-2.ensures.errors)
     (recast c.write_chain.result _ _ _ _ _ (faulted ∙ sym (ap is_ok c.in_err-write_chain.was)) refl c.write_chain.ensures.errors)
@@ -62,7 +62,7 @@ over_text r asked plurals es fs a b old new first second h =
 
 pub returns-in_err-first-clause-errors : goal.returns-in_err-first-clause-errors
 returns-in_err-first-clause-errors g c =
-    let faulted : is_ok c.from_residual.result ≡ false = search rules in
+    let faulted : is_ok c.from_residual.result ≡ false = not_ok c.from_residual.result c.from_residual.ensures.0 in
     let asked = asked_view c.args.request in
     let plurals = plurals_view c.args.plurals in
     let es = entries_of c.args.first.now in
@@ -72,7 +72,7 @@ returns-in_err-first-clause-errors g c =
 
 pub returns-in_err-second-clause-errors : goal.returns-in_err-second-clause-errors
 returns-in_err-second-clause-errors g c =
-    let faulted : is_ok c.from_residual-in_err-second.result ≡ false = search rules in
+    let faulted : is_ok c.from_residual-in_err-second.result ≡ false = not_ok c.from_residual-in_err-second.result c.from_residual-in_err-second.ensures.0 in
     let asked = asked_view c.args.request in
     let plurals = plurals_view c.args.plurals in
     let es = entries_of c.args.first.now in
@@ -82,12 +82,12 @@ returns-in_err-second-clause-errors g c =
 
 pub returns-in_err-second-clause-text : goal.returns-in_err-second-clause-text
 returns-in_err-second-clause-text g c =
-    let faulted : is_ok c.from_residual-in_err-second.result ≡ false = search rules in
+    let faulted : is_ok c.from_residual-in_err-second.result ≡ false = not_ok c.from_residual-in_err-second.result c.from_residual-in_err-second.ensures.0 in
     took_none c.from_residual-in_err-second.result _ _ faulted
 
 pub returns-in_err-write_chain-clause-text : goal.returns-in_err-write_chain-clause-text
 returns-in_err-write_chain-clause-text g c =
-    let faulted : is_ok c.from_residual-in_err-write_chain.result ≡ false = search rules in
+    let faulted : is_ok c.from_residual-in_err-write_chain.result ≡ false = not_ok c.from_residual-in_err-write_chain.result c.from_residual-in_err-write_chain.ensures.0 in
     over_text c.from_residual-in_err-write_chain.result (asked_view c.args.request) (plurals_view c.args.plurals) (entries_of c.args.first.now) (entries_of c.args.second.now) _ _ _ _
     c.in_ok-first.ensures.bundle c.in_ok-second.ensures.bundle
     (took_recast c.write_chain.result _ _ _ _ _ (faulted ∙ sym (ap is_ok c.in_err-write_chain.was)) refl c.write_chain.ensures.text)
@@ -97,3 +97,8 @@ returns-clause-text g c =
     over_text _ (asked_view c.args.request) (plurals_view c.args.plurals) (entries_of c.args.first.now) (entries_of c.args.second.now) _ _ _ _
     c.in_ok-first.ensures.bundle c.in_ok-second.ensures.bundle
     (took_recast c.write_chain.result _ _ _ _ _ (sym (ap is_ok c.in_ok-write_chain.was)) refl c.write_chain.ensures.text)
+
+pub returns-in_err-write_chain-clause-fault : goal.returns-in_err-write_chain-clause-fault
+returns-in_err-write_chain-clause-fault g c =
+    faulted_on c.write_chain.result c.from_residual-in_err-write_chain.result c.in_err-write_chain.field-0.0 _ _ _ _
+    c.in_err-write_chain.was c.from_residual-in_err-write_chain.ensures.0 c.from_residual-in_err-write_chain.ensures.1 c.write_chain.ensures.fault

@@ -1,6 +1,7 @@
 use Rattle.std.proofs.Common.{rules, ◌≡◌, ◌∙◌, sym, ap, false, is_ok, map, string_bytes, ◌∷◌, []}
 use Rattle.fluent_chain.specs.Chain.{chain_value}
 use Rattle.fluent_command.specs.BundleView.{arguments_view, bundle_view}
+use Rattle.fluent_command.proofs.Adding.{added_by}
 use Rattle.fluent_command.proofs.Taking.{took_put, took_then, took_short}
 use Rattle.fluent_command.proofs.show.write_chain.Goals as goal
 
@@ -19,3 +20,9 @@ returns-clause-text g c =
     rw (← c.in_ok-args.ensures) (rw (← shown)
     (took_then c.put.result _ _ _ (10 ∷ []) _ _ _ c.in_ok-put.was (took_put c.put.result _ _ _ c.put.ensures.whole c.put.ensures.front)
     (took_put c.put-2.result (10 ∷ []) _ _ c.put-2.ensures.whole c.put-2.ensures.front)))
+
+pub returns-clause-errors : goal.returns-clause-errors
+returns-clause-errors g c =
+    let bundles = bundle_view c.args.first.now ∷ bundle_view c.args.second.now ∷ [] in
+    rw (← c.in_ok-args.ensures)
+    (added_by c.put-2.result (chain_value c.args.request.id.now (arguments_view c.in_ok-args.args) bundles).errors c.args.errors.now.items c.format_value.new.errors.items (search rules))

@@ -1,18 +1,14 @@
 use Rattle.std.proofs.Common.{[], ◌∷◌, ◌++◌, refl, ap, sym, ◌∙◌, take}
-use Rattle.fluent_tree.specs.References.{a_function, a_term, in_arguments, in_call, in_expression, in_inline, references}
+use Rattle.std.proofs.lemmas.List.{take_all}
+use Rattle.fluent_tree.specs.References.{a_function, a_message, a_term, in_arguments, in_call, in_expression, in_inline, references}
 use Rattle.fluent_tree.specs.View.{arguments_view, call_view, expression_view, inline_view, pattern_view}
 use Rattle.fluent_tree.specs.declared.ast.CallArguments as of_call
-use Rattle.fluent_links.specs.PlaceParts.{in_pattern_is, in_select_is, in_function_is, in_term_is, in_arguments_is}
+use Rattle.fluent_links.specs.PlaceParts.{in_pattern_is, in_select_is, in_function_is, in_message_is, in_term_is, in_arguments_is}
 use Rattle.fluent_links.specs.PlaceSteps.{in_elements, in_variant_list, in_positional_list, in_named_list, of_element, of_variant, of_positional, of_named, element_in_turn, variant_in_turn, positional_in_turn, named_in_turn}
 use Rattle.fluent_links.specs.Slots.{slots}
-use Rattle.fluent_links.proofs.Gathered.{stays_on, adds_on, adds_as, adds_next, all_taken}
+use Rattle.fluent_links.proofs.Gathered.{adds_on, adds_as, adds_next, begins_as, begins_more, begins_next, begins_on}
+use Rattle.fluent_links.proofs.Slotted.{err_is, ok_is, on_err}
 use Rattle.fluent_links.proofs.linking.+linking.Goals as goal
-
-pub link_arguments-returns-in_err-link_named-clause-stays : goal.link_arguments-returns-in_err-link_named-clause-stays
-link_arguments-returns-in_err-link_named-clause-stays g t c = stays_on (slots c.args.slots.now) (slots c.link_positional.new.slots) (slots c.link_named.new.slots) c.link_positional.ensures.stays c.link_named.ensures.stays
-
-pub link_arguments-returns-clause-stays : goal.link_arguments-returns-clause-stays
-link_arguments-returns-clause-stays g t c = stays_on (slots c.args.slots.now) (slots c.link_positional.new.slots) (slots c.link_named.new.slots) c.link_positional.ensures.stays c.link_named.ensures.stays
 
 pub link_arguments-returns-clause-ok : goal.link_arguments-returns-clause-ok
 link_arguments-returns-clause-ok g t c =
@@ -23,12 +19,6 @@ link_arguments-returns-clause-ok g t c =
     adds_as (slots c.args.slots.now) (slots c.link_named.new.slots) c.args.links.now.items c.link_named.new.links.items (xs ++ ns) (in_arguments (arguments_view c.args.arguments.now)) parts
     (adds_on (slots c.args.slots.now) (slots c.link_positional.new.slots) (slots c.link_named.new.slots) c.args.links.now.items c.link_positional.new.links.items c.link_named.new.links.items xs ns c.in_ok-link_positional.ensures.ok c.in_ok-link_named.ensures.ok)
 
-pub link_expression-returns-in_err-link_variants-in-Select-clause-stays : goal.link_expression-returns-in_err-link_variants-in-Select-clause-stays
-link_expression-returns-in_err-link_variants-in-Select-clause-stays g t c = stays_on (slots c.args.slots.now) (slots c.link_inline-in-Select.new.slots) (slots c.link_variants.new.slots) c.link_inline-in-Select.ensures.stays c.link_variants.ensures.stays
-
-pub link_expression-returns-in_ok-link_variants-in-Select-clause-stays : goal.link_expression-returns-in_ok-link_variants-in-Select-clause-stays
-link_expression-returns-in_ok-link_variants-in-Select-clause-stays g t c = stays_on (slots c.args.slots.now) (slots c.link_inline-in-Select.new.slots) (slots c.link_variants.new.slots) c.link_inline-in-Select.ensures.stays c.link_variants.ensures.stays
-
 pub link_expression-returns-in_ok-link_variants-in-Select-clause-ok : goal.link_expression-returns-in_ok-link_variants-in-Select-clause-ok
 link_expression-returns-in_ok-link_variants-in-Select-clause-ok g t c =
     let x = in_inline (inline_view c.in-Select.selector) in
@@ -37,24 +27,12 @@ link_expression-returns-in_ok-link_variants-in-Select-clause-ok g t c =
     adds_as (slots c.args.slots.now) (slots c.link_variants.new.slots) c.args.links.now.items c.link_variants.new.links.items (x ++ vs) (in_expression (expression_view c.args.expression.now)) parts
     (adds_on (slots c.args.slots.now) (slots c.link_inline-in-Select.new.slots) (slots c.link_variants.new.slots) c.args.links.now.items c.link_inline-in-Select.new.links.items c.link_variants.new.links.items x vs c.in_ok-link_inline-in-Select.ensures.ok c.in_ok-link_variants-in-Select.ensures.ok)
 
-pub link_inline-returns-in_err-link_arguments-in-FunctionReference-clause-stays : goal.link_inline-returns-in_err-link_arguments-in-FunctionReference-clause-stays
-link_inline-returns-in_err-link_arguments-in-FunctionReference-clause-stays g t c = stays_on (slots c.args.slots.now) (slots c.link_one.new.slots) (slots c.link_arguments.new.slots) c.link_one.ensures.stays c.link_arguments.ensures.stays
-
-pub link_inline-returns-in_ok-link_arguments-in-FunctionReference-clause-stays : goal.link_inline-returns-in_ok-link_arguments-in-FunctionReference-clause-stays
-link_inline-returns-in_ok-link_arguments-in-FunctionReference-clause-stays g t c = stays_on (slots c.args.slots.now) (slots c.link_one.new.slots) (slots c.link_arguments.new.slots) c.link_one.ensures.stays c.link_arguments.ensures.stays
-
 pub link_inline-returns-in_ok-link_arguments-in-FunctionReference-clause-ok : goal.link_inline-returns-in_ok-link_arguments-in-FunctionReference-clause-ok
 link_inline-returns-in_ok-link_arguments-in-FunctionReference-clause-ok g t c =
     let r = a_function c.in-FunctionReference.id.name.now in
     let rest = in_arguments (arguments_view c.in-FunctionReference.arguments) in
     adds_as (slots c.args.slots.now) (slots c.link_arguments.new.slots) c.args.links.now.items c.link_arguments.new.links.items (r ∷ rest) (in_inline (inline_view c.args.inline.now)) (sym (in_function_is c.args.inline.now c.in-FunctionReference.id c.in-FunctionReference.arguments c.in-FunctionReference.is))
     (adds_on (slots c.args.slots.now) (slots c.link_one.new.slots) (slots c.link_arguments.new.slots) c.args.links.now.items c.link_one.new.links.items c.link_arguments.new.links.items (r ∷ []) rest (c.in_ok-link_one-in-FunctionReference.ensures.ok r refl) c.in_ok-link_arguments-in-FunctionReference.ensures.ok)
-
-pub link_inline-returns-in_err-link_call-in-TermReference-clause-stays : goal.link_inline-returns-in_err-link_call-in-TermReference-clause-stays
-link_inline-returns-in_err-link_call-in-TermReference-clause-stays g t c = stays_on (slots c.args.slots.now) (slots c.link_one-in-TermReference.new.slots) (slots c.link_call.new.slots) c.link_one-in-TermReference.ensures.stays c.link_call.ensures.stays
-
-pub link_inline-returns-in_ok-link_call-in-TermReference-clause-stays : goal.link_inline-returns-in_ok-link_call-in-TermReference-clause-stays
-link_inline-returns-in_ok-link_call-in-TermReference-clause-stays g t c = stays_on (slots c.args.slots.now) (slots c.link_one-in-TermReference.new.slots) (slots c.link_call.new.slots) c.link_one-in-TermReference.ensures.stays c.link_call.ensures.stays
 
 pub link_inline-returns-in_ok-link_call-in-TermReference-clause-ok : goal.link_inline-returns-in_ok-link_call-in-TermReference-clause-ok
 link_inline-returns-in_ok-link_call-in-TermReference-clause-ok g t c =
@@ -63,44 +41,113 @@ link_inline-returns-in_ok-link_call-in-TermReference-clause-ok g t c =
     adds_as (slots c.args.slots.now) (slots c.link_call.new.slots) c.args.links.now.items c.link_call.new.links.items (r ∷ rest) (in_inline (inline_view c.args.inline.now)) (sym (in_term_is c.args.inline.now c.in-TermReference.id c.in-TermReference.attribute c.in-TermReference.arguments c.in-TermReference.is))
     (adds_on (slots c.args.slots.now) (slots c.link_one-in-TermReference.new.slots) (slots c.link_call.new.slots) c.args.links.now.items c.link_one-in-TermReference.new.links.items c.link_call.new.links.items (r ∷ []) rest (c.in_ok-link_one-in-TermReference.ensures.ok r refl) c.in_ok-link_call-in-TermReference.ensures.ok)
 
-pub link_pattern-returns-in_err-link_element-clause-stays : goal.link_pattern-returns-in_err-link_element-clause-stays
-link_pattern-returns-in_err-link_element-clause-stays g t c = stays_on (slots c.args.slots.now) (slots c.loop-element.slots) (slots c.link_element.new.slots) c.loop-element.invariant.0 c.link_element.ensures.stays
-
 pub link_pattern-loop-element-preserved : goal.link_pattern-loop-element-preserved
-link_pattern-loop-element-preserved g t c = (
-  stays_on (slots c.args.slots.now) (slots c.loop-element.slots) (slots c.link_element.new.slots) c.loop-element.invariant.0 c.link_element.ensures.stays,
-  adds_next of_element in_elements element_in_turn refl c.deref-element-items.result.now c.loop-element.element-index c.element-item.result c.loop-element-test.true c.element-item.is (slots c.args.slots.now) (slots c.loop-element.slots) (slots c.link_element.new.slots) c.args.links.now.items c.loop-element.links.items c.link_element.new.links.items c.loop-element.invariant.1 c.in_ok-link_element.ensures.ok,
-)
-
-pub link_variants-returns-in_err-link_pattern-clause-stays : goal.link_variants-returns-in_err-link_pattern-clause-stays
-link_variants-returns-in_err-link_pattern-clause-stays g t c = stays_on (slots c.args.slots.now) (slots c.loop-variant.slots) (slots c.link_pattern.new.slots) c.loop-variant.invariant.0 c.link_pattern.ensures.stays
+link_pattern-loop-element-preserved g t c = adds_next of_element in_elements element_in_turn refl c.deref-element-items.result.now c.loop-element.element-index c.element-item.result c.loop-element-test.true c.element-item.is (slots c.args.slots.now) (slots c.loop-element.slots) (slots c.link_element.new.slots) c.args.links.now.items c.loop-element.links.items c.link_element.new.links.items c.loop-element.invariant c.in_ok-link_element.ensures.ok
 
 pub link_variants-loop-variant-preserved : goal.link_variants-loop-variant-preserved
-link_variants-loop-variant-preserved g t c = (
-  stays_on (slots c.args.slots.now) (slots c.loop-variant.slots) (slots c.link_pattern.new.slots) c.loop-variant.invariant.0 c.link_pattern.ensures.stays,
-  adds_next of_variant in_variant_list variant_in_turn refl c.args.variants.now c.loop-variant.variant-index c.variant-item.result c.loop-variant-test.true c.variant-item.is (slots c.args.slots.now) (slots c.loop-variant.slots) (slots c.link_pattern.new.slots) c.args.links.now.items c.loop-variant.links.items c.link_pattern.new.links.items c.loop-variant.invariant.1 c.in_ok-link_pattern.ensures.ok,
-)
-
-pub link_positional-returns-in_err-link_inline-clause-stays : goal.link_positional-returns-in_err-link_inline-clause-stays
-link_positional-returns-in_err-link_inline-clause-stays g t c = stays_on (slots c.args.slots.now) (slots c.loop-argument.slots) (slots c.link_inline.new.slots) c.loop-argument.invariant.0 c.link_inline.ensures.stays
+link_variants-loop-variant-preserved g t c = adds_next of_variant in_variant_list variant_in_turn refl c.args.variants.now c.loop-variant.variant-index c.variant-item.result c.loop-variant-test.true c.variant-item.is (slots c.args.slots.now) (slots c.loop-variant.slots) (slots c.link_pattern.new.slots) c.args.links.now.items c.loop-variant.links.items c.link_pattern.new.links.items c.loop-variant.invariant c.in_ok-link_pattern.ensures.ok
 
 pub link_positional-loop-argument-preserved : goal.link_positional-loop-argument-preserved
-link_positional-loop-argument-preserved g t c = (
-  stays_on (slots c.args.slots.now) (slots c.loop-argument.slots) (slots c.link_inline.new.slots) c.loop-argument.invariant.0 c.link_inline.ensures.stays,
-  adds_next of_positional in_positional_list positional_in_turn refl c.args.positional.now c.loop-argument.argument-index c.argument-item.result c.loop-argument-test.true c.argument-item.is (slots c.args.slots.now) (slots c.loop-argument.slots) (slots c.link_inline.new.slots) c.args.links.now.items c.loop-argument.links.items c.link_inline.new.links.items c.loop-argument.invariant.1 c.in_ok-link_inline.ensures.ok,
-)
-
-pub link_named-returns-in_err-link_inline-clause-stays : goal.link_named-returns-in_err-link_inline-clause-stays
-link_named-returns-in_err-link_inline-clause-stays g t c = stays_on (slots c.args.slots.now) (slots c.loop-argument.slots) (slots c.link_inline.new.slots) c.loop-argument.invariant.0 c.link_inline.ensures.stays
+link_positional-loop-argument-preserved g t c = adds_next of_positional in_positional_list positional_in_turn refl c.args.positional.now c.loop-argument.argument-index c.argument-item.result c.loop-argument-test.true c.argument-item.is (slots c.args.slots.now) (slots c.loop-argument.slots) (slots c.link_inline.new.slots) c.args.links.now.items c.loop-argument.links.items c.link_inline.new.links.items c.loop-argument.invariant c.in_ok-link_inline.ensures.ok
 
 pub link_named-loop-argument-preserved : goal.link_named-loop-argument-preserved
-link_named-loop-argument-preserved g t c = (
-  stays_on (slots c.args.slots.now) (slots c.loop-argument.slots) (slots c.link_inline.new.slots) c.loop-argument.invariant.0 c.link_inline.ensures.stays,
-  adds_next of_named in_named_list named_in_turn refl c.args.named.now c.loop-argument.argument-index c.argument-item.result c.loop-argument-test.true c.argument-item.is (slots c.args.slots.now) (slots c.loop-argument.slots) (slots c.link_inline.new.slots) c.args.links.now.items c.loop-argument.links.items c.link_inline.new.links.items c.loop-argument.invariant.1 c.in_ok-link_inline.ensures.ok,
-)
+link_named-loop-argument-preserved g t c = adds_next of_named in_named_list named_in_turn refl c.args.named.now c.loop-argument.argument-index c.argument-item.result c.loop-argument-test.true c.argument-item.is (slots c.args.slots.now) (slots c.loop-argument.slots) (slots c.link_inline.new.slots) c.args.links.now.items c.loop-argument.links.items c.link_inline.new.links.items c.loop-argument.invariant c.in_ok-link_inline.ensures.ok
 
 pub link_pattern-returns-clause-ok : goal.link_pattern-returns-clause-ok
 link_pattern-returns-clause-ok g t c =
     let items = c.deref-element-items.result.now in
-    let all = ap in_elements (all_taken items c.loop-element.element-index c.loop-element-test.false ∙ c.deref-element-items.ensures.value) ∙ sym (in_pattern_is c.args.pattern.now) in
-    adds_as (slots c.args.slots.now) (slots c.loop-element.slots) c.args.links.now.items c.loop-element.links.items (in_elements (take c.loop-element.element-index items)) (references (pattern_view c.args.pattern.now)) all c.loop-element.invariant.1
+    let all = ap in_elements (take_all c.loop-element.element-index items c.loop-element-test.false ∙ c.deref-element-items.ensures.value) ∙ sym (in_pattern_is c.args.pattern.now) in
+    adds_as (slots c.args.slots.now) (slots c.loop-element.slots) c.args.links.now.items c.loop-element.links.items (in_elements (take c.loop-element.element-index items)) (references (pattern_view c.args.pattern.now)) all c.loop-element.invariant
+
+pub link_pattern-returns-in_err-link_element-clause-err : goal.link_pattern-returns-in_err-link_element-clause-err
+link_pattern-returns-in_err-link_element-clause-err g t c = on_err c.from_residual.result
+    (begins_as (slots c.args.slots.now) (slots c.link_element.new.slots) (in_elements c.deref-element-items.result.now) (references (pattern_view c.args.pattern.now)) (ap in_elements c.deref-element-items.ensures.value ∙ sym (in_pattern_is c.args.pattern.now))
+    (begins_next of_element in_elements element_in_turn refl c.deref-element-items.result.now c.loop-element.element-index c.element-item.result c.loop-element-test.true c.element-item.is (slots c.args.slots.now) (slots c.loop-element.slots) (slots c.link_element.new.slots) c.args.links.now.items c.loop-element.links.items c.loop-element.invariant c.in_err-link_element.ensures.err))
+
+pub link_variants-returns-in_err-link_pattern-clause-err : goal.link_variants-returns-in_err-link_pattern-clause-err
+link_variants-returns-in_err-link_pattern-clause-err g t c = on_err c.from_residual.result (begins_next of_variant in_variant_list variant_in_turn refl c.args.variants.now c.loop-variant.variant-index c.variant-item.result c.loop-variant-test.true c.variant-item.is (slots c.args.slots.now) (slots c.loop-variant.slots) (slots c.link_pattern.new.slots) c.args.links.now.items c.loop-variant.links.items c.loop-variant.invariant c.in_err-link_pattern.ensures.err)
+
+pub link_positional-returns-in_err-link_inline-clause-err : goal.link_positional-returns-in_err-link_inline-clause-err
+link_positional-returns-in_err-link_inline-clause-err g t c = on_err c.from_residual.result (begins_next of_positional in_positional_list positional_in_turn refl c.args.positional.now c.loop-argument.argument-index c.argument-item.result c.loop-argument-test.true c.argument-item.is (slots c.args.slots.now) (slots c.loop-argument.slots) (slots c.link_inline.new.slots) c.args.links.now.items c.loop-argument.links.items c.loop-argument.invariant c.in_err-link_inline.ensures.err)
+
+pub link_named-returns-in_err-link_inline-clause-err : goal.link_named-returns-in_err-link_inline-clause-err
+link_named-returns-in_err-link_inline-clause-err g t c = on_err c.from_residual.result (begins_next of_named in_named_list named_in_turn refl c.args.named.now c.loop-argument.argument-index c.argument-item.result c.loop-argument-test.true c.argument-item.is (slots c.args.slots.now) (slots c.loop-argument.slots) (slots c.link_inline.new.slots) c.args.links.now.items c.loop-argument.links.items c.loop-argument.invariant c.in_err-link_inline.ensures.err)
+
+pub link_arguments-returns-in_err-link_positional-clause-err : goal.link_arguments-returns-in_err-link_positional-clause-err
+link_arguments-returns-in_err-link_positional-clause-err g t c =
+    let a = of_call.out-CallArguments c.args.arguments.now in
+    let xs = in_positional_list c.deref.result.now in
+    let ns = in_named_list a.named.items in
+    let parts = ap (λ xs. in_positional_list xs ++ ns) c.deref.ensures.value ∙ sym (in_arguments_is c.args.arguments.now) in
+    on_err c.from_residual.result
+    (begins_as (slots c.args.slots.now) (slots c.link_positional.new.slots) (xs ++ ns) (in_arguments (arguments_view c.args.arguments.now)) parts
+    (begins_more (slots c.args.slots.now) (slots c.link_positional.new.slots) xs ns c.in_err-link_positional.ensures.err))
+
+pub link_arguments-returns-in_err-link_named-clause-err : goal.link_arguments-returns-in_err-link_named-clause-err
+link_arguments-returns-in_err-link_named-clause-err g t c =
+    let a = of_call.out-CallArguments c.args.arguments.now in
+    let xs = in_positional_list c.deref.result.now in
+    let ns = in_named_list c.deref-2.result.now in
+    let parts = ap (λ xs. in_positional_list xs ++ ns) c.deref.ensures.value ∙ (ap (λ ns. in_positional_list a.positional.items ++ in_named_list ns) c.deref-2.ensures.value ∙ sym (in_arguments_is c.args.arguments.now)) in
+    on_err c.from_residual-in_err-link_named.result
+    (begins_as (slots c.args.slots.now) (slots c.link_named.new.slots) (xs ++ ns) (in_arguments (arguments_view c.args.arguments.now)) parts
+    (begins_on (slots c.args.slots.now) (slots c.link_positional.new.slots) (slots c.link_named.new.slots) xs ns c.in_ok-link_positional.ensures.ok.0 c.in_err-link_named.ensures.err))
+
+pub link_expression-returns-in_err-link_inline-in-Select-clause-err : goal.link_expression-returns-in_err-link_inline-in-Select-clause-err
+link_expression-returns-in_err-link_inline-in-Select-clause-err g t c =
+    let x = in_inline (inline_view c.in-Select.selector) in
+    let vs = in_variant_list c.in-Select.variants.items in
+    on_err c.from_residual.result
+    (begins_as (slots c.args.slots.now) (slots c.link_inline-in-Select.new.slots) (x ++ vs) (in_expression (expression_view c.args.expression.now)) (sym (in_select_is c.args.expression.now c.in-Select.selector c.in-Select.variants c.in-Select.is))
+    (begins_more (slots c.args.slots.now) (slots c.link_inline-in-Select.new.slots) x vs c.in_err-link_inline-in-Select.ensures.err))
+
+pub link_expression-returns-in_err-link_variants-in-Select-clause-err : goal.link_expression-returns-in_err-link_variants-in-Select-clause-err
+link_expression-returns-in_err-link_variants-in-Select-clause-err g t c =
+    let x = in_inline (inline_view c.in-Select.selector) in
+    let vs = in_variant_list c.deref.result.now in
+    let parts = ap (λ vs. x ++ in_variant_list vs) c.deref.ensures.value ∙ sym (in_select_is c.args.expression.now c.in-Select.selector c.in-Select.variants c.in-Select.is) in
+    on_err c.from_residual-in_err-link_variants-in-Select.result
+    (begins_as (slots c.args.slots.now) (slots c.link_variants.new.slots) (x ++ vs) (in_expression (expression_view c.args.expression.now)) parts
+    (begins_on (slots c.args.slots.now) (slots c.link_inline-in-Select.new.slots) (slots c.link_variants.new.slots) x vs c.in_ok-link_inline-in-Select.ensures.ok.0 c.in_err-link_variants-in-Select.ensures.err))
+
+pub link_inline-returns-in_err-link_one-in-FunctionReference-clause-err : goal.link_inline-returns-in_err-link_one-in-FunctionReference-clause-err
+link_inline-returns-in_err-link_one-in-FunctionReference-clause-err g t c =
+    let r = a_function c.in-FunctionReference.id.name.now in
+    let rest = in_arguments (arguments_view c.in-FunctionReference.arguments) in
+    on_err c.from_residual.result
+    (begins_as (slots c.args.slots.now) (slots c.link_one.new.slots) (r ∷ rest) (in_inline (inline_view c.args.inline.now)) (sym (in_function_is c.args.inline.now c.in-FunctionReference.id c.in-FunctionReference.arguments c.in-FunctionReference.is))
+    (begins_more (slots c.args.slots.now) (slots c.link_one.new.slots) (r ∷ []) rest (c.in_err-link_one-in-FunctionReference.ensures.err r refl)))
+
+pub link_inline-returns-in_err-link_arguments-in-FunctionReference-clause-err : goal.link_inline-returns-in_err-link_arguments-in-FunctionReference-clause-err
+link_inline-returns-in_err-link_arguments-in-FunctionReference-clause-err g t c =
+    let r = a_function c.in-FunctionReference.id.name.now in
+    let rest = in_arguments (arguments_view c.in-FunctionReference.arguments) in
+    on_err c.from_residual-in_err-link_arguments-in-FunctionReference.result
+    (begins_as (slots c.args.slots.now) (slots c.link_arguments.new.slots) (r ∷ rest) (in_inline (inline_view c.args.inline.now)) (sym (in_function_is c.args.inline.now c.in-FunctionReference.id c.in-FunctionReference.arguments c.in-FunctionReference.is))
+    (begins_on (slots c.args.slots.now) (slots c.link_one.new.slots) (slots c.link_arguments.new.slots) (r ∷ []) rest (c.in_ok-link_one-in-FunctionReference.ensures.ok r refl).0 c.in_err-link_arguments-in-FunctionReference.ensures.err))
+
+pub link_inline-returns-in_err-link_one-in-TermReference-clause-err : goal.link_inline-returns-in_err-link_one-in-TermReference-clause-err
+link_inline-returns-in_err-link_one-in-TermReference-clause-err g t c =
+    let r = a_term c.in-TermReference.id.name.now in
+    let rest = in_call (call_view c.in-TermReference.arguments) in
+    on_err c.from_residual-in_err-link_one-in-TermReference.result
+    (begins_as (slots c.args.slots.now) (slots c.link_one-in-TermReference.new.slots) (r ∷ rest) (in_inline (inline_view c.args.inline.now)) (sym (in_term_is c.args.inline.now c.in-TermReference.id c.in-TermReference.attribute c.in-TermReference.arguments c.in-TermReference.is))
+    (begins_more (slots c.args.slots.now) (slots c.link_one-in-TermReference.new.slots) (r ∷ []) rest (c.in_err-link_one-in-TermReference.ensures.err r refl)))
+
+pub link_inline-returns-in_err-link_call-in-TermReference-clause-err : goal.link_inline-returns-in_err-link_call-in-TermReference-clause-err
+link_inline-returns-in_err-link_call-in-TermReference-clause-err g t c =
+    let r = a_term c.in-TermReference.id.name.now in
+    let rest = in_call (call_view c.in-TermReference.arguments) in
+    on_err c.from_residual-in_err-link_call-in-TermReference.result
+    (begins_as (slots c.args.slots.now) (slots c.link_call.new.slots) (r ∷ rest) (in_inline (inline_view c.args.inline.now)) (sym (in_term_is c.args.inline.now c.in-TermReference.id c.in-TermReference.attribute c.in-TermReference.arguments c.in-TermReference.is))
+    (begins_on (slots c.args.slots.now) (slots c.link_one-in-TermReference.new.slots) (slots c.link_call.new.slots) (r ∷ []) rest (c.in_ok-link_one-in-TermReference.ensures.ok r refl).0 c.in_err-link_call-in-TermReference.ensures.err))
+
+pub link_inline-returns-in-MessageReference-clause-ok : goal.link_inline-returns-in-MessageReference-clause-ok
+link_inline-returns-in-MessageReference-clause-ok g t c =
+    let r = a_message c.in-MessageReference.id.name.now in
+    ok_is c.link_one-in-MessageReference.result (λ adds. adds_as (slots c.args.slots.now) (slots c.link_one-in-MessageReference.new.slots) c.args.links.now.items c.link_one-in-MessageReference.new.links.items (r ∷ []) (in_inline (inline_view c.args.inline.now)) (sym (in_message_is c.args.inline.now c.in-MessageReference.id c.in-MessageReference.attribute c.in-MessageReference.is)) (adds r refl)) c.link_one-in-MessageReference.ensures.ok
+
+pub link_inline-returns-in-MessageReference-clause-err : goal.link_inline-returns-in-MessageReference-clause-err
+link_inline-returns-in-MessageReference-clause-err g t c =
+    let r = a_message c.in-MessageReference.id.name.now in
+    err_is c.link_one-in-MessageReference.result (λ begins. begins_as (slots c.args.slots.now) (slots c.link_one-in-MessageReference.new.slots) (r ∷ []) (in_inline (inline_view c.args.inline.now)) (sym (in_message_is c.args.inline.now c.in-MessageReference.id c.in-MessageReference.attribute c.in-MessageReference.is)) (begins r refl)) c.link_one-in-MessageReference.ensures.err

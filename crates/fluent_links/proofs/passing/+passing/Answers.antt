@@ -1,7 +1,8 @@
 use Rattle.std.proofs.Common.{◌≡◌, ap, sym, subst, ◌∙◌, Some}
+use Rattle.std.proofs.lemmas.List.{drop_all}
 use Rattle.fluent_links.specs.Links.{behind}
 use Rattle.fluent_links.specs.PlaceSteps.{passed, in_elements, in_variant_list, in_positional_list, in_named_list, of_element, of_variant, of_positional, of_named, element_in_turn, variant_in_turn, positional_in_turn, named_in_turn}
-use Rattle.fluent_links.proofs.Passed.{none_left, pattern_passed, select_passed, arguments_passed}
+use Rattle.fluent_links.proofs.Passed.{pattern_passed, select_passed, arguments_passed}
 use Rattle.fluent_links.proofs.passing.+passing.Goals as goal
 
 pub pass_arguments-returns : goal.pass_arguments-returns
@@ -35,6 +36,6 @@ pub pass_pattern-returns : goal.pass_pattern-returns
 pass_pattern-returns t c =
     let items = c.deref-element-items.result.now in
     pattern_passed c.args.pattern.now (Some c.args.links.now) (Some c.loop-element.links.now)
-    (sym (ap (λ es. behind (in_elements es) (Some c.loop-element.links.now)) (none_left items c.loop-element.element-index c.loop-element-test.false))
+    (sym (ap (λ es. behind (in_elements es) (Some c.loop-element.links.now)) (drop_all c.loop-element.element-index items c.loop-element-test.false))
     ∙ (c.loop-element.invariant
     ∙ ap (λ es. behind (in_elements es) (Some c.args.links.now)) c.deref-element-items.ensures.value))

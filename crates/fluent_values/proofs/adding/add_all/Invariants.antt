@@ -1,14 +1,16 @@
-use Rattle.std.proofs.Common.{◌≡◌, ◌≤◌, length, ◌-◌, drop, map}
-use Rattle.fluent_values.specs.EntryView.{room}
+use Rattle.std.proofs.Common.{◌≡◌, ◌++◌, map}
+use Rattle.std.specs.Vec.Iter.{into_iter_items}
 use Rattle.fluent_tree.specs.Tree.{Text}
-use Rattle.fluent_tree.specs.View.{entry_view}
-use Rattle.fluent_meaning.specs.Bundle.{Function, added}
+use Rattle.fluent_meaning.specs.Bundle.{Function}
 use Rattle.fluent_values.specs.EntryView.{ids}
+use Rattle.fluent_values.specs.Numbered.{numbers, table}
+use Rattle.fluent_values.specs.Adding.{AreReady, waiting, add_each}
 use Rattle.fluent_values.proofs.adding.add_all.Given as goal
 
--- there is room for what is left, and what is left makes of the ids what all of it would
-abbrev pub invariant-loop-entry : goal.invariant-loop-entry
-invariant-loop-entry g l = record {
-  room : length l.entries - l.entry-index ≤ room l.known;
-  same : (answer : _ → Function Text) → added (map entry_view (drop l.entry-index l.entries)) (ids answer l.known) ≡ added (map entry_view l.entries) (ids answer l.fn.known);
+-- what is left has the numbers of its ids, and makes of the ids what all of it would
+abbrev pub invariant-loop-ready : goal.invariant-loop-ready
+invariant-loop-ready g l = record {
+  whole : l.fn.list.items ≡ l.yielded ++ into_iter_items l.ready-iterator;
+  ready : AreReady (numbers l.known) (table l.known) (into_iter_items l.ready-iterator);
+  same : (answer : _ → Function Text) → add_each (map (waiting answer) (into_iter_items l.ready-iterator)) (ids answer l.known) ≡ add_each (map (waiting answer) l.fn.list.items) (ids answer l.fn.known);
 }

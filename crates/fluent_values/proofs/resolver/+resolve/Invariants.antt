@@ -6,6 +6,9 @@ use Rattle.fluent_tree.specs.View.{pattern_view, expression_view, inline_view, v
 use Rattle.fluent_meaning.specs.Arguments.{set_all}
 use Rattle.fluent_meaning.specs.Meaning.{at_most}
 use Rattle.fluent_meaning.specs.Walk.{has_one}
+use Rattle.fluent_links.specs.Links.{IsBefore}
+use Rattle.fluent_links.specs.PlaceSteps.{in_elements, in_named_list, in_positional_list}
+use Rattle.fluent_links.specs.Places.{seen}
 use Rattle.fluent_values.specs.Along.{Along, from_here, walked, Rests}
 use Rattle.fluent_values.specs.Sizes.{bound, size, expression_size, variants_size, inline_size, inlines_size, nameds_size, call_size, arguments_size}
 use Rattle.fluent_values.specs.Status.{status}
@@ -75,7 +78,7 @@ decreases-inline_expression::follow g l =
 abbrev pub decreases-inline_expression::go : goal.decreases-inline_expression::go
 decreases-inline_expression::go g l =
     let a = status g.B.Context.meant g.B.Context.is_plain g.F.FluentFunction.answer g.C.FluentType.content l.scope.now in
-    weight (2 + bound a.bundle) (2 + size (pattern_view l.target.pattern.now)) (at_most a.budget)
+    weight (2 + bound a.bundle) (2 + size (pattern_view l.target.step.pattern.now)) (at_most a.budget)
 
 abbrev pub decreases-arguments::resolve : goal.decreases-arguments::resolve
 decreases-arguments::resolve g l =
@@ -117,8 +120,11 @@ invariant-pattern::write_elements-loop-element g l =
     let a = status g.B.Context.meant g.B.Context.is_plain g.F.FluentFunction.answer g.C.FluentType.content l.initial.scope in
     let b = status g.B.Context.meant g.B.Context.is_plain g.F.FluentFunction.answer g.C.FluentType.content l.scope in
     let one = has_one (pattern_view l.pattern) in
-    Along {T = Unit {0}} (Ok tt) (from_here a (elementing (pattern_view l.pattern))) (giving a one (drop l.element-index l.element-items) b.budget)
-    (sink g.W.Write.contents l.initial.out) (sink g.W.Write.contents l.out) a b
+    record {
+      along : Along {T = Unit {0}} (Ok tt) (from_here a (elementing (pattern_view l.pattern))) (giving a one (drop l.element-index l.element-items) b.budget)
+          (sink g.W.Write.contents l.initial.out) (sink g.W.Write.contents l.out) a b;
+      placed : IsBefore a.stored.numbers (in_elements (drop l.element-index l.element-items)) (seen l.place);
+    }
 
 abbrev pub invariant-arguments::resolve_positional-loop-argument : goal.invariant-arguments::resolve_positional-loop-argument
 invariant-arguments::resolve_positional-loop-argument g l =
@@ -127,6 +133,7 @@ invariant-arguments::resolve_positional-loop-argument g l =
     record {
       gathers : Gathers (from_here a (place_walk l.arguments)) (walked a (place_walk (drop l.argument-index l.arguments)) b.budget) (map (value_view g.C.FluentType.content) l.values.items) a b;
       rests : Rests {T = Unit {0}} (Ok tt) (writer g.W.Write.contents l.initial.w) (writer g.W.Write.contents l.w);
+      placed : IsBefore a.stored.numbers (in_positional_list (drop l.argument-index l.arguments)) (seen l.place);
     }
 
 abbrev pub invariant-arguments::resolve_named-loop-argument : goal.invariant-arguments::resolve_named-loop-argument
@@ -138,4 +145,5 @@ invariant-arguments::resolve_named-loop-argument g l =
       is : gathered g.C.FluentType.content l.values ≡ set_all done [];
       gathers : Gathers (from_here a (label_walk l.arguments)) (walked a (label_walk (drop l.argument-index l.arguments)) b.budget) done a b;
       rests : Rests {T = Unit {0}} (Ok tt) (writer g.W.Write.contents l.initial.w) (writer g.W.Write.contents l.w);
+      placed : IsBefore a.stored.numbers (in_named_list (drop l.argument-index l.arguments)) (seen l.place);
     }

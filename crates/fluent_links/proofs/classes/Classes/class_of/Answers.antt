@@ -1,7 +1,7 @@
-use Rattle.std.proofs.Common.{sym, subst, map}
+use Rattle.std.proofs.Common.{◌∙◌, ap, sym, subst, map}
 use Rattle.fluent_links.specs.Classes.{HasClass}
 use Rattle.fluent_links.specs.Content.{content}
-use Rattle.fluent_links.proofs.Distinct.{distinct, kept_in, class_is}
+use Rattle.fluent_links.proofs.Distinct.{distinct, kept_in, class_is, stored_in}
 use Rattle.fluent_links.proofs.classes.Classes.class_of.Goals as goal
 
 pub invariant_of-self : goal.invariant_of-self
@@ -12,3 +12,6 @@ returns-clause-class c = let s = c.in_ok-class.ensures.stored in class_is c.inse
 
 pub returns-clause-kept : goal.returns-clause-kept
 returns-clause-kept c = λ n p at. subst (λ ks. HasClass (map content ks) n p) (sym c.in_ok-class.ensures.keys) (kept_in c.args.self.now.stored.keys _ n p at)
+
+pub returns-clause-stored : goal.returns-clause-stored
+returns-clause-stored c = ap (map content) c.in_ok-class.ensures.keys ∙ stored_in c.args.self.now.stored.keys (record { pattern = c.args.pattern })

@@ -1,7 +1,8 @@
-use Rattle.std.proofs.Common.{◌∙◌, sym, ap}
+use Rattle.std.proofs.Common.{◌≡◌, ◌∙◌, sym, ap, Some, None}
+use Rattle.std.proofs.lemmas.List.{length-map}
 use Rattle.std.specs.Cow.{cow_str_bytes}
 use Rattle.fluent_links.specs.Slots.{slots, number, named}
-use Rattle.fluent_links.proofs.Slotted.{position_by, if_ok, named_new}
+use Rattle.fluent_links.proofs.Slotted.{position_by, if_ok, on_ok, named_new, number_new, slot_new, slot_stays}
 use Rattle.fluent_links.proofs.slots.Slots.number_of.Goals as goal
 
 pub returns-in-Some-clause-number : goal.returns-in-Some-clause-number
@@ -21,3 +22,26 @@ pub returns-clause-named : goal.returns-clause-named
 unfolding slots
 returns-clause-named g c = λ q.
     ap (named q) c.in_ok-add.ensures.ok ∙ named_new (slots c.args.self.now) (cow_str_bytes c.args.id) q
+
+pub returns-in-Some-clause-ok : goal.returns-in-Some-clause-ok
+unfolding slots
+returns-in-Some-clause-ok g c =
+    on_ok c.as_number.result (slot_stays (slots c.args.self.now) (cow_str_bytes c.args.id) c.in-Some.place
+    (position_by cow_str_bytes (cow_str_bytes c.args.id) c.as_str.result.now c.args.self.now.ids.entries c.as_str.ensures.value
+    ∙ (sym c.get_index_of.ensures.index ∙ c.in-Some.is)))
+
+pub returns-clause-number : goal.returns-clause-number
+unfolding slots
+returns-clause-number g c =
+    let id = cow_str_bytes c.args.id in
+    let none : number (slots c.args.self.now) id ≡ None = position_by cow_str_bytes id c.as_str.result.now c.args.self.now.ids.entries c.as_str.ensures.value ∙ (sym c.get_index_of.ensures.index ∙ c.in_default.is) in
+    ap (λ ss. number ss id) c.in_ok-add.ensures.ok
+    ∙ (number_new (slots c.args.self.now) id None none
+    ∙ ap Some (length-map c.args.self.now.ids.entries (λ e. (cow_str_bytes e.0, e.1)) ∙ (sym c.len.ensures.len ∙ sym c.in_ok-number.ensures)))
+
+pub returns-clause-ok : goal.returns-clause-ok
+unfolding slots
+returns-clause-ok g c =
+    let id = cow_str_bytes c.args.id in
+    let none : number (slots c.args.self.now) id ≡ None = position_by cow_str_bytes id c.as_str.result.now c.args.self.now.ids.entries c.as_str.ensures.value ∙ (sym c.get_index_of.ensures.index ∙ c.in_default.is) in
+    c.in_ok-add.ensures.ok ∙ sym (slot_new (slots c.args.self.now) id none)

@@ -1,15 +1,30 @@
-use Rattle.std.proofs.lemmas.Result.{on_ok_weaker}
-use Rattle.std.specs.Cow.{cow_str_bytes}
-use Rattle.fluent_values.specs.EntryView.{entry_of}
-use Rattle.fluent_values.proofs.Own.{inserted_own}
+use Rattle.std.proofs.Common.{refl}
+use Rattle.fluent_links.specs.Slots.{slots}
+use Rattle.fluent_links.specs.Table.{table as contents}
+use Rattle.fluent_values.specs.EntryView.{ids, entry_of}
+use Rattle.fluent_values.specs.Numbered.{numbers, table}
+use Rattle.fluent_values.proofs.Own.{put_own}
 use Rattle.fluent_values.proofs.ByName.{put_named}
+use Rattle.fluent_values.proofs.Linking.{put_linked}
 use Rattle.fluent_values.proofs.ids.Ids.put.Goals as goal
 
-pub returns-clause-ok : goal.returns-clause-ok
-returns-clause-ok g c =
-    λ answer. put_named (entry_of answer) c.args.self.now.known.entries c.insert.new.self.entries (cow_str_bytes c.args.id) c.args.entry c.in_ok-insert.ensures.updates.0
+pub returns-clause-after : goal.returns-clause-after
+unfolding ids numbers
+returns-clause-after g c = λ id at answer. put_named (λ s. entry_of answer s.entry) (slots c.args.self.now.known) (slots c.fill.new.self) id c.args.slot (c.fill.ensures.filled id at)
+
+pub returns-clause-numbers : goal.returns-clause-numbers
+unfolding numbers
+returns-clause-numbers g c = c.fill.ensures.numbers
+
+pub returns-clause-table : goal.returns-clause-table
+unfolding table
+returns-clause-table g c = refl
 
 pub invariant_of-self : goal.invariant_of-self
-invariant_of-self g c = record {
-  named = inserted_own c.insert.result c.args.self.now.known.entries c.insert.new.self.entries (cow_str_bytes c.args.id) c.args.entry (on_ok_weaker c.insert.result (λ u. u.0) c.insert.ensures.updates) c.insert.ensures.err c.requires.own c.args.self.now.named;
-}
+unfolding numbers table
+invariant_of-self g c =
+    let own = c.requires.own in
+    record {
+      named = put_own (slots c.args.self.now.known) (slots c.fill.new.self) own.0 c.args.slot (c.fill.ensures.filled own.0 own.1) own.2 c.args.self.now.named;
+      linked = put_linked (slots c.args.self.now.known) (slots c.fill.new.self) (contents c.args.self.now.classes) own.0 c.args.slot c.fill.ensures.numbers (c.fill.ensures.filled own.0 own.1) c.requires.linked c.args.self.now.linked;
+    }

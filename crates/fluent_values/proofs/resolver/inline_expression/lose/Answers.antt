@@ -3,7 +3,8 @@ use Rattle.fluent_tree.specs.Fallback.{fallback, in_braces}
 use Rattle.fluent_tree.specs.View.{inline_view}
 use Rattle.fluent_meaning.specs.Work.{work}
 use Rattle.fluent_values.specs.Along.{given}
-use Rattle.fluent_values.specs.Status.{status, on_path}
+use Rattle.fluent_values.specs.Status.{status}
+use Rattle.fluent_values.specs.Trail.{on_path}
 use Rattle.fluent_values.proofs.Along.{starts, turns, adds, refuses, puts_last, wrote}
 use Rattle.fluent_values.proofs.Cases.{loses_is}
 use Rattle.fluent_values.proofs.resolver.inline_expression.lose.Goals as goal

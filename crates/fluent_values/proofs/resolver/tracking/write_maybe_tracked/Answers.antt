@@ -1,7 +1,8 @@
 use Rattle.std.proofs.Common.{◌∙◌, ap, refl, length}
 use Rattle.fluent_tree.specs.View.{expression_view, pattern_view}
 use Rattle.fluent_values.specs.Along.{adding, from_here, trace}
-use Rattle.fluent_values.specs.Status.{on_path, status}
+use Rattle.fluent_values.specs.Status.{status}
+use Rattle.fluent_values.specs.Trail.{on_path}
 use Rattle.fluent_values.specs.Tracking.{closes}
 use Rattle.fluent_values.proofs.Along.{starts, turns, lends, wrote}
 use Rattle.fluent_values.proofs.Passing.{entered_counts, keeps_around}

@@ -5,7 +5,7 @@ use Rattle.fluent_values.specs.Choice.{first_default}
 use Rattle.fluent_values.proofs.Choice.{nothing_like}
 use Rattle.fluent_values.proofs.resolver.variants.choose.Goals as goal
 
-pub returns-in-Custom : goal.returns-in-Custom
-returns-in-Custom g c =
+pub returns-in-Custom-clause-chose : goal.returns-in-Custom-clause-chose
+returns-in-Custom-clause-chose g c =
     let vs = variants_of (map variant_view c.args.variants.now) in
-    c.first_default.ensures ∙ nothing_like g.C.FluentType.content (g.B.Context.meant c.args.bundle.now) c.args.value.now (first_default vs) vs c.in-Custom.is
+    c.first_default.ensures.chose ∙ nothing_like g.C.FluentType.content (g.B.Context.meant c.args.bundle.now) c.args.value.now (first_default vs) vs c.in-Custom.is

@@ -15,8 +15,8 @@ use Rattle.fluent_values.proofs.Values.{begins, reads, got, misses, tells_on, te
 use Rattle.fluent_values.proofs.Steps.{value_found, value_lost, value_unseen}
 use Rattle.fluent_values.proofs.resolver.variants.choose_by_variable.Goals as goal
 
-pub returns-in-Some : goal.returns-in-Some
-returns-in-Some g c =
+pub returns-in-Some-clause-chose : goal.returns-in-Some-clause-chose
+returns-in-Some-clause-chose g c =
     let content = g.C.FluentType.content in
     let a = status g.B.Context.meant g.B.Context.is_plain g.F.FluentFunction.answer g.C.FluentType.content c.args.scope.now in
     let x = inline_view c.args.selector.now in
@@ -25,10 +25,10 @@ returns-in-Some g c =
     let goes : Value Text → Option Pattern = λ v. choice (goes_to a.bundle v) (first_default vs) vs in
     let there = ap (λ e. get id (variables (environment_view content e))) c.in-Local.is ∙ sym c.get.ensures ∙ ap (option_map (λ v. value_view content v.now)) c.in-Some.is in
     let found = ap (mapping goes) (value_found a x id (value_view content c.in-Some.value.now) a.budget c.requires there) in
-    got _ (reads (found ∙ ap (λ o. given o a.budget) (sym c.choose.ensures)) (begins a _))
+    got _ (reads (found ∙ ap (λ o. given o a.budget) (sym c.choose.ensures.chose)) (begins a _))
 
-pub returns-in-None : goal.returns-in-None
-returns-in-None g c =
+pub returns-in-None-clause-chose : goal.returns-in-None-clause-chose
+returns-in-None-clause-chose g c =
     let content = g.C.FluentType.content in
     let a = status g.B.Context.meant g.B.Context.is_plain g.F.FluentFunction.answer g.C.FluentType.content c.args.scope.now in
     let x = inline_view c.args.selector.now in
@@ -36,10 +36,10 @@ returns-in-None g c =
     let vs = variants_of (map variant_view c.args.variants.now) in
     let goes : Value Text → Option Pattern = λ v. choice (goes_to a.bundle v) (first_default vs) vs in
     let unseen = ap (mapping goes) (value_unseen a x id (named content c.in-Local.args) a.budget c.requires (ap (environment_view content) c.in-Local.is) (sym c.get.ensures ∙ ap (option_map (λ v. value_view content v.now)) c.in-None.is)) in
-    got _ (reads (unseen ∙ ap (λ o. given o a.budget) (error_chooses a.bundle (first_default vs) vs ∙ sym c.first_default.ensures)) (begins a _))
+    got _ (reads (unseen ∙ ap (λ o. given o a.budget) (error_chooses a.bundle (first_default vs) vs ∙ sym c.first_default.ensures.chose)) (begins a _))
 
-pub returns-in-Some-argument : goal.returns-in-Some-argument
-returns-in-Some-argument g c =
+pub returns-in-Some-argument-clause-chose : goal.returns-in-Some-argument-clause-chose
+returns-in-Some-argument-clause-chose g c =
     let content = g.C.FluentType.content in
     let a = status g.B.Context.meant g.B.Context.is_plain g.F.FluentFunction.answer g.C.FluentType.content c.args.scope.now in
     let x = inline_view c.args.selector.now in
@@ -48,10 +48,10 @@ returns-in-Some-argument g c =
     let goes : Value Text → Option Pattern = λ v. choice (goes_to a.bundle v) (first_default vs) vs in
     let there = ap (λ e. get id (variables (environment_view content e))) c.in-Application.is ∙ sym c.argument.ensures ∙ ap (option_map (λ v. value_view content v.now)) c.in-Some-argument.is in
     let found = ap (mapping goes) (value_found a x id (value_view content c.in-Some-argument.value.now) a.budget c.requires there) in
-    got _ (reads (found ∙ ap (λ o. given o a.budget) (sym c.choose-in-Some-argument.ensures)) (begins a _))
+    got _ (reads (found ∙ ap (λ o. given o a.budget) (sym c.choose-in-Some-argument.ensures.chose)) (begins a _))
 
-pub returns-in_err-report_lost-in-None-argument : goal.returns-in_err-report_lost-in-None-argument
-returns-in_err-report_lost-in-None-argument g c =
+pub returns-in_err-report_lost-in-None-argument-clause-chose : goal.returns-in_err-report_lost-in-None-argument-clause-chose
+returns-in_err-report_lost-in-None-argument-clause-chose g c =
     let content = g.C.FluentType.content in
     let a = status g.B.Context.meant g.B.Context.is_plain g.F.FluentFunction.answer g.C.FluentType.content c.args.scope.now in
     let x = inline_view c.args.selector.now in
@@ -61,8 +61,8 @@ returns-in_err-report_lost-in-None-argument g c =
     let lost = ap (mapping goes) (value_lost a x id (arguments_view content c.in-Application.args) a.budget c.requires (ap (environment_view content) c.in-Application.is) (sym c.argument.ensures ∙ ap (option_map (λ v. value_view content v.now)) c.in-None-argument.is)) in
     misses (search rules) (tells_stops c.in_err-report_lost-in-None-argument.was c.report_lost.ensures (reads lost (begins a _)))
 
-pub returns-in_ok-report_lost-in-None-argument : goal.returns-in_ok-report_lost-in-None-argument
-returns-in_ok-report_lost-in-None-argument g c =
+pub returns-in_ok-report_lost-in-None-argument-clause-chose : goal.returns-in_ok-report_lost-in-None-argument-clause-chose
+returns-in_ok-report_lost-in-None-argument-clause-chose g c =
     let content = g.C.FluentType.content in
     let a = status g.B.Context.meant g.B.Context.is_plain g.F.FluentFunction.answer g.C.FluentType.content c.args.scope.now in
     let x = inline_view c.args.selector.now in
@@ -73,4 +73,4 @@ returns-in_ok-report_lost-in-None-argument g c =
     let told = tells_on (given (goes error_value) a.budget) c.in_ok-report_lost-in-None-argument.was c.report_lost.ensures (reads lost (begins a _)) in
     let b = status g.B.Context.meant g.B.Context.is_plain g.F.FluentFunction.answer g.C.FluentType.content c.report_lost.new.scope in
     let here = reads (ap (given (goes error_value)) (sym c.report_lost.ensures.budget)) told in
-    got _ (reads (ap (λ o. given o b.budget) (error_chooses a.bundle (first_default vs) vs ∙ sym c.first_default-in-None-argument.ensures)) here)
+    got _ (reads (ap (λ o. given o b.budget) (error_chooses a.bundle (first_default vs) vs ∙ sym c.first_default-in-None-argument.ensures.chose)) here)

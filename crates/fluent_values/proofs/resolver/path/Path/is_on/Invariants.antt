@@ -1,10 +1,12 @@
-use Rattle.std.proofs.Common.{◌≡◌, drop}
-use Rattle.fluent_tree.specs.View.{pattern_view}
+use Rattle.std.proofs.Common.{◌≡◌, List, drop}
+use Rattle.fluent_tree.specs.Tree.{Pattern}
 use Rattle.fluent_meaning.specs.Walk.{is_on}
-use Rattle.fluent_values.specs.Status.{trail, on_path}
+use Rattle.fluent_values.specs.Trail.{AreClassed, IsClassed, content_at, on_path, trail}
+use Rattle.fluent_links.specs.Classes.{AreDistinct}
 use Rattle.fluent_values.proofs.resolver.path.Path.is_on.Given as goal
 
 -- it is on the path where it is among those left
 abbrev pub invariant-loop-other : goal.invariant-loop-other
 invariant-loop-other l =
-    is_on (on_path (trail l.fn.self)) (pattern_view l.pattern) ≡ is_on (on_path (drop l.other-index l.other-items)) (pattern_view l.pattern)
+    (table : List Pattern) → AreDistinct table → AreClassed table (trail l.fn.self) → IsClassed table l.step
+    → is_on (on_path (trail l.fn.self)) (content_at l.step) ≡ is_on (on_path (drop l.other-index l.other-items)) (content_at l.step)

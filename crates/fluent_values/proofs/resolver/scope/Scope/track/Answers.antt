@@ -1,6 +1,7 @@
 use Rattle.std.proofs.Common.{sym}
 use Rattle.fluent_tree.specs.View.{inline_view, pattern_view}
-use Rattle.fluent_values.specs.Status.{on_path, status}
+use Rattle.fluent_values.specs.Status.{status}
+use Rattle.fluent_values.specs.Trail.{on_path}
 use Rattle.fluent_values.proofs.resolver.scope.Scope.track.Goals as goal
 
 pub returns-clause-runs : goal.returns-clause-runs

@@ -1,0 +1,91 @@
+//! Numbers of ids, and what stands in their slots.
+use fluent_links::Slots;
+use std::alloc::AllocError;
+use std::borrow::CowStr;
+use std::test::Fail;
+
+/// The number of an id, asked again where memory is refused.
+pub fn number_of<'s>(slots: &mut Slots<'s, u8>, id: &'s str) -> Result<u32, AllocError> {
+    match slots.number_of(CowStr::Borrowed(id)) {
+        Ok(number) => Ok(number),
+        Err(AllocError) => slots.number_of(CowStr::Borrowed(id)),
+    }
+}
+
+/// Ids as they come, and their numbers: the next one where an id is new.
+const IDS: &[(&str, u32)] = &[
+    ("a", 0),
+    ("b", 1),
+    ("a", 0),
+    ("ab", 2),
+    ("", 3),
+    ("B", 4),
+    ("b", 1),
+    ("", 3),
+    ("c", 5),
+];
+
+/// Run with each allocation failing in turn: an id that was refused gets the number that it would have got.
+#[test]
+fn ids_get_numbers_in_turn(rt: HostRuntime) -> Result<(), Fail> {
+    let mut slots = Slots::new(rt.alloc());
+    for (id, number) in IDS {
+        let found = number_of(&mut slots, id)?;
+        assert!(rt; found == *number, "{id:?} has {found}");
+    }
+    Ok(())
+}
+
+/// What the ids of the first three slots name.
+type Named = (Option<u8>, Option<u8>, Option<u8>);
+
+/// What is put into the slot of a number, and what is named from then on.
+const FILLED: &[(u32, u8, Named)] = &[
+    (1, 10, (None, Some(10), None)),
+    (0, 11, (Some(11), Some(10), None)),
+    // In place of what stood there.
+    (1, 12, (Some(11), Some(12), None)),
+    // No slot has these numbers.
+    (3, 13, (Some(11), Some(12), None)),
+    (u32::MAX, 14, (Some(11), Some(12), None)),
+    (2, 15, (Some(11), Some(12), Some(15))),
+];
+
+/// That an id names this, and that it stands in the slot of its number.
+fn holds(slots: &Slots<'_, u8>, id: &str, number: u32, value: Option<u8>) -> bool {
+    slots.find(id).copied() == value && slots.at(number).copied() == value
+}
+
+/// That the slots of a, b and c hold this, and that no other slot is there.
+fn hold(slots: &Slots<'_, u8>, named: Named) -> bool {
+    holds(slots, "a", 0, named.0)
+        && holds(slots, "b", 1, named.1)
+        && holds(slots, "c", 2, named.2)
+        && holds(slots, "d", 3, None)
+}
+
+/// Run with each allocation failing in turn.
+#[test]
+fn slots_hold_what_was_put_there_last(rt: HostRuntime) -> Result<(), Fail> {
+    let mut slots = Slots::new(rt.alloc());
+    for id in ["a", "b", "c"] {
+        number_of(&mut slots, id)?;
+    }
+    assert!(rt; hold(&slots, (None, None, None)), "before");
+    for (number, value, named) in FILLED {
+        slots.fill(*number, *value);
+        assert!(rt; hold(&slots, *named), "behind {value} at {number}");
+    }
+    Ok(())
+}
+
+/// A new slot is empty, and others stay as they are.
+#[test]
+fn a_new_slot_is_empty(rt: HostRuntime) -> Result<(), Fail> {
+    let mut slots = Slots::new(rt.alloc());
+    number_of(&mut slots, "a")?;
+    slots.fill(0, 7);
+    number_of(&mut slots, "b")?;
+    assert!(rt; hold(&slots, (Some(7), None, None)));
+    Ok(())
+}

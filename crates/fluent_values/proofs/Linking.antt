@@ -1,0 +1,137 @@
+-- What is kept of patterns is theirs, and stays so while ids keep their numbers and contents their classes.
+use Rattle.std.specs.Prelude.{◌≡◌, ℕ, zero, suc, List, [], ◌∷◌, ◌++◌, length, take, slice_get, is_some, Bool, true, false, cond, Option, Some, None, IfSome, refl, ◌<◌, ◌+◌}
+use Rattle.std.specs.Option.{option_map, option_copied, unwrap_or}
+use Rattle.std.specs.Str.{bytes_eq}
+use Rattle.std.proofs.Common.{Bor, ap, sym, subst, ◌∙◌, get_or}
+use Rattle.std.proofs.lemmas.List.{map_more}
+use Rattle.fluent_tree.specs.Tree.{Text, Pattern}
+use Rattle.fluent_tree.specs.View.{pattern_view, value_view}
+use Rattle.fluent_tree.specs.declared.ast.Attribute.{Attribute}
+use Rattle.fluent_tree.specs.declared.ast.Pattern as code
+use Rattle.fluent_links.specs.Classes.{Grows, HasClass}
+use Rattle.fluent_links.specs.Linked.{IsOf, still_of}
+use Rattle.fluent_links.specs.Links.{Keeps}
+use Rattle.fluent_links.specs.Slots.{named, number}
+use Rattle.fluent_links.specs.declared.linked.Linked.{Linked}
+use Rattle.fluent_values.specs.declared.slot.Slot.{Slot}
+use Rattle.fluent_values.specs.Linking.{AreKept, AreLinked, AreOf, IsLinked, attributes_in, patterns, value_in}
+
+some_is : {A : Type 0} (x y : A) → Some x ≡ Some y → x ≡ y
+some_is x y h = ap (λ o. unwrap_or o x) h
+
+none_is : {A : Type 0} (o : Option A) (x : A) → o ≡ None → o ≡ Some x → ⊥
+none_is o x h k = let e : None ≡ Some x = sym h ∙ k in cc
+
+pub kept_by : (n n' : Text → Option ℕ) → ((id : Text) → n' id ≡ n id) → Keeps n n'
+kept_by n n' same = λ id k h. same id ∙ h
+
+pub grows_by : (t t' : List Pattern) → t' ≡ t → Grows t t'
+grows_by t t' same = λ c p h. subst (λ t. HasClass t c p) (sym same) h
+
+pub keeps_twice : (a b c : Text → Option ℕ) → Keeps a b → Keeps b c → Keeps a c
+keeps_twice a b c h k = λ id n at. k id n (h id n at)
+
+pub grows_twice : (a b c : List Pattern) → Grows a b → Grows b c → Grows a c
+grows_twice a b c h k = λ n p at. k n p (h n p at)
+
+module _ (n n' : Text → Option ℕ) (t t' : List Pattern) (kept : Keeps n n') (grows : Grows t t') where
+  still_kept : (ps : List Pattern) (ls : List Linked) → AreKept n t ps ls → AreKept n' t' ps ls
+  still_kept ps ls h = record {
+    count = h.count;
+    each = λ k p l at here. still_of n n' t t' kept grows p l (h.each k p l at here);
+  }
+
+  pub still_linked : {F : Type 0} (s : Slot F) → IsLinked n t s → IsLinked n' t' s
+  still_linked s h = record {
+    valued = h.valued;
+    value = λ p l at here. still_of n n' t t' kept grows p l (h.value p l at here);
+    attributes = still_kept (attributes_in s.entry) s.attributes.items h.attributes;
+  }
+
+  pub still_all : (ps : List Pattern) (ls : List Linked) → AreOf n t ps ls → AreOf n' t' ps ls
+  still_all [] [] h = tt
+  still_all [] (y ∷ ls) h = absurd h
+  still_all (x ∷ ps) [] h = absurd h
+  still_all (x ∷ ps) (y ∷ ls) h = (still_of n n' t t' kept grows x y h.0, still_all ps ls h.1)
+
+  more_of : (ps : List Pattern) (ls : List Linked) (p : Pattern) (l : Linked) → AreOf n t ps ls → IsOf n' t' p l → AreOf n' t' (ps ++ p ∷ []) (ls ++ l ∷ [])
+  more_of [] [] p l h one = (one, tt)
+  more_of [] (y ∷ ls) p l h one = absurd h
+  more_of (x ∷ ps) [] p l h one = absurd h
+  more_of (x ∷ ps) (y ∷ ls) p l h one = (still_of n n' t t' kept grows x y h.0, more_of ps ls p l h.1 one)
+
+  -- one attribute more
+  pub one_linked : (as' : List Attribute) (i : ℕ) (d a : Attribute) (ls ls' : List Linked) (l : Linked) → i < length as' → a ≡ get_or as' i d
+      → IsOf n' t' (pattern_view a.value) l → ls' ≡ ls ++ l ∷ [] → AreOf n t (patterns (take i as')) ls → AreOf n' t' (patterns (take (i + 1) as')) ls'
+  one_linked as' i d a ls ls' l lt is one more h =
+      let here : IsOf n' t' (pattern_view (get_or as' i d).value) l = subst (λ (x : Attribute). IsOf n' t' (pattern_view x.value) l) is one in
+      subst (AreOf n' t' (patterns (take (i + 1) as'))) (sym more)
+      (subst (λ ps. AreOf n' t' ps (ls ++ l ∷ [])) (sym (map_more (λ x. pattern_view x.value) as' i d lt))
+      (more_of (patterns (take i as')) ls (pattern_view (get_or as' i d).value) l h here))
+
+module _ (n : Text → Option ℕ) (t : List Pattern) where
+  count_of : (ps : List Pattern) (ls : List Linked) → AreOf n t ps ls → length ls ≡ length ps
+  count_of [] [] h = refl
+  count_of [] (y ∷ ls) h = absurd h
+  count_of (x ∷ ps) [] h = absurd h
+  count_of (x ∷ ps) (y ∷ ls) h = ap suc (count_of ps ls h.1)
+
+  each_of : (ps : List Pattern) (ls : List Linked) → AreOf n t ps ls → (k : ℕ) (p : Pattern) (l : Linked) → slice_get ps k ≡ Some p → slice_get ls k ≡ Some l → IsOf n t p l
+  each_of [] ls h k p l at here = absurd cc
+  each_of (x ∷ ps) [] h k p l at here = absurd h
+  each_of (x ∷ ps) (y ∷ ls) h zero p l at here = subst (λ l. IsOf n t p l) (some_is y l here) (subst (λ p. IsOf n t p y) (some_is x p at) h.0)
+  each_of (x ∷ ps) (y ∷ ls) h (suc k) p l at here = each_of ps ls h.1 k p l at here
+
+  kept_of : (ps : List Pattern) (ls : List Linked) → AreOf n t ps ls → AreKept n t ps ls
+  kept_of ps ls h = record { count = count_of ps ls h; each = each_of ps ls h }
+
+  module _ {F : Type 0} (s : Slot F) where
+    -- an entry with a value
+    pub valued_linked : (p : Pattern) (l : Linked) → value_in s.entry ≡ Some p → s.value ≡ Some l → IsOf n t p l → AreOf n t (attributes_in s.entry) s.attributes.items → IsLinked n t s
+    valued_linked p l at here one all = record {
+      valued = ap is_some here ∙ sym (ap is_some at);
+      value = λ p' l' at' here'. subst (λ l. IsOf n t p' l) (some_is l l' (sym here ∙ here')) (subst (λ p. IsOf n t p l) (some_is p p' (sym at ∙ at')) one);
+      attributes = kept_of (attributes_in s.entry) s.attributes.items all;
+    }
+
+    -- one without
+    pub bare_linked : value_in s.entry ≡ None → s.value ≡ None → AreOf n t (attributes_in s.entry) s.attributes.items → IsLinked n t s
+    bare_linked at here all = record {
+      valued = ap is_some here ∙ sym (ap is_some at);
+      value = λ p l at' here'. absurd (none_is s.value l here here');
+      attributes = kept_of (attributes_in s.entry) s.attributes.items all;
+    }
+
+    -- one that has no patterns at all
+    pub plain_linked : value_in s.entry ≡ None → s.value ≡ None → attributes_in s.entry ≡ [] → s.attributes.items ≡ [] → IsLinked n t s
+    plain_linked at here none none' = bare_linked at here (subst (λ ps. AreOf n t ps s.attributes.items) (sym none) (subst (AreOf n t []) (sym none') tt))
+
+module _ {F : Type 0} where
+  -- no slots
+  pub none_linked : (ss : List (Text × Option (Slot F))) (t : List Pattern) → ss ≡ [] → AreLinked ss t
+  none_linked ss t h = λ id s at. absurd (none_is (named id ss) s (ap (named id) h) at)
+
+  -- slots of which each id names the same
+  pub same_linked : (ss ts : List (Text × Option (Slot F))) (t t' : List Pattern) → Keeps (number ss) (number ts) → Grows t t' → ((q : Text) → named q ts ≡ named q ss) → AreLinked ss t → AreLinked ts t'
+  same_linked ss ts t t' kept grows same h = λ id s at. still_linked (number ss) (number ts) t t' kept grows s (h id s (sym (same id) ∙ at))
+
+  either : (b : Bool) (n : Text → Option ℕ) (t : List Pattern) (x s : Slot F) (o : Option (Slot F)) → IsLinked n t x → (o ≡ Some s → IsLinked n t s) → cond b (Some x) o ≡ Some s → IsLinked n t s
+  either true n t x s o new old at = subst (IsLinked n t) (some_is x s at) new
+  either false n t x s o new old at = old at
+
+  -- what is put into a slot
+  pub put_linked : (ss ts : List (Text × Option (Slot F))) (t : List Pattern) (k : Text) (x : Slot F) → ((id : Text) → number ts id ≡ number ss id) → ((q : Text) → named q ts ≡ cond (bytes_eq k q) (Some x) (named q ss))
+      → IsLinked (number ss) t x → AreLinked ss t → AreLinked ts t
+  put_linked ss ts t k x same puts new h = λ id s at.
+      still_linked (number ss) (number ts) t t (kept_by (number ss) (number ts) same) (grows_by t t refl) s
+      (either (bytes_eq k id) (number ss) t x s (named id ss) new (h id s) (sym (puts id) ∙ at))
+
+  -- what is found
+  pub found_linked : (r : Option (Bor (Slot F))) (ss : List (Text × Option (Slot F))) (t : List Pattern) (id : Text) → option_map (λ s. s.now) r ≡ named id ss → AreLinked ss t → IfSome r (λ s. IsLinked (number ss) t s.now)
+  found_linked None ss t id is h = tt
+  found_linked (Some s) ss t id is h = h id s.now (sym is)
+
+-- a value that is lent
+pub lent_value : (r : Option (Bor code.Pattern)) (v : Option code.Pattern) → option_copied r ≡ v → option_map (λ p. pattern_view p.now) r ≡ value_view v
+lent_value None v h = ap value_view h
+lent_value (Some p) v h = ap value_view h
