@@ -104,6 +104,7 @@ fn call<'s>(alloc: Global, inside: Inline<'s>, place: In) -> Result<Inline<'s>, 
             value: inside,
         })?,
     }
+    let arguments = Box::new(alloc, arguments)?;
     Ok(match place {
         In::Positional => function("FIRST", arguments),
         In::Named => function("NAMED", arguments),
@@ -115,7 +116,7 @@ fn call<'s>(alloc: Global, inside: Inline<'s>, place: In) -> Result<Inline<'s>, 
     })
 }
 
-fn function<'s>(name: &'s str, arguments: CallArguments<'s>) -> Inline<'s> {
+fn function<'s>(name: &'s str, arguments: Box<CallArguments<'s>>) -> Inline<'s> {
     InlineExpression::FunctionReference {
         id: Identifier { name },
         arguments,

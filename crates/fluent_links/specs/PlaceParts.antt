@@ -39,12 +39,12 @@ in_select x vs = search (rules, of_expression.the_lemmas)
 pub in_select_is : (e : of_expression.Expression) (x : of_inline.InlineExpression) (vs : Vec Variant Global) → e ≡ expressions.Select x vs → in_expression (expression_view e) ≡ in_inline (inline_view x) ++ in_variant_list vs.items
 in_select_is e x vs h = ap (λ e. in_expression (expression_view e)) h ∙ in_select x vs
 
-in_function : (id : Identifier) (a : of_call.CallArguments) → in_inline (inline_view (inlines.FunctionReference id a)) ≡ a_function id.name.now ∷ in_arguments (arguments_view a)
-in_function id a = search (rules, of_inline.the_lemmas)
+in_function : (id : Identifier) (b : Box of_call.CallArguments Global) → in_inline (inline_view (inlines.FunctionReference id b)) ≡ a_function id.name.now ∷ in_arguments (arguments_view b.value)
+in_function id b = search (rules, of_inline.the_lemmas)
 
 -- a function: itself and then its arguments
-pub in_function_is : (x : of_inline.InlineExpression) (id : Identifier) (a : of_call.CallArguments) → x ≡ inlines.FunctionReference id a → in_inline (inline_view x) ≡ a_function id.name.now ∷ in_arguments (arguments_view a)
-in_function_is x id a h = ap (λ x. in_inline (inline_view x)) h ∙ in_function id a
+pub in_function_is : (x : of_inline.InlineExpression) (id : Identifier) (b : Box of_call.CallArguments Global) → x ≡ inlines.FunctionReference id b → in_inline (inline_view x) ≡ a_function id.name.now ∷ in_arguments (arguments_view b.value)
+in_function_is x id b h = ap (λ x. in_inline (inline_view x)) h ∙ in_function id b
 
 in_message : (id : Identifier) (a : Option Identifier) → in_inline (inline_view (inlines.MessageReference id a)) ≡ a_message id.name.now ∷ []
 in_message id a = search (rules, of_inline.the_lemmas)
@@ -55,15 +55,15 @@ in_message_is x id a h = ap (λ x. in_inline (inline_view x)) h ∙ in_message i
 in_bare_term : (id : Identifier) (a : Option Identifier) → in_inline (inline_view (inlines.TermReference id a None)) ≡ a_term id.name.now ∷ in_call (call_view None)
 in_bare_term id a = search (rules, of_inline.the_lemmas)
 
-in_called_term : (id : Identifier) (a : Option Identifier) (c : of_call.CallArguments) → in_inline (inline_view (inlines.TermReference id a (Some c))) ≡ a_term id.name.now ∷ in_call (call_view (Some c))
+in_called_term : (id : Identifier) (a : Option Identifier) (c : Box of_call.CallArguments Global) → in_inline (inline_view (inlines.TermReference id a (Some c))) ≡ a_term id.name.now ∷ in_call (call_view (Some c))
 in_called_term id a c = search (rules, of_inline.the_lemmas)
 
-in_term : (id : Identifier) (a : Option Identifier) (c : Option of_call.CallArguments) → in_inline (inline_view (inlines.TermReference id a c)) ≡ a_term id.name.now ∷ in_call (call_view c)
+in_term : (id : Identifier) (a : Option Identifier) (c : Option (Box of_call.CallArguments Global)) → in_inline (inline_view (inlines.TermReference id a c)) ≡ a_term id.name.now ∷ in_call (call_view c)
 in_term id a None = in_bare_term id a
 in_term id a (Some c) = in_called_term id a c
 
 -- a term: itself and then its arguments, if any
-pub in_term_is : (x : of_inline.InlineExpression) (id : Identifier) (a : Option Identifier) (c : Option of_call.CallArguments) → x ≡ inlines.TermReference id a c → in_inline (inline_view x) ≡ a_term id.name.now ∷ in_call (call_view c)
+pub in_term_is : (x : of_inline.InlineExpression) (id : Identifier) (a : Option Identifier) (c : Option (Box of_call.CallArguments Global)) → x ≡ inlines.TermReference id a c → in_inline (inline_view x) ≡ a_term id.name.now ∷ in_call (call_view c)
 in_term_is x id a c h = ap (λ x. in_inline (inline_view x)) h ∙ in_term id a c
 
 in_nested : (b : Box of_expression.Expression Global) → in_inline (inline_view (inlines.Placeable b)) ≡ in_expression (expression_view b.value)

@@ -124,7 +124,7 @@ fn hash_attribute<H: Hasher>(attribute: &Option<Identifier<'_>>, state: &mut H)
 
 #[cycle(hashing)]
 #[tactic(auto, using(crate::proofs::Fed::fed))]
-fn hash_call<H: Hasher>(arguments: &Option<CallArguments<'_>>, state: &mut H)
+fn hash_call<H: Hasher>(arguments: &Option<Box<CallArguments<'_>>>, state: &mut H)
     ensures { state.new ≡ fold H.write state.old (hashed_call (call_view arguments.now)) }
 {
     if let Some(arguments) = arguments {

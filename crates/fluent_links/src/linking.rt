@@ -135,7 +135,7 @@ fn link_inline<'s, X: Drop>(
 fn link_call<'s, X: Drop>(
     links: &mut Vec<u32>,
     slots: &mut Slots<'s, X>,
-    arguments: &Option<CallArguments<'s>>,
+    arguments: &Option<Box<CallArguments<'s>>>,
 ) -> Result<(), AllocError>
     ensures ok { OnOk result (Adds (slots_of slots.old) (slots_of slots.new)
         links.old.items links.new.items (in_call (call_view arguments.now))) }

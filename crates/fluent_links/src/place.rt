@@ -113,7 +113,7 @@ impl<'b> Place<'b> {
     }
 
     /// Behind the arguments of a term, which may have none.
-    pub fn behind_call(self, arguments: &Option<CallArguments<'_>>) -> Self
+    pub fn behind_call(self, arguments: &Option<Box<CallArguments<'_>>>) -> Self
         ensures { seen result ≡ behind (in_call (call_view arguments.now)) (seen self.entry) }
     {
         match arguments {

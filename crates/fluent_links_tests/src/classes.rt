@@ -1,10 +1,10 @@
 //! Classes: equal exactly where patterns are.
 use crate::trees::{
-    Inline, Tree, alone, attribute, bare_term, function, message, named, nested, no_arguments,
-    number, put, select, string, term, text, variable, variant, whole,
+    Inline, Tree, alone, asked, attribute, bare_term, function, message, named, nested,
+    no_arguments, number, put, select, string, term, text, variable, variant, whole,
 };
 use fluent_links::Classes;
-use fluent_tree::ast::{CallArguments, Pattern};
+use fluent_tree::ast::Pattern;
 use std::alloc::{AllocError, Global};
 use std::test::Fail;
 
@@ -24,19 +24,14 @@ fn texts(alloc: Global, first: &'static str, second: &'static str) -> Result<Tre
 
 /// `{ F(x) }`
 fn given(alloc: Global, inline: Inline) -> Result<Tree, AllocError> {
-    let arguments = CallArguments {
-        positional: vec![in alloc; inline]?,
-        named: Vec::new(alloc),
-    };
+    let arguments = asked(alloc, vec![in alloc; inline]?, Vec::new(alloc))?;
     alone(alloc, put(function("F", arguments)))
 }
 
 /// `{ F(n: x) }`
 fn given_as(alloc: Global, name: &'static str, inline: Inline) -> Result<Tree, AllocError> {
-    let arguments = CallArguments {
-        positional: Vec::new(alloc),
-        named: vec![in alloc; named(name, inline)]?,
-    };
+    let named = vec![in alloc; named(name, inline)]?;
+    let arguments = asked(alloc, Vec::new(alloc), named)?;
     alone(alloc, put(function("F", arguments)))
 }
 
@@ -71,7 +66,7 @@ fn tree(alloc: Global, i: usize) -> Result<Tree, AllocError> {
         12 => alone(alloc, put(message("x"))),
         13 => alone(alloc, put(attribute("x", "y"))),
         14 => alone(alloc, put(bare_term("x"))),
-        15 => alone(alloc, put(term("x", no_arguments(alloc)))),
+        15 => alone(alloc, put(term("x", no_arguments(alloc)?))),
         16 => alone(alloc, put(nested(alloc, message("x"))?)),
         17 => given(alloc, message("x")),
         18 => given_as(alloc, "n", message("x")),

@@ -49,7 +49,7 @@ pub fn bare_term(name: &'static str) -> Inline {
     }
 }
 
-pub fn term(name: &'static str, arguments: CallArguments<'static>) -> Inline {
+pub fn term(name: &'static str, arguments: Box<CallArguments<'static>>) -> Inline {
     InlineExpression::TermReference {
         id: Identifier { name },
         attribute: None,
@@ -57,7 +57,7 @@ pub fn term(name: &'static str, arguments: CallArguments<'static>) -> Inline {
     }
 }
 
-pub fn function(name: &'static str, arguments: CallArguments<'static>) -> Inline {
+pub fn function(name: &'static str, arguments: Box<CallArguments<'static>>) -> Inline {
     InlineExpression::FunctionReference {
         id: Identifier { name },
         arguments,
@@ -71,11 +71,16 @@ pub fn nested(alloc: Global, inline: Inline) -> Result<Inline, AllocError> {
     })
 }
 
-pub fn no_arguments(alloc: Global) -> CallArguments<'static> {
-    CallArguments {
-        positional: Vec::new(alloc),
-        named: Vec::new(alloc),
-    }
+pub fn asked(
+    alloc: Global,
+    positional: Vec<Inline>,
+    named: Vec<NamedArgument<'static>>,
+) -> Result<Box<CallArguments<'static>>, AllocError> {
+    Ok(Box::new(alloc, CallArguments { positional, named })?)
+}
+
+pub fn no_arguments(alloc: Global) -> Result<Box<CallArguments<'static>>, AllocError> {
+    asked(alloc, Vec::new(alloc), Vec::new(alloc))
 }
 
 pub fn named(name: &'static str, value: Inline) -> NamedArgument<'static> {
@@ -127,19 +132,16 @@ pub fn alone(alloc: Global, element: Element) -> Result<Tree, AllocError> {
 // ---- a pattern of every part that refers to something
 
 /// `a, { b }, n: c` of `F`.
-pub fn of_function(alloc: Global) -> Result<CallArguments<'static>, AllocError> {
-    Ok(CallArguments {
-        positional: vec![in alloc; message("a"), nested(alloc, message("b"))?]?,
-        named: vec![in alloc; named("n", message("c"))]?,
-    })
+pub fn of_function(alloc: Global) -> Result<Box<CallArguments<'static>>, AllocError> {
+    let positional = vec![in alloc; message("a"), nested(alloc, message("b"))?]?;
+    asked(alloc, positional, vec![in alloc; named("n", message("c"))]?)
 }
 
 /// `d, $v, n: "e", m: -u` of `-t`.
-pub fn of_term(alloc: Global) -> Result<CallArguments<'static>, AllocError> {
-    Ok(CallArguments {
-        positional: vec![in alloc; message("d"), variable("v")]?,
-        named: vec![in alloc; named("n", string("e")), named("m", bare_term("u"))]?,
-    })
+pub fn of_term(alloc: Global) -> Result<Box<CallArguments<'static>>, AllocError> {
+    let positional = vec![in alloc; message("d"), variable("v")]?;
+    let named = vec![in alloc; named("n", string("e")), named("m", bare_term("u"))]?;
+    asked(alloc, positional, named)
 }
 
 /// `[one] { e.k } *[other] { a }` of a select.
@@ -153,7 +155,7 @@ pub fn of_select(alloc: Global) -> Result<Vec<Variant<'static>>, AllocError> {
 pub fn whole(alloc: Global) -> Result<Tree, AllocError> {
     let called = put(function("F", of_function(alloc)?));
     let asked = put(term("t", of_term(alloc)?));
-    let selected = select(function("G", no_arguments(alloc)), of_select(alloc)?);
+    let selected = select(function("G", no_arguments(alloc)?), of_select(alloc)?);
     Ok(Pattern {
         elements: vec![in alloc; called, text("x"), asked, selected, put(message("f"))]?,
     })

@@ -211,11 +211,11 @@ fn terms_give<'s>(rt: &impl Abort, alloc: Global, bundle: &Bundle<'_, 's>) -> Re
         Q,
     )?;
     let both = vec![in alloc; named("n", number("1")), named("n", number("2"))]?;
-    let last = alone(alloc, term("t", "", asked(Vec::new(alloc), both)));
+    let last = alone(alloc, term("t", "", asked(alloc, Vec::new(alloc), both)?));
     row(rt, alloc, bundle, last, "2", "")?;
     let positional = vec![in alloc; variable("p")]?;
     let beside_it = vec![in alloc; named("n", variable("q"))]?;
-    let in_order = alone(alloc, term("t", "", asked(positional, beside_it)));
+    let in_order = alone(alloc, term("t", "", asked(alloc, positional, beside_it)?));
     row(rt, alloc, bundle, in_order, "", P_AND_Q)
 }
 
@@ -231,7 +231,10 @@ fn functions_give<'s>(rt: &impl Abort, alloc: Global, bundle: &Bundle<'_, 's>) -
         "",
     )?;
     let both = vec![in alloc; named("x", number("1")), named("x", number("2"))]?;
-    let last = alone(alloc, function("NAMED", asked(Vec::new(alloc), both)));
+    let last = alone(
+        alloc,
+        function("NAMED", asked(alloc, Vec::new(alloc), both)?),
+    );
     row(rt, alloc, bundle, last, "2", "")?;
     let outer = only_named(alloc, "x", message("one"))?;
     row(
@@ -244,10 +247,16 @@ fn functions_give<'s>(rt: &impl Abort, alloc: Global, bundle: &Bundle<'_, 's>) -
     )?;
     let positional = vec![in alloc; variable("p")]?;
     let beside_it = vec![in alloc; named("x", variable("q"))]?;
-    let in_order = alone(alloc, function("FIRST", asked(positional, beside_it)));
+    let in_order = alone(
+        alloc,
+        function("FIRST", asked(alloc, positional, beside_it)?),
+    );
     row(rt, alloc, bundle, in_order, "FIRST()", P_AND_Q)?;
     let positional = vec![in alloc; string("s"), variable("p")]?;
-    let second = alone(alloc, function("FIRST", asked(positional, Vec::new(alloc))));
+    let second = alone(
+        alloc,
+        function("FIRST", asked(alloc, positional, Vec::new(alloc))?),
+    );
     row(rt, alloc, bundle, second, "s", P)
 }
 

@@ -79,7 +79,7 @@ pub fn bare_term<'s>(id: &'s str, attribute: &'s str) -> Inline<'s> {
 }
 
 /// A term, or its attribute where the name is not empty.
-pub fn term<'s>(id: &'s str, attribute: &'s str, arguments: CallArguments<'s>) -> Inline<'s> {
+pub fn term<'s>(id: &'s str, attribute: &'s str, arguments: Box<CallArguments<'s>>) -> Inline<'s> {
     InlineExpression::TermReference {
         id: name_of(id),
         attribute: attribute_of(attribute),
@@ -87,7 +87,7 @@ pub fn term<'s>(id: &'s str, attribute: &'s str, arguments: CallArguments<'s>) -
     }
 }
 
-pub fn function<'s>(id: &'s str, arguments: CallArguments<'s>) -> Inline<'s> {
+pub fn function<'s>(id: &'s str, arguments: Box<CallArguments<'s>>) -> Inline<'s> {
     InlineExpression::FunctionReference {
         id: name_of(id),
         arguments,
@@ -122,13 +122,17 @@ pub fn named<'s>(name: &'s str, value: Inline<'s>) -> NamedArgument<'s> {
     }
 }
 
-pub fn asked<'s>(positional: Vec<Inline<'s>>, named: Vec<NamedArgument<'s>>) -> CallArguments<'s> {
-    CallArguments { positional, named }
+pub fn asked<'s>(
+    alloc: Global,
+    positional: Vec<Inline<'s>>,
+    named: Vec<NamedArgument<'s>>,
+) -> Result<Box<CallArguments<'s>>, AllocError> {
+    Ok(Box::new(alloc, CallArguments { positional, named })?)
 }
 
 /// One positional argument.
-pub fn only<'s>(alloc: Global, inline: Inline<'s>) -> Result<CallArguments<'s>, AllocError> {
-    Ok(asked(vec![in alloc; inline]?, Vec::new(alloc)))
+pub fn only<'s>(alloc: Global, inline: Inline<'s>) -> Result<Box<CallArguments<'s>>, AllocError> {
+    asked(alloc, vec![in alloc; inline]?, Vec::new(alloc))
 }
 
 /// One named argument.
@@ -136,8 +140,8 @@ pub fn only_named<'s>(
     alloc: Global,
     name: &'s str,
     value: Inline<'s>,
-) -> Result<CallArguments<'s>, AllocError> {
-    Ok(asked(Vec::new(alloc), vec![in alloc; named(name, value)]?))
+) -> Result<Box<CallArguments<'s>>, AllocError> {
+    asked(alloc, Vec::new(alloc), vec![in alloc; named(name, value)]?)
 }
 
 // ---- selects

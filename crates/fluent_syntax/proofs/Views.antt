@@ -1,5 +1,5 @@
 -- The content of each case of an element.
-use Rattle.std.proofs.Common.{◌≡◌, ℕ, List, Vec, Global, Option, None, map, ap, ◌∙◌, rules}
+use Rattle.std.proofs.Common.{◌≡◌, ℕ, List, Vec, Box, Global, Option, None, map, ap, ◌∙◌, rules}
 use Rattle.std.specs.Borrow.{Bor}
 use Rattle.fluent_tree.specs.Tree.{text, placeable, pattern_of, inline, variable, message, term, function, no_attribute, no_call}
 use Rattle.fluent_tree.specs.View.{element_view, expression_view, inline_view, pattern_view, name_view, attribute_of, arguments_view, named_view}
@@ -45,8 +45,8 @@ view_term id = search (rules, of_inline.the_lemmas)
 pub view_reference : (id : Identifier) (a : Option Identifier) → inline_view (inlines.MessageReference id a) ≡ message (name_view id) (attribute_of a)
 view_reference id a = search (rules, of_inline.the_lemmas)
 
-pub view_function : (id : Identifier) (a : CallArguments) → inline_view (inlines.FunctionReference id a) ≡ function (name_view id) (arguments_view a)
-view_function id a = search (rules, of_inline.the_lemmas)
+pub view_function : (id : Identifier) (b : Box CallArguments Global) → inline_view (inlines.FunctionReference id b) ≡ function (name_view id) (arguments_view b.value)
+view_function id b = search (rules, of_inline.the_lemmas)
 
 pub view_named : (id : Identifier) (x : of_inline.InlineExpression) → named_view (roll-NamedArgument (record { name = id; value = x })) ≡ (name_view id, inline_view x)
 view_named id x = search (rules, of_named.the_lemmas)

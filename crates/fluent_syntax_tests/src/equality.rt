@@ -231,7 +231,7 @@ fn inlines<'s>(one: &InlineExpression<'s>, other: &InlineExpression<'s>, equal: 
         (
             InlineExpression::FunctionReference { arguments: x, .. },
             InlineExpression::FunctionReference { arguments: y, .. },
-        ) => (x == y) == equal && (x.named == y.named) == equal,
+        ) => (**x == **y) == equal && (x.named == y.named) == equal,
         _ => false,
     };
     (one == other) == equal && inside

@@ -16,6 +16,8 @@ mod references;
 #[cfg(test)]
 mod shown;
 #[cfg(test)]
+mod sizes;
+#[cfg(test)]
 mod sources;
 #[cfg(test)]
 mod writers;

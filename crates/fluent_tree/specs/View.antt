@@ -1,5 +1,6 @@
 -- The content of the tree of the code, type by type.
 use Rattle.std.specs.Prelude.{List, map, Option, Some, None}
+use Rattle.std.specs.Global.{Box}
 use Rattle.fluent_tree.specs.Tree as t
 use Rattle.fluent_tree.specs.Tree.{Text, Key, name_key, number_key, Element, text, placeable, inline, select, Inline, string, number, function, message, term, variable, nested, Call, no_call, call, Arguments, arguments, Named, variants_of, inlines_of, nameds_of, pattern_of, Attributes, no_attribute, attribute, message_entry, term_entry, junk_entry}
 use Rattle.fluent_tree.specs.declared.ast.Identifier.{Identifier}
@@ -31,9 +32,9 @@ abbrev pub attribute_of : Option Identifier → t.Attribute
 attribute_of None = no_attribute
 attribute_of (Some i) = attribute i.name.now
 
-abbrev pub call_of : Option Arguments → Call
+abbrev pub call_of : Option (Box Arguments) → Call
 call_of None = no_call
-call_of (Some a) = call a
+call_of (Some b) = call b.value
 
 -- ---- one level of each type that reaches itself, with what it holds already seen
 
@@ -44,7 +45,7 @@ expression_step (level.Select x vs) = select x (variants_of vs.items)
 abbrev pub inline_step : level.InlineExpression-F t.Expression Inline Element Arguments Named t.Pattern t.Variant → Inline
 inline_step (level.StringLiteral t) = string t.now
 inline_step (level.NumberLiteral t) = number t.now
-inline_step (level.FunctionReference id a) = function id.name.now a
+inline_step (level.FunctionReference id b) = function id.name.now b.value
 inline_step (level.MessageReference id a) = message id.name.now (attribute_of a)
 inline_step (level.TermReference id a c) = term id.name.now (attribute_of a) (call_of c)
 inline_step (level.VariableReference id) = variable id.name.now
@@ -110,6 +111,6 @@ entry_view (entries.Junk content) = junk_entry content.now
 abbrev pub resource_view : of_resource.Resource → List t.Entry
 resource_view r = map entry_view r.body.items
 
-abbrev pub call_view : Option of_call.CallArguments → Call
+abbrev pub call_view : Option (Box of_call.CallArguments) → Call
 call_view None = no_call
-call_view (Some c) = call (arguments_view c)
+call_view (Some b) = call (arguments_view b.value)

@@ -1,7 +1,7 @@
 //! Whether two parts of a tree have the same content, part by part.
 
-ghost use Rattle.std.specs.Prelude.{◌≡◌, ◌↔◌, IsTrue, map, option_map};
-ghost use Rattle.fluent_tree.specs.View.{arguments_view, attribute_of, element_view, expression_view, inline_view, key_view, named_view, pattern_view, variant_view};
+ghost use Rattle.std.specs.Prelude.{◌≡◌, ◌↔◌, IsTrue, map};
+ghost use Rattle.fluent_tree.specs.View.{arguments_view, attribute_of, call_view, element_view, expression_view, inline_view, key_view, named_view, pattern_view, variant_view};
 
 use crate::ast::{
     CallArguments, Expression, Identifier, InlineExpression, NamedArgument, Pattern,
@@ -150,8 +150,8 @@ pub(crate) fn same_inline<'s>(a: &InlineExpression<'s>, b: &InlineExpression<'s>
 }
 
 #[cycle(same)]
-fn same_call<'s>(a: &Option<CallArguments<'s>>, b: &Option<CallArguments<'s>>) -> bool
-    ensures { IsTrue result ↔ (option_map arguments_view a.now ≡ option_map arguments_view b.now) }
+fn same_call<'s>(a: &Option<Box<CallArguments<'s>>>, b: &Option<Box<CallArguments<'s>>>) -> bool
+    ensures { IsTrue result ↔ (call_view a.now ≡ call_view b.now) }
 {
     match (a, b) {
         (None, None) => true,

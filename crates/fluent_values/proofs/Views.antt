@@ -1,10 +1,9 @@
 -- The content of each case of the tree.
-use Rattle.std.proofs.Common.{◌≡◌, refl, ap, sym, subst, ◌∙◌, rules, ℕ, Option, Vec, Box, Global, List, map, ◌++◌, ◌∷◌, []}
+use Rattle.std.proofs.Common.{◌≡◌, refl, ap, sym, subst, ◌∙◌, rules, ℕ, Option, None, Some, Vec, Box, Global, List, map, ◌++◌, ◌∷◌, []}
 use Rattle.std.specs.Borrow.{Bor}
-use Rattle.std.specs.Option.{option_map}
 use Rattle.fluent_tree.specs.Tree.{inline, select, string, number, function, message, term, variable, nested, arguments, text, placeable, pattern_of, variants_of, inlines_of, nameds_of}
 use Rattle.fluent_tree.specs.Fallback.{fallback, dotted}
-use Rattle.fluent_tree.specs.View.{key_view, expression_view, inline_view, pattern_view, arguments_view, attribute_of, call_of, element_view, variant_view, named_view}
+use Rattle.fluent_tree.specs.View.{key_view, expression_view, inline_view, pattern_view, arguments_view, attribute_of, call_view, element_view, variant_view, named_view}
 use Rattle.fluent_tree.specs.declared.ast.CallArguments as of_call
 use Rattle.fluent_tree.specs.declared.ast.Expression as of_expression
 use Rattle.fluent_tree.specs.declared.ast.Expression.TheOpen as level
@@ -43,16 +42,16 @@ string_fallback t = search (rules, of_inline.the_lemmas)
 pub string_fallback_in : (x : of_inline.InlineExpression) (t : Bor (List ℕ)) → x ≡ inlines.StringLiteral t → 34 ∷ (t.now ++ 34 ∷ []) ≡ fallback (inline_view x)
 string_fallback_in x t h = sym (ap (λ x. fallback (inline_view x)) h ∙ string_fallback t)
 
-function_fallback : (id : Identifier) (a : of_call.CallArguments) → fallback (inline_view (inlines.FunctionReference id a)) ≡ id.name.now ++ 40 ∷ 41 ∷ []
+function_fallback : (id : Identifier) (a : Box of_call.CallArguments Global) → fallback (inline_view (inlines.FunctionReference id a)) ≡ id.name.now ++ 40 ∷ 41 ∷ []
 function_fallback id a = search (rules, of_inline.the_lemmas)
 
-pub function_fallback_in : (x : of_inline.InlineExpression) (id : Identifier) (a : of_call.CallArguments) → x ≡ inlines.FunctionReference id a → id.name.now ++ 40 ∷ 41 ∷ [] ≡ fallback (inline_view x)
+pub function_fallback_in : (x : of_inline.InlineExpression) (id : Identifier) (a : Box of_call.CallArguments Global) → x ≡ inlines.FunctionReference id a → id.name.now ++ 40 ∷ 41 ∷ [] ≡ fallback (inline_view x)
 function_fallback_in x id a h = sym (ap (λ x. fallback (inline_view x)) h ∙ function_fallback id a)
 
-term_fallback : (id : Identifier) (a : Option Identifier) (c : Option of_call.CallArguments) → fallback (inline_view (inlines.TermReference id a c)) ≡ 45 ∷ dotted id.name.now (attribute_of a)
+term_fallback : (id : Identifier) (a : Option Identifier) (c : Option (Box of_call.CallArguments Global)) → fallback (inline_view (inlines.TermReference id a c)) ≡ 45 ∷ dotted id.name.now (attribute_of a)
 term_fallback id a c = search (rules, of_inline.the_lemmas)
 
-pub term_fallback_in : (x : of_inline.InlineExpression) (id : Identifier) (a : Option Identifier) (c : Option of_call.CallArguments) → x ≡ inlines.TermReference id a c → 45 ∷ dotted id.name.now (attribute_of a) ≡ fallback (inline_view x)
+pub term_fallback_in : (x : of_inline.InlineExpression) (id : Identifier) (a : Option Identifier) (c : Option (Box of_call.CallArguments Global)) → x ≡ inlines.TermReference id a c → 45 ∷ dotted id.name.now (attribute_of a) ≡ fallback (inline_view x)
 term_fallback_in x id a c h = sym (ap (λ x. fallback (inline_view x)) h ∙ term_fallback id a c)
 
 variable_fallback : (id : Identifier) → fallback (inline_view (inlines.VariableReference id)) ≡ 36 ∷ id.name.now
@@ -89,11 +88,11 @@ view_number t = search (rules, of_inline.the_lemmas)
 pub view_number_in : (x : of_inline.InlineExpression) (t : Bor (List ℕ)) → x ≡ inlines.NumberLiteral t → inline_view x ≡ number t.now
 view_number_in x t h = ap inline_view h ∙ view_number t
 
-view_function : (id : Identifier) (a : of_call.CallArguments) → inline_view (inlines.FunctionReference id a) ≡ function id.name.now (arguments_view a)
-view_function id a = search (rules, of_inline.the_lemmas)
+view_function : (id : Identifier) (b : Box of_call.CallArguments Global) → inline_view (inlines.FunctionReference id b) ≡ function id.name.now (arguments_view b.value)
+view_function id b = search (rules, of_inline.the_lemmas)
 
-pub view_function_in : (x : of_inline.InlineExpression) (id : Identifier) (a : of_call.CallArguments) → x ≡ inlines.FunctionReference id a → inline_view x ≡ function id.name.now (arguments_view a)
-view_function_in x id a h = ap inline_view h ∙ view_function id a
+pub view_function_in : (x : of_inline.InlineExpression) (id : Identifier) (b : Box of_call.CallArguments Global) → x ≡ inlines.FunctionReference id b → inline_view x ≡ function id.name.now (arguments_view b.value)
+view_function_in x id b h = ap inline_view h ∙ view_function id b
 
 view_message : (id : Identifier) (a : Option Identifier) → inline_view (inlines.MessageReference id a) ≡ message id.name.now (attribute_of a)
 view_message id a = search (rules, of_inline.the_lemmas)
@@ -101,10 +100,11 @@ view_message id a = search (rules, of_inline.the_lemmas)
 pub view_message_in : (x : of_inline.InlineExpression) (id : Identifier) (a : Option Identifier) → x ≡ inlines.MessageReference id a → inline_view x ≡ message id.name.now (attribute_of a)
 view_message_in x id a h = ap inline_view h ∙ view_message id a
 
-view_term : (id : Identifier) (a : Option Identifier) (c : Option of_call.CallArguments) → inline_view (inlines.TermReference id a c) ≡ term id.name.now (attribute_of a) (call_of (option_map arguments_view c))
-view_term id a c = search (rules, of_inline.the_lemmas)
+view_term : (id : Identifier) (a : Option Identifier) (c : Option (Box of_call.CallArguments Global)) → inline_view (inlines.TermReference id a c) ≡ term id.name.now (attribute_of a) (call_view c)
+view_term id a None = search (rules, of_inline.the_lemmas)
+view_term id a (Some b) = search (rules, of_inline.the_lemmas)
 
-pub view_term_in : (x : of_inline.InlineExpression) (id : Identifier) (a : Option Identifier) (c : Option of_call.CallArguments) → x ≡ inlines.TermReference id a c → inline_view x ≡ term id.name.now (attribute_of a) (call_of (option_map arguments_view c))
+pub view_term_in : (x : of_inline.InlineExpression) (id : Identifier) (a : Option Identifier) (c : Option (Box of_call.CallArguments Global)) → x ≡ inlines.TermReference id a c → inline_view x ≡ term id.name.now (attribute_of a) (call_view c)
 view_term_in x id a c h = ap inline_view h ∙ view_term id a c
 
 view_variable : (id : Identifier) → inline_view (inlines.VariableReference id) ≡ variable id.name.now
@@ -136,7 +136,7 @@ abbrev Level : Type 0
 Level = level.InlineExpression-F of_expression.Expression of_inline.InlineExpression of_element.PatternElement of_call.CallArguments of_named.NamedArgument of_pattern.Pattern Variant
 
 -- all but a literal, a function and a variable
-pub view_written : (x : of_inline.InlineExpression) → ((t : Bor (List ℕ)) → x ≡ inlines.StringLiteral t → ⊥) → ((t : Bor (List ℕ)) → x ≡ inlines.NumberLiteral t → ⊥) → ((id : Identifier) (a : of_call.CallArguments) → x ≡ inlines.FunctionReference id a → ⊥) → ((id : Identifier) → x ≡ inlines.VariableReference id → ⊥) → IsWritten (inline_view x)
+pub view_written : (x : of_inline.InlineExpression) → ((t : Bor (List ℕ)) → x ≡ inlines.StringLiteral t → ⊥) → ((t : Bor (List ℕ)) → x ≡ inlines.NumberLiteral t → ⊥) → ((id : Identifier) (a : Box of_call.CallArguments Global) → x ≡ inlines.FunctionReference id a → ⊥) → ((id : Identifier) → x ≡ inlines.VariableReference id → ⊥) → IsWritten (inline_view x)
 view_written x s n f v = by_case (of_inline.out-InlineExpression x) refl
   where
     made : (o : Level) → of_inline.out-InlineExpression x ≡ o → x ≡ of_inline.roll-InlineExpression o

@@ -155,6 +155,7 @@ impl<
             (call_argument (spec.level self.now.depth) (name_view id.entry) s.now) }
     {
         let (arguments, end) = (self.brackets)(self.alloc, s, self.depth)?;
+        let arguments = Box::new(self.alloc, arguments)?;
         found.add(Argument::Positional(InlineExpression::FunctionReference { id, arguments }))?;
         Ok(end)
     }

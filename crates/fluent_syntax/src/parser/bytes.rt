@@ -49,7 +49,8 @@ pub fn eat(s: &str, byte: u8) -> Option<&str>
     }
 }
 
-/// 1 for each byte that may stand in an identifier. One look-up takes the place of up to six comparisons, and names are most of what is read byte by byte.
+/// 1 for each byte that may stand in an identifier. One look-up takes the place of up to six comparisons, and names are
+/// most of what is read byte by byte.
 static NAME_BYTES: [u8; 256] = [
     0, 0, 0, 0, 0, 0, 0, 0, 0, 0, 0, 0, 0, 0, 0, 0, 0, 0, 0, 0, 0, 0, 0, 0, 0, 0, 0, 0, 0, 0, 0, 0,
     0, 0, 0, 0, 0, 0, 0, 0, 0, 0, 0, 0, 0, 1, 0, 0, 1, 1, 1, 1, 1, 1, 1, 1, 1, 1, 0, 0, 0, 0, 0, 0,

@@ -172,7 +172,8 @@ fn attribute<'s>(alloc: Global, s: &'s str) -> Result<(Attribute<'s>, &'s str), 
     named_attribute(alloc, name)
 }
 
-/// An attribute behind its dot. It stands in a function of its own, since most entries end where an attribute could stand.
+/// An attribute behind its dot. It stands in a function of its own, since most entries end where an attribute could
+/// stand.
 #[inline(never)]
 fn named_attribute<'s>(alloc: Global, s: &'s str) -> Result<(Attribute<'s>, &'s str), Stop>
     ensures { Gives attribute_view result (parts.named_attribute s.now) }

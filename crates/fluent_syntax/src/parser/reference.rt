@@ -44,7 +44,8 @@ pub fn attribute_access<'s>(s: &'s str) -> (Option<Identifier<'s>>, &'s str)
 /// The message whose name was read.
 #[inline(always)]
 fn message_reference<'s>(id: Identifier<'s>, s: &'s str) -> (InlineExpression<'s>, &'s str)
-    ensures { parts.message_to (name_view id.entry) s.now ≡ Some (inline_view result.0, result.1.now) }
+    ensures { parts.message_to (name_view id.entry) s.now
+        ≡ Some (inline_view result.0, result.1.now) }
 {
     let (attribute, rest) = attribute_access(s);
     (InlineExpression::MessageReference { id, attribute }, rest)
@@ -72,13 +73,15 @@ impl<
     ) -> Result<(InlineExpression<'s>, &'s str), Stop>
         requires brackets { Reads arguments_view (spec.level self.now.depth).brackets self.now.depth
             (G.pre self.now.brackets) (G.post self.now.brackets) }
-        ensures { Gives inline_view result (parts.reference_to (spec.level self.now.depth) (name_view id.entry) s.now) }
+        ensures { Gives inline_view result
+            (parts.reference_to (spec.level self.now.depth) (name_view id.entry) s.now) }
     {
         if !is_function_name(id.name) {
             return Ok(message_reference(id, s));
         }
         match (self.brackets)(self.alloc, s, self.depth) {
             Ok((arguments, rest)) => {
+                let arguments = Box::new(self.alloc, arguments)?;
                 Ok((InlineExpression::FunctionReference { id, arguments }, rest))
             }
             Err(Stop::Memory) => Err(Stop::Memory),
@@ -88,13 +91,13 @@ impl<
 
     #[inline(always)]
     #[tactic(auto, unfolding(crate::specs::Expressions::optional_call))]
-    fn optional_call(&self, s: &'s str) -> Result<(Option<CallArguments<'s>>, &'s str), Stop>
+    fn optional_call(&self, s: &'s str) -> Result<(Option<Box<CallArguments<'s>>>, &'s str), Stop>
         requires brackets { Reads arguments_view (spec.level self.now.depth).brackets self.now.depth
             (G.pre self.now.brackets) (G.post self.now.brackets) }
         ensures { Gives call_view result (spec.optional_call (spec.level self.now.depth) s.now) }
     {
         match (self.brackets)(self.alloc, s, self.depth) {
-            Ok((arguments, rest)) => Ok((Some(arguments), rest)),
+            Ok((arguments, rest)) => Ok((Some(Box::new(self.alloc, arguments)?), rest)),
             Err(Stop::Absent) => Ok((None, s)),
             Err(Stop::Memory) => Err(Stop::Memory),
         }

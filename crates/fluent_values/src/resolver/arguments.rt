@@ -4,7 +4,7 @@ ghost use Rattle.std.specs.Prelude.{◌≡◌, [], ◌∷◌, ◌++◌, map, IfO
 ghost use Rattle.std.specs.Option.{option_map};
 ghost use Rattle.fluent_tree.specs.References.{in_arguments, in_call, in_inline, in_named, in_positional};
 ghost use Rattle.fluent_tree.specs.Tree.{function, variable, inlines_of, nameds_of};
-ghost use Rattle.fluent_tree.specs.View.{inline_view, arguments_view, call_of, named_view};
+ghost use Rattle.fluent_tree.specs.View.{inline_view, arguments_view, call_view, named_view};
 ghost use Rattle.fluent_meaning.specs.Arguments.{get, set_all};
 ghost use Rattle.fluent_meaning.specs.Walk.{written, resolved, called, local_of, positional, named as named_arguments};
 ghost use Rattle.fluent_meaning.specs.Work.{with_work};
@@ -175,15 +175,14 @@ fn lent<'v, C: FluentType>(
 pub(crate) fn resolve_local<'p, 's, W: Write, C: FluentType, F: FluentFunction<C>, B: Context<C>>(
     scope: &mut Scope<'_, 'p, '_, 's, '_, C, F, B>,
     w: &mut Counting<W>,
-    arguments: &'p Option<CallArguments<'s>>,
+    arguments: &'p Option<Box<CallArguments<'s>>>,
     place: Place<'p>,
 ) -> Result<FluentArgs<'p, C>, Halt>
-    requires { let call = call_of (option_map arguments_view arguments.now) in
+    requires { let call = call_view arguments.now in
         IsPlaced scope.old.ids.now (in_call call) place }
     ensures { let at = status B.meant B.is_plain F.answer C.content in
         Gave result (named C.content)
-        (λ b below env path. local_of with_work b below env path
-        (call_of (option_map arguments_view arguments.now)))
+        (λ b below env path. local_of with_work b below env path (call_view arguments.now))
         (writer W.contents w.old) (writer W.contents w.new) (at scope.old) (at scope.new) }
 {
     match arguments {

@@ -1,11 +1,10 @@
 //! Inline expressions.
 
 ghost use Rattle.std.specs.Prelude.{◌≡◌, ◌<◌, ◌∷◌, [], map};
-ghost use Rattle.std.specs.Option.{option_map};
 ghost use Rattle.fluent_text.specs.Escapes.{unescaped};
 ghost use Rattle.fluent_tree.specs.References.{a_function, in_inline};
 ghost use Rattle.fluent_tree.specs.Tree.{function, variable, term};
-ghost use Rattle.fluent_tree.specs.View.{inline_view, attribute_of, call_of, arguments_view};
+ghost use Rattle.fluent_tree.specs.View.{inline_view, attribute_of, call_view, arguments_view};
 ghost use Rattle.fluent_meaning.specs.Arguments.{get};
 ghost use Rattle.fluent_meaning.specs.Bundle.{function_found, shown};
 ghost use Rattle.fluent_meaning.specs.Value.{try_number};
@@ -138,12 +137,12 @@ fn write_term<'p, 's, W: Write, C: FluentType, F: FluentFunction<C>, B: Context<
     inline: &'p InlineExpression<'s>,
     id: &Identifier<'_>,
     attribute: &Option<Identifier<'_>>,
-    arguments: &'p Option<CallArguments<'s>>,
+    arguments: &'p Option<Box<CallArguments<'s>>>,
     place: Place<'p>,
 ) -> Result<(), Halt>
     requires view { inline_view inline.now
         ≡ term id.now.name.now (attribute_of attribute.now)
-        (call_of (option_map arguments_view arguments.now)) }
+        (call_view arguments.now) }
     requires placed { IsPlaced scope.old.ids.now (in_inline (inline_view inline.now)) place }
     ensures { let at = status B.meant B.is_plain F.answer C.content in
         Wrote result

@@ -30,8 +30,9 @@ link_expression-returns-in_ok-link_variants-in-Select-clause-ok g t c =
 pub link_inline-returns-in_ok-link_arguments-in-FunctionReference-clause-ok : goal.link_inline-returns-in_ok-link_arguments-in-FunctionReference-clause-ok
 link_inline-returns-in_ok-link_arguments-in-FunctionReference-clause-ok g t c =
     let r = a_function c.in-FunctionReference.id.name.now in
-    let rest = in_arguments (arguments_view c.in-FunctionReference.arguments) in
-    adds_as (slots c.args.slots.now) (slots c.link_arguments.new.slots) c.args.links.now.items c.link_arguments.new.links.items (r ∷ rest) (in_inline (inline_view c.args.inline.now)) (sym (in_function_is c.args.inline.now c.in-FunctionReference.id c.in-FunctionReference.arguments c.in-FunctionReference.is))
+    let rest = in_arguments (arguments_view c.deref.result.now) in
+    let parts = ap (λ a. r ∷ in_arguments (arguments_view a)) c.deref.ensures ∙ sym (in_function_is c.args.inline.now c.in-FunctionReference.id c.in-FunctionReference.arguments c.in-FunctionReference.is) in
+    adds_as (slots c.args.slots.now) (slots c.link_arguments.new.slots) c.args.links.now.items c.link_arguments.new.links.items (r ∷ rest) (in_inline (inline_view c.args.inline.now)) parts
     (adds_on (slots c.args.slots.now) (slots c.link_one.new.slots) (slots c.link_arguments.new.slots) c.args.links.now.items c.link_one.new.links.items c.link_arguments.new.links.items (r ∷ []) rest (c.in_ok-link_one-in-FunctionReference.ensures.ok r refl) c.in_ok-link_arguments-in-FunctionReference.ensures.ok)
 
 pub link_inline-returns-in_ok-link_call-in-TermReference-clause-ok : goal.link_inline-returns-in_ok-link_call-in-TermReference-clause-ok
@@ -113,7 +114,7 @@ link_expression-returns-in_err-link_variants-in-Select-clause-err g t c =
 pub link_inline-returns-in_err-link_one-in-FunctionReference-clause-err : goal.link_inline-returns-in_err-link_one-in-FunctionReference-clause-err
 link_inline-returns-in_err-link_one-in-FunctionReference-clause-err g t c =
     let r = a_function c.in-FunctionReference.id.name.now in
-    let rest = in_arguments (arguments_view c.in-FunctionReference.arguments) in
+    let rest = in_arguments (arguments_view c.in-FunctionReference.arguments.value) in
     on_err c.from_residual.result
     (begins_as (slots c.args.slots.now) (slots c.link_one.new.slots) (r ∷ rest) (in_inline (inline_view c.args.inline.now)) (sym (in_function_is c.args.inline.now c.in-FunctionReference.id c.in-FunctionReference.arguments c.in-FunctionReference.is))
     (begins_more (slots c.args.slots.now) (slots c.link_one.new.slots) (r ∷ []) rest (c.in_err-link_one-in-FunctionReference.ensures.err r refl)))
@@ -121,9 +122,10 @@ link_inline-returns-in_err-link_one-in-FunctionReference-clause-err g t c =
 pub link_inline-returns-in_err-link_arguments-in-FunctionReference-clause-err : goal.link_inline-returns-in_err-link_arguments-in-FunctionReference-clause-err
 link_inline-returns-in_err-link_arguments-in-FunctionReference-clause-err g t c =
     let r = a_function c.in-FunctionReference.id.name.now in
-    let rest = in_arguments (arguments_view c.in-FunctionReference.arguments) in
+    let rest = in_arguments (arguments_view c.deref.result.now) in
+    let parts = ap (λ a. r ∷ in_arguments (arguments_view a)) c.deref.ensures ∙ sym (in_function_is c.args.inline.now c.in-FunctionReference.id c.in-FunctionReference.arguments c.in-FunctionReference.is) in
     on_err c.from_residual-in_err-link_arguments-in-FunctionReference.result
-    (begins_as (slots c.args.slots.now) (slots c.link_arguments.new.slots) (r ∷ rest) (in_inline (inline_view c.args.inline.now)) (sym (in_function_is c.args.inline.now c.in-FunctionReference.id c.in-FunctionReference.arguments c.in-FunctionReference.is))
+    (begins_as (slots c.args.slots.now) (slots c.link_arguments.new.slots) (r ∷ rest) (in_inline (inline_view c.args.inline.now)) parts
     (begins_on (slots c.args.slots.now) (slots c.link_one.new.slots) (slots c.link_arguments.new.slots) (r ∷ []) rest (c.in_ok-link_one-in-FunctionReference.ensures.ok r refl).0 c.in_err-link_arguments-in-FunctionReference.ensures.err))
 
 pub link_inline-returns-in_err-link_one-in-TermReference-clause-err : goal.link_inline-returns-in_err-link_one-in-TermReference-clause-err

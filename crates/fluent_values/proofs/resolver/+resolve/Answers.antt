@@ -1,9 +1,9 @@
 use Rattle.std.proofs.Common.{ℕ, Option, ◌≡◌, rules, arith, length, ap, sym, ◌∙◌, refl, Some, map, [], ◌∷◌, ◌++◌, ◌+◌, drop, subst, IsTrue, ◌<◌}
 use Rattle.std.specs.Option.{option_map}
 use Rattle.fluent_tree.specs.Fallback.{fallback, in_braces}
-use Rattle.fluent_tree.specs.Tree.{Text, placeable, select, variants_of, pattern_of, inlines_of, nameds_of}
+use Rattle.fluent_tree.specs.Tree.{Text, placeable, select, function, call, variants_of, pattern_of, inlines_of, nameds_of}
 use Rattle.fluent_tree.specs.declared.ast.CallArguments as of_call
-use Rattle.fluent_tree.specs.View.{inline_view, expression_view, pattern_view, element_view, variant_view, attribute_of, call_of, arguments_view, named_view}
+use Rattle.fluent_tree.specs.View.{inline_view, expression_view, pattern_view, element_view, variant_view, attribute_of, call_view, arguments_view, named_view}
 use Rattle.fluent_meaning.specs.Arguments.{get, set, set_all}
 use Rattle.fluent_meaning.specs.Bundle.{goes_to, message_target, term_target, function_found}
 use Rattle.fluent_meaning.specs.Errors.{resolver_error, too_many_placeables}
@@ -374,7 +374,7 @@ inline_expression::write_inline-returns-in-VariableReference g t c =
 pub inline_expression::write_inline-returns-in-Placeable : goal.inline_expression::write_inline-returns-in-Placeable
 inline_expression::write_inline-returns-in-Placeable g t c =
     let a = status g.B.Context.meant g.B.Context.is_plain g.F.FluentFunction.answer g.C.FluentType.content c.args.scope.now in
-    let begun = turns (ap (λ x. from_here a (writing x)) (view_nested_in c.args.inline.now c.in-Placeable.expression c.in-Placeable.is) ∙ written_nested a.bundle (work a.bundle) a.environment (on_path a.path) (expression_view c.in-Placeable.expression.value) a.budget ∙ ap (λ e. walked a (expressing (expression_view e)) a.budget) (sym c.deref.ensures)) (starts a _ _) in
+    let begun = turns (ap (λ x. from_here a (writing x)) (view_nested_in c.args.inline.now c.in-Placeable.expression c.in-Placeable.is) ∙ written_nested a.bundle (work a.bundle) a.environment (on_path a.path) (expression_view c.in-Placeable.expression.value) a.budget ∙ ap (λ e. walked a (expressing (expression_view e)) a.budget) (sym c.deref-in-Placeable.ensures)) (starts a _ _) in
     wrote (tail c.write_expression.ensures begun)
 
 pub arguments::resolve-returns-in_err-text-in-StringLiteral : goal.arguments::resolve-returns-in_err-text-in-StringLiteral
@@ -426,19 +426,21 @@ arguments::resolve-returns-in_ok-resolve_variable-in-VariableReference g t c =
 pub arguments::resolve_local-returns-in-None : goal.arguments::resolve_local-returns-in-None
 arguments::resolve_local-returns-in-None g t c =
     let a = status g.B.Context.meant g.B.Context.is_plain g.F.FluentFunction.answer g.C.FluentType.content c.args.scope.now in
-    let means = ap (λ o. from_here a (locals (call_of (option_map arguments_view o)))) c.in-None.is ∙ local_none a.bundle (work a.bundle) a.environment (on_path a.path) a.budget in
+    let means = ap (λ o. from_here a (locals (call_view o))) c.in-None.is ∙ local_none a.bundle (work a.bundle) a.environment (on_path a.path) a.budget in
     record { got = got_if [] means (search rules); rests = rests_same _ }
 
 pub arguments::resolve_local-returns-in_err-_positional-in-Some : goal.arguments::resolve_local-returns-in_err-_positional-in-Some
 arguments::resolve_local-returns-in_err-_positional-in-Some g t c =
     let a = status g.B.Context.meant g.B.Context.is_plain g.F.FluentFunction.answer g.C.FluentType.content c.args.scope.now in
-    let means = ap (λ o. from_here a (locals (call_of (option_map arguments_view o)))) c.in-Some.is ∙ local_some a.bundle (work a.bundle) a.environment (on_path a.path) (arguments_view c.in-Some.arguments) a.budget in
+    let given = ap call_view c.in-Some.is ∙ sym (ap (λ a. call (arguments_view a)) c.deref.ensures) in
+    let means = ap (λ k. from_here a (locals k)) given ∙ local_some a.bundle (work a.bundle) a.environment (on_path a.path) (arguments_view c.deref.result.now) a.budget in
     record { got = got_part_as (λ p. p.1) c.in_err-_positional-in-Some.was (search rules) means c.resolve_call.ensures.got; rests = rests_err c.in_err-_positional-in-Some.was (search rules) c.resolve_call.ensures.rests }
 
 pub arguments::resolve_local-returns-in_ok-_positional-in-Some : goal.arguments::resolve_local-returns-in_ok-_positional-in-Some
 arguments::resolve_local-returns-in_ok-_positional-in-Some g t c =
     let a = status g.B.Context.meant g.B.Context.is_plain g.F.FluentFunction.answer g.C.FluentType.content c.args.scope.now in
-    let means = ap (λ o. from_here a (locals (call_of (option_map arguments_view o)))) c.in-Some.is ∙ local_some a.bundle (work a.bundle) a.environment (on_path a.path) (arguments_view c.in-Some.arguments) a.budget in
+    let given = ap call_view c.in-Some.is ∙ sym (ap (λ a. call (arguments_view a)) c.deref.ensures) in
+    let means = ap (λ k. from_here a (locals k)) given ∙ local_some a.bundle (work a.bundle) a.environment (on_path a.path) (arguments_view c.deref.result.now) a.budget in
     record { got = got_as (λ p. p.1) c.in_ok-_positional-in-Some.was refl means c.resolve_call.ensures.got; rests = rests_ok c.in_ok-_positional-in-Some.was c.resolve_call.ensures.rests }
 
 -- WHAT THE CALLS REQUIRE
@@ -497,8 +499,8 @@ pattern::write_elements-loop-element-smaller g t c = search rules
 pub arguments::resolve-resolve_function-requires : goal.arguments::resolve-resolve_function-requires
 arguments::resolve-resolve_function-requires g t c =
     let a = status g.B.Context.meant g.B.Context.is_plain g.F.FluentFunction.answer g.C.FluentType.content c.args.scope.now in
-    let k = arguments_view c.in-FunctionReference.arguments in
-    let view = view_function_in c.args.inline.now c.in-FunctionReference.id c.in-FunctionReference.arguments c.in-FunctionReference.is in
+    let k = arguments_view c.deref.result.now in
+    let view = view_function_in c.args.inline.now c.in-FunctionReference.id c.in-FunctionReference.arguments c.in-FunctionReference.is ∙ sym (ap (λ a. function c.in-FunctionReference.id.name.now (arguments_view a)) c.deref.ensures) in
     let sized : inline_size (inline_view c.args.inline.now) ≡ 2 + arguments_size k = ap inline_size view in
     let less = falls_to c.decreases (less_weight a.bundle a.bundle (1 + arguments_size k) (2 + inline_size (inline_view c.args.inline.now)) (1 + at_most a.budget) (1 + at_most a.budget) refl (omega (arith, sized)) (omega arith)) in
     λ κs h. (less, (h.0, (h.1.0, (h.1.1.0, (h.1.1.1, (view, c.requires))))))
@@ -547,9 +549,10 @@ arguments::resolve_call-resolve_named-requires g t c =
 pub arguments::resolve_local-resolve_call-requires : goal.arguments::resolve_local-resolve_call-requires
 arguments::resolve_local-resolve_call-requires g t c =
     let a = status g.B.Context.meant g.B.Context.is_plain g.F.FluentFunction.answer g.C.FluentType.content c.args.scope.now in
-    let sized : call_size (call_of (option_map arguments_view c.args.arguments.now)) ≡ 1 + arguments_size (arguments_view c.in-Some.arguments) = ap (λ o. call_size (call_of (option_map arguments_view o))) c.in-Some.is in
-    let less = falls_to c.decreases (less_weight a.bundle a.bundle (arguments_size (arguments_view c.in-Some.arguments)) (call_size (call_of (option_map arguments_view c.args.arguments.now))) (1 + at_most a.budget) (1 + at_most a.budget) refl (omega (arith, sized)) (omega arith)) in
-    let placed = placed_as a.stored.numbers (in_call (call_of (option_map arguments_view c.args.arguments.now))) (in_arguments (arguments_view c.in-Some.arguments)) c.args.place (ap (λ o. in_call (call_of (option_map arguments_view o))) c.in-Some.is) c.requires in
+    let given = ap call_view c.in-Some.is ∙ sym (ap (λ a. call (arguments_view a)) c.deref.ensures) in
+    let sized : call_size (call_view c.args.arguments.now) ≡ 1 + arguments_size (arguments_view c.deref.result.now) = ap call_size given in
+    let less = falls_to c.decreases (less_weight a.bundle a.bundle (arguments_size (arguments_view c.deref.result.now)) (call_size (call_view c.args.arguments.now)) (1 + at_most a.budget) (1 + at_most a.budget) refl (omega (arith, sized)) (omega arith)) in
+    let placed = placed_as a.stored.numbers (in_call (call_view c.args.arguments.now)) (in_arguments (arguments_view c.deref.result.now)) c.args.place (ap in_call given) c.requires in
     λ κs h. (less, (h.0, (h.1.0, (h.1.1.0, (h.1.1.1, placed)))))
 
 pub arguments::resolve_positional-resolve-requires : goal.arguments::resolve_positional-resolve-requires
@@ -654,8 +657,8 @@ inline_expression::go-write_pattern-written-requires g t c =
 pub inline_expression::write_inline-write_function-requires : goal.inline_expression::write_inline-write_function-requires
 inline_expression::write_inline-write_function-requires g t c =
     let a = status g.B.Context.meant g.B.Context.is_plain g.F.FluentFunction.answer g.C.FluentType.content c.args.scope.now in
-    let k = arguments_view c.in-FunctionReference.arguments in
-    let view = view_function_in c.args.inline.now c.in-FunctionReference.id c.in-FunctionReference.arguments c.in-FunctionReference.is in
+    let k = arguments_view c.deref.result.now in
+    let view = view_function_in c.args.inline.now c.in-FunctionReference.id c.in-FunctionReference.arguments c.in-FunctionReference.is ∙ sym (ap (λ a. function c.in-FunctionReference.id.name.now (arguments_view a)) c.deref.ensures) in
     let sized : inline_size (inline_view c.args.inline.now) ≡ 2 + arguments_size k = ap inline_size view in
     let less = falls_to c.decreases (less_weight a.bundle a.bundle (1 + arguments_size k) (inline_size (inline_view c.args.inline.now)) (1 + at_most a.budget) (1 + at_most a.budget) refl (omega (arith, sized)) (omega arith)) in
     λ κs h. (less, (h.0, (h.1.0, (h.1.1.0, (h.1.1.1, (view, c.requires))))))
@@ -679,8 +682,8 @@ pub inline_expression::write_inline-write_term-requires : goal.inline_expression
 inline_expression::write_inline-write_term-requires g t c =
     let a = status g.B.Context.meant g.B.Context.is_plain g.F.FluentFunction.answer g.C.FluentType.content c.args.scope.now in
     let view = view_term_in c.args.inline.now c.in-TermReference.id c.in-TermReference.attribute c.in-TermReference.arguments c.in-TermReference.is in
-    let sized : inline_size (inline_view c.args.inline.now) ≡ 2 + call_size (call_of (option_map arguments_view c.in-TermReference.arguments)) = ap inline_size view in
-    let less = falls_to c.decreases (less_weight a.bundle a.bundle (1 + call_size (call_of (option_map arguments_view c.in-TermReference.arguments))) (inline_size (inline_view c.args.inline.now)) (1 + at_most a.budget) (1 + at_most a.budget) refl (omega (arith, sized)) (omega arith)) in
+    let sized : inline_size (inline_view c.args.inline.now) ≡ 2 + call_size (call_view c.in-TermReference.arguments) = ap inline_size view in
+    let less = falls_to c.decreases (less_weight a.bundle a.bundle (1 + call_size (call_view c.in-TermReference.arguments)) (inline_size (inline_view c.args.inline.now)) (1 + at_most a.budget) (1 + at_most a.budget) refl (omega (arith, sized)) (omega arith)) in
     λ κs h. (less, (h.0, (h.1.0, (h.1.1.0, (h.1.1.1, (view, c.requires))))))
 
 pub inline_expression::write_inline-write_variable-requires : goal.inline_expression::write_inline-write_variable-requires
@@ -690,17 +693,17 @@ pub inline_expression::write_inline-write_expression-requires : goal.inline_expr
 inline_expression::write_inline-write_expression-requires g t c =
     let a = status g.B.Context.meant g.B.Context.is_plain g.F.FluentFunction.answer g.C.FluentType.content c.args.scope.now in
     let sized : inline_size (inline_view c.args.inline.now) ≡ 1 + expression_size (expression_view c.in-Placeable.expression.value) = ap inline_size (view_nested_in c.args.inline.now c.in-Placeable.expression c.in-Placeable.is) in
-    let here : expression_size (expression_view c.deref.result.now) ≡ expression_size (expression_view c.in-Placeable.expression.value) = ap (λ e. expression_size (expression_view e)) c.deref.ensures in
-    let less = falls_to c.decreases (less_weight a.bundle a.bundle (expression_size (expression_view c.deref.result.now)) (inline_size (inline_view c.args.inline.now)) (1 + at_most a.budget) (1 + at_most a.budget) refl (omega (arith, sized, here)) (omega arith)) in
-    let refers = in_nested_is c.args.inline.now c.in-Placeable.expression c.in-Placeable.is ∙ ap (λ e. in_expression (expression_view e)) (sym c.deref.ensures) in
-    let placed = placed_as a.stored.numbers (in_inline (inline_view c.args.inline.now)) (in_expression (expression_view c.deref.result.now)) c.args.place refers c.requires in
+    let here : expression_size (expression_view c.deref-in-Placeable.result.now) ≡ expression_size (expression_view c.in-Placeable.expression.value) = ap (λ e. expression_size (expression_view e)) c.deref-in-Placeable.ensures in
+    let less = falls_to c.decreases (less_weight a.bundle a.bundle (expression_size (expression_view c.deref-in-Placeable.result.now)) (inline_size (inline_view c.args.inline.now)) (1 + at_most a.budget) (1 + at_most a.budget) refl (omega (arith, sized, here)) (omega arith)) in
+    let refers = in_nested_is c.args.inline.now c.in-Placeable.expression c.in-Placeable.is ∙ ap (λ e. in_expression (expression_view e)) (sym c.deref-in-Placeable.ensures) in
+    let placed = placed_as a.stored.numbers (in_inline (inline_view c.args.inline.now)) (in_expression (expression_view c.deref-in-Placeable.result.now)) c.args.place refers c.requires in
     λ κs h. (less, (h.0, (h.1.0, (h.1.1.0, (h.1.1.1, placed)))))
 
 pub inline_expression::write_term-resolve_local-requires : goal.inline_expression::write_term-resolve_local-requires
 inline_expression::write_term-resolve_local-requires g t c =
     let a = status g.B.Context.meant g.B.Context.is_plain g.F.FluentFunction.answer g.C.FluentType.content c.args.scope.now in
-    let less = falls_to c.decreases (less_weight a.bundle a.bundle (call_size (call_of (option_map arguments_view c.args.arguments.now))) (1 + call_size (call_of (option_map arguments_view c.args.arguments.now))) (1 + at_most a.budget) (1 + at_most a.budget) refl (omega arith) (omega arith)) in
-    let call = call_of (option_map arguments_view c.args.arguments.now) in
+    let less = falls_to c.decreases (less_weight a.bundle a.bundle (call_size (call_view c.args.arguments.now)) (1 + call_size (call_view c.args.arguments.now)) (1 + at_most a.budget) (1 + at_most a.budget) refl (omega arith) (omega arith)) in
+    let call = call_view c.args.arguments.now in
     let placed = placed_behind a.stored.numbers (in_inline (inline_view c.args.inline.now)) (a_term c.args.id.now.name.now) (in_call call) c.args.place c.after_one.result (ap in_inline c.requires.view) c.after_one.ensures c.requires.placed in
     λ κs h. (less, (h.0, (h.1.0, (h.1.1.0, (h.1.1.1, placed)))))
 
@@ -708,7 +711,7 @@ pub inline_expression::write_term-follow-written-requires : goal.inline_expressi
 inline_expression::write_term-follow-written-requires g t c =
     let a = status g.B.Context.meant g.B.Context.is_plain g.F.FluentFunction.answer g.C.FluentType.content c.args.scope.now in
     let b = status g.B.Context.meant g.B.Context.is_plain g.F.FluentFunction.answer g.C.FluentType.content c.resolve_local.new.scope in
-    let less = falls_to c.decreases (kept_weight (0) (1 + call_size (call_of (option_map arguments_view c.args.arguments.now))) c.resolve_local.ensures.got.toward.passed.keeps (omega arith)) in
+    let less = falls_to c.decreases (kept_weight (0) (1 + call_size (call_view c.args.arguments.now)) c.resolve_local.ensures.got.toward.passed.keeps (omega arith)) in
     let below = subst (IsBelow (bound b.bundle)) (sym (c.term-found.ensures.content g.F.FluentFunction.answer)) (below_term b.bundle c.args.id.now.name.now (attribute_of c.args.attribute.now)) in
     λ κs h. (less, (h.0, (h.1.0, (h.1.1.0, (h.1.1.1, (below, c.term-found.ensures.led))))))
 
@@ -784,7 +787,7 @@ inline_expression::write_term-returns-in_err-local g t c =
     let x = inline_view c.args.inline.now in
     let id = c.args.id.now.name.now in
     let at = attribute_of c.args.attribute.now in
-    let k = call_of (option_map arguments_view c.args.arguments.now) in
+    let k = call_view c.args.arguments.now in
     let gave = gave_outward g.W.Write.contents out.writer.ghost_name out.buffer.ghost_name out.writer.now c.resolve_local.new.w out.buffer.now out.is_buffered c.resolve_local.ensures in
     ask_stops (inside a x id at) c.in_err-local.was (search rules) gave (turns (term_at a x id at k a.budget c.requires.view) (starts a _ _))
 
@@ -795,7 +798,7 @@ inline_expression::write_term-returns g t c =
     let x = inline_view c.args.inline.now in
     let id = c.args.id.now.name.now in
     let at = attribute_of c.args.attribute.now in
-    let k = call_of (option_map arguments_view c.args.arguments.now) in
+    let k = call_view c.args.arguments.now in
     let gave = gave_outward g.W.Write.contents out.writer.ghost_name out.buffer.ghost_name out.writer.now c.resolve_local.new.w out.buffer.now out.is_buffered c.resolve_local.ensures in
     let asked = asks (inside a x id at) c.in_ok-local.was gave (turns (term_at a x id at k a.budget c.requires.view) (starts a _ _)) in
     let kept = c.resolve_local.ensures.got.toward.passed.keeps in

@@ -1,8 +1,7 @@
 use Rattle.std.proofs.Common.{◌≡◌, ◌+◌, drop, map, List, [], Ok}
-use Rattle.std.specs.Option.{option_map}
 use Rattle.fluent_tree.specs.Tree.{Text, inlines_of, nameds_of, variants_of}
 use Rattle.fluent_meaning.specs.Value.{Value}
-use Rattle.fluent_tree.specs.View.{pattern_view, expression_view, inline_view, variant_view, arguments_view, call_of, named_view}
+use Rattle.fluent_tree.specs.View.{pattern_view, expression_view, inline_view, variant_view, arguments_view, call_view, named_view}
 use Rattle.fluent_meaning.specs.Arguments.{set_all}
 use Rattle.fluent_meaning.specs.Meaning.{at_most}
 use Rattle.fluent_meaning.specs.Walk.{has_one}
@@ -63,7 +62,7 @@ decreases-inline_expression::write_inline g l =
 abbrev pub decreases-inline_expression::write_term : goal.decreases-inline_expression::write_term
 decreases-inline_expression::write_term g l =
     let a = status g.B.Context.meant g.B.Context.is_plain g.F.FluentFunction.answer g.C.FluentType.content l.scope.now in
-    weight (2 + bound a.bundle) (1 + call_size (call_of (option_map arguments_view l.arguments.now))) (1 + at_most a.budget)
+    weight (2 + bound a.bundle) (1 + call_size (call_view l.arguments.now)) (1 + at_most a.budget)
 
 abbrev pub decreases-inline_expression::write_function : goal.decreases-inline_expression::write_function
 decreases-inline_expression::write_function g l =
@@ -98,7 +97,7 @@ decreases-arguments::write_beside g l =
 abbrev pub decreases-arguments::resolve_local : goal.decreases-arguments::resolve_local
 decreases-arguments::resolve_local g l =
     let a = status g.B.Context.meant g.B.Context.is_plain g.F.FluentFunction.answer g.C.FluentType.content l.scope.now in
-    weight (2 + bound a.bundle) (call_size (call_of (option_map arguments_view l.arguments.now))) (1 + at_most a.budget)
+    weight (2 + bound a.bundle) (call_size (call_view l.arguments.now)) (1 + at_most a.budget)
 
 abbrev pub decreases-arguments::resolve_call : goal.decreases-arguments::resolve_call
 decreases-arguments::resolve_call g l =
