@@ -32,7 +32,6 @@ const MAX_PLACEABLE_LIMIT: usize = 10_000;
 /// It refers to its resources for `'r`; their sources live for `'s`. Two lifetimes, so that a resource made in
 /// a function can be lent to a bundle made there. Its types: `M` chooses plural categories, `C` is a value of
 /// the application's own, `F` a function, `G` a formatter, `T` a transform.
-#[derive(Drop)]
 pub struct FluentBundle<'r, 's, M, C, F, G, T = Box<dyn Transform>> {
     /// The languages of the bundle, which nothing here reads.
     pub locales: Vec<LanguageIdentifier>,
@@ -44,6 +43,24 @@ pub struct FluentBundle<'r, 's, M, C, F, G, T = Box<dyn Transform>> {
     pub(crate) placeable_limit: u32,
     pub(crate) custom: PhantomData<C>,
     pub(crate) alloc: Global,
+}
+
+// Written out, since a derived drop puts the drop of each part of a part into every proof that a bundle goes out of scope
+// in: some twenty steps at each exit of a caller's function, where this is one.
+impl<'r, 's, M: Drop, C, F: Drop, G: Drop, T: Drop> Drop for FluentBundle<'r, 's, M, C, F, G, T> {
+    fn drop(self) {
+        let FluentBundle {
+            locales: _,
+            entries: _,
+            use_isolating: _,
+            transform: _,
+            formatter: _,
+            intls: _,
+            placeable_limit: _,
+            custom: _,
+            alloc: _,
+        } = self;
+    }
 }
 
 /// Why not everything was added.
