@@ -1,5 +1,5 @@
 -- Parts passed over one by one.
-use Rattle.std.proofs.Common.{◌≡◌, List, ◌++◌, None, Vec, Global, ap, sym, ◌∙◌}
+use Rattle.std.proofs.Common.{◌≡◌, ℕ, Bor, List, [], ◌∷◌, ◌++◌, None, Some, refl, Vec, Global, ap, sym, ◌∙◌}
 use Rattle.fluent_tree.specs.View.{pattern_view, expression_view, inline_view, arguments_view}
 use Rattle.fluent_tree.specs.References.{Reference, references, in_arguments, in_expression, in_inline, in_positional, in_named, in_variants, variants_view, inlines_view, nameds_view}
 use Rattle.fluent_tree.specs.declared.ast.Pattern as of_pattern
@@ -24,6 +24,17 @@ unseen_links rs p h = h ∙ (sym (behind_none rs) ∙ sym (ap (behind rs) h))
 -- a place without links stays as it is
 pub unseen : (rs : List Reference) (place : Place) → place.links ≡ None → seen place ≡ behind rs (seen place)
 unseen rs place h = unseen_links rs (seen place) (ap (λ o. seen (record { links = o })) h)
+
+behind_last : (rs : List Reference) → behind rs (Some []) ≡ Some []
+behind_last [] = refl
+behind_last (r ∷ rs) = behind_last rs
+
+last_links : (rs : List Reference) (p : Links) → p ≡ Some [] → p ≡ behind rs p
+last_links rs p h = h ∙ (sym (behind_last rs) ∙ sym (ap (behind rs) h))
+
+-- a place behind the last link stays as it is
+pub ended : (rs : List Reference) (place : Place) (links : Bor (List ℕ)) → place.links ≡ Some links → links.now ≡ [] → seen place ≡ behind rs (seen place)
+ended rs place links is h = last_links rs (seen place) (ap (λ o. seen (record { links = o })) is ∙ ap Some h)
 
 pub pattern_passed : (p : of_pattern.Pattern) (before after : Links) → after ≡ behind (in_elements p.elements.items) before → after ≡ behind (references (pattern_view p)) before
 pattern_passed p before after h = h ∙ ap (λ rs. behind rs before) (sym (in_pattern_is p))

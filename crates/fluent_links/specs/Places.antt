@@ -18,3 +18,7 @@ first_of (Some (l ∷ ls)) = Some l
 -- these links, without those of the references
 abbrev pub Passes : List ℕ → List ℕ → List Reference → Type 0
 Passes before after rs = Some after ≡ behind rs (Some before)
+
+-- no references lead on
+abbrev pub Stays : Links → Type 0
+Stays p = (rs : List Reference) → p ≡ behind rs p
