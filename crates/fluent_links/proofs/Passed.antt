@@ -1,5 +1,5 @@
 -- Parts passed over one by one.
-use Rattle.std.proofs.Common.{◌≡◌, ℕ, Bor, List, [], ◌∷◌, ◌++◌, None, Some, refl, Vec, Global, ap, sym, ◌∙◌}
+use Rattle.std.proofs.Common.{◌≡◌, List, [], ◌++◌, Vec, Global, ap, sym, ◌∙◌}
 use Rattle.fluent_tree.specs.View.{pattern_view, expression_view, inline_view, arguments_view}
 use Rattle.fluent_tree.specs.References.{Reference, references, in_arguments, in_expression, in_inline, in_positional, in_named, in_variants, variants_view, inlines_view, nameds_view}
 use Rattle.fluent_tree.specs.declared.ast.Pattern as of_pattern
@@ -9,32 +9,16 @@ use Rattle.fluent_tree.specs.declared.ast.InlineExpression as of_inline
 use Rattle.fluent_tree.specs.declared.ast.CallArguments as of_call
 use Rattle.fluent_tree.specs.declared.ast.Variant as of_variant
 use Rattle.fluent_links.specs.Links.{Links, behind}
-use Rattle.fluent_links.specs.Places.{seen}
-use Rattle.fluent_links.specs.PlaceLaws.{behind_append, behind_none}
+use Rattle.fluent_links.specs.PlaceLaws.{behind_append, behind_last}
 use Rattle.fluent_links.specs.PlaceSteps.{in_elements}
 use Rattle.fluent_links.specs.PlaceParts.{in_pattern_is, in_select_is, in_arguments_is}
-use Rattle.fluent_links.specs.declared.place.Place.{Place}
 
 two_parts : (xs ys : List Reference) (p q r : Links) → q ≡ behind xs p → r ≡ behind ys q → r ≡ behind (xs ++ ys) p
 two_parts xs ys p q r first second = second ∙ (ap (behind ys) first ∙ sym (behind_append xs ys p))
 
-unseen_links : (rs : List Reference) (p : Links) → p ≡ None → p ≡ behind rs p
-unseen_links rs p h = h ∙ (sym (behind_none rs) ∙ sym (ap (behind rs) h))
-
--- a place without links stays as it is
-pub unseen : (rs : List Reference) (place : Place) → place.links ≡ None → seen place ≡ behind rs (seen place)
-unseen rs place h = unseen_links rs (seen place) (ap (λ o. seen (record { links = o })) h)
-
-behind_last : (rs : List Reference) → behind rs (Some []) ≡ Some []
-behind_last [] = refl
-behind_last (r ∷ rs) = behind_last rs
-
-last_links : (rs : List Reference) (p : Links) → p ≡ Some [] → p ≡ behind rs p
-last_links rs p h = h ∙ (sym (behind_last rs) ∙ sym (ap (behind rs) h))
-
--- a place behind the last link stays as it is
-pub ended : (rs : List Reference) (place : Place) (links : Bor (List ℕ)) → place.links ≡ Some links → links.now ≡ [] → seen place ≡ behind rs (seen place)
-ended rs place links is h = last_links rs (seen place) (ap (λ o. seen (record { links = o })) is ∙ ap Some h)
+-- where no links are left it stays so
+pub ended : (rs : List Reference) (p : Links) → p ≡ [] → p ≡ behind rs p
+ended rs p h = h ∙ (sym (behind_last rs) ∙ sym (ap (behind rs) h))
 
 pub pattern_passed : (p : of_pattern.Pattern) (before after : Links) → after ≡ behind (in_elements p.elements.items) before → after ≡ behind (references (pattern_view p)) before
 pattern_passed p before after h = h ∙ ap (λ rs. behind rs before) (sym (in_pattern_is p))

@@ -2,7 +2,7 @@
 use Rattle.std.specs.Prelude.{◌≡◌, ℕ, List, [], ◌∷◌, map, Option, Some}
 use Rattle.fluent_tree.specs.Tree.{Text}
 use Rattle.fluent_tree.specs.References.{Reference}
-use Rattle.fluent_links.specs.Links.{id_of, AreLinks, Keeps}
+use Rattle.fluent_links.specs.Links.{id_of, IsBefore, Keeps}
 
 -- the links are the numbers of the ids, each of one, in order
 abbrev pub AreNumbers : (Text → Option ℕ) → List Reference → List ℕ → Type 0
@@ -18,9 +18,9 @@ both_are : {A : Type 0} (x y : A) (xs ys : List A) → x ≡ y → xs ≡ ys →
 both_are x y xs ys h k = cc
 
 -- a walk can start before them
-pub are_links : (number : Text → Option ℕ) (rs : List Reference) (ls : List ℕ) → AreNumbers number rs ls → AreLinks number rs ls
-are_links number [] ls h = tt
-are_links number (r ∷ rs) [] h = absurd cc
+pub are_links : (number : Text → Option ℕ) (rs : List Reference) (ls : List ℕ) → AreNumbers number rs ls → IsBefore number rs ls
+are_links number rs [] h = tt
+are_links number [] (l ∷ ls) h = tt
 are_links number (r ∷ rs) (l ∷ ls) h = (first_is (number (id_of r)) (Some l) (map (λ r. number (id_of r)) rs) (map Some ls) h, are_links number rs ls (rest_is (number (id_of r)) (Some l) (map (λ r. number (id_of r)) rs) (map Some ls) h))
 
 -- they stay right while ids keep their numbers

@@ -38,7 +38,7 @@ impl Linked {
 
     /// The place before all that it refers to.
     pub fn place(&self) -> Place<'_>
-        ensures links { seen result ≡ Some (links_of self.now) }
+        ensures links { seen result ≡ links_of self.now }
         ensures before { (number : Text → Option ℕ) (table : List t.Pattern) (p : t.Pattern) →
             IsOf number table p self.now → IsBefore number (references p) (seen result) }
     {

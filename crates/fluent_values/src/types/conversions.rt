@@ -1,11 +1,10 @@
 //! Texts, numbers and whole numbers into values.
-ghost use Rattle.std.specs.Prelude.{◌≡◌, pos, None, string_bytes};
+ghost use Rattle.std.specs.Prelude.{◌≡◌, pos, string_bytes};
 ghost use Rattle.std.specs.Cow.{cow_str_bytes};
-ghost use Rattle.fluent_intl.specs.Decimal.{whole};
-ghost use Rattle.fluent_intl.specs.Number.{number_of, number_with};
+ghost use Rattle.fluent_intl.specs.Number.{number_of};
 ghost use Rattle.fluent_meaning.specs.Value.{text_value, number_value};
 ghost use Rattle.fluent_values.specs.View.{value_view};
-ghost use Rattle.fluent_values.specs.Given.{or_nothing};
+ghost use Rattle.fluent_values.specs.Given.{or_nothing, whole_value};
 
 use crate::types::{FluentNumber, FluentType, FluentValue};
 use std::borrow::CowStr;
@@ -51,7 +50,7 @@ impl<'s, C: FluentType> From<FluentNumber> for FluentValue<'s, C> {
 }
 
 impl<'s, C: FluentType> From<i8> for FluentValue<'s, C> {
-    ghost from_gives = { λ x v. value_view C.content v ≡ number_value (number_with (whole x) None) };
+    ghost from_gives = { λ x v. value_view C.content v ≡ whole_value x };
 
     fn from(x: i8) -> FluentValue<'s, C> {
         FluentValue::Number(FluentNumber::from(x))
@@ -59,7 +58,7 @@ impl<'s, C: FluentType> From<i8> for FluentValue<'s, C> {
 }
 
 impl<'s, C: FluentType> From<&i8> for FluentValue<'s, C> {
-    ghost from_gives = { λ x v. value_view C.content v ≡ number_value (number_with (whole x.now) None) };
+    ghost from_gives = { λ x v. value_view C.content v ≡ whole_value x.now };
 
     fn from(x: &i8) -> FluentValue<'s, C> {
         FluentValue::Number(FluentNumber::from(x))
@@ -67,7 +66,7 @@ impl<'s, C: FluentType> From<&i8> for FluentValue<'s, C> {
 }
 
 impl<'s, C: FluentType> From<i16> for FluentValue<'s, C> {
-    ghost from_gives = { λ x v. value_view C.content v ≡ number_value (number_with (whole x) None) };
+    ghost from_gives = { λ x v. value_view C.content v ≡ whole_value x };
 
     fn from(x: i16) -> FluentValue<'s, C> {
         FluentValue::Number(FluentNumber::from(x))
@@ -75,7 +74,7 @@ impl<'s, C: FluentType> From<i16> for FluentValue<'s, C> {
 }
 
 impl<'s, C: FluentType> From<&i16> for FluentValue<'s, C> {
-    ghost from_gives = { λ x v. value_view C.content v ≡ number_value (number_with (whole x.now) None) };
+    ghost from_gives = { λ x v. value_view C.content v ≡ whole_value x.now };
 
     fn from(x: &i16) -> FluentValue<'s, C> {
         FluentValue::Number(FluentNumber::from(x))
@@ -83,7 +82,7 @@ impl<'s, C: FluentType> From<&i16> for FluentValue<'s, C> {
 }
 
 impl<'s, C: FluentType> From<i32> for FluentValue<'s, C> {
-    ghost from_gives = { λ x v. value_view C.content v ≡ number_value (number_with (whole x) None) };
+    ghost from_gives = { λ x v. value_view C.content v ≡ whole_value x };
 
     fn from(x: i32) -> FluentValue<'s, C> {
         FluentValue::Number(FluentNumber::from(x))
@@ -91,7 +90,7 @@ impl<'s, C: FluentType> From<i32> for FluentValue<'s, C> {
 }
 
 impl<'s, C: FluentType> From<&i32> for FluentValue<'s, C> {
-    ghost from_gives = { λ x v. value_view C.content v ≡ number_value (number_with (whole x.now) None) };
+    ghost from_gives = { λ x v. value_view C.content v ≡ whole_value x.now };
 
     fn from(x: &i32) -> FluentValue<'s, C> {
         FluentValue::Number(FluentNumber::from(x))
@@ -99,7 +98,7 @@ impl<'s, C: FluentType> From<&i32> for FluentValue<'s, C> {
 }
 
 impl<'s, C: FluentType> From<i64> for FluentValue<'s, C> {
-    ghost from_gives = { λ x v. value_view C.content v ≡ number_value (number_with (whole x) None) };
+    ghost from_gives = { λ x v. value_view C.content v ≡ whole_value x };
 
     fn from(x: i64) -> FluentValue<'s, C> {
         FluentValue::Number(FluentNumber::from(x))
@@ -107,7 +106,7 @@ impl<'s, C: FluentType> From<i64> for FluentValue<'s, C> {
 }
 
 impl<'s, C: FluentType> From<&i64> for FluentValue<'s, C> {
-    ghost from_gives = { λ x v. value_view C.content v ≡ number_value (number_with (whole x.now) None) };
+    ghost from_gives = { λ x v. value_view C.content v ≡ whole_value x.now };
 
     fn from(x: &i64) -> FluentValue<'s, C> {
         FluentValue::Number(FluentNumber::from(x))
@@ -115,7 +114,7 @@ impl<'s, C: FluentType> From<&i64> for FluentValue<'s, C> {
 }
 
 impl<'s, C: FluentType> From<isize> for FluentValue<'s, C> {
-    ghost from_gives = { λ x v. value_view C.content v ≡ number_value (number_with (whole x) None) };
+    ghost from_gives = { λ x v. value_view C.content v ≡ whole_value x };
 
     fn from(x: isize) -> FluentValue<'s, C> {
         FluentValue::Number(FluentNumber::from(x))
@@ -123,7 +122,7 @@ impl<'s, C: FluentType> From<isize> for FluentValue<'s, C> {
 }
 
 impl<'s, C: FluentType> From<&isize> for FluentValue<'s, C> {
-    ghost from_gives = { λ x v. value_view C.content v ≡ number_value (number_with (whole x.now) None) };
+    ghost from_gives = { λ x v. value_view C.content v ≡ whole_value x.now };
 
     fn from(x: &isize) -> FluentValue<'s, C> {
         FluentValue::Number(FluentNumber::from(x))
@@ -131,7 +130,7 @@ impl<'s, C: FluentType> From<&isize> for FluentValue<'s, C> {
 }
 
 impl<'s, C: FluentType> From<u8> for FluentValue<'s, C> {
-    ghost from_gives = { λ x v. value_view C.content v ≡ number_value (number_with (whole (pos x)) None) };
+    ghost from_gives = { λ x v. value_view C.content v ≡ whole_value (pos x) };
 
     fn from(x: u8) -> FluentValue<'s, C> {
         FluentValue::Number(FluentNumber::from(x))
@@ -139,7 +138,7 @@ impl<'s, C: FluentType> From<u8> for FluentValue<'s, C> {
 }
 
 impl<'s, C: FluentType> From<&u8> for FluentValue<'s, C> {
-    ghost from_gives = { λ x v. value_view C.content v ≡ number_value (number_with (whole (pos x.now)) None) };
+    ghost from_gives = { λ x v. value_view C.content v ≡ whole_value (pos x.now) };
 
     fn from(x: &u8) -> FluentValue<'s, C> {
         FluentValue::Number(FluentNumber::from(x))
@@ -147,7 +146,7 @@ impl<'s, C: FluentType> From<&u8> for FluentValue<'s, C> {
 }
 
 impl<'s, C: FluentType> From<u16> for FluentValue<'s, C> {
-    ghost from_gives = { λ x v. value_view C.content v ≡ number_value (number_with (whole (pos x)) None) };
+    ghost from_gives = { λ x v. value_view C.content v ≡ whole_value (pos x) };
 
     fn from(x: u16) -> FluentValue<'s, C> {
         FluentValue::Number(FluentNumber::from(x))
@@ -155,7 +154,7 @@ impl<'s, C: FluentType> From<u16> for FluentValue<'s, C> {
 }
 
 impl<'s, C: FluentType> From<&u16> for FluentValue<'s, C> {
-    ghost from_gives = { λ x v. value_view C.content v ≡ number_value (number_with (whole (pos x.now)) None) };
+    ghost from_gives = { λ x v. value_view C.content v ≡ whole_value (pos x.now) };
 
     fn from(x: &u16) -> FluentValue<'s, C> {
         FluentValue::Number(FluentNumber::from(x))
@@ -163,7 +162,7 @@ impl<'s, C: FluentType> From<&u16> for FluentValue<'s, C> {
 }
 
 impl<'s, C: FluentType> From<u32> for FluentValue<'s, C> {
-    ghost from_gives = { λ x v. value_view C.content v ≡ number_value (number_with (whole (pos x)) None) };
+    ghost from_gives = { λ x v. value_view C.content v ≡ whole_value (pos x) };
 
     fn from(x: u32) -> FluentValue<'s, C> {
         FluentValue::Number(FluentNumber::from(x))
@@ -171,7 +170,7 @@ impl<'s, C: FluentType> From<u32> for FluentValue<'s, C> {
 }
 
 impl<'s, C: FluentType> From<&u32> for FluentValue<'s, C> {
-    ghost from_gives = { λ x v. value_view C.content v ≡ number_value (number_with (whole (pos x.now)) None) };
+    ghost from_gives = { λ x v. value_view C.content v ≡ whole_value (pos x.now) };
 
     fn from(x: &u32) -> FluentValue<'s, C> {
         FluentValue::Number(FluentNumber::from(x))
@@ -179,7 +178,7 @@ impl<'s, C: FluentType> From<&u32> for FluentValue<'s, C> {
 }
 
 impl<'s, C: FluentType> From<u64> for FluentValue<'s, C> {
-    ghost from_gives = { λ x v. value_view C.content v ≡ number_value (number_with (whole (pos x)) None) };
+    ghost from_gives = { λ x v. value_view C.content v ≡ whole_value (pos x) };
 
     fn from(x: u64) -> FluentValue<'s, C> {
         FluentValue::Number(FluentNumber::from(x))
@@ -187,7 +186,7 @@ impl<'s, C: FluentType> From<u64> for FluentValue<'s, C> {
 }
 
 impl<'s, C: FluentType> From<&u64> for FluentValue<'s, C> {
-    ghost from_gives = { λ x v. value_view C.content v ≡ number_value (number_with (whole (pos x.now)) None) };
+    ghost from_gives = { λ x v. value_view C.content v ≡ whole_value (pos x.now) };
 
     fn from(x: &u64) -> FluentValue<'s, C> {
         FluentValue::Number(FluentNumber::from(x))
@@ -195,7 +194,7 @@ impl<'s, C: FluentType> From<&u64> for FluentValue<'s, C> {
 }
 
 impl<'s, C: FluentType> From<usize> for FluentValue<'s, C> {
-    ghost from_gives = { λ x v. value_view C.content v ≡ number_value (number_with (whole (pos x)) None) };
+    ghost from_gives = { λ x v. value_view C.content v ≡ whole_value (pos x) };
 
     fn from(x: usize) -> FluentValue<'s, C> {
         FluentValue::Number(FluentNumber::from(x))
@@ -203,7 +202,7 @@ impl<'s, C: FluentType> From<usize> for FluentValue<'s, C> {
 }
 
 impl<'s, C: FluentType> From<&usize> for FluentValue<'s, C> {
-    ghost from_gives = { λ x v. value_view C.content v ≡ number_value (number_with (whole (pos x.now)) None) };
+    ghost from_gives = { λ x v. value_view C.content v ≡ whole_value (pos x.now) };
 
     fn from(x: &usize) -> FluentValue<'s, C> {
         FluentValue::Number(FluentNumber::from(x))
@@ -211,7 +210,7 @@ impl<'s, C: FluentType> From<&usize> for FluentValue<'s, C> {
 }
 
 impl<'s, C: FluentType> From<Option<String>> for FluentValue<'s, C> {
-    ghost from_gives = { λ text v. value_view C.content v ≡ or_nothing (λ text. text_value (string_bytes text)) text };
+    ghost from_gives = { λ text v. value_view C.content v ≡ or_nothing (λ t. text_value (string_bytes t)) text };
 
     fn from(text: Option<String>) -> FluentValue<'s, C> {
         match text {
@@ -222,7 +221,7 @@ impl<'s, C: FluentType> From<Option<String>> for FluentValue<'s, C> {
 }
 
 impl<'s, C: FluentType> From<Option<&'s String>> for FluentValue<'s, C> {
-    ghost from_gives = { λ text v. value_view C.content v ≡ or_nothing (λ text. text_value (string_bytes text.now)) text };
+    ghost from_gives = { λ text v. value_view C.content v ≡ or_nothing (λ t. text_value (string_bytes t.now)) text };
 
     fn from(text: Option<&'s String>) -> FluentValue<'s, C> {
         match text {
@@ -233,7 +232,7 @@ impl<'s, C: FluentType> From<Option<&'s String>> for FluentValue<'s, C> {
 }
 
 impl<'s, C: FluentType> From<Option<&'s str>> for FluentValue<'s, C> {
-    ghost from_gives = { λ text v. value_view C.content v ≡ or_nothing (λ text. text_value text.now) text };
+    ghost from_gives = { λ text v. value_view C.content v ≡ or_nothing (λ t. text_value t.now) text };
 
     fn from(text: Option<&'s str>) -> FluentValue<'s, C> {
         match text {
@@ -244,7 +243,7 @@ impl<'s, C: FluentType> From<Option<&'s str>> for FluentValue<'s, C> {
 }
 
 impl<'s, C: FluentType> From<Option<CowStr<'s>>> for FluentValue<'s, C> {
-    ghost from_gives = { λ text v. value_view C.content v ≡ or_nothing (λ text. text_value (cow_str_bytes text)) text };
+    ghost from_gives = { λ text v. value_view C.content v ≡ or_nothing (λ t. text_value (cow_str_bytes t)) text };
 
     fn from(text: Option<CowStr<'s>>) -> FluentValue<'s, C> {
         match text {
@@ -255,7 +254,7 @@ impl<'s, C: FluentType> From<Option<CowStr<'s>>> for FluentValue<'s, C> {
 }
 
 impl<'s, C: FluentType> From<Option<FluentNumber>> for FluentValue<'s, C> {
-    ghost from_gives = { λ number v. value_view C.content v ≡ or_nothing (λ number. number_value (number_of number)) number };
+    ghost from_gives = { λ number v. value_view C.content v ≡ or_nothing (λ n. number_value (number_of n)) number };
 
     fn from(number: Option<FluentNumber>) -> FluentValue<'s, C> {
         match number {
@@ -266,7 +265,7 @@ impl<'s, C: FluentType> From<Option<FluentNumber>> for FluentValue<'s, C> {
 }
 
 impl<'s, C: FluentType> From<Option<i8>> for FluentValue<'s, C> {
-    ghost from_gives = { λ x v. value_view C.content v ≡ or_nothing (λ x. number_value (number_with (whole x) None)) x };
+    ghost from_gives = { λ x v. value_view C.content v ≡ or_nothing whole_value x };
 
     fn from(x: Option<i8>) -> FluentValue<'s, C> {
         match x {
@@ -277,7 +276,7 @@ impl<'s, C: FluentType> From<Option<i8>> for FluentValue<'s, C> {
 }
 
 impl<'s, C: FluentType> From<Option<&i8>> for FluentValue<'s, C> {
-    ghost from_gives = { λ x v. value_view C.content v ≡ or_nothing (λ x. number_value (number_with (whole x.now) None)) x };
+    ghost from_gives = { λ x v. value_view C.content v ≡ or_nothing (λ x. whole_value x.now) x };
 
     fn from(x: Option<&i8>) -> FluentValue<'s, C> {
         match x {
@@ -288,7 +287,7 @@ impl<'s, C: FluentType> From<Option<&i8>> for FluentValue<'s, C> {
 }
 
 impl<'s, C: FluentType> From<Option<i16>> for FluentValue<'s, C> {
-    ghost from_gives = { λ x v. value_view C.content v ≡ or_nothing (λ x. number_value (number_with (whole x) None)) x };
+    ghost from_gives = { λ x v. value_view C.content v ≡ or_nothing whole_value x };
 
     fn from(x: Option<i16>) -> FluentValue<'s, C> {
         match x {
@@ -299,7 +298,7 @@ impl<'s, C: FluentType> From<Option<i16>> for FluentValue<'s, C> {
 }
 
 impl<'s, C: FluentType> From<Option<&i16>> for FluentValue<'s, C> {
-    ghost from_gives = { λ x v. value_view C.content v ≡ or_nothing (λ x. number_value (number_with (whole x.now) None)) x };
+    ghost from_gives = { λ x v. value_view C.content v ≡ or_nothing (λ x. whole_value x.now) x };
 
     fn from(x: Option<&i16>) -> FluentValue<'s, C> {
         match x {
@@ -310,7 +309,7 @@ impl<'s, C: FluentType> From<Option<&i16>> for FluentValue<'s, C> {
 }
 
 impl<'s, C: FluentType> From<Option<i32>> for FluentValue<'s, C> {
-    ghost from_gives = { λ x v. value_view C.content v ≡ or_nothing (λ x. number_value (number_with (whole x) None)) x };
+    ghost from_gives = { λ x v. value_view C.content v ≡ or_nothing whole_value x };
 
     fn from(x: Option<i32>) -> FluentValue<'s, C> {
         match x {
@@ -321,7 +320,7 @@ impl<'s, C: FluentType> From<Option<i32>> for FluentValue<'s, C> {
 }
 
 impl<'s, C: FluentType> From<Option<&i32>> for FluentValue<'s, C> {
-    ghost from_gives = { λ x v. value_view C.content v ≡ or_nothing (λ x. number_value (number_with (whole x.now) None)) x };
+    ghost from_gives = { λ x v. value_view C.content v ≡ or_nothing (λ x. whole_value x.now) x };
 
     fn from(x: Option<&i32>) -> FluentValue<'s, C> {
         match x {
@@ -332,7 +331,7 @@ impl<'s, C: FluentType> From<Option<&i32>> for FluentValue<'s, C> {
 }
 
 impl<'s, C: FluentType> From<Option<i64>> for FluentValue<'s, C> {
-    ghost from_gives = { λ x v. value_view C.content v ≡ or_nothing (λ x. number_value (number_with (whole x) None)) x };
+    ghost from_gives = { λ x v. value_view C.content v ≡ or_nothing whole_value x };
 
     fn from(x: Option<i64>) -> FluentValue<'s, C> {
         match x {
@@ -343,7 +342,7 @@ impl<'s, C: FluentType> From<Option<i64>> for FluentValue<'s, C> {
 }
 
 impl<'s, C: FluentType> From<Option<&i64>> for FluentValue<'s, C> {
-    ghost from_gives = { λ x v. value_view C.content v ≡ or_nothing (λ x. number_value (number_with (whole x.now) None)) x };
+    ghost from_gives = { λ x v. value_view C.content v ≡ or_nothing (λ x. whole_value x.now) x };
 
     fn from(x: Option<&i64>) -> FluentValue<'s, C> {
         match x {
@@ -354,7 +353,7 @@ impl<'s, C: FluentType> From<Option<&i64>> for FluentValue<'s, C> {
 }
 
 impl<'s, C: FluentType> From<Option<isize>> for FluentValue<'s, C> {
-    ghost from_gives = { λ x v. value_view C.content v ≡ or_nothing (λ x. number_value (number_with (whole x) None)) x };
+    ghost from_gives = { λ x v. value_view C.content v ≡ or_nothing whole_value x };
 
     fn from(x: Option<isize>) -> FluentValue<'s, C> {
         match x {
@@ -365,7 +364,7 @@ impl<'s, C: FluentType> From<Option<isize>> for FluentValue<'s, C> {
 }
 
 impl<'s, C: FluentType> From<Option<&isize>> for FluentValue<'s, C> {
-    ghost from_gives = { λ x v. value_view C.content v ≡ or_nothing (λ x. number_value (number_with (whole x.now) None)) x };
+    ghost from_gives = { λ x v. value_view C.content v ≡ or_nothing (λ x. whole_value x.now) x };
 
     fn from(x: Option<&isize>) -> FluentValue<'s, C> {
         match x {
@@ -376,7 +375,7 @@ impl<'s, C: FluentType> From<Option<&isize>> for FluentValue<'s, C> {
 }
 
 impl<'s, C: FluentType> From<Option<u8>> for FluentValue<'s, C> {
-    ghost from_gives = { λ x v. value_view C.content v ≡ or_nothing (λ x. number_value (number_with (whole (pos x)) None)) x };
+    ghost from_gives = { λ x v. value_view C.content v ≡ or_nothing (λ x. whole_value (pos x)) x };
 
     fn from(x: Option<u8>) -> FluentValue<'s, C> {
         match x {
@@ -387,7 +386,7 @@ impl<'s, C: FluentType> From<Option<u8>> for FluentValue<'s, C> {
 }
 
 impl<'s, C: FluentType> From<Option<&u8>> for FluentValue<'s, C> {
-    ghost from_gives = { λ x v. value_view C.content v ≡ or_nothing (λ x. number_value (number_with (whole (pos x.now)) None)) x };
+    ghost from_gives = { λ x v. value_view C.content v ≡ or_nothing (λ x. whole_value (pos x.now)) x };
 
     fn from(x: Option<&u8>) -> FluentValue<'s, C> {
         match x {
@@ -398,7 +397,7 @@ impl<'s, C: FluentType> From<Option<&u8>> for FluentValue<'s, C> {
 }
 
 impl<'s, C: FluentType> From<Option<u16>> for FluentValue<'s, C> {
-    ghost from_gives = { λ x v. value_view C.content v ≡ or_nothing (λ x. number_value (number_with (whole (pos x)) None)) x };
+    ghost from_gives = { λ x v. value_view C.content v ≡ or_nothing (λ x. whole_value (pos x)) x };
 
     fn from(x: Option<u16>) -> FluentValue<'s, C> {
         match x {
@@ -409,7 +408,7 @@ impl<'s, C: FluentType> From<Option<u16>> for FluentValue<'s, C> {
 }
 
 impl<'s, C: FluentType> From<Option<&u16>> for FluentValue<'s, C> {
-    ghost from_gives = { λ x v. value_view C.content v ≡ or_nothing (λ x. number_value (number_with (whole (pos x.now)) None)) x };
+    ghost from_gives = { λ x v. value_view C.content v ≡ or_nothing (λ x. whole_value (pos x.now)) x };
 
     fn from(x: Option<&u16>) -> FluentValue<'s, C> {
         match x {
@@ -420,7 +419,7 @@ impl<'s, C: FluentType> From<Option<&u16>> for FluentValue<'s, C> {
 }
 
 impl<'s, C: FluentType> From<Option<u32>> for FluentValue<'s, C> {
-    ghost from_gives = { λ x v. value_view C.content v ≡ or_nothing (λ x. number_value (number_with (whole (pos x)) None)) x };
+    ghost from_gives = { λ x v. value_view C.content v ≡ or_nothing (λ x. whole_value (pos x)) x };
 
     fn from(x: Option<u32>) -> FluentValue<'s, C> {
         match x {
@@ -431,7 +430,7 @@ impl<'s, C: FluentType> From<Option<u32>> for FluentValue<'s, C> {
 }
 
 impl<'s, C: FluentType> From<Option<&u32>> for FluentValue<'s, C> {
-    ghost from_gives = { λ x v. value_view C.content v ≡ or_nothing (λ x. number_value (number_with (whole (pos x.now)) None)) x };
+    ghost from_gives = { λ x v. value_view C.content v ≡ or_nothing (λ x. whole_value (pos x.now)) x };
 
     fn from(x: Option<&u32>) -> FluentValue<'s, C> {
         match x {
@@ -442,7 +441,7 @@ impl<'s, C: FluentType> From<Option<&u32>> for FluentValue<'s, C> {
 }
 
 impl<'s, C: FluentType> From<Option<u64>> for FluentValue<'s, C> {
-    ghost from_gives = { λ x v. value_view C.content v ≡ or_nothing (λ x. number_value (number_with (whole (pos x)) None)) x };
+    ghost from_gives = { λ x v. value_view C.content v ≡ or_nothing (λ x. whole_value (pos x)) x };
 
     fn from(x: Option<u64>) -> FluentValue<'s, C> {
         match x {
@@ -453,7 +452,7 @@ impl<'s, C: FluentType> From<Option<u64>> for FluentValue<'s, C> {
 }
 
 impl<'s, C: FluentType> From<Option<&u64>> for FluentValue<'s, C> {
-    ghost from_gives = { λ x v. value_view C.content v ≡ or_nothing (λ x. number_value (number_with (whole (pos x.now)) None)) x };
+    ghost from_gives = { λ x v. value_view C.content v ≡ or_nothing (λ x. whole_value (pos x.now)) x };
 
     fn from(x: Option<&u64>) -> FluentValue<'s, C> {
         match x {
@@ -464,7 +463,7 @@ impl<'s, C: FluentType> From<Option<&u64>> for FluentValue<'s, C> {
 }
 
 impl<'s, C: FluentType> From<Option<usize>> for FluentValue<'s, C> {
-    ghost from_gives = { λ x v. value_view C.content v ≡ or_nothing (λ x. number_value (number_with (whole (pos x)) None)) x };
+    ghost from_gives = { λ x v. value_view C.content v ≡ or_nothing (λ x. whole_value (pos x)) x };
 
     fn from(x: Option<usize>) -> FluentValue<'s, C> {
         match x {
@@ -475,7 +474,7 @@ impl<'s, C: FluentType> From<Option<usize>> for FluentValue<'s, C> {
 }
 
 impl<'s, C: FluentType> From<Option<&usize>> for FluentValue<'s, C> {
-    ghost from_gives = { λ x v. value_view C.content v ≡ or_nothing (λ x. number_value (number_with (whole (pos x.now)) None)) x };
+    ghost from_gives = { λ x v. value_view C.content v ≡ or_nothing (λ x. whole_value (pos x.now)) x };
 
     fn from(x: Option<&usize>) -> FluentValue<'s, C> {
         match x {

@@ -20,7 +20,7 @@ use Rattle.fluent_links.specs.Places.{seen}
 use Rattle.fluent_values.specs.ChosenView.{BeginsAt, chosen_view}
 use Rattle.fluent_values.specs.declared.resolver.variants.Chosen.{Chosen}
 use Rattle.fluent_values.specs.Trail.{content_at, on_path}
-use Rattle.fluent_values.proofs.Placed.{ok_value, placed_as, placed_back, placed_behind, placed_front, placed_still, some_value}
+use Rattle.fluent_values.proofs.Placed.{ok_value, placed_as, placed_back, placed_behind, placed_first, placed_front, placed_still, some_value}
 use Rattle.fluent_values.specs.Choice.{choice, first_default}
 use Rattle.fluent_values.specs.Sizes.{size, bound, IsBelow, element_size, expression_size, variants_size, inline_size, call_size, arguments_size, inlines_size, nameds_size}
 use Rattle.fluent_values.specs.Status.{status, environment_view}
@@ -512,6 +512,14 @@ arguments::resolve_function-resolve_call-requires g t c =
     let placed = placed_behind a.stored.numbers (in_inline (inline_view c.args.inline.now)) (a_function c.args.id.now.name.now) (in_arguments (arguments_view c.args.arguments.now)) c.args.place c.after_one.result (ap in_inline c.requires.view) c.after_one.ensures c.requires.placed in
     λ κs h. (less, (h.0, (h.1.0, (h.1.1.0, (h.1.1.1, placed)))))
 
+pub arguments::resolve_function-answer_of-requires : goal.arguments::resolve_function-answer_of-requires
+arguments::resolve_function-answer_of-requires g t c =
+    let a = status g.B.Context.meant g.B.Context.is_plain g.F.FluentFunction.answer g.C.FluentType.content c.args.scope.now in
+    let b = status g.B.Context.meant g.B.Context.is_plain g.F.FluentFunction.answer g.C.FluentType.content c.resolve_call.new.scope in
+    let kept = c.resolve_call.ensures.got.toward.passed.keeps in
+    let r = a_function c.args.id.now.name.now in
+    placed_still a b (r ∷ []) c.args.place kept.stored (placed_first a.stored.numbers (in_inline (inline_view c.args.inline.now)) r (in_arguments (arguments_view c.args.arguments.now)) c.args.place (ap in_inline c.requires.view) c.requires.placed)
+
 pub arguments::resolve-resolve_variable-requires : goal.arguments::resolve-resolve_variable-requires
 arguments::resolve-resolve_variable-requires g t c = view_variable_in c.args.inline.now c.in-VariableReference.id c.in-VariableReference.is
 
@@ -670,6 +678,14 @@ inline_expression::write_function-resolve_call-requires g t c =
     let placed = placed_behind a.stored.numbers (in_inline (inline_view c.args.inline.now)) (a_function c.args.id.now.name.now) (in_arguments (arguments_view c.args.arguments.now)) c.args.place c.after_one.result (ap in_inline c.requires.view) c.after_one.ensures c.requires.placed in
     λ κs h. (less, (h.0, (h.1.0, (h.1.1.0, (h.1.1.1, placed)))))
 
+pub inline_expression::write_function-put_answer-requires : goal.inline_expression::write_function-put_answer-requires
+inline_expression::write_function-put_answer-requires g t c =
+    let a = status g.B.Context.meant g.B.Context.is_plain g.F.FluentFunction.answer g.C.FluentType.content c.args.scope.now in
+    let b = status g.B.Context.meant g.B.Context.is_plain g.F.FluentFunction.answer g.C.FluentType.content c.resolve_call.new.scope in
+    let kept = c.resolve_call.ensures.got.toward.passed.keeps in
+    let r = a_function c.args.id.now.name.now in
+    placed_still a b (r ∷ []) c.args.place kept.stored (placed_first a.stored.numbers (in_inline (inline_view c.args.inline.now)) r (in_arguments (arguments_view c.args.arguments.now)) c.args.place (ap in_inline c.requires.view) c.requires.placed)
+
 pub inline_expression::write_inline-follow-requires : goal.inline_expression::write_inline-follow-requires
 inline_expression::write_inline-follow-requires g t c =
     let a = status g.B.Context.meant g.B.Context.is_plain g.F.FluentFunction.answer g.C.FluentType.content c.args.scope.now in
@@ -706,6 +722,14 @@ inline_expression::write_term-resolve_local-requires g t c =
     let call = call_view c.args.arguments.now in
     let placed = placed_behind a.stored.numbers (in_inline (inline_view c.args.inline.now)) (a_term c.args.id.now.name.now) (in_call call) c.args.place c.after_one.result (ap in_inline c.requires.view) c.after_one.ensures c.requires.placed in
     λ κs h. (less, (h.0, (h.1.0, (h.1.1.0, (h.1.1.1, placed)))))
+
+pub inline_expression::write_term-term-found-requires : goal.inline_expression::write_term-term-found-requires
+inline_expression::write_term-term-found-requires g t c =
+    let a = status g.B.Context.meant g.B.Context.is_plain g.F.FluentFunction.answer g.C.FluentType.content c.args.scope.now in
+    let b = status g.B.Context.meant g.B.Context.is_plain g.F.FluentFunction.answer g.C.FluentType.content c.resolve_local.new.scope in
+    let kept = c.resolve_local.ensures.got.toward.passed.keeps in
+    let r = a_term c.args.id.now.name.now in
+    placed_still a b (r ∷ []) c.args.place kept.stored (placed_first a.stored.numbers (in_inline (inline_view c.args.inline.now)) r (in_call (call_view c.args.arguments.now)) c.args.place (ap in_inline c.requires.view) c.requires.placed)
 
 pub inline_expression::write_term-follow-written-requires : goal.inline_expression::write_term-follow-written-requires
 inline_expression::write_term-follow-written-requires g t c =

@@ -1,4 +1,4 @@
-use Rattle.std.proofs.Common.{ap, sym, subst, ◌∙◌, Some}
+use Rattle.std.proofs.Common.{sym, subst, ◌∙◌}
 use Rattle.fluent_tree.specs.References.{references}
 use Rattle.fluent_links.specs.Links.{IsBefore}
 use Rattle.fluent_links.specs.Linked.{links_of}
@@ -7,4 +7,4 @@ use Rattle.fluent_links.proofs.linked.Linked.place.Goals as goal
 
 pub returns-clause-before : goal.returns-clause-before
 returns-clause-before c = λ number table p is_of.
-    subst (λ s. IsBefore number (references p) s) (sym (c.from_links.ensures ∙ ap Some c.deref.ensures.value)) (are_links number (references p) (links_of c.args.self.now) is_of.1)
+    subst (λ s. IsBefore number (references p) s) (sym (c.from_links.ensures ∙ c.deref.ensures.value)) (are_links number (references p) (links_of c.args.self.now) is_of.1)
