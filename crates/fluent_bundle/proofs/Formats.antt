@@ -22,7 +22,7 @@ use Rattle.fluent_values.specs.Status.{Status, reported, with_errors}
 use Rattle.fluent_values.specs.Trail.{on_path}
 use Rattle.fluent_values.specs.Along.{Walk, Wrote, from_here, given}
 use Rattle.fluent_bundle.specs.Limits.{KeepsLimit}
-use Rattle.fluent_values.specs.Written.{Sink, Took, CountsTell, without_error, writer, at}
+use Rattle.fluent_values.specs.Written.{Sink, SinkTook, CountsTell, without_error, writer, at}
 use Rattle.fluent_values.specs.declared.errors.FluentError.{FluentError}
 use Rattle.fluent_text.specs.declared.counting.Counting.{Counting}
 
@@ -78,7 +78,7 @@ writes_of {r = r} {w = w} {w' = w'} {a = a} {b = b} {all = all} {list = list} {l
     by_case (Err x) tt = tt
 
 -- what a text that is the whole of it wrote
-pub writes_text : {T : Type 0} {r : Result T Halt} {t : Text} {w w' : Sink} (all : Ran Text) (list : List FluentError) → all.value ≡ t → all.errors ≡ [] → Took r t w w' → Writes r all w w' list list
+pub writes_text : {T : Type 0} {r : Result T Halt} {t : Text} {w w' : Sink} (all : Ran Text) (list : List FluentError) → all.value ≡ t → all.errors ≡ [] → SinkTook r t w w' → Writes r all w w' list list
 writes_text {r = r} {t = t} {w = w} {w' = w'} all list is bare k =
     let none_added : AddsAll [] list list = record { added = sym (append-nil (reported list)) } in
     record {

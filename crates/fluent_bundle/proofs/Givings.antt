@@ -7,7 +7,7 @@ use Rattle.fluent_meaning.specs.Value.{Value, text_value}
 use Rattle.fluent_meaning.specs.Arguments.{Map}
 use Rattle.fluent_meaning.specs.Bundle.{Bundle, unless_formatted}
 use Rattle.fluent_meaning.specs.Result.{formatted, written_pattern, substituted_pattern}
-use Rattle.fluent_bundle.specs.Formatted.{AddsAll, Gives}
+use Rattle.fluent_bundle.specs.Formatted.{AddsAll, GivesText}
 use Rattle.fluent_meaning.specs.Walk.{Environment, application, elements, deep, inner, has_one}
 use Rattle.fluent_meaning.specs.Meaning.{Budget, Ran, left, ran, after_text, within_budget}
 use Rattle.fluent_values.specs.Texts.{sole_text, is_text, texts_of}
@@ -17,8 +17,8 @@ use Rattle.fluent_values.specs.declared.errors.FluentError.{FluentError}
 
 -- the same by substitution, within the limit
 pub gives_within : {E : Type 0} (b : Bundle Text) (env : Map (Value Text)) (p : Pattern) (r : Result (CowStr Global) E) (list list' : List FluentError) → KeepsLimit b env p
-    → Gives (formatted b (written_pattern b env p).value) (written_pattern b env p).errors r list list' → (substituted_pattern b env p).opened ≤ b.limit → Gives (formatted b (substituted_pattern b env p).value) (substituted_pattern b env p).errors r list list'
-gives_within b env p r list list' keeps h few = subst (λ m. Gives (formatted b m.value) m.errors r list list') (keeps.within few) h
+    → GivesText (formatted b (written_pattern b env p).value) (written_pattern b env p).errors r list list' → (substituted_pattern b env p).opened ≤ b.limit → GivesText (formatted b (substituted_pattern b env p).value) (substituted_pattern b env p).errors r list list'
+gives_within b env p r list list' keeps h few = subst (λ m. GivesText (formatted b m.value) m.errors r list list') (keeps.within few) h
 
 -- where a sole text was lent, there is no transform and no formatter
 pub lent_where : {X Y : Type 0} (o : Option X) (f : Option Y) (p : Pattern) (t : Text) → Some t ≡ (if not (is_some o) && not (is_some f) then sole_text p else None) → (o ≡ None) × (f ≡ None) × (sole_text p ≡ Some t)

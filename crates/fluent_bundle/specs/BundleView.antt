@@ -69,10 +69,10 @@ message_entry_at id b = option_map (λ c. t.message_entry id c.value c.attribute
 -- ---- calls
 
 -- From old, a call answered so and left new: the errors are exactly those of what was not taken.
-abbrev pub Adds : {C : Type 0} → Bundle C → Call C → Bundle C → Result (Unit {0}) AddFault → Type 0
-Adds old call new (Ok u) = (new ≡ after call old) × (answered call old ≡ [])
-Adds old call new (Err (fault.Overriding errors)) = (new ≡ after call old) × (map error_view errors.items ≡ answered call old) × (answered call old ≢ [])
-Adds old call new (Err fault.Memory) = new ≡ old
+abbrev pub AnswersCall : {C : Type 0} → Bundle C → Call C → Bundle C → Result (Unit {0}) AddFault → Type 0
+AnswersCall old call new (Ok u) = (new ≡ after call old) × (answered call old ≡ [])
+AnswersCall old call new (Err (fault.Overriding errors)) = (new ≡ after call old) × (map error_view errors.items ≡ answered call old) × (answered call old ≢ [])
+AnswersCall old call new (Err fault.Memory) = new ≡ old
 
 -- whether a bundle changes no text
 abbrev pub is_plain : {M C F G X : Type 0} → FluentBundle M C F G X → Bool

@@ -45,6 +45,6 @@ pub record Writes {T : Type 0} (result : Result T Halt) (meant : Ran Text) (w w'
   pub lent : w'.lent ≡ w.lent
 
 -- The text is answered, and the errors are added.
-pub record Gives {E : Type 0} (all : Text) (errors : List Error) (result : Result (CowStr Global) E) (list list' : List FluentError) : Type 0 where
+pub record GivesText {E : Type 0} (all : Text) (errors : List Error) (result : Result (CowStr Global) E) (list list' : List FluentError) : Type 0 where
   pub text : IfOk result (λ t. cow_str_bytes t ≡ all)
   pub adds : OnOk result (AddsAll errors list list')

@@ -7,7 +7,7 @@ use Rattle.fluent_meaning.specs.Value.{Value}
 use Rattle.fluent_meaning.specs.Arguments.{Map}
 use Rattle.fluent_meaning.specs.Bundle.{Bundle}
 use Rattle.fluent_meaning.specs.Result.{formatted, written_pattern, substituted_pattern}
-use Rattle.fluent_bundle.specs.Formatted.{WritesAll, WritesFront, AddsFront, Gives}
+use Rattle.fluent_bundle.specs.Formatted.{WritesAll, WritesFront, AddsFront, GivesText}
 use Rattle.fluent_values.specs.declared.errors.FluentError.{FluentError}
 
 -- ---- what is written
@@ -36,13 +36,13 @@ WritesBeginning b args p held held' list list' =
 abbrev pub GivesWithin : {E : Type 0} → Bundle Text → Map (Value Text) → Pattern → Result (CowStr Global) E → List FluentError → List FluentError → Type 0
 GivesWithin b args p result list list' =
     let means = substituted_pattern b args p in
-    means.opened ≤ b.limit → Gives (formatted b means.value) means.errors result list list'
+    means.opened ≤ b.limit → GivesText (formatted b means.value) means.errors result list list'
 
 -- with the budget, in every case
 abbrev pub GivesWhole : {E : Type 0} → Bundle Text → Map (Value Text) → Pattern → Result (CowStr Global) E → List FluentError → List FluentError → Type 0
 GivesWhole b args p result list list' =
     let means = written_pattern b args p in
-    Gives (formatted b means.value) means.errors result list list'
+    GivesText (formatted b means.value) means.errors result list list'
 
 -- whatever is answered
 abbrev pub AddsBeginning : Bundle Text → Map (Value Text) → Pattern → List FluentError → List FluentError → Type 0

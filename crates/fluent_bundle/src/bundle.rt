@@ -4,7 +4,7 @@ ghost use Rattle.std.specs.Option.{option_map};
 ghost use Rattle.fluent_intl.specs.Plurals.{english};
 ghost use Rattle.fluent_meaning.specs.Bundle.{empty_bundle, after, answered, add_resource, add_resource_overriding, add_function, add_builtins, set_use_isolating, set_transform, set_formatter, set_placeable_limit};
 ghost use Rattle.fluent_values.specs.View.{error_view};
-ghost use Rattle.fluent_bundle.specs.BundleView.{custom_by, entries_of, message_at, message_entry_at, Adds, AreUndetermined, Kept, KeptBeside};
+ghost use Rattle.fluent_bundle.specs.BundleView.{custom_by, entries_of, message_at, message_entry_at, AnswersCall, AreUndetermined, Kept, KeptBeside};
 ghost use Rattle.fluent_values.specs.MessageView.{entry_seen, message_view};
 ghost use Rattle.fluent_bundle.specs.Adding.{answer_of};
 
@@ -167,7 +167,7 @@ impl<
     /// `Memory` where memory was refused: the bundle is as before.
     pub fn add_resource(&mut self, resource: &'r FluentResource<'s>) -> Result<(), AddFault>
         ensures step { let of = ⟦<Self as Context<C>>⟧.meant in
-            Adds (of self.old) (add_resource (entries_of resource.now)) (of self.new) result }
+            AnswersCall (of self.old) (add_resource (entries_of resource.now)) (of self.new) result }
         ensures kept { Kept self.old self.new }
     {
         all_added(self.take_resource(resource))
@@ -219,7 +219,7 @@ impl<
     /// before, and the function is dropped.
     pub fn add_function(&mut self, id: &str, function: F) -> Result<(), AddFault>
         ensures step { let of = ⟦<Self as Context<C>>⟧.meant in
-            Adds (of self.old) (add_function id.now (F.answer function)) (of self.new) result }
+            AnswersCall (of self.old) (add_function id.now (F.answer function)) (of self.new) result }
         ensures kept { Kept self.old self.new }
     {
         all_added(self.take_function(id, function))
@@ -249,7 +249,7 @@ impl<
     /// is as before.
     pub fn add_builtins(&mut self) -> Result<(), AddFault>
         ensures step { let of = ⟦<Self as Context<C>>⟧.meant in
-            Adds (of self.old) add_builtins (of self.new) result }
+            AnswersCall (of self.old) add_builtins (of self.new) result }
         ensures kept { Kept self.old self.new }
     {
         let id = CowStr::Borrowed("NUMBER");

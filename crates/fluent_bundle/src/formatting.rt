@@ -9,7 +9,7 @@ ghost use Rattle.fluent_bundle.specs.Formatted.{AddsAll, AddsFront, Writes};
 ghost use Rattle.fluent_bundle.specs.Formatting.{WritesWithin, WritesWhole, WritesBeginning, GivesWithin, GivesWhole, AddsBeginning};
 ghost use Rattle.fluent_bundle.specs.Limits.{KeepsLimit};
 ghost use Rattle.fluent_values.specs.Status.{arguments_view};
-ghost use Rattle.fluent_values.specs.Texts.{sole_text, is_text, IsText};
+ghost use Rattle.fluent_values.specs.Texts.{sole_text, is_text, IsTextAlone};
 ghost use Rattle.fluent_values.specs.Written.{sink, CountsTell};
 
 use crate::bundle::FluentBundle;
@@ -86,7 +86,7 @@ impl<
             let args = arguments_view C.content args.entry in
             KeepsLimit (of self.now) args (pattern_view pattern.now) }
         ensures fault { Faulted w.old.failed w.old.empty w.new.failed w.new.empty result }
-        ensures memory { IsText (pattern_view pattern.now) → self.now.transform ≡ None →
+        ensures memory { IsTextAlone (pattern_view pattern.now) → self.now.transform ≡ None →
             result ≢ Err WriteFault.Memory }
     {
         laws::limits_are_kept();
@@ -187,7 +187,7 @@ impl<
             Writes result (written_pattern (of self.now) args (pattern_view pattern.now))
             (sink W.contents out.old) (sink W.contents out.new)
             errors.old.items errors.new.items }
-        ensures memory { IsText (pattern_view pattern.now) → self.now.transform ≡ None →
+        ensures memory { IsTextAlone (pattern_view pattern.now) → self.now.transform ≡ None →
             out.old.is_buffered ≡ false → result ≢ Err Halt.Memory }
     {
         if self.writes_texts_alone(pattern) {

@@ -7,7 +7,7 @@ use Rattle.std.specs.Option.{option_map}
 use Rattle.std.specs.declared.borrow.CowStr.{CowStr}
 use Rattle.fluent_tree.specs.Tree.{Pattern}
 use Rattle.fluent_values.specs.declared.errors.FluentError.{FluentError}
-use Rattle.fluent_bundle.specs.Formatted.{Gives}
+use Rattle.fluent_bundle.specs.Formatted.{GivesText}
 use Rattle.fluent_chain.specs.Chain.{or_others, first_with}
 
 -- a bundle that has none is passed over
@@ -50,5 +50,5 @@ is_some-first_with has [] = refl
 is_some-first_with has (b ∷ bs) = is_some-or_others b (has b) (first_with has bs) ∙ ap (λ o. is_some (has b) || o) (is_some-first_with has bs)
 
 -- where there is none, a text is answered and nothing is added
-pub gives_alone : {E : Type 0} (text : CowStr Global) (list : List FluentError) → Gives {E = E} (cow_str_bytes text) [] (Ok text) list list
+pub gives_alone : {E : Type 0} (text : CowStr Global) (list : List FluentError) → GivesText {E = E} (cow_str_bytes text) [] (Ok text) list list
 gives_alone text list = record { text = refl; adds = record { added = sym (append-nil _) } }

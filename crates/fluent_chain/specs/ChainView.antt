@@ -11,7 +11,7 @@ use Rattle.fluent_meaning.specs.Arguments.{Map}
 use Rattle.fluent_meaning.specs.Bundle.{Bundle}
 use Rattle.fluent_values.specs.Texts.{sole_text}
 use Rattle.fluent_values.specs.declared.errors.FluentError.{FluentError}
-use Rattle.fluent_bundle.specs.Formatted.{AddsFront, Gives}
+use Rattle.fluent_bundle.specs.Formatted.{AddsFront, GivesText}
 use Rattle.fluent_bundle.specs.declared.bundle.FluentBundle.{FluentBundle}
 use Rattle.fluent_chain.specs.Chain.{value_at, attribute_at, shown_of, substituted_of, IsWithin}
 use Rattle.fluent_chain.specs.declared.chain.Chain.{Chain}
@@ -35,19 +35,19 @@ found_view found = (found.0.now, pattern_view found.1.now)
 abbrev pub AnswersWithin : {E : Type 0} → Text → Map (Value Text) → Option (Bundle Text × Pattern) → Result (CowStr Global) E → List FluentError → List FluentError → Type 0
 AnswersWithin id args found result list list' =
     let means = substituted_of id args found in
-    IsWithin args found → Gives means.text means.errors result list list'
+    IsWithin args found → GivesText means.text means.errors result list list'
 
 -- with the budget, in every case
 abbrev pub AnswersWhole : {E : Type 0} → Text → Map (Value Text) → Option (Bundle Text × Pattern) → Result (CowStr Global) E → List FluentError → List FluentError → Type 0
 AnswersWhole id args found result list list' =
     let means = shown_of id args found in
-    Gives means.text means.errors result list list'
+    GivesText means.text means.errors result list list'
 
 -- whatever is answered
-abbrev pub AddsBeginning : Text → Map (Value Text) → Option (Bundle Text × Pattern) → List FluentError → List FluentError → Type 0
-AddsBeginning id args found list list' = AddsFront (shown_of id args found).errors list list'
+abbrev pub ChainAddsBeginning : Text → Map (Value Text) → Option (Bundle Text × Pattern) → List FluentError → List FluentError → Type 0
+ChainAddsBeginning id args found list list' = AddsFront (shown_of id args found).errors list list'
 
 -- The id is answered, or a pattern that is one text, of a bundle without transform and formatter.
-abbrev pub TakesNoMemory : {M C F G X : Type 0} → Option (FluentBundle M C F G X × Pattern) → Type 0
-TakesNoMemory None = ⊤
-TakesNoMemory (Some found) = (is_some (sole_text found.1) ≡ true) × (found.0.transform ≡ None) × (found.0.formatter ≡ None)
+abbrev pub AnswersWithoutMemory : {M C F G X : Type 0} → Option (FluentBundle M C F G X × Pattern) → Type 0
+AnswersWithoutMemory None = ⊤
+AnswersWithoutMemory (Some found) = (is_some (sole_text found.1) ≡ true) × (found.0.transform ≡ None) × (found.0.formatter ≡ None)

@@ -7,7 +7,7 @@ ghost use Rattle.fluent_values.specs.Status.{arguments_view};
 ghost use Rattle.fluent_bundle.specs.BundleView.{meant};
 ghost use Rattle.fluent_chain.specs.Chain.{value_at, attribute_at, first_with};
 ghost use Rattle.fluent_chain.specs.ChainView.{bundles_of, pattern_at, found_view};
-ghost use Rattle.fluent_chain.specs.ChainView.{AnswersWithin, AnswersWhole, AddsBeginning, TakesNoMemory};
+ghost use Rattle.fluent_chain.specs.ChainView.{AnswersWithin, AnswersWhole, ChainAddsBeginning, AnswersWithoutMemory};
 
 use fluent_bundle::{
     FluentArgs, FluentBundle, FluentError, FluentFormatter, FluentFunction, FluentType,
@@ -100,10 +100,10 @@ impl<
         ensures front { let of = meant M.category C.shown C.alike F.answer G.formatted T.changed in
             let args = arguments_view C.content args.entry in
             let found = first_with (value_at id.now) (map of (bundles_of self.now)) in
-            AddsBeginning id.now args found errors.old.items errors.new.items }
+            ChainAddsBeginning id.now args found errors.old.items errors.new.items }
         ensures lent { let of = meant M.category C.shown C.alike F.answer G.formatted T.changed in
             let found = first_with (λ b. value_at id.now (of b)) (bundles_of self.now) in
-            TakesNoMemory found → IsOk result }
+            AnswersWithoutMemory found → IsOk result }
     {
         self.format(id, None, args, errors)
     }
@@ -134,11 +134,11 @@ impl<
         ensures front { let of = meant M.category C.shown C.alike F.answer G.formatted T.changed in
             let args = arguments_view C.content args.entry in
             let found = first_with (attribute_at id.now name.now) (map of (bundles_of self.now)) in
-            AddsBeginning id.now args found errors.old.items errors.new.items }
+            ChainAddsBeginning id.now args found errors.old.items errors.new.items }
         ensures lent { let of = meant M.category C.shown C.alike F.answer G.formatted T.changed in
             let found = first_with (λ b. attribute_at id.now name.now (of b))
             (bundles_of self.now) in
-            TakesNoMemory found → IsOk result }
+            AnswersWithoutMemory found → IsOk result }
     {
         self.format(id, Some(name), args, errors)
     }
@@ -167,11 +167,11 @@ impl<
             let args = arguments_view C.content args.entry in
             let name = option_map (λ n. n.now) attribute.entry in
             let found = first_with (pattern_at id.now name) (map of (bundles_of self.now)) in
-            AddsBeginning id.now args found errors.old.items errors.new.items }
+            ChainAddsBeginning id.now args found errors.old.items errors.new.items }
         ensures lent { let of = meant M.category C.shown C.alike F.answer G.formatted T.changed in
             let name = option_map (λ n. n.now) attribute.entry in
             let found = first_with (λ b. pattern_at id.now name (of b)) (bundles_of self.now) in
-            TakesNoMemory found → IsOk result }
+            AnswersWithoutMemory found → IsOk result }
     {
         match self.find(id, attribute) {
             Some((bundle, pattern)) => bundle.format_pattern(pattern, args, errors),

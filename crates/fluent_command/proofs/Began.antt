@@ -7,7 +7,7 @@ use Rattle.fluent_text.specs.declared.counting.WriteFault.{WriteFault}
 use Rattle.fluent_text.specs.declared.counting.WriteFault.TheVariants.{Memory, Writer, Zero}
 use Rattle.fluent_meaning.specs.Errors.{Error}
 use Rattle.fluent_command.specs.Ending.{Ending, status, out_of_memory, ending_line, error_lines}
-use Rattle.fluent_command.specs.Outcome.{Reports, whole, short, whole_begun, short_begun}
+use Rattle.fluent_command.specs.Outcome.{ReportsRun, whole, short, whole_begun, short_begun}
 use Rattle.fluent_command.specs.Outlet.{Outlet, Rose}
 use Rattle.fluent_command.specs.Said.{Precedes, Says, BeganToSay, TookErrors}
 use Rattle.fluent_command.proofs.Taking.{front_short, front_then}
@@ -39,7 +39,7 @@ began_some errors ending old mid new lines h = inr (lines.0, lines.1, front_then
 
 -- it was said
 pub reports_said : {T : Type 0} (r : Result T WriteFault) (errors : List Error) (ending final : Ending) (x : T) (err err' : Outlet) (result : ℕ) → r ≡ Ok x → result ≡ status final
-    → Says errors ending final err.held err'.held → Faulted err.failed err.empty err'.failed err'.empty r → Reports errors ending err err' result
+    → Says errors ending final err.held err'.held → Faulted err.failed err.empty err'.failed err'.empty r → ReportsRun errors ending err err' result
 reports_said r errors ending final x err err' result was is says fault =
     let stood = subst (λ w. Faulted err.failed err.empty err'.failed err'.empty w) was fault in
     elim says [
@@ -47,7 +47,7 @@ reports_said r errors ending final x err err' result was is says fault =
       | inr h ↦ short (is ∙ ap status h.2) h.0 h.1 (record { taken = h.3; failed = stood.0; empty = stood.1 })
     ]
 
-begun_by : (errors : List Error) (ending : Ending) (err err' : Outlet) → Rose err.failed err.empty err'.failed err'.empty → BeganToSay errors ending err.held err'.held → Reports errors ending err err' 3
+begun_by : (errors : List Error) (ending : Ending) (err err' : Outlet) → Rose err.failed err.empty err'.failed err'.empty → BeganToSay errors ending err.held err'.held → ReportsRun errors ending err err' 3
 begun_by errors ending err err' rose began = elim began [
   | inl h ↦ whole_begun refl (record { taken = h; rose = rose })
   | inr h ↦ short_begun refl h.0 h.1 (record { taken = h.2; rose = rose })
@@ -55,7 +55,7 @@ begun_by errors ending err err' rose began = elim began [
 
 -- standard error faulted
 pub reports_begun : {T : Type 0} (r : Result T WriteFault) (errors : List Error) (ending : Ending) (fault : WriteFault) (err err' : Outlet) → r ≡ Err fault → ¬ (fault ≡ Memory)
-    → BeganToSay errors ending err.held err'.held → Faulted err.failed err.empty err'.failed err'.empty r → Reports errors ending err err' 3
+    → BeganToSay errors ending err.held err'.held → Faulted err.failed err.empty err'.failed err'.empty r → ReportsRun errors ending err err' 3
 reports_begun r errors ending Memory err err' was not began fault = absurd (not refl)
 reports_begun r errors ending (Writer e) err err' was not began fault =
     begun_by errors ending err err' (inl (subst (λ w. Faulted err.failed err.empty err'.failed err'.empty w) was fault)) began

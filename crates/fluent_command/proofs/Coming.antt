@@ -25,7 +25,7 @@ use Rattle.fluent_command.specs.Input.{ReadFor}
 use Rattle.fluent_command.specs.Program.{Run, only, bundle_of, run_value, run_sources, run_source, run_input, run_by, run_asked, run_of, source_errors, errors_by, errors_asked}
 use Rattle.fluent_command.specs.Far.{Added, AddedFirst, Took}
 use Rattle.fluent_command.specs.Outlet.{Outlet, Takes}
-use Rattle.fluent_command.specs.Outcome.{AreLeft, Ends, as_defined, by_reading, by_writing, by_memory}
+use Rattle.fluent_command.specs.Outcome.{AreLeft, EndsRun, as_defined, by_reading, by_writing, by_memory}
 use Rattle.fluent_command.specs.declared.input.InputState.TheVariants.{Open, AtEnd}
 use Rattle.fluent_command.specs.declared.input.Reads.{Reads}
 
@@ -40,7 +40,7 @@ added_to_none old new front none list = list ∙ ap (λ es. reported es ++ front
 module _ {T : Type 0} (run : Run) (first : List Error) (out out' : Outlet) (old new : List FluentError) (none : old ≡ []) where
   -- a call that did all
   pub ends_whole : (r : Result T WriteFault) (x : T) (ending : Ending) → r ≡ Ok x → ending ≡ run.ending → Took r run.output out.held out'.held → Added r run.errors old new
-      → Faulted out.failed out.empty out'.failed out'.empty r → Ends run first out out' ending (reported new)
+      → Faulted out.failed out.empty out'.failed out'.empty r → EndsRun run first out out' ending (reported new)
   ends_whole r x ending was ends took added fault =
       let text : took.rest ≡ [] = subst (λ w. OnOk w (took.rest ≡ [])) was took.all in
       let errors : added.rest ≡ [] = subst (λ w. OnOk w (added.rest ≡ [])) was added.all in
@@ -51,7 +51,7 @@ module _ {T : Type 0} (run : Run) (first : List Error) (out out' : Outlet) (old 
 
   -- a call that faulted
   pub ends_fault : (r : Result T WriteFault) (fault : WriteFault) (ending : Ending) → r ≡ Err fault → ending ≡ ending_of fault → Took r run.output out.held out'.held → Added r run.errors old new
-      → AddedFirst r first old new → Faulted out.failed out.empty out'.failed out'.empty r → Ends run first out out' ending (reported new)
+      → AddedFirst r first old new → Faulted out.failed out.empty out'.failed out'.empty r → EndsRun run first out out' ending (reported new)
   ends_fault r Memory ending was ends took added before fault =
       let stood = subst (λ w. Faulted out.failed out.empty out'.failed out'.empty w) was fault in
       by_memory ends (added.rest, added.begins ∙ ap (λ w. w ++ added.rest) (sym (added_to_none old new added.front none added.list))) took.front took.rest took.begins
@@ -68,23 +68,23 @@ module _ {T : Type 0} (run : Run) (first : List Error) (out out' : Outlet) (old 
       (record { taken = (took.front, took.rest, took.begins, took.held); rose = inr (subst (λ w. Faulted out.failed out.empty out'.failed out'.empty w) was fault) })
 
 -- a run that shows and reports nothing
-pub ends_only : (ending : Ending) (run : Run) (first : List Error) (out : Outlet) (errors : List FluentError) → errors ≡ [] → run ≡ only ending → Ends run first out out ending (reported errors)
+pub ends_only : (ending : Ending) (run : Run) (first : List Error) (out : Outlet) (errors : List FluentError) → errors ≡ [] → run ≡ only ending → EndsRun run first out out ending (reported errors)
 ends_only ending run first out errors none is =
     as_defined (sym (ap (λ r. r.ending) is)) (ap reported none ∙ sym (ap (λ r. r.errors) is)) (subst (λ t. Takes t out out) (sym (ap (λ r. r.output) is)) (takes_none out))
 
 -- a run whose input was not read to its end
-pub ends_unread : (run : Run) (first : List Error) (out : Outlet) (errors : List FluentError) → errors ≡ [] → Ends run first out out reading_failed (reported errors)
+pub ends_unread : (run : Run) (first : List Error) (out : Outlet) (errors : List FluentError) → errors ≡ [] → EndsRun run first out out reading_failed (reported errors)
 ends_unread run first out errors none = by_reading refl (ap reported none) (takes_none out)
 
 -- a run that got no memory to read into
-pub ends_no_memory : (run : Run) (first : List Error) (out : Outlet) (errors : List FluentError) → errors ≡ [] → Ends run first out out out_of_memory (reported errors)
+pub ends_no_memory : (run : Run) (first : List Error) (out : Outlet) (errors : List FluentError) → errors ≡ [] → EndsRun run first out out out_of_memory (reported errors)
 ends_no_memory run first out errors none = by_memory refl (run.errors, ap (λ es. es ++ run.errors) (sym (ap reported none))) [] run.output refl (takes_none out)
 
 -- ---- which run it is
 
 pub ends_of : (run run' : Run) (first first' : List Error) (out out' : Outlet) (ending : Ending) (errors : List Error) → run ≡ run' → first ≡ first'
-    → Ends run first out out' ending errors → Ends run' first' out out' ending errors
-ends_of run run' first first' out out' ending errors is same h = subst (λ r. Ends r first' out out' ending errors) is (subst (λ es. Ends run es out out' ending errors) same h)
+    → EndsRun run first out out' ending errors → EndsRun run' first' out out' ending errors
+ends_of run run' first first' out out' ending errors is same h = subst (λ r. EndsRun r first' out out' ending errors) is (subst (λ es. EndsRun run es out out' ending errors) same h)
 
 pub of_text : (asked : Asked) (plurals : Plurals) (bytes source : List ℕ) → IsUtf8 bytes → source ≡ bytes → run_source asked plurals source ≡ run_input asked plurals bytes
 of_text asked plurals bytes source utf8 same = rw (is_utf8-from_IsUtf8 bytes utf8) (ap (run_source asked plurals) same)
@@ -171,12 +171,12 @@ errors_by_rules asked plurals bytes read = sym (ap (λ p. errors_by asked p byte
 
 -- and such that were not, where memory was refused, or one is none
 pub ends_unruled : (asked : Asked) (fault : RuleFault) (first : List Error) (bytes : List ℕ) (ending : Ending) (out : Outlet) (errors : List FluentError) → errors ≡ []
-    → ending ≡ ending_of_rules fault → (fault ≢ rule_fault.Memory → plurals_asked asked.options ≡ None) → Ends (run_asked (Some asked) bytes) first out out ending (reported errors)
+    → ending ≡ ending_of_rules fault → (fault ≢ rule_fault.Memory → plurals_asked asked.options ≡ None) → EndsRun (run_asked (Some asked) bytes) first out out ending (reported errors)
 ends_unruled asked (rule_fault.Syntax kind at) first bytes ending out errors none is bad =
-    subst (λ e. Ends (run_asked (Some asked) bytes) first out out e (reported errors)) (sym is)
+    subst (λ e. EndsRun (run_asked (Some asked) bytes) first out out e (reported errors)) (sym is)
     (ends_only bad_rule (run_asked (Some asked) bytes) first out errors none (ap (λ p. run_by asked p bytes) (bad (λ e. cc))))
 ends_unruled asked rule_fault.Memory first bytes ending out errors none is bad =
-    subst (λ e. Ends (run_asked (Some asked) bytes) first out out e (reported errors)) (sym is)
+    subst (λ e. EndsRun (run_asked (Some asked) bytes) first out out e (reported errors)) (sym is)
     (ends_no_memory (run_asked (Some asked) bytes) first out errors none)
 
 -- rules that were read are none that can't be

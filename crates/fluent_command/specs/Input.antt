@@ -13,8 +13,8 @@ state_after (Ok (suc n)) = Open
 state_after (Err e) = Failed
 
 -- no more reads were made than a run may make, and each had its room
-abbrev pub IsBounded : {R : Type 0} → Reads R → Type 0
-IsBounded input = (input.made ≤ most_reads) × (least_room ≤ length input.room)
+abbrev pub ReadsAreBounded : {R : Type 0} → Reads R → Type 0
+ReadsAreBounded input = (input.made ≤ most_reads) × (least_room ≤ length input.room)
 
 -- a read failed, or all were made and none showed the end
 abbrev pub IsUnread : {R : Type 0} → Reads R → Type 0

@@ -2,7 +2,7 @@
 
 ghost use Rattle.std.specs.Prelude.{◌≡◌, ◌+◌, ◌≤◌, ◌<◌, IfOk, IfErr, OnOk};
 ghost use Rattle.std.specs.Io.KnownBytes.{Consumes, IsAtEnd, ReadConsumes};
-ghost use Rattle.fluent_command.specs.Input.{state_after, IsBounded, IsUnread};
+ghost use Rattle.fluent_command.specs.Input.{state_after, ReadsAreBounded, IsUnread};
 ghost use Rattle.fluent_command.specs.Limits.{most_reads};
 
 use std::alloc::{AllocError, Global};
@@ -85,7 +85,7 @@ impl<R: Read> Reads<R> {
     /// Counts the reads of a run from its beginning.
     pub(crate) fn begin(&mut self)
         ensures inner { self.new.inner ≡ self.old.inner }
-        ensures bounded { IsBounded self.new }
+        ensures bounded { ReadsAreBounded self.new }
         ensures made { self.new.made ≡ 0 }
         ensures state { self.new.state ≡ InputState.Open }
     {
@@ -100,7 +100,7 @@ impl<R: Read> Reads<R> {
         ensures bytes { ReadConsumes (R.remaining self.old.inner) (R.remaining self.new.inner)
             result self.new.room }
         ensures bound { IfOk result (λ n. n ≤ ROOM) }
-        ensures bounded { IsBounded self.new }
+        ensures bounded { ReadsAreBounded self.new }
         ensures made { self.new.made ≡ self.old.made + 1 }
         ensures state { self.new.state ≡ state_after result }
     {
@@ -125,7 +125,7 @@ pub(crate) fn read_all<R: Read>(alloc: Global, input: &mut Reads<R>) -> Result<V
     ensures bytes { IfOk result (λ bytes.
         Consumes (R.remaining input.old.inner) (R.remaining input.new.inner) bytes.items) }
     ensures end { OnOk result (IsAtEnd (R.remaining input.new.inner)) }
-    ensures bounded { IsBounded input.new }
+    ensures bounded { ReadsAreBounded input.new }
     ensures shown { OnOk result (input.new.state ≡ InputState.AtEnd) }
     ensures unread { IfErr result (λ fault. fault ≡ ReadFault.Reading → IsUnread input.new) }
     ensures memory { IfErr result (λ fault.

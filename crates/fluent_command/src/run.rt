@@ -9,9 +9,9 @@ ghost use Rattle.fluent_command.specs.PluralsView.{plurals_view};
 ghost use Rattle.fluent_command.specs.Ending.{bad_usage, bad_rule, out_of_memory, reading_failed};
 ghost use Rattle.fluent_command.specs.EndingView.{ending_view, reported};
 ghost use Rattle.fluent_command.specs.Program.{run_input, run_of, first_errors, source_errors, program};
-ghost use Rattle.fluent_command.specs.Input.{IsBounded, ReadFor};
+ghost use Rattle.fluent_command.specs.Input.{ReadsAreBounded, ReadFor};
 ghost use Rattle.fluent_command.specs.Outlet.{outlet};
-ghost use Rattle.fluent_command.specs.Outcome.{AreLeft, Ends, Gives, Ran};
+ghost use Rattle.fluent_command.specs.Outcome.{AreLeft, EndsRun, AnswersAs, RanTo};
 
 use crate::input::{ReadFault, Reads, read_all};
 use crate::plurals::{Plurals, read_rules};
@@ -35,7 +35,7 @@ fn show_bytes<'w, W: Write>(
     requires { errors.old.items ≡ [] }
     ensures ends { let asked = asked_view request.entry in
         let plurals = plurals_view plurals.entry in
-        Ends (run_input asked plurals bytes.now) (source_errors asked plurals bytes.now)
+        EndsRun (run_input asked plurals bytes.now) (source_errors asked plurals bytes.now)
         (outlet W.contents out.old) (outlet W.contents out.new)
         (ending_view result) (reported errors.new.items) }
     ensures read { ending_view result ≢ reading_failed }
@@ -62,11 +62,11 @@ fn show_input<'w, R: Read, W: Write>(
     ensures ends { let asked = asked_view request.entry in
         let plurals = plurals_view plurals.entry in
         (bytes : List ℕ) × AreLeft (R.remaining input.old.inner) bytes
-        × Ends (run_input asked plurals bytes) (source_errors asked plurals bytes)
+        × EndsRun (run_input asked plurals bytes) (source_errors asked plurals bytes)
         (outlet W.contents out.old) (outlet W.contents out.new)
         (ending_view result) (reported errors.new.items) }
     ensures reads { ReadFor (ending_view result) input.new }
-    ensures bounded { IsBounded input.new }
+    ensures bounded { ReadsAreBounded input.new }
 {
     match read_all(alloc, input) {
         Ok(bytes) => show_bytes(alloc, request, plurals, bytes.as_slice(), out, errors),
@@ -86,7 +86,7 @@ fn attempt<'w, R: Read, W: Write>(
     requires { errors.old.items ≡ [] }
     ensures ends { let asked = map string_bytes words.now in
         (bytes : List ℕ) × AreLeft (R.remaining input.old.inner) bytes
-        × Ends (run_of asked bytes) (first_errors asked bytes)
+        × EndsRun (run_of asked bytes) (first_errors asked bytes)
         (outlet W.contents out.old) (outlet W.contents out.new)
         (ending_view result) (reported errors.new.items) }
     ensures usage { asked_by (map string_bytes words.now) ≡ None → ending_view result ≡ bad_usage }
@@ -96,7 +96,7 @@ fn attempt<'w, R: Read, W: Write>(
     ensures unread { asked_by (map string_bytes words.now) ≡ None → input.new ≡ input.old }
     ensures untouched { HasBadRule (asked_by (map string_bytes words.now)) →
         (input.new.inner ≡ input.old.inner) × (input.new.made ≡ 0) }
-    ensures bounded { asked_by (map string_bytes words.now) ≢ None → IsBounded input.new }
+    ensures bounded { asked_by (map string_bytes words.now) ≢ None → ReadsAreBounded input.new }
 {
     let Some(request) = Request::of(words) else {
         return Ending::Usage;
@@ -123,13 +123,13 @@ fn run_with<R: Read, W: Write, E: Write>(
     requires { errors.old.items ≡ [] }
     ensures ran { let asked = map string_bytes words.now in
         (bytes : List ℕ) × AreLeft (R.remaining input.old.inner) bytes
-        × Ran (run_of asked bytes) (first_errors asked bytes) (reported errors.new.items) input.new
+        × RanTo (run_of asked bytes) (first_errors asked bytes) (reported errors.new.items) input.new
         (outlet W.contents out.old) (outlet W.contents out.new)
         (outlet E.contents err.old) (outlet E.contents err.new) result }
     ensures unread { asked_by (map string_bytes words.now) ≡ None → input.new ≡ input.old }
     ensures untouched { HasBadRule (asked_by (map string_bytes words.now)) →
         (input.new.inner ≡ input.old.inner) × (input.new.made ≡ 0) }
-    ensures bounded { asked_by (map string_bytes words.now) ≢ None → IsBounded input.new }
+    ensures bounded { asked_by (map string_bytes words.now) ≢ None → ReadsAreBounded input.new }
 {
     let ending = attempt(alloc, words, input, out, errors);
     match report(alloc, errors.as_slice(), ending, err) {
@@ -156,18 +156,18 @@ pub fn run<R: Read, W: Write, E: Write>(
 ) -> u8
     ensures works { let asked = map string_bytes words.now in
         result ≢ 3 → (bytes : List ℕ) × AreLeft (R.remaining input.old.inner) bytes
-        × Gives (program asked bytes) result
+        × AnswersAs (program asked bytes) result
         (outlet W.contents out.old) (outlet W.contents out.new)
         (outlet E.contents err.old) (outlet E.contents err.new) }
     ensures ran { let asked = map string_bytes words.now in
         (bytes : List ℕ) × AreLeft (R.remaining input.old.inner) bytes × (errors : List Error)
-        × Ran (run_of asked bytes) (first_errors asked bytes) errors input.new
+        × RanTo (run_of asked bytes) (first_errors asked bytes) errors input.new
         (outlet W.contents out.old) (outlet W.contents out.new)
         (outlet E.contents err.old) (outlet E.contents err.new) result }
     ensures unread { asked_by (map string_bytes words.now) ≡ None → input.new ≡ input.old }
     ensures untouched { HasBadRule (asked_by (map string_bytes words.now)) →
         (input.new.inner ≡ input.old.inner) × (input.new.made ≡ 0) }
-    ensures bounded { asked_by (map string_bytes words.now) ≢ None → IsBounded input.new }
+    ensures bounded { asked_by (map string_bytes words.now) ≢ None → ReadsAreBounded input.new }
     ensures status { result ≤ 3 }
 {
     let mut errors = Vec::new(alloc);

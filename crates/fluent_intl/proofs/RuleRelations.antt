@@ -12,7 +12,7 @@ use Rattle.fluent_intl.specs.declared.plurals.PluralCategory.{PluralCategory}
 use Rattle.fluent_intl.specs.declared.rule_texts.tree.Range.{Range}
 use Rattle.fluent_intl.specs.RuleTree.{Relation, Condition, Rule}
 use Rattle.fluent_intl.specs.RuleMeaning.{units, remainder, is_within, is_in, relation_holds, group_holds, rule_holds, category_by}
-use Rattle.fluent_intl.specs.RuleRelations.{IsIn, Says, RelationHolds, RuleHolds, IsCategory, SelectsTheFirst}
+use Rattle.fluent_intl.specs.RuleRelations.{IsIn, Tells, RelationHolds, RuleHolds, IsCategory, SelectsTheFirst}
 use Rattle.fluent_intl.proofs.RuleValues.{in_whole}
 
 -- a test of each element decides whether some element, or each, is so
@@ -49,7 +49,7 @@ in_decides value ranges =
       λ h. ap (λ v. is_in v ranges) h.1 ∙ in_whole h.0 ranges ∙ (decides h.0).1 h.2,
     )
 
-says_decides : (equal b : Bool) (P : Type 0) → Decides b P → Decides (if equal then b else not b) (Says equal P)
+says_decides : (equal b : Bool) (P : Type 0) → Decides b P → Decides (if equal then b else not b) (Tells equal P)
 says_decides true b P d = d
 says_decides false true P d = (λ e. absurd (cc), λ h. absurd (h (d.0 refl)))
 says_decides false false P d = (λ e p. let t = d.1 p in absurd (cc), λ h. refl)

@@ -14,13 +14,13 @@ IsIn value ranges =
     (x : ℕ) × (value ≡ x * 10 ^ 18) × Any (λ range. (range.first ≤ x) × (x ≤ range.last)) ranges
 
 -- a fact, or that it is not so
-abbrev pub Says : Bool → Type 0 → Type 0
-Says true P = P
-Says false P = P → ⊥
+abbrev pub Tells : Bool → Type 0 → Type 0
+Tells true P = P
+Tells false P = P → ⊥
 
 -- `=` says that the operand or its remainder is in the ranges, `!=` that it is not
 abbrev pub RelationHolds : PluralOperands → Relation → Type 0
-RelationHolds o r = Says r.equal (IsIn (remainder r.divisor (units r.operand o)) r.ranges)
+RelationHolds o r = Tells r.equal (IsIn (remainder r.divisor (units r.operand o)) r.ranges)
 
 -- one of the groups holds, each relation of it
 abbrev pub ConditionHolds : PluralOperands → Condition → Type 0

@@ -4,8 +4,8 @@ use Rattle.std.proofs.lemmas.List.{append_assoc, append-nil, map-append, take-ap
 use Rattle.std.proofs.lemmas.List.Sums.{fold-append}
 use Rattle.fluent_tree.specs.Tree.{Text}
 use Rattle.fluent_tree.specs.References.{Reference}
-use Rattle.fluent_links.specs.Links.{id_of, Keeps}
-use Rattle.fluent_links.specs.Linking.{Adds, Begins, with_slots}
+use Rattle.fluent_links.specs.Links.{id_of, KeepsNumbers}
+use Rattle.fluent_links.specs.Linking.{AppendsLinks, SlotsOfFront, with_slots}
 use Rattle.fluent_links.specs.Numbered.{AreNumbers, keeps_numbers}
 use Rattle.fluent_links.specs.PlaceSteps.{IsInTurn, here}
 use Rattle.fluent_links.specs.Slots.{number, named, with_slot}
@@ -15,22 +15,22 @@ abbrev Entries : Type 0 → Type 0
 Entries X = List (Text × Option X)
 
 -- a slot more changes no number, and names nothing
-slot_keeps : {X : Type 0} (id : Text) (ss : Entries X) → Keeps (number ss) (number (with_slot id ss)) × ((q : Text) → named q (with_slot id ss) ≡ named q ss)
+slot_keeps : {X : Type 0} (id : Text) (ss : Entries X) → KeepsNumbers (number ss) (number (with_slot id ss)) × ((q : Text) → named q (with_slot id ss) ≡ named q ss)
 slot_keeps {X} id ss = by (is_some (number ss id))
   where
-    by : (b : Bool) → Keeps (number ss) (number (if b then ss else ss ++ (id, None) ∷ [])) × ((q : Text) → named q (if b then ss else ss ++ (id, None) ∷ []) ≡ named q ss)
+    by : (b : Bool) → KeepsNumbers (number ss) (number (if b then ss else ss ++ (id, None) ∷ [])) × ((q : Text) → named q (if b then ss else ss ++ (id, None) ∷ []) ≡ named q ss)
     by true = ((λ q n at. at), (λ q. refl))
     by false = (number_kept ss id None, named_new ss id)
 
-slots_keep : {X : Type 0} (rs : List Reference) (ss : Entries X) → Keeps (number ss) (number (with_slots rs ss)) × ((q : Text) → named q (with_slots rs ss) ≡ named q ss)
+slots_keep : {X : Type 0} (rs : List Reference) (ss : Entries X) → KeepsNumbers (number ss) (number (with_slots rs ss)) × ((q : Text) → named q (with_slots rs ss) ≡ named q ss)
 slots_keep [] ss = ((λ q n at. at), (λ q. refl))
 slots_keep (r ∷ rs) ss =
     let one = slot_keeps (id_of r) ss in
     let others = slots_keep rs (with_slot (id_of r) ss) in
     ((λ q n at. others.0 q n (one.0 q n at)), (λ q. others.1 q ∙ one.1 q))
 
-pub kept : {X : Type 0} (a b : Entries X) (rs : List Reference) → b ≡ with_slots rs a → Keeps (number a) (number b)
-kept a b rs h = subst (λ ss. Keeps (number a) (number ss)) (sym h) (slots_keep rs a).0
+pub kept : {X : Type 0} (a b : Entries X) (rs : List Reference) → b ≡ with_slots rs a → KeepsNumbers (number a) (number b)
+kept a b rs h = subst (λ ss. KeepsNumbers (number a) (number ss)) (sym h) (slots_keep rs a).0
 
 pub names_kept : {X : Type 0} (a b : Entries X) (rs : List Reference) → b ≡ with_slots rs a → (q : Text) → named q b ≡ named q a
 names_kept a b rs h q = ap (named q) h ∙ (slots_keep rs a).1 q
@@ -38,17 +38,17 @@ names_kept a b rs h q = ap (named q) h ∙ (slots_keep rs a).1 q
 slots_on : {X : Type 0} (a b c : Entries X) (xs ys : List Reference) → b ≡ with_slots xs a → c ≡ with_slots ys b → c ≡ with_slots (xs ++ ys) a
 slots_on a b c xs ys first second = second ∙ (ap (with_slots ys) first ∙ sym (fold-append (λ ss r. with_slot (id_of r) ss) a xs ys))
 
-pub begins_all : {X : Type 0} (a b : Entries X) (rs : List Reference) → b ≡ with_slots rs a → Begins a b rs
+pub begins_all : {X : Type 0} (a b : Entries X) (rs : List Reference) → b ≡ with_slots rs a → SlotsOfFront a b rs
 begins_all a b rs h = (rs, [], sym (append-nil rs), h)
 
-pub begins_more : {X : Type 0} (a b : Entries X) (xs ys : List Reference) → Begins a b xs → Begins a b (xs ++ ys)
+pub begins_more : {X : Type 0} (a b : Entries X) (xs ys : List Reference) → SlotsOfFront a b xs → SlotsOfFront a b (xs ++ ys)
 begins_more a b xs ys h = (h.0, h.1 ++ ys, ap (λ rs. rs ++ ys) h.2 ∙ append_assoc h.0 h.1 ys, h.3)
 
-pub begins_on : {X : Type 0} (a b c : Entries X) (xs ys : List Reference) → b ≡ with_slots xs a → Begins b c ys → Begins a c (xs ++ ys)
+pub begins_on : {X : Type 0} (a b c : Entries X) (xs ys : List Reference) → b ≡ with_slots xs a → SlotsOfFront b c ys → SlotsOfFront a c (xs ++ ys)
 begins_on a b c xs ys first h = (xs ++ h.0, h.1, ap (λ rs. xs ++ rs) h.2 ∙ sym (append_assoc xs h.0 h.1), slots_on a b c xs h.0 first h.3)
 
-pub begins_as : {X : Type 0} (a b : Entries X) (xs ys : List Reference) → xs ≡ ys → Begins a b xs → Begins a b ys
-begins_as a b xs ys same h = subst (λ rs. Begins a b rs) same h
+pub begins_as : {X : Type 0} (a b : Entries X) (xs ys : List Reference) → xs ≡ ys → SlotsOfFront a b xs → SlotsOfFront a b ys
+begins_as a b xs ys same h = subst (λ rs. SlotsOfFront a b rs) same h
 
 numbers_push : (number : Text → Option ℕ) (rs : List Reference) (r : Reference) (ls : List ℕ) (l : ℕ) → AreNumbers number rs ls → number (id_of r) ≡ Some l → AreNumbers number (rs ++ r ∷ []) (ls ++ l ∷ [])
 numbers_push number rs r ls l h at =
@@ -57,21 +57,21 @@ numbers_push number rs r ls l h at =
     ∙ (ap (λ n. map Some ls ++ n ∷ []) at
     ∙ sym (map-append Some ls (l ∷ []))))
 
-pub adds_one : {X : Type 0} (a b : Entries X) → Keeps (number a) (number b) → (r : Reference) (id : Text) (ls ls' : List ℕ) (l : ℕ) → b ≡ with_slot id a → number b id ≡ Some l → ls' ≡ ls ++ l ∷ [] → id_of r ≡ id → Adds a b ls ls' (r ∷ [])
+pub adds_one : {X : Type 0} (a b : Entries X) → KeepsNumbers (number a) (number b) → (r : Reference) (id : Text) (ls ls' : List ℕ) (l : ℕ) → b ≡ with_slot id a → number b id ≡ Some l → ls' ≡ ls ++ l ∷ [] → id_of r ≡ id → AppendsLinks a b ls ls' (r ∷ [])
 adds_one a b kept r id ls ls' l with_one at pushed same = (
   with_one ∙ sym (ap (λ id. with_slot id a) same),
   λ done h. subst (λ ls. AreNumbers (number b) (done ++ r ∷ []) ls) (sym pushed) (numbers_push (number b) done r ls l (keeps_numbers (number a) (number b) kept done ls h) (ap (number b) same ∙ at)),
 )
 
-pub adds_on : {X : Type 0} (a b c : Entries X) (ls ls' ls'' : List ℕ) (xs ys : List Reference) → Adds a b ls ls' xs → Adds b c ls' ls'' ys → Adds a c ls ls'' (xs ++ ys)
+pub adds_on : {X : Type 0} (a b c : Entries X) (ls ls' ls'' : List ℕ) (xs ys : List Reference) → AppendsLinks a b ls ls' xs → AppendsLinks b c ls' ls'' ys → AppendsLinks a c ls ls'' (xs ++ ys)
 adds_on a b c ls ls' ls'' xs ys first second = (
   slots_on a b c xs ys first.0 second.0,
   λ done h. subst (λ rs. AreNumbers (number c) rs ls'') (append_assoc done xs ys) (second.1 (done ++ xs) (first.1 done h)),
 )
 
 -- references by another name
-pub adds_as : {X : Type 0} (a b : Entries X) (ls ls' : List ℕ) (xs ys : List Reference) → xs ≡ ys → Adds a b ls ls' xs → Adds a b ls ls' ys
-adds_as a b ls ls' xs ys same adds = subst (λ rs. Adds a b ls ls' rs) same adds
+pub adds_as : {X : Type 0} (a b : Entries X) (ls ls' : List ℕ) (xs ys : List Reference) → xs ≡ ys → AppendsLinks a b ls ls' xs → AppendsLinks a b ls ls' ys
+adds_as a b ls ls' xs ys same adds = subst (λ rs. AppendsLinks a b ls ls' rs) same adds
 
 -- a loop over parts in turn
 module _ {P : Type 0} (f : P → List Reference) (L : List P → List Reference) (step : IsInTurn f L) (none : L [] ≡ []) where
@@ -91,11 +91,11 @@ module _ {P : Type 0} (f : P → List Reference) (L : List P → List Reference)
       ∙ (sym (both (take i xs) (drop i xs)) ∙ ap L (take-append-drop i xs))
 
   -- after a part that was begun
-  pub begins_next : {X : Type 0} (xs : List P) (i : ℕ) (x : P) → i < length xs → x ≡ get_or xs i x → (a b c : Entries X) (ls ls' : List ℕ) → Adds a b ls ls' (L (take i xs)) → Begins b c (f x) → Begins a c (L xs)
+  pub begins_next : {X : Type 0} (xs : List P) (i : ℕ) (x : P) → i < length xs → x ≡ get_or xs i x → (a b c : Entries X) (ls ls' : List ℕ) → AppendsLinks a b ls ls' (L (take i xs)) → SlotsOfFront b c (f x) → SlotsOfFront a c (L xs)
   begins_next xs i x h is a b c ls ls' first second =
       begins_as a c (L (take i xs) ++ (f x ++ L (drop (i + 1) xs))) (L xs) (next_left xs i x h is)
       (begins_on a b c (L (take i xs)) (f x ++ L (drop (i + 1) xs)) first.0 (begins_more b c (f x) (L (drop (i + 1) xs)) second))
 
   -- after one more part
-  pub adds_next : {X : Type 0} (xs : List P) (i : ℕ) (x : P) → i < length xs → x ≡ get_or xs i x → (a b c : Entries X) (ls ls' ls'' : List ℕ) → Adds a b ls ls' (L (take i xs)) → Adds b c ls' ls'' (f x) → Adds a c ls ls'' (L (take (i + 1) xs))
+  pub adds_next : {X : Type 0} (xs : List P) (i : ℕ) (x : P) → i < length xs → x ≡ get_or xs i x → (a b c : Entries X) (ls ls' ls'' : List ℕ) → AppendsLinks a b ls ls' (L (take i xs)) → AppendsLinks b c ls' ls'' (f x) → AppendsLinks a c ls ls'' (L (take (i + 1) xs))
   adds_next xs i x h is a b c ls ls' ls'' first second = adds_as a c ls ls'' (L (take i xs) ++ f x) (L (take (i + 1) xs)) (next_taken xs i x h is) (adds_on a b c ls ls' ls'' (L (take i xs)) (f x) first second)

@@ -2,7 +2,7 @@
 use Rattle.std.specs.Prelude.{ℕ, List, Option}
 use Rattle.fluent_tree.specs.Tree.{Text, Pattern}
 use Rattle.fluent_tree.specs.References.{references}
-use Rattle.fluent_links.specs.Links.{Keeps}
+use Rattle.fluent_links.specs.Links.{KeepsNumbers}
 use Rattle.fluent_links.specs.Classes.{HasClass, Grows}
 use Rattle.fluent_links.specs.Numbered.{AreNumbers, keeps_numbers}
 use Rattle.fluent_links.specs.declared.linked.Linked.{Linked}
@@ -18,5 +18,5 @@ abbrev pub IsOf : (Text → Option ℕ) → List Pattern → Pattern → Linked 
 IsOf number table p l = HasClass table (class_of l) p × AreNumbers number (references p) (links_of l)
 
 -- it stays so while ids keep their numbers and contents their classes
-pub still_of : (number number' : Text → Option ℕ) (table table' : List Pattern) → Keeps number number' → Grows table table' → (p : Pattern) (l : Linked) → IsOf number table p l → IsOf number' table' p l
+pub still_of : (number number' : Text → Option ℕ) (table table' : List Pattern) → KeepsNumbers number number' → Grows table table' → (p : Pattern) (l : Linked) → IsOf number table p l → IsOf number' table' p l
 still_of number number' table table' kept grows p l h = (grows (class_of l) p h.0, keeps_numbers number number' kept (references p) (links_of l) h.1)

@@ -11,11 +11,11 @@ abbrev pub with_slots : {X : Type 0} → List Reference → List (Text × Option
 with_slots rs ss = fold (λ ss r. with_slot (id_of r) ss) ss rs
 
 -- each of these references has a slot, and its number comes behind the links of others
-abbrev pub Adds : {X : Type 0} → List (Text × Option X) → List (Text × Option X) → List ℕ → List ℕ → List Reference → Type 0
-Adds before after ls ls' rs =
+abbrev pub AppendsLinks : {X : Type 0} → List (Text × Option X) → List (Text × Option X) → List ℕ → List ℕ → List Reference → Type 0
+AppendsLinks before after ls ls' rs =
     (after ≡ with_slots rs before)
     × ((done : List Reference) → AreNumbers (number before) done ls → AreNumbers (number after) (done ++ rs) ls')
 
 -- the first of these references have slots, perhaps not all
-abbrev pub Begins : {X : Type 0} → List (Text × Option X) → List (Text × Option X) → List Reference → Type 0
-Begins before after rs = (done left : List Reference) × (rs ≡ done ++ left) × (after ≡ with_slots done before)
+abbrev pub SlotsOfFront : {X : Type 0} → List (Text × Option X) → List (Text × Option X) → List Reference → Type 0
+SlotsOfFront before after rs = (done left : List Reference) × (rs ≡ done ++ left) × (after ≡ with_slots done before)

@@ -28,5 +28,5 @@ IsBefore number [] (l ∷ ls) = Unit {0}
 IsBefore number (r ∷ rs) (l ∷ ls) = (number (id_of r) ≡ Some l) × IsBefore number rs ls
 
 -- every number that an id had is still its own
-abbrev pub Keeps : (Text → Option ℕ) → (Text → Option ℕ) → Type 0
-Keeps before after = (id : Text) (n : ℕ) → before id ≡ Some n → after id ≡ Some n
+abbrev pub KeepsNumbers : (Text → Option ℕ) → (Text → Option ℕ) → Type 0
+KeepsNumbers before after = (id : Text) (n : ℕ) → before id ≡ Some n → after id ≡ Some n

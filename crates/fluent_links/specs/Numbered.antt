@@ -2,7 +2,7 @@
 use Rattle.std.specs.Prelude.{◌≡◌, ℕ, List, [], ◌∷◌, map, Option, Some}
 use Rattle.fluent_tree.specs.Tree.{Text}
 use Rattle.fluent_tree.specs.References.{Reference}
-use Rattle.fluent_links.specs.Links.{id_of, IsBefore, Keeps}
+use Rattle.fluent_links.specs.Links.{id_of, IsBefore, KeepsNumbers}
 
 -- the links are the numbers of the ids, each of one, in order
 abbrev pub AreNumbers : (Text → Option ℕ) → List Reference → List ℕ → Type 0
@@ -24,7 +24,7 @@ are_links number [] (l ∷ ls) h = tt
 are_links number (r ∷ rs) (l ∷ ls) h = (first_is (number (id_of r)) (Some l) (map (λ r. number (id_of r)) rs) (map Some ls) h, are_links number rs ls (rest_is (number (id_of r)) (Some l) (map (λ r. number (id_of r)) rs) (map Some ls) h))
 
 -- they stay right while ids keep their numbers
-pub keeps_numbers : (number number' : Text → Option ℕ) → Keeps number number' → (rs : List Reference) (ls : List ℕ) → AreNumbers number rs ls → AreNumbers number' rs ls
+pub keeps_numbers : (number number' : Text → Option ℕ) → KeepsNumbers number number' → (rs : List Reference) (ls : List ℕ) → AreNumbers number rs ls → AreNumbers number' rs ls
 keeps_numbers number number' kept [] ls h = h
 keeps_numbers number number' kept (r ∷ rs) [] h = absurd cc
 keeps_numbers number number' kept (r ∷ rs) (l ∷ ls) h =

@@ -2,7 +2,7 @@
 use Rattle.std.specs.Prelude.{◌≡◌, ℕ, List, [], ◌∷◌, ◌++◌, Option, Some, IfSome, refl}
 use Rattle.fluent_tree.specs.Tree.{Text}
 use Rattle.fluent_tree.specs.References.{Reference}
-use Rattle.fluent_links.specs.Links.{Links, next, behind, id_of, IsBefore, Keeps}
+use Rattle.fluent_links.specs.Links.{Links, next, behind, id_of, IsBefore, KeepsNumbers}
 use Rattle.fluent_links.specs.Places.{first_of}
 
 -- a place before two parts is before the first
@@ -33,7 +33,7 @@ first_is number r rs [] h = tt
 first_is number r rs (l ∷ ls) h = h.0
 
 -- links stay right while ids keep their numbers
-pub keeps_before : (number number' : Text → Option ℕ) → Keeps number number' → (rs : List Reference) (p : Links) → IsBefore number rs p → IsBefore number' rs p
+pub keeps_before : (number number' : Text → Option ℕ) → KeepsNumbers number number' → (rs : List Reference) (p : Links) → IsBefore number rs p → IsBefore number' rs p
 keeps_before number number' kept rs [] h = tt
 keeps_before number number' kept [] (l ∷ ls) h = tt
 keeps_before number number' kept (r ∷ rs) (l ∷ ls) h = (kept (id_of r) l h.0, keeps_before number number' kept rs ls h.1)

@@ -4,9 +4,9 @@ ghost use Rattle.fluent_tree.specs.Tree as t;
 ghost use Rattle.fluent_tree.specs.Tree.{Text};
 ghost use Rattle.fluent_tree.specs.View.{pattern_view};
 ghost use Rattle.fluent_tree.specs.References.{references};
-ghost use Rattle.fluent_links.specs.Links.{IsBefore, Keeps};
+ghost use Rattle.fluent_links.specs.Links.{IsBefore, KeepsNumbers};
 ghost use Rattle.fluent_links.specs.Classes.{Grows, with_class};
-ghost use Rattle.fluent_links.specs.Linking.{Begins, with_slots};
+ghost use Rattle.fluent_links.specs.Linking.{SlotsOfFront, with_slots};
 ghost use Rattle.fluent_links.specs.Places.{seen};
 ghost use Rattle.fluent_links.specs.Slots.{named, number, slots as slots_of};
 ghost use Rattle.fluent_links.specs.Table.{table};
@@ -60,7 +60,7 @@ impl Linked {
     ) -> Result<Linked, AllocError>
         ensures linked { IfOk result
             (IsOf (number (slots_of slots.new)) (table classes.new) (pattern_view pattern.now)) }
-        ensures numbers { Keeps (number (slots_of slots.old)) (number (slots_of slots.new)) }
+        ensures numbers { KeepsNumbers (number (slots_of slots.old)) (number (slots_of slots.new)) }
         ensures named { (q : Text) → named q (slots_of slots.new) ≡ named q (slots_of slots.old) }
         ensures classes { Grows (table classes.old) (table classes.new) }
         // Each reference has a slot, and the content a class.
@@ -69,7 +69,7 @@ impl Linked {
         ensures stored { OnOk result (table classes.new
             ≡ with_class (pattern_view pattern.now) (table classes.old)) }
         // The first references may have slots, but no content is stored.
-        ensures begun { OnErr result (Begins (slots_of slots.old) (slots_of slots.new)
+        ensures begun { OnErr result (SlotsOfFront (slots_of slots.old) (slots_of slots.new)
             (references (pattern_view pattern.now))) }
         ensures refused { OnErr result (table classes.new ≡ table classes.old) }
     {

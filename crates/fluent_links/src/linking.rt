@@ -3,7 +3,7 @@ ghost use Rattle.std.specs.Prelude.{◌≡◌, [], ◌∷◌, OnErr, OnOk};
 ghost use Rattle.fluent_tree.specs.View.{arguments_view, call_view, element_view, expression_view, inline_view, pattern_view};
 ghost use Rattle.fluent_tree.specs.References.{Reference, in_arguments, in_call, in_element, in_expression, in_inline, in_named, in_positional, in_variants, inlines_view, nameds_view, references, variants_view};
 ghost use Rattle.fluent_links.specs.Links.{id_of};
-ghost use Rattle.fluent_links.specs.Linking.{Adds, Begins};
+ghost use Rattle.fluent_links.specs.Linking.{AppendsLinks, SlotsOfFront};
 ghost use Rattle.fluent_links.specs.Slots.{slots as slots_of};
 
 use crate::slots::Slots;
@@ -20,9 +20,9 @@ fn link_one<'s, X: Drop>(
     id: &'s str,
 ) -> Result<(), AllocError>
     ensures ok { OnOk result ((r : Reference) → id_of r ≡ id.now →
-        Adds (slots_of slots.old) (slots_of slots.new) links.old.items links.new.items (r ∷ [])) }
+        AppendsLinks (slots_of slots.old) (slots_of slots.new) links.old.items links.new.items (r ∷ [])) }
     ensures err { OnErr result ((r : Reference) → id_of r ≡ id.now →
-        Begins (slots_of slots.old) (slots_of slots.new) (r ∷ [])) }
+        SlotsOfFront (slots_of slots.old) (slots_of slots.new) (r ∷ [])) }
 {
     links.push(slots.number_of(CowStr::Borrowed(id))?)?;
     Ok(())
@@ -35,9 +35,9 @@ pub fn link_pattern<'s, X: Drop>(
     slots: &mut Slots<'s, X>,
     pattern: &Pattern<'s>,
 ) -> Result<(), AllocError>
-    ensures ok { OnOk result (Adds (slots_of slots.old) (slots_of slots.new)
+    ensures ok { OnOk result (AppendsLinks (slots_of slots.old) (slots_of slots.new)
         links.old.items links.new.items (references (pattern_view pattern.now))) }
-    ensures err { OnErr result (Begins (slots_of slots.old) (slots_of slots.new)
+    ensures err { OnErr result (SlotsOfFront (slots_of slots.old) (slots_of slots.new)
         (references (pattern_view pattern.now))) }
 {
     for element in &pattern.elements {
@@ -52,9 +52,9 @@ fn link_element<'s, X: Drop>(
     slots: &mut Slots<'s, X>,
     element: &PatternElement<'s>,
 ) -> Result<(), AllocError>
-    ensures ok { OnOk result (Adds (slots_of slots.old) (slots_of slots.new)
+    ensures ok { OnOk result (AppendsLinks (slots_of slots.old) (slots_of slots.new)
         links.old.items links.new.items (in_element (element_view element.now))) }
-    ensures err { OnErr result (Begins (slots_of slots.old) (slots_of slots.new)
+    ensures err { OnErr result (SlotsOfFront (slots_of slots.old) (slots_of slots.new)
         (in_element (element_view element.now))) }
 {
     match element {
@@ -69,9 +69,9 @@ fn link_expression<'s, X: Drop>(
     slots: &mut Slots<'s, X>,
     expression: &Expression<'s>,
 ) -> Result<(), AllocError>
-    ensures ok { OnOk result (Adds (slots_of slots.old) (slots_of slots.new)
+    ensures ok { OnOk result (AppendsLinks (slots_of slots.old) (slots_of slots.new)
         links.old.items links.new.items (in_expression (expression_view expression.now))) }
-    ensures err { OnErr result (Begins (slots_of slots.old) (slots_of slots.new)
+    ensures err { OnErr result (SlotsOfFront (slots_of slots.old) (slots_of slots.new)
         (in_expression (expression_view expression.now))) }
 {
     match expression {
@@ -90,9 +90,9 @@ fn link_variants<'s, X: Drop>(
     slots: &mut Slots<'s, X>,
     variants: &[Variant<'s>],
 ) -> Result<(), AllocError>
-    ensures ok { OnOk result (Adds (slots_of slots.old) (slots_of slots.new)
+    ensures ok { OnOk result (AppendsLinks (slots_of slots.old) (slots_of slots.new)
         links.old.items links.new.items (in_variants (variants_view variants.now))) }
-    ensures err { OnErr result (Begins (slots_of slots.old) (slots_of slots.new)
+    ensures err { OnErr result (SlotsOfFront (slots_of slots.old) (slots_of slots.new)
         (in_variants (variants_view variants.now))) }
 {
     for variant in variants {
@@ -107,9 +107,9 @@ fn link_inline<'s, X: Drop>(
     slots: &mut Slots<'s, X>,
     inline: &InlineExpression<'s>,
 ) -> Result<(), AllocError>
-    ensures ok { OnOk result (Adds (slots_of slots.old) (slots_of slots.new)
+    ensures ok { OnOk result (AppendsLinks (slots_of slots.old) (slots_of slots.new)
         links.old.items links.new.items (in_inline (inline_view inline.now))) }
-    ensures err { OnErr result (Begins (slots_of slots.old) (slots_of slots.new)
+    ensures err { OnErr result (SlotsOfFront (slots_of slots.old) (slots_of slots.new)
         (in_inline (inline_view inline.now))) }
 {
     match inline {
@@ -137,9 +137,9 @@ fn link_call<'s, X: Drop>(
     slots: &mut Slots<'s, X>,
     arguments: &Option<Box<CallArguments<'s>>>,
 ) -> Result<(), AllocError>
-    ensures ok { OnOk result (Adds (slots_of slots.old) (slots_of slots.new)
+    ensures ok { OnOk result (AppendsLinks (slots_of slots.old) (slots_of slots.new)
         links.old.items links.new.items (in_call (call_view arguments.now))) }
-    ensures err { OnErr result (Begins (slots_of slots.old) (slots_of slots.new)
+    ensures err { OnErr result (SlotsOfFront (slots_of slots.old) (slots_of slots.new)
         (in_call (call_view arguments.now))) }
 {
     match arguments {
@@ -154,9 +154,9 @@ fn link_arguments<'s, X: Drop>(
     slots: &mut Slots<'s, X>,
     arguments: &CallArguments<'s>,
 ) -> Result<(), AllocError>
-    ensures ok { OnOk result (Adds (slots_of slots.old) (slots_of slots.new)
+    ensures ok { OnOk result (AppendsLinks (slots_of slots.old) (slots_of slots.new)
         links.old.items links.new.items (in_arguments (arguments_view arguments.now))) }
-    ensures err { OnErr result (Begins (slots_of slots.old) (slots_of slots.new)
+    ensures err { OnErr result (SlotsOfFront (slots_of slots.old) (slots_of slots.new)
         (in_arguments (arguments_view arguments.now))) }
 {
     link_positional(links, slots, &arguments.positional)?;
@@ -170,9 +170,9 @@ fn link_positional<'s, X: Drop>(
     slots: &mut Slots<'s, X>,
     positional: &[InlineExpression<'s>],
 ) -> Result<(), AllocError>
-    ensures ok { OnOk result (Adds (slots_of slots.old) (slots_of slots.new)
+    ensures ok { OnOk result (AppendsLinks (slots_of slots.old) (slots_of slots.new)
         links.old.items links.new.items (in_positional (inlines_view positional.now))) }
-    ensures err { OnErr result (Begins (slots_of slots.old) (slots_of slots.new)
+    ensures err { OnErr result (SlotsOfFront (slots_of slots.old) (slots_of slots.new)
         (in_positional (inlines_view positional.now))) }
 {
     for argument in positional {
@@ -187,9 +187,9 @@ fn link_named<'s, X: Drop>(
     slots: &mut Slots<'s, X>,
     named: &[NamedArgument<'s>],
 ) -> Result<(), AllocError>
-    ensures ok { OnOk result (Adds (slots_of slots.old) (slots_of slots.new)
+    ensures ok { OnOk result (AppendsLinks (slots_of slots.old) (slots_of slots.new)
         links.old.items links.new.items (in_named (nameds_view named.now))) }
-    ensures err { OnErr result (Begins (slots_of slots.old) (slots_of slots.new)
+    ensures err { OnErr result (SlotsOfFront (slots_of slots.old) (slots_of slots.new)
         (in_named (nameds_view named.now))) }
 {
     for argument in named {

@@ -5,7 +5,7 @@ ghost use Rattle.std.specs.Option.{option_map};
 ghost use Rattle.std.specs.Str.{bytes_eq};
 ghost use Rattle.indexmap.specs.Layout.{set_value_at};
 ghost use Rattle.fluent_tree.specs.Tree.{Text};
-ghost use Rattle.fluent_links.specs.Links.{Keeps};
+ghost use Rattle.fluent_links.specs.Links.{KeepsNumbers};
 ghost use Rattle.fluent_links.specs.Slots.{slots, number as number_in, named, slot_at, with_slot};
 
 use indexmap::IndexMap;
@@ -65,7 +65,7 @@ impl<'s, X: Drop> Slots<'s, X> {
     pub fn number_of(&mut self, id: CowStr<'s>) -> Result<u32, AllocError>
         ensures number { IfOk result (λ n.
             number_in (slots self.new) (cow_str_bytes id.entry) ≡ Some n) }
-        ensures kept { Keeps (number_in (slots self.old)) (number_in (slots self.new)) }
+        ensures kept { KeepsNumbers (number_in (slots self.old)) (number_in (slots self.new)) }
         ensures named { (q : Text) → named q (slots self.new) ≡ named q (slots self.old) }
         ensures ok { OnOk result (slots self.new
             ≡ with_slot (cow_str_bytes id.entry) (slots self.old)) }

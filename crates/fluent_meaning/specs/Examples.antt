@@ -152,12 +152,12 @@ abbrev pub written : Bundle NoCustom → Arguments → Pattern → Text × List 
 written b args p = let r = written_pattern b (set_all args []) p in (r.value, texts r.errors)
 
 -- a pattern is written as this text, with errors of these texts
-abbrev pub Writes : Bundle NoCustom → Arguments → Pattern → Text → List Text → Type 0
-Writes b args p t es = written b args p ≡ (t, es)
+abbrev pub PatternWrites : Bundle NoCustom → Arguments → Pattern → Text → List Text → Type 0
+PatternWrites b args p t es = written b args p ≡ (t, es)
 
 -- the value of a message is
-abbrev pub Gives : Bundle NoCustom → Arguments → String → Text → List Text → Type 0
-Gives b args id t es = Writes b args (value_of b id) t es
+abbrev pub MessageGives : Bundle NoCustom → Arguments → String → Text → List Text → Type 0
+MessageGives b args id t es = PatternWrites b args (value_of b id) t es
 
 -- the value of a message is formatted as this text
 abbrev pub Formats : Bundle NoCustom → Arguments → String → Text → Type 0

@@ -12,7 +12,7 @@ use Rattle.fluent_meaning.specs.Number.{as_count}
 use Rattle.fluent_meaning.specs.Value.{Value, number_value, custom_value, error_value, try_number}
 use Rattle.fluent_meaning.specs.Arguments.{get, set_all, merge, number_function}
 use Rattle.fluent_meaning.specs.Bundle.{Bundle, Function, add_resource, add_function}
-use Rattle.fluent_meaning.specs.Examples.{NoCustom, only, Arguments, say, put, var, str, num, msg, msg_attribute, own, own_with, fun, named, case, case_number, default, choose, entry, private, bundle, whole, with, words, text_length, first_argument, F, P, unknown_variable, cyclic, Gives}
+use Rattle.fluent_meaning.specs.Examples.{NoCustom, only, Arguments, say, put, var, str, num, msg, msg_attribute, own, own_with, fun, named, case, case_number, default, choose, entry, private, bundle, whole, with, words, text_length, first_argument, F, P, unknown_variable, cyclic, MessageGives}
 
 abbrev pub error : Text → Text
 error t = codes "Resolver error: " ++ t
@@ -46,26 +46,26 @@ selects = bundle (add_resource (term_entry (codes "t") (pattern_of (say "v" ∷ 
 
 -- what a select goes to
 pub record Selectors : Type 0 where
-  pub number_key : Gives selects (with "n" (whole 1)) "number" (codes "x") []
-  pub text_and_number_key : Gives selects (with "n" (words "1")) "number" (codes "y") []
-  pub number_and_name_key : Gives selects (with "n" (whole 1)) "name" (codes "no") []
-  pub text_and_name_key : Gives selects (with "n" (words "1")) "name" (codes "yes") []
-  pub one : Gives selects (with "n" (whole 1)) "word" (codes "x") []
-  pub two : Gives selects (with "n" (whole 2)) "word" (codes "y") []
-  pub word_and_number_key : Gives selects [] "literal" (codes "b") []
-  pub escaped : Gives selects [] "escaped" (codes "yes") []
-  pub attribute : Gives selects [] "attribute" (codes "yes") []
-  pub no_attribute : Gives selects [] "no_attribute" (codes "no") (error (codes "Unknown attribute: -t.b") ∷ [])
-  pub message : Gives selects [] "message" (codes "yes") []
-  pub nested : Gives selects [] "nested" (codes "yes") []
-  pub nested_number : Gives selects [] "nested_number" (codes "b") []
-  pub missing : Gives selects [] "variable" (codes "no") (unknown_variable "q" ∷ [])
-  pub missing_in_a_term : Gives selects (with "n" (words "a")) "in_a_term" (codes "no") []
-  pub after_the_default : Gives selects [] "after_the_default" (codes "x") []
-  pub second_default : Gives selects [] "second_default" (codes "2") []
-  pub alone_in_a_variant : Gives selects (with "n" (whole 9)) "alone" (codes "x" ++ (F ++ (codes "9" ++ P))) []
-  pub two_by_default : Gives selects (with "n" (whole 9)) "two_by_default" (codes "y" ++ (F ++ (codes "9" ++ P))) []
-  pub alone_by_default : Gives selects (with "n" (whole 9)) "alone_by_default" (codes "x" ++ (F ++ (codes "9" ++ P))) []
+  pub number_key : MessageGives selects (with "n" (whole 1)) "number" (codes "x") []
+  pub text_and_number_key : MessageGives selects (with "n" (words "1")) "number" (codes "y") []
+  pub number_and_name_key : MessageGives selects (with "n" (whole 1)) "name" (codes "no") []
+  pub text_and_name_key : MessageGives selects (with "n" (words "1")) "name" (codes "yes") []
+  pub one : MessageGives selects (with "n" (whole 1)) "word" (codes "x") []
+  pub two : MessageGives selects (with "n" (whole 2)) "word" (codes "y") []
+  pub word_and_number_key : MessageGives selects [] "literal" (codes "b") []
+  pub escaped : MessageGives selects [] "escaped" (codes "yes") []
+  pub attribute : MessageGives selects [] "attribute" (codes "yes") []
+  pub no_attribute : MessageGives selects [] "no_attribute" (codes "no") (error (codes "Unknown attribute: -t.b") ∷ [])
+  pub message : MessageGives selects [] "message" (codes "yes") []
+  pub nested : MessageGives selects [] "nested" (codes "yes") []
+  pub nested_number : MessageGives selects [] "nested_number" (codes "b") []
+  pub missing : MessageGives selects [] "variable" (codes "no") (unknown_variable "q" ∷ [])
+  pub missing_in_a_term : MessageGives selects (with "n" (words "a")) "in_a_term" (codes "no") []
+  pub after_the_default : MessageGives selects [] "after_the_default" (codes "x") []
+  pub second_default : MessageGives selects [] "second_default" (codes "2") []
+  pub alone_in_a_variant : MessageGives selects (with "n" (whole 9)) "alone" (codes "x" ++ (F ++ (codes "9" ++ P))) []
+  pub two_by_default : MessageGives selects (with "n" (whole 9)) "two_by_default" (codes "y" ++ (F ++ (codes "9" ++ P))) []
+  pub alone_by_default : MessageGives selects (with "n" (whole 9)) "alone_by_default" (codes "x" ++ (F ++ (codes "9" ++ P))) []
 
 -- ---- arguments
 
@@ -108,33 +108,33 @@ calls = bundle (add_function (codes "FIRST") first_argument ∷ add_function (co
 
 -- what a function is handed
 pub record Handed : Type 0 where
-  pub escaped : Gives calls [] "escaped" (codes "A") []
-  pub number : Gives calls [] "number" (codes "1.50") []
-  pub number_is_no_text : Gives calls [] "length" (codes "LENGTH()") []
-  pub variable : Gives calls (with "n" (words "\\u0041")) "variable" (codes "\\u0041") []
-  pub missing : Gives calls [] "variable" (codes "FIRST()") (unknown_variable "n" ∷ [])
-  pub message : Gives calls [] "message" (codes "mm") []
-  pub attribute : Gives calls [] "attribute" (codes "ma") []
-  pub marks : Gives calls (with "n" (whole 9)) "marks" (codes "a" ++ (F ++ (codes "9" ++ (P ++ codes "b")))) []
-  pub unknown : Gives calls [] "unknown" (codes "{zz}") (error (codes "Unknown message: zz") ∷ [])
-  pub without_value : Gives calls [] "without_value" (codes "{empty}") (error (codes "No value: empty") ∷ [])
-  pub itself : Gives calls [] "itself" (codes "{itself}") (cyclic ∷ [])
-  pub term : Gives calls (with "n" (whole 9)) "term" (codes "{$n}") []
-  pub term_with_arguments : Gives calls (with "n" (whole 9)) "term_with" (codes "1") []
-  pub term_with_another : Gives calls (with "n" (whole 9)) "term_with_another" (codes "{$n}") []
-  pub missing_inside_a_term : Gives calls (with "n" (whole 9)) "inside" (codes "FIRST()") []
-  pub to_a_term : Gives calls (with "n" (whole 9)) "outer" (codes "9") []
-  pub nested : Gives calls [] "nested" (codes "x") []
-  pub nested_number_is_a_text : Gives calls [] "nested_number" (codes "5") []
-  pub nested_select : Gives calls (with "n" (whole 9)) "nested_select" (codes "nine") []
-  pub function : Gives calls [] "function" (codes "a") []
-  pub no_function : Gives calls [] "no_function" (codes "FIRST()") []
-  pub in_order : Gives calls [] "two" (codes "b") []
-  pub errors_in_order : Gives calls [] "two_missing" (codes "SECOND()") (unknown_variable "p" ∷ unknown_variable "q" ∷ [])
-  pub positional_first : Gives calls [] "positional_first" (codes "FIRST()") (unknown_variable "p" ∷ unknown_variable "q" ∷ [])
-  pub named_in_order : Gives calls [] "named" (codes "X()") (unknown_variable "p" ∷ unknown_variable "q" ∷ [])
-  pub last_of_a_name : Gives calls [] "last" (codes "2") []
-  pub by_its_name : Gives calls (with "x" (whole 9)) "other_name" (codes "X()") []
+  pub escaped : MessageGives calls [] "escaped" (codes "A") []
+  pub number : MessageGives calls [] "number" (codes "1.50") []
+  pub number_is_no_text : MessageGives calls [] "length" (codes "LENGTH()") []
+  pub variable : MessageGives calls (with "n" (words "\\u0041")) "variable" (codes "\\u0041") []
+  pub missing : MessageGives calls [] "variable" (codes "FIRST()") (unknown_variable "n" ∷ [])
+  pub message : MessageGives calls [] "message" (codes "mm") []
+  pub attribute : MessageGives calls [] "attribute" (codes "ma") []
+  pub marks : MessageGives calls (with "n" (whole 9)) "marks" (codes "a" ++ (F ++ (codes "9" ++ (P ++ codes "b")))) []
+  pub unknown : MessageGives calls [] "unknown" (codes "{zz}") (error (codes "Unknown message: zz") ∷ [])
+  pub without_value : MessageGives calls [] "without_value" (codes "{empty}") (error (codes "No value: empty") ∷ [])
+  pub itself : MessageGives calls [] "itself" (codes "{itself}") (cyclic ∷ [])
+  pub term : MessageGives calls (with "n" (whole 9)) "term" (codes "{$n}") []
+  pub term_with_arguments : MessageGives calls (with "n" (whole 9)) "term_with" (codes "1") []
+  pub term_with_another : MessageGives calls (with "n" (whole 9)) "term_with_another" (codes "{$n}") []
+  pub missing_inside_a_term : MessageGives calls (with "n" (whole 9)) "inside" (codes "FIRST()") []
+  pub to_a_term : MessageGives calls (with "n" (whole 9)) "outer" (codes "9") []
+  pub nested : MessageGives calls [] "nested" (codes "x") []
+  pub nested_number_is_a_text : MessageGives calls [] "nested_number" (codes "5") []
+  pub nested_select : MessageGives calls (with "n" (whole 9)) "nested_select" (codes "nine") []
+  pub function : MessageGives calls [] "function" (codes "a") []
+  pub no_function : MessageGives calls [] "no_function" (codes "FIRST()") []
+  pub in_order : MessageGives calls [] "two" (codes "b") []
+  pub errors_in_order : MessageGives calls [] "two_missing" (codes "SECOND()") (unknown_variable "p" ∷ unknown_variable "q" ∷ [])
+  pub positional_first : MessageGives calls [] "positional_first" (codes "FIRST()") (unknown_variable "p" ∷ unknown_variable "q" ∷ [])
+  pub named_in_order : MessageGives calls [] "named" (codes "X()") (unknown_variable "p" ∷ unknown_variable "q" ∷ [])
+  pub last_of_a_name : MessageGives calls [] "last" (codes "2") []
+  pub by_its_name : MessageGives calls (with "x" (whole 9)) "other_name" (codes "X()") []
 
 -- ---- options of a number
 

@@ -3,7 +3,7 @@ use Rattle.std.specs.Prelude.{◌≡◌, ℕ, zero, suc, List, [], ◌∷◌, �
 use Rattle.fluent_tree.specs.Tree as t
 use Rattle.fluent_tree.specs.Tree.{Element, Inline, nested, inline, placeable, Pattern, pattern_of}
 use Rattle.fluent_meaning.specs.Bundle.{Bundle, add_resource, add_builtins, set_placeable_limit}
-use Rattle.fluent_meaning.specs.Examples.{NoCustom, say, put, var, str, msg, own_with, fun, case, default, choose, times, entry, private, bundle, F, P, many, unknown_variable, too_many, Gives}
+use Rattle.fluent_meaning.specs.Examples.{NoCustom, say, put, var, str, msg, own_with, fun, case, default, choose, times, entry, private, bundle, F, P, many, unknown_variable, too_many, MessageGives}
 
 -- a placeable in this many brackets
 abbrev pub in_brackets : ℕ → Inline → Inline
@@ -37,18 +37,18 @@ usual es = bundle (add_builtins ∷ add_resource es ∷ [])
 
 -- where the limit of 100 strikes, and what follows
 pub record Hundred : Type 0 where
-  pub struck_at_the_end : Gives (usual long) [] "m" (many 100 "a") (too_many ∷ [])
-  pub not_struck : Gives (usual long) [] "hundred" (many 100 "a") []
-  pub struck_below : Gives (usual long) [] "n" (codes "x" ++ (many 99 "a" ++ codes "{m}")) (too_many ∷ [])
-  pub within_below : Gives (usual long) [] "o" (codes "x" ++ (many 99 "a" ++ codes "y")) []
-  pub arguments_go_on : Gives (usual long) [] "z" (codes "NUMBER(){NUMBER()}") (too_many ∷ unknown_variable "q" ∷ [])
-  pub nested_fallback : Gives (usual long) [] "q" (codes "x" ++ (F ++ (many 99 "a" ++ (codes "{m}" ++ P)))) (too_many ∷ [])
-  pub selector : Gives (usual long) [] "s" (F ++ (codes "{F()}" ++ P)) (too_many ∷ [])
-  pub term_arguments : Gives (usual long) [] "t" (codes "{-u}") (too_many ∷ [])
-  pub brackets : Gives (usual long) [] "brackets" (codes "x") []
-  pub calls : Gives (usual long) [] "calls" (codes "{F()}") (codes "Resolver error: Unknown function: F()" ∷ [])
-  pub laughs : Gives (usual laughing) [] "c" (many 90 "lol" ++ codes "{b}") (too_many ∷ [])
-  pub laughs_longer : Gives (usual laughing) [] "d" (many 90 "lol" ++ codes "{c}") (too_many ∷ [])
+  pub struck_at_the_end : MessageGives (usual long) [] "m" (many 100 "a") (too_many ∷ [])
+  pub not_struck : MessageGives (usual long) [] "hundred" (many 100 "a") []
+  pub struck_below : MessageGives (usual long) [] "n" (codes "x" ++ (many 99 "a" ++ codes "{m}")) (too_many ∷ [])
+  pub within_below : MessageGives (usual long) [] "o" (codes "x" ++ (many 99 "a" ++ codes "y")) []
+  pub arguments_go_on : MessageGives (usual long) [] "z" (codes "NUMBER(){NUMBER()}") (too_many ∷ unknown_variable "q" ∷ [])
+  pub nested_fallback : MessageGives (usual long) [] "q" (codes "x" ++ (F ++ (many 99 "a" ++ (codes "{m}" ++ P)))) (too_many ∷ [])
+  pub selector : MessageGives (usual long) [] "s" (F ++ (codes "{F()}" ++ P)) (too_many ∷ [])
+  pub term_arguments : MessageGives (usual long) [] "t" (codes "{-u}") (too_many ∷ [])
+  pub brackets : MessageGives (usual long) [] "brackets" (codes "x") []
+  pub calls : MessageGives (usual long) [] "calls" (codes "{F()}") (codes "Resolver error: Unknown function: F()" ∷ [])
+  pub laughs : MessageGives (usual laughing) [] "c" (many 90 "lol" ++ codes "{b}") (too_many ∷ [])
+  pub laughs_longer : MessageGives (usual laughing) [] "d" (many 90 "lol" ++ codes "{c}") (too_many ∷ [])
 
 -- other limits
 pub record Limits : Type 0 where
@@ -58,7 +58,7 @@ pub record Limits : Type 0 where
   pub most : (bundle (set_placeable_limit 10000 ∷ [])).limit ≡ 10000
   pub more : (bundle (set_placeable_limit 10000 ∷ set_placeable_limit 10001 ∷ [])).limit ≡ 10000
   pub more_at_first : (bundle (set_placeable_limit 10001 ∷ [])).limit ≡ 100
-  pub one_more : Gives (limited 101 long) [] "m" (many 101 "a") []
-  pub one_alone : Gives (limited 1 long) [] "n" (codes "x{m}") (too_many ∷ [])
-  pub all_laughs : Gives (limited 1110 laughing) [] "d" (many 1000 "lol") []
-  pub last_laugh : Gives (limited 1109 laughing) [] "d" (many 999 "lol" ++ codes "{b}{c}") (too_many ∷ [])
+  pub one_more : MessageGives (limited 101 long) [] "m" (many 101 "a") []
+  pub one_alone : MessageGives (limited 1 long) [] "n" (codes "x{m}") (too_many ∷ [])
+  pub all_laughs : MessageGives (limited 1110 laughing) [] "d" (many 1000 "lol") []
+  pub last_laugh : MessageGives (limited 1109 laughing) [] "d" (many 999 "lol" ++ codes "{b}{c}") (too_many ∷ [])

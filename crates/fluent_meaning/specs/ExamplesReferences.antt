@@ -8,7 +8,7 @@ use Rattle.fluent_meaning.specs.Arguments.{get}
 use Rattle.fluent_meaning.specs.Errors as errors
 use Rattle.fluent_meaning.specs.Errors.{Error, resolver_error, parser_error, overriding, message_kind, term_kind, function_kind, lost, to_function, to_message, to_term, to_variable, missing_default, too_many_placeables, error_text, reference_of}
 use Rattle.fluent_meaning.specs.Bundle.{Bundle, Function, Call, add_resource, add_resource_overriding, add_function, add_builtins, after, answered, found, without_value, message_target, is_message, is_term, is_function}
-use Rattle.fluent_meaning.specs.Examples.{NoCustom, only, say, put, var, str, num, msg, msg_attribute, own, own_with, fun, named, case, case_number, default, choose, entry, private, bundle, source, whole, with, words, answers, text_length, first_argument, F, P, texts, unknown_variable, cyclic, Writes, Gives}
+use Rattle.fluent_meaning.specs.Examples.{NoCustom, only, say, put, var, str, num, msg, msg_attribute, own, own_with, fun, named, case, case_number, default, choose, entry, private, bundle, source, whole, with, words, answers, text_length, first_argument, F, P, texts, unknown_variable, cyclic, PatternWrites, MessageGives}
 
 abbrev pub error : Text → Text
 error t = codes "Resolver error: " ++ t
@@ -36,15 +36,15 @@ variants = source (entry "top" (choose (str "x") (default "x" (put (msg "w") ∷
 
 -- patterns that refer to themselves, by their content
 pub record Cycles : Type 0 where
-  pub itself : Gives itself [] "foo" (codes "{foo}") (cyclic ∷ [])
-  pub same_content : Gives twins (with "n" (whole 2)) "a" (codes "{-t}") (cyclic ∷ [])
-  pub added_again : Gives (after (add_resource_overriding (private "t" twin ∷ [])) twins) (with "n" (whole 2)) "a" (codes "{-t}") (cyclic ∷ [])
-  pub by_hand : Writes prefixed [] (pattern_of (say "x" ∷ put (msg "foo") ∷ [])) (codes "x{foo}") (cyclic ∷ [])
-  pub below_the_first : Gives below [] "a" (codes "xy{b}") (cyclic ∷ [])
-  pub below_the_second : Gives below [] "d" (codes "xy{b}") (cyclic ∷ [])
-  pub variant_not_on_the_path : Gives variants [] "top" (codes "q{w}") (cyclic ∷ [])
-  pub default_not_on_the_path : Gives variants [] "other" (codes "q{w}") (cyclic ∷ [])
-  pub other_content : Writes prefixed [] (pattern_of (say "x" ∷ say "" ∷ put (msg "foo") ∷ [])) (codes "xx{foo}") (cyclic ∷ [])
+  pub itself : MessageGives itself [] "foo" (codes "{foo}") (cyclic ∷ [])
+  pub same_content : MessageGives twins (with "n" (whole 2)) "a" (codes "{-t}") (cyclic ∷ [])
+  pub added_again : MessageGives (after (add_resource_overriding (private "t" twin ∷ [])) twins) (with "n" (whole 2)) "a" (codes "{-t}") (cyclic ∷ [])
+  pub by_hand : PatternWrites prefixed [] (pattern_of (say "x" ∷ put (msg "foo") ∷ [])) (codes "x{foo}") (cyclic ∷ [])
+  pub below_the_first : MessageGives below [] "a" (codes "xy{b}") (cyclic ∷ [])
+  pub below_the_second : MessageGives below [] "d" (codes "xy{b}") (cyclic ∷ [])
+  pub variant_not_on_the_path : MessageGives variants [] "top" (codes "q{w}") (cyclic ∷ [])
+  pub default_not_on_the_path : MessageGives variants [] "other" (codes "q{w}") (cyclic ∷ [])
+  pub other_content : PatternWrites prefixed [] (pattern_of (say "x" ∷ say "" ∷ put (msg "foo") ∷ [])) (codes "xx{foo}") (cyclic ∷ [])
 
 abbrev pub terms : Bundle NoCustom
 terms = source (private "u" (say "u" ∷ []) ∷ private "t" (put (own "u") ∷ put (var "n") ∷ []) ∷ private "v" (put (var "n") ∷ [])
@@ -58,12 +58,12 @@ terms = source (private "u" (say "u" ∷ []) ∷ private "t" (put (own "u") ∷ 
 
 -- terms and their environments
 pub record Terms : Type 0 where
-  pub outer_stands_again : Gives terms (with "n" (whole 9)) "outer" (codes "u" ++ (F ++ (codes "1" ++ P))) []
-  pub missing : Gives terms (with "n" (whole 9)) "missing" (codes "{$n}") []
-  pub below_a_message : Gives terms (with "n" (whole 9)) "below" (codes "1") []
-  pub twice : Gives terms [] "twice" (codes "uu") []
-  pub positional : Gives terms [] "positional" (codes "u") (unknown_variable "q" ∷ [])
-  pub last_of_a_name : Gives terms [] "last" (codes "2") []
+  pub outer_stands_again : MessageGives terms (with "n" (whole 9)) "outer" (codes "u" ++ (F ++ (codes "1" ++ P))) []
+  pub missing : MessageGives terms (with "n" (whole 9)) "missing" (codes "{$n}") []
+  pub below_a_message : MessageGives terms (with "n" (whole 9)) "below" (codes "1") []
+  pub twice : MessageGives terms [] "twice" (codes "uu") []
+  pub positional : MessageGives terms [] "positional" (codes "u") (unknown_variable "q" ∷ [])
+  pub last_of_a_name : MessageGives terms [] "last" (codes "2") []
 
 abbrev pub attributes : Bundle NoCustom
 attributes = source (message_entry (codes "k") None ((codes "x", pattern_of (say "v" ∷ [])) ∷ []) ∷ entry "a" (put (msg "k") ∷ []) ∷ entry "b" (put (msg_attribute "k" "x") ∷ []) ∷ entry "c" (put (msg_attribute "k" "y") ∷ [])
@@ -71,14 +71,14 @@ attributes = source (message_entry (codes "k") None ((codes "x", pattern_of (say
 
 -- what can't be found
 pub record Lost : Type 0 where
-  pub without_value : Gives attributes [] "a" (codes "{k}") (error (codes "No value: k") ∷ [])
-  pub attribute : Gives attributes [] "b" (codes "v") []
-  pub no_attribute : Gives attributes [] "c" (codes "{k.y}") (error (codes "Unknown attribute: k.y") ∷ [])
-  pub function : Gives attributes [] "d" (codes "{F()}") (unknown_variable "q" ∷ error (codes "Unknown function: F()") ∷ [])
-  pub term : Gives attributes [] "e" (codes "{-zz}") (error (codes "Unknown term: -zz") ∷ [])
-  pub message_is_no_term : Gives attributes [] "f" (codes "{-k}") (error (codes "Unknown term: -k") ∷ [])
-  pub attribute_of_no_message : Gives attributes [] "g" (codes "{zz.x}") (error (codes "Unknown attribute: zz.x") ∷ [])
-  pub attribute_of_no_term : Gives attributes [] "h" (codes "{-zz.x}") (error (codes "Unknown attribute: -zz.x") ∷ [])
+  pub without_value : MessageGives attributes [] "a" (codes "{k}") (error (codes "No value: k") ∷ [])
+  pub attribute : MessageGives attributes [] "b" (codes "v") []
+  pub no_attribute : MessageGives attributes [] "c" (codes "{k.y}") (error (codes "Unknown attribute: k.y") ∷ [])
+  pub function : MessageGives attributes [] "d" (codes "{F()}") (unknown_variable "q" ∷ error (codes "Unknown function: F()") ∷ [])
+  pub term : MessageGives attributes [] "e" (codes "{-zz}") (error (codes "Unknown term: -zz") ∷ [])
+  pub message_is_no_term : MessageGives attributes [] "f" (codes "{-k}") (error (codes "Unknown term: -k") ∷ [])
+  pub attribute_of_no_message : MessageGives attributes [] "g" (codes "{zz.x}") (error (codes "Unknown attribute: zz.x") ∷ [])
+  pub attribute_of_no_term : MessageGives attributes [] "h" (codes "{-zz.x}") (error (codes "Unknown attribute: -zz.x") ∷ [])
   pub no_reference : in_braces (fallback (str "x")) ≡ codes "{\"x\"}"
   pub no_error : map reference_of (str "x" ∷ num "1" ∷ nested (inline (msg "m")) ∷ []) ≡ None ∷ None ∷ None ∷ []
 
@@ -92,18 +92,18 @@ without_function = source (entry "s" (choose (fun "F" [] []) (case "a" (say "x" 
 
 -- functions of the application, and their answers
 pub record Functions : Type 0 where
-  pub none : Gives (with_function (answers no_value)) [] "p" (codes "a" ++ (F ++ (P ++ codes "b"))) []
-  pub error : Gives (with_function (answers error_value)) [] "p" (codes "a" ++ (F ++ (codes "F()" ++ (P ++ codes "b")))) []
-  pub length : Gives (with_function text_length) [] "l" (codes "5") []
-  pub argument : Gives (with_function first_argument) [] "q" (codes "q") []
-  pub no_argument : Gives (with_function first_argument) [] "r" (codes "F()") []
-  pub selects_text : Gives (with_function (answers (words "a"))) [] "s" (codes "x") []
-  pub selects_number : Gives (with_function (answers (whole 1))) [] "s" (codes "y") []
-  pub selects_custom : Gives (with_function (answers (custom_value only))) [] "s" (codes "y") []
-  pub selects_none : Gives (with_function (answers no_value)) [] "s" (codes "y") []
-  pub selects_error : Gives (with_function (answers error_value)) [] "s" (codes "y") []
-  pub unknown_selects : Gives without_function [] "s" (codes "y") []
-  pub missing_argument : Gives without_function [] "x" (codes "NUMBER()") (unknown_variable "n" ∷ [])
+  pub none : MessageGives (with_function (answers no_value)) [] "p" (codes "a" ++ (F ++ (P ++ codes "b"))) []
+  pub error : MessageGives (with_function (answers error_value)) [] "p" (codes "a" ++ (F ++ (codes "F()" ++ (P ++ codes "b")))) []
+  pub length : MessageGives (with_function text_length) [] "l" (codes "5") []
+  pub argument : MessageGives (with_function first_argument) [] "q" (codes "q") []
+  pub no_argument : MessageGives (with_function first_argument) [] "r" (codes "F()") []
+  pub selects_text : MessageGives (with_function (answers (words "a"))) [] "s" (codes "x") []
+  pub selects_number : MessageGives (with_function (answers (whole 1))) [] "s" (codes "y") []
+  pub selects_custom : MessageGives (with_function (answers (custom_value only))) [] "s" (codes "y") []
+  pub selects_none : MessageGives (with_function (answers no_value)) [] "s" (codes "y") []
+  pub selects_error : MessageGives (with_function (answers error_value)) [] "s" (codes "y") []
+  pub unknown_selects : MessageGives without_function [] "s" (codes "y") []
+  pub missing_argument : MessageGives without_function [] "x" (codes "NUMBER()") (unknown_variable "n" ∷ [])
 
 abbrev pub ids_of : Bundle NoCustom → List Bool
 ids_of b = is_message (get (codes "foo") b.ids) ∷ is_term (get (codes "foo") b.ids) ∷ is_function (get (codes "foo") b.ids) ∷ []
@@ -132,26 +132,26 @@ welcome = source (entry "intro" (say "Welcome, " ∷ put (var "name") ∷ say ".
 -- adding, overriding, and what an id means
 pub record Adding : Type 0 where
   pub taken : texts (answered foos empty) ≡ codes "Attempt to override an existing term: \"foo\"." ∷ []
-  pub first_stands : Gives (after foos empty) [] "foo" (codes "a") []
+  pub first_stands : MessageGives (after foos empty) [] "foo" (codes "a") []
   pub term_wins : ids_of (after (add_resource_overriding (private "foo" (say "c" ∷ []) ∷ [])) (after foos empty)) ≡ false ∷ true ∷ false ∷ []
   pub builtins_twice : texts (answered add_builtins (bundle (add_builtins ∷ []))) ≡ codes "Attempt to override an existing function: \"NUMBER\"." ∷ []
   pub builtins_stay : after add_builtins (bundle (add_builtins ∷ [])) ≡ bundle (add_builtins ∷ [])
   pub message_taken : texts (answered (add_resource (entry "intro" (say "Hi, " ∷ put (var "name") ∷ say "." ∷ []) ∷ [])) welcome) ≡ codes "Attempt to override an existing message: \"intro\"." ∷ []
-  pub message_stands : Gives (after (add_resource (entry "intro" (say "Hi, " ∷ put (var "name") ∷ say "." ∷ []) ∷ [])) welcome) (with "name" (words "John")) "intro" (codes "Welcome, " ++ (F ++ (codes "John" ++ (P ++ codes ".")))) []
-  pub greeting : Gives (bundle (add_resource (entry "hello" (say "Hi!" ∷ []) ∷ entry "goodbye" (say "Bye!" ∷ []) ∷ []) ∷ add_resource_overriding (entry "hello" (say "Another Hi!" ∷ []) ∷ []) ∷ [])) [] "hello" (codes "Another Hi!") []
+  pub message_stands : MessageGives (after (add_resource (entry "intro" (say "Hi, " ∷ put (var "name") ∷ say "." ∷ []) ∷ [])) welcome) (with "name" (words "John")) "intro" (codes "Welcome, " ++ (F ++ (codes "John" ++ (P ++ codes ".")))) []
+  pub greeting : MessageGives (bundle (add_resource (entry "hello" (say "Hi!" ∷ []) ∷ entry "goodbye" (say "Bye!" ∷ []) ∷ []) ∷ add_resource_overriding (entry "hello" (say "Another Hi!" ∷ []) ∷ []) ∷ [])) [] "hello" (codes "Another Hi!") []
   pub in_order : answered (add_resource three) empty ≡ overriding message_kind (codes "a") ∷ overriding term_kind (codes "a") ∷ []
-  pub first_of_three : Gives (after (add_resource three) empty) [] "a" (codes "1") []
+  pub first_of_three : MessageGives (after (add_resource three) empty) [] "a" (codes "1") []
   pub no_message : is_message (get (codes "a") (after (add_resource_overriding three) empty).ids) ≡ false
   pub a_term : is_term (get (codes "a") (after (add_resource_overriding three) empty).ids) ≡ true
   pub no_value : message_target (get (codes "k") repeated_attribute.ids) no_attribute ≡ without_value
   pub first_attribute : message_target (get (codes "k") repeated_attribute.ids) (attribute (codes "x")) ≡ found (pattern_of (say "1" ∷ []))
-  pub over_a_function : Gives no_builtin [] "p" (codes "{NUMBER()}") (error (codes "Unknown function: NUMBER()") ∷ [])
-  pub its_message : Gives no_builtin [] "q" (codes "n") []
-  pub function_later : Gives (added_later (add_function (codes "F") (answers (words "f")))) [] "a" (codes "f") []
-  pub message_not_yet : Gives (bundle (add_resource (entry "a" (put (msg "b") ∷ []) ∷ []) ∷ [])) [] "a" (codes "{b}") (error (codes "Unknown message: b") ∷ [])
-  pub message_later : Gives (bundle (add_resource (entry "a" (put (msg "b") ∷ []) ∷ []) ∷ add_resource (entry "b" (say "1" ∷ []) ∷ []) ∷ [])) [] "a" (codes "1") []
-  pub message_overridden : Gives (bundle (add_resource (entry "a" (put (msg "b") ∷ []) ∷ []) ∷ add_resource (entry "b" (say "1" ∷ []) ∷ []) ∷ add_resource_overriding (entry "b" (say "2" ∷ []) ∷ []) ∷ [])) [] "a" (codes "2") []
-  pub no_longer : Gives (added_later (add_resource_overriding (private "foo" (say "y" ∷ []) ∷ []))) [] "b" (codes "{foo}") (error (codes "Unknown message: foo") ∷ [])
+  pub over_a_function : MessageGives no_builtin [] "p" (codes "{NUMBER()}") (error (codes "Unknown function: NUMBER()") ∷ [])
+  pub its_message : MessageGives no_builtin [] "q" (codes "n") []
+  pub function_later : MessageGives (added_later (add_function (codes "F") (answers (words "f")))) [] "a" (codes "f") []
+  pub message_not_yet : MessageGives (bundle (add_resource (entry "a" (put (msg "b") ∷ []) ∷ []) ∷ [])) [] "a" (codes "{b}") (error (codes "Unknown message: b") ∷ [])
+  pub message_later : MessageGives (bundle (add_resource (entry "a" (put (msg "b") ∷ []) ∷ []) ∷ add_resource (entry "b" (say "1" ∷ []) ∷ []) ∷ [])) [] "a" (codes "1") []
+  pub message_overridden : MessageGives (bundle (add_resource (entry "a" (put (msg "b") ∷ []) ∷ []) ∷ add_resource (entry "b" (say "1" ∷ []) ∷ []) ∷ add_resource_overriding (entry "b" (say "2" ∷ []) ∷ []) ∷ [])) [] "a" (codes "2") []
+  pub no_longer : MessageGives (added_later (add_resource_overriding (private "foo" (say "y" ∷ []) ∷ []))) [] "b" (codes "{foo}") (error (codes "Unknown message: foo") ∷ [])
   pub function_taken : texts (answered (add_function (codes "foo") first_argument) (after foos empty)) ≡ codes "Attempt to override an existing function: \"foo\"." ∷ []
   pub function_dropped : ids_of (after (add_function (codes "foo") first_argument) (after foos empty)) ≡ true ∷ false ∷ false ∷ []
   pub function_added : ids_of (after (add_function (codes "foo") first_argument) empty) ≡ false ∷ false ∷ true ∷ []

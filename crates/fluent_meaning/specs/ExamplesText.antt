@@ -10,7 +10,7 @@ use Rattle.fluent_meaning.specs.Number.{read_number}
 use Rattle.fluent_meaning.specs.Value.{Value, text_value, number_value, custom_value, no_value, error_value, Custom, matches, same, try_number, value_text}
 use Rattle.fluent_meaning.specs.Arguments.{number_function, set_all}
 use Rattle.fluent_meaning.specs.Bundle.{Bundle, add_resource, add_function, set_use_isolating, set_transform, set_formatter}
-use Rattle.fluent_meaning.specs.Examples.{NoCustom, only, say, put, var, str, num, msg, fun, named, case, case_number, default, choose, entry, bundle, source, whole, with, words, times, answers, bracketed, upper, F, P, many, unknown_variable, too_many, Writes, Gives, Formats}
+use Rattle.fluent_meaning.specs.Examples.{NoCustom, only, say, put, var, str, num, msg, fun, named, case, case_number, default, choose, entry, bundle, source, whole, with, words, times, answers, bracketed, upper, F, P, many, unknown_variable, too_many, PatternWrites, MessageGives, Formats}
 
 abbrev pub greeting : Bundle NoCustom
 greeting = source (entry "hello" (say "Hello, world!" ∷ []) ∷ entry "intro" (say "Welcome, " ∷ put (var "name") ∷ say "." ∷ []) ∷ entry "one" (put (var "name") ∷ []) ∷ entry "two" (put (var "p") ∷ put (var "q") ∷ []) ∷ entry "alone" (times 101 (put (var "x"))) ∷ [])
@@ -21,15 +21,15 @@ many_marked (suc n) = F ++ (codes "a" ++ (P ++ many_marked n))
 
 -- variables, with and without a value, alone and among other elements
 pub record Variables : Type 0 where
-  pub text_alone : Gives greeting [] "hello" (codes "Hello, world!") []
-  pub there : Gives greeting (with "name" (words "John")) "intro" (codes "Welcome, " ++ (F ++ (codes "John" ++ (P ++ codes ".")))) []
-  pub missing : Gives greeting [] "intro" (codes "Welcome, " ++ (F ++ (codes "{$name}" ++ (P ++ codes ".")))) (unknown_variable "name" ∷ [])
-  pub missing_in_order : Gives greeting [] "two" (F ++ (codes "{$p}" ++ (P ++ (F ++ (codes "{$q}" ++ P))))) (unknown_variable "p" ∷ unknown_variable "q" ∷ [])
-  pub one_element : Gives greeting (with "name" (words "z")) "one" (codes "z") []
-  pub too_many_of_them : Gives greeting (with "x" (words "a")) "alone" (many_marked 100) (too_many ∷ [])
-  pub number_in_text : Gives greeting (with "name" (try_number (codes "007"))) "intro" (codes "Welcome, " ++ (F ++ (codes "7" ++ (P ++ codes ".")))) []
-  pub number_with_zeros : Gives greeting (with "name" (try_number (codes "1.50"))) "intro" (codes "Welcome, " ++ (F ++ (codes "1.50" ++ (P ++ codes ".")))) []
-  pub number_with_sign : Gives greeting (with "name" (try_number (codes "+.5"))) "intro" (codes "Welcome, " ++ (F ++ (codes "0.5" ++ (P ++ codes ".")))) []
+  pub text_alone : MessageGives greeting [] "hello" (codes "Hello, world!") []
+  pub there : MessageGives greeting (with "name" (words "John")) "intro" (codes "Welcome, " ++ (F ++ (codes "John" ++ (P ++ codes ".")))) []
+  pub missing : MessageGives greeting [] "intro" (codes "Welcome, " ++ (F ++ (codes "{$name}" ++ (P ++ codes ".")))) (unknown_variable "name" ∷ [])
+  pub missing_in_order : MessageGives greeting [] "two" (F ++ (codes "{$p}" ++ (P ++ (F ++ (codes "{$q}" ++ P))))) (unknown_variable "p" ∷ unknown_variable "q" ∷ [])
+  pub one_element : MessageGives greeting (with "name" (words "z")) "one" (codes "z") []
+  pub too_many_of_them : MessageGives greeting (with "x" (words "a")) "alone" (many_marked 100) (too_many ∷ [])
+  pub number_in_text : MessageGives greeting (with "name" (try_number (codes "007"))) "intro" (codes "Welcome, " ++ (F ++ (codes "7" ++ (P ++ codes ".")))) []
+  pub number_with_zeros : MessageGives greeting (with "name" (try_number (codes "1.50"))) "intro" (codes "Welcome, " ++ (F ++ (codes "1.50" ++ (P ++ codes ".")))) []
+  pub number_with_sign : MessageGives greeting (with "name" (try_number (codes "+.5"))) "intro" (codes "Welcome, " ++ (F ++ (codes "0.5" ++ (P ++ codes ".")))) []
 
 abbrev pub letters : Bundle NoCustom
 letters = bundle (set_use_isolating false ∷ add_resource (entry "msg-key" (say "Hello, " ∷ put (var "user") ∷ say ". You have " ∷ put (var "emailCount") ∷ say " messages." ∷ []) ∷ []) ∷ [])
@@ -61,33 +61,33 @@ in_brackets = bundle (set_formatter (Some bracketed) ∷ add_resource (entry "he
 
 -- isolation, transform and formatter
 pub record Settings : Type 0 where
-  pub not_isolated : Gives letters (with "user" (words "John") ++ with "emailCount" (whole 5)) "msg-key" (codes "Hello, John. You have 5 messages.") []
-  pub transformed : Gives uppercase (with "name" (words "John")) "intro" (codes "WELCOME, " ++ (F ++ (codes "John" ++ (P ++ codes ".")))) []
-  pub past_literals : Gives uppercase [] "a" (codes "Xx") []
+  pub not_isolated : MessageGives letters (with "user" (words "John") ++ with "emailCount" (whole 5)) "msg-key" (codes "Hello, John. You have 5 messages.") []
+  pub transformed : MessageGives uppercase (with "name" (words "John")) "intro" (codes "WELCOME, " ++ (F ++ (codes "John" ++ (P ++ codes ".")))) []
+  pub past_literals : MessageGives uppercase [] "a" (codes "Xx") []
   pub whole_text : Formats in_brackets [] "hello" (codes "[Hello, world!]")
   pub value_and_whole_text : Formats in_brackets (with "name" (words "John")) "intro" (codes "[Welcome, " ++ (F ++ (codes "[John]" ++ (P ++ codes ".]"))))
   pub without_formatter : Formats greeting [] "hello" (codes "Hello, world!")
-  pub only_written : Gives in_brackets [] "hello" (codes "Hello, world!") []
-  pub value_written : Gives in_brackets (with "name" (words "John")) "intro" (codes "Welcome, " ++ (F ++ (codes "[John]" ++ (P ++ codes ".")))) []
-  pub number_written : Gives in_brackets [] "p" (codes "5") []
+  pub only_written : MessageGives in_brackets [] "hello" (codes "Hello, world!") []
+  pub value_written : MessageGives in_brackets (with "name" (words "John")) "intro" (codes "Welcome, " ++ (F ++ (codes "[John]" ++ (P ++ codes ".")))) []
+  pub number_written : MessageGives in_brackets [] "p" (codes "5") []
   pub number_formatted : Formats in_brackets [] "p" (codes "[5]")
-  pub nothing_written : Gives in_brackets [] "empty" [] []
+  pub nothing_written : MessageGives in_brackets [] "empty" [] []
   pub nothing_formatted : Formats in_brackets [] "empty" (codes "[]")
-  pub text_not_asked : Gives kinds [] "text" (codes "x") []
-  pub literal_not_asked : Gives kinds [] "string" (codes "x") []
-  pub number_asked : Gives kinds [] "number" (codes "N") []
-  pub word_asked : Gives kinds [] "word" (codes "T") []
-  pub custom_asked : Gives kinds (with "v" (custom_value only)) "variable" (codes "C") []
-  pub none_asked : Gives kinds (with "v" no_value) "variable" (codes "none") []
-  pub error_asked : Gives kinds (with "v" error_value) "variable" (codes "error") []
-  pub nested_not_asked : Gives kinds [] "nested" (codes "x") []
-  pub answer_asked : Gives kinds [] "answer" (codes "T") []
-  pub answer_of_error_not_asked : Gives kinds [] "function" (codes "F()") []
-  pub no_transform_again : Gives taken_back [] "p" (codes "x") []
-  pub no_formatter_again : Gives taken_back (with "v" (words "x")) "v" (codes "x") []
-  pub error_shown : Gives taken_back (with "v" error_value) "v" [] []
-  pub none_shown : Gives taken_back (with "v" no_value) "v" [] []
-  pub number_and_message : Gives isolated_again [] "p" (codes "x" ++ (F ++ (codes "1" ++ (P ++ codes "y")))) []
+  pub text_not_asked : MessageGives kinds [] "text" (codes "x") []
+  pub literal_not_asked : MessageGives kinds [] "string" (codes "x") []
+  pub number_asked : MessageGives kinds [] "number" (codes "N") []
+  pub word_asked : MessageGives kinds [] "word" (codes "T") []
+  pub custom_asked : MessageGives kinds (with "v" (custom_value only)) "variable" (codes "C") []
+  pub none_asked : MessageGives kinds (with "v" no_value) "variable" (codes "none") []
+  pub error_asked : MessageGives kinds (with "v" error_value) "variable" (codes "error") []
+  pub nested_not_asked : MessageGives kinds [] "nested" (codes "x") []
+  pub answer_asked : MessageGives kinds [] "answer" (codes "T") []
+  pub answer_of_error_not_asked : MessageGives kinds [] "function" (codes "F()") []
+  pub no_transform_again : MessageGives taken_back [] "p" (codes "x") []
+  pub no_formatter_again : MessageGives taken_back (with "v" (words "x")) "v" (codes "x") []
+  pub error_shown : MessageGives taken_back (with "v" error_value) "v" [] []
+  pub none_shown : MessageGives taken_back (with "v" no_value) "v" [] []
+  pub number_and_message : MessageGives isolated_again [] "p" (codes "x" ++ (F ++ (codes "1" ++ (P ++ codes "y")))) []
 
 -- A, U+1F602, a backslash, a quote, U+FFFD
 pub record Escapes : Type 0 where
@@ -95,8 +95,8 @@ pub record Escapes : Type 0 where
   pub unknown_letter : unescaped (codes "\\q") ≡ 0xef ∷ 0xbf ∷ 0xbd ∷ 113 ∷ []
   pub too_short : unescaped (codes "\\u00") ≡ 0xef ∷ 0xbf ∷ 0xbd ∷ 117 ∷ 48 ∷ 48 ∷ []
   pub at_the_end : unescaped (codes "\\") ≡ 0xef ∷ 0xbf ∷ 0xbd ∷ []
-  pub literal : Gives (source (entry "p" (put (str "\\u0041") ∷ []) ∷ [])) [] "p" (codes "A") []
-  pub not_a_text : Gives (source (entry "p" (say "\\u0041" ∷ []) ∷ [])) [] "p" (codes "\\u0041") []
+  pub literal : MessageGives (source (entry "p" (put (str "\\u0041") ∷ []) ∷ [])) [] "p" (codes "A") []
+  pub not_a_text : MessageGives (source (entry "p" (say "\\u0041" ∷ []) ∷ [])) [] "p" (codes "\\u0041") []
 
 abbrev pub half : ℤ
 half = pos (5 * 10 ^ 17)
@@ -187,14 +187,14 @@ two_defaults = pattern_of (choose (str "z") (case "a" (say "1" ∷ []) ∷ defau
 
 -- selects, plural categories and NUMBER
 pub record Selects : Type 0 where
-  pub first : Gives ranks (with "n" (whole 1)) "rank" (F ++ (codes "1" ++ (P ++ codes "st"))) []
-  pub fifth : Gives ranks (with "n" (whole 5)) "rank" (F ++ (codes "5" ++ (P ++ codes "th"))) []
-  pub twelfth : Gives ranks (with "n" (whole 12)) "rank" (F ++ (codes "12" ++ (P ++ codes "th"))) []
-  pub twenty_second : Gives ranks (with "n" (whole 22)) "rank" (F ++ (codes "22" ++ (P ++ codes "nd"))) []
-  pub no_digits : Gives decimals [] "none" (codes "5.") []
-  pub most_digits : Gives decimals [] "most" (codes "5." ++ many 18 "0") []
-  pub one_with_a_zero : Gives decimals [] "one" (codes "c") []
-  pub no_number : Gives decimals [] "word" (codes "abc") []
-  pub without_default : Writes decimals [] no_default [] (codes "Resolver error: No default" ∷ [])
-  pub first_default : Writes decimals [] two_defaults (codes "2") []
-  pub written_order : Writes decimals (with "n" (whole 1)) words_first (codes "a") []
+  pub first : MessageGives ranks (with "n" (whole 1)) "rank" (F ++ (codes "1" ++ (P ++ codes "st"))) []
+  pub fifth : MessageGives ranks (with "n" (whole 5)) "rank" (F ++ (codes "5" ++ (P ++ codes "th"))) []
+  pub twelfth : MessageGives ranks (with "n" (whole 12)) "rank" (F ++ (codes "12" ++ (P ++ codes "th"))) []
+  pub twenty_second : MessageGives ranks (with "n" (whole 22)) "rank" (F ++ (codes "22" ++ (P ++ codes "nd"))) []
+  pub no_digits : MessageGives decimals [] "none" (codes "5.") []
+  pub most_digits : MessageGives decimals [] "most" (codes "5." ++ many 18 "0") []
+  pub one_with_a_zero : MessageGives decimals [] "one" (codes "c") []
+  pub no_number : MessageGives decimals [] "word" (codes "abc") []
+  pub without_default : PatternWrites decimals [] no_default [] (codes "Resolver error: No default" ∷ [])
+  pub first_default : PatternWrites decimals [] two_defaults (codes "2") []
+  pub written_order : PatternWrites decimals (with "n" (whole 1)) words_first (codes "a") []

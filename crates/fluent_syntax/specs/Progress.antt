@@ -17,8 +17,8 @@ abbrev pub closes_pattern : ℕ → Bool
 closes_pattern c = ((c == 91 || c == 42) || c == 46) || c == 125
 
 -- where neither text nor a brace stands next, no line that follows goes on with the pattern
-abbrev pub Ends : List ℕ → Type 0
-Ends s = run_len is_text s ≡ 0 → (first s == 123) ≡ false → (n : ℕ) → pattern_element (level n).braces s ≡ None
+abbrev pub LineEndsPattern : List ℕ → Type 0
+LineEndsPattern s = run_len is_text s ≡ 0 → (first s == 123) ≡ false → (n : ℕ) → pattern_element (level n).braces s ≡ None
 
 -- these pieces and those that follow them
 abbrev pub goes_on : ℕ → List Piece → Parser (List Piece)
@@ -58,7 +58,7 @@ abbrev pub hole_pieces : ℕ → Parser (List Piece)
 hole_pieces n = ((λ x. hole x ∷ []) <$> (level n).braces) <|> block_placeable (level n).braces
 
 -- the pieces that were read, one at least, stand behind those that were there
-abbrev pub Adds : Result (Bor (List ℕ)) Stop → List Piece → List Piece → Read (List Piece) → Type 0
-Adds (Ok rest) old new r = (q : Piece) × (qs : List Piece) × (r ≡ Some (q ∷ qs, rest.now)) × (new ≡ old ++ q ∷ qs)
-Adds (Err Absent) old new r = (r ≡ None) × (new ≡ old)
-Adds (Err Memory) old new r = Unit {0}
+abbrev pub PushesPieces : Result (Bor (List ℕ)) Stop → List Piece → List Piece → Read (List Piece) → Type 0
+PushesPieces (Ok rest) old new r = (q : Piece) × (qs : List Piece) × (r ≡ Some (q ∷ qs, rest.now)) × (new ≡ old ++ q ∷ qs)
+PushesPieces (Err Absent) old new r = (r ≡ None) × (new ≡ old)
+PushesPieces (Err Memory) old new r = Unit {0}

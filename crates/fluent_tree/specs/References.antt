@@ -79,5 +79,5 @@ abbrev pub nameds_view : List of_named.NamedArgument → Nameds
 nameds_view ns = nameds_of (map named_view ns)
 
 -- the new list is the old one with these behind it
-abbrev pub Adds : Vec code.Reference Global → Vec code.Reference Global → List Reference → Type 0
-Adds old new these = references_view new ≡ references_view old ++ these
+abbrev pub AddsReferences : Vec code.Reference Global → Vec code.Reference Global → List Reference → Type 0
+AddsReferences old new these = references_view new ≡ references_view old ++ these

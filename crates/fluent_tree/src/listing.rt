@@ -2,7 +2,7 @@
 
 ghost use Rattle.std.specs.Prelude.{◌≡◌, IfOk, OnOk};
 ghost use Rattle.fluent_tree.specs.View.{arguments_view, expression_view, inline_view, pattern_view};
-ghost use Rattle.fluent_tree.specs.References.{Adds, in_arguments, in_expression, in_inline, in_named, in_positional, in_variants, inlines_view, nameds_view, references, references_view, variants_view};
+ghost use Rattle.fluent_tree.specs.References.{AddsReferences, in_arguments, in_expression, in_inline, in_named, in_positional, in_variants, inlines_view, nameds_view, references, references_view, variants_view};
 
 use crate::ast::{
     CallArguments, Expression, InlineExpression, NamedArgument, Pattern, PatternElement, Variant,
@@ -37,7 +37,7 @@ pub fn references<'s>(
 #[cycle(listing)]
 #[tactic(auto, using(crate::proofs::Listed::listed))]
 fn add_pattern<'s>(list: &mut Vec<Reference<'s>>, pattern: &Pattern<'s>) -> Result<(), AllocError>
-    ensures { OnOk result (Adds list.old list.new (references (pattern_view pattern.now))) }
+    ensures { OnOk result (AddsReferences list.old list.new (references (pattern_view pattern.now))) }
 {
     for element in &pattern.elements {
         if let PatternElement::Placeable { expression } = element {
@@ -54,7 +54,7 @@ fn add_expression<'s>(
     expression: &Expression<'s>,
 ) -> Result<(), AllocError>
     ensures { OnOk result
-        (Adds list.old list.new (in_expression (expression_view expression.now))) }
+        (AddsReferences list.old list.new (in_expression (expression_view expression.now))) }
 {
     match expression {
         Expression::Inline(inline) => add_inline(list, inline),
@@ -71,7 +71,7 @@ fn add_variants<'s>(
     list: &mut Vec<Reference<'s>>,
     variants: &[Variant<'s>],
 ) -> Result<(), AllocError>
-    ensures { OnOk result (Adds list.old list.new (in_variants (variants_view variants.now))) }
+    ensures { OnOk result (AddsReferences list.old list.new (in_variants (variants_view variants.now))) }
 {
     for variant in variants {
         add_pattern(list, &variant.value)?;
@@ -85,7 +85,7 @@ fn add_inline<'s>(
     list: &mut Vec<Reference<'s>>,
     inline: &InlineExpression<'s>,
 ) -> Result<(), AllocError>
-    ensures { OnOk result (Adds list.old list.new (in_inline (inline_view inline.now))) }
+    ensures { OnOk result (AddsReferences list.old list.new (in_inline (inline_view inline.now))) }
 {
     match inline {
         InlineExpression::FunctionReference { id, arguments } => {
@@ -116,7 +116,7 @@ fn add_arguments<'s>(
     list: &mut Vec<Reference<'s>>,
     arguments: &CallArguments<'s>,
 ) -> Result<(), AllocError>
-    ensures { OnOk result (Adds list.old list.new (in_arguments (arguments_view arguments.now))) }
+    ensures { OnOk result (AddsReferences list.old list.new (in_arguments (arguments_view arguments.now))) }
 {
     add_positional(list, &arguments.positional)?;
     add_named(list, &arguments.named)
@@ -128,7 +128,7 @@ fn add_positional<'s>(
     list: &mut Vec<Reference<'s>>,
     positional: &[InlineExpression<'s>],
 ) -> Result<(), AllocError>
-    ensures { OnOk result (Adds list.old list.new (in_positional (inlines_view positional.now))) }
+    ensures { OnOk result (AddsReferences list.old list.new (in_positional (inlines_view positional.now))) }
 {
     for argument in positional {
         add_inline(list, argument)?;
@@ -142,7 +142,7 @@ fn add_named<'s>(
     list: &mut Vec<Reference<'s>>,
     named: &[NamedArgument<'s>],
 ) -> Result<(), AllocError>
-    ensures { OnOk result (Adds list.old list.new (in_named (nameds_view named.now))) }
+    ensures { OnOk result (AddsReferences list.old list.new (in_named (nameds_view named.now))) }
 {
     for argument in named {
         add_inline(list, &argument.value)?;

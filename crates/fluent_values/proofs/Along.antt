@@ -8,8 +8,8 @@ use Rattle.fluent_meaning.specs.Errors.{Error}
 use Rattle.fluent_meaning.specs.Meaning.{Budget, after_errors}
 use Rattle.fluent_meaning.specs.Work.{Worked, together}
 use Rattle.fluent_values.specs.Status.{Status, Keeps}
-use Rattle.fluent_values.specs.Along.{Walk, walked, from_here, given, trace, adding, Passed, Along, Went, Wrote, Gave, Added}
-use Rattle.fluent_values.specs.Written.{Sink, Took, CountsTell}
+use Rattle.fluent_values.specs.Along.{Walk, walked, from_here, given, trace, adding, Passed, Along, Went, Wrote, Gave, ReportsIfOk}
+use Rattle.fluent_values.specs.Written.{Sink, SinkTook, CountsTell}
 use Rattle.fluent_values.proofs.Cases.{sequence, prepend, tells, and_then, given_first}
 use Rattle.fluent_values.proofs.Took.{appends_none, appends_on, faulted_on, at_ok, never}
 use Rattle.fluent_values.proofs.Passing.{keeps_on, moved, passed_none, passed_adds, passed_refused, passed_on, passed_lent}
@@ -51,7 +51,7 @@ passes h f x = record {
 }
 
 -- a text is written
-pub put : {T : Type 0} {r : Result T Halt} {x : T} {all : Worked Text} {t : Text} {w w1 w2 : Sink} {a b : Status} (rest : Worked Text) → Took r t w1 w2 → Along (Ok x) all (prepend t rest) w w1 a b → Went r all rest w w2 a b
+pub put : {T : Type 0} {r : Result T Halt} {x : T} {all : Worked Text} {t : Text} {w w1 w2 : Sink} {a b : Status} (rest : Worked Text) → SinkTook r t w1 w2 → Along (Ok x) all (prepend t rest) w w1 a b → Went r all rest w w2 a b
 put {r = r} {x = x} {t = t} {w = w} {w1 = w1} {w2 = w2} rest k h = record {
   left = prepend k.left rest;
   along = record {
@@ -67,11 +67,11 @@ put {r = r} {x = x} {t = t} {w = w} {w1 = w1} {w2 = w2} rest k h = record {
 }
 
 -- errors are added
-pub adds : {S E T : Type 0} {q : Result S E} {y : S} {x : T} {all : Worked Text} {es : List Error} {w w1 : Sink} {a b c : Status} (rest : Worked Text) → q ≡ Ok y → Added q es b c → Along (Ok x) all (tells es rest) w w1 a b → Along (Ok x) all rest w w1 a c
+pub adds : {S E T : Type 0} {q : Result S E} {y : S} {x : T} {all : Worked Text} {es : List Error} {w w1 : Sink} {a b c : Status} (rest : Worked Text) → q ≡ Ok y → ReportsIfOk q es b c → Along (Ok x) all (tells es rest) w w1 a b → Along (Ok x) all rest w w1 a c
 adds rest is k h = passes refl (passed_adds (trace rest) is k) h
 
 -- they could not be added, for want of memory
-pub refused : {S E T : Type 0} {q : Result S E} {y : E} {x : T} {r : Result T Halt} {all rest : Worked Text} {es : List Error} {w w1 : Sink} {a b c : Status} → q ≡ Err y → r ≡ Err Memory → Added q es b c → Along (Ok x) all rest w w1 a b → Along r all rest w w1 a c
+pub refused : {S E T : Type 0} {q : Result S E} {y : E} {x : T} {r : Result T Halt} {all rest : Worked Text} {es : List Error} {w w1 : Sink} {a b c : Status} → q ≡ Err y → r ≡ Err Memory → ReportsIfOk q es b c → Along (Ok x) all rest w w1 a b → Along r all rest w w1 a c
 refused {w = w} {w1 = w1} was is k h = record {
   taken = h.taken;
   held = h.held;
@@ -172,11 +172,11 @@ pub stops : {T : Type 0} {r r' : Result T Halt} {e : Halt} {walk : Walk Text} {r
 stops {walk = walk} {w = w} {w' = w'} {a = a} {b = b} was is h = halts is (subst (λ r. Along r (from_here a walk) h.left w w' a b) (was ∙ sym is) h.along)
 
 -- the last text
-pub puts_last : {T : Type 0} {r : Result T Halt} {x : T} {all : Worked Text} {t : Text} {w w1 w2 : Sink} {a b : Status} → Took r t w1 w2 → Along (Ok x) all (given t b.budget) w w1 a b → Went r all (given [] b.budget) w w2 a b
+pub puts_last : {T : Type 0} {r : Result T Halt} {x : T} {all : Worked Text} {t : Text} {w w1 w2 : Sink} {a b : Status} → SinkTook r t w1 w2 → Along (Ok x) all (given t b.budget) w w1 a b → Went r all (given [] b.budget) w w2 a b
 puts_last {t = t} {b = b} k h = put (given [] b.budget) k (turns (ap (λ x. given x b.budget) (sym (append-nil t))) h)
 
 -- an error could not be added for want of memory, and nothing more
-pub refuses : {S E T : Type 0} {q : Result S E} {y : E} {x : T} {r : Result T Halt} {walk : Walk Text} {rest : Worked Text} {es : List Error} {w w1 : Sink} {a b c : Status} → q ≡ Err y → r ≡ Err Memory → Added q es b c → Along (Ok x) (from_here a walk) rest w w1 a b → Wrote r walk w w1 a c
+pub refuses : {S E T : Type 0} {q : Result S E} {y : E} {x : T} {r : Result T Halt} {walk : Walk Text} {rest : Worked Text} {es : List Error} {w w1 : Sink} {a b c : Status} → q ≡ Err y → r ≡ Err Memory → ReportsIfOk q es b c → Along (Ok x) (from_here a walk) rest w w1 a b → Wrote r walk w w1 a c
 refuses was is k h = halts is (refused was is k h)
 
 -- memory was refused before anything was written

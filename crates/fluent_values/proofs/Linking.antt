@@ -10,7 +10,7 @@ use Rattle.fluent_tree.specs.declared.ast.Attribute.{Attribute}
 use Rattle.fluent_tree.specs.declared.ast.Pattern as code
 use Rattle.fluent_links.specs.Classes.{Grows, HasClass}
 use Rattle.fluent_links.specs.Linked.{IsOf, still_of}
-use Rattle.fluent_links.specs.Links.{Keeps}
+use Rattle.fluent_links.specs.Links.{KeepsNumbers}
 use Rattle.fluent_links.specs.Slots.{named, number}
 use Rattle.fluent_links.specs.declared.linked.Linked.{Linked}
 use Rattle.fluent_values.specs.declared.slot.Slot.{Slot}
@@ -22,19 +22,19 @@ some_is x y h = ap (λ o. unwrap_or o x) h
 none_is : {A : Type 0} (o : Option A) (x : A) → o ≡ None → o ≡ Some x → ⊥
 none_is o x h k = let e : None ≡ Some x = sym h ∙ k in cc
 
-pub kept_by : (n n' : Text → Option ℕ) → ((id : Text) → n' id ≡ n id) → Keeps n n'
+pub kept_by : (n n' : Text → Option ℕ) → ((id : Text) → n' id ≡ n id) → KeepsNumbers n n'
 kept_by n n' same = λ id k h. same id ∙ h
 
 pub grows_by : (t t' : List Pattern) → t' ≡ t → Grows t t'
 grows_by t t' same = λ c p h. subst (λ t. HasClass t c p) (sym same) h
 
-pub keeps_twice : (a b c : Text → Option ℕ) → Keeps a b → Keeps b c → Keeps a c
+pub keeps_twice : (a b c : Text → Option ℕ) → KeepsNumbers a b → KeepsNumbers b c → KeepsNumbers a c
 keeps_twice a b c h k = λ id n at. k id n (h id n at)
 
 pub grows_twice : (a b c : List Pattern) → Grows a b → Grows b c → Grows a c
 grows_twice a b c h k = λ n p at. k n p (h n p at)
 
-module _ (n n' : Text → Option ℕ) (t t' : List Pattern) (kept : Keeps n n') (grows : Grows t t') where
+module _ (n n' : Text → Option ℕ) (t t' : List Pattern) (kept : KeepsNumbers n n') (grows : Grows t t') where
   still_kept : (ps : List Pattern) (ls : List Linked) → AreKept n t ps ls → AreKept n' t' ps ls
   still_kept ps ls h = record {
     count = h.count;
@@ -112,7 +112,7 @@ module _ {F : Type 0} where
   none_linked ss t h = λ id s at. absurd (none_is (named id ss) s (ap (named id) h) at)
 
   -- slots of which each id names the same
-  pub same_linked : (ss ts : List (Text × Option (Slot F))) (t t' : List Pattern) → Keeps (number ss) (number ts) → Grows t t' → ((q : Text) → named q ts ≡ named q ss) → AreLinked ss t → AreLinked ts t'
+  pub same_linked : (ss ts : List (Text × Option (Slot F))) (t t' : List Pattern) → KeepsNumbers (number ss) (number ts) → Grows t t' → ((q : Text) → named q ts ≡ named q ss) → AreLinked ss t → AreLinked ts t'
   same_linked ss ts t t' kept grows same h = λ id s at. still_linked (number ss) (number ts) t t' kept grows s (h id s (sym (same id) ∙ at))
 
   either : (b : Bool) (n : Text → Option ℕ) (t : List Pattern) (x s : Slot F) (o : Option (Slot F)) → IsLinked n t x → (o ≡ Some s → IsLinked n t s) → cond b (Some x) o ≡ Some s → IsLinked n t s

@@ -8,7 +8,7 @@ use Rattle.fluent_tree.specs.declared.ast.PatternElement.{PatternElement}
 use Rattle.fluent_meaning.specs.Arguments.{get}
 use Rattle.fluent_meaning.specs.Bundle.{Bundle, message_target, term_target}
 use Rattle.fluent_meaning.specs.Meaning.{Budget, left, struck, at_most}
-use Rattle.fluent_values.specs.Along.{can_open, less_one, Takes, Elsewhere}
+use Rattle.fluent_values.specs.Along.{can_open, less_one, TakesOne, Elsewhere}
 use Rattle.fluent_values.specs.Sizes.{size, element_size, inline_size, inlines_size, nameds_size, variants_size, bound, IsBelow}
 use Rattle.fluent_values.specs.Choice.{first_default, choice}
 use Rattle.fluent_values.specs.Status.{Status, Keeps}
@@ -42,7 +42,7 @@ pub kept_weight : {a b : Status} (x y : ℕ) → Keeps a b → x < y → weight 
 kept_weight {a = a} {b = b} x y kept small = less_weight a.bundle b.bundle x y (1 + at_most b.budget) (1 + at_most a.budget) kept.bundle small (omega (arith, kept.less))
 
 -- a smaller tree, after a placeable was opened
-pub taken_weight : {r : Bool} {a b : Status} (x y : ℕ) → r ≡ true → Takes r a b → x < y → weight (2 + bound b.bundle) x (1 + at_most b.budget) < weight (2 + bound a.bundle) y (at_most a.budget)
+pub taken_weight : {r : Bool} {a b : Status} (x y : ℕ) → r ≡ true → TakesOne r a b → x < y → weight (2 + bound b.bundle) x (1 + at_most b.budget) < weight (2 + bound a.bundle) y (at_most a.budget)
 taken_weight {a = a} {b = b} x y is takes small =
     let fewer : 1 + at_most b.budget ≡ at_most a.budget = at_true is takes.fewer in
     less_weight a.bundle b.bundle x y (1 + at_most b.budget) (at_most a.budget) takes.keeps.bundle small (omega (arith, fewer))

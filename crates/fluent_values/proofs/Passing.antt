@@ -6,7 +6,7 @@ use Rattle.fluent_meaning.specs.Meaning.{Budget, at_most}
 use Rattle.fluent_meaning.specs.Work.{work}
 use Rattle.fluent_values.specs.Status.{Status, Tally, counted, with_errors, Keeps}
 use Rattle.fluent_values.specs.Trail.{on_path}
-use Rattle.fluent_values.specs.Along.{Walk, walked, from_here, Trace, follows, adding, Reports, Passed, Elsewhere, Added, Takes}
+use Rattle.fluent_values.specs.Along.{Walk, walked, from_here, Trace, follows, adding, Reports, Passed, Elsewhere, ReportsIfOk, TakesOne}
 
 -- SCOPES
 
@@ -86,7 +86,7 @@ pub passed_counts : {all rest rest' : Trace} {a b c : Status} → c.errors ≡ b
 passed_counts h e n t k x = record { added = x.added; list = h ∙ x.list; errors = ap (λ es. x.added ++ es) e ∙ x.errors; budget = n ∙ x.budget; tally = t ∙ x.tally; keeps = k }
 
 -- errors are added
-pub passed_adds : {E T : Type 0} {q : Result T E} {y : T} {all : Trace} {es : List Error} {a b c : Status} (rest : Trace) → q ≡ Ok y → Added q es b c → Passed all (telling es rest) a b → Passed all rest a c
+pub passed_adds : {E T : Type 0} {q : Result T E} {y : T} {all : Trace} {es : List Error} {a b c : Status} (rest : Trace) → q ≡ Ok y → ReportsIfOk q es b c → Passed all (telling es rest) a b → Passed all rest a c
 passed_adds {q = q} {y = y} {es = es} {a = a} {b = b} {c = c} rest is k h = record {
   added = h.added ++ es;
   list = adds_on a b c h.added es h.list (subst (λ r. OnOk r (Reports b c es)) is k.added);
@@ -97,7 +97,7 @@ passed_adds {q = q} {y = y} {es = es} {a = a} {b = b} {c = c} rest is k h = reco
 }
 
 -- or they could not be added
-pub passed_refused : {E T : Type 0} {q : Result T E} {y : E} {all rest : Trace} {es : List Error} {a b c : Status} → q ≡ Err y → Added q es b c → Passed all rest a b → Passed all rest a c
+pub passed_refused : {E T : Type 0} {q : Result T E} {y : E} {all rest : Trace} {es : List Error} {a b c : Status} → q ≡ Err y → ReportsIfOk q es b c → Passed all rest a b → Passed all rest a c
 passed_refused {q = q} {y = y} {rest = rest} {a = a} {b = b} {c = c} is k h = record {
   added = h.added;
   list = subst (Reports a c) (append-nil h.added) (adds_on a b c h.added [] h.list (subst (λ r. OnErr r (Reports b c [])) is k.refused));
@@ -186,9 +186,9 @@ at_false : {P : Type 0} {r : Bool} → r ≡ false → OnFalse r P → P
 at_false {P = P} h k = subst (λ r. OnFalse r P) h k
 
 -- one was taken from the budget, and so one more placeable is counted
-pub opened_on : {r : Bool} {a c : Status} (t : Trace) → r ≡ true → Takes r a c → adding c.tally t ≡ adding a.tally (record { errors = t.errors; budget = t.budget; opened = t.opened + 1; longest = t.longest; entered = t.entered })
+pub opened_on : {r : Bool} {a c : Status} (t : Trace) → r ≡ true → TakesOne r a c → adding c.tally t ≡ adding a.tally (record { errors = t.errors; budget = t.budget; opened = t.opened + 1; longest = t.longest; entered = t.entered })
 opened_on {a = a} t is k = ap (λ n. adding n t) (at_true is k.opened) ∙ opened_counts a.tally t
 
 -- none was left to take
-pub struck_same : {r : Bool} {a c : Status} → r ≡ false → Takes r a c → c.tally ≡ a.tally
+pub struck_same : {r : Bool} {a c : Status} → r ≡ false → TakesOne r a c → c.tally ≡ a.tally
 struck_same is k = at_false is k.same

@@ -21,7 +21,7 @@ use Rattle.fluent_meaning.specs.Meaning.{Budget, struck}
 use Rattle.fluent_meaning.specs.Walk.{Environment, is_on, inner, go, whole, local_of, application, local, variables, missing, loses, variable_text, variable_value, function_text, answer_text, elements, part, expression, written, resolved, positional, named, follow, has_one, function_value, called}
 use Rattle.fluent_meaning.specs.Work.{Worked, with_work, work}
 use Rattle.fluent_meaning.specs.Laws.{CountsByItself}
-use Rattle.fluent_values.specs.Along.{Below, Walk, walked, from_here, given, mapping, lost_of, shown_answer, Elsewhere, Starts, Ends}
+use Rattle.fluent_values.specs.Along.{Below, Walk, walked, from_here, given, mapping, lost_of, shown_answer, Elsewhere, StartsPattern, EndsPattern}
 use Rattle.fluent_values.specs.Choice.{choice, choosing, first_default}
 use Rattle.fluent_values.specs.Status.{Status}
 use Rattle.fluent_values.specs.Trail.{on_path, content_at}
@@ -31,7 +31,7 @@ use Rattle.fluent_values.specs.declared.types.value.FluentValue.{FluentValue}
 use Rattle.fluent_values.specs.declared.types.value.FluentValue.TheVariants as values
 use Rattle.fluent_values.proofs.Cases.{sequence, prepend, and_then, elements_end, elements_struck, elements_more, part_text, positional_none, positional_more, named_none, named_more, given_first, tells, loses_is, written_variable, variable_text_some, variable_text_none, missing_application, missing_local, resolved_variable, variable_value_some, variable_value_none, function_text_none, function_text_some, expression_inline, expression_select, chosen, chosen_is, meant, entering, go_cyclic, go_entered, whole_is, written_term, written_function, and_then_is, mapping_then, then_give, called_is}
 use Rattle.fluent_values.proofs.Views.{view_pattern, view_named, view_in, view_arguments}
-use Rattle.fluent_values.specs.Texts.{IsText}
+use Rattle.fluent_values.specs.Texts.{IsTextAlone}
 
 -- LISTS
 
@@ -329,7 +329,7 @@ begun_at a b p begun before =
     ∙ ap (λ n. entering (length (inner (on_path a.path) p)) (elements with_work a.bundle (work a.bundle) a.environment (inner (on_path a.path) p) (has_one p) p n)) before.budget)
 
 -- the path is as it was before a pattern began
-pub back : (begun : Bool) (p : Pattern) {a b d e : Status} → Starts begun p a b → d.path ≡ b.path → Ends begun d e → e.path ≡ a.path
+pub back : (begun : Bool) (p : Pattern) {a b d e : Status} → StartsPattern begun p a b → d.path ≡ b.path → EndsPattern begun d e → e.path ≡ a.path
 back true p h k j = j.off ∙ sym h.put
 back false p h k j = j.kept ∙ k ∙ h.kept
 
@@ -368,16 +368,16 @@ inside_at a c x t at m g hb hp he hg =
     ∙ ap (λ g. follow with_work a.bundle (work a.bundle) (local m) (local m) (on_path a.path) x t g c.budget) hg)
 
 -- a pattern of texts alone has no placeable
-pub no_placeable : (es : List PatternElement) (i : ℕ) (e : PatternElement) (x : Expression) → IsText (pattern_of (map element_view es)) → i < length es → e ≡ get_or es i e → element_view e ≡ placeable x → ⊥
+pub no_placeable : (es : List PatternElement) (i : ℕ) (e : PatternElement) (x : Expression) → IsTextAlone (pattern_of (map element_view es)) → i < length es → e ≡ get_or es i e → element_view e ≡ placeable x → ⊥
 no_placeable [] i e x t h is p = absurd (omega arith)
 no_placeable (y ∷ es) zero e x t h is p = first_text (element_view y) t (ap element_view (sym is) ∙ p)
   where
-    first_text : (v : Element) → IsText (more v (pattern_of (map element_view es))) → v ≡ placeable x → ⊥
+    first_text : (v : Element) → IsTextAlone (more v (pattern_of (map element_view es))) → v ≡ placeable x → ⊥
     first_text (text s) t p = cc
     first_text (placeable z) t p = cc
 no_placeable (y ∷ es) (suc i) e x t h is p = no_placeable es i e x (rest_text (element_view y) t) (omega arith) is p
   where
-    rest_text : (v : Element) → IsText (more v (pattern_of (map element_view es))) → IsText (pattern_of (map element_view es))
+    rest_text : (v : Element) → IsTextAlone (more v (pattern_of (map element_view es))) → IsTextAlone (pattern_of (map element_view es))
     rest_text (text s) t = t
     rest_text (placeable z) t = cc
 

@@ -4,7 +4,7 @@ use Rattle.fluent_tree.specs.Tree.{Text, Expression, text, placeable, more, patt
 use Rattle.fluent_tree.specs.View.{element_view}
 use Rattle.fluent_tree.specs.declared.ast.PatternElement.{PatternElement}
 use Rattle.fluent_values.specs.Texts.{texts_of}
-use Rattle.fluent_values.specs.Written.{Sink, Took}
+use Rattle.fluent_values.specs.Written.{Sink, SinkTook}
 use Rattle.fluent_values.proofs.Steps.{next_of, none_left}
 use Rattle.fluent_values.proofs.Took.{appends_none, took_same, took_whole}
 
@@ -23,5 +23,5 @@ placeable_next es i e x h is p = sym (
     ∙ ap (λ v. texts_of (more v (pattern_of (map element_view (drop (i + 1) es))))) p)
 
 -- behind the last element nothing is left to take
-pub none_to_take : (es : List PatternElement) (i : ℕ) (w : Sink) → length es ≤ i → Took {T = Unit {0}} (Ok tt) (texts_from es i) w w
+pub none_to_take : (es : List PatternElement) (i : ℕ) (w : Sink) → length es ≤ i → SinkTook {T = Unit {0}} (Ok tt) (texts_from es i) w w
 none_to_take es i w h = took_same (sym (ap (λ es. texts_of (pattern_of (map element_view es))) (none_left es i h))) (took_whole [] w w (appends_none w.held) (refl, refl) refl refl)

@@ -7,7 +7,7 @@ use Rattle.fluent_text.specs.declared.counting.WriteFault.{WriteFault}
 use Rattle.fluent_text.specs.declared.counting.WriteFault.TheVariants as fault
 use Rattle.fluent_values.specs.declared.resolver.output.Halt.{Halt}
 use Rattle.fluent_values.specs.declared.resolver.output.Halt.TheVariants.{Memory}
-use Rattle.fluent_values.specs.Written.{Sink, Took, CountsTell, without_error}
+use Rattle.fluent_values.specs.Written.{Sink, SinkTook, CountsTell, without_error}
 
 -- known bytes that grow twice grow by both
 pub appends_on : (o p q : Option Text) (xs ys : Text) → Appends o p xs → Appends p q ys → Appends o q (xs ++ ys)
@@ -31,11 +31,11 @@ pub never : {A E : Type 0} (P : Type 0) {r : Result A E} {e : E} → r ≡ Err e
 never P h = subst (λ r. OnOk r P) (sym h) tt
 
 -- the same text, said otherwise
-pub took_same : {T : Type 0} {r : Result T Halt} {t t' : Text} {w w' : Sink} → t ≡ t' → Took r t w w' → Took r t' w w'
+pub took_same : {T : Type 0} {r : Result T Halt} {t t' : Text} {w w' : Sink} → t ≡ t' → SinkTook r t w w' → SinkTook r t' w w'
 took_same h k = record { taken = k.taken; left = k.left; held = k.held; begins = k.begins ∙ h; done = k.done; fault = k.fault; beside = k.beside; lent = k.lent }
 
 -- one text, and then another
-pub took_on : {T : Type 0} {q r : Result T Halt} {x : T} {t t' : Text} {w w1 w2 : Sink} → q ≡ Ok x → Took q t w w1 → Took r t' w1 w2 → Took r (t ++ t') w w2
+pub took_on : {T : Type 0} {q r : Result T Halt} {x : T} {t t' : Text} {w w1 w2 : Sink} → q ≡ Ok x → SinkTook q t w w1 → SinkTook r t' w1 w2 → SinkTook r (t ++ t') w w2
 took_on {q = q} {r = r} {x = x} {t = t} {t' = t'} {w = w} {w1 = w1} {w2 = w2} is h k =
     let whole : h.taken ≡ t = sym (append-nil h.taken) ∙ ap (λ l. h.taken ++ l) (sym (at_ok is h.done)) ∙ h.begins in
     record {
@@ -50,7 +50,7 @@ took_on {q = q} {r = r} {x = x} {t = t} {t' = t'} {w = w} {w1 = w1} {w2 = w2} is
     }
 
 -- a fault, and nothing more of what was to come
-pub took_stops : {T : Type 0} {r r' : Result T Halt} {e : Halt} {t : Text} {w w' : Sink} (t' : Text) → r ≡ Err e → r' ≡ Err e → Took r t w w' → Took r' (t ++ t') w w'
+pub took_stops : {T : Type 0} {r r' : Result T Halt} {e : Halt} {t : Text} {w w' : Sink} (t' : Text) → r ≡ Err e → r' ≡ Err e → SinkTook r t w w' → SinkTook r' (t ++ t') w w'
 took_stops {r = r} {r' = r'} {w = w} {w' = w'} t' was is h =
     let same : r ≡ r' = was ∙ sym is in
     record {
@@ -65,12 +65,12 @@ took_stops {r = r} {r' = r'} {w = w} {w' = w'} t' was is h =
     }
 
 -- the last of the texts met a fault
-pub took_fails : {T : Type 0} {r r' : Result T Halt} {e : Halt} {t : Text} {w w' : Sink} → r ≡ Err e → r' ≡ Err e → Took r t w w' → Took r' t w w'
-took_fails {t = t} {w = w} {w' = w'} was is h = subst (λ r. Took r t w w') (was ∙ sym is) h
+pub took_fails : {T : Type 0} {r r' : Result T Halt} {e : Halt} {t : Text} {w w' : Sink} → r ≡ Err e → r' ≡ Err e → SinkTook r t w w' → SinkTook r' t w w'
+took_fails {t = t} {w = w} {w' = w'} was is h = subst (λ r. SinkTook r t w w') (was ∙ sym is) h
 
 -- the last of the texts was taken
-pub took_done : {T : Type 0} {r : Result T Halt} {x : T} {t : Text} {w w' : Sink} → r ≡ Ok x → Took r t w w' → Took (Ok x) t w w'
-took_done {t = t} {w = w} {w' = w'} is h = subst (λ r. Took r t w w') is h
+pub took_done : {T : Type 0} {r : Result T Halt} {x : T} {t : Text} {w w' : Sink} → r ≡ Ok x → SinkTook r t w w' → SinkTook (Ok x) t w w'
+took_done {t = t} {w = w} {w' = w'} is h = subst (λ r. SinkTook r t w w') is h
 
 -- the counts tell as much of an answer without the writer's own error
 pub counts_tell : {T : Type 0} (f e f' e' : ℕ) (r : Result T WriteFault) → Faulted f e f' e' r → CountsTell f e f' e' (without_error r)
@@ -94,18 +94,18 @@ stays_memory (Err fault.Zero) h = cc
 stays_memory (Err fault.Memory) h = refl
 
 -- what a call of another crate took
-pub took_by : (r : Result (Unit {0}) WriteFault) (t : Text) (w w' : Sink) → OnOk r (Appends w.held w'.held t) → OnErr r (TookFront w.held w'.held t) → Faulted w.failed w.empty w'.failed w'.empty r → w'.beside ≡ w.beside → w'.lent ≡ w.lent → Took (without_error r) t w w'
+pub took_by : (r : Result (Unit {0}) WriteFault) (t : Text) (w w' : Sink) → OnOk r (Appends w.held w'.held t) → OnErr r (TookFront w.held w'.held t) → Faulted w.failed w.empty w'.failed w'.empty r → w'.beside ≡ w.beside → w'.lent ≡ w.lent → SinkTook (without_error r) t w w'
 took_by (Ok x) t w w' whole front fault beside lent = record { taken = t; left = []; held = whole; begins = append-nil t; done = refl; fault = fault; beside = beside; lent = lent }
 took_by (Err e) t w w' whole front fault beside lent = record { taken = front.0; left = front.1; held = front.3; begins = sym front.2; done = tt; fault = counts_tell {T = Unit {0}} w.failed w.empty w'.failed w'.empty (Err e) fault; beside = beside; lent = lent }
 
 -- the same answer, said otherwise
-pub took_as : {T : Type 0} {r r' : Result T Halt} {t : Text} {w w' : Sink} → r ≡ r' → Took r t w w' → Took r' t w w'
-took_as {t = t} {w = w} {w' = w'} is h = subst (λ r. Took r t w w') is h
+pub took_as : {T : Type 0} {r r' : Result T Halt} {t : Text} {w w' : Sink} → r ≡ r' → SinkTook r t w w' → SinkTook r' t w w'
+took_as {t = t} {w = w} {w' = w'} is h = subst (λ r. SinkTook r t w w') is h
 
 -- a text that a buffer took
-pub took_whole : {T : Type 0} {x : T} (t : Text) (w w' : Sink) → Appends w.held w'.held t → CountsTell w.failed w.empty w'.failed w'.empty (Ok x) → w'.beside ≡ w.beside → w'.lent ≡ w.lent → Took (Ok x) t w w'
+pub took_whole : {T : Type 0} {x : T} (t : Text) (w w' : Sink) → Appends w.held w'.held t → CountsTell w.failed w.empty w'.failed w'.empty (Ok x) → w'.beside ≡ w.beside → w'.lent ≡ w.lent → SinkTook (Ok x) t w w'
 took_whole t w w' held fault beside lent = record { taken = t; left = []; held = held; begins = append-nil t; done = refl; fault = fault; beside = beside; lent = lent }
 
 -- nothing was taken, for want of memory
-pub took_none : {T : Type 0} {r : Result T Halt} (t : Text) (w : Sink) → r ≡ Err Memory → Took r t w w
+pub took_none : {T : Type 0} {r : Result T Halt} (t : Text) (w : Sink) → r ≡ Err Memory → SinkTook r t w w
 took_none t w is = record { taken = []; left = t; held = appends_none w.held; begins = refl; done = never _ is; fault = subst (CountsTell w.failed w.empty w.failed w.empty) (sym is) (refl, refl); beside = refl; lent = refl }

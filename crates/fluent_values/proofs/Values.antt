@@ -9,7 +9,7 @@ use Rattle.fluent_meaning.specs.Errors.{Error}
 use Rattle.fluent_meaning.specs.Meaning.{Budget, after_errors}
 use Rattle.fluent_meaning.specs.Work.{Worked, together}
 use Rattle.fluent_values.specs.Status.{Status}
-use Rattle.fluent_values.specs.Along.{Walk, walked, from_here, given, mapping, trace, Passed, Along, Wrote, Rests, Toward, Got, Gave, Added}
+use Rattle.fluent_values.specs.Along.{Walk, walked, from_here, given, mapping, trace, Passed, Along, Wrote, Rests, Toward, Got, Gave, ReportsIfOk}
 use Rattle.fluent_values.specs.Written.{Sink, CountsTell, writer, beside, at}
 use Rattle.fluent_values.proofs.Along.{asked, turns, halts, at_value}
 use Rattle.fluent_values.proofs.Cases.{tells, and_then, give_then}
@@ -92,10 +92,10 @@ pub gets : {A B S E : Type 0} {q : Result S E} {v : S} {see : S → A} {all : Wo
 gets {v = v} {see = see} {c = c} k is g j = reads (ap (λ l. and_then l k) (at_value (λ x. g.left ≡ given (see x) c.budget) is g.done) ∙ give_then (see v) c.budget k) (gets_part k g j)
 
 -- errors are added, or could not be
-pub tells_on : {A S E : Type 0} {q : Result S E} {y : S} {all : Worked A} {es : List Error} {a b c : Status} (rest : Worked A) → q ≡ Ok y → Added q es b c → Toward all (tells es rest) a b → Toward all rest a c
+pub tells_on : {A S E : Type 0} {q : Result S E} {y : S} {all : Worked A} {es : List Error} {a b c : Status} (rest : Worked A) → q ≡ Ok y → ReportsIfOk q es b c → Toward all (tells es rest) a b → Toward all rest a c
 tells_on rest is k h = record { value = h.value; passed = passed_adds (trace rest) is k h.passed }
 
-pub tells_stops : {A S E : Type 0} {q : Result S E} {y : E} {all rest : Worked A} {es : List Error} {a b c : Status} → q ≡ Err y → Added q es b c → Toward all rest a b → Toward all rest a c
+pub tells_stops : {A S E : Type 0} {q : Result S E} {y : E} {all rest : Worked A} {es : List Error} {a b c : Status} → q ≡ Err y → ReportsIfOk q es b c → Toward all rest a b → Toward all rest a c
 tells_stops was k h = record { value = h.value; passed = passed_refused was k h.passed }
 
 -- ENDS

@@ -6,7 +6,7 @@ use Rattle.fluent_tree.specs.Tree.{Text, Pattern, Entry, message_entry, term_ent
 use Rattle.fluent_tree.specs.View.{entry_view}
 use Rattle.fluent_tree.specs.declared.ast.Entry as code
 use Rattle.fluent_links.specs.Classes.{Grows}
-use Rattle.fluent_links.specs.Links.{Keeps}
+use Rattle.fluent_links.specs.Links.{KeepsNumbers}
 use Rattle.fluent_meaning.specs.Arguments.{Map, set, set_all}
 use Rattle.fluent_meaning.specs.Bundle.{Function, added, overridden, add_free, a_message, a_term}
 use Rattle.fluent_meaning.specs.Bundle as m
@@ -51,7 +51,7 @@ module _ {C : Type 0} where
       ∙ ap given (sym (map_more entry_view es i d lt))
 
 module _ {F : Type 0} where
-  module _ (n n' : Text → Option ℕ) (t t' : List Pattern) (kept : Keeps n n') (grows : Grows t t') where
+  module _ (n n' : Text → Option ℕ) (t t' : List Pattern) (kept : KeepsNumbers n n') (grows : Grows t t') where
     pub ready_still : (rs : List (Ready F)) → AreReady n t rs → AreReady n' t' rs
     ready_still [] h = tt
     ready_still (x ∷ rs) h = (kept (own_id x.slot.entry) x.number h.0, still_linked n n' t t' kept grows x.slot h.1, ready_still rs h.2)

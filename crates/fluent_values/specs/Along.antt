@@ -133,7 +133,7 @@ pub record Gave {A T : Type 0} (result : Result T Halt) (see : T → A) (walk : 
 -- ---- errors
 
 -- These errors were added; or none, where the answer is no Ok.
-pub record Added {T E : Type 0} (result : Result T E) (errors : List Error) (s s' : Status) : Type 0 where
+pub record ReportsIfOk {T E : Type 0} (result : Result T E) (errors : List Error) (s s' : Status) : Type 0 where
   pub added : OnOk result (Reports s s' errors)
   pub refused : OnErr result (Reports s s' [])
   pub budget : s'.budget ≡ s.budget
@@ -156,7 +156,7 @@ shown_answer b x v = shown b v
 -- ---- steps of a scope
 
 -- the state in which a call begins, of this bundle and with these arguments of the application
-pub record Begins (s : Status) (b : Bundle Text) (args : Map (Value Text)) : Type 0 where
+pub record IsAtStart (s : Status) (b : Bundle Text) (args : Map (Value Text)) : Type 0 where
   pub bundle : s.bundle ≡ b
   pub environment : s.environment ≡ application args
   pub path : s.path ≡ []
@@ -174,7 +174,7 @@ pub record Elsewhere (s s' : Status) : Type 0 where
   pub is_plain : s'.is_plain ≡ s.is_plain
 
 -- one was taken from the budget, or it was struck
-pub record Takes (opens : Bool) (s s' : Status) : Type 0 where
+pub record TakesOne (opens : Bool) (s s' : Status) : Type 0 where
   pub budget : s'.budget ≡ less_one s.budget
   pub errors : s'.errors ≡ s.errors
   pub opened : OnTrue opens (s'.tally ≡ record { opened = counted (s.tally.opened + 1); longest = s.tally.longest; entered = s.tally.entered })
@@ -183,7 +183,7 @@ pub record Takes (opens : Bool) (s s' : Status) : Type 0 where
   pub keeps : Keeps s s'
 
 -- a pattern begins, which the path holds where it held none, and it is counted
-pub record Starts (begun : Bool) (p : Pattern) (s s' : Status) : Type 0 where
+pub record StartsPattern (begun : Bool) (p : Pattern) (s s' : Status) : Type 0 where
   pub path : on_path s'.path ≡ inner (on_path s.path) p
   pub put : OnTrue begun (s.path ≡ [])
   pub kept : OnFalse begun (s'.path ≡ s.path)
@@ -191,7 +191,7 @@ pub record Starts (begun : Bool) (p : Pattern) (s s' : Status) : Type 0 where
   pub elsewhere : Elsewhere s s'
 
 -- the path is left as it was before the pattern
-pub record Ends (begun : Bool) (s s' : Status) : Type 0 where
+pub record EndsPattern (begun : Bool) (s s' : Status) : Type 0 where
   pub off : OnTrue begun (s'.path ≡ [])
   pub kept : OnFalse begun (s'.path ≡ s.path)
   pub tally : s'.tally ≡ s.tally

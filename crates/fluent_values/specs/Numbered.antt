@@ -3,7 +3,7 @@ use Rattle.std.specs.Prelude.{ℕ, List, Option}
 use Rattle.fluent_tree.specs.Tree.{Text, Pattern}
 use Rattle.fluent_tree.specs.References.{Reference}
 use Rattle.fluent_links.specs.Classes.{AreDistinct, Grows}
-use Rattle.fluent_links.specs.Links.{IsBefore, Keeps}
+use Rattle.fluent_links.specs.Links.{IsBefore, KeepsNumbers}
 use Rattle.fluent_links.specs.Places.{seen}
 use Rattle.fluent_links.specs.Slots.{slots, number}
 use Rattle.fluent_links.specs.Table as contents
@@ -24,7 +24,7 @@ table_is_distinct m = contents.table_is_distinct m.classes
 
 -- every number and every class is still its own
 abbrev pub Grown : {F : Type 0} → Ids F → Ids F → Type 0
-Grown old new = Keeps (numbers old) (numbers new) × Grows (table old) (table new)
+Grown old new = KeepsNumbers (numbers old) (numbers new) × Grows (table old) (table new)
 
 -- a place stands before these references
 abbrev pub IsPlaced : {F : Type 0} → Ids F → List Reference → Place → Type 0

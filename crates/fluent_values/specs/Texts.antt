@@ -8,8 +8,8 @@ is_text nothing = true
 is_text (more (text t) rest) = is_text rest
 is_text (more (placeable e) rest) = false
 
-abbrev pub IsText : Pattern → Type 0
-IsText p = IsTrue (is_text p)
+abbrev pub IsTextAlone : Pattern → Type 0
+IsTextAlone p = IsTrue (is_text p)
 
 -- the text elements of a pattern, one after the other
 abbrev pub texts_of : Pattern → Text

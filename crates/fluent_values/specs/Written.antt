@@ -52,7 +52,7 @@ abbrev pub sink : {W : Type 0} → (W → Option Text) → Output W → Sink
 sink contents out = at contents out.writer.ghost_name out.writer.now out.buffer.ghost_name out.buffer.now out.is_buffered
 
 -- Of a text a beginning was taken, and all of it where the answer is Ok.
-pub record Took {T : Type 0} (result : Result T Halt) (text : Text) (w w' : Sink) : Type 0 where
+pub record SinkTook {T : Type 0} (result : Result T Halt) (text : Text) (w w' : Sink) : Type 0 where
   pub taken : Text
   pub left : Text
   pub held : Appends w.held w'.held taken

@@ -6,7 +6,7 @@ use Rattle.fluent_text.specs.Parser.{Read, Parser, many_from, run, run1, run_len
 use Rattle.fluent_tree.specs.Tree.{Text, pattern_of}
 use Rattle.fluent_text.specs.Lexical.{is_text, is_space, blank_inline, blank_block}
 use Rattle.fluent_syntax.specs.Layout.{Piece, words, unless_empty, trim_spaces, lines, elements}
-use Rattle.fluent_syntax.specs.Progress.{closes_pattern, Ends}
+use Rattle.fluent_syntax.specs.Progress.{closes_pattern, LineEndsPattern}
 use Rattle.fluent_syntax.specs.Pieces.{follows, is_indented, indented_text, words_after, block_text, indent, block_placeable, pattern_element, pieces, pattern}
 use Rattle.fluent_syntax.specs.Expressions.{level, inline_placeable}
 use Rattle.fluent_text.specs.Facts.Turns.{none, done}
@@ -99,7 +99,7 @@ rest_read None = []
 rest_read (Some p) = p.1
 
 -- the same of what a run gave
-pub one_line_at : (s t rest : List ℕ) → Some (t, rest) ≡ run is_text s → 0 < length t → (first rest == 123) ≡ false → Ends rest
+pub one_line_at : (s t rest : List ℕ) → Some (t, rest) ≡ run is_text s → 0 < length t → (first rest == 123) ≡ false → LineEndsPattern rest
     → (n : ℕ) → pattern (level n).braces s ≡ Some (pattern_of (unless_empty (trim_spaces t)), rest)
 unfolding text_read rest_read
 one_line_at s t rest e h b ends n =

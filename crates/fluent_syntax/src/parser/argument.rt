@@ -4,7 +4,7 @@ ghost use Rattle.fluent_syntax.specs.Expressions as spec;
 ghost use Rattle.fluent_text.specs.Reading.{found, passed};
 ghost use Rattle.fluent_syntax.specs.Reading.{Gives};
 ghost use Rattle.fluent_syntax.specs.Gathering.{argument_view, gathered_view, positional_argument, value_argument, call_argument, message_argument, reference_argument, Gathers};
-ghost use Rattle.fluent_syntax.specs.Nests.{Reads};
+ghost use Rattle.fluent_syntax.specs.Nests.{GivesRule};
 ghost use Rattle.fluent_tree.specs.View.{named_view, name_view, expression_view, arguments_view};
 
 use crate::parser::bytes::eat;
@@ -98,9 +98,9 @@ impl<
     /// Reads an argument and adds it. A name is read once, whether an argument's, a function's or a message's.
     #[inline(always)]
     fn push_argument(&self, s: &'s str, found: &mut Gathered<'s>) -> Result<&'s str, Stop>
-        requires braces { Reads expression_view (spec.level self.now.depth).braces self.now.depth
+        requires braces { GivesRule expression_view (spec.level self.now.depth).braces self.now.depth
             (F.pre self.now.braces) (F.post self.now.braces) }
-        requires brackets { Reads arguments_view (spec.level self.now.depth).brackets self.now.depth
+        requires brackets { GivesRule arguments_view (spec.level self.now.depth).brackets self.now.depth
             (G.pre self.now.brackets) (G.post self.now.brackets) }
         ensures { Gathers result (gathered_view found.old) (gathered_view found.new)
             (spec.argument (spec.level self.now.depth) s.now) }
@@ -126,7 +126,7 @@ impl<
         s: &'s str,
         found: &mut Gathered<'s>,
     ) -> Result<&'s str, Stop>
-        requires brackets { Reads arguments_view (spec.level self.now.depth).brackets self.now.depth
+        requires brackets { GivesRule arguments_view (spec.level self.now.depth).brackets self.now.depth
             (G.pre self.now.brackets) (G.post self.now.brackets) }
         ensures { Gathers result (gathered_view found.old) (gathered_view found.new)
             (reference_argument (spec.level self.now.depth) (name_view id.entry) s.now) }
@@ -149,7 +149,7 @@ impl<
         s: &'s str,
         found: &mut Gathered<'s>,
     ) -> Result<&'s str, Stop>
-        requires brackets { Reads arguments_view (spec.level self.now.depth).brackets self.now.depth
+        requires brackets { GivesRule arguments_view (spec.level self.now.depth).brackets self.now.depth
             (G.pre self.now.brackets) (G.post self.now.brackets) }
         ensures { Gathers result (gathered_view found.old) (gathered_view found.new)
             (call_argument (spec.level self.now.depth) (name_view id.entry) s.now) }
@@ -163,9 +163,9 @@ impl<
     /// Reads an argument that begins with no name, and adds it.
     #[inline(never)]
     fn push_nameless(&self, s: &'s str, found: &mut Gathered<'s>) -> Result<&'s str, Stop>
-        requires braces { Reads expression_view (spec.level self.now.depth).braces self.now.depth
+        requires braces { GivesRule expression_view (spec.level self.now.depth).braces self.now.depth
             (F.pre self.now.braces) (F.post self.now.braces) }
-        requires brackets { Reads arguments_view (spec.level self.now.depth).brackets self.now.depth
+        requires brackets { GivesRule arguments_view (spec.level self.now.depth).brackets self.now.depth
             (G.pre self.now.brackets) (G.post self.now.brackets) }
         ensures { Gathers result (gathered_view found.old) (gathered_view found.new)
             (positional_argument (spec.level self.now.depth) s.now) }
@@ -178,9 +178,9 @@ impl<
     /// The arguments and the commas between them. Each argument is read once, whether a comma follows it or not.
     #[tactic(auto, using(crate::proofs::Gathers::gathered))]
     fn argument_list(&self, s: &'s str) -> Result<(Gathered<'s>, &'s str), Stop>
-        requires braces { Reads expression_view (spec.level self.now.depth).braces self.now.depth
+        requires braces { GivesRule expression_view (spec.level self.now.depth).braces self.now.depth
             (F.pre self.now.braces) (F.post self.now.braces) }
-        requires brackets { Reads arguments_view (spec.level self.now.depth).brackets self.now.depth
+        requires brackets { GivesRule arguments_view (spec.level self.now.depth).brackets self.now.depth
             (G.pre self.now.brackets) (G.post self.now.brackets) }
         ensures { Gives gathered_view result (spec.argument_list
             (spec.level self.now.depth) s.now) }
@@ -216,9 +216,9 @@ impl<
         s: &'s str,
         mut found: Gathered<'s>,
     ) -> Result<(Gathered<'s>, &'s str), Stop>
-        requires braces { Reads expression_view (spec.level self.now.depth).braces self.now.depth
+        requires braces { GivesRule expression_view (spec.level self.now.depth).braces self.now.depth
             (F.pre self.now.braces) (F.post self.now.braces) }
-        requires brackets { Reads arguments_view (spec.level self.now.depth).brackets self.now.depth
+        requires brackets { GivesRule arguments_view (spec.level self.now.depth).brackets self.now.depth
             (G.pre self.now.brackets) (G.post self.now.brackets) }
         ensures { Gives gathered_view result (spec.last_argument (spec.level self.now.depth)
             (gathered_view found.entry) s.now) }
@@ -232,9 +232,9 @@ impl<
 
     #[tactic(auto, unfolding(crate::specs::Expressions::call_arguments))]
     pub fn call_arguments(&self, s: &'s str) -> Result<(CallArguments<'s>, &'s str), Stop>
-        requires braces { Reads expression_view (spec.level self.now.depth).braces self.now.depth
+        requires braces { GivesRule expression_view (spec.level self.now.depth).braces self.now.depth
             (F.pre self.now.braces) (F.post self.now.braces) }
-        requires brackets { Reads arguments_view (spec.level self.now.depth).brackets self.now.depth
+        requires brackets { GivesRule arguments_view (spec.level self.now.depth).brackets self.now.depth
             (G.pre self.now.brackets) (G.post self.now.brackets) }
         ensures { Gives arguments_view result (spec.call_arguments
             (spec.level self.now.depth) s.now) }

@@ -2,7 +2,7 @@
 ghost use Rattle.std.specs.Prelude.{◌≡◌};
 ghost use Rattle.fluent_syntax.specs.Expressions as spec;
 ghost use Rattle.fluent_syntax.specs.Reading.{Gives};
-ghost use Rattle.fluent_syntax.specs.Nests.{Reads};
+ghost use Rattle.fluent_syntax.specs.Nests.{GivesRule};
 ghost use Rattle.fluent_tree.specs.View.{inline_view, expression_view, arguments_view};
 
 use crate::parser::bytes::eat;
@@ -49,9 +49,9 @@ impl<
     #[inline(always)]
     #[tactic(auto, unfolding(crate::specs::Expressions::expression))]
     fn expression(&self, s: &'s str) -> Result<(Expression<'s>, &'s str), Stop>
-        requires braces { Reads expression_view (spec.level self.now.depth).braces self.now.depth
+        requires braces { GivesRule expression_view (spec.level self.now.depth).braces self.now.depth
             (F.pre self.now.braces) (F.post self.now.braces) }
-        requires brackets { Reads arguments_view (spec.level self.now.depth).brackets self.now.depth
+        requires brackets { GivesRule arguments_view (spec.level self.now.depth).brackets self.now.depth
             (G.pre self.now.brackets) (G.post self.now.brackets) }
         ensures { Gives expression_view result (spec.expression (spec.level self.now.depth) s.now) }
     {
@@ -77,9 +77,9 @@ impl<
 
     #[tactic(auto, unfolding(crate::specs::Expressions::inline_placeable))]
     fn inline_placeable(&self, s: &'s str) -> Result<(Expression<'s>, &'s str), Stop>
-        requires braces { Reads expression_view (spec.level self.now.depth).braces self.now.depth
+        requires braces { GivesRule expression_view (spec.level self.now.depth).braces self.now.depth
             (F.pre self.now.braces) (F.post self.now.braces) }
-        requires brackets { Reads arguments_view (spec.level self.now.depth).brackets self.now.depth
+        requires brackets { GivesRule arguments_view (spec.level self.now.depth).brackets self.now.depth
             (G.pre self.now.brackets) (G.post self.now.brackets) }
         ensures { Gives expression_view result (spec.inline_placeable
             (spec.level self.now.depth) s.now) }

@@ -2,8 +2,8 @@
 ghost use Rattle.std.specs.Prelude.{◌≡◌, ◌++◌, false, OnOk, IfOk};
 ghost use Rattle.fluent_syntax.specs.Expressions.{level};
 ghost use Rattle.fluent_syntax.specs.Layout.{unless_empty};
-ghost use Rattle.fluent_syntax.specs.Nests.{Reads};
-ghost use Rattle.fluent_syntax.specs.Progress.{closes_pattern, Ends, Places, IsFirstLine};
+ghost use Rattle.fluent_syntax.specs.Nests.{GivesRule};
+ghost use Rattle.fluent_syntax.specs.Progress.{closes_pattern, LineEndsPattern, Places, IsFirstLine};
 ghost use Rattle.fluent_syntax.specs.Reading.{all};
 ghost use Rattle.fluent_tree.specs.View.{element_view, expression_view};
 
@@ -26,7 +26,7 @@ pub enum Line<'s> {
 
 /// Whether a pattern may go on with the lines behind a line's text. It may not before an attribute, a variant or the end of a select.
 pub fn may_go_on(s: &str) -> bool
-    ensures { (result ≡ false) → Ends s.now }
+    ensures { (result ≡ false) → LineEndsPattern s.now }
 {
     let Some((_, line)) = blank_block(s) else {
         return true;
@@ -68,7 +68,7 @@ fn push_placeable<'s, F: Fn(Global, &'s str, usize) -> Result<(Expression<'s>, &
     braces: &F,
     found: &mut Vec<PatternElement<'s>>,
 ) -> Result<&'s str, Stop>
-    requires braces { Reads expression_view (level depth).braces depth (F.pre braces.now)
+    requires braces { GivesRule expression_view (level depth).braces depth (F.pre braces.now)
         (F.post braces.now) }
     ensures { Places result (all element_view found.old) (all element_view found.new)
         ((level depth).braces s.now) }
@@ -90,7 +90,7 @@ fn push_any_placeable<'s, F: Fn(Global, &'s str, usize) -> Result<(Expression<'s
     braces: &F,
     found: &mut Vec<PatternElement<'s>>,
 ) -> Result<&'s str, Stop>
-    requires braces { Reads expression_view (level depth).braces depth (F.pre braces.now)
+    requires braces { GivesRule expression_view (level depth).braces depth (F.pre braces.now)
         (F.post braces.now) }
     ensures { Places result (all element_view found.old) (all element_view found.new)
         ((level depth).braces s.now) }
@@ -107,7 +107,7 @@ pub fn first_line<'s, F: Fn(Global, &'s str, usize) -> Result<(Expression<'s>, &
     depth: usize,
     braces: &F,
 ) -> Result<(Vec<PatternElement<'s>>, Line<'s>), AllocError>
-    requires braces { Reads expression_view (level depth).braces depth (F.pre braces.now)
+    requires braces { GivesRule expression_view (level depth).braces depth (F.pre braces.now)
         (F.post braces.now) }
     ensures { IfOk result (λ p. IsFirstLine depth s.now (all element_view p.0) p.1) }
 {

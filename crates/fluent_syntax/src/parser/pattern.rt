@@ -4,7 +4,7 @@ ghost use Rattle.fluent_syntax.specs.Expressions.{level};
 ghost use Rattle.fluent_syntax.specs.Pieces as spec;
 ghost use Rattle.fluent_syntax.specs.Layout.{unless_empty, trim_spaces};
 ghost use Rattle.fluent_syntax.specs.Reading.{Gives, all};
-ghost use Rattle.fluent_syntax.specs.Nests.{Reads};
+ghost use Rattle.fluent_syntax.specs.Nests.{GivesRule};
 ghost use Rattle.fluent_syntax.specs.Progress.{Reached, piece_of};
 ghost use Rattle.fluent_tree.specs.Tree.{pattern_of};
 ghost use Rattle.fluent_tree.specs.View.{element_view, expression_view, pattern_view};
@@ -26,7 +26,7 @@ pub fn pattern<'s, F: Fn(Global, &'s str, usize) -> Result<(Expression<'s>, &'s 
     depth: usize,
     braces: &F,
 ) -> Result<(Pattern<'s>, &'s str), Stop>
-    requires braces { Reads expression_view (level depth).braces depth (F.pre braces.now)
+    requires braces { GivesRule expression_view (level depth).braces depth (F.pre braces.now)
         (F.post braces.now) }
     ensures { Gives pattern_view result (spec.pattern (level depth).braces s.now) }
 {
@@ -72,7 +72,7 @@ fn long_pattern<'s, F: Fn(Global, &'s str, usize) -> Result<(Expression<'s>, &'s
     depth: usize,
     braces: &F,
 ) -> Result<(Pattern<'s>, &'s str), Stop>
-    requires braces { Reads expression_view (level depth).braces depth (F.pre braces.now)
+    requires braces { GivesRule expression_view (level depth).braces depth (F.pre braces.now)
         (F.post braces.now) }
     ensures { Gives pattern_view result (spec.pattern (level depth).braces s.now) }
 {
@@ -98,7 +98,7 @@ fn many_lines<'s, F: Fn(Global, &'s str, usize) -> Result<(Expression<'s>, &'s s
     braces: &F,
     front: Vec<PatternElement<'s>>,
 ) -> Result<(Pattern<'s>, &'s str), Stop>
-    requires braces { Reads expression_view (level depth).braces depth (F.pre braces.now)
+    requires braces { GivesRule expression_view (level depth).braces depth (F.pre braces.now)
         (F.post braces.now) }
     ensures { (whole : List ℕ) → Reached depth whole
         (map piece_of (all element_view front.entry)) s.now →

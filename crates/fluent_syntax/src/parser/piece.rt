@@ -26,11 +26,11 @@ impl<'s> Model for Slice<'s> {
 
     ghost coded = { words_code };
 
-    ghost use Rattle.fluent_syntax.specs.Slice.{words_of, Holds};
+    ghost use Rattle.fluent_syntax.specs.Slice.{words_of, HoldsInside};
 
     ghost view = { words_of };
 
-    ghost invariant = { Holds };
+    ghost invariant = { HoldsInside };
 }
 
 impl<'s> Slice<'s> {

@@ -1,10 +1,10 @@
 //! The pieces of a pattern that has several lines.
 ghost use Rattle.std.specs.Prelude.{◌≡◌, ℕ, List, map, IfOk};
 ghost use Rattle.fluent_syntax.specs.Expressions.{level};
-ghost use Rattle.fluent_syntax.specs.Nests.{Reads};
+ghost use Rattle.fluent_syntax.specs.Nests.{GivesRule};
 ghost use Rattle.fluent_syntax.specs.Pieces.{pattern_element, pieces};
 ghost use Rattle.fluent_syntax.specs.PieceView.{piece_view};
-ghost use Rattle.fluent_syntax.specs.Progress.{Reached, Adds, piece_of, ended, text_pieces, hole_pieces};
+ghost use Rattle.fluent_syntax.specs.Progress.{Reached, PushesPieces, piece_of, ended, text_pieces, hole_pieces};
 ghost use Rattle.fluent_syntax.specs.Reading.{Gives, all};
 ghost use Rattle.fluent_tree.specs.View.{element_view, expression_view};
 
@@ -49,7 +49,7 @@ pub fn more_pieces<'s, F: Fn(Global, &'s str, usize) -> Result<(Expression<'s>, 
     braces: &F,
     mut found: Vec<Piece<'s>>,
 ) -> Result<(Vec<Piece<'s>>, &'s str), Stop>
-    requires braces { Reads expression_view (level depth).braces depth (F.pre braces.now)
+    requires braces { GivesRule expression_view (level depth).braces depth (F.pre braces.now)
         (F.post braces.now) }
     ensures { (whole : List ℕ) → Reached depth whole (all piece_view found.entry) s.now →
         Gives (all piece_view) result (pieces (level depth).braces whole) }
@@ -83,9 +83,9 @@ fn push_element<'s, F: Fn(Global, &'s str, usize) -> Result<(Expression<'s>, &'s
     braces: &F,
     found: &mut Vec<Piece<'s>>,
 ) -> Result<&'s str, Stop>
-    requires braces { Reads expression_view (level depth).braces depth (F.pre braces.now)
+    requires braces { GivesRule expression_view (level depth).braces depth (F.pre braces.now)
         (F.post braces.now) }
-    ensures { Adds result (all piece_view found.old) (all piece_view found.new)
+    ensures { PushesPieces result (all piece_view found.old) (all piece_view found.new)
         (pattern_element (level depth).braces s.now) }
 {
     match push_words(s, found) {
@@ -96,7 +96,7 @@ fn push_element<'s, F: Fn(Global, &'s str, usize) -> Result<(Expression<'s>, &'s
 }
 
 fn push_words<'s>(s: &'s str, found: &mut Vec<Piece<'s>>) -> Result<&'s str, Stop>
-    ensures { Adds result (all piece_view found.old) (all piece_view found.new)
+    ensures { PushesPieces result (all piece_view found.old) (all piece_view found.new)
         (text_pieces s.now) }
 {
     if let Some((words, rest)) = inline_text(s) {
@@ -121,9 +121,9 @@ fn push_hole<'s, F: Fn(Global, &'s str, usize) -> Result<(Expression<'s>, &'s st
     braces: &F,
     found: &mut Vec<Piece<'s>>,
 ) -> Result<&'s str, Stop>
-    requires braces { Reads expression_view (level depth).braces depth (F.pre braces.now)
+    requires braces { GivesRule expression_view (level depth).braces depth (F.pre braces.now)
         (F.post braces.now) }
-    ensures { Adds result (all piece_view found.old) (all piece_view found.new)
+    ensures { PushesPieces result (all piece_view found.old) (all piece_view found.new)
         (hole_pieces depth s.now) }
 {
     if depth > 0
@@ -144,9 +144,9 @@ fn push_any_hole<'s, F: Fn(Global, &'s str, usize) -> Result<(Expression<'s>, &'
     braces: &F,
     found: &mut Vec<Piece<'s>>,
 ) -> Result<&'s str, Stop>
-    requires braces { Reads expression_view (level depth).braces depth (F.pre braces.now)
+    requires braces { GivesRule expression_view (level depth).braces depth (F.pre braces.now)
         (F.post braces.now) }
-    ensures { Adds result (all piece_view found.old) (all piece_view found.new)
+    ensures { PushesPieces result (all piece_view found.old) (all piece_view found.new)
         (hole_pieces depth s.now) }
 {
     match at_brace(alloc, s, depth, braces) {
@@ -177,7 +177,7 @@ fn at_brace<'s, F: Fn(Global, &'s str, usize) -> Result<(Expression<'s>, &'s str
     depth: usize,
     braces: &F,
 ) -> Result<(Expression<'s>, &'s str), Stop>
-    requires braces { Reads expression_view (level depth).braces depth (F.pre braces.now)
+    requires braces { GivesRule expression_view (level depth).braces depth (F.pre braces.now)
         (F.post braces.now) }
     ensures { Gives expression_view result ((level depth).braces s.now) }
 {

@@ -4,7 +4,7 @@ ghost use Rattle.fluent_syntax.specs.Expressions as spec;
 ghost use Rattle.fluent_syntax.specs.Parts as parts;
 ghost use Rattle.fluent_text.specs.Reading.{found};
 ghost use Rattle.fluent_syntax.specs.Reading.{Gives};
-ghost use Rattle.fluent_syntax.specs.Nests.{Reads};
+ghost use Rattle.fluent_syntax.specs.Nests.{GivesRule};
 ghost use Rattle.fluent_tree.specs.View.{name_view, inline_view, expression_view, arguments_view, attribute_of, call_view};
 
 use crate::parser::bytes::{Class, byte_at, eat, run_len};
@@ -71,7 +71,7 @@ impl<
         id: Identifier<'s>,
         s: &'s str,
     ) -> Result<(InlineExpression<'s>, &'s str), Stop>
-        requires brackets { Reads arguments_view (spec.level self.now.depth).brackets self.now.depth
+        requires brackets { GivesRule arguments_view (spec.level self.now.depth).brackets self.now.depth
             (G.pre self.now.brackets) (G.post self.now.brackets) }
         ensures { Gives inline_view result
             (parts.reference_to (spec.level self.now.depth) (name_view id.entry) s.now) }
@@ -92,7 +92,7 @@ impl<
     #[inline(always)]
     #[tactic(auto, unfolding(crate::specs::Expressions::optional_call))]
     fn optional_call(&self, s: &'s str) -> Result<(Option<Box<CallArguments<'s>>>, &'s str), Stop>
-        requires brackets { Reads arguments_view (spec.level self.now.depth).brackets self.now.depth
+        requires brackets { GivesRule arguments_view (spec.level self.now.depth).brackets self.now.depth
             (G.pre self.now.brackets) (G.post self.now.brackets) }
         ensures { Gives call_view result (spec.optional_call (spec.level self.now.depth) s.now) }
     {
@@ -106,7 +106,7 @@ impl<
     #[inline(always)]
     #[tactic(auto, unfolding(crate::specs::Expressions::term_reference))]
     fn term_reference(&self, s: &'s str) -> Result<(InlineExpression<'s>, &'s str), Stop>
-        requires brackets { Reads arguments_view (spec.level self.now.depth).brackets self.now.depth
+        requires brackets { GivesRule arguments_view (spec.level self.now.depth).brackets self.now.depth
             (G.pre self.now.brackets) (G.post self.now.brackets) }
         ensures { Gives inline_view result (spec.term_reference (spec.level self.now.depth) s.now) }
     {
@@ -128,9 +128,9 @@ impl<
     #[inline(always)]
     #[tactic(auto, using(crate::proofs::Arguments::inline_kinds))]
     pub fn inline_expression(&self, s: &'s str) -> Result<(InlineExpression<'s>, &'s str), Stop>
-        requires braces { Reads expression_view (spec.level self.now.depth).braces self.now.depth
+        requires braces { GivesRule expression_view (spec.level self.now.depth).braces self.now.depth
             (F.pre self.now.braces) (F.post self.now.braces) }
-        requires brackets { Reads arguments_view (spec.level self.now.depth).brackets self.now.depth
+        requires brackets { GivesRule arguments_view (spec.level self.now.depth).brackets self.now.depth
             (G.pre self.now.brackets) (G.post self.now.brackets) }
         ensures { Gives inline_view result (spec.inline_expression
             (spec.level self.now.depth) s.now) }
@@ -147,9 +147,9 @@ impl<
     /// A literal, a term or a placeable.
     #[inline(never)]
     fn nameless_expression(&self, s: &'s str) -> Result<(InlineExpression<'s>, &'s str), Stop>
-        requires braces { Reads expression_view (spec.level self.now.depth).braces self.now.depth
+        requires braces { GivesRule expression_view (spec.level self.now.depth).braces self.now.depth
             (F.pre self.now.braces) (F.post self.now.braces) }
-        requires brackets { Reads arguments_view (spec.level self.now.depth).brackets self.now.depth
+        requires brackets { GivesRule arguments_view (spec.level self.now.depth).brackets self.now.depth
             (G.pre self.now.brackets) (G.post self.now.brackets) }
         ensures { Gives inline_view result (parts.nameless (spec.level self.now.depth) s.now) }
     {

@@ -5,7 +5,7 @@ ghost use Rattle.fluent_syntax.specs.Parts as parts;
 ghost use Rattle.fluent_text.specs.Parser as parser;
 ghost use Rattle.fluent_text.specs.Reading.{found, passed};
 ghost use Rattle.fluent_syntax.specs.Reading.{Gives, all};
-ghost use Rattle.fluent_syntax.specs.Nests.{Reads};
+ghost use Rattle.fluent_syntax.specs.Nests.{GivesRule};
 ghost use Rattle.fluent_tree.specs.View.{key_view, inline_view, variant_view, expression_view};
 
 use crate::parser::bytes::eat;
@@ -79,7 +79,7 @@ impl<
     #[inline(always)]
     #[tactic(auto, using(crate::proofs::Parts::variant_parts))]
     fn variant(&self, s: &'s str, default: bool) -> Result<(Variant<'s>, &'s str), Stop>
-        requires braces { Reads expression_view (spec.level self.now.depth).braces self.now.depth
+        requires braces { GivesRule expression_view (spec.level self.now.depth).braces self.now.depth
             (F.pre self.now.braces) (F.post self.now.braces) }
         ensures { Gives variant_view result (spec.variant
             (spec.level self.now.depth) default s.now) }
@@ -91,7 +91,7 @@ impl<
     /// A variant behind the bracket of its key.
     #[inline(never)]
     fn opened_variant(&self, s: &'s str, default: bool) -> Result<(Variant<'s>, &'s str), Stop>
-        requires braces { Reads expression_view (spec.level self.now.depth).braces self.now.depth
+        requires braces { GivesRule expression_view (spec.level self.now.depth).braces self.now.depth
             (F.pre self.now.braces) (F.post self.now.braces) }
         ensures { Gives variant_view result (parts.opened_variant
             (spec.level self.now.depth) default s.now) }
@@ -112,7 +112,7 @@ impl<
     #[inline(never)]
     #[tactic(auto, unfolding(crate::specs::Expressions::variant_list))]
     pub fn variant_list(&self, s: &'s str) -> Result<(Vec<Variant<'s>>, &'s str), Stop>
-        requires braces { Reads expression_view (spec.level self.now.depth).braces self.now.depth
+        requires braces { GivesRule expression_view (spec.level self.now.depth).braces self.now.depth
             (F.pre self.now.braces) (F.post self.now.braces) }
         ensures { Gives (all variant_view) result (spec.variant_list
             (spec.level self.now.depth) s.now) }
@@ -133,7 +133,7 @@ impl<
         s: &'s str,
         mut found: Vec<Variant<'s>>,
     ) -> Result<(Vec<Variant<'s>>, &'s str), Stop>
-        requires braces { Reads expression_view (spec.level self.now.depth).braces self.now.depth
+        requires braces { GivesRule expression_view (spec.level self.now.depth).braces self.now.depth
             (F.pre self.now.braces) (F.post self.now.braces) }
         ensures { Gives (all variant_view) result (parser.many_from parser.push
             (spec.variant (spec.level self.now.depth) false) (length s.now)

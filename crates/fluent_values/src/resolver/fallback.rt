@@ -3,7 +3,7 @@
 ghost use Rattle.std.specs.Prelude.{◌≡◌};
 ghost use Rattle.fluent_tree.specs.Fallback.{fallback, dotted, in_braces};
 ghost use Rattle.fluent_tree.specs.View.{inline_view, attribute_of};
-ghost use Rattle.fluent_values.specs.Written.{sink, Took};
+ghost use Rattle.fluent_values.specs.Written.{sink, SinkTook};
 
 use super::output::{Halt, Output, put_text};
 use fluent_tree::ast::{Expression, Identifier, InlineExpression};
@@ -11,7 +11,7 @@ use std::io::Write;
 
 /// Writes a message's id in braces.
 pub(crate) fn put_id_in_braces<W: Write>(out: &mut Output<W>, id: &str) -> Result<(), Halt>
-    ensures { Took result (in_braces id.now) (sink W.contents out.old) (sink W.contents out.new) }
+    ensures { SinkTook result (in_braces id.now) (sink W.contents out.old) (sink W.contents out.new) }
 {
     put_text(out, "{")?;
     put_text(out, id)?;
@@ -23,7 +23,7 @@ pub(crate) fn put_in_braces<W: Write>(
     out: &mut Output<W>,
     expression: &InlineExpression,
 ) -> Result<(), Halt>
-    ensures { Took result (in_braces (fallback (inline_view expression.now)))
+    ensures { SinkTook result (in_braces (fallback (inline_view expression.now)))
         (sink W.contents out.old) (sink W.contents out.new) }
 {
     put_text(out, "{")?;
@@ -36,7 +36,7 @@ pub(crate) fn put_fallback<W: Write>(
     out: &mut Output<W>,
     expression: &InlineExpression,
 ) -> Result<(), Halt>
-    ensures { Took result (fallback (inline_view expression.now)) (sink W.contents out.old)
+    ensures { SinkTook result (fallback (inline_view expression.now)) (sink W.contents out.old)
         (sink W.contents out.new) }
 {
     match expression {
@@ -75,7 +75,7 @@ fn put_dotted<W: Write>(
     id: &Identifier,
     attribute: &Option<Identifier>,
 ) -> Result<(), Halt>
-    ensures { Took result (dotted id.now.name.now (attribute_of attribute.now))
+    ensures { SinkTook result (dotted id.now.name.now (attribute_of attribute.now))
         (sink W.contents out.old) (sink W.contents out.new) }
 {
     put_text(out, id.name)?;

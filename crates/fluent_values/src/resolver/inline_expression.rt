@@ -11,14 +11,14 @@ ghost use Rattle.fluent_meaning.specs.Value.{try_number};
 ghost use Rattle.fluent_meaning.specs.Errors.{resolver_error, no_value};
 ghost use Rattle.fluent_meaning.specs.Walk.{written, follow, go, is_on, loses, function_text};
 ghost use Rattle.fluent_meaning.specs.Work.{with_work};
-ghost use Rattle.fluent_values.specs.Along.{Wrote, Added, lost_of, shown_answer};
+ghost use Rattle.fluent_values.specs.Along.{Wrote, ReportsIfOk, lost_of, shown_answer};
 ghost use Rattle.fluent_values.specs.FoundView.{IsLed, IsStored, found_view};
 ghost use Rattle.fluent_values.specs.Trail.{content_at};
 ghost use Rattle.fluent_values.specs.Numbered.{IsPlaced};
 ghost use Rattle.fluent_values.specs.Sizes.{size, bound, IsBelow};
 ghost use Rattle.fluent_values.specs.Status.{status};
 ghost use Rattle.fluent_values.specs.View.{value_view, named};
-ghost use Rattle.fluent_values.specs.Written.{sink, Took};
+ghost use Rattle.fluent_values.specs.Written.{sink, SinkTook};
 
 use super::arguments::{argument, resolve_call, resolve_local};
 use super::context::Context;
@@ -83,7 +83,7 @@ pub(crate) fn write_inline<'p, 's, W: Write, C: FluentType, F: FluentFunction<C>
 
 /// Writes the text of a string literal, with its escapes resolved.
 fn put_unescaped<W: Write>(alloc: Global, out: &mut Output<W>, value: &str) -> Result<(), Halt>
-    ensures { Took result (unescaped value.now) (sink W.contents out.old)
+    ensures { SinkTook result (unescaped value.now) (sink W.contents out.old)
         (sink W.contents out.new) }
 {
     if out.is_buffered {
@@ -101,7 +101,7 @@ fn put_number<W: Write, C: FluentType, B: Context<C>>(
     out: &mut Output<W>,
     source: &str,
 ) -> Result<(), Halt>
-    ensures { Took result (shown (B.meant bundle.now) (try_number source.now))
+    ensures { SinkTook result (shown (B.meant bundle.now) (try_number source.now))
         (sink W.contents out.old) (sink W.contents out.new) }
 {
     put_value(bundle, out, &FluentValue::try_number(source))
@@ -252,7 +252,7 @@ fn put_shown<W: Write, C: FluentType, B: Context<C>>(
     inline: &InlineExpression<'_>,
     answer: &FluentValue<'_, C>,
 ) -> Result<(), Halt>
-    ensures { Took result (shown_answer (B.meant bundle.now) (inline_view inline.now)
+    ensures { SinkTook result (shown_answer (B.meant bundle.now) (inline_view inline.now)
         (value_view C.content answer.now))
         (sink W.contents out.old) (sink W.contents out.new) }
 {
@@ -309,7 +309,7 @@ pub(crate) fn report_lost<C: FluentType, F: FluentFunction<C>, B: Context<C>>(
     inline: &InlineExpression<'_>,
 ) -> Result<(), AllocError>
     ensures { let at = status B.meant B.is_plain F.answer C.content in
-        Added result (lost_of (inline_view inline.now)) (at scope.old) (at scope.new) }
+        ReportsIfOk result (lost_of (inline_view inline.now)) (at scope.old) (at scope.new) }
 {
     match ResolverError::of(scope.bundle.allocator(), inline)? {
         Some(error) => scope.add_error(error),
@@ -323,7 +323,7 @@ fn report_no_value<C: FluentType, F: FluentFunction<C>, B: Context<C>>(
     id: &str,
 ) -> Result<(), AllocError>
     ensures { let at = status B.meant B.is_plain F.answer C.content in
-        Added result (resolver_error (no_value id.now) ∷ []) (at scope.old) (at scope.new) }
+        ReportsIfOk result (resolver_error (no_value id.now) ∷ []) (at scope.old) (at scope.new) }
 {
     let id = String::from_str(scope.bundle.allocator(), id)?;
     scope.add_error(ResolverError::NoValue(id))

@@ -1,6 +1,6 @@
 //! Where the text of a formatting call goes, and why it may stop.
 ghost use Rattle.std.specs.Prelude.{◌≡◌, ◌≢◌, Err, false};
-ghost use Rattle.fluent_values.specs.Written.{halt_of, sink, without_error, Took};
+ghost use Rattle.fluent_values.specs.Written.{halt_of, sink, without_error, SinkTook};
 
 use fluent_text::counting::put;
 use fluent_text::{Counting, WriteFault};
@@ -57,7 +57,7 @@ impl<W> Drop for Output<'_, '_, W> {
 
 /// Writes a text.
 pub fn put_text<W: Write>(out: &mut Output<W>, text: &str) -> Result<(), Halt>
-    ensures took { Took result text.now (sink W.contents out.old) (sink W.contents out.new) }
+    ensures took { SinkTook result text.now (sink W.contents out.old) (sink W.contents out.new) }
     ensures memory { out.old.is_buffered ≡ false → result ≢ Err Halt.Memory }
 {
     if out.is_buffered {

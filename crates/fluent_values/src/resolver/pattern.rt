@@ -11,8 +11,8 @@ ghost use Rattle.fluent_meaning.specs.Work.{with_work};
 ghost use Rattle.fluent_values.specs.Along.{Wrote};
 ghost use Rattle.fluent_values.specs.Numbered.{IsPlaced};
 ghost use Rattle.fluent_values.specs.Status.{budget_view, status};
-ghost use Rattle.fluent_values.specs.Texts.{IsText};
-ghost use Rattle.fluent_values.specs.Written.{sink, Took};
+ghost use Rattle.fluent_values.specs.Texts.{IsTextAlone};
+ghost use Rattle.fluent_values.specs.Written.{sink, SinkTook};
 
 use super::context::Context;
 use super::expression::{is_bare, shown_part, write_expression};
@@ -40,7 +40,7 @@ pub fn write_pattern<'p, 's, W: Write, C: FluentType, F: FluentFunction<C>, B: C
         Wrote result
         (λ b below env path. whole with_work b below env path (pattern_view pattern.now))
         (sink W.contents out.old) (sink W.contents out.new) (at scope.old) (at scope.new) }
-    ensures memory { IsText (pattern_view pattern.now) → IsTrue (B.is_plain scope.old.bundle.now)
+    ensures memory { IsTextAlone (pattern_view pattern.now) → IsTrue (B.is_plain scope.old.bundle.now)
         → out.old.is_buffered ≡ false → result ≢ Err Halt.Memory }
 {
     let begun = scope.begin(pattern);
@@ -63,7 +63,7 @@ fn write_elements<'p, 's, W: Write, C: FluentType, F: FluentFunction<C>, B: Cont
         (λ b below env path. elements with_work b below env path
         (has_one (pattern_view pattern.now)) (pattern_view pattern.now))
         (sink W.contents out.old) (sink W.contents out.new) (at scope.old) (at scope.new) }
-    ensures memory { IsText (pattern_view pattern.now) → IsTrue (B.is_plain scope.old.bundle.now)
+    ensures memory { IsTextAlone (pattern_view pattern.now) → IsTrue (B.is_plain scope.old.bundle.now)
         → out.old.is_buffered ≡ false → result ≢ Err Halt.Memory }
 {
     let one = has_one(pattern);
@@ -89,7 +89,7 @@ fn put_changed<W: Write, C: FluentType, F: FluentFunction<C>, B: Context<C>>(
     out: &mut Output<W>,
     text: &str,
 ) -> Result<(), Halt>
-    ensures took { Took result ((B.meant scope.now.bundle.now).transform text.now)
+    ensures took { SinkTook result ((B.meant scope.now.bundle.now).transform text.now)
         (sink W.contents out.old) (sink W.contents out.new) }
     ensures memory { IsTrue (B.is_plain scope.now.bundle.now) → out.old.is_buffered ≡ false →
         result ≢ Err Halt.Memory }
@@ -144,7 +144,7 @@ fn is_marked<C: FluentType, B: Context<C>>(bundle: &B, one: bool, expression: &E
 
 /// U+2068 FIRST STRONG ISOLATE, where it is wanted.
 fn put_first_mark<W: Write>(out: &mut Output<W>, marked: bool) -> Result<(), Halt>
-    ensures { Took result (first_mark marked) (sink W.contents out.old) (sink W.contents out.new) }
+    ensures { SinkTook result (first_mark marked) (sink W.contents out.old) (sink W.contents out.new) }
 {
     if marked {
         put_text(out, "\u{2068}")
@@ -155,7 +155,7 @@ fn put_first_mark<W: Write>(out: &mut Output<W>, marked: bool) -> Result<(), Hal
 
 /// U+2069 POP DIRECTIONAL ISOLATE, where it is wanted.
 fn put_last_mark<W: Write>(out: &mut Output<W>, marked: bool) -> Result<(), Halt>
-    ensures { Took result (last_mark marked) (sink W.contents out.old) (sink W.contents out.new) }
+    ensures { SinkTook result (last_mark marked) (sink W.contents out.old) (sink W.contents out.new) }
 {
     if marked {
         put_text(out, "\u{2069}")
@@ -170,7 +170,7 @@ pub(crate) fn put_ending<W: Write>(
     expression: &Expression,
     budget: Budget,
 ) -> Result<(), Halt>
-    ensures { Took result (ending (fallback_of (expression_view expression.now))
+    ensures { SinkTook result (ending (fallback_of (expression_view expression.now))
         (budget_view budget))
         (sink W.contents out.old) (sink W.contents out.new) }
 {

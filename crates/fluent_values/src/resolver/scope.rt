@@ -62,7 +62,7 @@ impl<'errors, 'p, 'r, 's, 'args, C: FluentType, F: FluentFunction<C>, B: Context
     ghost use Rattle.fluent_values.specs.EntryView.{ids as ids_of};
     ghost use Rattle.fluent_values.specs.Status.{arguments_view, budget_view, status, with_ids};
     ghost use Rattle.fluent_meaning.specs.Walk.{is_on};
-    ghost use Rattle.fluent_values.specs.Along.{can_open, Added, Takes, Begins, Starts, Ends, Enters, Leaves};
+    ghost use Rattle.fluent_values.specs.Along.{can_open, ReportsIfOk, TakesOne, IsAtStart, StartsPattern, EndsPattern, Enters, Leaves};
     ghost use Rattle.fluent_tree.specs.View.{pattern_view};
     ghost use Rattle.fluent_values.specs.Trail.{IsClassed, content_at, on_path};
 
@@ -78,7 +78,7 @@ impl<'errors, 'p, 'r, 's, 'args, C: FluentType, F: FluentFunction<C>, B: Context
         ensures bundle { result.bundle ≡ bundle.entry }
         ensures errors { result.errors ≡ errors.entry }
         ensures begins { let at = status B.meant B.is_plain F.answer C.content in
-            Begins (at result) (with_ids (B.meant bundle.now) (ids_of F.answer ids.now))
+            IsAtStart (at result) (with_ids (B.meant bundle.now) (ids_of F.answer ids.now))
             (arguments_view C.content args.entry) }
     {
         Scope {
@@ -152,7 +152,7 @@ impl<'errors, 'p, 'r, 's, 'args, C: FluentType, F: FluentFunction<C>, B: Context
     /// Memory was refused, which only a list can meet: it is as before.
     pub fn add_error(&mut self, error: ResolverError) -> Result<(), AllocError>
         ensures added { let at = status B.meant B.is_plain F.answer C.content in
-            Added result (resolver_error (resolver_error_view error) ∷ []) (at self.old)
+            ReportsIfOk result (resolver_error (resolver_error_view error) ∷ []) (at self.old)
             (at self.new) }
         ensures bundle { self.new.bundle ≡ self.old.bundle }
         ensures succeeds { IfNone self.old.errors (IsOk result) }
@@ -170,7 +170,7 @@ impl<'errors, 'p, 'r, 's, 'args, C: FluentType, F: FluentFunction<C>, B: Context
     pub(crate) fn take_one(&mut self) -> bool
         ensures opens { result ≡ can_open (budget_view self.old.budget) }
         ensures takes { let at = status B.meant B.is_plain F.answer C.content in
-            Takes result (at self.old) (at self.new) }
+            TakesOne result (at self.old) (at self.new) }
     {
         match self.budget {
             Budget::Left(left) if left > 0 => {
@@ -197,7 +197,7 @@ impl<'errors, 'p, 'r, 's, 'args, C: FluentType, F: FluentFunction<C>, B: Context
     /// Puts a pattern on the path where that is empty, counts the pattern, and says whether it put it there.
     pub(crate) fn begin(&mut self, pattern: &'p Pattern<'s>) -> bool
         ensures { let at = status B.meant B.is_plain F.answer C.content in
-            Starts result (pattern_view pattern.now) (at self.old) (at self.new) }
+            StartsPattern result (pattern_view pattern.now) (at self.old) (at self.new) }
     {
         let begun = self.path.begin(pattern);
         let length = self.path.len();
@@ -209,7 +209,7 @@ impl<'errors, 'p, 'r, 's, 'args, C: FluentType, F: FluentFunction<C>, B: Context
     /// Takes the pattern off the path that `begin` put there, where it did.
     pub(crate) fn end(&mut self, begun: bool)
         ensures { let at = status B.meant B.is_plain F.answer C.content in
-            Ends begun (at self.old) (at self.new) }
+            EndsPattern begun (at self.old) (at self.new) }
     {
         self.path.end(begun);
     }

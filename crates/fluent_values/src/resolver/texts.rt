@@ -2,7 +2,7 @@
 ghost use Rattle.std.specs.Prelude.{◌≡◌, ◌≢◌, Err, false};
 ghost use Rattle.fluent_tree.specs.View.{pattern_view};
 ghost use Rattle.fluent_values.specs.Texts.{is_text, texts_of};
-ghost use Rattle.fluent_values.specs.Written.{sink, Took};
+ghost use Rattle.fluent_values.specs.Written.{sink, SinkTook};
 
 use super::output::{Halt, Output, put_text};
 use fluent_tree::ast::{Pattern, PatternElement};
@@ -23,7 +23,7 @@ pub fn is_text(pattern: &Pattern) -> bool
 
 /// Writes the texts of a pattern as they stand, in order, and none of its placeables.
 pub fn put_texts<W: Write>(out: &mut Output<W>, pattern: &Pattern) -> Result<(), Halt>
-    ensures took { Took result (texts_of (pattern_view pattern.now)) (sink W.contents out.old)
+    ensures took { SinkTook result (texts_of (pattern_view pattern.now)) (sink W.contents out.old)
         (sink W.contents out.new) }
     ensures memory { out.old.is_buffered ≡ false → result ≢ Err Halt.Memory }
 {

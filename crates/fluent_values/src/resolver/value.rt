@@ -5,7 +5,7 @@ ghost use Rattle.std.specs.Cow.{cow_str_bytes};
 ghost use Rattle.fluent_meaning.specs.Bundle.{shown};
 ghost use Rattle.fluent_meaning.specs.Value.{matches, value_text};
 ghost use Rattle.fluent_values.specs.View.{value_view};
-ghost use Rattle.fluent_values.specs.Written.{sink, writer, without_error, Took};
+ghost use Rattle.fluent_values.specs.Written.{sink, writer, without_error, SinkTook};
 
 use super::context::Context;
 use super::output::{Halt, Output, put_text, with_error};
@@ -22,7 +22,7 @@ pub fn put_value<W: Write, C: FluentType, B: Context<C>>(
     out: &mut Output<W>,
     value: &FluentValue<'_, C>,
 ) -> Result<(), Halt>
-    ensures { Took result (shown (B.meant bundle.now) (value_view C.content value.now))
+    ensures { SinkTook result (shown (B.meant bundle.now) (value_view C.content value.now))
         (sink W.contents out.old) (sink W.contents out.new) }
 {
     match bundle.formatted(value)? {
@@ -37,7 +37,7 @@ fn put_own<W: Write, C: FluentType>(
     out: &mut Output<W>,
     value: &FluentValue<'_, C>,
 ) -> Result<(), Halt>
-    ensures { Took result (value_text (record { text = C.shown; same = C.alike })
+    ensures { SinkTook result (value_text (record { text = C.shown; same = C.alike })
         (value_view C.content value.now)) (sink W.contents out.old) (sink W.contents out.new) }
 {
     match value {
@@ -93,7 +93,7 @@ impl<'v, C: FluentType> FluentValue<'v, C> {
         w: &mut Counting<W>,
         scope: &Scope<'_, '_, '_, '_, '_, C, F, B>,
     ) -> Result<(), WriteFault>
-        ensures { Took (without_error result) (shown (B.meant scope.now.bundle.now)
+        ensures { SinkTook (without_error result) (shown (B.meant scope.now.bundle.now)
             (value_view C.content self.now))
             (writer W.contents w.old) (writer W.contents w.new) }
     {

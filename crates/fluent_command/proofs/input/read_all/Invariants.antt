@@ -1,6 +1,6 @@
 use Rattle.std.proofs.Common.{◌≡◌, ◌-◌}
 use Rattle.std.specs.Io.KnownBytes.{Consumes}
-use Rattle.fluent_command.specs.Input.{IsBounded}
+use Rattle.fluent_command.specs.Input.{ReadsAreBounded}
 use Rattle.fluent_command.specs.Limits.{most_reads}
 use Rattle.fluent_command.specs.declared.input.InputState.TheVariants.{Open}
 use Rattle.fluent_command.proofs.input.read_all.Given as goal
@@ -10,7 +10,7 @@ invariant-loop-input g l =
     record {
       bytes : Consumes (g.R.Read.remaining l.fn.input.inner) (g.R.Read.remaining l.input.inner) l.bytes.items;
       state : l.input.state ≡ Open;
-      bounded : IsBounded l.input;
+      bounded : ReadsAreBounded l.input;
     }
 
 abbrev pub decreases-loop-input : goal.decreases-loop-input

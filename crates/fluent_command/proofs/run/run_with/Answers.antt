@@ -1,7 +1,7 @@
 use Rattle.std.proofs.Common.{rules, ◌≡◌, map, string_bytes, subst}
 use Rattle.fluent_text.specs.declared.counting.WriteFault.TheVariants.{Memory}
 use Rattle.fluent_command.specs.EndingView.{ending_view, reported}
-use Rattle.fluent_command.specs.Outcome.{Reports}
+use Rattle.fluent_command.specs.Outcome.{ReportsRun}
 use Rattle.fluent_command.specs.Outlet.{outlet}
 use Rattle.fluent_command.proofs.Began.{reports_said, reports_begun}
 use Rattle.fluent_command.proofs.Coming.{none_asked, rule_asked}
@@ -21,7 +21,7 @@ returns-in-Ok-clause-ran g c =
         usage = λ e. c.attempt-ending.ensures.usage (none_asked (map string_bytes c.args.words.now) ends.0 e);
         rule = λ e. c.attempt-ending.ensures.rule (rule_asked (map string_bytes c.args.words.now) ends.0 e);
         reads = c.attempt-ending.ensures.reads;
-        reports = subst (λ es. Reports (reported es) ending err err' c.status.result) c.as_slice.ensures.value
+        reports = subst (λ es. ReportsRun (reported es) ending err err' c.status.result) c.as_slice.ensures.value
             (reports_said c.report.result (reported c.as_slice.result.now) ending (ending_view c.in-Ok.ending) c.in-Ok.ending err err' c.status.result c.in-Ok.is c.status.ensures c.in-Ok.ensures.says c.report.ensures.fault);
       },
     )
@@ -41,7 +41,7 @@ returns-in-Err-clause-ran g c =
         usage = λ e. c.attempt-ending.ensures.usage (none_asked (map string_bytes c.args.words.now) ends.0 e);
         rule = λ e. c.attempt-ending.ensures.rule (rule_asked (map string_bytes c.args.words.now) ends.0 e);
         reads = c.attempt-ending.ensures.reads;
-        reports = subst (λ es. Reports (reported es) ending err err' 3) c.as_slice.ensures.value
+        reports = subst (λ es. ReportsRun (reported es) ending err err' 3) c.as_slice.ensures.value
             (reports_begun c.report.result (reported c.as_slice.result.now) ending c.in-Err.field-0 err err' c.in-Err.is not c.in-Err.ensures.front c.report.ensures.fault);
       },
     )

@@ -1,21 +1,21 @@
 use Rattle.std.proofs.Common.{take}
-use Rattle.fluent_links.specs.Linking.{Adds}
+use Rattle.fluent_links.specs.Linking.{AppendsLinks}
 use Rattle.fluent_links.specs.PlaceSteps.{in_elements, in_variant_list, in_positional_list, in_named_list}
 use Rattle.fluent_links.specs.Slots.{slots}
 use Rattle.fluent_links.proofs.linking.+linking.Given as goal
 
 abbrev pub invariant-link_pattern-loop-element : goal.invariant-link_pattern-loop-element
 invariant-link_pattern-loop-element g l =
-    Adds (slots l.initial.slots) (slots l.slots) l.initial.links.items l.links.items (in_elements (take l.element-index l.element-items))
+    AppendsLinks (slots l.initial.slots) (slots l.slots) l.initial.links.items l.links.items (in_elements (take l.element-index l.element-items))
 
 abbrev pub invariant-link_variants-loop-variant : goal.invariant-link_variants-loop-variant
 invariant-link_variants-loop-variant g l =
-    Adds (slots l.initial.slots) (slots l.slots) l.initial.links.items l.links.items (in_variant_list (take l.variant-index l.variants))
+    AppendsLinks (slots l.initial.slots) (slots l.slots) l.initial.links.items l.links.items (in_variant_list (take l.variant-index l.variants))
 
 abbrev pub invariant-link_positional-loop-argument : goal.invariant-link_positional-loop-argument
 invariant-link_positional-loop-argument g l =
-    Adds (slots l.initial.slots) (slots l.slots) l.initial.links.items l.links.items (in_positional_list (take l.argument-index l.positional))
+    AppendsLinks (slots l.initial.slots) (slots l.slots) l.initial.links.items l.links.items (in_positional_list (take l.argument-index l.positional))
 
 abbrev pub invariant-link_named-loop-argument : goal.invariant-link_named-loop-argument
 invariant-link_named-loop-argument g l =
-    Adds (slots l.initial.slots) (slots l.slots) l.initial.links.items l.links.items (in_named_list (take l.argument-index l.named))
+    AppendsLinks (slots l.initial.slots) (slots l.slots) l.initial.links.items l.links.items (in_named_list (take l.argument-index l.named))

@@ -24,7 +24,7 @@ use Rattle.fluent_values.proofs.Placed.{ok_value, placed_as, placed_back, placed
 use Rattle.fluent_values.specs.Choice.{choice, first_default}
 use Rattle.fluent_values.specs.Sizes.{size, bound, IsBelow, element_size, expression_size, variants_size, inline_size, call_size, arguments_size, inlines_size, nameds_size}
 use Rattle.fluent_values.specs.Status.{status, environment_view}
-use Rattle.fluent_values.specs.Texts.{IsText}
+use Rattle.fluent_values.specs.Texts.{IsTextAlone}
 use Rattle.fluent_values.specs.View.{value_view, named}
 use Rattle.fluent_values.proofs.Along.{starts, turns, passes, put, puts_last, tail, wrote, ends, stops, memory_halts, refuses, adds, calls, lends, goes_on, at_value}
 use Rattle.fluent_values.proofs.Cases.{sequence, prepend, unmarked, closing, opening, part_opens, part_strikes, tells, written_string, written_number, written_message, written_nested, resolved_number, resolved_string, resolved_function, local_none, local_some, resolved_text}
@@ -310,7 +310,7 @@ pattern::write_elements-returns-in_err-write_placeable-in-Placeable-clause-memor
     let a = status g.B.Context.meant g.B.Context.is_plain g.F.FluentFunction.answer g.C.FluentType.content c.args.scope.now in
     let items = c.deref-element-items.result.now in
     let texts = view_pattern c.args.pattern.now ∙ ap (λ es. pattern_of (map element_view es)) (sym c.deref-element-items.ensures.value) in
-    λ h. absurd (no_placeable items c.loop-element.element-index c.element-item.result _ (subst IsText texts h) c.loop-element-test.true c.element-item.is (view_placeable_in c.element-item.result c.in-Placeable.expression c.in-Placeable.is))
+    λ h. absurd (no_placeable items c.loop-element.element-index c.element-item.result _ (subst IsTextAlone texts h) c.loop-element-test.true c.element-item.is (view_placeable_in c.element-item.result c.in-Placeable.expression c.in-Placeable.is))
 
 pub pattern::write_elements-returns-after-loop-element-clause-wrote : goal.pattern::write_elements-returns-after-loop-element-clause-wrote
 pattern::write_elements-returns-after-loop-element-clause-wrote g t c =

@@ -1,6 +1,6 @@
 use Rattle.std.proofs.Common.{◌≡◌, None, Err, sym, ap, ◌∙◌, subst}
 use Rattle.fluent_text.specs.Parser.{otherwise}
-use Rattle.fluent_syntax.specs.Progress.{Adds, text_pieces, hole_pieces}
+use Rattle.fluent_syntax.specs.Progress.{PushesPieces, text_pieces, hole_pieces}
 use Rattle.fluent_syntax.specs.Expressions.{level}
 use Rattle.fluent_syntax.specs.Pieces.{pattern_element}
 use Rattle.fluent_syntax.specs.PieceView.{piece_view}
@@ -23,6 +23,6 @@ returns-in-Err-Absent g c =
     let old = all piece_view c.args.found.now in
     let mid = all piece_view c.push_words.new.found in
     let new = all piece_view c.push_hole.new.found in
-    let at : (text_pieces s ≡ None) × (mid ≡ old) = subst (λ e. Adds (Err e) old mid (text_pieces s)) c.in-Err-Absent.field-0-is c.in-Err-Absent.ensures in
+    let at : (text_pieces s ≡ None) × (mid ≡ old) = subst (λ e. PushesPieces (Err e) old mid (text_pieces s)) c.in-Err-Absent.field-0-is c.in-Err-Absent.ensures in
     let rule : hole_pieces n s ≡ pattern_element (level n).braces s = sym (element_is n s ∙ ap (λ r. otherwise r (hole_pieces n) s) at.0) in
-    subst (λ r. Adds c.push_hole.result old new r) rule (subst (λ m. Adds c.push_hole.result m new (hole_pieces n s)) at.1 c.push_hole.ensures)
+    subst (λ r. PushesPieces c.push_hole.result old new r) rule (subst (λ m. PushesPieces c.push_hole.result m new (hole_pieces n s)) at.1 c.push_hole.ensures)

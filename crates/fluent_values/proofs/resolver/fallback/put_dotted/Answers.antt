@@ -3,11 +3,11 @@ use Rattle.fluent_tree.specs.Fallback.{dotted}
 use Rattle.fluent_tree.specs.Tree.{Text, Attribute, no_attribute, attribute}
 use Rattle.fluent_tree.specs.View.{attribute_of}
 use Rattle.fluent_values.specs.declared.resolver.output.Halt.{Halt}
-use Rattle.fluent_values.specs.Written.{Sink, Took}
+use Rattle.fluent_values.specs.Written.{Sink, SinkTook}
 use Rattle.fluent_values.proofs.Took.{took_on, took_stops, took_fails, took_same, took_done}
 use Rattle.fluent_values.proofs.resolver.fallback.put_dotted.Goals as goal
 
-dotted_stops : {T : Type 0} {r r' : Result T Halt} {e : Halt} {w w' : Sink} (t : Text) (a : Attribute) → r ≡ Err e → r' ≡ Err e → Took r t w w' → Took r' (dotted t a) w w'
+dotted_stops : {T : Type 0} {r r' : Result T Halt} {e : Halt} {w w' : Sink} (t : Text) (a : Attribute) → r ≡ Err e → r' ≡ Err e → SinkTook r t w w' → SinkTook r' (dotted t a) w w'
 dotted_stops t no_attribute was is h = took_fails was is h
 dotted_stops t (attribute a) was is h = took_stops (46 ∷ a) was is h
 
