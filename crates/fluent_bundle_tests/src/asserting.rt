@@ -1,4 +1,5 @@
 //! What the tests assert of errors.
+use crate::check::check;
 use fluent_bundle::FluentError;
 use fluent_fixtures::common::lines;
 use std::alloc::Global;
@@ -13,6 +14,6 @@ pub fn are(
     expected: &str,
 ) -> Result<(), Fail> {
     let found = lines(alloc, errors)?;
-    assert!(rt; found.as_str() == expected);
+    check(rt, found.as_str() == expected, found.as_str());
     Ok(())
 }

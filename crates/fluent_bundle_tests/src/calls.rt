@@ -1,5 +1,6 @@
 //! Lists of calls that add, what each reports, and what the ids mean after it.
 use crate::asserting::are;
+use crate::check::check;
 use fluent_bundle::ast::Term;
 use fluent_bundle::bundle::AddFault;
 use fluent_bundle::{FluentError, FluentMessage, FluentResource, FunctionRef, GetEntry};
@@ -59,7 +60,7 @@ fn is_held(bundle: &Bundle<'_, '_>, held: &Held) -> bool {
 /// What each id means in a bundle.
 pub fn holds(rt: &impl Abort, bundle: &Bundle<'_, '_>, rows: &[Held]) {
     for held in rows {
-        assert!(rt; is_held(bundle, held), "{}", held.0);
+        check(rt, is_held(bundle, held), held.0);
     }
 }
 

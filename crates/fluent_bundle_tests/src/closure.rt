@@ -2,6 +2,7 @@
 ghost use Rattle.std.specs.Prelude.{unwrap_or, slice_get};
 ghost use Rattle.fluent_meaning.specs.Value.{error_value};
 
+use crate::check::check;
 use fluent_bundle::{
     AddFault, AnswerRule, Answering, EnglishPlurals, FluentArgs, FluentBundle, FluentFunction,
     FluentValue, FunctionOf, FunctionRef, GetEntry, NoCustom, NoFormatter,
@@ -81,6 +82,6 @@ fn is_added(alloc: Global) -> Result<bool, AllocError> {
 
 #[test]
 fn a_closure_is_a_function_of_a_bundle(rt: HostRuntime) -> Result<(), Fail> {
-    assert!(rt; is_added(rt.alloc())?);
+    check(&rt, is_added(rt.alloc())?, "closures are added");
     Ok(())
 }

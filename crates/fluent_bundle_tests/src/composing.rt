@@ -3,6 +3,7 @@ ghost use Rattle.std.specs.Prelude.{◌≡◌, [], ◌∷◌, IfOk, Some, codes}
 ghost use Rattle.fluent_meaning.specs.Bundle.{after_all, empty_bundle, set_transform, set_formatter, add_function, add_resource};
 ghost use Rattle.fluent_bundle.specs.BundleView.{entries_of, meant};
 
+use crate::check::check;
 use crate::resolver::formats;
 use fluent_bundle::bundle::AddFault;
 use fluent_bundle::{
@@ -94,8 +95,8 @@ fn a_composed_transform_changes_and_a_composed_function_is_there(
     let bundle: UpperBundle<'_, '_> = made.ok().ok_or("not made")?;
     let mut errors = Vec::new(alloc);
     let text = bundle.format_pattern(value_of(&resource)?, None, &mut errors)?;
-    assert!(rt; text.as_str() == "HELLO");
-    assert!(rt; errors.is_empty());
-    assert!(rt; bundle.get_entry_function("F").is_some());
+    check(&rt, text.as_str() == "HELLO", text.as_str());
+    check(&rt, errors.is_empty(), "no error");
+    check(&rt, bundle.get_entry_function("F").is_some(), "F");
     Ok(())
 }

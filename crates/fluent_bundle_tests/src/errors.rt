@@ -1,4 +1,5 @@
 //! What sources are read as, Junk too, and the errors of the references that they hold.
+use crate::check::check;
 use fluent_bundle::ast::{Entry, Expression, InlineExpression, Pattern, PatternElement};
 use fluent_bundle::{FluentResource, ParserError, ResolverError, TryNewFault};
 use fluent_fixtures::common::{read, value_of};
@@ -91,10 +92,10 @@ fn is_read(alloc: Global, row: &Source) -> Result<bool, AllocError> {
 #[test]
 fn sources_are_read_and_references_have_their_errors(rt: HostRuntime) -> Result<(), Fail> {
     for row in SOURCES {
-        assert!(rt; is_read(rt.alloc(), row)?, "{}", row.0);
+        check(&rt, is_read(rt.alloc(), row)?, row.0);
     }
     for (source, expected) in LOST {
-        assert!(rt; is_lost(rt.alloc(), *source, *expected)?, "{source}");
+        check(&rt, is_lost(rt.alloc(), *source, *expected)?, *source);
     }
     Ok(())
 }

@@ -1,5 +1,6 @@
 //! A row written by hand, from the sources and the objects of the application to the text.
 use crate::asserting::are;
+use crate::check::check;
 use fluent_bundle::{Counting, FluentError, WriteFault, ast};
 use fluent_fixtures::common::{arguments, read, value_of};
 use fluent_fixtures::own::{Bracketed, Own, Upper};
@@ -71,10 +72,14 @@ fn a_bundle_of_two_sources(rt: HostRuntime) -> Result<(), Fail> {
     let pattern = value_of(&resource)?;
     let mut errors = Vec::new(alloc);
     let bytes = written(alloc, pattern, &mut errors)?;
-    assert!(rt; bytes.as_slice() == "YOU HAVE 3 ITEMS".as_bytes());
+    check(
+        &rt,
+        bytes.as_slice() == "YOU HAVE 3 ITEMS".as_bytes(),
+        "what is written",
+    );
     are(&rt, alloc, errors.as_slice(), STRUCK)?;
     let mut errors = Vec::new(alloc);
     let text = formatted(alloc, pattern, &mut errors)?;
-    assert!(rt; text.as_str() == "[YOU HAVE 3 ITEMS]");
+    check(&rt, text.as_str() == "[YOU HAVE 3 ITEMS]", text.as_str());
     are(&rt, alloc, errors.as_slice(), STRUCK)
 }

@@ -2,6 +2,7 @@
 ghost use Rattle.std.specs.Prelude.{unwrap_or, slice_get};
 ghost use Rattle.fluent_meaning.specs.Value.{error_value};
 
+use crate::check::check;
 use fluent_bundle::{
     AddFault, AnswerRule, Answering, EnglishPlurals, FluentArgs, FluentBundle, FluentResource,
     FluentValue, FunctionOf, NoCustom, NoFormatter,
@@ -100,6 +101,6 @@ fn calls(alloc: Global, resource: &FluentResource<'_>) -> Result<bool, Fail> {
 fn a_message_calls_a_closure(rt: HostRuntime) -> Result<(), Fail> {
     let source = "-t = { ID(\"q\") }\np = { -t }\nr = { ID() }\ns = { ID(ID()) }\n";
     let resource = read(rt.alloc(), source)?;
-    assert!(rt; calls(rt.alloc(), &resource)?);
+    check(&rt, calls(rt.alloc(), &resource)?, "calls of what is kept");
     Ok(())
 }

@@ -1,4 +1,5 @@
 //! Bundles with the plural rules of a language, as the table of languages has them.
+use crate::check::check;
 use fluent_bundle::{FluentBundle, FluentValue, NoCustom, NoFormatter, NoFunction, Scope};
 use fluent_intl::{LanguageRules, RuleFault, RuleTexts, cldr_plurals, rules_for};
 use std::alloc::Global;
@@ -47,8 +48,8 @@ const ROWS: &[(&str, &str, &str)] = &[
 fn has_its_category(rt: &impl Abort, alloc: Global, row: &(&str, &str, &str)) -> Result<(), Fail> {
     let (tag, number, category) = *row;
     let bundle = bundle_in(alloc, tag)?;
-    assert!(rt; meets(&bundle, category, number), "{tag} {number}");
-    assert!(rt; !meets(&bundle, "else", number), "{tag} {number}");
+    check(rt, meets(&bundle, category, number), tag);
+    check(rt, !meets(&bundle, "else", number), tag);
     Ok(())
 }
 

@@ -6,6 +6,8 @@ mod asserting;
 #[cfg(test)]
 mod calls;
 #[cfg(test)]
+mod check;
+#[cfg(test)]
 mod closure;
 #[cfg(test)]
 mod composing;

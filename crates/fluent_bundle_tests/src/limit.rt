@@ -1,4 +1,5 @@
 //! The limit on placeables: which limits are taken, and what one more placeable leaves.
+use crate::check::check;
 use crate::resolver::writes;
 use fluent_bundle::Context;
 use fluent_fixtures::common::{Bundle, default_bundle, read, value_of};
@@ -32,7 +33,7 @@ fn one_placeable_more_than_the_limit_is_an_error(rt: HostRuntime) -> Result<(), 
     let alloc = rt.alloc();
     let resource = read(alloc, "a = { \"x\" }{ \"y\" }")?;
     let mut bundle = default_bundle(alloc)?;
-    assert!(rt; set_limit(&mut bundle, 1));
+    check(&rt, set_limit(&mut bundle, 1), "a limit");
     let told = all("x", "Resolver error: Too many placeables\n");
     writes(&rt, alloc, &bundle, value_of(&resource)?, ("", ""), &told)
 }

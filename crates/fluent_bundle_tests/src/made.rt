@@ -1,5 +1,6 @@
 //! Calls as values, made in order, also where memory is refused.
 use crate::calls::{Held, holds};
+use crate::check::check;
 use crate::resolver::formats;
 use fluent_bundle::ast::Pattern;
 use fluent_bundle::{Call, FluentResource};
@@ -54,7 +55,7 @@ fn makes_first<'r, 's>(
     match make_first(alloc, bundle, first, second) {
         Ok(()) => Ok(()),
         Err(AllocError) => {
-            assert!(rt; has_both_or_none(bundle));
+            check(rt, has_both_or_none(bundle), "both or none");
             make_first(alloc, bundle, first, second)
         }
     }
@@ -101,7 +102,7 @@ fn makes_calls<'r, 's>(
     second: &'r FluentResource<'s>,
 ) -> Result<(), Fail> {
     let mut bundle: Bundle<'r, 's> = default_bundle(alloc)?;
-    assert!(rt; has_one_locale(&bundle));
+    check(rt, has_one_locale(&bundle), "one locale");
     makes_first(rt, alloc, &mut bundle, first, second)?;
     has(rt, alloc, &bundle, FIRST, "x{$y}")?;
     make_last(alloc, &mut bundle, second)?;

@@ -3,6 +3,7 @@ ghost use Rattle.std.specs.Prelude.{◌≡◌, ◌↔◌, IsTrue};
 ghost use Rattle.fluent_tree.specs.View.{attribute_view};
 ghost use Rattle.fluent_tree.specs.View as tree;
 
+use crate::check::check;
 use fluent_bundle::ast::{Attribute, Message};
 use fluent_bundle::{FluentAttribute, FluentMessage};
 use fluent_fixtures::common::{first_text, message_of, read};
@@ -109,10 +110,10 @@ fn is_same(alloc: Global, one: &str, other: &str, same: bool) -> Result<bool, Fa
 #[test]
 fn attributes_come_in_order_and_equality_is_that_of_contents(rt: HostRuntime) -> Result<(), Fail> {
     for row in ROWS {
-        assert!(rt; is_row(rt.alloc(), row)?);
+        check(&rt, is_row(rt.alloc(), row)?, row.0);
     }
     for (one, other, same) in SAME {
-        assert!(rt; is_same(rt.alloc(), *one, *other, *same)?);
+        check(&rt, is_same(rt.alloc(), *one, *other, *same)?, *one);
     }
     Ok(())
 }

@@ -1,4 +1,5 @@
 //! Bundles of other types: plural rules from texts, and a boxed transform.
+use crate::check::check;
 use crate::resolver::{formats, writes};
 use fluent_bundle::{
     FluentArgs, FluentBundle, FluentResource, FluentValue, NoCustom, NoFormatter, NoFunction,
@@ -69,10 +70,8 @@ files = { $n ->
     let resource = read(alloc, source)?;
     let bundle: Polish<'_, '_> = FluentBundle::new(alloc, Vec::new(alloc), rules(alloc)?);
     for (number, text) in FILES {
-        assert!(rt;
-            is_shown(alloc, &bundle, &resource, *number, *text)?,
-            "{text}"
-        );
+        let is_right = is_shown(alloc, &bundle, &resource, *number, *text)?;
+        check(&rt, is_right, *text);
     }
     Ok(())
 }

@@ -1,4 +1,5 @@
 //! That memory is refused for no reason of ours: 51 arguments, a number with seven digits, Junk in a source.
+use crate::check::check;
 use fluent_bundle::ast::Pattern;
 use fluent_bundle::bundle::AddFault;
 use fluent_bundle::{FluentArgs, FluentResource, FluentValue, NoCustom};
@@ -69,7 +70,7 @@ fn added<'r, 's>(
 fn shows(rt: &impl Abort, alloc: Global, resource: &FluentResource<'_>) -> Result<(), Fail> {
     let bundle = added(alloc, resource)?;
     for (id, text) in SHOWN {
-        assert!(rt; is_shown(alloc, &bundle, *id, *text)?, "{id}");
+        check(rt, is_shown(alloc, &bundle, *id, *text)?, *id);
     }
     Ok(())
 }

@@ -4,6 +4,7 @@ ghost use Rattle.fluent_tree.specs.View.{pattern_view};
 ghost use Rattle.fluent_values.specs.Texts.{sole_text};
 
 use crate::asserting::are;
+use crate::check::check;
 use fluent_bundle::ast::{Expression, Identifier, InlineExpression, Pattern, PatternElement};
 use fluent_bundle::{Counting, FluentArgs, FluentBundle, FluentError, NoCustom, WriteFault};
 use fluent_fixtures::common::{
@@ -57,8 +58,8 @@ fn writes_once<'s>(
     if end == End::Memory {
         return Ok(false);
     }
-    assert!(rt; end == told.end, "of {}", told.text);
-    assert!(rt; has_taken(w, told), "of {}", told.text);
+    check(rt, end == told.end, told.text);
+    check(rt, has_taken(w, told), told.text);
     if end != End::Zero {
         are(rt, alloc, errors.as_slice(), told.errors)?;
     }
@@ -75,7 +76,11 @@ pub fn writes<'s>(
     told: &Told<'_>,
 ) -> Result<(), Fail> {
     if !writes_once(rt, alloc, bundle, pattern, given, told)? {
-        assert!(rt; writes_once(rt, alloc, bundle, pattern, given, told)?);
+        check(
+            rt,
+            writes_once(rt, alloc, bundle, pattern, given, told)?,
+            told.text,
+        );
     }
     Ok(())
 }
@@ -264,10 +269,10 @@ fn formats_once<'s>(
 ) -> Result<Option<bool>, Fail> {
     let mut errors = Vec::new(alloc);
     let Ok(text) = format_given(alloc, bundle, pattern, given, &mut errors) else {
-        assert!(rt; errors.len() <= 1);
+        check(rt, errors.len() <= 1, "one error");
         return Ok(None);
     };
-    assert!(rt; text.as_str() == wanted.0);
+    check(rt, text.as_str() == wanted.0, wanted.0);
     are(rt, alloc, errors.as_slice(), wanted.1)?;
     Ok(Some(matches!(text, CowStr::Borrowed(_))))
 }
@@ -334,7 +339,11 @@ fn is_row(
 fn messages_are_formatted(rt: HostRuntime) -> Result<(), Fail> {
     for row in FORMATTED {
         let resource = read(rt.alloc(), row.0)?;
-        assert!(rt; is_row(&rt, rt.alloc(), value_of(&resource)?, row)?);
+        check(
+            &rt,
+            is_row(&rt, rt.alloc(), value_of(&resource)?, row)?,
+            row.1,
+        );
     }
     Ok(())
 }

@@ -1,5 +1,6 @@
 //! Values as keys and selectors, and the scope of a call.
 use crate::asserting::are;
+use crate::check::{check, check_at};
 use fluent_bundle::types::{FluentNumber, FluentNumberType};
 use fluent_bundle::{
     Counting, FluentError, FluentValue, NoCustom, ResolverError, Scope, WriteFault,
@@ -55,7 +56,7 @@ const KEYS: &[(Side, Side, bool)] = &[
 /// That each key matches its selector, or does not.
 fn match_selectors(rt: &impl Abort, bundle: &Bundle<'_, '_>) {
     for (i, (key, selector, expected)) in KEYS.iter().enumerate() {
-        assert!(rt; meets(bundle, *key, *selector) == *expected, "at {i}");
+        check_at(rt, meets(bundle, *key, *selector) == *expected, "keys", i);
     }
 }
 
@@ -105,7 +106,7 @@ fn adds(
 fn adds_beside(rt: &impl Abort, alloc: Global, bundle: &Bundle<'_, '_>) -> Result<(), Fail> {
     let mut errors = Vec::new(alloc);
     errors.push(FluentError::ResolverError(ResolverError::MissingDefault))?;
-    assert!(rt; adds(bundle, Some(&mut errors), Some(2))?);
+    check(rt, adds(bundle, Some(&mut errors), Some(2))?, "a list");
     let expected = "Resolver error: No default\nResolver error: Cyclical dependency detected\n";
     are(rt, alloc, errors.as_slice(), expected)
 }
@@ -114,9 +115,9 @@ fn adds_beside(rt: &impl Abort, alloc: Global, bundle: &Bundle<'_, '_>) -> Resul
 fn keys_match_values_are_written_and_errors_are_added(rt: HostRuntime) -> Result<(), Fail> {
     let mut bundle = default_bundle(rt.alloc())?;
     match_selectors(&rt, &bundle);
-    assert!(rt; adds(&bundle, None, None)?);
+    check(&rt, adds(&bundle, None, None)?, "no list");
     adds_beside(&rt, rt.alloc(), &bundle)?;
     set_brackets(&mut bundle);
-    assert!(rt; is_written(rt.alloc(), &bundle)?);
+    check(&rt, is_written(rt.alloc(), &bundle)?, "what is written");
     Ok(())
 }

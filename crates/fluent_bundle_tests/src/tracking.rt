@@ -1,5 +1,6 @@
 //! The calls of a scope that resolve a part of a pattern by itself.
 use crate::asserting::are;
+use crate::check::check;
 use fluent_bundle::ast::{CallArguments, Expression, InlineExpression, Pattern, PatternElement};
 use fluent_bundle::{
     Counting, FluentArgs, FluentError, FluentResource, FluentValue, NoCustom, Scope, WriteFault,
@@ -147,7 +148,7 @@ fn writes_once<'s>(
     if end == End::Memory {
         return Ok(false);
     }
-    assert!(rt; end == told.end && has_taken(w, &told), "of {}", row.1);
+    check(rt, end == told.end && has_taken(w, &told), row.1);
     are(rt, alloc, errors.as_slice(), row.4)?;
     Ok(true)
 }
@@ -158,7 +159,7 @@ fn writes(rt: &impl Abort, alloc: Global, row: &Written) -> Result<(), Fail> {
     let bundle = bundle_of(alloc, &resource, row.2)?;
     let pattern = value_of(&resource)?;
     if !writes_once(rt, alloc, &bundle, pattern, row)? {
-        assert!(rt; writes_once(rt, alloc, &bundle, pattern, row)?);
+        check(rt, writes_once(rt, alloc, &bundle, pattern, row)?, row.1);
     }
     Ok(())
 }
@@ -232,10 +233,10 @@ fn gets_once<'s>(
 ) -> Result<bool, Fail> {
     let mut errors = Vec::new(alloc);
     let Ok(values) = values_in(bundle, &mut errors, Some(arguments_of(pattern)?)) else {
-        assert!(rt; errors.len() <= 1);
+        check(rt, errors.len() <= 1, "one error");
         return Ok(false);
     };
-    assert!(rt; are_all(&values));
+    check(rt, are_all(&values), "values");
     are(rt, alloc, errors.as_slice(), UNKNOWN)?;
     Ok(true)
 }
@@ -256,8 +257,12 @@ fn arguments_are_resolved(rt: HostRuntime) -> Result<(), Fail> {
     let bundle = bundle_of(rt.alloc(), &resource, 100)?;
     let pattern = value_of(&resource)?;
     if !gets_once(&rt, rt.alloc(), &bundle, pattern)? {
-        assert!(rt; gets_once(&rt, rt.alloc(), &bundle, pattern)?);
+        check(
+            &rt,
+            gets_once(&rt, rt.alloc(), &bundle, pattern)?,
+            "values again",
+        );
     }
-    assert!(rt; gets_none(rt.alloc(), &bundle));
+    check(&rt, gets_none(rt.alloc(), &bundle), "no values");
     Ok(())
 }

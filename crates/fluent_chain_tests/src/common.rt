@@ -1,5 +1,6 @@
 //! What the tests of chains share. A call that stands here without a contract keeps what the chain's contract says
 //! from the tests, which rest on none of it.
+use crate::check::check;
 use fluent_bundle::{
     EnglishPlurals, FluentArgs, FluentBundle, FluentError, FluentResource, FluentValue, NoCustom,
     NoFormatter, NoFunction, Transform, TryNewFault,
@@ -158,6 +159,34 @@ fn lines(alloc: Global, errors: &[FluentError]) -> Result<String, AllocError> {
     Ok(out)
 }
 
+/// Whether a text is the one of a row, and lent where it should be.
+fn is_shown(shown: Result<(String, bool), AllocError>, text: &str, lent: bool) -> Option<bool> {
+    match shown {
+        Ok((shown, is_lent)) => Some(shown.as_str() == text && is_lent == lent),
+        Err(AllocError) => None,
+    }
+}
+
+/// That what was added begins the errors.
+fn begin(
+    rt: &impl Abort,
+    alloc: Global,
+    found: &[FluentError],
+    errors: &str,
+) -> Result<(), AllocError> {
+    let found = lines(alloc, found)?;
+    check(rt, errors.starts_with(found.as_str()), errors);
+    Ok(())
+}
+
+/// Whether the errors are those of these lines; `None` where memory is refused.
+fn are(alloc: Global, found: &[FluentError], errors: &str) -> Option<bool> {
+    match lines(alloc, found) {
+        Ok(found) => Some(found.as_str() == errors),
+        Err(AllocError) => None,
+    }
+}
+
 /// That a part is shown as a row says; `false` where memory is refused, which leaves a beginning of the errors.
 fn shown_once<'r, 's: 'r>(
     rt: &impl Abort,
@@ -167,18 +196,16 @@ fn shown_once<'r, 's: 'r>(
 ) -> Result<bool, Fail> {
     let (asked, (text, lent, errors)) = *row;
     let mut found = Vec::new(alloc);
-    let Ok((shown, is_lent)) = format(alloc, chain, asked, &mut found) else {
-        // What was added begins the errors.
-        let found = lines(alloc, found.as_slice())?;
-        assert!(rt; errors.starts_with(found.as_str()), "{text}");
+    let shown = format(alloc, chain, asked, &mut found);
+    let Some(is_right) = is_shown(shown, text, lent) else {
+        begin(rt, alloc, found.as_slice(), errors)?;
         return Ok(false);
     };
-    let Ok(found) = lines(alloc, found.as_slice()) else {
+    let Some(are_right) = are(alloc, found.as_slice(), errors) else {
         return Ok(false);
     };
-    assert!(rt; shown.as_str() == text, "{text}");
-    assert!(rt; is_lent == lent, "{text}");
-    assert!(rt; found.as_str() == errors, "{text}");
+    check(rt, is_right, text);
+    check(rt, are_right, errors);
     Ok(true)
 }
 
@@ -191,7 +218,7 @@ pub fn shows<'r, 's: 'r>(
 ) -> Result<(), Fail> {
     for row in rows {
         if !shown_once(rt, alloc, chain, row)? {
-            assert!(rt; shown_once(rt, alloc, chain, row)?);
+            check(rt, shown_once(rt, alloc, chain, row)?, "shown again");
         }
     }
     Ok(())

@@ -1,4 +1,5 @@
 //! Attributes, and whether a part is there at all.
+use crate::check::check;
 use crate::common::{Bundles, attribute, bundle_of, read, sources_show, value};
 use fluent_bundle::FluentResource;
 use fluent_chain::{Chain, Link};
@@ -56,7 +57,7 @@ fn have<'r, 's: 'r>(
     let links = [Link(&first), Link(&second)];
     let chain = Chain::new(&links);
     for (id, name, there) in THERE {
-        assert!(rt; has(&chain, *id, *name) == *there, "{id}");
+        check(rt, has(&chain, *id, *name) == *there, *id);
     }
     Ok(())
 }

@@ -1,6 +1,7 @@
 //! Bundles of one chain with settings of their own, and texts that take no memory.
 ghost use Rattle.std.specs.Prelude.{IsTrue};
 
+use crate::check::check;
 use crate::common::{Bundle, Row, Upper, both_show, bundle_of, read, value};
 use fluent_bundle::{EnglishPlurals, FluentResource, NoCustom, NoFormatter, NoFunction};
 use fluent_chain::Chain;
@@ -43,8 +44,8 @@ fn limited_show<'r, 's: 'r>(
 ) -> Result<(), Fail> {
     let mut first = bundle_of(alloc, first)?;
     let mut second = bundle_of(alloc, second)?;
-    assert!(rt; set_limit(&mut first, 1));
-    assert!(rt; set_limit(&mut second, 101));
+    check(rt, set_limit(&mut first, 1), "a limit");
+    check(rt, set_limit(&mut second, 101), "another limit");
     both_show(rt, alloc, &first, &second, rows)
 }
 
@@ -116,6 +117,6 @@ fn is_the_id(alloc: Global, id: &str) -> bool
 
 #[test]
 fn an_id_takes_no_memory(rt: HostRuntime) -> Result<(), Fail> {
-    assert!(rt; is_the_id(rt.alloc(), "a"));
+    check(&rt, is_the_id(rt.alloc(), "a"), "a");
     Ok(())
 }

@@ -1,7 +1,8 @@
 //! Calls that add to a bundle while memory is refused: where nothing is there, and where half of what comes is.
-use crate::found::{are, list, room};
+use crate::check::check;
+use crate::found::Noted;
 use fluent_bundle::bundle::AddFault;
-use fluent_bundle::{Call, FluentError, FluentResource, FunctionRef, GetEntry};
+use fluent_bundle::{Call, FluentResource, FunctionRef, GetEntry};
 use fluent_fixtures::common::{Bundle, add, empty, first_text, read};
 use fluent_fixtures::own::Own;
 use std::alloc::{AllocError, Global};
@@ -47,7 +48,7 @@ fn is_held(bundle: &Bundle<'_, '_>, held: &Held) -> bool {
 
 fn are_held(rt: &impl Abort, bundle: &Bundle<'_, '_>, all: &[Held]) {
     for held in all {
-        assert!(rt; is_held(bundle, held), "{}", held.0);
+        check(rt, is_held(bundle, held), held.0);
     }
 }
 
@@ -91,24 +92,21 @@ fn take<'r, 's>(
     }
 }
 
-/// What a call reports; `None` where memory is refused.
-fn reported(answer: Result<(), AddFault>, none: Vec<FluentError>) -> Option<Vec<FluentError>> {
+/// Puts the errors that a call reports behind the one that stands in a list; `false` where memory is refused.
+fn report(noted: &mut Noted, answer: Result<(), AddFault>) -> Result<bool, AllocError> {
     match answer {
-        Ok(()) => Some(none),
-        Err(AddFault::Overriding(errors)) => Some(errors),
-        Err(AddFault::Memory) => None,
+        Ok(()) => Ok(true),
+        Err(AddFault::Overriding(errors)) => {
+            let mut errors = errors;
+            noted.errors.append(&mut errors)?;
+            Ok(true)
+        }
+        Err(AddFault::Memory) => Ok(false),
     }
 }
 
 /// A call, the lines of its errors, and what ids name after it.
 type Row = (Step, &'static str, &'static [Held]);
-
-/// Puts errors behind the one that stands in each list.
-fn behind(alloc: Global, mut errors: Vec<FluentError>) -> Result<Vec<FluentError>, AllocError> {
-    let mut all = list(alloc)?;
-    all.append(&mut errors)?;
-    Ok(all)
-}
 
 /// Makes a call; `false` where memory is refused, after which all is as before.
 fn makes<'r, 's>(
@@ -119,15 +117,22 @@ fn makes<'r, 's>(
     row: &Row,
     before: &[Held],
 ) -> Result<bool, Fail> {
-    let mut room = room(alloc)?;
-    let answer = take(bundle, resource, row.0);
-    let Some(errors) = reported(answer, Vec::new(alloc)) else {
+    let mut noted = Noted::new(alloc)?;
+    if !report(&mut noted, take(bundle, resource, row.0))? {
         are_held(rt, bundle, before);
         return Ok(false);
-    };
+    }
     are_held(rt, bundle, row.2);
-    are(rt, &mut room, behind(alloc, errors)?.as_slice(), row.1)?;
+    noted.stand(rt, row.1, true)?;
     Ok(true)
+}
+
+/// The answer of a call that adds all, since nothing is there.
+fn is_added(answer: Result<(), AddFault>) -> Result<(), AllocError> {
+    match answer {
+        Ok(()) => Ok(()),
+        Err(_) => Err(AllocError),
+    }
 }
 
 /// A bundle over a first source, with a function.
@@ -135,12 +140,12 @@ fn started<'r, 's>(
     alloc: Global,
     first: &'r FluentResource<'s>,
     has_function: bool,
-) -> Result<Bundle<'r, 's>, Fail> {
+) -> Result<Bundle<'r, 's>, AllocError> {
     let mut bundle: Bundle<'r, 's> = empty(alloc);
     if has_function {
-        bundle.add_function("G", Own::Fault).ok().ok_or(AllocError)?;
+        is_added(bundle.add_function("G", Own::Fault))?;
     }
-    add(&mut bundle, first).ok().ok_or(AllocError)?;
+    is_added(add(&mut bundle, first))?;
     Ok(bundle)
 }
 
@@ -153,6 +158,23 @@ struct Table {
     rows: &'static [Row],
 }
 
+/// Makes a call, and once more where it is refused.
+fn makes_twice<'r, 's>(
+    rt: &impl Abort,
+    alloc: Global,
+    bundle: &mut Bundle<'r, 's>,
+    resource: &'r FluentResource<'s>,
+    row: &Row,
+    before: &[Held],
+) -> Result<(), Fail> {
+    for _ in 0..2 {
+        if makes(rt, alloc, bundle, resource, row, before)? {
+            return Ok(());
+        }
+    }
+    Err("refused again".into())
+}
+
 fn is_made<'r, 's>(
     rt: &impl Abort,
     alloc: Global,
@@ -162,12 +184,7 @@ fn is_made<'r, 's>(
 ) -> Result<(), Fail> {
     let mut bundle: Bundle<'r, 's> = started(alloc, sources.0, table.has_function)?;
     are_held(rt, &bundle, table.before);
-    for _ in 0..2 {
-        if makes(rt, alloc, &mut bundle, sources.1, row, table.before)? {
-            return Ok(());
-        }
-    }
-    Err("refused again".into())
+    makes_twice(rt, alloc, &mut bundle, sources.1, row, table.before)
 }
 
 fn holds(rt: &impl Abort, alloc: Global, table: &Table) -> Result<(), Fail> {

@@ -1,13 +1,14 @@
 //! Each write of a scope's calls fails in turn, as it may: what was written and added begins the whole, and environment
 //! and path are as before, so that the same call comes to the whole when it is made again in that scope.
-use crate::found::{are, are_behind, begin, list, room};
+use crate::check::check;
+use crate::found::{Noted, are, are_behind, begin};
 use crate::scope::{Scoped, listed};
-use crate::stopped::{ended, writer};
 use fluent_bundle::ast::{Expression, InlineExpression, Pattern, PatternElement};
 use fluent_bundle::{Counting, FluentArgs, Scope, WriteFault};
 use fluent_fixtures::common::read;
 use fluent_fixtures::objects::Star;
-use fluent_fixtures::settings::{Bundle, Given, Setting, arguments, bundle_of, value_in};
+use fluent_fixtures::settings::{Bundle, Given, Setting, arguments, bundle_of, pattern_in};
+use fluent_fixtures::stopped::{ended, writer};
 use fluent_fixtures::stopping::{FAULTS, Fault, Stopping};
 use std::alloc::Global;
 use std::process::Abort;
@@ -15,7 +16,7 @@ use std::test::Fail;
 
 // ---- calls
 
-/// A call that writes, for the value of the message `p`, and the expression of its last placeable.
+/// A call that writes.
 #[derive(Clone, Copy)]
 enum Asked {
     Track,
@@ -23,12 +24,30 @@ enum Asked {
     RefError,
 }
 
-/// The expression of the last placeable of a pattern.
-fn last_of<'p, 's>(pattern: &'p Pattern<'s>) -> Result<&'p Expression<'s>, Fail> {
+/// The value of the message `p`, and the expression of its last placeable.
+#[derive(Clone, Copy)]
+struct Parts<'p, 's> {
+    pattern: &'p Pattern<'s>,
+    expression: &'p Expression<'s>,
+}
+
+fn parts_of<'p, 's>(bundle: &'p Bundle<'_, 's>) -> Result<Parts<'p, 's>, Fail> {
+    let pattern = pattern_in(bundle, "p")?;
     match pattern.elements.last() {
-        Some(PatternElement::Placeable { expression }) => Ok(expression),
+        Some(PatternElement::Placeable { expression }) => Ok(Parts {
+            pattern,
+            expression,
+        }),
         _ => Err("no placeable".into()),
     }
+}
+
+/// What a call is made with.
+#[derive(Clone, Copy)]
+struct Called<'p, 'r, 's> {
+    bundle: &'p Bundle<'r, 's>,
+    args: &'p FluentArgs<'static, Star>,
+    parts: Parts<'p, 's>,
 }
 
 /// An expression, or the selector of a select.
@@ -138,88 +157,135 @@ const LOST: &[(&str, &str, &str)] = &[
 
 // ---- faults
 
+/// Makes a call with a writer that stops.
+fn ends<'p, 's>(
+    rt: &impl Abort,
+    scope: &mut Scoped<'_, 'p, '_, 's>,
+    w: Counting<Stopping>,
+    row: &Row,
+    parts: Parts<'p, 's>,
+    fault: Fault,
+) -> bool {
+    let mut w = w;
+    let answer = ask(scope, &mut w, row.0, parts.pattern, parts.expression);
+    let end = ended(answer, w, fault, row.2);
+    check(rt, end.is_right, row.2);
+    end.is_whole
+}
+
 /// Makes a call once more in the same scope, which comes to the whole; what was opened before is all that is missing.
 fn asks_again<'p, 's>(
     rt: &impl Abort,
     alloc: Global,
     scope: &mut Scoped<'_, 'p, '_, 's>,
+    room: &mut String,
     row: &Row,
-    pattern: &'p Pattern<'s>,
+    parts: Parts<'p, 's>,
     fault: Fault,
 ) -> Result<(), Fail> {
     let (opened, count) = (scope.counts().opened, listed(scope).len());
-    let mut w = writer(alloc, u64::MAX, fault)?;
-    let answer = ask(scope, &mut w, row.0, pattern, last_of(pattern)?);
-    assert!(rt; ended(rt, &answer, w, fault, row.2).is_whole, "{}", row.2);
+    let w = writer(alloc, u64::MAX, fault)?;
+    check(rt, ends(rt, scope, w, row, parts, fault), row.2);
     let both = scope.counts().opened;
-    assert!(rt;
-        opened <= row.4 && both.saturating_sub(opened) == row.4,
-        "{}",
-        row.2
-    );
-    assert!(rt; !scope.dirty(), "{}", row.2);
-    are_behind(rt, &mut room(alloc)?, listed(scope), count, row.3)
+    check(rt, both.saturating_sub(opened) == row.4, row.2);
+    check(rt, opened <= row.4 && !scope.dirty(), row.2);
+    are_behind(rt, room, listed(scope), count, row.3)
 }
 
-/// Makes a call with a writer that stops; `false` where the text is whole before. A scope that was struck stays so, and
+/// What stands in a scope whose call was whole, or ended where its writer stopped. One that was struck stays so, and
 /// isn't asked again.
+fn stands<'p, 's>(
+    rt: &impl Abort,
+    alloc: Global,
+    scope: &mut Scoped<'_, 'p, '_, 's>,
+    room: &mut String,
+    row: &Row,
+    parts: Parts<'p, 's>,
+    fault: Fault,
+    is_whole: bool,
+) -> Result<(), Fail> {
+    let is_struck = row.4 == row.5 as u64;
+    let opened = scope.counts().opened;
+    if is_whole {
+        check(rt, opened == row.4 && scope.dirty() == is_struck, row.2);
+        return are(rt, room, listed(scope), row.3);
+    }
+    begin(rt, room, listed(scope), row.3)?;
+    check(rt, opened <= row.4, row.2);
+    if is_struck {
+        return Ok(());
+    }
+    asks_again(rt, alloc, scope, room, row, parts, fault)
+}
+
+/// Makes a call in a new scope with a writer that stops; `false` where the text is whole before.
 fn stops<'p, 'r, 's>(
     rt: &impl Abort,
     alloc: Global,
-    bundle: &'p Bundle<'r, 's>,
-    args: &'p FluentArgs<'static, Star>,
+    called: Called<'p, 'r, 's>,
     row: &Row,
     left: u64,
     fault: Fault,
 ) -> Result<bool, Fail> {
-    let pattern = value_in(bundle, "p").ok_or("no p")?;
-    let mut errors = list(alloc)?;
-    let mut scope = Scope::new(bundle, bundle.ids(), Some(args), Some(&mut errors));
-    let mut w = writer(alloc, left, fault)?;
-    let answer = ask(&mut scope, &mut w, row.0, pattern, last_of(pattern)?);
-    let is_struck = row.4 == row.5 as u64;
-    if ended(rt, &answer, w, fault, row.2).is_whole {
-        assert!(rt;
-            scope.counts().opened == row.4 && scope.dirty() == is_struck,
-            "{}",
-            row.2
-        );
-        are(rt, &mut room(alloc)?, listed(&scope), row.3)?;
-        return Ok(false);
-    }
-    begin(rt, &mut room(alloc)?, listed(&scope), row.3)?;
-    assert!(rt; scope.counts().opened <= row.4, "{}", row.2);
-    if !is_struck {
-        asks_again(rt, alloc, &mut scope, row, pattern, fault)?;
-    }
-    Ok(true)
+    let Called {
+        bundle,
+        args,
+        parts,
+    } = called;
+    let w = writer(alloc, left, fault)?;
+    let mut noted = Noted::new(alloc)?;
+    let mut scope = Scope::new(bundle, bundle.ids(), Some(args), Some(&mut noted.errors));
+    let is_whole = ends(rt, &mut scope, w, row, parts, fault);
+    let room = &mut noted.room;
+    stands(rt, alloc, &mut scope, room, row, parts, fault, is_whole)?;
+    Ok(!is_whole)
 }
 
 /// The writer stops at each write in turn.
 fn stops_anywhere<'p, 'r, 's>(
     rt: &impl Abort,
     alloc: Global,
-    bundle: &'p Bundle<'r, 's>,
-    args: &'p FluentArgs<'static, Star>,
+    called: Called<'p, 'r, 's>,
     row: &Row,
     fault: Fault,
 ) -> Result<(), Fail> {
     for left in 0..100 {
-        if !stops(rt, alloc, bundle, args, row, left, fault)? {
+        if !stops(rt, alloc, called, row, left, fault)? {
             return Ok(());
         }
     }
     Err("no text is whole".into())
 }
 
+fn stops_so<'p, 'r, 's>(
+    rt: &impl Abort,
+    alloc: Global,
+    bundle: &'p Bundle<'r, 's>,
+    args: &'p FluentArgs<'static, Star>,
+    row: &Row,
+) -> Result<(), Fail> {
+    let parts = parts_of(bundle)?;
+    for fault in FAULTS {
+        stops_anywhere(
+            rt,
+            alloc,
+            Called {
+                bundle,
+                args,
+                parts,
+            },
+            row,
+            *fault,
+        )?;
+    }
+    Ok(())
+}
+
 fn holds(rt: &impl Abort, alloc: Global, row: &Row) -> Result<(), Fail> {
     let resource = read(alloc, row.1)?;
     let bundle = bundle_of(alloc, &[Setting::Limit(row.5)], &resource)?;
     let args = arguments(alloc, &[("n", Given::Read("1"))])?;
-    for fault in FAULTS {
-        stops_anywhere(rt, alloc, &bundle, &args, row, *fault)?;
-    }
-    Ok(())
+    stops_so(rt, alloc, &bundle, &args, row)
 }
 
 #[test]

@@ -1,12 +1,13 @@
 //! Each write of a value fails in turn: with each kind of error, behind a piece that was taken in part, and with no byte
 //! taken.
-use crate::found::{are, list, room};
+use crate::check::check;
+use crate::found::{Noted, are};
 use crate::scope::{Scoped, listed};
-use crate::stopped::{ended, writer};
-use fluent_bundle::{Counting, FluentValue, Scope, WriteFault};
+use fluent_bundle::{Counting, FluentArgs, FluentValue, Scope, WriteFault};
 use fluent_fixtures::common::read;
 use fluent_fixtures::objects::Star;
-use fluent_fixtures::settings::{Given, Setting, arguments, bundle_of};
+use fluent_fixtures::settings::{Bundle, Given, Setting, arguments, bundle_of};
+use fluent_fixtures::stopped::{ended, writer};
 use fluent_fixtures::stopping::{FAULTS, Fault, Stopping};
 use std::alloc::{AllocError, Global};
 use std::process::Abort;
@@ -50,7 +51,9 @@ fn stops(
 ) -> Result<bool, AllocError> {
     let mut w = writer(alloc, left, fault)?;
     let answer = write(value, &mut w, scope);
-    Ok(!ended(rt, &answer, w, fault, text).is_whole)
+    let end = ended(answer, w, fault, text);
+    check(rt, end.is_right, text);
+    Ok(!end.is_whole)
 }
 
 /// The writer stops at each write in turn.
@@ -70,18 +73,29 @@ fn stops_anywhere(
     Err("no text is whole".into())
 }
 
+/// Writes the value in a scope, which it leaves as it was.
+fn stops_so<'p, 'r, 's>(
+    rt: &impl Abort,
+    alloc: Global,
+    bundle: &'p Bundle<'r, 's>,
+    args: &'p FluentArgs<'static, Star>,
+    noted: &mut Noted,
+    text: &str,
+) -> Result<(), Fail> {
+    let value = args.get("v").ok_or("no value")?;
+    let scope = Scope::new(bundle, bundle.ids(), Some(args), Some(&mut noted.errors));
+    for fault in FAULTS {
+        stops_anywhere(rt, alloc, &scope, value, text, *fault)?;
+    }
+    check(rt, scope.counts().entered == 0 && !scope.dirty(), text);
+    are(rt, &mut noted.room, listed(&scope), "")
+}
+
 fn holds(rt: &impl Abort, alloc: Global, row: &Row) -> Result<(), Fail> {
     let resource = read(alloc, "m = x\n")?;
     let bundle = bundle_of(alloc, row.0, &resource)?;
     let args = arguments(alloc, &[("v", row.1)])?;
-    let value = args.get("v").ok_or("no value")?;
-    let mut errors = list(alloc)?;
-    let scope = Scope::new(&bundle, bundle.ids(), Some(&args), Some(&mut errors));
-    for fault in FAULTS {
-        stops_anywhere(rt, alloc, &scope, value, row.2, *fault)?;
-    }
-    assert!(rt; scope.counts().entered == 0 && !scope.dirty());
-    are(rt, &mut room(alloc)?, listed(&scope), "")
+    stops_so(rt, alloc, &bundle, &args, &mut Noted::new(alloc)?, row.2)
 }
 
 /// Nothing is written after the fault, and what was written begins the text.

@@ -1,13 +1,14 @@
 //! Each write of a pattern fails in turn: with each kind of error, behind a piece that was taken in part, and with no
 //! byte taken.
 use crate::cases::{CASES, Case};
-use crate::found::{are, list, room};
-use crate::stopped::ended;
+use crate::check::check;
+use crate::found::Noted;
 use fluent_bundle::ast::Pattern;
 use fluent_bundle::{Counting, FluentArgs, FluentError, WriteFault};
 use fluent_fixtures::common::read;
 use fluent_fixtures::objects::Star;
-use fluent_fixtures::settings::{Bundle, arguments, bundle_of, value_in};
+use fluent_fixtures::settings::{Bundle, arguments, bundle_of, pattern_in};
+use fluent_fixtures::stopped::ended;
 use fluent_fixtures::stopping::{FAULTS, Fault, Stopping, stops_behind};
 use std::alloc::Global;
 use std::process::Abort;
@@ -39,12 +40,12 @@ fn stops<'s>(
     left: u64,
     fault: Fault,
 ) -> Result<bool, Fail> {
-    let mut room = room(alloc)?;
-    let mut errors = list(alloc)?;
+    let mut noted = Noted::new(alloc)?;
     let mut w = Counting::new(stops_behind(alloc, left, fault));
-    let answer = write(bundle, pattern, args, &mut w, &mut errors);
-    let end = ended(rt, &answer, w, fault, case.text);
-    are(rt, &mut room, errors.as_slice(), lines_at(case, end.taken))?;
+    let answer = write(bundle, pattern, args, &mut w, &mut noted.errors);
+    let end = ended(answer, w, fault, case.text);
+    check(rt, end.is_right, case.text);
+    noted.stand(rt, lines_at(case, end.taken), true)?;
     Ok(!end.is_whole)
 }
 
@@ -57,26 +58,36 @@ fn stops_anywhere<'s>(
     alloc: Global,
     bundle: &Bundle<'_, 's>,
     pattern: &Pattern<'s>,
+    args: &FluentArgs<'_, Star>,
     case: &Case,
     fault: Fault,
 ) -> Result<(), Fail> {
-    let args = arguments(alloc, case.named)?;
     for left in 0..MOST {
-        if !stops(rt, alloc, bundle, pattern, &args, case, left, fault)? {
+        if !stops(rt, alloc, bundle, pattern, args, case, left, fault)? {
             return Ok(());
         }
     }
     Err("no text is whole".into())
 }
 
+fn stops_so<'s>(
+    rt: &impl Abort,
+    alloc: Global,
+    bundle: &Bundle<'_, 's>,
+    pattern: &Pattern<'s>,
+    case: &Case,
+) -> Result<(), Fail> {
+    let args = arguments(alloc, case.named)?;
+    for fault in FAULTS {
+        stops_anywhere(rt, alloc, bundle, pattern, &args, case, *fault)?;
+    }
+    Ok(())
+}
+
 fn holds(rt: &impl Abort, alloc: Global, case: &Case) -> Result<(), Fail> {
     let resource = read(alloc, case.source)?;
     let bundle = bundle_of(alloc, case.settings, &resource)?;
-    let pattern = value_in(&bundle, "p").ok_or("no p")?;
-    for fault in FAULTS {
-        stops_anywhere(rt, alloc, &bundle, pattern, case, *fault)?;
-    }
-    Ok(())
+    stops_so(rt, alloc, &bundle, pattern_in(&bundle, "p")?, case)
 }
 
 /// Nothing is written after the fault, what was written begins the text, and an error is added before its fallback.

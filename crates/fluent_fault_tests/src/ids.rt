@@ -1,5 +1,6 @@
 //! Calls of the map of ids while memory is refused.
-use crate::found::{are, list, room};
+use crate::check::check;
+use crate::found::Noted;
 use fluent_bundle::ast::Entry as Read;
 use fluent_bundle::{Entry, FluentError, Ids};
 use fluent_fixtures::common::{first_text, read};
@@ -27,7 +28,7 @@ fn named_in<'x>(ids: &'x Ids<'_, '_, Own>, id: &str) -> &'x str {
 
 fn are_named(rt: &impl Abort, ids: &Ids<'_, '_, Own>, all: &[Named]) {
     for (id, wanted) in all {
-        assert!(rt; named_in(ids, *id) == *wanted, "{id}");
+        check(rt, named_in(ids, *id) == *wanted, *id);
     }
 }
 
@@ -91,30 +92,51 @@ const ROWS: &[Row] = &[
     ),
 ];
 
-/// Puts errors behind the one that stands in each list.
-fn behind(alloc: Global, mut errors: Vec<FluentError>) -> Result<Vec<FluentError>, AllocError> {
-    let mut all = list(alloc)?;
-    all.append(&mut errors)?;
-    Ok(all)
+/// Puts the errors that a call reports behind the one that stands in a list; `false` where memory is refused.
+fn report(
+    noted: &mut Noted,
+    answer: Result<Vec<FluentError>, AllocError>,
+) -> Result<bool, AllocError> {
+    match answer {
+        Ok(errors) => {
+            let mut errors = errors;
+            noted.errors.append(&mut errors)?;
+            Ok(true)
+        }
+        Err(AllocError) => Ok(false),
+    }
 }
 
-/// Makes a call on a map over the first entries, again where memory is refused, after which all is as before.
+/// Makes a call; `false` where memory is refused, after which all is as before.
+fn makes<'r, 's>(
+    rt: &impl Abort,
+    alloc: Global,
+    ids: &mut Ids<'r, 's, Own>,
+    entries: &'r [Read<'s>],
+    row: &Row,
+) -> Result<bool, Fail> {
+    let mut noted = Noted::new(alloc)?;
+    if !report(&mut noted, take(alloc, ids, entries, row.0))? {
+        are_named(rt, ids, BEFORE);
+        return Ok(false);
+    }
+    are_named(rt, ids, row.2);
+    noted.stand(rt, row.1, true)?;
+    Ok(true)
+}
+
+/// Makes a call on a map over the first entries, and once more where memory is refused.
 fn is_made<'r, 's>(
     rt: &impl Abort,
     alloc: Global,
     entries: (&'r [Read<'s>], &'r [Read<'s>]),
     row: &Row,
 ) -> Result<(), Fail> {
-    let mut room = room(alloc)?;
     let mut ids: Ids<'r, 's, Own> = Ids::new(alloc);
     ids.add_entries(alloc, entries.0)?;
     are_named(rt, &ids, BEFORE);
-    for _ in 0..2 {
-        if let Ok(errors) = take(alloc, &mut ids, entries.1, row.0) {
-            are_named(rt, &ids, row.2);
-            return are(rt, &mut room, behind(alloc, errors)?.as_slice(), row.1);
-        }
-        are_named(rt, &ids, BEFORE);
+    if makes(rt, alloc, &mut ids, entries.1, row)? || makes(rt, alloc, &mut ids, entries.1, row)? {
+        return Ok(());
     }
     Err("refused again".into())
 }

@@ -6,6 +6,8 @@ mod adding;
 #[cfg(test)]
 mod cases;
 #[cfg(test)]
+mod check;
+#[cfg(test)]
 mod each_scope_write;
 #[cfg(test)]
 mod each_value_write;
@@ -20,26 +22,6 @@ mod narrow;
 #[cfg(test)]
 mod objects;
 #[cfg(test)]
-mod quiet_bundle;
-#[cfg(test)]
-mod quiet_chain;
-#[cfg(test)]
-mod quiet_conversions;
-#[cfg(test)]
-mod quiet_errors;
-#[cfg(test)]
-mod quiet_numbers;
-#[cfg(test)]
-mod quiet_plurals;
-#[cfg(test)]
-mod quiet_scope;
-#[cfg(test)]
-mod quiet_settings;
-#[cfg(test)]
-mod quiet_texts;
-#[cfg(test)]
-mod quiet_values;
-#[cfg(test)]
 mod reading;
 #[cfg(test)]
 mod refusing;
@@ -47,8 +29,6 @@ mod refusing;
 mod scope;
 #[cfg(test)]
 mod shown;
-#[cfg(test)]
-mod stopped;
 #[cfg(test)]
 mod texts;
 #[cfg(test)]

@@ -1,10 +1,13 @@
 //! Writers that take so many bytes at once and in all: a text is taken byte by byte, and two stop at a placeable's mark
 //! and behind it.
 use crate::cases::{Case, MISSING, ORDINAL};
-use crate::found::{are, list, room};
-use fluent_bundle::Counting;
+use crate::check::check;
+use crate::found::Noted;
+use fluent_bundle::ast::Pattern;
+use fluent_bundle::{Counting, FluentArgs, FluentError};
 use fluent_fixtures::common::read;
-use fluent_fixtures::settings::{arguments, bundle_of, value_in};
+use fluent_fixtures::objects::Star;
+use fluent_fixtures::settings::{Bundle, arguments, bundle_of, pattern_in};
 use fluent_fixtures::writers::{End, end_of};
 use std::alloc::Global;
 use std::io;
@@ -88,23 +91,43 @@ fn writer(alloc: Global, takes: (usize, usize, bool)) -> Counting<Narrow> {
     })
 }
 
+fn write<'s>(
+    bundle: &Bundle<'_, 's>,
+    pattern: &Pattern<'s>,
+    args: &FluentArgs<'_, Star>,
+    w: &mut Counting<Narrow>,
+    errors: &mut Vec<FluentError>,
+) -> End {
+    end_of(bundle.write_pattern(w, pattern, Some(args), errors))
+}
+
+/// That a writer has the faults and took the bytes that it should.
+fn has_taken(w: Counting<Narrow>, row: &Row) -> bool {
+    let are_counted = (w.failed(), w.empty()) == row.faults;
+    are_counted && w.into_inner().taken.as_slice() == row.text.as_bytes()
+}
+
+fn ends_in(
+    rt: &impl Abort,
+    alloc: Global,
+    bundle: &Bundle<'_, '_>,
+    args: &FluentArgs<'_, Star>,
+    row: &Row,
+) -> Result<(), Fail> {
+    let pattern = pattern_in(bundle, "p")?;
+    let mut noted = Noted::new(alloc)?;
+    let mut w = writer(alloc, row.takes);
+    let end = write(bundle, pattern, args, &mut w, &mut noted.errors);
+    check(rt, end == row.end, row.text);
+    check(rt, has_taken(w, row), row.text);
+    noted.stand(rt, row.lines, true)
+}
+
 fn ends_so(rt: &impl Abort, alloc: Global, row: &Row) -> Result<(), Fail> {
     let resource = read(alloc, row.case.source)?;
     let bundle = bundle_of(alloc, row.case.settings, &resource)?;
-    let pattern = value_in(&bundle, "p").ok_or("no p")?;
     let args = arguments(alloc, row.case.named)?;
-    let mut room = room(alloc)?;
-    let mut errors = list(alloc)?;
-    let mut w = writer(alloc, row.takes);
-    let end = end_of(bundle.write_pattern(&mut w, pattern, Some(&args), &mut errors));
-    assert!(rt; end == row.end, "{}", row.text);
-    assert!(rt; (w.failed(), w.empty()) == row.faults, "{}", row.text);
-    assert!(rt;
-        w.into_inner().taken.as_slice() == row.text.as_bytes(),
-        "{}",
-        row.text
-    );
-    are(rt, &mut room, errors.as_slice(), row.lines)
+    ends_in(rt, alloc, &bundle, &args, row)
 }
 
 #[test]

@@ -3,6 +3,7 @@ ghost use Rattle.std.specs.Prelude.{◌≡◌, [], map, unwrap_or, slice_get, If
 ghost use Rattle.fluent_meaning.specs.Value.{error_value};
 ghost use Rattle.fluent_values.specs.View.{value_view};
 
+use crate::check::{again, check_at};
 use fluent_bundle::{
     AnswerRule, Answering, FluentArgs, FluentFormatter, FluentFunction, FluentType, FluentValue,
     FunctionOf, NoCustom, NoFormatter, NoFunction, NoTransform, Transform,
@@ -40,13 +41,27 @@ fn text(alloc: Global) -> Result<FluentValue<'static, NoCustom>, AllocError> {
     Ok(FluentValue::from(String::from_str(alloc, "q")?))
 }
 
+/// Whether an answer is that text.
+fn is_text(answer: Result<FluentValue<'_, NoCustom>, AllocError>) -> Result<bool, AllocError> {
+    Ok(answer?.same(&FluentValue::from("q")))
+}
+
 fn is_answered<F: FluentFunction<NoCustom>>(
     alloc: Global,
     function: &F,
 ) -> Result<bool, AllocError> {
     let positional = [text(alloc)?];
-    let answer = function.call(alloc, &positional, &FluentArgs::new(alloc))?;
-    Ok(answer.same(&FluentValue::from("q")))
+    is_text(function.call(alloc, &positional, &FluentArgs::new(alloc)))
+}
+
+fn is_replied<K: Answering<NoCustom, FirstValue>>(
+    alloc: Global,
+    closure: &K,
+) -> Result<bool, AllocError>
+    requires { K.ready closure.now }
+{
+    let positional = [text(alloc)?];
+    is_text(closure.reply(alloc, &positional, &FluentArgs::new(alloc)))
 }
 
 /// Whether a function that is kept answers, and replies the same by itself.
@@ -56,9 +71,7 @@ fn kept_answers<K: Answering<NoCustom, FirstValue> + Drop>(
 ) -> Result<bool, AllocError>
     requires { K.ready closure }
 {
-    let positional = [text(alloc)?];
-    let reply = closure.reply(alloc, &positional, &FluentArgs::new(alloc))?;
-    let is_right = reply.same(&FluentValue::from("q"));
+    let is_right = is_replied(alloc, &closure)?;
     Ok(is_right && is_answered(alloc, &FunctionOf::<NoCustom, K, FirstValue>::new(closure))?)
 }
 
@@ -69,18 +82,24 @@ fn no_custom(alloc: Global) -> Result<bool, AllocError> {
     Ok(copy.as_string(alloc)?.is_empty())
 }
 
+/// Whether an answer is an error.
+fn is_error(answer: Result<FluentValue<'_, NoCustom>, AllocError>) -> Result<bool, AllocError> {
+    Ok(matches!(answer?, FluentValue::Error))
+}
+
 fn no_function(alloc: Global) -> Result<bool, AllocError> {
     let positional = [text(alloc)?];
-    let answer = NoFunction.call(alloc, &positional, &FluentArgs::new(alloc))?;
-    Ok(matches!(answer, FluentValue::Error))
+    is_error(NoFunction.call(alloc, &positional, &FluentArgs::new(alloc)))
+}
+
+/// Whether a formatter leaves a value to its own text.
+fn is_nothing(answer: Result<Option<String>, AllocError>) -> Result<bool, AllocError> {
+    Ok(answer?.is_none())
 }
 
 fn no_formatter(alloc: Global) -> Result<bool, AllocError> {
-    Ok(
-        NoFormatter
-            .format(alloc, &text(alloc)?, &EnglishPlurals)?
-            .is_none(),
-    )
+    let value = text(alloc)?;
+    is_nothing(NoFormatter.format(alloc, &value, &EnglishPlurals))
 }
 
 fn no_transform(alloc: Global) -> Result<bool, AllocError> {
@@ -131,9 +150,9 @@ fn objects_that_are_refused_can_be_asked_again(rt: HostRuntime) -> Result<(), Fa
     for (at, asked) in ALL.iter().enumerate() {
         let found = match is_right(rt.alloc(), *asked) {
             Ok(found) => found,
-            Err(AllocError) => is_right(rt.alloc(), *asked).ok().ok_or("refused again")?,
+            Err(AllocError) => again(is_right(rt.alloc(), *asked))?,
         };
-        assert!(rt; found, "at {at}");
+        check_at(&rt, found, at);
     }
     Ok(())
 }

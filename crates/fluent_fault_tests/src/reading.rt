@@ -1,9 +1,10 @@
 //! Sources that are read while memory is refused.
 use crate::cases::RANK;
+use crate::check::{again, check_at};
 use fluent_bundle::ast::{Entry, Expression, PatternElement, Variant, VariantKey};
 use fluent_bundle::{FluentResource, ParserError, TryNewFault};
 use fluent_syntax::{ParseFault, parse_runtime};
-use std::alloc::Global;
+use std::alloc::{AllocError, Global};
 use std::test::Fail;
 
 // ---- a select with seven variants
@@ -84,31 +85,31 @@ enum Reading {
     JunkAsTree,
 }
 
-/// Whether a source was read as it should; `None` where memory is refused.
-fn resource_is(alloc: Global, source: &str) -> Option<bool> {
+/// Whether a source was read as it should.
+fn resource_is(alloc: Global, source: &str) -> Result<bool, AllocError> {
     match FluentResource::try_new(alloc, source) {
-        Ok(resource) => Some(is_rank(resource.entries().as_slice())),
-        Err(TryNewFault::Parser(resource, errors)) => Some(is_between_junk(
+        Ok(resource) => Ok(is_rank(resource.entries().as_slice())),
+        Err(TryNewFault::Parser(resource, errors)) => Ok(is_between_junk(
             resource.entries().as_slice(),
             errors.as_slice(),
         )),
-        Err(TryNewFault::Memory) => None,
+        Err(TryNewFault::Memory) => Err(AllocError),
     }
 }
 
 /// The same of the tree.
-fn tree_is(alloc: Global, source: &str) -> Option<bool> {
+fn tree_is(alloc: Global, source: &str) -> Result<bool, AllocError> {
     match parse_runtime(alloc, source) {
-        Ok(tree) => Some(is_rank(tree.body.as_slice())),
-        Err(ParseFault::Parser(tree, errors)) => Some(is_between_junk(
+        Ok(tree) => Ok(is_rank(tree.body.as_slice())),
+        Err(ParseFault::Parser(tree, errors)) => Ok(is_between_junk(
             tree.body.as_slice(),
             errors.as_slice(),
         )),
-        Err(ParseFault::Memory) => None,
+        Err(ParseFault::Memory) => Err(AllocError),
     }
 }
 
-fn is_read(alloc: Global, reading: Reading) -> Option<bool> {
+fn is_read(alloc: Global, reading: Reading) -> Result<bool, AllocError> {
     match reading {
         Reading::Rank => resource_is(alloc, RANK),
         Reading::Junk => resource_is(alloc, JUNK),
@@ -127,12 +128,12 @@ const READINGS: &[Reading] = &[
 /// Run with each allocation failing in turn, and all from each one on.
 #[test]
 fn sources_are_read_where_memory_is_refused(rt: HostRuntime) -> Result<(), Fail> {
-    for reading in READINGS {
+    for (at, reading) in READINGS.iter().enumerate() {
         let found = match is_read(rt.alloc(), *reading) {
-            Some(found) => found,
-            None => is_read(rt.alloc(), *reading).ok_or("refused again")?,
+            Ok(found) => found,
+            Err(AllocError) => again(is_read(rt.alloc(), *reading))?,
         };
-        assert!(rt; found);
+        check_at(&rt, found, at);
     }
     Ok(())
 }

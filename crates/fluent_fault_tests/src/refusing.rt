@@ -1,7 +1,9 @@
 //! Objects of an application that answer each call by want of memory: so does the formatting call that asked them, and
 //! what was written and added till then stands.
-use crate::found::{are, list, room};
+use crate::check::check;
+use crate::found::Noted;
 use fluent_bundle::ast::Pattern;
+use fluent_bundle::bundle::AddFault;
 use fluent_bundle::{
     Counting, EnglishPlurals, FluentArgs, FluentBundle, FluentError, FluentFormatter,
     FluentFunction, FluentResource, FluentType, FluentValue, Transform, WriteFault,
@@ -133,19 +135,34 @@ const ROWS: &[Row] = &[
     ),
 ];
 
+/// Whether a call added all, where nothing was there.
+fn is_added(answer: Result<(), AddFault>) -> bool {
+    answer.is_ok()
+}
+
+/// Adds the source and the function.
+fn fill<'r, 's>(bundle: &mut Bundle<'r, 's>, resource: &'r FluentResource<'s>) -> bool {
+    is_added(bundle.add_resource(resource)) && is_added(bundle.add_function("F", Refusing))
+}
+
+fn set(bundle: &mut Bundle<'_, '_>, has: Has) {
+    match has {
+        Has::Neither => {}
+        Has::Formatter => bundle.set_formatter(Some(Refusing)),
+        Has::Transform => bundle.set_transform(Some(Refusing)),
+    }
+}
+
 fn bundle_of<'r, 's>(
     alloc: Global,
     has: Has,
     resource: &'r FluentResource<'s>,
 ) -> Result<Bundle<'r, 's>, Fail> {
     let mut bundle: Bundle<'r, 's> = FluentBundle::new_default(alloc)?;
-    bundle.add_resource(resource).ok().ok_or("not added")?;
-    bundle.add_function("F", Refusing).ok().ok_or("not added")?;
-    match has {
-        Has::Neither => {}
-        Has::Formatter => bundle.set_formatter(Some(Refusing)),
-        Has::Transform => bundle.set_transform(Some(Refusing)),
+    if !fill(&mut bundle, resource) {
+        return Err("not added".into());
     }
+    set(&mut bundle, has);
     Ok(bundle)
 }
 
@@ -175,24 +192,57 @@ fn format<'s>(
     bundle.format_pattern(pattern, Some(args), errors)
 }
 
-fn is_refused(rt: &impl Abort, alloc: Global, row: &Row) -> Result<(), Fail> {
-    let Row(source, has, text, lines) = row;
-    let resource = read(alloc, source)?;
-    let bundle = bundle_of(alloc, *has, &resource)?;
-    let pattern = value_of(&resource)?;
-    let args = arguments(alloc)?;
-    let mut room = room(alloc)?;
-    let mut errors = list(alloc)?;
+// ---- rows
+
+/// That a pattern is written until memory is refused.
+fn stops_writing<'s>(
+    rt: &impl Abort,
+    alloc: Global,
+    bundle: &Bundle<'_, 's>,
+    pattern: &Pattern<'s>,
+    args: &FluentArgs<'_, Refusing>,
+    row: &Row,
+) -> Result<(), Fail> {
+    let mut noted = Noted::new(alloc)?;
     let mut w = Counting::new(Vec::new(alloc));
-    let written = write(&bundle, pattern, &args, &mut w, &mut errors);
-    assert!(rt; matches!(written, Err(WriteFault::Memory)), "{source}");
-    assert!(rt; w.failed() == 0 && w.empty() == 0, "{source}");
-    assert!(rt; w.into_inner().as_slice() == text.as_bytes(), "{source}");
-    are(rt, &mut room, errors.as_slice(), lines)?;
-    let mut errors = list(alloc)?;
-    let formatted = format(&bundle, pattern, &args, &mut errors);
-    assert!(rt; formatted.is_err(), "{source}");
-    are(rt, &mut room, errors.as_slice(), lines)
+    let answer = write(bundle, pattern, args, &mut w, &mut noted.errors);
+    check(rt, is_memory(answer), row.0);
+    check(rt, has_taken(w, row.2), row.0);
+    noted.stand(rt, row.3, true)
+}
+
+fn is_memory(answer: Result<(), WriteFault>) -> bool {
+    matches!(answer, Err(WriteFault::Memory))
+}
+
+/// Whether a writer without a fault took this text.
+fn has_taken(w: Counting<Vec<u8>>, text: &str) -> bool {
+    let has_no_fault = w.failed() == 0 && w.empty() == 0;
+    has_no_fault && w.into_inner().as_slice() == text.as_bytes()
+}
+
+/// The same where it is formatted.
+fn stops_formatting<'s>(
+    rt: &impl Abort,
+    alloc: Global,
+    bundle: &Bundle<'_, 's>,
+    pattern: &Pattern<'s>,
+    args: &FluentArgs<'_, Refusing>,
+    row: &Row,
+) -> Result<(), Fail> {
+    let mut noted = Noted::new(alloc)?;
+    let formatted = format(bundle, pattern, args, &mut noted.errors);
+    check(rt, formatted.is_err(), row.0);
+    noted.stand(rt, row.3, true)
+}
+
+fn is_refused(rt: &impl Abort, alloc: Global, row: &Row) -> Result<(), Fail> {
+    let resource = read(alloc, row.0)?;
+    let bundle = bundle_of(alloc, row.1, &resource)?;
+    let args = arguments(alloc)?;
+    let pattern = value_of(&resource)?;
+    stops_writing(rt, alloc, &bundle, pattern, &args, row)?;
+    stops_formatting(rt, alloc, &bundle, pattern, &args, row)
 }
 
 #[test]
@@ -203,41 +253,64 @@ fn want_of_memory_that_an_object_answers_is_answered(rt: HostRuntime) -> Result<
     Ok(())
 }
 
+// ---- what isn't asked
+
+/// Writes a pattern, which is whole, with these errors behind it.
+fn is_written<'s>(
+    rt: &impl Abort,
+    alloc: Global,
+    bundle: &Bundle<'_, 's>,
+    pattern: &Pattern<'s>,
+    noted: &mut Noted,
+    text: &str,
+    lines: &str,
+) -> Result<(), Fail> {
+    let args = arguments(alloc)?;
+    let mut w = Counting::new(Vec::new(alloc));
+    let answer = write(bundle, pattern, &args, &mut w, &mut noted.errors);
+    check(rt, answer.is_ok(), text);
+    check(rt, has_taken(w, text), text);
+    noted.stand(rt, lines, true)
+}
+
+const CHOOSING: &str = "m = a { $x ->\n   *[o] b\n } c";
+
 /// A value that is a selector is lent: it isn't asked for a copy.
 #[test]
 fn a_selector_is_not_copied(rt: HostRuntime) -> Result<(), Fail> {
-    let alloc = rt.alloc();
-    let resource = read(alloc, "m = a { $x ->\n   *[o] b\n } c")?;
-    let bundle = bundle_of(alloc, Has::Neither, &resource)?;
+    let resource = read(rt.alloc(), CHOOSING)?;
+    let bundle = bundle_of(rt.alloc(), Has::Neither, &resource)?;
     let pattern = value_of(&resource)?;
+    let mut noted = Noted::new(rt.alloc())?;
+    let text = "a \u{2068}b\u{2069} c";
+    is_written(&rt, rt.alloc(), &bundle, pattern, &mut noted, text, "")
+}
+
+const LOST_TWICE: &str =
+    "Resolver error: Unknown variable: $y\nResolver error: Unknown variable: $y\n";
+
+/// Writes a pattern whole, and formats it in vain.
+fn is_not_shown<'s>(
+    rt: &impl Abort,
+    alloc: Global,
+    bundle: &Bundle<'_, 's>,
+    pattern: &Pattern<'s>,
+    noted: &mut Noted,
+) -> Result<(), Fail> {
+    let text = "a \u{2068}{$y}\u{2069}";
+    is_written(rt, alloc, bundle, pattern, noted, text, LOST)?;
     let args = arguments(alloc)?;
-    let mut room = room(alloc)?;
-    let mut errors = list(alloc)?;
-    let mut w = Counting::new(Vec::new(alloc));
-    assert!(rt; write(&bundle, pattern, &args, &mut w, &mut errors).is_ok());
-    assert!(rt; w.into_inner().as_slice() == "a \u{2068}b\u{2069} c".as_bytes());
-    are(&rt, &mut room, errors.as_slice(), "")
+    let formatted = format(bundle, pattern, &args, &mut noted.errors);
+    check(rt, formatted.is_err(), text);
+    noted.stand(rt, LOST_TWICE, true)
 }
 
 /// A formatter is asked once more for the whole text, when it is written already.
 #[test]
 fn a_whole_text_that_is_not_shown_keeps_its_errors(rt: HostRuntime) -> Result<(), Fail> {
-    let alloc = rt.alloc();
-    let resource = read(alloc, "m = a { $y }")?;
-    let bundle = bundle_of(alloc, Has::Formatter, &resource)?;
+    let resource = read(rt.alloc(), "m = a { $y }")?;
+    let bundle = bundle_of(rt.alloc(), Has::Formatter, &resource)?;
     let pattern = value_of(&resource)?;
-    let args = arguments(alloc)?;
-    let mut room = room(alloc)?;
-    let mut errors = list(alloc)?;
-    let mut w = Counting::new(Vec::new(alloc));
-    assert!(rt; write(&bundle, pattern, &args, &mut w, &mut errors).is_ok());
-    assert!(rt; w.into_inner().as_slice() == "a \u{2068}{$y}\u{2069}".as_bytes());
-    let formatted = format(&bundle, pattern, &args, &mut errors);
-    assert!(rt; formatted.is_err());
-    are(
-        &rt,
-        &mut room,
-        errors.as_slice(),
-        "Resolver error: Unknown variable: $y\nResolver error: Unknown variable: $y\n",
-    )
+    let mut noted = Noted::new(rt.alloc())?;
+    is_not_shown(&rt, rt.alloc(), &bundle, pattern, &mut noted)
 }

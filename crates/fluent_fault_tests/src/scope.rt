@@ -1,6 +1,8 @@
 //! Calls of a scope while memory is refused: it has its environment and path as before, and its budget is not higher, so
 //! that the call comes to the whole when it is made again.
-use crate::found::{are, are_behind, begin, list, room};
+use crate::check::check;
+use crate::found::{Noted, are, are_behind, begin};
+use crate::writing::{is_taken, is_whole};
 use fluent_bundle::ast::{CallArguments, Expression, InlineExpression, Pattern, PatternElement};
 use fluent_bundle::{
     Counting, FluentArgs, FluentError, FluentValue, ReferenceKind, ResolverError, Scope, WriteFault,
@@ -81,20 +83,23 @@ fn is_read(value: Option<&FluentValue<'_, Star>>, text: &'static str) -> bool {
     }
 }
 
+/// Whether the values of the arguments are right.
+fn are_right(positional: &[FluentValue<'_, Star>], named: &FluentArgs<'_, Star>) -> bool {
+    positional.len() == 4
+        && matches!(positional.first(), Some(FluentValue::Error))
+        && is_read(positional.get(1), TERM)
+        && is_read(positional.get(2), MESSAGE)
+        && is_read(positional.get(3), "9")
+        && is_read(named.get("x"), "3")
+}
+
 /// Asks for the values of the arguments, which are to be right.
 fn get<'p, 's>(
     scope: &mut Scoped<'_, 'p, '_, 's>,
     parts: Parts<'p, 's>,
 ) -> Result<bool, AllocError> {
     let (positional, named) = scope.get_arguments(Some(parts.arguments))?;
-    Ok(
-        positional.len() == 4
-            && matches!(positional.first(), Some(FluentValue::Error))
-            && is_read(positional.get(1), TERM)
-            && is_read(positional.get(2), MESSAGE)
-            && is_read(positional.get(3), "9")
-            && is_read(named.get("x"), "3"),
-    )
+    Ok(are_right(positional.as_slice(), &named))
 }
 
 /// Writes the pattern by the resolver itself.
@@ -207,18 +212,9 @@ fn asks<'p, 's>(
 ) -> Result<bool, AllocError> {
     let mut w = Counting::new(Vec::with_capacity(alloc, 200)?);
     let answer = ask(alloc, scope, &mut w, row.0, parts);
-    let taken = w.into_inner();
-    match answer {
-        Ok(()) => {
-            assert!(rt; taken.as_slice() == row.1.as_bytes(), "{}", row.1);
-            Ok(true)
-        }
-        Err(fault) => {
-            assert!(rt; matches!(fault, WriteFault::Memory), "{}", row.1);
-            assert!(rt; row.1.as_bytes().starts_with(taken.as_slice()), "{}", row.1);
-            Ok(false)
-        }
-    }
+    let is_whole = is_whole(rt, answer, row.1);
+    is_taken(rt, w, row.1, is_whole);
+    Ok(is_whole)
 }
 
 /// What stands in the list of a scope.
@@ -226,38 +222,68 @@ pub fn listed<'x>(scope: &'x Scoped<'_, '_, '_, '_>) -> &'x [FluentError] {
     scope.errors().unwrap_or(&[])
 }
 
+/// Makes a call once more in a scope where it was refused: what was opened before is missing.
+fn asks_again<'p, 's>(
+    rt: &impl Abort,
+    alloc: Global,
+    scope: &mut Scoped<'_, 'p, '_, 's>,
+    room: &mut String,
+    row: &Row,
+    parts: Parts<'p, 's>,
+) -> Result<(), Fail> {
+    let (opened, count) = (scope.counts().opened, listed(scope).len());
+    if !asks(rt, alloc, scope, row, parts)? {
+        return Err("refused again".into());
+    }
+    let both = scope.counts().opened;
+    check(rt, both.saturating_sub(opened) == row.3, row.1);
+    check(rt, opened <= row.3 && !scope.dirty(), row.1);
+    are_behind(rt, room, listed(scope), count, row.2)
+}
+
 /// Makes a call, and once more in the same scope where it is refused.
-fn asks_twice<'p, 'r, 's>(
+fn asks_twice<'p, 's>(
+    rt: &impl Abort,
+    alloc: Global,
+    scope: &mut Scoped<'_, 'p, '_, 's>,
+    room: &mut String,
+    row: &Row,
+    parts: Parts<'p, 's>,
+) -> Result<(), Fail> {
+    if asks(rt, alloc, scope, row, parts)? {
+        let is_right = scope.counts().opened == row.3 && !scope.dirty();
+        check(rt, is_right, row.1);
+        return are(rt, room, listed(scope), row.2);
+    }
+    begin(rt, room, listed(scope), row.2)?;
+    asks_again(rt, alloc, scope, room, row, parts)
+}
+
+/// Makes a call in a new scope.
+fn is_as_before<'p, 'r, 's>(
     rt: &impl Abort,
     alloc: Global,
     bundle: &'p Bundle<'r, 's>,
     args: &'p FluentArgs<'static, Star>,
     row: &Row,
+    parts: Parts<'p, 's>,
 ) -> Result<(), Fail> {
-    let mut room = room(alloc)?;
-    let mut errors = list(alloc)?;
+    let mut noted = Noted::new(alloc)?;
+    let mut scope = Scope::new(bundle, bundle.ids(), Some(args), Some(&mut noted.errors));
+    asks_twice(rt, alloc, &mut scope, &mut noted.room, row, parts)
+}
+
+fn are_as_before<'p, 'r, 's>(
+    rt: &impl Abort,
+    alloc: Global,
+    bundle: &'p Bundle<'r, 's>,
+    args: &'p FluentArgs<'static, Star>,
+) -> Result<(), Fail> {
     let parts = parts_of(bundle).ok_or("no parts")?;
-    let mut scope = Scope::new(bundle, bundle.ids(), Some(args), Some(&mut errors));
-    if asks(rt, alloc, &mut scope, row, parts)? {
-        assert!(rt;
-            scope.counts().opened == row.3 && !scope.dirty(),
-            "{}",
-            row.1
-        );
-        return are(rt, &mut room, listed(&scope), row.2);
+    for row in ROWS {
+        is_as_before(rt, alloc, bundle, args, row, parts)?;
     }
-    begin(rt, &mut room, listed(&scope), row.2)?;
-    let (opened, count) = (scope.counts().opened, listed(&scope).len());
-    if !asks(rt, alloc, &mut scope, row, parts)? {
-        return Err("refused again".into());
-    }
-    assert!(rt;
-        scope.counts().opened.saturating_sub(opened) == row.3,
-        "{}",
-        row.1
-    );
-    assert!(rt; opened <= row.3 && !scope.dirty(), "{}", row.1);
-    are_behind(rt, &mut room, listed(&scope), count, row.2)
+    Ok(())
 }
 
 /// Run with each allocation failing in turn, and all from each one on.
@@ -266,17 +292,38 @@ fn a_scope_is_as_before_where_a_call_is_refused(rt: HostRuntime) -> Result<(), F
     let resource = read(rt.alloc(), SOURCE)?;
     let bundle = bundle_of(rt.alloc(), &[], &resource)?;
     let args = arguments(rt.alloc(), &[("n", Given::Read("9"))])?;
-    for row in ROWS {
-        asks_twice(&rt, rt.alloc(), &bundle, &args, row)?;
-    }
-    Ok(())
+    are_as_before(&rt, rt.alloc(), &bundle, &args)
 }
 
 // ---- the budget
 
-/// Makes a call of a scope whose budget is enough for it alone, and once more where it is refused: then what was
-/// opened before is missing.
-fn keeps_its_budget<'p, 'r, 's>(
+/// Makes a call of a scope whose budget is enough for it alone, to a writer with room for two, and once more where it
+/// is refused: then what was opened before is missing.
+fn keeps_its_budget<'p, 's>(
+    rt: &impl Abort,
+    alloc: Global,
+    scope: &mut Scoped<'_, 'p, '_, 's>,
+    w: &mut Counting<Vec<u8>>,
+    row: &Row,
+    parts: Parts<'p, 's>,
+) -> Result<(), Fail> {
+    let mut opened = 0;
+    for _ in 0..2 {
+        if !is_refused(ask(alloc, scope, w, row.0, parts)) {
+            check(rt, scope.counts().opened == row.3, row.1);
+            check(rt, scope.dirty() == (opened > 0), row.1);
+            return Ok(());
+        }
+        opened = scope.counts().opened;
+    }
+    Err("refused again".into())
+}
+
+fn is_refused(answer: Result<(), WriteFault>) -> bool {
+    matches!(answer, Err(WriteFault::Memory))
+}
+
+fn budget_is_kept<'p, 'r, 's>(
     rt: &impl Abort,
     alloc: Global,
     bundle: &'p Bundle<'r, 's>,
@@ -286,25 +333,14 @@ fn keeps_its_budget<'p, 'r, 's>(
     let parts = parts_of(bundle).ok_or("no parts")?;
     let mut w = Counting::new(Vec::with_capacity(alloc, 1000)?);
     let mut scope = Scope::new(bundle, bundle.ids(), Some(args), None);
-    let mut opened = 0;
-    for _ in 0..2 {
-        match ask(alloc, &mut scope, &mut w, row.0, parts) {
-            Err(WriteFault::Memory) => opened = scope.counts().opened,
-            _ => {
-                assert!(rt; scope.counts().opened == row.3, "{}", row.1);
-                assert!(rt; scope.dirty() == (opened > 0), "{}", row.1);
-                return Ok(());
-            }
-        }
-    }
-    Err("refused again".into())
+    keeps_its_budget(rt, alloc, &mut scope, &mut w, row, parts)
 }
 
 fn budget_holds(rt: &impl Abort, alloc: Global, row: &Row, limit: usize) -> Result<(), Fail> {
     let resource = read(alloc, SOURCE)?;
     let bundle = bundle_of(alloc, &[Setting::Limit(limit)], &resource)?;
     let args = arguments(alloc, &[("n", Given::Read("9"))])?;
-    keeps_its_budget(rt, alloc, &bundle, &args, row)
+    budget_is_kept(rt, alloc, &bundle, &args, row)
 }
 
 /// Run with each allocation failing in turn, and all from each one on.

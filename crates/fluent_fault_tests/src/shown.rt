@@ -1,4 +1,5 @@
 //! Calls of values, outputs and objects that show a value or change a text, while memory is refused.
+use crate::check::{again, check_at};
 use fluent_bundle::ast::Pattern;
 use fluent_bundle::resolver::Context;
 use fluent_bundle::{Counting, FluentValue, Scope, WriteFault};
@@ -11,6 +12,8 @@ use fluent_values::resolver::output::{Output, put_text, with_error};
 use fluent_values::resolver::texts::put_texts;
 use fluent_values::resolver::value::put_value;
 use std::alloc::{AllocError, Global};
+use std::borrow::CowStr;
+use std::process::Abort;
 use std::test::Fail;
 
 // ---- values
@@ -48,21 +51,36 @@ fn unless_refused(answer: Result<(), WriteFault>) -> Result<bool, AllocError> {
     }
 }
 
+/// Whether a call wrote this text.
+fn is_written(
+    answer: Result<(), WriteFault>,
+    w: Counting<Vec<u8>>,
+    text: &str,
+) -> Result<bool, AllocError> {
+    let is_taken = is_text(w.into_inner().as_slice(), text);
+    Ok(unless_refused(answer)? && is_taken)
+}
+
+/// Whether a call answered this text.
+fn is_answered(answer: Result<CowStr<'_>, AllocError>, text: &str) -> Result<bool, AllocError> {
+    Ok(answer?.as_str() == text)
+}
+
 fn write(alloc: Global, bundle: &Bundle<'_, '_>) -> Result<bool, AllocError> {
-    let scope = Scope::new(bundle, bundle.ids(), None, None);
     let mut w = Counting::new(Vec::with_capacity(alloc, 100)?);
-    let is_whole = unless_refused(value().write(&mut w, &scope))?;
-    Ok(is_whole && is_text(w.into_inner().as_slice(), "number"))
+    let scope = Scope::new(bundle, bundle.ids(), None, None);
+    let answer = value().write(&mut w, &scope);
+    is_written(answer, w, "number")
 }
 
 fn as_string(bundle: &Bundle<'_, '_>) -> Result<bool, AllocError> {
     let scope = Scope::new(bundle, bundle.ids(), None, None);
-    Ok(value().as_string(&scope)?.as_str() == "number")
+    is_answered(value().as_string(&scope), "number")
 }
 
 fn into_string(bundle: &Bundle<'_, '_>) -> Result<bool, AllocError> {
     let scope = Scope::new(bundle, bundle.ids(), None, None);
-    Ok(value().into_string(&scope)?.as_str() == "number")
+    is_answered(value().into_string(&scope), "number")
 }
 
 /// Puts a value into a buffer beside a writer.
@@ -110,51 +128,69 @@ fn fill_texts(
     with_error(answer, out.error)
 }
 
+/// Whether a call put this text into a buffer, and nothing into the writer beside it.
+fn is_filled(
+    answer: Result<(), WriteFault>,
+    w: Counting<Vec<u8>>,
+    buffer: &str,
+    text: &str,
+) -> Result<bool, AllocError> {
+    let is_right = buffer == text && w.into_inner().is_empty();
+    Ok(unless_refused(answer)? && is_right)
+}
+
 fn value_fills(alloc: Global, bundle: &Bundle<'_, '_>) -> Result<bool, AllocError> {
     let mut buffer = String::new(alloc);
     let mut w = Counting::new(Vec::new(alloc));
-    let is_whole = unless_refused(fill_value(&mut w, &mut buffer, bundle))?;
-    Ok(is_whole && buffer.as_str() == "number" && w.into_inner().is_empty())
+    let answer = fill_value(&mut w, &mut buffer, bundle);
+    is_filled(answer, w, buffer.as_str(), "number")
 }
 
 fn text_fills(alloc: Global) -> Result<bool, AllocError> {
     let mut buffer = String::new(alloc);
     let mut w = Counting::new(Vec::new(alloc));
-    let is_whole = unless_refused(fill_text(&mut w, &mut buffer, "abc"))?;
-    Ok(is_whole && buffer.as_str() == "abc" && w.into_inner().is_empty())
+    let answer = fill_text(&mut w, &mut buffer, "abc");
+    is_filled(answer, w, buffer.as_str(), "abc")
 }
 
 fn texts_fill(alloc: Global, pattern: &Pattern<'_>) -> Result<bool, AllocError> {
     let mut buffer = String::new(alloc);
     let mut w = Counting::new(Vec::new(alloc));
-    let is_whole = unless_refused(fill_texts(&mut w, &mut buffer, pattern))?;
-    Ok(is_whole && buffer.as_str() == "abc" && w.into_inner().is_empty())
+    let answer = fill_texts(&mut w, &mut buffer, pattern);
+    is_filled(answer, w, buffer.as_str(), "abc")
 }
 
 /// Bytes that a writer takes.
 fn bytes(alloc: Global) -> Result<bool, AllocError> {
     let mut w = Counting::new(Vec::with_capacity(alloc, 100)?);
-    let is_whole = unless_refused(put(&mut w, b"abc"))?;
-    Ok(is_whole && is_text(w.into_inner().as_slice(), "abc"))
+    let answer = put(&mut w, b"abc");
+    is_written(answer, w, "abc")
 }
 
 /// A text whose escapes a writer takes resolved.
 fn unescaped(alloc: Global) -> Result<bool, AllocError> {
     let mut w = Counting::new(Vec::with_capacity(alloc, 100)?);
-    let is_whole = unless_refused(unescape_unicode(&mut w, "x\\u0041"))?;
-    Ok(is_whole && is_text(w.into_inner().as_slice(), "xA"))
+    let answer = unescape_unicode(&mut w, "x\\u0041");
+    is_written(answer, w, "xA")
 }
 
-fn formats_a_value(bundle: &Bundle<'_, '_>) -> Result<bool, AllocError> {
-    let value = value();
-    match bundle.formatted(&value)? {
-        Some(text) => Ok(text.as_str() == "number"),
+/// Whether a formatter shows this text.
+fn is_formatted(
+    answer: Result<Option<String>, AllocError>,
+    text: &str,
+) -> Result<bool, AllocError> {
+    match answer? {
+        Some(found) => Ok(found.as_str() == text),
         None => Ok(false),
     }
 }
 
+fn formats_a_value(bundle: &Bundle<'_, '_>) -> Result<bool, AllocError> {
+    is_formatted(bundle.formatted(&value()), "number")
+}
+
 fn changes(bundle: &Bundle<'_, '_>) -> Result<bool, AllocError> {
-    Ok(bundle.change("abc")?.as_str() == "ABC")
+    is_answered(bundle.change("abc"), "ABC")
 }
 
 /// Whether the calls that ask a bundle show what they should.
@@ -197,21 +233,26 @@ const ALL: &[Shown] = &[
     Shown::Unescape,
 ];
 
+fn are_shown(
+    rt: &impl Abort,
+    alloc: Global,
+    bundle: &Bundle<'_, '_>,
+    pattern: &Pattern<'_>,
+) -> Result<(), Fail> {
+    for (at, shown) in ALL.iter().enumerate() {
+        let is_right = match is_shown(alloc, bundle, pattern, *shown) {
+            Ok(is_right) => is_right,
+            Err(AllocError) => again(is_shown(alloc, bundle, pattern, *shown))?,
+        };
+        check_at(rt, is_right, at);
+    }
+    Ok(())
+}
+
 /// Run with each allocation failing in turn, and all from each one on.
 #[test]
 fn what_is_refused_can_be_shown_again(rt: HostRuntime) -> Result<(), Fail> {
-    let alloc = rt.alloc();
-    let resource = read(alloc, "p = abc\n")?;
-    let bundle = bundle_of(alloc, &[Setting::Kinds, Setting::Upper], &resource)?;
-    let pattern = value_of(&resource)?;
-    for (at, shown) in ALL.iter().enumerate() {
-        let is_right = match is_shown(alloc, &bundle, pattern, *shown) {
-            Ok(is_right) => is_right,
-            Err(AllocError) => is_shown(alloc, &bundle, pattern, *shown)
-                .ok()
-                .ok_or("refused again")?,
-        };
-        assert!(rt; is_right, "at {at}");
-    }
-    Ok(())
+    let resource = read(rt.alloc(), "p = abc\n")?;
+    let bundle = bundle_of(rt.alloc(), &[Setting::Kinds, Setting::Upper], &resource)?;
+    are_shown(&rt, rt.alloc(), &bundle, value_of(&resource)?)
 }

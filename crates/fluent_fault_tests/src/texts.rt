@@ -1,4 +1,5 @@
 //! Calls that make texts and copies while memory is refused: refused, they can be made again.
+use crate::check::{again, check_at};
 use fluent_bundle::ast::{Identifier, InlineExpression};
 use fluent_bundle::{
     EntryKind, FluentArgs, FluentError, FluentValue, ReferenceKind, ResolverError, builtins,
@@ -31,53 +32,98 @@ fn is_price(number: &FluentNumber) -> bool {
         && number.options.minimum_fraction_digits == Some(7)
 }
 
+/// Whether a call made this text.
+fn is_text(found: Result<String, AllocError>, text: &str) -> Result<bool, AllocError> {
+    Ok(found?.as_str() == text)
+}
+
+/// Whether a call made that number.
+fn is_number(found: Result<FluentNumber, AllocError>) -> Result<bool, AllocError> {
+    Ok(is_price(&found?))
+}
+
 fn number_is_written(alloc: Global) -> Result<bool, AllocError> {
-    Ok(Decimal::from_i64(-12).as_text(alloc, Some(7))?.as_str() == "-12.0000000")
+    is_text(
+        Decimal::from_i64(-12).as_text(alloc, Some(7)),
+        "-12.0000000",
+    )
+}
+
+/// The same of one that may be lent.
+fn is_shown(found: Result<CowStr<'_>, AllocError>, text: &str) -> Result<bool, AllocError> {
+    Ok(found?.as_str() == text)
 }
 
 fn number_is_shown(alloc: Global) -> Result<bool, AllocError> {
-    Ok(price(alloc)?.as_string(alloc)?.as_str() == "-12.0000000")
+    let number = price(alloc)?;
+    is_shown(number.as_string(alloc), "-12.0000000")
 }
 
 fn number_is_copied(alloc: Global) -> Result<bool, AllocError> {
-    Ok(is_price(&price(alloc)?.try_clone(alloc)?))
+    let number = price(alloc)?;
+    is_number(number.try_clone(alloc))
+}
+
+/// The number with a copy of these options.
+fn with_copy(alloc: Global, options: &FluentNumberOptions) -> Result<FluentNumber, AllocError> {
+    Ok(FluentNumber::new(Decimal::from_i64(-12), options.try_clone(alloc)?))
 }
 
 fn options_are_copied(alloc: Global) -> Result<bool, AllocError> {
-    let options = price(alloc)?.options.try_clone(alloc)?;
-    Ok(is_price(&FluentNumber::new(Decimal::from_i64(-12), options)))
+    let number = price(alloc)?;
+    is_number(with_copy(alloc, &number.options))
 }
 
 // ---- values
 
-/// The first positional value with its options merged with these.
-fn number_is_asked(alloc: Global) -> Result<bool, AllocError> {
-    let mut named: FluentArgs<'_, Star> = FluentArgs::new(alloc);
+type Args = FluentArgs<'static, Star>;
+
+/// The options of that number.
+fn options(alloc: Global) -> Result<Args, AllocError> {
+    let mut named = FluentArgs::new(alloc);
     named.set(CowStr::Borrowed("currency"), FluentValue::from("EUR"))?;
-    named.set(
-        CowStr::Borrowed("minimumFractionDigits"),
-        FluentValue::from(7u8),
-    )?;
-    let positional = [FluentValue::from(-12i8)];
-    match builtins::NUMBER(alloc, &positional, &named)? {
+    let digits = FluentValue::from(7u8);
+    named.set(CowStr::Borrowed("minimumFractionDigits"), digits)?;
+    Ok(named)
+}
+
+/// Whether a function answered that number.
+fn is_answered(found: Result<FluentValue<'_, Star>, AllocError>) -> Result<bool, AllocError> {
+    match found? {
         FluentValue::Number(number) => Ok(is_price(&number)),
         _ => Ok(false),
     }
 }
 
+/// The first positional value with its options merged with these.
+fn number_is_asked(alloc: Global) -> Result<bool, AllocError> {
+    let named = options(alloc)?;
+    is_answered(builtins::NUMBER(alloc, &[FluentValue::from(-12i8)], &named))
+}
+
 type Pair = (CowStr<'static>, FluentValue<'static, Star>);
 
-/// Arguments of an iterator, of which one comes twice.
-fn arguments_are_gathered(alloc: Global) -> Result<bool, AllocError> {
-    let mut pairs: Vec<Pair> = Vec::new(alloc);
+/// Arguments, of which one comes twice.
+fn pairs(alloc: Global) -> Result<Vec<Pair>, AllocError> {
+    let mut pairs = Vec::new(alloc);
     for (name, value) in [("b", "1"), ("a", "2"), ("b", "3")] {
         pairs.push((CowStr::Borrowed(name), FluentValue::try_number(value)))?;
     }
-    let args = FluentArgs::try_from_iter(alloc, pairs.into_iter())?;
+    Ok(pairs)
+}
+
+/// Whether they are there, and the last that came twice.
+fn are_gathered(args: Result<Args, AllocError>) -> Result<bool, AllocError> {
+    let args = args?;
     Ok(has(&args, "a", "2") && has(&args, "b", "3") && args.iter().count() == 2)
 }
 
-fn has(args: &FluentArgs<'_, Star>, name: &str, value: &'static str) -> bool {
+fn arguments_are_gathered(alloc: Global) -> Result<bool, AllocError> {
+    let pairs = pairs(alloc)?;
+    are_gathered(FluentArgs::try_from_iter(alloc, pairs.into_iter()))
+}
+
+fn has(args: &Args, name: &str, value: &'static str) -> bool {
     match args.get(name) {
         Some(found) => found.same(&FluentValue::try_number(value)),
         None => false,
@@ -111,30 +157,51 @@ fn is_lost(found: &ResolverError) -> bool {
     }
 }
 
+fn reference_is_copied(alloc: Global, found: &ReferenceKind) -> Result<bool, AllocError> {
+    let copy = found.try_clone(alloc)?;
+    Ok(is_attribute(found) && is_attribute(&copy))
+}
+
 fn reference_is_made(alloc: Global) -> Result<bool, AllocError> {
     match ReferenceKind::of(alloc, &attribute())? {
-        Some(found) => Ok(is_attribute(&found) && is_attribute(&found.try_clone(alloc)?)),
+        Some(found) => reference_is_copied(alloc, &found),
         None => Ok(false),
     }
+}
+
+fn error_is_copied(alloc: Global, found: &ResolverError) -> Result<bool, AllocError> {
+    let copy = found.try_clone(alloc)?;
+    Ok(is_lost(found) && is_lost(&copy))
 }
 
 fn error_is_made(alloc: Global) -> Result<bool, AllocError> {
     match ResolverError::of(alloc, &attribute())? {
-        Some(found) => Ok(is_lost(&found) && is_lost(&found.try_clone(alloc)?)),
+        Some(found) => error_is_copied(alloc, &found),
         None => Ok(false),
     }
 }
 
-fn report_is_copied(alloc: Global) -> Result<bool, AllocError> {
-    let id = String::from_str(alloc, "m")?;
-    let error = FluentError::Overriding {
-        kind: EntryKind::Term,
-        id,
-    };
-    match error.try_clone(alloc)? {
-        FluentError::Overriding { kind, id } => Ok(kind == EntryKind::Term && id.as_str() == "m"),
-        _ => Ok(false),
+fn is_report(found: &FluentError) -> bool {
+    match found {
+        FluentError::Overriding { kind, id } => *kind == EntryKind::Term && id.as_str() == "m",
+        _ => false,
     }
+}
+
+/// Whether a call made that report.
+fn is_reported(found: Result<FluentError, AllocError>) -> Result<bool, AllocError> {
+    Ok(is_report(&found?))
+}
+
+fn report(alloc: Global) -> Result<FluentError, AllocError> {
+    let kind = EntryKind::Term;
+    let id = String::from_str(alloc, "m")?;
+    Ok(FluentError::Overriding { kind, id })
+}
+
+fn report_is_copied(alloc: Global) -> Result<bool, AllocError> {
+    let error = report(alloc)?;
+    is_reported(error.try_clone(alloc))
 }
 
 // ---- escapes
@@ -195,9 +262,9 @@ fn what_is_refused_can_be_made_again(rt: HostRuntime) -> Result<(), Fail> {
     for (at, made) in ALL.iter().enumerate() {
         let is_right = match is_made(rt.alloc(), *made) {
             Ok(is_right) => is_right,
-            Err(AllocError) => is_made(rt.alloc(), *made).ok().ok_or("refused again")?,
+            Err(AllocError) => again(is_made(rt.alloc(), *made))?,
         };
-        assert!(rt; is_right, "at {at}");
+        check_at(&rt, is_right, at);
     }
     Ok(())
 }

@@ -1,11 +1,12 @@
 //! Patterns that are written and formatted while memory is refused.
 use crate::cases::{CASES, Case};
-use crate::found::{are, begin, list, room};
+use crate::check::check;
+use crate::found::Noted;
 use fluent_bundle::ast::Pattern;
 use fluent_bundle::{Counting, FluentArgs, FluentError, WriteFault};
 use fluent_fixtures::common::read;
 use fluent_fixtures::objects::Star;
-use fluent_fixtures::settings::{Bundle, arguments, bundle_of, value_in};
+use fluent_fixtures::settings::{Bundle, arguments, bundle_of, pattern_in};
 use std::alloc::{AllocError, Global};
 use std::borrow::CowStr;
 use std::process::Abort;
@@ -30,6 +31,29 @@ fn format<'s>(
     bundle.format_pattern(pattern, Some(args), errors)
 }
 
+/// Whether a call came to its end, where it is to be refused memory else.
+pub fn is_whole(rt: &impl Abort, answer: Result<(), WriteFault>, text: &str) -> bool {
+    match answer {
+        Ok(()) => true,
+        Err(fault) => {
+            check(rt, matches!(fault, WriteFault::Memory), text);
+            false
+        }
+    }
+}
+
+/// That a writer without a fault took a text, or a beginning of it where the call wasn't whole.
+pub fn is_taken(rt: &impl Abort, w: Counting<Vec<u8>>, text: &str, is_whole: bool) {
+    check(rt, w.failed() == 0 && w.empty() == 0, text);
+    let taken = w.into_inner();
+    let is_right = if is_whole {
+        taken.as_slice() == text.as_bytes()
+    } else {
+        text.as_bytes().starts_with(taken.as_slice())
+    };
+    check(rt, is_right, text);
+}
+
 /// Writes a pattern, to a writer that needs no more memory; `false` where memory is refused, after which what was
 /// written and added begins the whole.
 fn writes<'s>(
@@ -40,28 +64,23 @@ fn writes<'s>(
     args: &FluentArgs<'_, Star>,
     case: &Case,
 ) -> Result<bool, Fail> {
-    let mut room = room(alloc)?;
-    let mut errors = list(alloc)?;
+    let mut noted = Noted::new(alloc)?;
     let mut w = Counting::new(Vec::with_capacity(alloc, 500)?);
-    let answer = write(bundle, pattern, args, &mut w, &mut errors);
-    assert!(rt; w.failed() == 0 && w.empty() == 0, "{}", case.text);
-    let taken = w.into_inner();
-    match answer {
-        Ok(()) => {
-            assert!(rt; taken.as_slice() == case.text.as_bytes(), "{}", case.text);
-            are(rt, &mut room, errors.as_slice(), case.lines)?;
-            Ok(true)
+    let answer = write(bundle, pattern, args, &mut w, &mut noted.errors);
+    let is_whole = is_whole(rt, answer, case.text);
+    is_taken(rt, w, case.text, is_whole);
+    noted.stand(rt, case.lines, is_whole)?;
+    Ok(is_whole)
+}
+
+/// Whether a pattern was formatted, as this text, where memory is to be refused else.
+fn is_formatted(rt: &impl Abort, formatted: Result<CowStr<'_>, AllocError>, text: &str) -> bool {
+    match formatted {
+        Ok(found) => {
+            check(rt, found.as_str() == text, text);
+            true
         }
-        Err(fault) => {
-            assert!(rt; matches!(fault, WriteFault::Memory), "{}", case.text);
-            assert!(rt;
-                case.text.as_bytes().starts_with(taken.as_slice()),
-                "{}",
-                case.text
-            );
-            begin(rt, &mut room, errors.as_slice(), case.lines)?;
-            Ok(false)
-        }
+        Err(AllocError) => false,
     }
 }
 
@@ -74,19 +93,11 @@ fn formats<'s>(
     args: &FluentArgs<'_, Star>,
     case: &Case,
 ) -> Result<bool, Fail> {
-    let mut room = room(alloc)?;
-    let mut errors = list(alloc)?;
-    match format(bundle, pattern, args, &mut errors) {
-        Ok(text) => {
-            assert!(rt; text.as_str() == case.text, "{}", case.text);
-            are(rt, &mut room, errors.as_slice(), case.lines)?;
-            Ok(true)
-        }
-        Err(AllocError) => {
-            begin(rt, &mut room, errors.as_slice(), case.lines)?;
-            Ok(false)
-        }
-    }
+    let mut noted = Noted::new(alloc)?;
+    let formatted = format(bundle, pattern, args, &mut noted.errors);
+    let is_whole = is_formatted(rt, formatted, case.text);
+    noted.stand(rt, case.lines, is_whole)?;
+    Ok(is_whole)
 }
 
 /// Which call is made.
@@ -96,21 +107,43 @@ enum Asked {
     Format,
 }
 
+fn asks<'s>(
+    rt: &impl Abort,
+    alloc: Global,
+    bundle: &Bundle<'_, 's>,
+    pattern: &Pattern<'s>,
+    args: &FluentArgs<'_, Star>,
+    asked: Asked,
+    case: &Case,
+) -> Result<bool, Fail> {
+    match asked {
+        Asked::Write => writes(rt, alloc, bundle, pattern, args, case),
+        Asked::Format => formats(rt, alloc, bundle, pattern, args, case),
+    }
+}
+
+/// Makes a call, and once more where it is refused.
+fn asks_twice<'s>(
+    rt: &impl Abort,
+    alloc: Global,
+    bundle: &Bundle<'_, 's>,
+    pattern: &Pattern<'s>,
+    asked: Asked,
+    case: &Case,
+) -> Result<(), Fail> {
+    let args = arguments(alloc, case.named)?;
+    if asks(rt, alloc, bundle, pattern, &args, asked, case)?
+        || asks(rt, alloc, bundle, pattern, &args, asked, case)?
+    {
+        return Ok(());
+    }
+    Err("refused again".into())
+}
+
 fn gives(rt: &impl Abort, alloc: Global, asked: Asked, case: &Case) -> Result<(), Fail> {
     let resource = read(alloc, case.source)?;
     let bundle = bundle_of(alloc, case.settings, &resource)?;
-    let pattern = value_in(&bundle, "p").ok_or("no p")?;
-    let args = arguments(alloc, case.named)?;
-    for _ in 0..2 {
-        let is_whole = match asked {
-            Asked::Write => writes(rt, alloc, &bundle, pattern, &args, case)?,
-            Asked::Format => formats(rt, alloc, &bundle, pattern, &args, case)?,
-        };
-        if is_whole {
-            return Ok(());
-        }
-    }
-    Err("refused again".into())
+    asks_twice(rt, alloc, &bundle, pattern_in(&bundle, "p")?, asked, case)
 }
 
 /// Run with each allocation failing in turn, and all from each one on.

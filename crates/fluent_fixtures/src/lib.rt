@@ -5,5 +5,6 @@ pub mod common;
 pub mod objects;
 pub mod own;
 pub mod settings;
+pub mod stopped;
 pub mod stopping;
 pub mod writers;

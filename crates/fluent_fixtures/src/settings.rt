@@ -6,6 +6,7 @@ use fluent_bundle::{Call, FluentArgs, FluentBundle, FluentResource, FluentValue}
 use fluent_intl::EnglishPlurals;
 use std::alloc::{AllocError, Global};
 use std::borrow::CowStr;
+use std::test::Fail;
 
 // ---- bundles
 
@@ -60,6 +61,14 @@ pub fn bundle_of<'r, 's>(
 /// The value of a message.
 pub fn value_in<'r, 's>(bundle: &Bundle<'r, 's>, id: &str) -> Option<&'r Pattern<'s>> {
     bundle.get_message(id)?.value()
+}
+
+/// The value of a message that is there.
+pub fn pattern_in<'r, 's>(bundle: &Bundle<'r, 's>, id: &str) -> Result<&'r Pattern<'s>, Fail> {
+    match value_in(bundle, id) {
+        Some(pattern) => Ok(pattern),
+        None => Err("no such value".into()),
+    }
 }
 
 // ---- arguments

@@ -36,6 +36,42 @@ fn show_english(rt: &HostRuntime, resource: &FluentResource<'_>) -> Result<()> {
     missing::show_missing(rt, &bundle)
 }
 
+/// Shows what an application hands to a bundle.
+fn show_own(rt: &HostRuntime, resource: &FluentResource<'_>) -> Result<()> {
+    println!(rt; "Functions of one's own")?;
+    functions::show_functions(rt, resource)?;
+
+    println!(rt; "A function that is kept")?;
+    kept::show_kept(rt, resource)?;
+
+    println!(rt; "A formatter")?;
+    formatter::show_formatter(rt, resource)?;
+
+    println!(rt; "A transform")?;
+    pseudo::show_transform(rt, resource)?;
+
+    println!(rt; "A value of one's own type")?;
+    custom::show_custom(rt, resource)
+}
+
+/// Shows where plural categories come from.
+fn show_languages(rt: &HostRuntime, resource: &FluentResource<'_>) -> Result<()> {
+    println!(rt; "The plural rules of a language")?;
+    plurals::show_plurals(rt, resource)?;
+
+    println!(rt; "A plural source of one's own")?;
+    japanese::show_one(rt, resource)
+}
+
+/// Shows bundles of the messages.
+fn show_bundles(rt: &HostRuntime, resource: &FluentResource<'_>) -> Result<()> {
+    println!(rt; "A bundle")?;
+    bundle::show_twice(rt, resource)?;
+    show_english(rt, resource)?;
+    show_own(rt, resource)?;
+    show_languages(rt, resource)
+}
+
 fn main(rt: HostRuntime) -> Result<()> {
     println!(rt; "A text in a program")?;
     welcome::show_welcome(&rt)?;
@@ -43,29 +79,5 @@ fn main(rt: HostRuntime) -> Result<()> {
     println!(rt; "A resource and its errors")?;
     let source = io::read_to_string(rt.alloc(), rt.stdin())?;
     let resource = read(&rt, source.as_str())?;
-
-    println!(rt; "A bundle")?;
-    bundle::show_twice(&rt, &resource)?;
-    show_english(&rt, &resource)?;
-
-    println!(rt; "Functions of one's own")?;
-    functions::show_functions(&rt, &resource)?;
-
-    println!(rt; "A function that is kept")?;
-    kept::show_kept(&rt, &resource)?;
-
-    println!(rt; "A formatter")?;
-    formatter::show_formatter(&rt, &resource)?;
-
-    println!(rt; "A transform")?;
-    pseudo::show_transform(&rt, &resource)?;
-
-    println!(rt; "A value of one's own type")?;
-    custom::show_custom(&rt, &resource)?;
-
-    println!(rt; "The plural rules of a language")?;
-    plurals::show_plurals(&rt, &resource)?;
-
-    println!(rt; "A plural source of one's own")?;
-    japanese::show_one(&rt, &resource)
+    show_bundles(&rt, &resource)
 }

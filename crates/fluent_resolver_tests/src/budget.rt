@@ -3,7 +3,7 @@
 use crate::rows::{Table, gives, hold, wants};
 use fluent_fixtures::common::read;
 use fluent_fixtures::objects::Answer;
-use fluent_fixtures::settings::{Bundle, Given, Named, Setting, bundle_of, value_in};
+use fluent_fixtures::settings::{Bundle, Given, Named, Setting, bundle_of, pattern_in};
 use std::alloc::{AllocError, Global};
 use std::process::Abort;
 use std::test::Fail;
@@ -29,23 +29,32 @@ fn joined(alloc: Global, pieces: Pieces) -> Result<String, AllocError> {
     Ok(text)
 }
 
+fn is_given(
+    rt: &impl Abort,
+    alloc: Global,
+    bundle: &Bundle<'_, '_>,
+    row: &Row,
+) -> Result<(), Fail> {
+    let pattern = pattern_in(bundle, row.0)?;
+    let text = joined(alloc, row.1)?;
+    gives(
+        rt,
+        alloc,
+        bundle,
+        pattern,
+        &[],
+        &wants(text.as_str(), row.2),
+    )
+}
+
 fn are_given(
     rt: &impl Abort,
     alloc: Global,
     bundle: &Bundle<'_, '_>,
     rows: &[Row],
 ) -> Result<(), Fail> {
-    for (id, text, errors) in rows {
-        let pattern = value_in(bundle, id).ok_or(*id)?;
-        let text = joined(alloc, *text)?;
-        gives(
-            rt,
-            alloc,
-            bundle,
-            pattern,
-            &[],
-            &wants(text.as_str(), *errors),
-        )?;
+    for row in rows {
+        is_given(rt, alloc, bundle, row)?;
     }
     Ok(())
 }
@@ -162,10 +171,12 @@ const LAST_LAUGH: Long = (
     &[("d", &[(999, "lol"), (1, "{b}{c}")], TOO_MANY)],
 );
 
+const LONGS: &[Long] = &[HUNDRED, ONE_MORE, LAUGHING, ALL_LAUGHS, LAST_LAUGH];
+
 #[test]
 fn the_limit_goes_through_everything(rt: HostRuntime) -> Result<(), Fail> {
-    for long in [HUNDRED, ONE_MORE, LAUGHING, ALL_LAUGHS, LAST_LAUGH] {
-        long_holds(&rt, rt.alloc(), &long)?;
+    for long in LONGS {
+        long_holds(&rt, rt.alloc(), long)?;
     }
     Ok(())
 }

@@ -1,10 +1,11 @@
 //! Writers that are short, fail or take nothing in the middle of references, selects and calls.
+use crate::check::{check, check_at};
 use crate::rows::{Wanted, are_all, begin_them, wants, write};
 use fluent_bundle::ast::Pattern;
 use fluent_bundle::{Counting, FluentArgs, FluentError};
 use fluent_fixtures::common::read;
 use fluent_fixtures::objects::{Answer, Star};
-use fluent_fixtures::settings::{Bundle, Given, Named, Setting, arguments, bundle_of, value_in};
+use fluent_fixtures::settings::{Bundle, Given, Named, Setting, arguments, bundle_of, pattern_in};
 use fluent_fixtures::writers::{End, end_of};
 use std::alloc::Global;
 use std::io;
@@ -76,33 +77,30 @@ fn is_front(taken: &[u8], how: How, text: &str) -> bool {
     taken.len() == how.in_all && text.as_bytes().starts_with(taken)
 }
 
-/// Writes a pattern to a writer that takes less than its text: `None` where memory is refused, else the errors.
+/// That a writer which takes less than this text stopped the call that wrote it.
+fn has_stopped(w: Counting<Narrow>, how: How, end: End, text: &str) -> bool {
+    let is_one = is_one_fault(how, end, w.failed(), w.empty());
+    is_front(w.into_inner().taken.as_slice(), how, text) && is_one
+}
+
+/// Writes a pattern to a writer that takes less than its text: `false` where memory is refused.
 fn stops<'s>(
     rt: &impl Abort,
     alloc: Global,
     bundle: &Bundle<'_, 's>,
     pattern: &Pattern<'s>,
     args: &FluentArgs<'_, Star>,
+    errors: &mut Vec<FluentError>,
     how: How,
     text: &str,
-) -> Result<Option<Vec<FluentError>>, Fail> {
-    let mut errors = Vec::new(alloc);
+) -> bool {
     let mut w = writer(alloc, how);
-    let end = end_of(write(bundle, pattern, Some(args), &mut w, &mut errors));
+    let end = end_of(write(bundle, pattern, Some(args), &mut w, errors));
     if end == End::Memory {
-        return Ok(None);
+        return false;
     }
-    assert!(rt;
-        is_one_fault(how, end, w.failed(), w.empty()),
-        "{text} at {}",
-        how.in_all
-    );
-    assert!(rt;
-        is_front(w.into_inner().taken.as_slice(), how, text),
-        "{text} at {}",
-        how.in_all
-    );
-    Ok(Some(errors))
+    check_at(rt, has_stopped(w, how, end, text), text, how.in_all);
+    true
 }
 
 // ---- at each byte
@@ -204,23 +202,53 @@ fn ways(in_all: usize) -> [How; 4] {
     ]
 }
 
+/// Full at a byte of the text in one way.
+fn stops_so<'s>(
+    rt: &impl Abort,
+    alloc: Global,
+    bundle: &Bundle<'_, 's>,
+    pattern: &Pattern<'s>,
+    args: &FluentArgs<'_, Star>,
+    how: How,
+    wanted: &Wanted<'_>,
+) -> Result<(), Fail> {
+    let mut errors = Vec::new(alloc);
+    if !stops(
+        rt,
+        alloc,
+        bundle,
+        pattern,
+        args,
+        &mut errors,
+        how,
+        wanted.text,
+    ) {
+        return Ok(());
+    }
+    begin_them(rt, alloc, errors.as_slice(), wanted)
+}
+
 /// Full at each byte of the text.
 fn stops_anywhere<'s>(
     rt: &impl Abort,
     alloc: Global,
     bundle: &Bundle<'_, 's>,
     pattern: &Pattern<'s>,
+    args: &FluentArgs<'_, Star>,
     wanted: &Wanted<'_>,
 ) -> Result<(), Fail> {
-    let args = arguments(alloc, NINE)?;
     for in_all in 0..wanted.text.len() {
         for how in ways(in_all) {
-            if let Some(errors) = stops(rt, alloc, bundle, pattern, &args, how, wanted.text)? {
-                begin_them(rt, alloc, errors.as_slice(), wanted)?;
-            }
+            stops_so(rt, alloc, bundle, pattern, args, how, wanted)?;
         }
     }
     Ok(())
+}
+
+/// That a writer took a whole text.
+fn has_taken(w: Counting<Narrow>, end: End, text: &str) -> bool {
+    let is_whole = end == End::Whole && w.failed() == 0 && w.empty() == 0;
+    w.into_inner().taken.as_slice() == text.as_bytes() && is_whole
 }
 
 /// All is taken, a byte at once, or nothing where memory is refused.
@@ -229,6 +257,7 @@ fn goes_through<'s>(
     alloc: Global,
     bundle: &Bundle<'_, 's>,
     pattern: &Pattern<'s>,
+    args: &FluentArgs<'_, Star>,
     wanted: &Wanted<'_>,
 ) -> Result<(), Fail> {
     let how = How {
@@ -236,40 +265,43 @@ fn goes_through<'s>(
         in_all: wanted.text.len(),
         fails: true,
     };
-    let args = arguments(alloc, NINE)?;
     let mut errors = Vec::new(alloc);
     let mut w = writer(alloc, how);
-    let end = end_of(write(bundle, pattern, Some(&args), &mut w, &mut errors));
+    let end = end_of(write(bundle, pattern, Some(args), &mut w, &mut errors));
     if end == End::Memory {
         return begin_them(rt, alloc, errors.as_slice(), wanted);
     }
-    assert!(rt;
-        end == End::Whole && w.failed() == 0 && w.empty() == 0,
-        "{}",
-        wanted.text
-    );
-    assert!(rt;
-        w.into_inner().taken.as_slice() == wanted.text.as_bytes(),
-        "{}",
-        wanted.text
-    );
+    check(rt, has_taken(w, end, wanted.text), wanted.text);
     are_all(rt, alloc, errors.as_slice(), wanted)
+}
+
+/// Both, of the message `a`.
+fn goes<'s>(
+    rt: &impl Abort,
+    alloc: Global,
+    bundle: &Bundle<'_, 's>,
+    args: &FluentArgs<'_, Star>,
+    wanted: &Wanted<'_>,
+) -> Result<(), Fail> {
+    let pattern = pattern_in(bundle, "a")?;
+    goes_through(rt, alloc, bundle, pattern, args, wanted)?;
+    stops_anywhere(rt, alloc, bundle, pattern, args, wanted)
 }
 
 fn whole_holds(rt: &impl Abort, alloc: Global, whole: &Whole) -> Result<(), Fail> {
     let resource = read(alloc, whole.1)?;
     let bundle = bundle_of(alloc, whole.0, &resource)?;
-    let pattern = value_in(&bundle, "a").ok_or("no a")?;
-    let wanted = wants(whole.2, whole.3);
-    goes_through(rt, alloc, &bundle, pattern, &wanted)?;
-    stops_anywhere(rt, alloc, &bundle, pattern, &wanted)
+    let args = arguments(alloc, NINE)?;
+    goes(rt, alloc, &bundle, &args, &wants(whole.2, whole.3))
 }
+
+const WHOLES: &[Whole] = &[REFERENCES, CYCLES, STRUCK, SHOWN];
 
 /// What was taken begins the text, nothing is written after the fault, and the errors begin those of the whole.
 #[test]
 fn a_fault_leaves_a_beginning(rt: HostRuntime) -> Result<(), Fail> {
-    for whole in [REFERENCES, CYCLES, STRUCK, SHOWN] {
-        whole_holds(&rt, rt.alloc(), &whole)?;
+    for whole in WHOLES {
+        whole_holds(&rt, rt.alloc(), whole)?;
     }
     Ok(())
 }
@@ -330,17 +362,33 @@ const CUTS: &[Cut] = &[
     (&[], "a = x{ -t }{ $q }\n-t = { $n }y\n", "x\u{2068}", ""),
 ];
 
-fn is_cut(
+fn is_cut<'s>(
     rt: &impl Abort,
     alloc: Global,
-    bundle: &Bundle<'_, '_>,
+    bundle: &Bundle<'_, 's>,
+    pattern: &Pattern<'s>,
+    args: &FluentArgs<'_, Star>,
     how: How,
     cut: &Cut,
 ) -> Result<(), Fail> {
-    let pattern = value_in(bundle, "a").ok_or("no a")?;
-    let args = arguments(alloc, NINE)?;
-    if let Some(errors) = stops(rt, alloc, bundle, pattern, &args, how, cut.2)? {
-        are_all(rt, alloc, errors.as_slice(), &wants(cut.2, cut.3))?;
+    let mut errors = Vec::new(alloc);
+    if !stops(rt, alloc, bundle, pattern, args, &mut errors, how, cut.2) {
+        return Ok(());
+    }
+    are_all(rt, alloc, errors.as_slice(), &wants(cut.2, cut.3))
+}
+
+/// The same in each way.
+fn are_cut(
+    rt: &impl Abort,
+    alloc: Global,
+    bundle: &Bundle<'_, '_>,
+    args: &FluentArgs<'_, Star>,
+    cut: &Cut,
+) -> Result<(), Fail> {
+    let pattern = pattern_in(bundle, "a")?;
+    for how in ways(cut.2.len()) {
+        is_cut(rt, alloc, bundle, pattern, args, how, cut)?;
     }
     Ok(())
 }
@@ -348,10 +396,8 @@ fn is_cut(
 fn cut_holds(rt: &impl Abort, alloc: Global, cut: &Cut) -> Result<(), Fail> {
     let resource = read(alloc, cut.1)?;
     let bundle = bundle_of(alloc, cut.0, &resource)?;
-    for how in ways(cut.2.len()) {
-        is_cut(rt, alloc, &bundle, how, cut)?;
-    }
-    Ok(())
+    let args = arguments(alloc, NINE)?;
+    are_cut(rt, alloc, &bundle, &args, cut)
 }
 
 #[test]

@@ -1,6 +1,7 @@
 //! Calls of one scope that write: what they leave, how many placeables they opened and patterns they entered, and how
 //! long the path was.
-use crate::rows::{Wanted, are_all, begin_them, wants};
+use crate::check::check;
+use crate::rows::{is_left, wants};
 use fluent_bundle::ast::{Expression, InlineExpression, Pattern, PatternElement};
 use fluent_bundle::{Counting, FluentArgs, FluentError, Scope, WriteFault};
 use fluent_fixtures::common::read;
@@ -46,7 +47,18 @@ fn inline_of<'x, 's>(pattern: &'x Pattern<'s>) -> Option<&'x InlineExpression<'s
     }
 }
 
+/// The same of the value of a message.
+fn expression_at<'p, 's>(bundle: &'p Bundle<'_, 's>, at: &str) -> Option<&'p Expression<'s>> {
+    expression_of(value_in(bundle, at)?)
+}
+
+fn inline_at<'p, 's>(bundle: &'p Bundle<'_, 's>, at: &str) -> Option<&'p InlineExpression<'s>> {
+    inline_of(value_in(bundle, at)?)
+}
+
 // ---- calls that write
+
+const NINE: &[Named] = &[("n", Given::Read("9"))];
 
 /// A call of a scope, by the ids of the messages whose value is the pattern, and in whose value the expression stands
 /// last.
@@ -82,6 +94,41 @@ type NineScope<'errors, 'p, 'r, 's> = Scope<
     Bundle<'r, 's>,
 >;
 
+fn track<'p, 'r, 's>(
+    scope: &mut NineScope<'_, 'p, 'r, 's>,
+    w: &mut Counting<Vec<u8>>,
+    pattern: Option<&'p Pattern<'s>>,
+    inline: Option<&'p InlineExpression<'s>>,
+) -> Result<(), WriteFault> {
+    match (pattern, inline) {
+        (Some(pattern), Some(inline)) => scope.track(w, pattern, inline),
+        _ => Err(WriteFault::Zero),
+    }
+}
+
+fn maybe_track<'p, 'r, 's>(
+    scope: &mut NineScope<'_, 'p, 'r, 's>,
+    w: &mut Counting<Vec<u8>>,
+    pattern: Option<&'p Pattern<'s>>,
+    expression: Option<&'p Expression<'s>>,
+) -> Result<(), WriteFault> {
+    match (pattern, expression) {
+        (Some(pattern), Some(expression)) => scope.maybe_track(w, pattern, expression),
+        _ => Err(WriteFault::Zero),
+    }
+}
+
+fn ref_error<'p, 'r, 's>(
+    scope: &mut NineScope<'_, 'p, 'r, 's>,
+    w: &mut Counting<Vec<u8>>,
+    inline: Option<&'p InlineExpression<'s>>,
+) -> Result<(), WriteFault> {
+    match inline {
+        Some(inline) => scope.write_ref_error(w, inline),
+        None => Err(WriteFault::Zero),
+    }
+}
+
 fn take<'p, 'r, 's>(
     scope: &mut NineScope<'_, 'p, 'r, 's>,
     bundle: &'p Bundle<'r, 's>,
@@ -89,45 +136,43 @@ fn take<'p, 'r, 's>(
     step: Step,
 ) -> Result<(), WriteFault> {
     match step {
-        Step::Track(id, at) => match (value_in(bundle, id), value_in(bundle, at)) {
-            (Some(pattern), Some(other)) => match inline_of(other) {
-                Some(inline) => scope.track(w, pattern, inline),
-                None => Err(WriteFault::Zero),
-            },
-            _ => Err(WriteFault::Zero),
-        },
-        Step::MaybeTrack(id, at) => match (value_in(bundle, id), value_in(bundle, at)) {
-            (Some(pattern), Some(other)) => match expression_of(other) {
-                Some(expression) => scope.maybe_track(w, pattern, expression),
-                None => Err(WriteFault::Zero),
-            },
-            _ => Err(WriteFault::Zero),
-        },
-        Step::RefError(at) => match value_in(bundle, at) {
-            Some(other) => match inline_of(other) {
-                Some(inline) => scope.write_ref_error(w, inline),
-                None => Err(WriteFault::Zero),
-            },
-            None => Err(WriteFault::Zero),
-        },
+        Step::Track(id, at) => track(scope, w, value_in(bundle, id), inline_at(bundle, at)),
+        Step::MaybeTrack(id, at) => {
+            maybe_track(scope, w, value_in(bundle, id), expression_at(bundle, at))
+        }
+        Step::RefError(at) => ref_error(scope, w, inline_at(bundle, at)),
     }
 }
 
-/// Makes the calls in one scope.
+/// Makes the calls in a scope.
+fn take_each<'p, 'r, 's>(
+    scope: &mut NineScope<'_, 'p, 'r, 's>,
+    bundle: &'p Bundle<'r, 's>,
+    w: &mut Counting<Vec<u8>>,
+    steps: &[Step],
+) -> Result<(), WriteFault> {
+    for step in steps {
+        take(scope, bundle, w, *step)?;
+    }
+    Ok(())
+}
+
+fn after(scope: &NineScope<'_, '_, '_, '_>) -> After {
+    let counts = scope.counts();
+    (scope.dirty(), counts.opened, counts.longest, counts.entered)
+}
+
+/// Makes the calls in one scope: how they end, and what the scope is then.
 fn take_all<'p, 'r, 's>(
     bundle: &'p Bundle<'r, 's>,
     args: &'p FluentArgs<'static, Star>,
     w: &mut Counting<Vec<u8>>,
     errors: &mut Vec<FluentError>,
     steps: &[Step],
-) -> Result<After, WriteFault> {
+) -> (End, After) {
     let mut scope = Scope::new(bundle, bundle.ids(), Some(args), Some(errors));
-    for step in steps {
-        take(&mut scope, bundle, w, *step)?;
-    }
-    let counts = scope.counts();
-    let dirty = scope.dirty();
-    Ok((dirty, counts.opened, counts.longest, counts.entered))
+    let end = end_of(take_each(&mut scope, bundle, w, steps));
+    (end, after(&scope))
 }
 
 /// Makes the calls of a row; `false` where memory is refused, after which texts and errors begin those of the row.
@@ -135,43 +180,24 @@ fn once(
     rt: &impl Abort,
     alloc: Global,
     bundle: &Bundle<'_, '_>,
-    steps: &[Step],
-    wanted: &Wanted<'_>,
-    after: After,
+    args: &FluentArgs<'static, Star>,
+    row: &Row,
 ) -> Result<bool, Fail> {
-    let args = arguments(alloc, &[("n", Given::Read("9"))])?;
     let mut errors = Vec::new(alloc);
     let mut w = Counting::new(Vec::new(alloc));
-    let outcome = take_all(bundle, &args, &mut w, &mut errors, steps);
+    let (end, after) = take_all(bundle, args, &mut w, &mut errors, row.1);
+    check(rt, end == End::Memory || after == row.4, row.2);
     let taken = w.into_inner();
-    match outcome {
-        Ok(found) => {
-            let text = str::from_utf8(taken.as_slice()).unwrap_or("no text");
-            assert!(rt; text == wanted.text, "{}: {text}", wanted.text);
-            are_all(rt, alloc, errors.as_slice(), wanted)?;
-            assert!(rt; found == after, "{}: {found:?}", wanted.text);
-            Ok(true)
-        }
-        Err(fault) => {
-            assert!(rt; end_of(Err(fault)) == End::Memory, "{}", wanted.text);
-            assert!(rt;
-                wanted.text.as_bytes().starts_with(taken.as_slice()),
-                "{}",
-                wanted.text
-            );
-            begin_them(rt, alloc, errors.as_slice(), wanted)?;
-            Ok(false)
-        }
-    }
+    let wanted = wants(row.2, row.3);
+    is_left(rt, alloc, errors.as_slice(), taken.as_slice(), end, &wanted)
 }
 
 fn holds(rt: &impl Abort, alloc: Global, row: &Row) -> Result<(), Fail> {
     let resource = read(alloc, SOURCE)?;
     let bundle = bundle_of(alloc, row.0, &resource)?;
-    let wanted = wants(row.2, row.3);
-    if !once(rt, alloc, &bundle, row.1, &wanted, row.4)? {
-        assert!(rt; once(rt, alloc, &bundle, row.1, &wanted, row.4)?);
-    }
+    let args = arguments(alloc, NINE)?;
+    let is_whole = once(rt, alloc, &bundle, &args, row)? || once(rt, alloc, &bundle, &args, row)?;
+    check(rt, is_whole, row.2);
     Ok(())
 }
 
@@ -276,25 +302,36 @@ fn parts_are_resolved_in_a_scope(rt: HostRuntime) -> Result<(), Fail> {
     Ok(())
 }
 
+const STRUCK: &[Step] = &[
+    Step::Track("m", "n"),
+    Step::Track("a", "n"),
+    Step::MaybeTrack("n", "n"),
+    Step::MaybeTrack("v", "v"),
+    Step::MaybeTrack("a", "a"),
+];
+
+fn is_struck(
+    rt: &impl Abort,
+    alloc: Global,
+    bundle: &Bundle<'_, '_>,
+    args: &FluentArgs<'static, Star>,
+) -> Result<(), Fail> {
+    let mut errors = Vec::new(alloc);
+    let mut w = Counting::new(Vec::new(alloc));
+    let (end, after) = take_all(bundle, args, &mut w, &mut errors, STRUCK);
+    check(rt, after.0 && after.1 == 2, "struck");
+    let taken = w.into_inner();
+    let wanted = wants("ab{m}{$n}9{$n}", TOO_MANY);
+    let is_whole = is_left(rt, alloc, errors.as_slice(), taken.as_slice(), end, &wanted)?;
+    check(rt, is_whole, wanted.text);
+    Ok(())
+}
+
 /// Once the limit is struck, patterns give nothing, and the fallback follows what is not a pattern.
 #[test]
 fn a_dirty_scope_writes_no_pattern(rt: HostRuntime) -> Result<(), Fail> {
-    let alloc = rt.alloc();
-    let resource = read(alloc, SOURCE)?;
-    let bundle = bundle_of(alloc, &[Setting::Limit(2)], &resource)?;
-    let args = arguments(alloc, &[("n", Given::Read("9"))])?;
-    let mut errors = Vec::new(alloc);
-    let mut w = Counting::new(Vec::new(alloc));
-    let steps = [
-        Step::Track("m", "n"),
-        Step::Track("a", "n"),
-        Step::MaybeTrack("n", "n"),
-        Step::MaybeTrack("v", "v"),
-        Step::MaybeTrack("a", "a"),
-    ];
-    let after = take_all(&bundle, &args, &mut w, &mut errors, &steps)?;
-    assert!(rt; after.0 && after.1 == 2);
-    let wanted = wants("ab{m}{$n}9{$n}", TOO_MANY);
-    assert!(rt; w.into_inner().as_slice() == wanted.text.as_bytes());
-    are_all(&rt, alloc, errors.as_slice(), &wanted)
+    let resource = read(rt.alloc(), SOURCE)?;
+    let bundle = bundle_of(rt.alloc(), &[Setting::Limit(2)], &resource)?;
+    let args = arguments(rt.alloc(), NINE)?;
+    is_struck(&rt, rt.alloc(), &bundle, &args)
 }

@@ -8,6 +8,8 @@ mod budget;
 #[cfg(test)]
 mod by_hand;
 #[cfg(test)]
+mod check;
+#[cfg(test)]
 mod faults;
 #[cfg(test)]
 mod in_one_scope;

@@ -1,9 +1,10 @@
 //! Tables of sources: what messages are written and formatted as in a bundle, and the lines of their errors.
+use crate::check::{check, check_same};
 use fluent_bundle::ast::Pattern;
 use fluent_bundle::{Counting, FluentArgs, FluentError, FluentResource, WriteFault};
 use fluent_fixtures::common::{lines, read};
 use fluent_fixtures::objects::Star;
-use fluent_fixtures::settings::{Bundle, Named, Setting, arguments, bundle_of, value_in};
+use fluent_fixtures::settings::{Bundle, Named, Setting, arguments, bundle_of, pattern_in};
 use fluent_fixtures::writers::{End, end_of};
 use std::alloc::{AllocError, Global};
 use std::borrow::CowStr;
@@ -38,7 +39,7 @@ pub fn are_all(
     wanted: &Wanted<'_>,
 ) -> Result<(), Fail> {
     let found = lines(alloc, errors)?;
-    assert!(rt; found.as_str() == wanted.errors, "{}: {found}", wanted.text);
+    check_same(rt, found.as_str(), wanted.errors);
     Ok(())
 }
 
@@ -50,12 +51,28 @@ pub fn begin_them(
     wanted: &Wanted<'_>,
 ) -> Result<(), Fail> {
     let found = lines(alloc, errors)?;
-    assert!(rt;
+    check(
+        rt,
         wanted.errors.starts_with(found.as_str()),
-        "{}: {found}",
-        wanted.text
+        found.as_str(),
     );
     Ok(())
+}
+
+/// That errors are those that are wanted, or begin them where a call wasn't whole.
+fn are_told(
+    rt: &impl Abort,
+    alloc: Global,
+    errors: &[FluentError],
+    wanted: &Wanted<'_>,
+    is_whole: bool,
+) -> Result<bool, Fail> {
+    if is_whole {
+        are_all(rt, alloc, errors, wanted)?;
+    } else {
+        begin_them(rt, alloc, errors, wanted)?;
+    }
+    Ok(is_whole)
 }
 
 /// Writes a pattern.
@@ -79,7 +96,27 @@ fn format<'p>(
     bundle.format_pattern(pattern, args, errors)
 }
 
-/// Writes a pattern; `false` where memory is refused, after which text and errors begin those that are wanted.
+/// What a call left in a writer and a list; `false` where memory was refused, after which text and errors begin those
+/// that are wanted.
+pub fn is_left(
+    rt: &impl Abort,
+    alloc: Global,
+    errors: &[FluentError],
+    taken: &[u8],
+    end: End,
+    wanted: &Wanted<'_>,
+) -> Result<bool, Fail> {
+    let is_whole = end != End::Memory;
+    if is_whole {
+        check(rt, end == End::Whole, wanted.text);
+        check_same(rt, str::from_utf8(taken).unwrap_or("no text"), wanted.text);
+    } else {
+        check(rt, wanted.text.as_bytes().starts_with(taken), wanted.text);
+    }
+    are_told(rt, alloc, errors, wanted, is_whole)
+}
+
+/// Writes a pattern; `false` where memory is refused.
 fn writes_once<'s>(
     rt: &impl Abort,
     alloc: Global,
@@ -92,20 +129,18 @@ fn writes_once<'s>(
     let mut w = Counting::new(Vec::new(alloc));
     let end = end_of(write(bundle, pattern, args, &mut w, &mut errors));
     let taken = w.into_inner();
-    if end == End::Memory {
-        assert!(rt;
-            wanted.text.as_bytes().starts_with(taken.as_slice()),
-            "{}",
-            wanted.text
-        );
-        begin_them(rt, alloc, errors.as_slice(), wanted)?;
-        return Ok(false);
+    is_left(rt, alloc, errors.as_slice(), taken.as_slice(), end, wanted)
+}
+
+/// Whether a pattern was formatted, as this text.
+fn is_formatted(rt: &impl Abort, formatted: Result<CowStr<'_>, AllocError>, text: &str) -> bool {
+    match formatted {
+        Ok(found) => {
+            check_same(rt, found.as_str(), text);
+            true
+        }
+        Err(AllocError) => false,
     }
-    assert!(rt; end == End::Whole, "{}", wanted.text);
-    let found = str::from_utf8(taken.as_slice()).unwrap_or("no text");
-    assert!(rt; found == wanted.text, "{}: {found}", wanted.text);
-    are_all(rt, alloc, errors.as_slice(), wanted)?;
-    Ok(true)
 }
 
 /// Formats a pattern; `false` where memory is refused, after which the errors begin those that are wanted.
@@ -118,18 +153,9 @@ fn formats_once<'s>(
     wanted: &Wanted<'_>,
 ) -> Result<bool, Fail> {
     let mut errors = Vec::new(alloc);
-    let Ok(text) = format(bundle, pattern, args, &mut errors) else {
-        begin_them(rt, alloc, errors.as_slice(), wanted)?;
-        return Ok(false);
-    };
-    assert!(rt;
-        text.as_str() == wanted.formatted,
-        "{}: {}",
-        wanted.formatted,
-        text.as_str()
-    );
-    are_all(rt, alloc, errors.as_slice(), wanted)?;
-    Ok(true)
+    let formatted = format(bundle, pattern, args, &mut errors);
+    let is_whole = is_formatted(rt, formatted, wanted.formatted);
+    are_told(rt, alloc, errors.as_slice(), wanted, is_whole)
 }
 
 /// Writes and formats a pattern, each a second time where memory is refused at the first.
@@ -141,12 +167,12 @@ fn gives_with<'s>(
     args: Option<&FluentArgs<'_, Star>>,
     wanted: &Wanted<'_>,
 ) -> Result<(), Fail> {
-    if !writes_once(rt, alloc, bundle, pattern, args, wanted)? {
-        assert!(rt; writes_once(rt, alloc, bundle, pattern, args, wanted)?);
-    }
-    if !formats_once(rt, alloc, bundle, pattern, args, wanted)? {
-        assert!(rt; formats_once(rt, alloc, bundle, pattern, args, wanted)?);
-    }
+    let is_written = writes_once(rt, alloc, bundle, pattern, args, wanted)?
+        || writes_once(rt, alloc, bundle, pattern, args, wanted)?;
+    check(rt, is_written, wanted.text);
+    let is_formatted = formats_once(rt, alloc, bundle, pattern, args, wanted)?
+        || formats_once(rt, alloc, bundle, pattern, args, wanted)?;
+    check(rt, is_formatted, wanted.formatted);
     Ok(())
 }
 
@@ -206,7 +232,7 @@ pub fn are_given(
     rows: &[Row],
 ) -> Result<(), Fail> {
     for row in rows {
-        let pattern = value_in(bundle, row.0).ok_or(row.0)?;
+        let pattern = pattern_in(bundle, row.0)?;
         gives(rt, alloc, bundle, pattern, row.1, &wanted_of(settings, row))?;
     }
     Ok(())

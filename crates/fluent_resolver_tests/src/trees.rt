@@ -9,6 +9,8 @@ pub type Inline<'s> = InlineExpression<'s>;
 
 pub type Tree<'s> = Result<Pattern<'s>, AllocError>;
 
+pub type Asked<'s> = Result<Box<CallArguments<'s>>, AllocError>;
+
 // ---- elements
 
 pub fn say<'s>(value: &'s str) -> PatternElement<'s> {
@@ -126,21 +128,17 @@ pub fn asked<'s>(
     alloc: Global,
     positional: Vec<Inline<'s>>,
     named: Vec<NamedArgument<'s>>,
-) -> Result<Box<CallArguments<'s>>, AllocError> {
+) -> Asked<'s> {
     Ok(Box::new(alloc, CallArguments { positional, named })?)
 }
 
 /// One positional argument.
-pub fn only<'s>(alloc: Global, inline: Inline<'s>) -> Result<Box<CallArguments<'s>>, AllocError> {
+pub fn only<'s>(alloc: Global, inline: Inline<'s>) -> Asked<'s> {
     asked(alloc, vec![in alloc; inline]?, Vec::new(alloc))
 }
 
 /// One named argument.
-pub fn only_named<'s>(
-    alloc: Global,
-    name: &'s str,
-    value: Inline<'s>,
-) -> Result<Box<CallArguments<'s>>, AllocError> {
+pub fn only_named<'s>(alloc: Global, name: &'s str, value: Inline<'s>) -> Asked<'s> {
     asked(alloc, Vec::new(alloc), vec![in alloc; named(name, value)]?)
 }
 

@@ -1,10 +1,12 @@
 //! Plural operands, categories and the rules of languages, which take no memory once rules are read: each call answers
 //! alike whichever request fails, and where none is met any more.
+use crate::check::check;
 use fluent_intl::{
     Decimal, EnglishPlurals, FluentNumber, FluentNumberOptions, LanguageIdentifier, MemoizerKind,
     PluralCategory, PluralOperands, PluralRuleType, RuleFault, RuleTexts, cldr_plurals, rules_for,
 };
 use std::alloc::{AllocError, Global};
+use std::process::Abort;
 use std::test::Fail;
 
 // ---- operands
@@ -154,17 +156,32 @@ fn is_undetermined(language: &LanguageIdentifier) -> bool {
         && language.variants.is_empty()
 }
 
+fn are_operands(rt: &impl Abort) {
+    for row in OPERANDS {
+        check(rt, has_operands(row), row.0);
+    }
+}
+
+fn are_categories(rules: &RuleTexts) -> bool {
+    for row in CATEGORIES {
+        if !has_categories(row, rules) {
+            return false;
+        }
+    }
+    true
+}
+
 /// Run with each allocation failing in turn, and all from each one on.
 #[test]
 fn plurals_take_no_memory(rt: HostRuntime) -> Result<(), Fail> {
+    are_operands(&rt);
+    check(&rt, finds_languages(), "languages");
+    check(
+        &rt,
+        is_undetermined(&LanguageIdentifier::und(rt.alloc())),
+        "und",
+    );
     let rules = read_rules(rt.alloc())?;
-    for row in OPERANDS {
-        assert!(rt; has_operands(row), "at {}", row.0);
-    }
-    for row in CATEGORIES {
-        assert!(rt; has_categories(row, &rules), "at {}", row.0);
-    }
-    assert!(rt; finds_languages());
-    assert!(rt; is_undetermined(&LanguageIdentifier::und(rt.alloc())));
+    check(&rt, are_categories(&rules), "categories");
     Ok(())
 }

@@ -1,9 +1,10 @@
 //! Texts that are given and written without memory: each call answers alike whichever request fails, and where none is
 //! met any more, also where its writer stops.
-use crate::stopped::{ended, writer};
+use crate::check::check;
 use fluent_bundle::ast::{Pattern, PatternElement};
 use fluent_bundle::{Counting, FluentError, WriteFault};
 use fluent_fixtures::common::{Bundle, empty, read, value_of};
+use fluent_fixtures::stopped::{ended, writer};
 use fluent_fixtures::stopping::{FAULTS, Fault, Stopping};
 use fluent_syntax::counting::put;
 use fluent_syntax::{unescape_unicode, unescape_unicode_to_string};
@@ -84,8 +85,9 @@ fn stops<'s>(
     let mut w = writer(alloc, left, fault)?;
     let mut errors = Vec::new(alloc);
     let answer = write(bundle, pattern, &mut w, &mut errors, row.0);
-    assert!(rt; errors.is_empty());
-    Ok(!ended(rt, &answer, w, fault, row.1).is_whole)
+    let end = ended(answer, w, fault, row.1);
+    check(rt, end.is_right && errors.is_empty(), row.1);
+    Ok(!end.is_whole)
 }
 
 /// The writer stops at each write in turn.
@@ -125,22 +127,37 @@ fn is_empty(mut w: Counting<Stopping>) -> bool {
     is_taken && is_nothing && matches!(w.write(b""), Ok(0)) && w.empty() == 1 && w.failed() == 0
 }
 
-/// Run with each allocation failing in turn, and all from each one on.
-#[test]
-fn texts_take_no_memory(rt: HostRuntime) -> Result<(), Fail> {
-    let alloc = rt.alloc();
-    let resource = read(alloc, "m = Hello\n")?;
+fn are_single(rt: &impl Abort, alloc: Global) -> Result<(), AllocError> {
+    let broken = writer(alloc, 1, (Some(ErrorKind::BrokenPipe), false))?;
+    check(rt, is_failing(broken), "a write that fails");
+    let full = writer(alloc, 1, (None, true))?;
+    check(rt, is_empty(full), "a write that takes nothing");
+    Ok(())
+}
+
+fn are_lent<'s>(rt: &impl Abort, alloc: Global, bundle: &Bundle<'_, 's>, pattern: &Pattern<'s>) {
+    check(rt, is_formatted(bundle, pattern, alloc), "a pattern");
+    let text = unescape_unicode_to_string(alloc, "x{u\"");
+    check(rt, is_lent(text, "x{u\""), "a text without escapes");
+}
+
+fn are_stopped(rt: &impl Abort, alloc: Global, bundle: &Bundle<'_, 'static>) -> Result<(), Fail> {
     let pattern = three(alloc)?;
-    let bundle: Bundle<'_, '_> = empty(alloc);
-    assert!(rt; is_formatted(&bundle, value_of(&resource)?, alloc));
-    assert!(rt; is_text(&pattern));
-    assert!(rt; is_lent(unescape_unicode_to_string(alloc, "x{u\""), "x{u\""));
-    assert!(rt; is_failing(writer(alloc, 1, (Some(ErrorKind::BrokenPipe), false))?));
-    assert!(rt; is_empty(writer(alloc, 1, (None, true))?));
+    check(rt, is_text(&pattern), "texts alone");
     for row in ALL {
         for fault in FAULTS {
-            stops_anywhere(&rt, alloc, &bundle, &pattern, *row, *fault)?;
+            stops_anywhere(rt, alloc, bundle, &pattern, *row, *fault)?;
         }
     }
     Ok(())
+}
+
+/// Run with each allocation failing in turn, and all from each one on.
+#[test]
+fn texts_take_no_memory(rt: HostRuntime) -> Result<(), Fail> {
+    let resource = read(rt.alloc(), "m = Hello\n")?;
+    let bundle: Bundle<'_, '_> = empty(rt.alloc());
+    are_lent(&rt, rt.alloc(), &bundle, value_of(&resource)?);
+    are_single(&rt, rt.alloc())?;
+    are_stopped(&rt, rt.alloc(), &bundle)
 }

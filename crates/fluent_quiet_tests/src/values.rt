@@ -1,21 +1,24 @@
 //! Values, arguments and options, as far as they take no memory: each call answers alike whichever request fails, and
 //! where none is met any more.
+use crate::check::check;
 use fluent_bundle::types::FluentNumberType;
 use fluent_bundle::{
     FluentArgs, FluentFormatter, FluentFunction, FluentNumberOptions, FluentType, FluentValue,
     MergeArgs, NoCustom, NoFormatter, NoFunction, Scope, builtins,
 };
 use fluent_fixtures::common::{Bundle, empty};
+use fluent_fixtures::own::Own;
 use fluent_intl::EnglishPlurals;
 use std::alloc::{AllocError, Global};
 use std::borrow::CowStr;
+use std::process::Abort;
 use std::test::Fail;
 
 type Value<'s> = FluentValue<'s, NoCustom>;
 
 /// What a value is: a text that is lent, what a text is read as, a custom one, none, or an error.
 #[derive(Clone, Copy)]
-enum Given {
+pub enum Given {
     Text(&'static str),
     Read(&'static str),
     Custom,
@@ -23,7 +26,7 @@ enum Given {
     Fault,
 }
 
-fn value(given: Given) -> Value<'static> {
+pub fn value(given: Given) -> Value<'static> {
     match given {
         Given::Text(text) => FluentValue::from(text),
         Given::Read(text) => FluentValue::try_number(text),
@@ -50,7 +53,9 @@ fn is(value: &Value<'_>, given: Given) -> bool {
 const ONE: Given = Given::Read("1");
 
 /// Two values, whether they are the same, and whether the first as the key of a variant matches the second in English.
-const PAIRS: &[(Given, Given, bool, bool)] = &[
+type Pair = (Given, Given, bool, bool);
+
+const PAIRS: &[Pair] = &[
     (Given::Text("a"), Given::Text("a"), true, true),
     (Given::Text("a"), Given::Text("b"), false, false),
     (Given::Text("1"), ONE, false, false),
@@ -67,11 +72,30 @@ const PAIRS: &[(Given, Given, bool, bool)] = &[
     (Given::Fault, Given::Fault, false, false),
 ];
 
+type Scoped<'errors, 'p, 'r, 's> = Scope<
+    'errors,
+    'p,
+    'r,
+    's,
+    'static,
+    NoCustom,
+    Own,
+    Bundle<'r, 's>,
+>;
+
+fn is_compared(
+    one: &Value<'_>,
+    two: &Value<'_>,
+    scope: &Scoped<'_, '_, '_, '_>,
+    pair: &Pair,
+) -> bool {
+    one.same(two) == pair.2 && one.matches(two, scope) == pair.3
+}
+
 fn are_compared(bundle: &Bundle<'_, '_>) -> bool {
     let scope = Scope::new(bundle, bundle.ids(), None, None);
-    for (one, two, is_same, is_match) in PAIRS {
-        let (one, two) = (value(*one), value(*two));
-        if one.same(&two) != *is_same || one.matches(&two, &scope) != *is_match {
+    for pair in PAIRS {
+        if !is_compared(&value(pair.0), &value(pair.1), &scope, pair) {
             return false;
         }
     }
@@ -89,44 +113,60 @@ const LENT: &[Given] = &[
     Given::Fault,
 ];
 
-/// Whether a copy of a value is the same, also one that borrows nothing, where the value is no text.
-fn is_copied(alloc: Global, given: Given) -> bool {
-    let is_right = match value(given).try_clone(alloc) {
+fn is_copy(copy: Result<Value<'_>, AllocError>, given: Given) -> bool {
+    match copy {
         Ok(copy) => is(&copy, given),
-        Err(AllocError) => false,
-    };
-    if matches!(given, Given::Text(_)) {
-        return is_right;
-    }
-    match value(given).into_owned(alloc) {
-        Ok(copy) => is_right && is(&copy, given),
         Err(AllocError) => false,
     }
 }
 
+/// Whether a value that borrows nothing is the same, where it is no text.
+fn is_owned(alloc: Global, given: Given) -> bool {
+    matches!(given, Given::Text(_)) || is_copy(value(given).into_owned(alloc), given)
+}
+
+/// Whether a copy of a value is the same, also one that borrows nothing.
+fn is_copied(alloc: Global, value: &Value<'_>, given: Given) -> bool {
+    is(value, given) && is_copy(value.try_clone(alloc), given) && is_owned(alloc, given)
+}
+
 fn are_copied(alloc: Global) -> bool {
     for given in LENT {
-        if !is(&value(*given), *given) || !is_copied(alloc, *given) {
+        if !is_copied(alloc, &value(*given), *given) {
             return false;
         }
     }
     is(&FluentValue::try_number("1e5"), Given::Text("1e5"))
 }
 
-/// What stands for none of an application's own.
-fn are_none(alloc: Global) -> bool {
-    let args: Args = FluentArgs::new(alloc);
-    let text = match NoCustom.as_string(alloc) {
+fn is_without_text(text: Result<String, AllocError>) -> bool {
+    match text {
         Ok(text) => text.is_empty(),
         Err(AllocError) => false,
-    };
-    text && NoCustom.same(&NoCustom)
+    }
+}
+
+/// Whether no custom value has no text, and is the same as any other.
+fn is_no_custom(alloc: Global) -> bool {
+    is_without_text(NoCustom.as_string(alloc))
+        && NoCustom.same(&NoCustom)
         && NoCustom.duplicate(alloc).is_ok()
-        && matches!(NoFunction.call(alloc, &[], &args), Ok(FluentValue::Error))
-        && matches!(
-            NoFormatter.format(alloc, &value(ONE), &EnglishPlurals),
-            Ok(None)
-        )
+}
+
+fn is_error(answer: Result<Value<'_>, AllocError>) -> bool {
+    matches!(answer, Ok(FluentValue::Error))
+}
+
+fn is_no_function(alloc: Global, args: &Args) -> bool {
+    is_error(NoFunction.call(alloc, &[], args))
+}
+
+fn is_own_text(shown: Result<Option<String>, AllocError>) -> bool {
+    matches!(shown, Ok(None))
+}
+
+fn is_no_formatter(alloc: Global, value: &Value<'_>) -> bool {
+    is_own_text(NoFormatter.format(alloc, value, &EnglishPlurals))
 }
 
 // ---- arguments
@@ -202,40 +242,50 @@ fn is_empty(args: Result<Args, AllocError>) -> bool {
 /// Whether options are taken from arguments without a currency.
 fn are_merged(alloc: Global, args: &Args) -> bool {
     let mut options = FluentNumberOptions::default();
-    options.merge(alloc, args).is_ok()
-        && options.number_type == FluentNumberType::Ordinal
+    let is_merged = options.merge(alloc, args).is_ok();
+    is_merged && are_right(&options)
+}
+
+fn are_right(options: &FluentNumberOptions) -> bool {
+    options.number_type == FluentNumberType::Ordinal
         && options.minimum_fraction_digits == Some(2)
         && options.use_grouping
 }
 
 /// Whether the built-in function gives a number these options, and answers an error of anything else.
 fn is_asked(alloc: Global, args: &Args) -> bool {
-    let number = [value(ONE)];
-    let text = [value(Given::Text("1"))];
-    let is_shown = match builtins::NUMBER(alloc, &number, args) {
-        Ok(answer) => is(&answer, Given::Read("1.00")),
-        Err(AllocError) => false,
-    };
-    is_shown
-        && matches!(builtins::NUMBER(alloc, &text, args), Ok(FluentValue::Error))
-        && matches!(
-            builtins::NUMBER(alloc, &[], args),
-            Ok(FluentValue::<NoCustom>::Error)
-        )
+    is_copy(
+        builtins::NUMBER(alloc, &[value(ONE)], args),
+        Given::Read("1.00"),
+    ) && is_error(builtins::NUMBER(alloc, &[value(Given::Text("1"))], args))
+        && is_error(builtins::NUMBER(alloc, &[], args))
+}
+
+/// Whether those stand for nothing that stand for none of an application's own.
+fn are_none(rt: &impl Abort, alloc: Global, args: &Args) {
+    check(rt, is_no_custom(alloc), "no custom value");
+    check(rt, is_no_function(alloc, args), "no function");
+    check(rt, is_no_formatter(alloc, &value(ONE)), "no formatter");
 }
 
 /// Run with each allocation failing in turn, and all from each one on.
 #[test]
 fn values_and_arguments_take_no_memory(rt: HostRuntime) -> Result<(), Fail> {
     let alloc = rt.alloc();
+    check(&rt, are_compared(&empty(alloc)), "two values");
+    check(&rt, are_copied(alloc), "copies");
+    check(&rt, is_empty(Ok(FluentArgs::new(alloc))), "no arguments");
+    check(
+        &rt,
+        is_empty(FluentArgs::with_capacity(alloc, 9)),
+        "room for arguments",
+    );
     let mut args = arguments(alloc)?;
-    assert!(rt; are_compared(&empty(alloc)));
-    assert!(rt; are_copied(alloc));
-    assert!(rt; are_none(alloc));
-    assert!(rt; is_set_again(&mut args));
-    assert!(rt; are_merged(alloc, &args) && is_asked(alloc, &args));
-    assert!(rt; are_lent(&args) && are_taken(args));
-    assert!(rt; is_empty(Ok(FluentArgs::new(alloc))));
-    assert!(rt; is_empty(FluentArgs::with_capacity(alloc, 9)));
+    are_none(&rt, alloc, &args);
+    check(&rt, is_set_again(&mut args), "an argument");
+    check(&rt, are_merged(alloc, &args), "options");
+    check(&rt, is_asked(alloc, &args), "the built-in function");
+    check(&rt, are_lent(&args), "arguments that are lent");
+    check(&rt, are_taken(args), "arguments that are given away");
     Ok(())
 }

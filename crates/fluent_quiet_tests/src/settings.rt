@@ -1,5 +1,6 @@
 //! A new bundle, its settings and what they answer to the resolver, which take no memory: each call answers alike
 //! whichever request fails, and where none is met any more.
+use crate::check::check;
 use fluent_bundle::{
     Call, Context, EnglishPlurals, FluentBundle, FluentFormatter, FluentNumber, FluentValue,
     LanguageIdentifier, NoCustom, NoFunction, Transform,
@@ -134,14 +135,25 @@ fn new<'r, 's>(alloc: Global) -> Bundle<'r, 's> {
     FluentBundle::new(alloc, Vec::new(alloc), EnglishPlurals)
 }
 
-/// Whether each setter does what it should, called and as a value.
+/// Whether a setter does what it should, called and as a value.
+fn is_set(
+    called: &mut Bundle<'_, '_>,
+    made: &mut Bundle<'_, '_>,
+    setter: Setter,
+    settings: Settings,
+) -> bool {
+    set(called, setter)
+        && made.make(call(setter)).is_ok()
+        && has(called, settings)
+        && has(made, settings)
+}
+
+/// Whether each setter does.
 fn are_set(alloc: Global) -> bool {
     let mut called = new(alloc);
     let mut made = new(alloc);
     for (setter, settings) in ROWS {
-        let is_told = set(&mut called, *setter);
-        let is_made = made.make(call(*setter)).is_ok();
-        if !is_told || !is_made || !has(&called, *settings) || !has(&made, *settings) {
+        if !is_set(&mut called, &mut made, *setter, *settings) {
             return false;
         }
     }
@@ -159,18 +171,27 @@ fn list(
     Ok(calls)
 }
 
+/// A list with the undetermined language.
+fn locales(alloc: Global) -> Result<Vec<LanguageIdentifier>, AllocError> {
+    let mut locales = Vec::with_capacity(alloc, 1)?;
+    locales.push(LanguageIdentifier::und(alloc))?;
+    Ok(locales)
+}
+
 /// Run with each allocation failing in turn, and all from each one on.
 #[test]
 fn settings_take_no_memory(rt: HostRuntime) -> Result<(), Fail> {
-    let alloc = rt.alloc();
-    let calls = list(alloc)?;
-    let mut locales = Vec::with_capacity(alloc, 1)?;
-    locales.push(LanguageIdentifier::und(alloc))?;
-    let mut bundle: Bundle<'_, '_> = FluentBundle::new(alloc, locales, EnglishPlurals);
-    assert!(rt; bundle.locales.len() == 1);
-    assert!(rt; is_new(&new(alloc)));
-    assert!(rt; are_set(alloc));
-    assert!(rt; bundle.make_all(calls).is_ok());
-    assert!(rt; has(&bundle, (10000, true, false, false)));
+    check(&rt, is_new(&new(rt.alloc())), "a new bundle");
+    check(&rt, are_set(rt.alloc()), "setters");
+    let locales = locales(rt.alloc())?;
+    let mut bundle: Bundle<'_, '_> = FluentBundle::new(rt.alloc(), locales, EnglishPlurals);
+    check(&rt, bundle.locales.len() == 1, "locales");
+    let calls = list(rt.alloc())?;
+    check(&rt, bundle.make_all(calls).is_ok(), "calls");
+    check(
+        &rt,
+        has(&bundle, (10000, true, false, false)),
+        "what is set",
+    );
     Ok(())
 }

@@ -1,5 +1,6 @@
 //! Look-ups in a resource, a message and a bundle, which take no memory: they answer alike whichever request fails, and
 //! where none is met any more.
+use crate::check::check;
 use fluent_bundle::ast::{self, Pattern};
 use fluent_bundle::{
     Call, Entry, FluentAttribute, FluentMessage, FluentResource, FunctionRef, GetEntry, Ids,
@@ -163,33 +164,33 @@ fn is_named(bundle: &Bundle<'_, '_>, id: &str, kind: Kind) -> bool {
         && bundle.get_message(id).is_some() == is_message
 }
 
-/// A bundle of a resource, with a function and the built-in one.
-fn made<'r, 's>(
-    alloc: Global,
+/// Adds a resource, a function and the built-in one.
+fn fill<'r, 's>(
+    bundle: &mut Bundle<'r, 's>,
     resource: &'r FluentResource<'s>,
-) -> Result<Bundle<'r, 's>, AllocError> {
-    let mut bundle: Bundle<'r, 's> = empty(alloc);
+) -> Result<(), AllocError> {
     bundle.make(Call::AddResource(resource))?;
     bundle.make(Call::AddFunction("F", Own::Nothing))?;
-    bundle.make(Call::AddBuiltins)?;
-    Ok(bundle)
+    bundle.make(Call::AddBuiltins)
+}
+
+fn has_no_ids(alloc: Global) -> bool {
+    let ids: Ids<'_, '_, Own> = Ids::new(alloc);
+    ids.named("m").is_none()
 }
 
 fn answer_alike<'r, 's: 'r>(
     rt: &impl Abort,
-    alloc: Global,
+    bundle: &Bundle<'r, 's>,
     resource: &'r FluentResource<'s>,
 ) -> Result<(), Fail> {
-    let bundle = made(alloc, resource)?;
     let first = message_of(resource)?;
-    assert!(rt; is_read(resource));
-    assert!(rt; is_first(bundle.get_message("m"), first));
-    assert!(rt; is_second(bundle.get_message("k"), first));
+    check(rt, is_read(resource), "entries");
+    check(rt, is_first(bundle.get_message("m"), first), "m");
+    check(rt, is_second(bundle.get_message("k"), first), "k");
     for (id, kind) in NAMED {
-        assert!(rt; is_named(&bundle, *id, *kind), "{id}");
+        check(rt, is_named(bundle, *id, *kind), *id);
     }
-    let ids: Ids<'_, '_, Own> = Ids::new(alloc);
-    assert!(rt; ids.named("m").is_none());
     Ok(())
 }
 
@@ -197,5 +198,8 @@ fn answer_alike<'r, 's: 'r>(
 #[test]
 fn look_ups_take_no_memory(rt: HostRuntime) -> Result<(), Fail> {
     let resource = read(rt.alloc(), SOURCE)?;
-    answer_alike(&rt, rt.alloc(), &resource)
+    let mut bundle: Bundle<'_, '_> = empty(rt.alloc());
+    fill(&mut bundle, &resource)?;
+    check(&rt, has_no_ids(rt.alloc()), "no ids");
+    answer_alike(&rt, &bundle, &resource)
 }

@@ -1,10 +1,11 @@
 //! Numbers and their options, which take no memory: each call answers alike whichever request fails, and where none is
 //! met any more.
+use crate::check::check;
 use fluent_intl::{
     Decimal, FluentNumber, FluentNumberCurrencyDisplayStyle, FluentNumberOptions,
     FluentNumberStyle, FluentNumberType, NotANumber, OutOfRange,
 };
-use std::alloc::Global;
+use std::alloc::{AllocError, Global};
 use std::str::FromStr;
 
 // ---- whole numbers
@@ -68,24 +69,35 @@ const MOST: u128 = 18446744073709551615;
 
 const TOO_LARGE: u128 = 18446744073709551616;
 
+/// Whether the largest numbers of 128 bits come out, lent.
+fn are_large(least: &FluentNumber, most: &FluentNumber) -> bool {
+    i128::from(least) == -18446744073709551615
+        && u128::from(most) == MOST
+        && i64::from(least) == i64::MIN
+}
+
+/// The same by value.
+fn are_given_away(least: FluentNumber, most: FluentNumber) -> bool {
+    let is_least = i128::from(least) == -18446744073709551615;
+    u128::from(most) == MOST && is_least
+}
+
+fn is_refused(number: Result<FluentNumber, OutOfRange>) -> bool {
+    matches!(number, Err(OutOfRange))
+}
+
 /// Of 128 bits a number goes in where its size is no more than the largest, and each comes out.
 fn takes_large_numbers() -> bool {
-    let (Ok(least), Ok(most)) = (
-        FluentNumber::try_from_i128(-18446744073709551615),
-        FluentNumber::try_from_u128(MOST),
-    ) else {
-        return false;
-    };
-    i128::from(&least) == -18446744073709551615
-        && u128::from(&most) == MOST
-        && i64::from(&least) == i64::MIN
-        && i128::from(least) == -18446744073709551615
-        && u128::from(most) == MOST
-        && matches!(
-            FluentNumber::try_from_i128(-18446744073709551616),
-            Err(OutOfRange)
-        )
-        && matches!(FluentNumber::try_from_u128(TOO_LARGE), Err(OutOfRange))
+    let least = FluentNumber::try_from_i128(-18446744073709551615);
+    match (least, FluentNumber::try_from_u128(MOST)) {
+        (Ok(least), Ok(most)) => are_large(&least, &most) && are_given_away(least, most),
+        _ => false,
+    }
+}
+
+fn refuses_larger_numbers() -> bool {
+    is_refused(FluentNumber::try_from_i128(-18446744073709551616))
+        && is_refused(FluentNumber::try_from_u128(TOO_LARGE))
 }
 
 // ---- decimals
@@ -108,44 +120,52 @@ const ROWS: &[Row] = &[
     ),
 ];
 
-/// Whether a decimal is made of its parts, and has them and its text again.
-fn has_parts(row: &Row) -> bool {
-    let (is_negative, whole, fraction, minimum, text, cut) = *row;
-    let Some(value) = Decimal::new(is_negative, whole, fraction) else {
-        return false;
-    };
-    value.is_negative() == is_negative
-        && value.whole() == whole
-        && value.fraction() == fraction
-        && value.truncated() == cut
-        && value.text(minimum).as_str() == text
+/// Whether a decimal that is made of its parts has them and its text again.
+fn has_parts(value: Decimal, row: &Row) -> bool {
+    value.is_negative() == row.0
+        && value.whole() == row.1
+        && value.fraction() == row.2
+        && value.truncated() == row.5
+        && value.text(row.3).as_str() == row.4
+}
+
+/// How many digits a text has behind its point.
+fn places(row: &Row) -> Option<usize> {
+    if row.3.is_none() && row.2 > 0 {
+        Some(18)
+    } else {
+        row.3
+    }
+}
+
+fn is_number(number: &FluentNumber, value: Decimal, row: &Row) -> bool {
+    number.value == value
+        && number.options.minimum_fraction_digits == places(row)
+        && number.text().as_str() == row.4
 }
 
 /// Whether a text is read as a number with so many digits behind its point.
-fn is_read(row: &Row) -> bool {
-    let (is_negative, whole, fraction, minimum, text, _) = *row;
-    let Some(value) = Decimal::new(is_negative, whole, fraction) else {
-        return false;
-    };
-    let places = if minimum.is_none() && fraction > 0 {
-        Some(18)
-    } else {
-        minimum
-    };
-    let is_number = match FluentNumber::from_str(text) {
-        Ok(number) => {
-            number.value == value
-                && number.options.minimum_fraction_digits == places
-                && number.text().as_str() == text
-        }
+fn is_read(value: Decimal, row: &Row) -> bool {
+    match FluentNumber::from_str(row.4) {
+        Ok(number) => is_number(&number, value, row),
         Err(NotANumber) => false,
-    };
-    is_number && Decimal::from_text(text) == Ok((value, places))
+    }
+}
+
+fn is_read_again(value: Decimal, row: &Row) -> bool {
+    Decimal::from_text(row.4) == Ok((value, places(row)))
+}
+
+fn is_decimal(row: &Row) -> bool {
+    match Decimal::new(row.0, row.1, row.2) {
+        Some(value) => has_parts(value, row) && is_read(value, row) && is_read_again(value, row),
+        None => false,
+    }
 }
 
 fn are_decimals() -> bool {
     for row in ROWS {
-        if !has_parts(row) || !is_read(row) {
+        if !is_decimal(row) {
             return false;
         }
     }
@@ -187,32 +207,51 @@ fn has_options(options: &FluentNumberOptions) -> bool {
         && options.use_grouping
 }
 
-/// Whether a number without a currency, and its options, are copied.
-fn is_copied(alloc: Global) -> bool {
-    let number = percent();
-    let (Ok(copy), Ok(options)) = (number.try_clone(alloc), number.options.try_clone(alloc)) else {
-        return false;
-    };
-    copy == number && has_options(&copy.options) && has_options(&options)
+fn is_copy(copy: Result<FluentNumber, AllocError>, number: &FluentNumber) -> bool {
+    match copy {
+        Ok(copy) => copy == *number && has_options(&copy.options),
+        Err(AllocError) => false,
+    }
 }
 
-fn are_told_apart() -> bool {
-    let plain = FluentNumber::from(5u8);
-    percent().text().as_str() == "5.0"
+fn are_copied(options: Result<FluentNumberOptions, AllocError>) -> bool {
+    match options {
+        Ok(options) => has_options(&options),
+        Err(AllocError) => false,
+    }
+}
+
+/// Whether a number without a currency, and its options, are copied.
+fn is_copied(alloc: Global, number: &FluentNumber) -> bool {
+    is_copy(number.try_clone(alloc), number) && are_copied(number.options.try_clone(alloc))
+}
+
+fn are_told_apart(percent: &FluentNumber, again: &FluentNumber, plain: &FluentNumber) -> bool {
+    percent.text().as_str() == "5.0"
         && plain.text().as_str() == "5"
-        && percent() == percent()
-        && percent() != plain
-        && percent().options != plain.options
-        && plain.options == FluentNumberOptions::default()
+        && percent == again
+        && percent != plain
+        && percent.options != plain.options
+        && are_default(&plain.options)
+}
+
+fn are_default(options: &FluentNumberOptions) -> bool {
+    *options == FluentNumberOptions::default()
 }
 
 /// Run with each allocation failing in turn, and all from each one on.
 #[test]
 fn numbers_take_no_memory(rt: HostRuntime) {
-    assert!(rt; keeps_whole_numbers());
-    assert!(rt; takes_large_numbers());
-    assert!(rt; are_decimals());
-    assert!(rt; are_whole());
-    assert!(rt; is_copied(rt.alloc()));
-    assert!(rt; are_told_apart());
+    let number = percent();
+    check(&rt, keeps_whole_numbers(), "whole numbers");
+    check(&rt, takes_large_numbers(), "large numbers");
+    check(&rt, refuses_larger_numbers(), "larger numbers");
+    check(&rt, are_decimals(), "decimals");
+    check(&rt, are_whole(), "whole decimals");
+    check(&rt, is_copied(rt.alloc(), &number), "copies");
+    check(
+        &rt,
+        are_told_apart(&number, &percent(), &FluentNumber::from(5u8)),
+        "apart",
+    );
 }

@@ -1,6 +1,8 @@
 //! A chain of bundles, as far as it takes no memory: each call answers alike whichever request fails, and where none is
 //! met any more.
-use fluent_bundle::{EnglishPlurals, FluentError, NoCustom};
+use crate::check::check;
+use fluent_bundle::bundle::AddFault;
+use fluent_bundle::{EnglishPlurals, FluentError, FluentResource, NoCustom};
 use fluent_chain::{Chain, Link};
 use fluent_fixtures::common::{Bundle, add, empty, read};
 use fluent_fixtures::own::{Bracketed, Own};
@@ -61,15 +63,20 @@ fn is_given(alloc: Global, chain: &Bundles<'_, '_, '_, 'static>, row: &Row) -> b
     }
 }
 
-/// Adds the messages of a source, whose ids are free.
-fn fill<'r, 's>(
-    bundle: &mut Bundle<'r, 's>,
-    resource: &'r fluent_bundle::FluentResource<'s>,
-) -> Result<(), Fail> {
-    match add(bundle, resource) {
-        Ok(()) => Ok(()),
-        Err(_) => Err(AllocError.into()),
+/// A bundle of a source, whose ids are free.
+fn filled<'r, 's>(
+    alloc: Global,
+    resource: &'r FluentResource<'s>,
+) -> Result<Bundle<'r, 's>, AllocError> {
+    let mut bundle = empty(alloc);
+    if !is_added(add(&mut bundle, resource)) {
+        return Err(AllocError);
     }
+    Ok(bundle)
+}
+
+fn is_added(answer: Result<(), AddFault>) -> bool {
+    answer.is_ok()
 }
 
 fn answer_alike(
@@ -80,20 +87,29 @@ fn answer_alike(
 ) {
     let links = [Link(one), Link(two)];
     let chain = Chain::new(&links);
-    assert!(rt; chain.bundles.len() == 2);
+    check(rt, chain.bundles.len() == 2, "bundles");
     for row in ROWS {
-        assert!(rt; has(&chain, row) == row.2, "{}", row.0);
-        assert!(rt; is_given(alloc, &chain, row), "{}", row.0);
+        check(rt, has(&chain, row) == row.2, row.0);
+        check(rt, is_given(alloc, &chain, row), row.0);
     }
+}
+
+fn are_chained(
+    rt: &impl Abort,
+    alloc: Global,
+    one: &FluentResource<'static>,
+    two: &FluentResource<'static>,
+) -> Result<(), Fail> {
+    let first = filled(alloc, one)?;
+    let second = filled(alloc, two)?;
+    answer_alike(rt, alloc, &first, &second);
+    Ok(())
 }
 
 /// Run with each allocation failing in turn, and all from each one on.
 #[test]
 fn a_chain_takes_no_memory(rt: HostRuntime) -> Result<(), Fail> {
-    let (one, two) = (read(rt.alloc(), FIRST)?, read(rt.alloc(), SECOND)?);
-    let (mut first, mut second) = (empty(rt.alloc()), empty(rt.alloc()));
-    fill(&mut first, &one)?;
-    fill(&mut second, &two)?;
-    answer_alike(&rt, rt.alloc(), &first, &second);
-    Ok(())
+    let one = read(rt.alloc(), FIRST)?;
+    let two = read(rt.alloc(), SECOND)?;
+    are_chained(&rt, rt.alloc(), &one, &two)
 }
