@@ -41,15 +41,15 @@ pub fn arrow(s: &str) -> Option<&str>
     Some(after_spaces(rest))
 }
 
-#[tactic(auto, unfolding(crate::specs::Expressions::key_inside))]
+/// A name, which most keys are and no number begins as, or a number.
 fn key_inside<'s>(s: &'s str) -> Option<(VariantKey<'s>, &'s str)>
     ensures { found key_view result ≡ spec.key_inside s.now }
 {
-    if let Some((value, rest)) = number_literal(s) {
-        return Some((VariantKey::NumberLiteral { value }, rest));
+    if let Some((id, rest)) = identifier(s) {
+        return Some((VariantKey::Identifier { name: id.name }, rest));
     }
-    let (id, rest) = identifier(s)?;
-    Some((VariantKey::Identifier { name: id.name }, rest))
+    let (value, rest) = number_literal(s)?;
+    Some((VariantKey::NumberLiteral { value }, rest))
 }
 
 /// What follows the bracket that opens a key.
