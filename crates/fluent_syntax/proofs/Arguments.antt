@@ -2,8 +2,8 @@
 use Rattle.std.proofs.Common.{◌≡◌, ℕ, Bool, true, false, List, Some, None, refl}
 use Rattle.fluent_text.specs.Parser.{Text, Read, ◌<$>◌, ◌<|>◌, ◌>>◌, and_then, otherwise, pure, skip, first, byte}
 use Rattle.fluent_text.specs.Lexical.{identifier, blank}
-use Rattle.fluent_tree.specs.Tree.{Attribute, attribute, no_attribute, Inline, Arguments, function, message, nested}
-use Rattle.fluent_syntax.specs.Expressions.{Level, Argument, by_name, literal, attribute_access, message_reference, is_function_name, function_reference, term_reference, variable_reference, inline_expression, named_argument, argument}
+use Rattle.fluent_tree.specs.Tree.{Attribute, attribute, no_attribute, name_key, number_key, Inline, Arguments, function, message, nested}
+use Rattle.fluent_syntax.specs.Expressions.{Level, Argument, by_name, number_literal, literal, key_inside, attribute_access, message_reference, is_function_name, function_reference, term_reference, variable_reference, inline_expression, named_argument, argument}
 use Rattle.fluent_syntax.specs.Gathering.{positional_argument, value_argument, message_argument, reference_argument}
 use Rattle.fluent_syntax.proofs.BareReferences.{no_number, no_literal, name_letter, letter_else, no_function, no_message, variable_first}
 use Rattle.fluent_syntax.specs.Parts.{message_to, reference_to, nameless}
@@ -56,6 +56,24 @@ reference_by g s r id true (Some p) e f h = rw (f, h, a_call g s (function id p.
 -- a name is a function's before its arguments, else a message's
 pub reference_at : (g : Level) (s r : List ℕ) (id : Text) → identifier s ≡ Some (id, r) → positional_argument g s ≡ reference_argument g id r
 reference_at g s r id e = reference_by g s r id (is_function_name id) (g.brackets r) e refl refl
+
+-- a name is a key, and no number
+name_no_number : (s r : List ℕ) (id : Text) → identifier s ≡ Some (id, r) → number_literal s ≡ None
+name_no_number s r id e =
+    let other = letter_else (first s) (name_letter s r id e) in
+    no_number s other.1 other.2
+
+pub key_name : (s r : List ℕ) (id : Text) → identifier s ≡ Some (id, r) → key_inside s ≡ Some (name_key id, r)
+unfolding key_inside
+key_name s r id e = rw (name_no_number s r id e, e) refl
+
+pub key_number : (s r : List ℕ) (n : Text) → number_literal s ≡ Some (n, r) → key_inside s ≡ Some (number_key n, r)
+unfolding key_inside
+key_number s r n e = rw e refl
+
+pub no_key : (s : List ℕ) → identifier s ≡ None → number_literal s ≡ None → key_inside s ≡ None
+unfolding key_inside
+no_key s e n = rw (n, e) refl
 
 -- the same of an expression
 inline_message : (g : Level) (s r : List ℕ) (id : Text) → identifier s ≡ Some (id, r) → function_reference g s ≡ None → inline_expression g s ≡ message_to id r

@@ -16,7 +16,7 @@ pub no_byte : (k : ℕ) (s : List ℕ) → (first s == k) ≡ false → byte k s
 unfolding byte
 no_byte k s e = rw e refl
 
-none_some : {A : Type 0} (r : Read A) (p : A × List ℕ) → r ≡ None → r ≡ Some p → ⊥
+pub none_some : {A : Type 0} (r : Read A) (p : A × List ℕ) → r ≡ None → r ≡ Some p → ⊥
 none_some r p e f = not_both (is_some r) (ap is_some f) (ap is_some e)
 
 byte_is : (k : ℕ) (s r : List ℕ) → byte k s ≡ Some (tt, r) → (first s == k) ≡ true

@@ -1,14 +1,14 @@
 -- Blanks that are spaces alone.
-use Rattle.std.proofs.Common.{◌≡◌, ◌==◌, ℕ, suc, ◌<◌, ◌≤◌, true, false, List, [], ◌∷◌, length, Option, Some, None, refl, sym, ap, subst, arith}
+use Rattle.std.proofs.Common.{◌≡◌, ◌==◌, ℕ, ◌<◌, false, List, [], ◌∷◌, length, Some, None, refl, ap, subst, arith}
 use Rattle.std.proofs.lemmas.Bool.Decides.{nat_tests}
-use Rattle.fluent_text.specs.Parser.{Read, Parser, ◌>>=◌, pure, otherwise, and_then, ignore, skip, count, many_from, one_more, first, byte, run1}
+use Rattle.fluent_text.specs.Parser.{Read, pure, otherwise, and_then, skip, count, one_more, first, byte, run1}
 use Rattle.fluent_text.specs.Lexical.{blank_inline, line_break, at_end, line_end, blank_turn, blank}
 use Rattle.fluent_text.specs.Facts.Turns.{none}
 
-not_end : (s : List ℕ) → 0 < length s → at_end s ≡ None
+pub not_end : (s : List ℕ) → 0 < length s → at_end s ≡ None
 not_end s h = let some : (length s == 0) ≡ false = grind (arith, nat_tests) in rw some refl
 
-some_bytes : (s : List ℕ) → 32 < first s → 0 < length s
+pub some_bytes : (s : List ℕ) → 32 < first s → 0 < length s
 some_bytes [] h = absurd (omega arith)
 some_bytes (c ∷ cs) h = omega arith
 

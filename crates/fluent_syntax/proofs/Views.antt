@@ -1,8 +1,8 @@
 -- The content of each case of an element.
-use Rattle.std.proofs.Common.{◌≡◌, ℕ, List, Vec, Box, Global, Option, None, map, ap, ◌∙◌, rules}
+use Rattle.std.proofs.Common.{◌≡◌, ℕ, List, Vec, Box, Global, Bool, Option, None, map, ap, ◌∙◌, rules}
 use Rattle.std.specs.Borrow.{Bor}
 use Rattle.fluent_tree.specs.Tree.{text, placeable, pattern_of, inline, variable, message, term, function, no_attribute, no_call}
-use Rattle.fluent_tree.specs.View.{element_view, expression_view, inline_view, pattern_view, name_view, attribute_of, arguments_view, named_view}
+use Rattle.fluent_tree.specs.View.{element_view, expression_view, inline_view, pattern_view, name_view, attribute_of, arguments_view, named_view, key_view, variant_view}
 use Rattle.fluent_tree.specs.declared.ast.Expression as of_expression
 use Rattle.fluent_tree.specs.declared.ast.PatternElement as of_element
 use Rattle.fluent_tree.specs.declared.ast.PatternElement.TheVariants as elements
@@ -13,7 +13,9 @@ use Rattle.fluent_tree.specs.declared.ast.Identifier.{Identifier}
 use Rattle.fluent_tree.specs.declared.ast.Pattern as of_pattern
 use Rattle.fluent_tree.specs.declared.ast.CallArguments.{CallArguments}
 use Rattle.fluent_tree.specs.declared.ast.NamedArgument as of_named
-use Rattle.fluent_tree.specs.declared.ast.Expression.TheViews.{roll-Pattern, roll-NamedArgument}
+use Rattle.fluent_tree.specs.declared.ast.Variant as of_variant
+use Rattle.fluent_tree.specs.declared.ast.VariantKey as of_key
+use Rattle.fluent_tree.specs.declared.ast.Expression.TheViews.{roll-Pattern, roll-NamedArgument, roll-Variant}
 
 pub view_text : (t : Bor (List ℕ)) → element_view (elements.TextElement t) ≡ text t.now
 view_text t = search (rules, of_element.the_lemmas)
@@ -50,3 +52,6 @@ view_function id b = search (rules, of_inline.the_lemmas)
 
 pub view_named : (id : Identifier) (x : of_inline.InlineExpression) → named_view (roll-NamedArgument (record { name = id; value = x })) ≡ (name_view id, inline_view x)
 view_named id x = search (rules, of_named.the_lemmas)
+
+pub view_variant : (k : of_key.VariantKey) (p : of_pattern.Pattern) (d : Bool) → variant_view (roll-Variant (record { key = k; value = p; default = d })) ≡ (key_view k, pattern_view p, d)
+view_variant k p d = search (rules, of_variant.the_lemmas)

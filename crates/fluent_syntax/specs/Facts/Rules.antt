@@ -45,7 +45,7 @@ eats-at_end = record { less = λ s n. tested s n (length s == 0) refl }
     tested s n true e = absurd (grind (arith, nat_tests))
     tested s n false e = tt
 
-eats-line_end : Eats line_end
+pub eats-line_end : Eats line_end
 unfolding line_end
 eats-line_end = eats-or line_break at_end eats-line_break eats-at_end
 

@@ -9,7 +9,7 @@ ghost use Rattle.fluent_tree.specs.View.{element_view, expression_view};
 
 use crate::parser::bare::bare_placeable;
 use crate::parser::bytes::{Class, byte_at, split_run};
-use crate::parser::lines::{blank_block, blank_inline};
+use crate::parser::lines::{blank_block, blank_inline, line_break};
 use crate::parser::list::push;
 use crate::parser::stop::Stop;
 use fluent_tree::ast::{Expression, PatternElement};
@@ -25,8 +25,32 @@ pub enum Line<'s> {
 }
 
 /// Whether a pattern may go on with the lines behind a line's text. It may not before an attribute, a variant or the end of a select.
+///
+/// The next line is mostly not blank: then its indent is passed over once, and the byte behind it tells.
 pub fn may_go_on(s: &str) -> bool
     ensures { (result ≡ false) → LineEndsPattern s.now }
+{
+    let Some(line) = line_break(s) else {
+        return may_go_on_below(s);
+    };
+    let Some((_, text)) = blank_inline(line) else {
+        let next = byte_at(line, 0);
+        if next > b' ' {
+            return next == b'{';
+        }
+        return may_go_on_below(s);
+    };
+    let next = byte_at(text, 0);
+    if next > b' ' {
+        return !closes_pattern(next);
+    }
+    may_go_on_below(s)
+}
+
+/// The same where blank lines may follow.
+#[inline(never)]
+fn may_go_on_below(s: &str) -> bool
+    ensures { (result ≡ false) → Ends s.now }
 {
     let Some((_, line)) = blank_block(s) else {
         return true;

@@ -17,6 +17,9 @@ use crate::parser::stop::Stop;
 use fluent_tree::ast::{Expression, PatternElement};
 use std::alloc::{AllocError, Global};
 
+/// How many pieces a list of them has room for at first: a pattern of three or four lines needs no more.
+const ROOM: usize = 8;
+
 /// The elements of a pattern's first line, as pieces.
 pub fn as_pieces<'s>(
     alloc: Global,
@@ -25,7 +28,7 @@ pub fn as_pieces<'s>(
     ensures { IfOk result (λ found. all piece_view found
         ≡ map piece_of (all element_view front.entry)) }
 {
-    let mut pieces = Vec::with_capacity(alloc, front.len())?;
+    let mut pieces = Vec::with_capacity(alloc, front.len().max(ROOM))?;
     'elements: for element in front {
         push(&mut pieces, as_piece(element))?;
     }

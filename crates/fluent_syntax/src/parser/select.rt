@@ -6,6 +6,7 @@ ghost use Rattle.fluent_text.specs.Parser as parser;
 ghost use Rattle.fluent_text.specs.Reading.{found, passed};
 ghost use Rattle.fluent_syntax.specs.Reading.{Gives, all};
 ghost use Rattle.fluent_syntax.specs.Nests.{GivesRule};
+ghost use Rattle.fluent_syntax.specs.Adding.{Pushes};
 ghost use Rattle.fluent_tree.specs.View.{key_view, inline_view, variant_view, expression_view};
 
 use crate::parser::bytes::eat;
@@ -41,15 +42,15 @@ pub fn arrow(s: &str) -> Option<&str>
     Some(after_spaces(rest))
 }
 
-#[tactic(auto, unfolding(crate::specs::Expressions::key_inside))]
+/// A name, which most keys are and no number begins as, or a number.
 fn key_inside<'s>(s: &'s str) -> Option<(VariantKey<'s>, &'s str)>
     ensures { found key_view result ≡ spec.key_inside s.now }
 {
-    if let Some((value, rest)) = number_literal(s) {
-        return Some((VariantKey::NumberLiteral { value }, rest));
+    if let Some((id, rest)) = identifier(s) {
+        return Some((VariantKey::Identifier { name: id.name }, rest));
     }
-    let (id, rest) = identifier(s)?;
-    Some((VariantKey::Identifier { name: id.name }, rest))
+    let (value, rest) = number_literal(s)?;
+    Some((VariantKey::NumberLiteral { value }, rest))
 }
 
 /// What follows the bracket that opens a key.
@@ -76,36 +77,49 @@ impl<
     F: Fn(Global, &'s str, usize) -> Result<(Expression<'s>, &'s str), Stop>,
     G: Fn(Global, &'s str, usize) -> Result<(CallArguments<'s>, &'s str), Stop>,
 > Inner<F, G> {
+    /// Reads a variant and adds it.
     #[inline(always)]
-    #[tactic(auto, using(crate::proofs::Parts::variant_parts))]
-    fn variant(&self, s: &'s str, default: bool) -> Result<(Variant<'s>, &'s str), Stop>
+    fn push_variant(
+        &self,
+        s: &'s str,
+        default: bool,
+        found: &mut Vec<Variant<'s>>,
+    ) -> Result<&'s str, Stop>
         requires braces { GivesRule expression_view (spec.level self.now.depth).braces self.now.depth
             (F.pre self.now.braces) (F.post self.now.braces) }
-        ensures { Gives variant_view result (spec.variant
-            (spec.level self.now.depth) default s.now) }
+        ensures { Pushes result (all variant_view found.old) (all variant_view found.new)
+            (spec.variant (spec.level self.now.depth) default s.now) }
     {
-        let opened = key_opened(s, default).ok_or(Stop::Absent)?;
-        self.opened_variant(opened, default)
+        let Some(opened) = key_opened(s, default) else {
+            return Err(Stop::Absent);
+        };
+        self.push_opened(opened, default, found)
     }
 
-    /// A variant behind the bracket of its key.
+    /// Reads a variant behind the bracket of its key, and adds it.
     #[inline(never)]
-    fn opened_variant(&self, s: &'s str, default: bool) -> Result<(Variant<'s>, &'s str), Stop>
+    fn push_opened(
+        &self,
+        s: &'s str,
+        default: bool,
+        found: &mut Vec<Variant<'s>>,
+    ) -> Result<&'s str, Stop>
         requires braces { GivesRule expression_view (spec.level self.now.depth).braces self.now.depth
             (F.pre self.now.braces) (F.post self.now.braces) }
-        ensures { Gives variant_view result (parts.opened_variant
-            (spec.level self.now.depth) default s.now) }
+        ensures { Pushes result (all variant_view found.old) (all variant_view found.new)
+            (parts.opened_variant (spec.level self.now.depth) default s.now) }
     {
-        let (key, rest) = key_closed(s).ok_or(Stop::Absent)?;
+        let Some((key, rest)) = key_closed(s) else {
+            return Err(Stop::Absent);
+        };
         let (value, end) = pattern(self.alloc, rest, self.depth, &self.braces)?;
-        Ok((
-            Variant {
-                key,
-                value,
-                default,
-            },
-            end,
-        ))
+        let variant = Variant {
+            key,
+            value,
+            default,
+        };
+        push(found, variant)?;
+        Ok(end)
     }
 
     /// Variants in order, of which exactly one is the default.
@@ -117,10 +131,8 @@ impl<
         ensures { Gives (all variant_view) result (spec.variant_list
             (spec.level self.now.depth) s.now) }
     {
-        let (before, rest) = self.variants(s, Vec::new(self.alloc))?;
-        let (default, rest) = self.variant(rest, true)?;
-        let mut found = before;
-        push(&mut found, default)?;
+        let (mut found, rest) = self.variants(s, Vec::new(self.alloc))?;
+        let rest = self.push_variant(rest, true, &mut found)?;
         let (all, rest) = self.variants(rest, found)?;
         let rest = line_end(rest).ok_or(Stop::Absent)?;
         Ok((all, rest))
@@ -141,14 +153,8 @@ impl<
     {
         let mut rest = s;
         'variants: for _turn in 0..s.len() {
-            match self.variant(rest, false) {
-                Ok((next, after)) => {
-                    if after.len() >= rest.len() {
-                        return Ok((found, rest));
-                    }
-                    push(&mut found, next)?;
-                    rest = after;
-                }
+            match self.push_variant(rest, false, &mut found) {
+                Ok(after) => rest = after,
                 Err(Stop::Absent) => return Ok((found, rest)),
                 Err(Stop::Memory) => return Err(Stop::Memory),
             }

@@ -1,14 +1,19 @@
-use Rattle.std.proofs.Common.{sym, ap, ◌∙◌}
+use Rattle.std.proofs.Common.{sym, ap, ◌∙◌, ◌<◌, subst}
 use Rattle.std.specs.Bool.{◌==◌}
 use Rattle.fluent_syntax.specs.Progress.{closes_pattern}
-use Rattle.fluent_syntax.specs.Facts.OneLine.{ends, ends_at, closes}
+use Rattle.fluent_syntax.proofs.NextLine.{negated, plain_ends, indented_ends}
 use Rattle.fluent_syntax.proofs.parser.first_line.may_go_on.Goals as goal
 
-pub returns-in_default-blank_inline : goal.returns-in_default-blank_inline
-returns-in_default-blank_inline c = λ e t b n.
-    ends n c.args.s.now c.in-Some.line.now c.in-Some.field-0-0 t b (sym c.in-Some.ensures) (sym c.in_default-blank_inline.ensures.gives) (ap (λ b. b == 123) (sym c.byte_at.ensures) ∙ e)
+pub returns-then-next-gt32 : goal.returns-then-next-gt32
+returns-then-next-gt32 c = λ e.
+    let line = c.in-Some.line.now in
+    plain_ends c.args.s.now line (sym c.in-Some.ensures) (sym c.in_default-blank_inline.ensures.gives)
+    (subst (λ b. 32 < b) c.byte_at-next.ensures c.if-next-gt32.true)
+    (ap (λ b. b == 123) (sym c.byte_at-next.ensures) ∙ e)
 
-pub returns-then-closes_pattern : goal.returns-then-closes_pattern
-returns-then-closes_pattern c = λ e t b n.
-    ends_at n c.args.s.now c.in-Some.line.now c.in-Some-blank_inline.text.now c.in-Some.field-0-0 c.in-Some-blank_inline.field-0-0 t b (sym c.in-Some.ensures) (sym c.in-Some-blank_inline.ensures.gives)
-    (closes c.in-Some-blank_inline.text.now (ap closes_pattern (sym c.byte_at-2.ensures) ∙ sym c.if-closes_pattern.ensures))
+pub returns-then-next-gt32-2 : goal.returns-then-next-gt32-2
+returns-then-next-gt32-2 c = λ e.
+    let text = c.in-Some-blank_inline.text.now in
+    indented_ends c.args.s.now c.in-Some.line.now text c.in-Some-blank_inline.field-0-0 (sym c.in-Some.ensures) (sym c.in-Some-blank_inline.ensures.gives)
+    (subst (λ b. 32 < b) c.byte_at-next-2.ensures c.if-next-gt32-2.true)
+    (ap closes_pattern (sym c.byte_at-next-2.ensures) ∙ (sym c.closes_pattern.ensures ∙ negated c.closes_pattern.result e))

@@ -1,18 +1,28 @@
-use Rattle.std.proofs.Common.{◌-◌, ◌+◌, ◌∙◌, false, length, arith, rules}
+use Rattle.std.proofs.Common.{◌-◌, ◌+◌, ◌∙◌, false, length, sym, ap, Some, arith, rules}
 use Rattle.fluent_tree.specs.View.{variant_view}
 use Rattle.fluent_text.specs.Parser.{push}
 use Rattle.fluent_syntax.specs.Expressions.{variant, level}
 use Rattle.fluent_syntax.specs.Reading.{all}
-use Rattle.fluent_text.specs.Facts.Turns.{pushed, empty}
+use Rattle.fluent_text.specs.Facts.Turns.{next, none}
+use Rattle.fluent_syntax.proofs.Variants.{variant_less}
 use Rattle.fluent_syntax.proofs.parser.inner.Inner.variants.Goals as goal
 
 pub variants-preserved : goal.variants-preserved
 variants-preserved g c =
-    let n = length c.args.s.now in (
+    let n = length c.args.s.now in
+    let d = c.args.self.now.depth in
+    let s = c.variants.rest.now in
+    let after = c.in-Ok.after.now in
+    let read = c.in-Ok.ensures in (
       search rules,
-      pushed variant_view (variant (level c.args.self.now.depth) false) (n - c.variants._turn) (n - (c.variants._turn + 1)) c.variants.found.items c.variants.rest.now c.in-Ok.next c.in-Ok.after.now c.push.new.list.items _ (omega arith) c.in-Ok.ensures (omega arith) c.in_ok-push-in-Ok.ensures.items c.variants.invariant.1,
+      next push (variant (level d) false) (n - c.variants._turn) (n - (c.variants._turn + 1)) (all variant_view c.variants.found) s read.0 after (all variant_view c.push_variant.new.found) _ (omega arith) read.1 (variant_less d false s read.0 after read.1) read.2 c.variants.invariant.1,
     )
 
-pub returns-then-after-rest : goal.returns-then-after-rest
-returns-then-after-rest g c =
-    c.variants.invariant.1 ∙ empty push (variant (level c.args.self.now.depth) false) (length c.args.s.now - c.variants._turn) (all variant_view c.variants.found) c.variants.rest.now (variant_view c.in-Ok.next) c.in-Ok.after.now (omega arith) c.in-Ok.ensures (omega arith)
+pub returns-in-Err-Absent : goal.returns-in-Err-Absent
+returns-in-Err-Absent g c =
+    let n = length c.args.s.now in
+    let s = c.variants.rest.now in
+    let p = rw c.in-Err-Absent.field-0-is at c.in-Err-Absent.ensures in
+    c.variants.invariant.1
+    ∙ (none push (variant (level c.args.self.now.depth) false) (n - c.variants._turn) (all variant_view c.variants.found) s (omega arith) p.0
+    ∙ ap (λ vs. Some (vs, s)) (sym p.1))
