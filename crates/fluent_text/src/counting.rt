@@ -82,6 +82,7 @@ impl<W: Write> Counting<W> {
 
     /// One single write: how many bytes of the piece were taken, or why it failed, and one of the counts raised where
     /// that is due.
+    #[inline(always)]
     pub fn write(&mut self, piece: &[u8]) -> io::Result<usize>
         ensures bytes { WriteAppends (W.contents self.old.inner)
             (W.contents self.new.inner) result piece.now }
@@ -109,6 +110,7 @@ impl<W: Write> Counting<W> {
 ///
 /// A write that fails or takes nothing ends it, and is the one that raised a count; the writer took a front of the piece
 /// then. It takes no memory.
+#[inline(always)]
 pub fn put<W: Write>(w: &mut Counting<W>, piece: &[u8]) -> Result<(), WriteFault>
     ensures whole { OnOk result (Appends (W.contents w.old.inner)
         (W.contents w.new.inner) piece.now) }
