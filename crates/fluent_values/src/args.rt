@@ -85,6 +85,7 @@ impl<'a, C: FluentType> FluentArgs<'a, C> {
     ///
     /// Memory was refused, which only a new name can meet: the arguments are as before, and the pair is
     /// dropped.
+    #[inline(always)]
     pub fn set(&mut self, name: CowStr<'a>, value: FluentValue<'a, C>) -> Result<(), AllocError>
         ensures ok { OnOk result (named C.content self.new
             ≡ fin.set (cow_str_bytes name.entry) (value_view C.content value.entry)

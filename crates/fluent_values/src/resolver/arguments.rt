@@ -172,6 +172,7 @@ fn lent<'v, C: FluentType>(
 
 /// The environment that a term's arguments make: its named ones. The positional ones are resolved and thrown away.
 #[cycle(resolve)]
+#[inline(always)]
 pub(crate) fn resolve_local<'p, 's, W: Write, C: FluentType, F: FluentFunction<C>, B: Context<C>>(
     scope: &mut Scope<'_, 'p, '_, 's, '_, C, F, B>,
     w: &mut Counting<W>,
@@ -196,6 +197,7 @@ pub(crate) fn resolve_local<'p, 's, W: Write, C: FluentType, F: FluentFunction<C
 
 /// The values of arguments: positional ones, then named ones, of which the last of a name stands.
 #[cycle(resolve)]
+#[inline(always)]
 pub(crate) fn resolve_call<'p, 's, W: Write, C: FluentType, F: FluentFunction<C>, B: Context<C>>(
     scope: &mut Scope<'_, 'p, '_, 's, '_, C, F, B>,
     w: &mut Counting<W>,
@@ -216,6 +218,7 @@ pub(crate) fn resolve_call<'p, 's, W: Write, C: FluentType, F: FluentFunction<C>
 
 /// The values of positional arguments, in order.
 #[cycle(resolve)]
+#[inline(always)]
 fn resolve_positional<'p, 's, W: Write, C: FluentType, F: FluentFunction<C>, B: Context<C>>(
     scope: &mut Scope<'_, 'p, '_, 's, '_, C, F, B>,
     w: &mut Counting<W>,
@@ -255,6 +258,7 @@ fn push_value<'p, C: FluentType>(
 
 /// The values of named arguments, in order; the last of a name stands.
 #[cycle(resolve)]
+#[inline(always)]
 fn resolve_named<'p, 's, W: Write, C: FluentType, F: FluentFunction<C>, B: Context<C>>(
     scope: &mut Scope<'_, 'p, '_, 's, '_, C, F, B>,
     w: &mut Counting<W>,

@@ -41,6 +41,7 @@ pub enum Found<'p, 's> {
 
 impl<'r, 's, F> Ids<'r, 's, F> {
     /// What a message's id leads to, or its attribute of a name. Takes no memory.
+    #[inline(always)]
     pub(crate) fn message<'p>(
         &'p self,
         id: &str,
@@ -66,6 +67,7 @@ impl<'r, 's, F> Ids<'r, 's, F> {
     }
 
     /// What a term's id leads to, or its attribute of a name. Takes no memory.
+    #[inline(always)]
     pub(crate) fn term<'p>(
         &'p self,
         id: &str,

@@ -131,6 +131,7 @@ fn write_function<'p, 's, W: Write, C: FluentType, F: FluentFunction<C>, B: Cont
 
 /// Writes a term's pattern, in the environment that its arguments make.
 #[cycle(resolve)]
+#[inline(never)]
 fn write_term<'p, 's, W: Write, C: FluentType, F: FluentFunction<C>, B: Context<C>>(
     scope: &mut Scope<'_, 'p, '_, 's, '_, C, F, B>,
     out: &mut Output<W>,
@@ -159,6 +160,7 @@ fn write_term<'p, 's, W: Write, C: FluentType, F: FluentFunction<C>, B: Context<
 
 /// Writes what a reference leads to.
 #[cycle(resolve)]
+#[inline(always)]
 fn follow<'p, 's, W: Write, C: FluentType, F: FluentFunction<C>, B: Context<C>>(
     scope: &mut Scope<'_, 'p, '_, 's, '_, C, F, B>,
     out: &mut Output<W>,
@@ -187,6 +189,7 @@ fn follow<'p, 's, W: Write, C: FluentType, F: FluentFunction<C>, B: Context<C>>(
 
 /// Writes a pattern that an expression refers to, unless it is being written.
 #[cycle(resolve)]
+#[inline(always)]
 fn go<'p, 's, W: Write, C: FluentType, F: FluentFunction<C>, B: Context<C>>(
     scope: &mut Scope<'_, 'p, '_, 's, '_, C, F, B>,
     out: &mut Output<W>,

@@ -186,6 +186,7 @@ impl<'errors, 'p, 'r, 's, 'args, C: FluentType, F: FluentFunction<C>, B: Context
     }
 
     /// Whether a pattern has the content of one that is being written.
+    #[inline(always)]
     pub(crate) fn is_on(&self, step: &Step<'_, 's>) -> bool
         requires { IsClassed (table self.now.ids.now) step.now }
         ensures { let at = status B.meant B.is_plain F.answer C.content self.now in
