@@ -1,7 +1,7 @@
 use Rattle.std.proofs.Common.{◌≡◌, map, drop, string_bytes}
 use Rattle.fluent_meaning.specs.Arguments.{set_all}
 use Rattle.fluent_command.specs.Words.{name_and_value}
-use Rattle.fluent_command.specs.BundleView.{arguments_view}
+use Rattle.fluent_command.specs.Inside.BundleView.{arguments_view}
 use Rattle.fluent_command.specs.Program.{argument, arguments_of}
 use Rattle.fluent_command.proofs.show.arguments.Given as goal
 

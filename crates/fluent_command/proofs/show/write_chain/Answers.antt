@@ -1,6 +1,6 @@
 use Rattle.std.proofs.Common.{rules, ◌≡◌, ◌∙◌, sym, ap, false, is_ok, map, string_bytes, ◌∷◌, []}
 use Rattle.fluent_chain.specs.Chain.{chain_value}
-use Rattle.fluent_command.specs.BundleView.{arguments_view, bundle_view}
+use Rattle.fluent_command.specs.Inside.BundleView.{arguments_view, bundle_view}
 use Rattle.fluent_command.proofs.Adding.{added_by}
 use Rattle.fluent_command.proofs.Taking.{took_put, took_then, took_short}
 use Rattle.fluent_command.proofs.show.write_chain.Goals as goal
