@@ -18,12 +18,15 @@ value_at id b = option_and_then (λ message. message.value) (message_at id b)
 
 -- its first attribute of the name
 abbrev pub attribute_at : {C : Type 0} → Text → Text → Bundle C → Option Pattern
-attribute_at id name b = option_and_then (λ message. option_map (λ a. a.1) (first_named name message.attributes)) (message_at id b)
+attribute_at id name b =
+    option_and_then (λ message. option_map (λ a. a.1) (first_named name message.attributes))
+    (message_at id b)
 
 -- ---- which bundle answers
 
 -- this bundle with its pattern, or what the others have
-abbrev pub or_others : {B : Type 0} → B → Option Pattern → Option (B × Pattern) → Option (B × Pattern)
+abbrev pub or_others : {B : Type 0} → B → Option Pattern → Option (B × Pattern)
+    → Option (B × Pattern)
 or_others b (Some p) others = Some (b, p)
 or_others b None others = others
 
@@ -47,7 +50,8 @@ shown_of id args (Some found) =
     record { text = formatted found.0 means.value; errors = means.errors }
 
 -- the same by substitution
-abbrev pub substituted_of : {C : Type 0} → Text → Map (Value C) → Option (Bundle C × Pattern) → Shown
+abbrev pub substituted_of : {C : Type 0} → Text → Map (Value C) → Option (Bundle C × Pattern)
+    → Shown
 substituted_of id args None = record { text = id; errors = [] }
 substituted_of id args (Some found) =
     let means = substituted_pattern found.0 args found.1 in

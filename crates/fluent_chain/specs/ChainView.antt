@@ -1,53 +1,43 @@
 -- A chain of the code, and what its calls say.
 use Rattle.std.specs.Prelude.{◌≡◌, true, is_some, List, map, Option, Some, None, Result, ⊤}
-use Rattle.std.specs.Borrow.{Bor}
 use Rattle.std.specs.declared.borrow.CowStr.{CowStr}
 use Rattle.std.proofs.Common.{Global}
 use Rattle.fluent_tree.specs.Tree.{Text, Pattern}
-use Rattle.fluent_tree.specs.View.{pattern_view}
-use Rattle.fluent_tree.specs.declared.ast.Pattern as tree
 use Rattle.fluent_meaning.specs.Value.{Value}
 use Rattle.fluent_meaning.specs.Arguments.{Map}
 use Rattle.fluent_meaning.specs.Bundle.{Bundle}
 use Rattle.fluent_values.specs.Texts.{sole_text}
 use Rattle.fluent_values.specs.declared.errors.FluentError.{FluentError}
-use Rattle.fluent_bundle.specs.Formatted.{AddsFront, GivesText}
+use Rattle.fluent_bundle.specs.Formatted.{GivesText}
 use Rattle.fluent_bundle.specs.declared.bundle.FluentBundle.{FluentBundle}
-use Rattle.fluent_chain.specs.Chain.{value_at, attribute_at, shown_of, substituted_of, IsWithin}
+use Rattle.fluent_chain.specs.Chain.{shown_of, substituted_of, IsWithin}
 use Rattle.fluent_chain.specs.declared.chain.Chain.{Chain}
 
 -- the bundles of a chain, the first that is asked first
 abbrev pub bundles_of : {M C F G X : Type 0} → Chain M C F G X → List (FluentBundle M C F G X)
 bundles_of chain = map (λ link. link.0.now) chain.bundles.now
 
--- the value of a message, or its first attribute where a name is given
-abbrev pub pattern_at : {C : Type 0} → Text → Option Text → Bundle C → Option Pattern
-pattern_at id None b = value_at id b
-pattern_at id (Some name) b = attribute_at id name b
-
--- a bundle of the code with a pattern of its own
-abbrev pub found_view : {M C F G X : Type 0} → Bor (FluentBundle M C F G X) × Bor tree.Pattern → FluentBundle M C F G X × Pattern
-found_view found = (found.0.now, pattern_view found.1.now)
-
 -- ---- what is answered, by the bundle that has the pattern
 
 -- by substitution, where that opens no more placeables than the limit
-abbrev pub AnswersWithin : {E : Type 0} → Text → Map (Value Text) → Option (Bundle Text × Pattern) → Result (CowStr Global) E → List FluentError → List FluentError → Type 0
+abbrev pub AnswersWithin : {E : Type 0} → Text → Map (Value Text)
+    → Option (Bundle Text × Pattern) → Result (CowStr Global) E → List FluentError
+    → List FluentError → Type 0
 AnswersWithin id args found result list list' =
     let means = substituted_of id args found in
     IsWithin args found → GivesText means.text means.errors result list list'
 
 -- with the budget, in every case
-abbrev pub AnswersWhole : {E : Type 0} → Text → Map (Value Text) → Option (Bundle Text × Pattern) → Result (CowStr Global) E → List FluentError → List FluentError → Type 0
+abbrev pub AnswersWhole : {E : Type 0} → Text → Map (Value Text)
+    → Option (Bundle Text × Pattern) → Result (CowStr Global) E → List FluentError
+    → List FluentError → Type 0
 AnswersWhole id args found result list list' =
     let means = shown_of id args found in
     GivesText means.text means.errors result list list'
 
--- whatever is answered
-abbrev pub ChainAddsBeginning : Text → Map (Value Text) → Option (Bundle Text × Pattern) → List FluentError → List FluentError → Type 0
-ChainAddsBeginning id args found list list' = AddsFront (shown_of id args found).errors list list'
-
 -- The id is answered, or a pattern that is one text, of a bundle without transform and formatter.
-abbrev pub AnswersWithoutMemory : {M C F G X : Type 0} → Option (FluentBundle M C F G X × Pattern) → Type 0
+abbrev pub AnswersWithoutMemory : {M C F G X : Type 0}
+    → Option (FluentBundle M C F G X × Pattern) → Type 0
 AnswersWithoutMemory None = ⊤
-AnswersWithoutMemory (Some found) = (is_some (sole_text found.1) ≡ true) × (found.0.transform ≡ None) × (found.0.formatter ≡ None)
+AnswersWithoutMemory (Some found) =
+    (is_some (sole_text found.1) ≡ true) × (found.0.transform ≡ None) × (found.0.formatter ≡ None)

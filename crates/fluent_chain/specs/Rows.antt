@@ -68,7 +68,8 @@ Shows bundles args id t es = told (chain_value (codes id) (set_all args []) bund
 
 -- and an attribute of it
 abbrev pub ShowsAttribute : List (Bundle NoCustom) → String → String → Text → Type 0
-ShowsAttribute bundles id name t = told (chain_attribute (codes id) (codes name) [] bundles) ≡ (t, [])
+ShowsAttribute bundles id name t =
+    told (chain_attribute (codes id) (codes name) [] bundles) ≡ (t, [])
 
 abbrev pub unknown_message : String → Text
 unknown_message id = codes "Resolver error: Unknown message: " ++ codes id

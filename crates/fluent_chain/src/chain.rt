@@ -5,9 +5,10 @@ ghost use Rattle.std.specs.Option.{option_map};
 ghost use Rattle.fluent_tree.specs.View.{pattern_view};
 ghost use Rattle.fluent_values.specs.Status.{arguments_view};
 ghost use Rattle.fluent_bundle.specs.BundleView.{meant};
-ghost use Rattle.fluent_chain.specs.Chain.{value_at, attribute_at, first_with};
-ghost use Rattle.fluent_chain.specs.ChainView.{bundles_of, pattern_at, found_view};
-ghost use Rattle.fluent_chain.specs.ChainView.{AnswersWithin, AnswersWhole, ChainAddsBeginning, AnswersWithoutMemory};
+ghost use Rattle.fluent_bundle.specs.Formatted.{AddsFront};
+ghost use Rattle.fluent_chain.specs.Chain.{value_at, attribute_at, first_with, shown_of};
+ghost use Rattle.fluent_chain.specs.ChainView.{bundles_of, AnswersWithin, AnswersWhole, AnswersWithoutMemory};
+ghost use Rattle.fluent_chain.specs.Inside.Found.{bundle_found, pattern_at};
 
 use fluent_bundle::{
     FluentArgs, FluentBundle, FluentError, FluentFormatter, FluentFunction, FluentType,
@@ -100,7 +101,7 @@ impl<
         ensures front { let of = meant M.category C.shown C.alike F.answer G.formatted T.changed in
             let args = arguments_view C.content args.entry in
             let found = first_with (value_at id.now) (map of (bundles_of self.now)) in
-            ChainAddsBeginning id.now args found errors.old.items errors.new.items }
+            AddsFront (shown_of id.now args found).errors errors.old.items errors.new.items }
         ensures lent { let of = meant M.category C.shown C.alike F.answer G.formatted T.changed in
             let found = first_with (λ b. value_at id.now (of b)) (bundles_of self.now) in
             AnswersWithoutMemory found → IsOk result }
@@ -134,7 +135,7 @@ impl<
         ensures front { let of = meant M.category C.shown C.alike F.answer G.formatted T.changed in
             let args = arguments_view C.content args.entry in
             let found = first_with (attribute_at id.now name.now) (map of (bundles_of self.now)) in
-            ChainAddsBeginning id.now args found errors.old.items errors.new.items }
+            AddsFront (shown_of id.now args found).errors errors.old.items errors.new.items }
         ensures lent { let of = meant M.category C.shown C.alike F.answer G.formatted T.changed in
             let found = first_with (λ b. attribute_at id.now name.now (of b))
             (bundles_of self.now) in
@@ -167,7 +168,7 @@ impl<
             let args = arguments_view C.content args.entry in
             let name = option_map (λ n. n.now) attribute.entry in
             let found = first_with (pattern_at id.now name) (map of (bundles_of self.now)) in
-            ChainAddsBeginning id.now args found errors.old.items errors.new.items }
+            AddsFront (shown_of id.now args found).errors errors.old.items errors.new.items }
         ensures lent { let of = meant M.category C.shown C.alike F.answer G.formatted T.changed in
             let name = option_map (λ n. n.now) attribute.entry in
             let found = first_with (λ b. pattern_at id.now name (of b)) (bundles_of self.now) in
@@ -183,7 +184,7 @@ impl<
     fn find(&self, id: &str, attribute: Option<&str>) -> Option<Found<'b, 'r, 's, M, C, F, G, T>>
         ensures { let of = meant M.category C.shown C.alike F.answer G.formatted T.changed in
             let name = option_map (λ n. n.now) attribute.entry in
-            option_map found_view result
+            option_map bundle_found result
             ≡ first_with (λ b. pattern_at id.now name (of b)) (bundles_of self.now) }
     {
         for link in self.bundles {

@@ -6,10 +6,10 @@ use Rattle.fluent_text.specs.Taken.{Faulted, TookFront}
 use Rattle.fluent_text.specs.declared.counting.WriteFault.{WriteFault}
 use Rattle.fluent_text.specs.declared.counting.WriteFault.TheVariants.{Memory, Writer, Zero}
 use Rattle.fluent_meaning.specs.Errors.{Error}
-use Rattle.fluent_command.specs.Ending.{Ending, status, out_of_memory, ending_line, error_lines}
-use Rattle.fluent_command.specs.Outcome.{ReportsRun, whole, short, whole_begun, short_begun}
+use Rattle.fluent_command.specs.Ending.{Ending, exit_status, out_of_memory, ending_line, error_lines}
+use Rattle.fluent_command.specs.Outcome.{Precedes, ReportsRun, whole, short, whole_begun, short_begun}
 use Rattle.fluent_command.specs.Outlet.{Outlet, Rose}
-use Rattle.fluent_command.specs.Said.{Precedes, Says, BeganToSay, TookErrors}
+use Rattle.fluent_command.specs.Inside.Said.{Says, BeganToSay, TookErrors}
 use Rattle.fluent_command.proofs.Taking.{front_short, front_then}
 
 -- a writer that faulted took a beginning of the lines
@@ -38,13 +38,13 @@ began_some errors ending old mid new lines h = inr (lines.0, lines.1, front_then
 -- ---- the report of a run
 
 -- it was said
-pub reports_said : {T : Type 0} (r : Result T WriteFault) (errors : List Error) (ending final : Ending) (x : T) (err err' : Outlet) (result : ℕ) → r ≡ Ok x → result ≡ status final
+pub reports_said : {T : Type 0} (r : Result T WriteFault) (errors : List Error) (ending final : Ending) (x : T) (err err' : Outlet) (result : ℕ) → r ≡ Ok x → result ≡ exit_status final
     → Says errors ending final err.held err'.held → Faulted err.failed err.empty err'.failed err'.empty r → ReportsRun errors ending err err' result
 reports_said r errors ending final x err err' result was is says fault =
     let stood = subst (λ w. Faulted err.failed err.empty err'.failed err'.empty w) was fault in
     elim says [
-      | inl h ↦ whole (is ∙ ap status h.0) (record { taken = h.1; failed = stood.0; empty = stood.1 })
-      | inr h ↦ short (is ∙ ap status h.2) h.0 h.1 (record { taken = h.3; failed = stood.0; empty = stood.1 })
+      | inl h ↦ whole (is ∙ ap exit_status h.0) (record { taken = h.1; failed = stood.0; empty = stood.1 })
+      | inr h ↦ short (is ∙ ap exit_status h.2) h.0 h.1 (record { taken = h.3; failed = stood.0; empty = stood.1 })
     ]
 
 begun_by : (errors : List Error) (ending : Ending) (err err' : Outlet) → Rose err.failed err.empty err'.failed err'.empty → BeganToSay errors ending err.held err'.held → ReportsRun errors ending err err' 3

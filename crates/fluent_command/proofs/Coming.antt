@@ -1,5 +1,5 @@
 -- How a run ends, from what its calls answered.
-use Rattle.std.proofs.Common.{if◌then◌else◌, ◌≡◌, ◌≢◌, ◌∙◌, sym, ap, subst, refl, ℕ, Bool, true, false, List, [], ◌++◌, ◌⊎◌, append-nil, inl, inr, Option, Some, None, Result, Ok, Err}
+use Rattle.std.proofs.Common.{if◌then◌else◌, ◌≡◌, ◌≢◌, ◌∙◌, sym, ap, subst, refl, ℕ, Bool, true, false, List, [], ◌++◌, ◌⊎◌, inl, inr, Option, Some, None, Result, Ok, Err}
 use Rattle.std.specs.Result.{OnOk}
 use Rattle.std.specs.Str.{IsUtf8, is_utf8}
 use Rattle.std.specs.Io.KnownBytes.{Appends}
@@ -12,7 +12,10 @@ use Rattle.fluent_text.specs.Taken.{Faulted}
 use Rattle.fluent_text.specs.declared.counting.WriteFault.{WriteFault}
 use Rattle.fluent_text.specs.declared.counting.WriteFault.TheVariants.{Memory, Writer, Zero}
 use Rattle.fluent_meaning.specs.Errors.{Error}
+use Rattle.fluent_values.specs.Status.{reported}
 use Rattle.fluent_values.specs.declared.errors.FluentError.{FluentError}
+use Rattle.fluent_bundle.specs.Formatted.{AddsAll, AddsFront}
+use Rattle.fluent_meaning.specs.Laws.{Begins}
 use Rattle.fluent_meaning.specs.Value.{Plurals}
 use Rattle.fluent_intl.specs.declared.rule_texts.fault.RuleFault.{RuleFault}
 use Rattle.fluent_intl.specs.declared.rule_texts.fault.RuleFault.TheVariants as rule_fault
@@ -20,57 +23,56 @@ use Rattle.fluent_chain.specs.Chain.{value_at}
 use Rattle.fluent_command.specs.Words.{Asked, asked_by}
 use Rattle.fluent_command.specs.Plurals.{plurals_asked, HasBadRule}
 use Rattle.fluent_command.specs.Ending.{Ending, shown, no_message, bad_usage, bad_rule, not_utf8, out_of_memory, reading_failed, writing_failed}
-use Rattle.fluent_command.specs.EndingView.{reported, ending_of, ending_of_rules}
+use Rattle.fluent_command.specs.EndingView.{ending_of, ending_of_rules}
 use Rattle.fluent_command.specs.Input.{ReadFor}
 use Rattle.fluent_command.specs.Program.{Run, only, bundle_of, run_value, run_sources, run_source, run_input, run_by, run_asked, run_of, source_errors, errors_by, errors_asked}
-use Rattle.fluent_command.specs.Far.{Added, AddedFirst, Took}
-use Rattle.fluent_command.specs.Outlet.{Outlet, Takes}
+use Rattle.fluent_command.specs.Inside.Far.{Added, AddedFirst, Took}
+use Rattle.fluent_command.specs.Outlet.{Outlet, TakesAll}
 use Rattle.fluent_command.specs.Outcome.{AreLeft, EndsRun, as_defined, by_reading, by_writing, by_memory}
 use Rattle.fluent_command.specs.declared.input.InputState.TheVariants.{Open, AtEnd}
 use Rattle.fluent_command.specs.declared.input.Reads.{Reads}
 
 -- a writer that was left alone
-pub takes_none : (w : Outlet) → Takes [] w w
+pub takes_none : (w : Outlet) → TakesAll [] w w
 takes_none w = record { taken = Appends-nil w.held; failed = refl; empty = refl }
 
 -- the errors of a list that was empty
-added_to_none : (old new : List FluentError) (front : List Error) → old ≡ [] → reported new ≡ reported old ++ front → reported new ≡ front
-added_to_none old new front none list = list ∙ ap (λ es. reported es ++ front) none
+added_to_none : (old new : List FluentError) (errors : List Error) → old ≡ [] → AddsAll errors old new → reported new ≡ errors
+added_to_none old new errors none adds = adds.added ∙ ap (λ es. reported es ++ errors) none
+
+began_at_none : (old new : List FluentError) (errors : List Error) → old ≡ [] → AddsFront errors old new → Begins (reported new) errors
+began_at_none old new errors none adds = (adds.rest, sym adds.whole ∙ ap (λ w. w ++ adds.rest) (sym (added_to_none old new adds.front none adds.adds)))
 
 module _ {T : Type 0} (run : Run) (first : List Error) (out out' : Outlet) (old new : List FluentError) (none : old ≡ []) where
   -- a call that did all
   pub ends_whole : (r : Result T WriteFault) (x : T) (ending : Ending) → r ≡ Ok x → ending ≡ run.ending → Took r run.output out.held out'.held → Added r run.errors old new
       → Faulted out.failed out.empty out'.failed out'.empty r → EndsRun run first out out' ending (reported new)
   ends_whole r x ending was ends took added fault =
-      let text : took.rest ≡ [] = subst (λ w. OnOk w (took.rest ≡ [])) was took.all in
-      let errors : added.rest ≡ [] = subst (λ w. OnOk w (added.rest ≡ [])) was added.all in
+      let text = subst (λ w. OnOk w (Appends out.held out'.held run.output)) was took.all in
+      let errors = subst (λ w. OnOk w (AddsAll run.errors old new)) was added.all in
       let stood = subst (λ w. Faulted out.failed out.empty out'.failed out'.empty w) was fault in
-      as_defined ends
-      (added_to_none old new added.front none added.list ∙ sym (added.begins ∙ ap (λ w. added.front ++ w) errors ∙ append-nil added.front))
-      (record { taken = subst (λ w. Appends out.held out'.held w) (sym (took.begins ∙ ap (λ w. took.front ++ w) text ∙ append-nil took.front)) took.held; failed = stood.0; empty = stood.1 })
+      as_defined ends (added_to_none old new run.errors none errors) (record { taken = text; failed = stood.0; empty = stood.1 })
 
   -- a call that faulted
   pub ends_fault : (r : Result T WriteFault) (fault : WriteFault) (ending : Ending) → r ≡ Err fault → ending ≡ ending_of fault → Took r run.output out.held out'.held → Added r run.errors old new
       → AddedFirst r first old new → Faulted out.failed out.empty out'.failed out'.empty r → EndsRun run first out out' ending (reported new)
   ends_fault r Memory ending was ends took added before fault =
       let stood = subst (λ w. Faulted out.failed out.empty out'.failed out'.empty w) was fault in
-      by_memory ends (added.rest, added.begins ∙ ap (λ w. w ++ added.rest) (sym (added_to_none old new added.front none added.list))) took.front took.rest took.begins
-      (record { taken = took.held; failed = stood.0; empty = stood.1 })
+      by_memory ends (began_at_none old new run.errors none added.front)
+      (took.front.0, (took.front.1, took.front.2), record { taken = took.front.3; failed = stood.0; empty = stood.1 })
   ends_fault r (Writer e) ending was ends took added before fault =
-      let others = subst (λ w. AddedFirst w first old new) was before in
-      by_writing ends (others.0, added_to_none old new (first ++ others.0) none others.1)
-      (added.rest, added.begins ∙ ap (λ w. w ++ added.rest) (sym (added_to_none old new added.front none added.list)))
-      (record { taken = (took.front, took.rest, took.begins, took.held); rose = inl (subst (λ w. Faulted out.failed out.empty out'.failed out'.empty w) was fault) })
+      let others = subst (λ w. AddedFirst w first old new) was before tt in
+      by_writing ends (others.0, added_to_none old new (first ++ others.0) none others.1) (began_at_none old new run.errors none added.front)
+      (record { taken = took.front; rose = inl (subst (λ w. Faulted out.failed out.empty out'.failed out'.empty w) was fault) })
   ends_fault r Zero ending was ends took added before fault =
-      let others = subst (λ w. AddedFirst w first old new) was before in
-      by_writing ends (others.0, added_to_none old new (first ++ others.0) none others.1)
-      (added.rest, added.begins ∙ ap (λ w. w ++ added.rest) (sym (added_to_none old new added.front none added.list)))
-      (record { taken = (took.front, took.rest, took.begins, took.held); rose = inr (subst (λ w. Faulted out.failed out.empty out'.failed out'.empty w) was fault) })
+      let others = subst (λ w. AddedFirst w first old new) was before tt in
+      by_writing ends (others.0, added_to_none old new (first ++ others.0) none others.1) (began_at_none old new run.errors none added.front)
+      (record { taken = took.front; rose = inr (subst (λ w. Faulted out.failed out.empty out'.failed out'.empty w) was fault) })
 
 -- a run that shows and reports nothing
 pub ends_only : (ending : Ending) (run : Run) (first : List Error) (out : Outlet) (errors : List FluentError) → errors ≡ [] → run ≡ only ending → EndsRun run first out out ending (reported errors)
 ends_only ending run first out errors none is =
-    as_defined (sym (ap (λ r. r.ending) is)) (ap reported none ∙ sym (ap (λ r. r.errors) is)) (subst (λ t. Takes t out out) (sym (ap (λ r. r.output) is)) (takes_none out))
+    as_defined (sym (ap (λ r. r.ending) is)) (ap reported none ∙ sym (ap (λ r. r.errors) is)) (subst (λ t. TakesAll t out out) (sym (ap (λ r. r.output) is)) (takes_none out))
 
 -- a run whose input was not read to its end
 pub ends_unread : (run : Run) (first : List Error) (out : Outlet) (errors : List FluentError) → errors ≡ [] → EndsRun run first out out reading_failed (reported errors)
@@ -78,7 +80,7 @@ ends_unread run first out errors none = by_reading refl (ap reported none) (take
 
 -- a run that got no memory to read into
 pub ends_no_memory : (run : Run) (first : List Error) (out : Outlet) (errors : List FluentError) → errors ≡ [] → EndsRun run first out out out_of_memory (reported errors)
-ends_no_memory run first out errors none = by_memory refl (run.errors, ap (λ es. es ++ run.errors) (sym (ap reported none))) [] run.output refl (takes_none out)
+ends_no_memory run first out errors none = by_memory refl (run.errors, ap (λ es. es ++ run.errors) (sym (ap reported none))) ([], (run.output, refl), takes_none out)
 
 -- ---- which run it is
 

@@ -3,11 +3,11 @@ use Rattle.std.proofs.Common.{◌≡◌, ◌∙◌, sym, ap, refl, ℕ, suc, ◌
 use Rattle.std.proofs.Math.Seq.{take-suc}
 use Rattle.std.proofs.lemmas.List.{take-append-drop, map-append}
 use Rattle.fluent_meaning.specs.Errors.{Error, error_text}
+use Rattle.fluent_values.specs.Status.{reported}
 use Rattle.fluent_values.specs.View.{error_view}
 use Rattle.fluent_values.specs.declared.errors.FluentError.{FluentError}
 use Rattle.fluent_command.specs.Ending.{line, error_lines}
-use Rattle.fluent_command.specs.EndingView.{reported}
-use Rattle.fluent_command.specs.Said.{Precedes}
+use Rattle.fluent_command.specs.Outcome.{Precedes}
 
 error_lines-append : (xs ys : List Error) → error_lines (xs ++ ys) ≡ error_lines xs ++ error_lines ys
 error_lines-append [] ys = refl
@@ -26,15 +26,13 @@ one_more errors i e within is =
 
 -- the errors before the one at an index
 pub first_precede : (errors : List FluentError) (i : ℕ) (e : FluentError) → i < length errors → Precedes (reported (take i errors)) (reported errors)
-first_precede errors i e within = (
-  error_view (get_or errors i e),
-  reported (drop (suc i) errors),
-  ap reported (sym (take-append-drop (suc i) errors))
-      ∙ map-append error_view (take (suc i) errors) (drop (suc i) errors)
-      ∙ ap (λ es. reported es ++ reported (drop (suc i) errors)) (take-suc errors i e within)
-      ∙ ap (λ es. es ++ reported (drop (suc i) errors)) (map-append error_view (take i errors) (get_or errors i e ∷ []))
-      ∙ append_assoc (reported (take i errors)) (error_view (get_or errors i e) ∷ []) (reported (drop (suc i) errors)),
-)
+first_precede errors i e within =
+    let behind = reported (drop (suc i) errors) in
+    let whole = ap reported (sym (take-append-drop (suc i) errors))
+    ∙ map-append error_view (take (suc i) errors) (drop (suc i) errors)
+    ∙ ap (λ es. reported es ++ behind) (take-suc errors i e within)
+    ∙ ap (λ es. es ++ behind) (map-append error_view (take i errors) (get_or errors i e ∷ [])) in
+    (error_view (get_or errors i e), (behind, whole))
 
 -- the lines of the first errors, and those of the others
 pub lines_on : (errors : List FluentError) (i : ℕ) → error_lines (reported errors) ≡ error_lines (reported (take i errors)) ++ error_lines (reported (drop i errors))

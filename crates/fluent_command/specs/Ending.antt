@@ -10,15 +10,15 @@ pub data Ending : Type 0 where
   no_message : Text → Ending
   bad_usage bad_rule not_utf8 out_of_memory reading_failed writing_failed : Ending
 
-abbrev pub status : Ending → ℕ
-status shown = 0
-status (no_message id) = 1
-status bad_usage = 2
-status bad_rule = 2
-status not_utf8 = 2
-status out_of_memory = 3
-status reading_failed = 3
-status writing_failed = 3
+abbrev pub exit_status : Ending → ℕ
+exit_status shown = 0
+exit_status (no_message id) = 1
+exit_status bad_usage = 2
+exit_status bad_rule = 2
+exit_status not_utf8 = 2
+exit_status out_of_memory = 3
+exit_status reading_failed = 3
+exit_status writing_failed = 3
 
 -- a text with the line feed that ends it
 abbrev pub line : Text → Text

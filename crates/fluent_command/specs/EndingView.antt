@@ -1,8 +1,4 @@
--- An ending and the errors of the code, by content.
-use Rattle.std.specs.Prelude.{List, map}
-use Rattle.fluent_meaning.specs.Errors.{Error}
-use Rattle.fluent_values.specs.View.{error_view}
-use Rattle.fluent_values.specs.declared.errors.FluentError.{FluentError}
+-- An ending of the code, by content.
 use Rattle.fluent_intl.specs.declared.rule_texts.fault.RuleFault as rule_faults
 use Rattle.fluent_intl.specs.declared.rule_texts.fault.RuleFault.TheVariants as rule_fault
 use Rattle.fluent_command.specs.Ending as e
@@ -21,9 +17,6 @@ ending_view NotUtf8 = not_utf8
 ending_view Memory = out_of_memory
 ending_view Reading = reading_failed
 ending_view Writing = writing_failed
-
-abbrev pub reported : List FluentError → List Error
-reported es = map error_view es
 
 -- a run that a fault of the output ends
 abbrev pub ending_of : faults.WriteFault → e.Ending

@@ -1,16 +1,9 @@
 -- What the reads of an input showed, and how many there were.
-use Rattle.std.specs.Prelude.{◌≡◌, ◌≢◌, ◌≤◌, ◌⊎◌, ℕ, zero, suc, length, Result, Ok, Err}
+use Rattle.std.specs.Prelude.{◌≡◌, ◌≢◌, ◌≤◌, ◌⊎◌, length}
 use Rattle.fluent_command.specs.Limits.{most_reads, least_room}
 use Rattle.fluent_command.specs.Ending.{Ending, bad_usage, bad_rule, out_of_memory, reading_failed}
-use Rattle.fluent_command.specs.declared.input.InputState.{InputState}
 use Rattle.fluent_command.specs.declared.input.InputState.TheVariants.{Open, AtEnd, Failed}
 use Rattle.fluent_command.specs.declared.input.Reads.{Reads}
-
--- what a single read shows: the end, where it gives no byte
-abbrev pub state_after : {E : Type 0} → Result ℕ E → InputState
-state_after (Ok zero) = AtEnd
-state_after (Ok (suc n)) = Open
-state_after (Err e) = Failed
 
 -- no more reads were made than a run may make, and each had its room
 abbrev pub ReadsAreBounded : {R : Type 0} → Reads R → Type 0

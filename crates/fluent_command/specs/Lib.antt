@@ -2,13 +2,9 @@ pub mod Words
 pub mod Limits
 pub mod Input
 pub mod Outlet
-pub mod WordsView
 pub mod Plurals
-pub mod PluralsView
 pub mod Ending
 pub mod EndingView
-pub mod Said
-pub mod BundleView
 pub mod Program
 pub mod Outcome
-pub mod Far
+pub mod Inside

@@ -4,6 +4,7 @@ use Rattle.std.specs.Io.KnownBytes.{Appends}
 use Rattle.fluent_tree.specs.Tree.{Text}
 use Rattle.fluent_text.specs.Taken.{raised, TookFront}
 use Rattle.fluent_text.specs.declared.counting.Counting.{Counting}
+use Rattle.fluent_meaning.specs.Laws.{Begins}
 
 -- What it holds, where that is known, and how many of its writes failed and took nothing.
 pub record Outlet : Type 0 where
@@ -16,15 +17,20 @@ outlet contents w = record { held = contents w.inner; failed = w.failed; empty =
 
 -- one of two counts went up: that of the writes that failed, or that of those that took nothing
 abbrev pub Rose : ℕ → ℕ → ℕ → ℕ → Type 0
-Rose failed empty failed' empty' = ((failed' ≡ raised failed) × (empty' ≡ empty)) ⊎ ((failed' ≡ failed) × (empty' ≡ raised empty))
+Rose failed empty failed' empty' =
+    ((failed' ≡ raised failed) × (empty' ≡ empty)) ⊎ ((failed' ≡ failed) × (empty' ≡ raised empty))
 
 -- it took this text, and no write failed or took nothing
-pub record Takes (text : Text) (old new : Outlet) : Type 0 where
+pub record TakesAll (text : Text) (old new : Outlet) : Type 0 where
   pub taken : Appends old.held new.held text
   pub failed : new.failed ≡ old.failed
   pub empty : new.empty ≡ old.empty
 
--- a write failed or took nothing, and it took a beginning of this text
+-- the same of a beginning of the text
+abbrev pub TakesFront : Text → Outlet → Outlet → Type 0
+TakesFront text old new = (front : Text) × Begins front text × TakesAll front old new
+
+-- a write failed or took nothing, and it took a beginning of the text
 pub record Faults (text : Text) (old new : Outlet) : Type 0 where
   pub taken : TookFront old.held new.held text
   pub rose : Rose old.failed old.empty new.failed new.empty

@@ -10,7 +10,8 @@ use Rattle.fluent_command.specs.Words.{Options, Asked}
 
 -- those of two texts, where both can be read
 abbrev pub of_both : Result (List Rule) ℕ → Result (List Rule) ℕ → Option Plurals
-of_both (Ok cardinal) (Ok ordinal) = Some (category_of (record { cardinal = cardinal; ordinal = ordinal }))
+of_both (Ok cardinal) (Ok ordinal) =
+    Some (category_of (record { cardinal = cardinal; ordinal = ordinal }))
 of_both _ _ = None
 
 -- English where no text is given; one alone leaves the other empty

@@ -12,7 +12,7 @@ use Rattle.fluent_meaning.specs.Result.{written_pattern}
 use Rattle.fluent_chain.specs.Chain.{Shown, value_at, chain_value}
 use Rattle.fluent_command.specs.Words.{Asked, asked_by}
 use Rattle.fluent_command.specs.Plurals.{plurals_asked}
-use Rattle.fluent_command.specs.Ending.{Ending, shown, no_message, bad_usage, bad_rule, not_utf8, status, said}
+use Rattle.fluent_command.specs.Ending.{Ending, shown, no_message, bad_usage, bad_rule, not_utf8, exit_status, said}
 
 -- What a run writes on its output, the errors that it reports in order, and how it ends.
 pub record Run : Type 0 where
@@ -50,7 +50,8 @@ no_custom = record { text = λ t. []; same = λ s t. true }
 
 -- a bundle with the built-in function alone
 abbrev pub start : Plurals → Bool → Bundle Text
-start plurals on = after_all (set_use_isolating on ∷ add_builtins ∷ []) (empty_bundle plurals no_custom)
+start plurals on =
+    after_all (set_use_isolating on ∷ add_builtins ∷ []) (empty_bundle plurals no_custom)
 
 -- the same with one resource
 abbrev pub bundle_of : Plurals → Bool → List Entry → Bundle Text
@@ -62,7 +63,8 @@ adding_errors plurals on entries = answered (add_resource entries) (start plural
 
 -- the same in two bundles of one resource each
 abbrev pub both_adding_errors : Plurals → Bool → List Entry → List Entry → List Error
-both_adding_errors plurals on first second = adding_errors plurals on first ++ adding_errors plurals on second
+both_adding_errors plurals on first second =
+    adding_errors plurals on first ++ adding_errors plurals on second
 
 -- ---- what is shown
 
@@ -83,7 +85,8 @@ run_chain s = run_text s.text s.errors
 -- a message's value under the arguments, if there is one
 abbrev pub run_value : Asked → Bundle Text → Option Pattern → Run
 run_value asked bundle None = only (no_message asked.id)
-run_value asked bundle (Some pattern) = run_pattern (written_pattern bundle (arguments_of asked.arguments) pattern)
+run_value asked bundle (Some pattern) =
+    run_pattern (written_pattern bundle (arguments_of asked.arguments) pattern)
 
 -- ---- the input alone
 
@@ -91,24 +94,29 @@ run_value asked bundle (Some pattern) = run_pattern (written_pattern bundle (arg
 abbrev pub run_entries : Asked → Plurals → List Entry → Run
 run_entries asked plurals entries =
     let bundle = bundle_of plurals asked.options.isolate entries in
-    after_errors (adding_errors plurals asked.options.isolate entries) (run_value asked bundle (value_at asked.id bundle))
+    after_errors (adding_errors plurals asked.options.isolate entries)
+    (run_value asked bundle (value_at asked.id bundle))
 
 -- the same of a source, whose Junks are reported first
 abbrev pub run_alone : Asked → Plurals → Text → Run
-run_alone asked plurals source = after_errors (junk_errors source) (run_entries asked plurals (entries source))
+run_alone asked plurals source =
+    after_errors (junk_errors source) (run_entries asked plurals (entries source))
 
 -- ---- the input, and a source that stands in for it
 
 -- what a chain of two bundles gives for the message, each with the entries of one of them
 abbrev pub run_both : Asked → Plurals → List Entry → List Entry → Run
 run_both asked plurals first second =
-    let bundles = bundle_of plurals asked.options.isolate first ∷ bundle_of plurals asked.options.isolate second ∷ [] in
-    after_errors (both_adding_errors plurals asked.options.isolate first second) (run_chain (chain_value asked.id (arguments_of asked.arguments) bundles))
+    let of = bundle_of plurals asked.options.isolate in
+    let bundles = of first ∷ of second ∷ [] in
+    after_errors (both_adding_errors plurals asked.options.isolate first second)
+    (run_chain (chain_value asked.id (arguments_of asked.arguments) bundles))
 
 -- the same of sources, whose Junks are reported first
 abbrev pub run_fallback : Asked → Plurals → Text → Text → Run
 run_fallback asked plurals source fallback =
-    after_errors (both_junk_errors source fallback) (run_both asked plurals (entries source) (entries fallback))
+    after_errors (both_junk_errors source fallback)
+    (run_both asked plurals (entries source) (entries fallback))
 
 -- ---- the whole run
 
@@ -120,7 +128,8 @@ abbrev pub run_source : Asked → Plurals → Text → Run
 run_source asked plurals source = run_sources asked plurals source asked.options.fallback
 
 abbrev pub run_input : Asked → Plurals → List ℕ → Run
-run_input asked plurals bytes = if is_utf8 bytes then run_source asked plurals bytes else only not_utf8
+run_input asked plurals bytes =
+    if is_utf8 bytes then run_source asked plurals bytes else only not_utf8
 
 -- under the plural rules, if they could be read
 abbrev pub run_by : Asked → Option Plurals → List ℕ → Run
@@ -137,9 +146,11 @@ run_of words bytes = run_asked (asked_by words) bytes
 -- ---- what is wrong with the sources themselves, which a run finds before it writes
 
 abbrev pub errors_of_sources : Asked → Plurals → Text → Option Text → List Error
-errors_of_sources asked plurals source None = junk_errors source ++ adding_errors plurals asked.options.isolate (entries source)
+errors_of_sources asked plurals source None =
+    junk_errors source ++ adding_errors plurals asked.options.isolate (entries source)
 errors_of_sources asked plurals source (Some fallback) =
-    both_junk_errors source fallback ++ both_adding_errors plurals asked.options.isolate (entries source) (entries fallback)
+    both_junk_errors source fallback
+    ++ both_adding_errors plurals asked.options.isolate (entries source) (entries fallback)
 
 abbrev pub source_errors : Asked → Plurals → Text → List Error
 source_errors asked plurals source = errors_of_sources asked plurals source asked.options.fallback
@@ -164,7 +175,8 @@ pub record Answer : Type 0 where
   pub errors : Text
 
 abbrev pub answer : Run → Answer
-answer r = record { status = status r.ending; output = r.output; errors = said r.errors r.ending }
+answer r =
+    record { status = exit_status r.ending; output = r.output; errors = said r.errors r.ending }
 
 -- the program: words and the bytes of the input to status, output and error text
 abbrev pub program : List Text → List ℕ → Answer

@@ -60,19 +60,23 @@ name_and_value word = (before_first is_equals word, after_first is_equals word)
 
 -- there is a `=`, and something stands before the first
 abbrev pub is_argument : Text → Bool
-is_argument word = nat_lt 0 (length (before_first is_equals word)) && nat_lt (length (before_first is_equals word)) (length word)
+is_argument word =
+    let before = length (before_first is_equals word) in
+    nat_lt 0 before && nat_lt before (length word)
 
 -- the words from ID on; there is none, or one that is no ID or no argument: a fault of usage
 abbrev pub asked_from : Options → List Text → Option Asked
 asked_from options [] = None
 asked_from options (id ∷ rest) =
     if starts_with nat_eq id (codes "--") then None
-    else (if list_all is_argument rest then Some (record { options = options; id = id; arguments = map name_and_value rest }) else None)
+    else (if list_all is_argument rest
+    then Some (record { options = options; id = id; arguments = map name_and_value rest }) else None)
 
 -- ---- all words
 
 -- by what the next word is, how the words behind it go on, and what it asks for as ID
-abbrev pub asked_at : Word → Options → (Options → Option Named → Option Asked) → Option Asked → Option Asked
+abbrev pub asked_at : Word → Options → (Options → Option Named → Option Asked) → Option Asked
+    → Option Asked
 asked_at word.NoIsolate options go id = option_and_then (λ o. go o None) (without_isolation options)
 asked_at (word.WithText named) options go id = go options (Some named)
 asked_at word.Other options go id = id
@@ -80,8 +84,11 @@ asked_at word.Other options go id = id
 -- after these options, and before the text of this one
 abbrev pub asked_after : Options → Option Named → List Text → Option Asked
 asked_after options before [] = None
-asked_after options (Some named) (text ∷ rest) = option_and_then (λ o. asked_after o None rest) (with_text named text options)
-asked_after options None (word ∷ rest) = asked_at (word_of word) options (λ o before. asked_after o before rest) (asked_from options (word ∷ rest))
+asked_after options (Some named) (text ∷ rest) =
+    option_and_then (λ o. asked_after o None rest) (with_text named text options)
+asked_after options None (word ∷ rest) =
+    asked_at (word_of word) options (λ o before. asked_after o before rest)
+    (asked_from options (word ∷ rest))
 
 abbrev pub asked_by : List Text → Option Asked
 asked_by words = asked_after no_options None words

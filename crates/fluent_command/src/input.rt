@@ -2,7 +2,8 @@
 
 ghost use Rattle.std.specs.Prelude.{◌≡◌, ◌+◌, ◌≤◌, ◌<◌, IfOk, IfErr, OnOk};
 ghost use Rattle.std.specs.Io.KnownBytes.{Consumes, IsAtEnd, ReadConsumes};
-ghost use Rattle.fluent_command.specs.Input.{state_after, ReadsAreBounded, IsUnread};
+ghost use Rattle.fluent_command.specs.Input.{ReadsAreBounded, IsUnread};
+ghost use Rattle.fluent_command.specs.Inside.OneRead.{state_after};
 ghost use Rattle.fluent_command.specs.Limits.{most_reads};
 
 use std::alloc::{AllocError, Global};

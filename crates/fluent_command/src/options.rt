@@ -3,7 +3,7 @@
 ghost use Rattle.std.specs.Prelude.{◌≡◌};
 ghost use Rattle.std.specs.Option.{option_map};
 ghost use Rattle.fluent_command.specs.Words.{no_options, once, with_text, without_isolation, word_of};
-ghost use Rattle.fluent_command.specs.WordsView.{options_view, text_view};
+ghost use Rattle.fluent_command.specs.Inside.WordsView.{options_view, text_view};
 
 /// How a message is shown, and from which sources.
 #[derive(Clone, Copy)]

@@ -2,8 +2,8 @@
 
 ghost use Rattle.std.specs.Prelude.{◌≡◌, ◌≢◌, Some, None, IfOk, IfErr};
 ghost use Rattle.fluent_command.specs.Plurals.{plurals_asked};
-ghost use Rattle.fluent_command.specs.PluralsView.{plurals_view, read_view};
-ghost use Rattle.fluent_command.specs.WordsView.{options_view};
+ghost use Rattle.fluent_command.specs.Inside.PluralsView.{plurals_view, read_view};
+ghost use Rattle.fluent_command.specs.Inside.WordsView.{options_view};
 
 use crate::options::Options;
 use fluent_intl::{
@@ -32,7 +32,7 @@ impl<'p> Plurals<'p> {
 }
 
 impl<'p> MemoizerKind for Plurals<'p> {
-    ghost use Rattle.fluent_command.specs.PluralsView.{plurals_view};
+    ghost use Rattle.fluent_command.specs.Inside.PluralsView.{plurals_view};
 
     ghost category = { plurals_view };
 

@@ -1,14 +1,16 @@
 //! What is said on standard error, and the status.
 
-ghost use Rattle.std.specs.Prelude.{◌≡◌, ◌≢◌, ◌⊎◌, map, Err, IfOk, OnOk, OnErr, string_bytes};
-ghost use Rattle.std.specs.Io.KnownBytes.{Appends};
-ghost use Rattle.fluent_text.specs.Taken.{Faulted, TookFront};
+ghost use Rattle.std.specs.Prelude.{◌≡◌, ◌≢◌, [], Err, IfOk, OnErr, string_bytes};
+ghost use Rattle.fluent_text.specs.Taken.{Faulted};
 ghost use Rattle.fluent_meaning.specs.Errors.{error_text};
 ghost use Rattle.fluent_values.specs.View.{error_view};
-ghost use Rattle.fluent_command.specs.Ending.{status, line, no_message, ending_line};
-ghost use Rattle.fluent_command.specs.EndingView.{ending_view, reported};
-ghost use Rattle.fluent_command.specs.Outlet.{Rose};
-ghost use Rattle.fluent_command.specs.Said.{BeganToSay, Says, TookErrors};
+ghost use Rattle.fluent_command.specs.Ending.{exit_status, line, no_message, ending_line};
+ghost use Rattle.fluent_values.specs.Status.{reported};
+ghost use Rattle.fluent_command.specs.EndingView.{ending_view};
+ghost use Rattle.fluent_command.specs.Outcome.{ReportsRun};
+ghost use Rattle.fluent_command.specs.Outlet.{outlet};
+ghost use Rattle.fluent_command.specs.Inside.Far.{Took};
+ghost use Rattle.fluent_command.specs.Inside.Said.{BeganToSay, Says, TookErrors};
 
 use fluent_bundle::{Counting, FluentError, WriteFault};
 use fluent_intl::RuleFault;
@@ -40,7 +42,7 @@ pub enum Ending<'w> {
 impl<'w> Ending<'w> {
     /// The exit status: 0, 1, 2 or 3.
     pub(crate) fn status(self) -> u8
-        ensures { result ≡ status (ending_view self.entry) }
+        ensures { result ≡ exit_status (ending_view self.entry) }
     {
         match self {
             Ending::Shown => 0,
@@ -102,10 +104,8 @@ fn put_errors<E: Write>(
 }
 
 fn put_no_message<E: Write>(id: &str, err: &mut Counting<E>) -> Result<(), WriteFault>
-    ensures line { OnOk result (Appends (E.contents err.old.inner) (E.contents err.new.inner)
-        (ending_line (no_message id.now))) }
-    ensures front { OnErr result (TookFront (E.contents err.old.inner) (E.contents err.new.inner)
-        (ending_line (no_message id.now))) }
+    ensures took { Took result (ending_line (no_message id.now))
+        (E.contents err.old.inner) (E.contents err.new.inner) }
     ensures fault { Faulted err.old.failed err.old.empty err.new.failed err.new.empty result }
     ensures memory { result ≢ Err WriteFault.Memory }
 {
@@ -116,10 +116,8 @@ fn put_no_message<E: Write>(id: &str, err: &mut Counting<E>) -> Result<(), Write
 
 /// Writes the line of an ending, which takes no memory.
 fn put_ending<E: Write>(ending: Ending<'_>, err: &mut Counting<E>) -> Result<(), WriteFault>
-    ensures line { OnOk result (Appends (E.contents err.old.inner) (E.contents err.new.inner)
-        (ending_line (ending_view ending.entry))) }
-    ensures front { OnErr result (TookFront (E.contents err.old.inner) (E.contents err.new.inner)
-        (ending_line (ending_view ending.entry))) }
+    ensures took { Took result (ending_line (ending_view ending.entry))
+        (E.contents err.old.inner) (E.contents err.new.inner) }
     ensures fault { Faulted err.old.failed err.old.empty err.new.failed err.new.empty result }
     ensures memory { result ≢ Err WriteFault.Memory }
 {
@@ -172,16 +170,8 @@ pub(crate) fn report<'w, E: Write>(
 /// It is 3 also where standard error failed or took nothing: that took a beginning of the line then.
 /// Memory is not asked for.
 pub fn say<E: Write>(ending: Ending<'_>, err: &mut Counting<E>) -> u8
-    ensures status { result ≢ 3 → result ≡ status (ending_view ending.entry) }
-    ensures line { result ≢ 3 → Appends (E.contents err.old.inner) (E.contents err.new.inner)
-        (ending_line (ending_view ending.entry)) }
-    ensures said { result ≡ 3 →
-        ((status (ending_view ending.entry) ≡ 3) × Appends (E.contents err.old.inner)
-        (E.contents err.new.inner)
-        (ending_line (ending_view ending.entry)))
-        ⊎ (Rose err.old.failed err.old.empty err.new.failed err.new.empty
-        × TookFront (E.contents err.old.inner) (E.contents err.new.inner)
-        (ending_line (ending_view ending.entry))) }
+    ensures { ReportsRun [] (ending_view ending.entry)
+        (outlet E.contents err.old) (outlet E.contents err.new) result }
 {
     match put_ending(ending, err) {
         Ok(()) => ending.status(),

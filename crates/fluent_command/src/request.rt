@@ -4,7 +4,7 @@ ghost use Rattle.std.specs.Prelude.{◌≡◌, map, string_bytes, nat_eq, codes}
 ghost use Rattle.std.specs.List.{list_all, starts_with};
 ghost use Rattle.std.specs.Option.{option_map};
 ghost use Rattle.fluent_command.specs.Words.{name_and_value, is_argument, asked_from, asked_after, asked_by};
-ghost use Rattle.fluent_command.specs.WordsView.{asked_view, options_view};
+ghost use Rattle.fluent_command.specs.Inside.WordsView.{asked_view, options_view};
 
 use crate::options::{Named, Options, Word, word_of};
 

@@ -2,12 +2,13 @@
 
 ghost use Rattle.std.specs.Prelude.{◌≡◌, ◌≢◌, ◌≤◌, ◌⊎◌, ℕ, List, [], map, None, string_bytes};
 ghost use Rattle.fluent_meaning.specs.Errors.{Error};
+ghost use Rattle.fluent_values.specs.Status.{reported};
 ghost use Rattle.fluent_command.specs.Words.{asked_by};
-ghost use Rattle.fluent_command.specs.WordsView.{asked_view};
+ghost use Rattle.fluent_command.specs.Inside.WordsView.{asked_view};
 ghost use Rattle.fluent_command.specs.Plurals.{HasBadRule};
-ghost use Rattle.fluent_command.specs.PluralsView.{plurals_view};
+ghost use Rattle.fluent_command.specs.Inside.PluralsView.{plurals_view};
 ghost use Rattle.fluent_command.specs.Ending.{bad_usage, bad_rule, out_of_memory, reading_failed};
-ghost use Rattle.fluent_command.specs.EndingView.{ending_view, reported};
+ghost use Rattle.fluent_command.specs.EndingView.{ending_view};
 ghost use Rattle.fluent_command.specs.Program.{run_input, run_of, first_errors, source_errors, program};
 ghost use Rattle.fluent_command.specs.Input.{ReadsAreBounded, ReadFor};
 ghost use Rattle.fluent_command.specs.Outlet.{outlet};

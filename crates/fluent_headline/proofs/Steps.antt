@@ -10,7 +10,8 @@ use Rattle.fluent_meaning.specs.Value.{Value}
 use Rattle.fluent_meaning.specs.Bundle.{Bundle, Call, Function, after_all}
 use Rattle.fluent_bundle.specs.BundleView.{entries_of}
 use Rattle.fluent_bundle.specs.declared.resource.FluentResource.{FluentResource}
-use Rattle.fluent_headline.specs.Headline.{source_of, step, step_over}
+use Rattle.fluent_headline.specs.Headline.{step}
+use Rattle.fluent_headline.specs.Inside.OnTheWay.{source_of, step_over}
 use Rattle.fluent_headline.specs.declared.Asked.{Asked}
 use Rattle.fluent_headline.specs.declared.Asked.TheVariants.{AddResource, AddResourceOverriding, AddFunction, AddBuiltins, SetUseIsolating, SetTransform, SetFormatter, SetPlaceableLimit}
 

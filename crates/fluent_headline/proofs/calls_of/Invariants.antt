@@ -1,7 +1,7 @@
 use Rattle.std.proofs.Common.{◌≡◌, map}
 use Rattle.fluent_bundle.specs.BundleView.{entries_of}
 use Rattle.fluent_bundle.specs.Calls.{asked}
-use Rattle.fluent_headline.specs.Headline.{step_over}
+use Rattle.fluent_headline.specs.Inside.OnTheWay.{step_over}
 use Rattle.fluent_headline.proofs.calls_of.Given as goal
 
 -- the calls so far, with the entries that were read for them

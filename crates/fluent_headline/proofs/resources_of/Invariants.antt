@@ -1,7 +1,7 @@
 use Rattle.std.proofs.Common.{◌≡◌, take, map}
 use Rattle.fluent_syntax.specs.Chunks.{entries}
 use Rattle.fluent_bundle.specs.BundleView.{entries_of}
-use Rattle.fluent_headline.specs.Headline.{source_of}
+use Rattle.fluent_headline.specs.Inside.OnTheWay.{source_of}
 use Rattle.fluent_headline.proofs.resources_of.Given as goal
 
 -- the resources so far are those of the calls so far

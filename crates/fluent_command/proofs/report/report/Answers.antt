@@ -1,11 +1,14 @@
-use Rattle.std.proofs.Common.{rules, ◌≡◌, subst, Err}
+use Rattle.std.proofs.Common.{rules, ◌≡◌, ap, inl, inr, subst, Err}
+use Rattle.std.specs.Io.KnownBytes.{Appends}
+use Rattle.std.proofs.KnownBytes.{Appends-trans}
 use Rattle.fluent_text.specs.Taken.{TookFront}
 use Rattle.fluent_text.specs.declared.counting.WriteFault.{WriteFault}
 use Rattle.fluent_text.specs.declared.counting.WriteFault.TheVariants.{Memory}
 use Rattle.fluent_command.specs.Ending.{ending_line}
-use Rattle.fluent_command.specs.EndingView.{ending_view, reported}
+use Rattle.fluent_values.specs.Status.{reported}
+use Rattle.fluent_command.specs.EndingView.{ending_view}
 use Rattle.fluent_command.specs.declared.report.Ending.{Ending}
-use Rattle.fluent_command.specs.Said.{TookErrors}
+use Rattle.fluent_command.specs.Inside.Said.{TookErrors}
 use Rattle.fluent_command.proofs.Began.{began_all, began_errors, began_some}
 use Rattle.fluent_command.proofs.Taking.{on_err}
 use Rattle.fluent_command.proofs.report.report.Goals as goal
@@ -21,6 +24,18 @@ returns-in-Err g c =
       memory = search rules;
     }
 
+pub returns-clause-says : goal.returns-clause-says
+returns-clause-says g c =
+    let to = λ (e : Ending). Appends (g.E.Write.contents c.put_errors.new.err.inner) (g.E.Write.contents c.put_ending.new.err.inner) (ending_line (ending_view e)) in
+    let errors = reported c.args.errors.now in
+    let took = λ (f : WriteFault). TookErrors (Err f) errors (g.E.Write.contents c.args.err.now.inner) (g.E.Write.contents c.put_errors.new.err.inner) in
+    elim c.match-put_errors.branch [
+      | in-Ok w ↦ inl (ap ending_view w.ending-is, Appends-trans _ _ _ _ _ w.in-Ok.ensures.lines (subst to w.ending-is c.in_ok-put_ending.ensures.took.all))
+      | in-Err-Memory w ↦
+          let lines = subst took w.in-Err-Memory.field-0-is w.in-Err-Memory.ensures.lines in
+          inr (lines.0, lines.1, ap ending_view w.ending-is, Appends-trans _ _ _ _ _ lines.2 (subst to w.ending-is c.in_ok-put_ending.ensures.took.all))
+    ]
+
 pub returns-in_err-put_ending-clause-front : goal.returns-in_err-put_ending-clause-front
 returns-in_err-put_ending-clause-front g c =
     let to = λ (e : Ending). TookFront (g.E.Write.contents c.put_errors.new.err.inner) (g.E.Write.contents c.put_ending.new.err.inner) (ending_line (ending_view e)) in
@@ -28,6 +43,6 @@ returns-in_err-put_ending-clause-front g c =
     let took = λ (f : WriteFault). TookErrors (Err f) errors (g.E.Write.contents c.args.err.now.inner) (g.E.Write.contents c.put_errors.new.err.inner) in
     let ending = ending_view c.args.ending in
     on_err c.from_residual.result (elim c.match-put_errors.branch [
-      | in-Ok w ↦ began_all errors ending _ _ _ w.in-Ok.ensures.lines (subst to w.ending-is c.in_err-put_ending.ensures.front)
-      | in-Err-Memory w ↦ began_some errors ending _ _ _ (subst took w.in-Err-Memory.field-0-is w.in-Err-Memory.ensures.lines) (subst to w.ending-is c.in_err-put_ending.ensures.front)
+      | in-Ok w ↦ began_all errors ending _ _ _ w.in-Ok.ensures.lines (subst to w.ending-is c.in_err-put_ending.ensures.took.front)
+      | in-Err-Memory w ↦ began_some errors ending _ _ _ (subst took w.in-Err-Memory.field-0-is w.in-Err-Memory.ensures.lines) (subst to w.ending-is c.in_err-put_ending.ensures.took.front)
     ])

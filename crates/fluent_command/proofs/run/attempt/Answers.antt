@@ -1,8 +1,8 @@
 use Rattle.std.proofs.Common.{ap, refl, subst, sym, Some, ◌≡◌, ◌∙◌}
 use Rattle.fluent_command.specs.Plurals.{plurals_asked}
-use Rattle.fluent_command.specs.PluralsView.{plurals_view}
+use Rattle.fluent_command.specs.Inside.PluralsView.{plurals_view}
 use Rattle.fluent_command.specs.Program.{run_asked, errors_asked}
-use Rattle.fluent_command.specs.WordsView.{asked_view}
+use Rattle.fluent_command.specs.Inside.WordsView.{asked_view}
 use Rattle.fluent_command.proofs.Coming.{ends_only, ends_of, ends_unruled, by_rules, errors_by_rules, never_bad, read_for_rules, rule_or_memory, some_left}
 use Rattle.fluent_command.proofs.run.attempt.Goals as goal
 

@@ -1,7 +1,7 @@
 use Rattle.std.proofs.Common.{rules, ap}
 use Rattle.fluent_command.specs.Program.{source_errors}
-use Rattle.fluent_command.specs.WordsView.{asked_view}
-use Rattle.fluent_command.specs.PluralsView.{plurals_view}
+use Rattle.fluent_command.specs.Inside.WordsView.{asked_view}
+use Rattle.fluent_command.specs.Inside.PluralsView.{plurals_view}
 use Rattle.fluent_command.proofs.Coming.{ends_whole, ends_fault, ends_only, ends_of, of_text, of_no_text}
 use Rattle.fluent_command.proofs.run.show_bytes.Goals as goal
 

@@ -6,10 +6,10 @@ use Rattle.fluent_meaning.specs.Value.{Plurals}
 use Rattle.fluent_values.specs.declared.errors.FluentError.{FluentError}
 use Rattle.fluent_bundle.specs.BundleView.{entries_of}
 use Rattle.fluent_command.specs.Words.{Asked}
-use Rattle.fluent_command.specs.WordsView.{asked_view}
-use Rattle.fluent_command.specs.PluralsView.{plurals_view}
+use Rattle.fluent_command.specs.Inside.WordsView.{asked_view}
+use Rattle.fluent_command.specs.Inside.PluralsView.{plurals_view}
 use Rattle.fluent_command.specs.Program.{junk_errors, adding_errors, run_entries, run_alone, errors_of_sources}
-use Rattle.fluent_command.specs.Far.{Added, AddedFirst}
+use Rattle.fluent_command.specs.Inside.Far.{Added, AddedFirst}
 use Rattle.fluent_command.proofs.Adding.{added_then, first_of_both}
 use Rattle.fluent_command.proofs.show.show_alone.Goals as goal
 

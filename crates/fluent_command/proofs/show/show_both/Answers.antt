@@ -7,10 +7,10 @@ use Rattle.fluent_values.specs.declared.errors.FluentError.{FluentError}
 use Rattle.fluent_bundle.specs.BundleView.{entries_of}
 use Rattle.fluent_chain.specs.Chain.{chain_value}
 use Rattle.fluent_command.specs.Words.{Asked}
-use Rattle.fluent_command.specs.WordsView.{asked_view}
-use Rattle.fluent_command.specs.PluralsView.{plurals_view}
+use Rattle.fluent_command.specs.Inside.WordsView.{asked_view}
+use Rattle.fluent_command.specs.Inside.PluralsView.{plurals_view}
 use Rattle.fluent_command.specs.Program.{adding_errors, arguments_of, both_adding_errors, bundle_of, run_chain, run_both}
-use Rattle.fluent_command.specs.Far.{Added, Took}
+use Rattle.fluent_command.specs.Inside.Far.{Added, Took}
 use Rattle.fluent_command.proofs.Adding.{recast, added_then, added_short, first_of_ok, not_ok}
 use Rattle.fluent_command.proofs.Taking.{faulted_on, took_none, took_recast}
 use Rattle.fluent_command.proofs.show.show_both.Goals as goal

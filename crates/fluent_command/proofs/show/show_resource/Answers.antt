@@ -6,10 +6,10 @@ use Rattle.fluent_meaning.specs.Value.{Plurals}
 use Rattle.fluent_bundle.specs.BundleView.{entries_of}
 use Rattle.fluent_chain.specs.Chain.{value_at}
 use Rattle.fluent_command.specs.Words.{Asked}
-use Rattle.fluent_command.specs.WordsView.{asked_view}
-use Rattle.fluent_command.specs.PluralsView.{plurals_view}
+use Rattle.fluent_command.specs.Inside.WordsView.{asked_view}
+use Rattle.fluent_command.specs.Inside.PluralsView.{plurals_view}
 use Rattle.fluent_command.specs.Program.{adding_errors, bundle_of, run_value, run_entries}
-use Rattle.fluent_command.specs.Far.{Added, Took}
+use Rattle.fluent_command.specs.Inside.Far.{Added, Took}
 use Rattle.fluent_command.proofs.Adding.{added_then, first_of_ok}
 use Rattle.fluent_command.proofs.show.show_resource.Goals as goal
 

@@ -1,6 +1,6 @@
 use Rattle.std.proofs.Common.{rules, ◌≡◌, ◌∙◌, sym, ap, refl, false, is_ok, Some}
 use Rattle.fluent_tree.specs.View.{pattern_view}
-use Rattle.fluent_command.specs.BundleView.{bundle_view}
+use Rattle.fluent_command.specs.Inside.BundleView.{bundle_view}
 use Rattle.fluent_chain.specs.Chain.{value_at}
 use Rattle.fluent_command.proofs.Taking.{took_recast}
 use Rattle.fluent_command.proofs.show.show_value.Goals as goal

@@ -2,7 +2,8 @@ use Rattle.std.proofs.Common.{◌≡◌, drop, map}
 use Rattle.std.specs.Option.{option_map}
 use Rattle.fluent_bundle.specs.BundleView.{meant}
 use Rattle.fluent_chain.specs.Chain.{first_with}
-use Rattle.fluent_chain.specs.ChainView.{bundles_of, pattern_at}
+use Rattle.fluent_chain.specs.ChainView.{bundles_of}
+use Rattle.fluent_chain.specs.Inside.Found.{pattern_at}
 use Rattle.fluent_chain.proofs.chain.Chain.find.Given as goal
 
 -- the first of those that are left is the first of all

@@ -1,6 +1,7 @@
 use Rattle.std.specs.Option.{option_map}
 use Rattle.fluent_bundle.specs.BundleView.{meant}
-use Rattle.fluent_chain.specs.ChainView.{bundles_of, pattern_at}
+use Rattle.fluent_chain.specs.ChainView.{bundles_of}
+use Rattle.fluent_chain.specs.Inside.Found.{pattern_at}
 use Rattle.fluent_chain.proofs.First.{first_with-found, gives_alone}
 use Rattle.fluent_chain.proofs.chain.Chain.format.Goals as goal
 

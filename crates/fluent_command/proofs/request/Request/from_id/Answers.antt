@@ -3,7 +3,7 @@ use Rattle.std.specs.List.{list_all, starts_with}
 use Rattle.std.proofs.lemmas.List.Folds.{list_all-map}
 use Rattle.fluent_tree.specs.Tree.{Text}
 use Rattle.fluent_command.specs.Words.{Options, name_and_value, is_argument, asked_from}
-use Rattle.fluent_command.specs.WordsView.{options_view}
+use Rattle.fluent_command.specs.Inside.WordsView.{options_view}
 use Rattle.fluent_command.proofs.request.Request.from_id.Goals as goal
 
 -- the words split, with the two tests on them

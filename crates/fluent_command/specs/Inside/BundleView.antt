@@ -12,12 +12,14 @@ use Rattle.fluent_values.specs.declared.formatter.NoFormatter.{NoFormatter}
 use Rattle.fluent_values.specs.declared.function.NoFunction.{NoFunction}
 use Rattle.fluent_values.specs.declared.transform.NoTransform.{NoTransform}
 use Rattle.fluent_values.specs.declared.types.custom.NoCustom.{NoCustom}
-use Rattle.fluent_command.specs.PluralsView.{plurals_view}
+use Rattle.fluent_command.specs.Inside.PluralsView.{plurals_view}
 use Rattle.fluent_command.specs.declared.plurals.Plurals.{Plurals}
 
 -- no values and functions of the application, no formatter, no transform
-abbrev pub bundle_view : FluentBundle Plurals NoCustom NoFunction NoFormatter NoTransform → Bundle Text
-bundle_view = meant plurals_view (λ t. []) (λ s t. true) (λ f vs as'. error_value) (λ g v m. None) (λ x t. t)
+abbrev pub bundle_view : FluentBundle Plurals NoCustom NoFunction NoFormatter NoTransform
+    → Bundle Text
+bundle_view =
+    meant plurals_view (λ t. []) (λ s t. true) (λ f vs as'. error_value) (λ g v m. None) (λ x t. t)
 
-abbrev pub arguments_view : FluentArgs NoCustom → Map (Value Text)
-arguments_view = named (λ c. [])
+abbrev pub args_view : FluentArgs NoCustom → Map (Value Text)
+args_view = named (λ c. [])

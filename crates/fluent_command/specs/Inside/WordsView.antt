@@ -12,7 +12,16 @@ abbrev pub text_view : Option (Bor Text) → Option Text
 text_view text = option_map (λ t. t.now) text
 
 abbrev pub options_view : Options → w.Options
-options_view o = record { isolate = o.isolate; cardinal = text_view o.cardinal; ordinal = text_view o.ordinal; fallback = text_view o.fallback }
+options_view o = record {
+  isolate = o.isolate;
+  cardinal = text_view o.cardinal;
+  ordinal = text_view o.ordinal;
+  fallback = text_view o.fallback;
+}
 
 abbrev pub asked_view : Request → Asked
-asked_view r = record { options = options_view r.options; id = r.id.now; arguments = map name_and_value (map string_bytes r.arguments.now) }
+asked_view r = record {
+  options = options_view r.options;
+  id = r.id.now;
+  arguments = map name_and_value (map string_bytes r.arguments.now);
+}

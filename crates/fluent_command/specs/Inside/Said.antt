@@ -1,0 +1,34 @@
+-- What standard error took of a report.
+use Rattle.std.specs.Prelude.{◌≡◌, List, ◌⊎◌, Option, Result, Ok, Err}
+use Rattle.std.specs.Io.KnownBytes.{Appends}
+use Rattle.fluent_tree.specs.Tree.{Text}
+use Rattle.fluent_text.specs.Taken.{TookFront}
+use Rattle.fluent_text.specs.declared.counting.WriteFault.{WriteFault}
+use Rattle.fluent_text.specs.declared.counting.WriteFault.TheVariants.{Memory, Writer, Zero}
+use Rattle.fluent_meaning.specs.Errors.{Error}
+use Rattle.fluent_command.specs.Ending.{Ending, out_of_memory, error_lines, said}
+use Rattle.fluent_command.specs.Outcome.{Precedes}
+
+-- The lines of all errors were taken; where memory was refused for the line of one, those before it;
+-- where the writer faulted, a beginning of them all.
+abbrev pub TookErrors : Result (Unit {0}) WriteFault → List Error → Option Text → Option Text
+    → Type 0
+TookErrors (Ok u) errors old new = Appends old new (error_lines errors)
+TookErrors (Err Memory) errors old new =
+    (front : List Error) × Precedes front errors × Appends old new (error_lines front)
+TookErrors (Err (Writer e)) errors old new = TookFront old new (error_lines errors)
+TookErrors (Err Zero) errors old new = TookFront old new (error_lines errors)
+
+-- All errors and the ending were said as they were handed; or memory was refused for the line of an error,
+-- which was said behind the lines before it.
+abbrev pub Says : List Error → Ending → Ending → Option Text → Option Text → Type 0
+Says errors ending final old new =
+    ((final ≡ ending) × Appends old new (said errors ending))
+    ⊎ ((front : List Error) × Precedes front errors × (final ≡ out_of_memory)
+    × Appends old new (said front out_of_memory))
+
+-- Where the writer faulted: of one of these two a beginning was taken.
+abbrev pub BeganToSay : List Error → Ending → Option Text → Option Text → Type 0
+BeganToSay errors ending old new =
+    TookFront old new (said errors ending)
+    ⊎ ((front : List Error) × Precedes front errors × TookFront old new (said front out_of_memory))
