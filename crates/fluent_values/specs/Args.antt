@@ -1,5 +1,6 @@
 -- Arguments one after another.
 use Rattle.std.specs.Prelude.{map}
+use Rattle.std.specs.Borrow.{Bor}
 use Rattle.std.specs.Cow.{cow_str_bytes}
 use Rattle.std.specs.Slice.Iter.{iter_rest}
 use Rattle.std.specs.Vec.Iter.{into_iter_items}
@@ -17,9 +18,13 @@ use Rattle.fluent_values.specs.declared.args.ArgsIntoIter.{ArgsIntoIter}
 abbrev pub pair_view : {C : Type 0} → (C → Text) → CowStr Global × FluentValue C → Text × Value Text
 pair_view content p = (cow_str_bytes p.0, value_view content p.1)
 
+-- the same of one that is lent
+abbrev pub lent_view : {C : Type 0} → (C → Text) → Bor Text × Bor (FluentValue C) → Text × Value Text
+lent_view content p = (p.0.now, value_view content p.1.now)
+
 -- what an iterator has left to give
-abbrev pub shown_left : {C : Type 0} → (C → Text) → ArgsIter C → Map (Value Text)
+unfoldable pub shown_left : {C : Type 0} → (C → Text) → ArgsIter C → Map (Value Text)
 shown_left content s = map (pair_view content) (iter_rest s.inner)
 
-abbrev pub given_left : {C : Type 0} → (C → Text) → ArgsIntoIter C → Map (Value Text)
+unfoldable pub given_left : {C : Type 0} → (C → Text) → ArgsIntoIter C → Map (Value Text)
 given_left content s = map (pair_view content) (into_iter_items s.inner)

@@ -1,7 +1,9 @@
 -- What a scope is, by content.
 use Rattle.std.specs.Prelude.{◌≡◌, ℕ, ◌-◌, ◌^◌, ◌≤◌, min, List, [], ◌++◌, map, Bool, true, false, Option, None, Some}
 use Rattle.std.specs.Option.{option_map}
-use Rattle.std.specs.Borrow.{Bor}
+use Rattle.std.specs.Borrow.{Bor, MutBor}
+use Rattle.std.specs.declared.vec.Vec.{Vec}
+use Rattle.std.proofs.Common.{Global}
 use Rattle.fluent_tree.specs.Tree.{Text}
 use Rattle.fluent_tree.specs.Tree as t
 use Rattle.fluent_meaning.specs.Errors.{Error}
@@ -94,18 +96,54 @@ pub record Status : Type 0 where
   -- whether the bundle changes no text
   pub is_plain : Bool
 
-abbrev pub status : {C F B : Type 0} → (B → Bundle Text) → (B → Bool) → (F → Function Text) → (C → Text) → Scope C F B → Status
-status meant is_plain answer content s = record {
-  bundle = with_ids (meant s.bundle.now) (ids answer s.ids.now);
-  environment = environment_view content s.environment;
+-- What a scope holds.
+pub record ScopeParts (C F B : Type 0) : Type 0 where
+  pub errors : Option (MutBor (Vec FluentError Global))
+  pub bundle : Bor B
+  pub ids : Ids F
+  pub environment : environments.Environment C
+  pub path : List (Option Step)
+  pub budget : budgets.Budget
+  pub counts : Counts
+
+unfoldable pub scope_parts : {C F B : Type 0} → Scope C F B → ScopeParts C F B
+scope_parts s = record {
+  errors = s.errors;
+  bundle = s.bundle;
+  ids = s.ids.now;
+  environment = s.environment;
   path = trail s.path;
-  errors = option_map (λ e. reported e.now.items) s.errors;
-  list = option_map (λ e. e.ghost_name) s.errors;
-  budget = budget_view s.budget;
-  tally = tally s.counts;
-  stored = stored_in s.ids.now;
-  is_plain = is_plain s.bundle.now;
+  budget = s.budget;
+  counts = s.counts;
 }
+
+-- the list of errors that it was given, its bundle, the ids of that, and what it counted
+abbrev pub errors_in : {C F B : Type 0} → Scope C F B → Option (MutBor (Vec FluentError Global))
+errors_in s = (scope_parts s).errors
+
+abbrev pub bundle_in : {C F B : Type 0} → Scope C F B → Bor B
+bundle_in s = (scope_parts s).bundle
+
+abbrev pub ids_in : {C F B : Type 0} → Scope C F B → Ids F
+ids_in s = (scope_parts s).ids
+
+abbrev pub counts_in : {C F B : Type 0} → Scope C F B → Counts
+counts_in s = (scope_parts s).counts
+
+abbrev pub status : {C F B : Type 0} → (B → Bundle Text) → (B → Bool) → (F → Function Text) → (C → Text) → Scope C F B → Status
+status meant is_plain answer content s =
+    let of = scope_parts s in
+    record {
+      bundle = with_ids (meant of.bundle.now) (ids answer of.ids);
+      environment = environment_view content of.environment;
+      path = of.path;
+      errors = option_map (λ e. reported e.now.items) of.errors;
+      list = option_map (λ e. e.ghost_name) of.errors;
+      budget = budget_view of.budget;
+      tally = tally of.counts;
+      stored = stored_in of.ids;
+      is_plain = is_plain of.bundle.now;
+    }
 
 -- All but the errors and the counts is as it was, and there is no more budget.
 pub record Keeps (s s' : Status) : Type 0 where

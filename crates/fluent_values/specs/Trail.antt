@@ -12,7 +12,7 @@ abbrev pub trail_of : Option Step → List (Option Step) → List (Option Step)
 trail_of None others = []
 trail_of (Some x) others = Some x ∷ others
 
-abbrev pub trail : Path → List (Option Step)
+unfoldable pub trail : Path → List (Option Step)
 trail p = trail_of p.bottom p.others.items
 
 -- the content of a step

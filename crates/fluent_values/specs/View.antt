@@ -38,7 +38,7 @@ abbrev pub by_name : {A : Type 0} → List (Text × A) → Map A
 by_name es = entries (from_entries {R = slice_cmp nat_cmp} es)
 
 -- what each name means
-abbrev pub named : {C : Type 0} → (C → Text) → FluentArgs C → Map (Value Text)
+unfoldable pub named : {C : Type 0} → (C → Text) → FluentArgs C → Map (Value Text)
 named content a = map (λ e. (cow_str_bytes e.0, value_view content e.1)) a.pairs.items
 
 abbrev pub kind_view : EntryKind → Kind

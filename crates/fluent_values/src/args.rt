@@ -1,4 +1,6 @@
 //! The arguments of a formatting call.
+#![tactic(auto, unfolding(crate::specs::View::named, crate::specs::Args::shown_left, crate::specs::Args::given_left))]
+
 ghost use Rattle.fluent_values.specs.Names.{NamesRise};
 
 use crate::types::{FluentType, FluentValue};
@@ -134,10 +136,9 @@ impl<'x, 'a, C: FluentType> Iterator for ArgsIter<'x, 'a, C> {
     type Item = (&'x str, &'x FluentValue<'a, C>);
 
     ghost use Rattle.std.specs.Iterator.{YieldsFirstBy, item_count};
-    ghost use Rattle.fluent_values.specs.View.{value_view};
-    ghost use Rattle.fluent_values.specs.Args.{shown_left};
+    ghost use Rattle.fluent_values.specs.Args.{lent_view, shown_left};
 
-    ghost next_gives = { YieldsFirstBy (λ p. (p.0.now, value_view C.content p.1.now)) (shown_left C.content) };
+    ghost next_gives = { YieldsFirstBy (lent_view C.content) (shown_left C.content) };
 
     ghost remaining = { item_count (shown_left C.content) };
 

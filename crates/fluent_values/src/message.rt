@@ -1,4 +1,6 @@
 //! Messages and attributes as a caller sees them.
+#![tactic(auto, unfolding(crate::specs::MessageView::message_view, crate::specs::MessageView::entry_seen, crate::specs::MessageView::attribute_content, crate::specs::MessageView::attributes_left))]
+
 ghost use Rattle.std.specs.Prelude.{◌≡◌};
 ghost use Rattle.std.specs.Option.{option_map};
 ghost use Rattle.fluent_tree.specs.View.{pattern_view};
@@ -48,11 +50,9 @@ impl<'m, 's> FluentMessage<'m, 's> {
 }
 
 impl<'m, 's> From<&'m ast::Message<'s>> for FluentMessage<'m, 's> {
-    ghost use Rattle.std.specs.Prelude.{◌≡◌};
-    ghost use Rattle.fluent_tree.specs.View as tree;
-    ghost use Rattle.fluent_values.specs.MessageView.{content_of, message_view, entry_seen};
+    ghost use Rattle.fluent_values.specs.MessageView.{IsOfMessage};
 
-    ghost from_gives = { λ m result. (message_view result ≡ content_of m.now) × (entry_seen result ≡ tree.message_view m.now) };
+    ghost from_gives = { λ m made. IsOfMessage m.now made };
 
     fn from(node: &'m ast::Message<'s>) -> FluentMessage<'m, 's> {
         FluentMessage { node }
@@ -145,18 +145,15 @@ pub struct Attributes<'m, 's> {
 }
 
 impl<'m, 's> Iterator for Attributes<'m, 's> {
-    ghost use Rattle.std.specs.Prelude.{◌≡◌, drop, length};
-    ghost use Rattle.std.specs.Option.{option_map};
-    ghost use Rattle.std.specs.List.{slice_get};
+    ghost use Rattle.std.specs.Prelude.{length};
     ghost use Rattle.std.specs.Iterator.{at_most};
-    ghost use Rattle.fluent_values.specs.MessageView.{attribute_content, attributes_left};
+    ghost use Rattle.fluent_values.specs.MessageView.{attributes_left, GivesFirst};
 
     type Item = FluentAttribute<'m, 's>;
 
     ghost remaining = { λ a. at_most (length (attributes_left a)) };
 
-    // The first of those that are left, which then are one less.
-    ghost next_gives = { λ old result new. (option_map attribute_content result ≡ slice_get (attributes_left old) 0) × (attributes_left new ≡ drop 1 (attributes_left old)) };
+    ghost next_gives = { GivesFirst };
 
     fn next(&mut self) -> Option<FluentAttribute<'m, 's>> {
         match self.rest.next() {

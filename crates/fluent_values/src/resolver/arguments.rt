@@ -1,4 +1,5 @@
 //! Values: of arguments and of selectors.
+#![tactic(auto, unfolding(crate::specs::Status::scope_parts))]
 
 ghost use Rattle.std.specs.Prelude.{◌≡◌, [], ◌∷◌, ◌++◌, map, IfOk, OnOk};
 ghost use Rattle.std.specs.Option.{option_map};

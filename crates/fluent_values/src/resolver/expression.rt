@@ -1,4 +1,5 @@
 //! Expressions.
+#![tactic(auto, unfolding(crate::specs::Status::scope_parts))]
 
 ghost use Rattle.std.specs.Prelude.{◌≡◌, map};
 ghost use Rattle.fluent_tree.specs.Fallback.{fallback, fallback_of};
@@ -65,8 +66,8 @@ fn write_select<'p, 's, W: Write, C: FluentType, F: FluentFunction<C>, B: Contex
     variants: &'p [Variant<'s>],
     place: Place<'p>,
 ) -> Result<(), Halt>
-    requires { let e = select (inline_view selector.now) (variants_of (map variant_view variants.now)) in
-        IsPlaced scope.old.ids.now (in_expression e) place }
+    requires { let vs = variants_of (map variant_view variants.now) in
+        IsPlaced scope.old.ids.now (in_expression (select (inline_view selector.now) vs)) place }
     ensures { let at = status B.meant B.is_plain F.answer C.content in
         let e = select (inline_view selector.now) (variants_of (map variant_view variants.now)) in
         Wrote result (λ b below env path. walk.expression with_work b below env path e)

@@ -11,7 +11,8 @@ use std::io::Write;
 
 /// Writes a message's id in braces.
 pub(crate) fn put_id_in_braces<W: Write>(out: &mut Output<W>, id: &str) -> Result<(), Halt>
-    ensures { SinkTook result (in_braces id.now) (sink W.contents out.old) (sink W.contents out.new) }
+    ensures { SinkTook result (in_braces id.now) (sink W.contents out.old)
+        (sink W.contents out.new) }
 {
     put_text(out, "{")?;
     put_text(out, id)?;

@@ -1,4 +1,5 @@
 //! Inline expressions.
+#![tactic(auto, unfolding(crate::specs::Status::scope_parts))]
 
 ghost use Rattle.std.specs.Prelude.{◌≡◌, ◌<◌, ◌∷◌, [], map};
 ghost use Rattle.fluent_text.specs.Escapes.{unescaped};

@@ -1,4 +1,5 @@
 //! The patterns that are being written, each referred to by the one before it.
+#![tactic(auto, unfolding(crate::specs::Trail::trail))]
 
 ghost use Rattle.std.specs.Prelude.{◌≡◌, ℕ, Option, Some, None, slice_get};
 

@@ -1,4 +1,5 @@
 //! Patterns.
+#![tactic(auto, unfolding(crate::specs::Status::scope_parts))]
 
 ghost use Rattle.std.specs.Prelude.{◌≡◌, ◌≢◌, Err, false, IsTrue};
 ghost use Rattle.fluent_tree.specs.Fallback.{fallback_of};
@@ -10,7 +11,7 @@ ghost use Rattle.fluent_meaning.specs.Walk.{has_one, is_marked, elements, part, 
 ghost use Rattle.fluent_meaning.specs.Work.{with_work};
 ghost use Rattle.fluent_values.specs.Along.{Wrote};
 ghost use Rattle.fluent_values.specs.Numbered.{IsPlaced};
-ghost use Rattle.fluent_values.specs.Status.{budget_view, status};
+ghost use Rattle.fluent_values.specs.Status.{budget_view, bundle_in, ids_in, status};
 ghost use Rattle.fluent_values.specs.Texts.{IsTextAlone};
 ghost use Rattle.fluent_values.specs.Written.{sink, SinkTook};
 
@@ -35,13 +36,14 @@ pub fn write_pattern<'p, 's, W: Write, C: FluentType, F: FluentFunction<C>, B: C
     pattern: &'p Pattern<'s>,
     place: Place<'p>,
 ) -> Result<(), Halt>
-    requires { IsPlaced scope.old.ids.now (references (pattern_view pattern.now)) place }
+    requires { IsPlaced (ids_in scope.old) (references (pattern_view pattern.now)) place }
     ensures wrote { let at = status B.meant B.is_plain F.answer C.content in
         Wrote result
         (λ b below env path. whole with_work b below env path (pattern_view pattern.now))
         (sink W.contents out.old) (sink W.contents out.new) (at scope.old) (at scope.new) }
-    ensures memory { IsTextAlone (pattern_view pattern.now) → IsTrue (B.is_plain scope.old.bundle.now)
-        → out.old.is_buffered ≡ false → result ≢ Err Halt.Memory }
+    ensures memory { IsTextAlone (pattern_view pattern.now) →
+        IsTrue (B.is_plain (bundle_in scope.old).now) → out.old.is_buffered ≡ false →
+        result ≢ Err Halt.Memory }
 {
     let begun = scope.begin(pattern);
     let written = write_elements(scope, out, pattern, place);
@@ -63,8 +65,9 @@ fn write_elements<'p, 's, W: Write, C: FluentType, F: FluentFunction<C>, B: Cont
         (λ b below env path. elements with_work b below env path
         (has_one (pattern_view pattern.now)) (pattern_view pattern.now))
         (sink W.contents out.old) (sink W.contents out.new) (at scope.old) (at scope.new) }
-    ensures memory { IsTextAlone (pattern_view pattern.now) → IsTrue (B.is_plain scope.old.bundle.now)
-        → out.old.is_buffered ≡ false → result ≢ Err Halt.Memory }
+    ensures memory { IsTextAlone (pattern_view pattern.now) →
+        IsTrue (B.is_plain scope.old.bundle.now) → out.old.is_buffered ≡ false →
+        result ≢ Err Halt.Memory }
 {
     let one = has_one(pattern);
     let mut place = place;
@@ -144,7 +147,8 @@ fn is_marked<C: FluentType, B: Context<C>>(bundle: &B, one: bool, expression: &E
 
 /// U+2068 FIRST STRONG ISOLATE, where it is wanted.
 fn put_first_mark<W: Write>(out: &mut Output<W>, marked: bool) -> Result<(), Halt>
-    ensures { SinkTook result (first_mark marked) (sink W.contents out.old) (sink W.contents out.new) }
+    ensures { SinkTook result (first_mark marked) (sink W.contents out.old)
+        (sink W.contents out.new) }
 {
     if marked {
         put_text(out, "\u{2068}")
@@ -155,7 +159,8 @@ fn put_first_mark<W: Write>(out: &mut Output<W>, marked: bool) -> Result<(), Hal
 
 /// U+2069 POP DIRECTIONAL ISOLATE, where it is wanted.
 fn put_last_mark<W: Write>(out: &mut Output<W>, marked: bool) -> Result<(), Halt>
-    ensures { SinkTook result (last_mark marked) (sink W.contents out.old) (sink W.contents out.new) }
+    ensures { SinkTook result (last_mark marked) (sink W.contents out.old)
+        (sink W.contents out.new) }
 {
     if marked {
         put_text(out, "\u{2069}")

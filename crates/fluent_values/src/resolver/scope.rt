@@ -1,4 +1,5 @@
 //! The state of one formatting call.
+#![tactic(auto, unfolding(crate::specs::Status::scope_parts))]
 
 ghost use Rattle.fluent_values.specs.Numbered.{table};
 ghost use Rattle.fluent_values.specs.Trail.{AreClassed, content_set, trail};
@@ -60,7 +61,7 @@ impl<'errors, 'p, 'r, 's, 'args, C: FluentType, F: FluentFunction<C>, B: Context
     ghost use Rattle.fluent_meaning.specs.Meaning.{struck};
     ghost use Rattle.fluent_values.specs.View.{error_view, resolver_error_view};
     ghost use Rattle.fluent_values.specs.EntryView.{ids as ids_of};
-    ghost use Rattle.fluent_values.specs.Status.{arguments_view, budget_view, status, with_ids};
+    ghost use Rattle.fluent_values.specs.Status.{arguments_view, budget_view, bundle_in, counts_in, errors_in, status, with_ids};
     ghost use Rattle.fluent_meaning.specs.Walk.{is_on};
     ghost use Rattle.fluent_values.specs.Along.{can_open, ReportsIfOk, TakesOne, IsAtStart, StartsPattern, EndsPattern, Enters, Leaves};
     ghost use Rattle.fluent_tree.specs.View.{pattern_view};
@@ -75,8 +76,8 @@ impl<'errors, 'p, 'r, 's, 'args, C: FluentType, F: FluentFunction<C>, B: Context
         args: Option<&'p FluentArgs<'args, C>>,
         errors: Option<&'errors mut Vec<FluentError>>,
     ) -> Self
-        ensures bundle { result.bundle ≡ bundle.entry }
-        ensures errors { result.errors ≡ errors.entry }
+        ensures bundle { bundle_in result ≡ bundle.entry }
+        ensures errors { errors_in result ≡ errors.entry }
         ensures begins { let at = status B.meant B.is_plain F.answer C.content in
             IsAtStart (at result) (with_ids (B.meant bundle.now) (ids_of F.answer ids.now))
             (arguments_view C.content args.entry) }
@@ -98,7 +99,7 @@ impl<'errors, 'p, 'r, 's, 'args, C: FluentType, F: FluentFunction<C>, B: Context
 
     /// The bundle of the call.
     pub fn bundle(&self) -> &'p B
-        ensures { result ≡ self.now.bundle }
+        ensures { result ≡ bundle_in self.now }
     {
         self.bundle
     }
@@ -116,7 +117,7 @@ impl<'errors, 'p, 'r, 's, 'args, C: FluentType, F: FluentFunction<C>, B: Context
 
     /// Gives the list of errors back, with those that the call added, at the call's end.
     pub fn into_errors(self) -> Option<&'errors mut Vec<FluentError>>
-        ensures { result ≡ self.entry.errors }
+        ensures { result ≡ errors_in self.entry }
     {
         let Scope {
             errors,
@@ -140,7 +141,7 @@ impl<'errors, 'p, 'r, 's, 'args, C: FluentType, F: FluentFunction<C>, B: Context
 
     /// What the call did so far.
     pub fn counts(&self) -> Counts
-        ensures { result ≡ self.now.counts }
+        ensures { result ≡ counts_in self.now }
     {
         self.counts
     }
@@ -154,8 +155,8 @@ impl<'errors, 'p, 'r, 's, 'args, C: FluentType, F: FluentFunction<C>, B: Context
         ensures added { let at = status B.meant B.is_plain F.answer C.content in
             ReportsIfOk result (resolver_error (resolver_error_view error) ∷ []) (at self.old)
             (at self.new) }
-        ensures bundle { self.new.bundle ≡ self.old.bundle }
-        ensures succeeds { IfNone self.old.errors (IsOk result) }
+        ensures bundle { bundle_in self.new ≡ bundle_in self.old }
+        ensures succeeds { IfNone (errors_in self.old) (IsOk result) }
     {
         match &mut self.errors {
             Some(errors) => {

@@ -1,4 +1,5 @@
 //! The calls of a scope that resolve a part of a pattern by itself.
+#![tactic(auto, unfolding(crate::specs::Status::scope_parts))]
 
 ghost use Rattle.std.specs.Prelude.{◌≡◌, IsOk, None, map};
 ghost use Rattle.std.specs.Option.{option_map};

@@ -1,9 +1,11 @@
 //! How values are shown, and which they match.
+#![tactic(auto, unfolding(crate::specs::Status::scope_parts))]
 
 ghost use Rattle.std.specs.Prelude.{◌≡◌, IfOk, string_bytes};
 ghost use Rattle.std.specs.Cow.{cow_str_bytes};
 ghost use Rattle.fluent_meaning.specs.Bundle.{shown};
 ghost use Rattle.fluent_meaning.specs.Value.{matches, value_text};
+ghost use Rattle.fluent_values.specs.Status.{bundle_in};
 ghost use Rattle.fluent_values.specs.View.{value_view};
 ghost use Rattle.fluent_values.specs.Written.{sink, writer, without_error, SinkTook};
 
@@ -69,7 +71,7 @@ impl<'v, C: FluentType> FluentValue<'v, C> {
         other: &FluentValue<'_, C>,
         scope: &Scope<'_, '_, '_, '_, '_, C, F, B>,
     ) -> bool
-        ensures { result ≡ matches (B.meant scope.now.bundle.now).plurals
+        ensures { result ≡ matches (B.meant (bundle_in scope.now).now).plurals
             (value_view C.content self.now) (value_view C.content other.now) }
     {
         match (self, other) {
@@ -93,7 +95,7 @@ impl<'v, C: FluentType> FluentValue<'v, C> {
         w: &mut Counting<W>,
         scope: &Scope<'_, '_, '_, '_, '_, C, F, B>,
     ) -> Result<(), WriteFault>
-        ensures { SinkTook (without_error result) (shown (B.meant scope.now.bundle.now)
+        ensures { SinkTook (without_error result) (shown (B.meant (bundle_in scope.now).now)
             (value_view C.content self.now))
             (writer W.contents w.old) (writer W.contents w.new) }
     {
@@ -118,7 +120,7 @@ impl<'v, C: FluentType> FluentValue<'v, C> {
         scope: &Scope<'_, '_, '_, '_, '_, C, F, B>,
     ) -> Result<CowStr<'v>, AllocError>
         ensures { IfOk result (λ text. cow_str_bytes text
-            ≡ shown (B.meant scope.now.bundle.now) (value_view C.content self.now)) }
+            ≡ shown (B.meant (bundle_in scope.now).now) (value_view C.content self.now)) }
     {
         let text = match scope.bundle.formatted(self)? {
             Some(text) => text,
@@ -137,7 +139,7 @@ impl<'v, C: FluentType> FluentValue<'v, C> {
         scope: &Scope<'_, '_, '_, '_, '_, C, F, B>,
     ) -> Result<CowStr<'v>, AllocError>
         ensures { IfOk result (λ text. cow_str_bytes text
-            ≡ shown (B.meant scope.now.bundle.now) (value_view C.content self.entry)) }
+            ≡ shown (B.meant (bundle_in scope.now).now) (value_view C.content self.entry)) }
     {
         self.as_string(scope)
     }

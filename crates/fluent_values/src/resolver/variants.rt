@@ -1,4 +1,5 @@
 //! Which variant of a select a value goes to.
+#![tactic(auto, unfolding(crate::specs::Status::scope_parts))]
 
 ghost use Rattle.std.specs.Prelude.{◌≡◌, IfOk, map};
 ghost use Rattle.std.specs.Option.{option_map};
@@ -62,8 +63,8 @@ pub(crate) fn choose_variant<'p, 's, W: Write, C: FluentType, F: FluentFunction<
     variants: &'p [Variant<'s>],
     place: Place<'p>,
 ) -> Result<Option<Chosen<'p, 's>>, Halt>
-    requires { let e = select (inline_view selector.now) (variants_of (map variant_view variants.now)) in
-        IsPlaced scope.old.ids.now (in_expression e) place }
+    requires { let vs = variants_of (map variant_view variants.now) in
+        IsPlaced scope.old.ids.now (in_expression (select (inline_view selector.now) vs)) place }
     ensures chose { let at = status B.meant B.is_plain F.answer C.content in
         let vs = variants_of (map variant_view variants.now) in
         Gave result chosen_view (choosing (inline_view selector.now) vs)
@@ -88,8 +89,8 @@ fn choose_by_value<'p, 's, W: Write, C: FluentType, F: FluentFunction<C>, B: Con
     variants: &'p [Variant<'s>],
     place: Place<'p>,
 ) -> Result<Option<Chosen<'p, 's>>, Halt>
-    requires { let e = select (inline_view selector.now) (variants_of (map variant_view variants.now)) in
-        IsPlaced scope.old.ids.now (in_expression e) place }
+    requires { let vs = variants_of (map variant_view variants.now) in
+        IsPlaced scope.old.ids.now (in_expression (select (inline_view selector.now) vs)) place }
     ensures chose { let at = status B.meant B.is_plain F.answer C.content in
         let vs = variants_of (map variant_view variants.now) in
         Gave result chosen_view (choosing (inline_view selector.now) vs)

@@ -23,7 +23,7 @@ use Rattle.fluent_values.specs.Trail.{content_at, on_path}
 use Rattle.fluent_values.proofs.Placed.{ok_value, placed_as, placed_back, placed_behind, placed_first, placed_front, placed_still, some_value}
 use Rattle.fluent_values.specs.Choice.{choice, first_default}
 use Rattle.fluent_values.specs.Sizes.{size, bound, IsBelow, element_size, expression_size, variants_size, inline_size, call_size, arguments_size, inlines_size, nameds_size}
-use Rattle.fluent_values.specs.Status.{status, environment_view}
+use Rattle.fluent_values.specs.Status.{status, environment_view, scope_parts}
 use Rattle.fluent_values.specs.Texts.{IsTextAlone}
 use Rattle.fluent_values.specs.View.{value_view, named}
 use Rattle.fluent_values.proofs.Along.{starts, turns, passes, put, puts_last, tail, wrote, ends, stops, memory_halts, refuses, adds, calls, lends, goes_on, at_value}
@@ -41,17 +41,20 @@ use Rattle.fluent_values.specs.declared.resolver.output.Halt.TheVariants as faul
 use Rattle.fluent_values.proofs.resolver.+resolve.Goals as goal
 
 pub expression::write_expression-returns-in-Inline : goal.expression::write_expression-returns-in-Inline
+unfolding scope_parts
 expression::write_expression-returns-in-Inline g t c =
     let a = status g.B.Context.meant g.B.Context.is_plain g.F.FluentFunction.answer g.C.FluentType.content c.args.scope.now in
     wrote (tail c.write_inline.ensures (turns (inline_at a c.args.expression.now c.in-Inline.inline a.budget c.in-Inline.is) (starts a _ _)))
 
 pub expression::write_expression-returns-in-Select : goal.expression::write_expression-returns-in-Select
+unfolding scope_parts
 expression::write_expression-returns-in-Select g t c =
     let a = status g.B.Context.meant g.B.Context.is_plain g.F.FluentFunction.answer g.C.FluentType.content c.args.scope.now in
     let is = view_select_in c.args.expression.now c.in-Select.selector c.in-Select.variants c.in-Select.is ∙ ap (λ vs. select (inline_view c.in-Select.selector) (variants_of (map variant_view vs))) (sym c.deref.ensures.value) in
     wrote (tail c.write_select.ensures (turns (ap (λ e. from_here a (expressing e)) is) (starts a _ _)))
 
 pub expression::write_select-returns-in_err-chosen : goal.expression::write_select-returns-in_err-chosen
+unfolding scope_parts
 expression::write_select-returns-in_err-chosen g t c =
     let a = status g.B.Context.meant g.B.Context.is_plain g.F.FluentFunction.answer g.C.FluentType.content c.args.scope.now in
     let out = c.args.out.now in
@@ -60,6 +63,7 @@ expression::write_select-returns-in_err-chosen g t c =
     ask_stops (chosen_walk a) c.in_err-chosen.was (search rules) gave begun
 
 pub expression::write_select-returns-in-Some : goal.expression::write_select-returns-in-Some
+unfolding scope_parts
 expression::write_select-returns-in-Some g t c =
     let a = status g.B.Context.meant g.B.Context.is_plain g.F.FluentFunction.answer g.C.FluentType.content c.args.scope.now in
     let out = c.args.out.now in
@@ -71,6 +75,7 @@ expression::write_select-returns-in-Some g t c =
     wrote (tail c.write_pattern.ensures.wrote (turns (ap seen c.in-Some.is) asked))
 
 pub expression::write_select-returns-in_err-add_error-in-None : goal.expression::write_select-returns-in_err-add_error-in-None
+unfolding scope_parts
 expression::write_select-returns-in_err-add_error-in-None g t c =
     let a = status g.B.Context.meant g.B.Context.is_plain g.F.FluentFunction.answer g.C.FluentType.content c.args.scope.now in
     let out = c.args.out.now in
@@ -82,6 +87,7 @@ expression::write_select-returns-in_err-add_error-in-None g t c =
     refuses c.in_err-add_error-in-None.was (search rules) c.add_error.ensures.added (turns (ap seen c.in-None.is) asked)
 
 pub expression::write_select-returns-in_ok-add_error-in-None : goal.expression::write_select-returns-in_ok-add_error-in-None
+unfolding scope_parts
 expression::write_select-returns-in_ok-add_error-in-None g t c =
     let a = status g.B.Context.meant g.B.Context.is_plain g.F.FluentFunction.answer g.C.FluentType.content c.args.scope.now in
     let out = c.args.out.now in
@@ -93,6 +99,7 @@ expression::write_select-returns-in_ok-add_error-in-None g t c =
     ends (turns (ap (given []) (sym c.add_error.ensures.added.budget)) (adds (given [] b.budget) c.in_ok-add_error-in-None.was c.add_error.ensures.added (turns (ap seen c.in-None.is) asked)))
 
 pub inline_expression::go-returns-in_err-add_error : goal.inline_expression::go-returns-in_err-add_error
+unfolding scope_parts
 inline_expression::go-returns-in_err-add_error g t c =
     let a = status g.B.Context.meant g.B.Context.is_plain g.F.FluentFunction.answer g.C.FluentType.content c.args.scope.now in
     let x = inline_view c.args.inline.now in
@@ -101,6 +108,7 @@ inline_expression::go-returns-in_err-add_error g t c =
     refuses c.in_err-add_error.was (search rules) c.add_error.ensures.added begun
 
 pub inline_expression::go-returns-then-is_on : goal.inline_expression::go-returns-then-is_on
+unfolding scope_parts
 inline_expression::go-returns-then-is_on g t c =
     let a = status g.B.Context.meant g.B.Context.is_plain g.F.FluentFunction.answer g.C.FluentType.content c.args.scope.now in
     let x = inline_view c.args.inline.now in
@@ -109,11 +117,13 @@ inline_expression::go-returns-then-is_on g t c =
     wrote (puts_last c.put_in_braces.ensures (turns (ap (given (in_braces (fallback x))) (sym c.add_error.ensures.added.budget)) (adds (given (in_braces (fallback x)) a.budget) c.in_ok-add_error.was c.add_error.ensures.added begun)))
 
 pub inline_expression::go-returns-in_err-enter : goal.inline_expression::go-returns-in_err-enter
+unfolding scope_parts
 inline_expression::go-returns-in_err-enter g t c =
     let a = status g.B.Context.meant g.B.Context.is_plain g.F.FluentFunction.answer g.C.FluentType.content c.args.scope.now in
     memory_halts (search rules) (passes refl (passed_still c.enter.ensures.elsewhere.errors c.enter.ensures.tally (keeps_elsewhere c.enter.ensures.elsewhere c.in_err-enter.ensures.refused)) (starts a _ _))
 
 pub inline_expression::go-returns : goal.inline_expression::go-returns
+unfolding scope_parts
 inline_expression::go-returns g t c =
     let a = status g.B.Context.meant g.B.Context.is_plain g.F.FluentFunction.answer g.C.FluentType.content c.args.scope.now in
     let x = inline_view c.args.inline.now in
@@ -129,6 +139,7 @@ inline_expression::go-returns g t c =
     w (turns (entered_at c.budgets_pass_through.ensures.counts a b x c.args.target.step (sym c.is_on.ensures ∙ c.if-is_on.false) entered before) (starts a _ _)))
 
 pub pattern::write_pattern-returns-clause-wrote : goal.pattern::write_pattern-returns-clause-wrote
+unfolding scope_parts
 pattern::write_pattern-returns-clause-wrote g t c =
     let a = status g.B.Context.meant g.B.Context.is_plain g.F.FluentFunction.answer g.C.FluentType.content c.args.scope.now in
     let b = status g.B.Context.meant g.B.Context.is_plain g.F.FluentFunction.answer g.C.FluentType.content c.begin-begun.new.self in
@@ -144,6 +155,7 @@ pattern::write_pattern-returns-clause-wrote g t c =
     w (turns (begun_at a b p starts_at.path starts_at.elsewhere) (starts a _ _)))
 
 pub inline_expression::follow-returns-in-Unknown : goal.inline_expression::follow-returns-in-Unknown
+unfolding scope_parts
 inline_expression::follow-returns-in-Unknown g t c =
     let a = status g.B.Context.meant g.B.Context.is_plain g.F.FluentFunction.answer g.C.FluentType.content c.args.scope.now in
     let x = inline_view c.args.inline.now in
@@ -151,6 +163,7 @@ inline_expression::follow-returns-in-Unknown g t c =
     wrote (tail c.lose.ensures begun)
 
 pub inline_expression::follow-returns-in_err-report_no_value-in-WithoutValue : goal.inline_expression::follow-returns-in_err-report_no_value-in-WithoutValue
+unfolding scope_parts
 inline_expression::follow-returns-in_err-report_no_value-in-WithoutValue g t c =
     let a = status g.B.Context.meant g.B.Context.is_plain g.F.FluentFunction.answer g.C.FluentType.content c.args.scope.now in
     let x = inline_view c.args.inline.now in
@@ -158,6 +171,7 @@ inline_expression::follow-returns-in_err-report_no_value-in-WithoutValue g t c =
     refuses c.in_err-report_no_value-in-WithoutValue.was (search rules) c.report_no_value.ensures begun
 
 pub inline_expression::follow-returns-in_ok-report_no_value-in-WithoutValue : goal.inline_expression::follow-returns-in_ok-report_no_value-in-WithoutValue
+unfolding scope_parts
 inline_expression::follow-returns-in_ok-report_no_value-in-WithoutValue g t c =
     let a = status g.B.Context.meant g.B.Context.is_plain g.F.FluentFunction.answer g.C.FluentType.content c.args.scope.now in
     let x = inline_view c.args.inline.now in
@@ -166,6 +180,7 @@ inline_expression::follow-returns-in_ok-report_no_value-in-WithoutValue g t c =
     wrote (puts_last c.put_id_in_braces.ensures (turns (ap (given t) (sym c.report_no_value.ensures.budget)) (adds (given t a.budget) c.in_ok-report_no_value-in-WithoutValue.was c.report_no_value.ensures begun)))
 
 pub inline_expression::follow-returns-in-Pattern : goal.inline_expression::follow-returns-in-Pattern
+unfolding scope_parts
 inline_expression::follow-returns-in-Pattern g t c =
     let a = status g.B.Context.meant g.B.Context.is_plain g.F.FluentFunction.answer g.C.FluentType.content c.args.scope.now in
     let x = inline_view c.args.inline.now in
@@ -173,6 +188,7 @@ inline_expression::follow-returns-in-Pattern g t c =
     wrote (tail c.go.ensures begun)
 
 pub pattern::write_placeable-returns-in_err-add_error : goal.pattern::write_placeable-returns-in_err-add_error
+unfolding scope_parts
 pattern::write_placeable-returns-in_err-add_error g t c =
     let a = status g.B.Context.meant g.B.Context.is_plain g.F.FluentFunction.answer g.C.FluentType.content c.args.scope.now in
     let b = status g.B.Context.meant g.B.Context.is_plain g.F.FluentFunction.answer g.C.FluentType.content c.take_one.new.self in
@@ -184,6 +200,7 @@ pattern::write_placeable-returns-in_err-add_error g t c =
     refuses c.in_err-add_error.was (search rules) c.add_error.ensures.added begun
 
 pub pattern::write_placeable-returns-then-not-take_one : goal.pattern::write_placeable-returns-then-not-take_one
+unfolding scope_parts
 pattern::write_placeable-returns-then-not-take_one g t c =
     let a = status g.B.Context.meant g.B.Context.is_plain g.F.FluentFunction.answer g.C.FluentType.content c.args.scope.now in
     let b = status g.B.Context.meant g.B.Context.is_plain g.F.FluentFunction.answer g.C.FluentType.content c.take_one.new.self in
@@ -195,6 +212,7 @@ pattern::write_placeable-returns-then-not-take_one g t c =
     ends (turns (ap (given []) (sym c.add_error.ensures.added.budget)) (adds (given [] b.budget) c.in_ok-add_error.was c.add_error.ensures.added begun))
 
 pub pattern::write_placeable-returns-in_err-put_first_mark : goal.pattern::write_placeable-returns-in_err-put_first_mark
+unfolding scope_parts
 pattern::write_placeable-returns-in_err-put_first_mark g t c =
     let a = status g.B.Context.meant g.B.Context.is_plain g.F.FluentFunction.answer g.C.FluentType.content c.args.scope.now in
     let b = status g.B.Context.meant g.B.Context.is_plain g.F.FluentFunction.answer g.C.FluentType.content c.take_one.new.self in
@@ -209,6 +227,7 @@ pattern::write_placeable-returns-in_err-put_first_mark g t c =
     stops c.in_err-put_first_mark.was (search rules) first
 
 pub pattern::write_placeable-returns-in_err-write_expression : goal.pattern::write_placeable-returns-in_err-write_expression
+unfolding scope_parts
 pattern::write_placeable-returns-in_err-write_expression g t c =
     let a = status g.B.Context.meant g.B.Context.is_plain g.F.FluentFunction.answer g.C.FluentType.content c.args.scope.now in
     let b = status g.B.Context.meant g.B.Context.is_plain g.F.FluentFunction.answer g.C.FluentType.content c.take_one.new.self in
@@ -224,6 +243,7 @@ pattern::write_placeable-returns-in_err-write_expression g t c =
     stops c.in_err-write_expression.was (search rules) written
 
 pub pattern::write_placeable-returns-in_err-put_ending : goal.pattern::write_placeable-returns-in_err-put_ending
+unfolding scope_parts
 pattern::write_placeable-returns-in_err-put_ending g t c =
     let a = status g.B.Context.meant g.B.Context.is_plain g.F.FluentFunction.answer g.C.FluentType.content c.args.scope.now in
     let b = status g.B.Context.meant g.B.Context.is_plain g.F.FluentFunction.answer g.C.FluentType.content c.take_one.new.self in
@@ -241,6 +261,7 @@ pattern::write_placeable-returns-in_err-put_ending g t c =
     stops c.in_err-put_ending.was (search rules) ended
 
 pub pattern::write_placeable-returns : goal.pattern::write_placeable-returns
+unfolding scope_parts
 pattern::write_placeable-returns g t c =
     let a = status g.B.Context.meant g.B.Context.is_plain g.F.FluentFunction.answer g.C.FluentType.content c.args.scope.now in
     let b = status g.B.Context.meant g.B.Context.is_plain g.F.FluentFunction.answer g.C.FluentType.content c.take_one.new.self in
@@ -258,6 +279,7 @@ pattern::write_placeable-returns g t c =
     wrote (puts_last (took_same (ap last_mark marked) c.put_last_mark.ensures) (goes_on c.in_ok-put_ending.was ended))
 
 pub pattern::write_elements-loop-element-init : goal.pattern::write_elements-loop-element-init
+unfolding scope_parts
 pattern::write_elements-loop-element-init g t c =
     let a = status g.B.Context.meant g.B.Context.is_plain g.F.FluentFunction.answer g.C.FluentType.content c.args.scope.now in
     let one = has_one (pattern_view c.args.pattern.now) in
@@ -267,6 +289,7 @@ pattern::write_elements-loop-element-init g t c =
     }
 
 pub pattern::write_elements-loop-element-preserved : goal.pattern::write_elements-loop-element-preserved
+unfolding scope_parts
 pattern::write_elements-loop-element-preserved g t c =
     let a = status g.B.Context.meant g.B.Context.is_plain g.F.FluentFunction.answer g.C.FluentType.content c.args.scope.now in
     let one = has_one (pattern_view c.args.pattern.now) in
@@ -284,6 +307,7 @@ pattern::write_elements-loop-element-preserved g t c =
     }
 
 pub pattern::write_elements-returns-in_err-put_changed-in-TextElement-clause-wrote : goal.pattern::write_elements-returns-in_err-put_changed-in-TextElement-clause-wrote
+unfolding scope_parts
 pattern::write_elements-returns-in_err-put_changed-in-TextElement-clause-wrote g t c =
     let a = status g.B.Context.meant g.B.Context.is_plain g.F.FluentFunction.answer g.C.FluentType.content c.args.scope.now in
     let one = has_one (pattern_view c.args.pattern.now) in
@@ -295,6 +319,7 @@ pattern::write_elements-returns-in_err-put_changed-in-TextElement-clause-wrote g
     stops c.in_err-put_changed-in-TextElement.was (search rules) (put (giving a one rest b.budget) (took_same (ap (λ s. s.transform c.in-TextElement.value.now) c.loop-element.invariant.along.passed.keeps.bundle) c.put_changed.ensures.took) (turns (giving_text a one _ rest x _ b.budget next (search rules) (view_text_in x c.in-TextElement.value c.in-TextElement.is)) c.loop-element.invariant.along))
 
 pub pattern::write_elements-returns-in_err-write_placeable-in-Placeable-clause-wrote : goal.pattern::write_elements-returns-in_err-write_placeable-in-Placeable-clause-wrote
+unfolding scope_parts
 pattern::write_elements-returns-in_err-write_placeable-in-Placeable-clause-wrote g t c =
     let a = status g.B.Context.meant g.B.Context.is_plain g.F.FluentFunction.answer g.C.FluentType.content c.args.scope.now in
     let one = has_one (pattern_view c.args.pattern.now) in
@@ -306,6 +331,7 @@ pattern::write_elements-returns-in_err-write_placeable-in-Placeable-clause-wrote
     stops c.in_err-write_placeable-in-Placeable.was (search rules) (calls (giving a one rest) c.write_placeable.ensures (turns (giving_placeable a one _ rest x _ b.budget next (search rules) (view_placeable_in x c.in-Placeable.expression c.in-Placeable.is) ∙ ap (λ one. sequence (walked a (λ s f env path. part with_work s f env path one (placeable (expression_view c.in-Placeable.expression))) b.budget) (giving a (has_one (pattern_view c.args.pattern.now)) rest)) (sym c.has_one-one.ensures)) c.loop-element.invariant.along))
 
 pub pattern::write_elements-returns-in_err-write_placeable-in-Placeable-clause-memory : goal.pattern::write_elements-returns-in_err-write_placeable-in-Placeable-clause-memory
+unfolding scope_parts
 pattern::write_elements-returns-in_err-write_placeable-in-Placeable-clause-memory g t c =
     let a = status g.B.Context.meant g.B.Context.is_plain g.F.FluentFunction.answer g.C.FluentType.content c.args.scope.now in
     let items = c.deref-element-items.result.now in
@@ -313,18 +339,21 @@ pattern::write_elements-returns-in_err-write_placeable-in-Placeable-clause-memor
     λ h. absurd (no_placeable items c.loop-element.element-index c.element-item.result _ (subst IsTextAlone texts h) c.loop-element-test.true c.element-item.is (view_placeable_in c.element-item.result c.in-Placeable.expression c.in-Placeable.is))
 
 pub pattern::write_elements-returns-after-loop-element-clause-wrote : goal.pattern::write_elements-returns-after-loop-element-clause-wrote
+unfolding scope_parts
 pattern::write_elements-returns-after-loop-element-clause-wrote g t c =
     let a = status g.B.Context.meant g.B.Context.is_plain g.F.FluentFunction.answer g.C.FluentType.content c.args.scope.now in
     let one = has_one (pattern_view c.args.pattern.now) in
     ends (turns (giving_end a one _ _ (none_left c.deref-element-items.result.now c.loop-element.element-index c.loop-element-test.false)) c.loop-element.invariant.along)
 
 pub pattern::write_elements-returns-then-dirty-clause-wrote : goal.pattern::write_elements-returns-then-dirty-clause-wrote
+unfolding scope_parts
 pattern::write_elements-returns-then-dirty-clause-wrote g t c =
     let a = status g.B.Context.meant g.B.Context.is_plain g.F.FluentFunction.answer g.C.FluentType.content c.args.scope.now in
     let one = has_one (pattern_view c.args.pattern.now) in
     ends (turns (giving_struck a one (drop c.loop-element.element-index c.deref-element-items.result.now) _ (search rules)) c.loop-element.invariant.along)
 
 pub pattern::write_elements-returns-in_err-put_changed-in-TextElement-clause-memory : goal.pattern::write_elements-returns-in_err-put_changed-in-TextElement-clause-memory
+unfolding scope_parts
 pattern::write_elements-returns-in_err-put_changed-in-TextElement-clause-memory g t c =
     let a = status g.B.Context.meant g.B.Context.is_plain g.F.FluentFunction.answer g.C.FluentType.content c.args.scope.now in
     let way = c.loop-element.invariant.along in
@@ -335,24 +364,28 @@ pattern::write_elements-returns-in_err-put_changed-in-TextElement-clause-memory 
     (search (rules, is))
 
 pub pattern::write_pattern-returns-clause-memory : goal.pattern::write_pattern-returns-clause-memory
+unfolding scope_parts
 pattern::write_pattern-returns-clause-memory g t c =
     let a = status g.B.Context.meant g.B.Context.is_plain g.F.FluentFunction.answer g.C.FluentType.content c.args.scope.now in
     let starts_at = c.begin-begun.ensures in
     λ h plain bare. c.write_elements-written.ensures.memory h (subst IsTrue (sym starts_at.elsewhere.is_plain) plain) bare
 
 pub inline_expression::write_inline-returns-in-StringLiteral : goal.inline_expression::write_inline-returns-in-StringLiteral
+unfolding scope_parts
 inline_expression::write_inline-returns-in-StringLiteral g t c =
     let a = status g.B.Context.meant g.B.Context.is_plain g.F.FluentFunction.answer g.C.FluentType.content c.args.scope.now in
     let begun = turns (ap (λ x. from_here a (writing x)) (view_string_in c.args.inline.now c.in-StringLiteral.value c.in-StringLiteral.is) ∙ written_string a.bundle (work a.bundle) a.environment (on_path a.path) c.in-StringLiteral.value.now a.budget) (starts a _ _) in
     wrote (puts_last c.put_unescaped.ensures begun)
 
 pub inline_expression::write_inline-returns-in-NumberLiteral : goal.inline_expression::write_inline-returns-in-NumberLiteral
+unfolding scope_parts
 inline_expression::write_inline-returns-in-NumberLiteral g t c =
     let a = status g.B.Context.meant g.B.Context.is_plain g.F.FluentFunction.answer g.C.FluentType.content c.args.scope.now in
     let begun = turns (ap (λ x. from_here a (writing x)) (view_number_in c.args.inline.now c.in-NumberLiteral.value c.in-NumberLiteral.is) ∙ written_number a.bundle (work a.bundle) a.environment (on_path a.path) c.in-NumberLiteral.value.now a.budget) (starts a _ _) in
     wrote (puts_last c.put_number.ensures begun)
 
 pub inline_expression::write_inline-returns-in-MessageReference : goal.inline_expression::write_inline-returns-in-MessageReference
+unfolding scope_parts
 inline_expression::write_inline-returns-in-MessageReference g t c =
     let a = status g.B.Context.meant g.B.Context.is_plain g.F.FluentFunction.answer g.C.FluentType.content c.args.scope.now in
     let v = view_message_in c.args.inline.now c.in-MessageReference.id c.in-MessageReference.attribute c.in-MessageReference.is in
@@ -362,42 +395,50 @@ inline_expression::write_inline-returns-in-MessageReference g t c =
     wrote (tail c.follow.ensures begun)
 
 pub inline_expression::write_inline-returns-in-TermReference : goal.inline_expression::write_inline-returns-in-TermReference
+unfolding scope_parts
 inline_expression::write_inline-returns-in-TermReference g t c =
     let a = status g.B.Context.meant g.B.Context.is_plain g.F.FluentFunction.answer g.C.FluentType.content c.args.scope.now in
     c.write_term.ensures
 
 pub inline_expression::write_inline-returns-in-VariableReference : goal.inline_expression::write_inline-returns-in-VariableReference
+unfolding scope_parts
 inline_expression::write_inline-returns-in-VariableReference g t c =
     let a = status g.B.Context.meant g.B.Context.is_plain g.F.FluentFunction.answer g.C.FluentType.content c.args.scope.now in
     c.write_variable.ensures
 
 pub inline_expression::write_inline-returns-in-Placeable : goal.inline_expression::write_inline-returns-in-Placeable
+unfolding scope_parts
 inline_expression::write_inline-returns-in-Placeable g t c =
     let a = status g.B.Context.meant g.B.Context.is_plain g.F.FluentFunction.answer g.C.FluentType.content c.args.scope.now in
     let begun = turns (ap (λ x. from_here a (writing x)) (view_nested_in c.args.inline.now c.in-Placeable.expression c.in-Placeable.is) ∙ written_nested a.bundle (work a.bundle) a.environment (on_path a.path) (expression_view c.in-Placeable.expression.value) a.budget ∙ ap (λ e. walked a (expressing (expression_view e)) a.budget) (sym c.deref-in-Placeable.ensures)) (starts a _ _) in
     wrote (tail c.write_expression.ensures begun)
 
 pub arguments::resolve-returns-in_err-text-in-StringLiteral : goal.arguments::resolve-returns-in_err-text-in-StringLiteral
+unfolding scope_parts
 arguments::resolve-returns-in_err-text-in-StringLiteral g t c =
     let a = status g.B.Context.meant g.B.Context.is_plain g.F.FluentFunction.answer g.C.FluentType.content c.args.scope.now in
     record { got = misses {e = fault.Memory} (search rules) (begins a _); rests = rests_memory _ (search rules) }
 
 pub arguments::resolve-returns-in-NumberLiteral : goal.arguments::resolve-returns-in-NumberLiteral
+unfolding scope_parts
 arguments::resolve-returns-in-NumberLiteral g t c =
     let a = status g.B.Context.meant g.B.Context.is_plain g.F.FluentFunction.answer g.C.FluentType.content c.args.scope.now in
     let means = ap (λ x. from_here a (resolving x)) (view_number_in c.args.inline.now c.in-NumberLiteral.value c.in-NumberLiteral.is) ∙ resolved_number a.bundle (work a.bundle) a.environment (on_path a.path) c.in-NumberLiteral.value.now a.budget in
     record { got = got_if _ means c.try_number.ensures; rests = rests_same _ }
 
 pub arguments::resolve-returns-in_ok-text-in-StringLiteral : goal.arguments::resolve-returns-in_ok-text-in-StringLiteral
+unfolding scope_parts
 arguments::resolve-returns-in_ok-text-in-StringLiteral g t c =
     let a = status g.B.Context.meant g.B.Context.is_plain g.F.FluentFunction.answer g.C.FluentType.content c.args.scope.now in
     let means = ap (λ x. from_here a (resolving x)) (view_string_in c.args.inline.now c.in-StringLiteral.value c.in-StringLiteral.is) ∙ resolved_string a.bundle (work a.bundle) a.environment (on_path a.path) c.in-StringLiteral.value.now a.budget in
     record { got = got_if _ means (ap text_value (search rules)); rests = rests_same _ }
 
 pub arguments::resolve-returns-in-FunctionReference : goal.arguments::resolve-returns-in-FunctionReference
+unfolding scope_parts
 arguments::resolve-returns-in-FunctionReference g t c = c.resolve_function.ensures
 
 pub arguments::resolve_function-returns-in_err-positional : goal.arguments::resolve_function-returns-in_err-positional
+unfolding scope_parts
 arguments::resolve_function-returns-in_err-positional g t c =
     let a = status g.B.Context.meant g.B.Context.is_plain g.F.FluentFunction.answer g.C.FluentType.content c.args.scope.now in
     let m = c.args.id.now.name.now in
@@ -406,6 +447,7 @@ arguments::resolve_function-returns-in_err-positional g t c =
     record { got = misses_as c.in_err-positional.was (search rules) (gets_part k c.resolve_call.ensures.got (reads means (begins a _))); rests = rests_err c.in_err-positional.was (search rules) c.resolve_call.ensures.rests }
 
 pub arguments::resolve_function-returns-in_err-answer : goal.arguments::resolve_function-returns-in_err-answer
+unfolding scope_parts
 arguments::resolve_function-returns-in_err-answer g t c =
     let a = status g.B.Context.meant g.B.Context.is_plain g.F.FluentFunction.answer g.C.FluentType.content c.args.scope.now in
     let m = c.args.id.now.name.now in
@@ -414,22 +456,26 @@ arguments::resolve_function-returns-in_err-answer g t c =
     record { got = misses {e = fault.Memory} (search rules) (gets k c.in_ok-positional.was c.resolve_call.ensures.got (reads means (begins a _))); rests = rests_on (rests_ok {T = ℕ} {x = 0} c.in_ok-positional.was c.resolve_call.ensures.rests) (rests_memory _ (search rules)) }
 
 pub arguments::resolve-returns-in_err-resolve_variable-in-VariableReference : goal.arguments::resolve-returns-in_err-resolve_variable-in-VariableReference
+unfolding scope_parts
 arguments::resolve-returns-in_err-resolve_variable-in-VariableReference g t c =
     let a = status g.B.Context.meant g.B.Context.is_plain g.F.FluentFunction.answer g.C.FluentType.content c.args.scope.now in
     record { got = misses {e = fault.Memory} (search rules) c.resolve_variable.ensures.toward; rests = rests_memory _ (search rules) }
 
 pub arguments::resolve-returns-in_ok-resolve_variable-in-VariableReference : goal.arguments::resolve-returns-in_ok-resolve_variable-in-VariableReference
+unfolding scope_parts
 arguments::resolve-returns-in_ok-resolve_variable-in-VariableReference g t c =
     let a = status g.B.Context.meant g.B.Context.is_plain g.F.FluentFunction.answer g.C.FluentType.content c.args.scope.now in
     record { got = got_as (λ v. v) c.in_ok-resolve_variable-in-VariableReference.was refl refl c.resolve_variable.ensures; rests = rests_same _ }
 
 pub arguments::resolve_local-returns-in-None : goal.arguments::resolve_local-returns-in-None
+unfolding scope_parts
 arguments::resolve_local-returns-in-None g t c =
     let a = status g.B.Context.meant g.B.Context.is_plain g.F.FluentFunction.answer g.C.FluentType.content c.args.scope.now in
     let means = ap (λ o. from_here a (locals (call_view o))) c.in-None.is ∙ local_none a.bundle (work a.bundle) a.environment (on_path a.path) a.budget in
     record { got = got_if [] means (search rules); rests = rests_same _ }
 
 pub arguments::resolve_local-returns-in_err-_positional-in-Some : goal.arguments::resolve_local-returns-in_err-_positional-in-Some
+unfolding scope_parts
 arguments::resolve_local-returns-in_err-_positional-in-Some g t c =
     let a = status g.B.Context.meant g.B.Context.is_plain g.F.FluentFunction.answer g.C.FluentType.content c.args.scope.now in
     let given = ap call_view c.in-Some.is ∙ sym (ap (λ a. call (arguments_view a)) c.deref.ensures) in
@@ -437,6 +483,7 @@ arguments::resolve_local-returns-in_err-_positional-in-Some g t c =
     record { got = got_part_as (λ p. p.1) c.in_err-_positional-in-Some.was (search rules) means c.resolve_call.ensures.got; rests = rests_err c.in_err-_positional-in-Some.was (search rules) c.resolve_call.ensures.rests }
 
 pub arguments::resolve_local-returns-in_ok-_positional-in-Some : goal.arguments::resolve_local-returns-in_ok-_positional-in-Some
+unfolding scope_parts
 arguments::resolve_local-returns-in_ok-_positional-in-Some g t c =
     let a = status g.B.Context.meant g.B.Context.is_plain g.F.FluentFunction.answer g.C.FluentType.content c.args.scope.now in
     let given = ap call_view c.in-Some.is ∙ sym (ap (λ a. call (arguments_view a)) c.deref.ensures) in
@@ -446,57 +493,75 @@ arguments::resolve_local-returns-in_ok-_positional-in-Some g t c =
 -- WHAT THE CALLS REQUIRE
 
 pub arguments::resolve-slice_bounds-unescape_unicode_to_string-end : goal.arguments::resolve-slice_bounds-unescape_unicode_to_string-end
+unfolding scope_parts
 arguments::resolve-slice_bounds-unescape_unicode_to_string-end g t c = search rules
 
 pub arguments::resolve-unescape_unicode_to_string-requires-text-text : goal.arguments::resolve-unescape_unicode_to_string-requires-text-text
+unfolding scope_parts
 arguments::resolve-unescape_unicode_to_string-requires-text-text g t c = search rules
 
 pub arguments::resolve-slice_bounds-try_number-end : goal.arguments::resolve-slice_bounds-try_number-end
+unfolding scope_parts
 arguments::resolve-slice_bounds-try_number-end g t c = search rules
 
 pub arguments::resolve-try_number-requires-text-text : goal.arguments::resolve-try_number-requires-text-text
+unfolding scope_parts
 arguments::resolve-try_number-requires-text-text g t c = search rules
 
 pub arguments::resolve_function-answer_of-requires-text-id : goal.arguments::resolve_function-answer_of-requires-text-id
+unfolding scope_parts
 arguments::resolve_function-answer_of-requires-text-id g t c = search rules
 
 pub inline_expression::follow-report_no_value-requires-text-id : goal.inline_expression::follow-report_no_value-requires-text-id
+unfolding scope_parts
 inline_expression::follow-report_no_value-requires-text-id g t c = search rules
 
 pub inline_expression::follow-put_id_in_braces-requires-text-id : goal.inline_expression::follow-put_id_in_braces-requires-text-id
+unfolding scope_parts
 inline_expression::follow-put_id_in_braces-requires-text-id g t c = search rules
 
 pub inline_expression::write_inline-slice_bounds-put_unescaped-end : goal.inline_expression::write_inline-slice_bounds-put_unescaped-end
+unfolding scope_parts
 inline_expression::write_inline-slice_bounds-put_unescaped-end g t c = search rules
 
 pub inline_expression::write_inline-put_unescaped-requires-text-value : goal.inline_expression::write_inline-put_unescaped-requires-text-value
+unfolding scope_parts
 inline_expression::write_inline-put_unescaped-requires-text-value g t c = search rules
 
 pub inline_expression::write_inline-slice_bounds-put_number-end : goal.inline_expression::write_inline-slice_bounds-put_number-end
+unfolding scope_parts
 inline_expression::write_inline-slice_bounds-put_number-end g t c = search rules
 
 pub inline_expression::write_inline-put_number-requires-text-source : goal.inline_expression::write_inline-put_number-requires-text-source
+unfolding scope_parts
 inline_expression::write_inline-put_number-requires-text-source g t c = search rules
 
 pub inline_expression::write_inline-message-found-requires-text-id : goal.inline_expression::write_inline-message-found-requires-text-id
+unfolding scope_parts
 inline_expression::write_inline-message-found-requires-text-id g t c = search rules
 
 pub inline_expression::write_term-term-found-requires-text-id : goal.inline_expression::write_term-term-found-requires-text-id
+unfolding scope_parts
 inline_expression::write_term-term-found-requires-text-id g t c = search rules
 
 pub pattern::write_elements-offset_bounds-element-items-element-index : goal.pattern::write_elements-offset_bounds-element-items-element-index
+unfolding scope_parts
 pattern::write_elements-offset_bounds-element-items-element-index g t c = search rules
 
 pub pattern::write_elements-slice_bounds-put_changed-end : goal.pattern::write_elements-slice_bounds-put_changed-end
+unfolding scope_parts
 pattern::write_elements-slice_bounds-put_changed-end g t c = search rules
 
 pub pattern::write_elements-put_changed-requires-text-text : goal.pattern::write_elements-put_changed-requires-text-text
+unfolding scope_parts
 pattern::write_elements-put_changed-requires-text-text g t c = search rules
 
 pub pattern::write_elements-loop-element-smaller : goal.pattern::write_elements-loop-element-smaller
+unfolding scope_parts
 pattern::write_elements-loop-element-smaller g t c = search rules
 
 pub arguments::resolve-resolve_function-requires : goal.arguments::resolve-resolve_function-requires
+unfolding scope_parts
 arguments::resolve-resolve_function-requires g t c =
     let a = status g.B.Context.meant g.B.Context.is_plain g.F.FluentFunction.answer g.C.FluentType.content c.args.scope.now in
     let k = arguments_view c.deref.result.now in
@@ -506,6 +571,7 @@ arguments::resolve-resolve_function-requires g t c =
     λ κs h. (less, (h.0, (h.1.0, (h.1.1.0, (h.1.1.1, (view, c.requires))))))
 
 pub arguments::resolve_function-resolve_call-requires : goal.arguments::resolve_function-resolve_call-requires
+unfolding scope_parts
 arguments::resolve_function-resolve_call-requires g t c =
     let a = status g.B.Context.meant g.B.Context.is_plain g.F.FluentFunction.answer g.C.FluentType.content c.args.scope.now in
     let less = falls_to c.decreases (less_weight a.bundle a.bundle (arguments_size (arguments_view c.args.arguments.now)) (1 + arguments_size (arguments_view c.args.arguments.now)) (1 + at_most a.budget) (1 + at_most a.budget) refl (omega arith) (omega arith)) in
@@ -513,6 +579,7 @@ arguments::resolve_function-resolve_call-requires g t c =
     λ κs h. (less, (h.0, (h.1.0, (h.1.1.0, (h.1.1.1, placed)))))
 
 pub arguments::resolve_function-answer_of-requires : goal.arguments::resolve_function-answer_of-requires
+unfolding scope_parts
 arguments::resolve_function-answer_of-requires g t c =
     let a = status g.B.Context.meant g.B.Context.is_plain g.F.FluentFunction.answer g.C.FluentType.content c.args.scope.now in
     let b = status g.B.Context.meant g.B.Context.is_plain g.F.FluentFunction.answer g.C.FluentType.content c.resolve_call.new.scope in
@@ -521,15 +588,18 @@ arguments::resolve_function-answer_of-requires g t c =
     placed_still a b (r ∷ []) c.args.place kept.stored (placed_first a.stored.numbers (in_inline (inline_view c.args.inline.now)) r (in_arguments (arguments_view c.args.arguments.now)) c.args.place (ap in_inline c.requires.view) c.requires.placed)
 
 pub arguments::resolve-resolve_variable-requires : goal.arguments::resolve-resolve_variable-requires
+unfolding scope_parts
 arguments::resolve-resolve_variable-requires g t c = view_variable_in c.args.inline.now c.in-VariableReference.id c.in-VariableReference.is
 
 pub arguments::resolve-write_beside-requires : goal.arguments::resolve-write_beside-requires
+unfolding scope_parts
 arguments::resolve-write_beside-requires g t c =
     let a = status g.B.Context.meant g.B.Context.is_plain g.F.FluentFunction.answer g.C.FluentType.content c.args.scope.now in
     let less = falls_to c.decreases (less_weight a.bundle a.bundle (1 + inline_size (inline_view c.args.inline.now)) (2 + inline_size (inline_view c.args.inline.now)) (1 + at_most a.budget) (1 + at_most a.budget) refl (omega arith) (omega arith)) in
     λ κs h. (less, (h.0, (h.1.0, (h.1.1.0, (h.1.1.1, c.requires)))))
 
 pub arguments::resolve_call-resolve_positional-requires : goal.arguments::resolve_call-resolve_positional-requires
+unfolding scope_parts
 arguments::resolve_call-resolve_positional-requires g t c =
     let a = status g.B.Context.meant g.B.Context.is_plain g.F.FluentFunction.answer g.C.FluentType.content c.args.scope.now in
     let sized : arguments_size (arguments_view c.args.arguments.now) ≡ 1 + inlines_size (inlines_of (map inline_view (of_call.out-CallArguments c.args.arguments.now).positional.items)) + nameds_size (nameds_of (map named_view (of_call.out-CallArguments c.args.arguments.now).named.items)) = ap arguments_size (view_arguments c.args.arguments.now) in
@@ -541,6 +611,7 @@ arguments::resolve_call-resolve_positional-requires g t c =
     λ κs h. (less, (h.0, (h.1.0, (h.1.1.0, (h.1.1.1, placed)))))
 
 pub arguments::resolve_call-resolve_named-requires : goal.arguments::resolve_call-resolve_named-requires
+unfolding scope_parts
 arguments::resolve_call-resolve_named-requires g t c =
     let a = status g.B.Context.meant g.B.Context.is_plain g.F.FluentFunction.answer g.C.FluentType.content c.args.scope.now in
     let b = status g.B.Context.meant g.B.Context.is_plain g.F.FluentFunction.answer g.C.FluentType.content c.resolve_positional.new.scope in
@@ -555,6 +626,7 @@ arguments::resolve_call-resolve_named-requires g t c =
     λ κs h. (less, (h.0, (h.1.0, (h.1.1.0, (h.1.1.1, placed)))))
 
 pub arguments::resolve_local-resolve_call-requires : goal.arguments::resolve_local-resolve_call-requires
+unfolding scope_parts
 arguments::resolve_local-resolve_call-requires g t c =
     let a = status g.B.Context.meant g.B.Context.is_plain g.F.FluentFunction.answer g.C.FluentType.content c.args.scope.now in
     let given = ap call_view c.in-Some.is ∙ sym (ap (λ a. call (arguments_view a)) c.deref.ensures) in
@@ -564,6 +636,7 @@ arguments::resolve_local-resolve_call-requires g t c =
     λ κs h. (less, (h.0, (h.1.0, (h.1.1.0, (h.1.1.1, placed)))))
 
 pub arguments::resolve_positional-resolve-requires : goal.arguments::resolve_positional-resolve-requires
+unfolding scope_parts
 arguments::resolve_positional-resolve-requires g t c =
     let a = status g.B.Context.meant g.B.Context.is_plain g.F.FluentFunction.answer g.C.FluentType.content c.args.scope.now in
     let less = falls_to c.decreases (kept_weight (2 + inline_size (inline_view c.argument-item.result)) (inlines_size (inlines_of (map inline_view c.args.arguments.now))) c.loop-argument.invariant.gathers.passed.keeps (place_less c.args.arguments.now c.loop-argument.argument-index c.argument-item.result c.loop-argument-test.true c.argument-item.is)) in
@@ -573,6 +646,7 @@ arguments::resolve_positional-resolve-requires g t c =
     λ κs h. (less, (h.0, (h.1.0, (h.1.1.0, (h.1.1.1, placed)))))
 
 pub arguments::resolve_named-resolve-requires : goal.arguments::resolve_named-resolve-requires
+unfolding scope_parts
 arguments::resolve_named-resolve-requires g t c =
     let a = status g.B.Context.meant g.B.Context.is_plain g.F.FluentFunction.answer g.C.FluentType.content c.args.scope.now in
     let less = falls_to c.decreases (kept_weight (2 + inline_size (inline_view c.argument-item.result.value)) (nameds_size (nameds_of (map named_view c.args.arguments.now))) c.loop-argument.invariant.gathers.passed.keeps (label_less c.args.arguments.now c.loop-argument.argument-index c.argument-item.result c.loop-argument-test.true c.argument-item.is)) in
@@ -582,12 +656,14 @@ arguments::resolve_named-resolve-requires g t c =
     λ κs h. (less, (h.0, (h.1.0, (h.1.1.0, (h.1.1.1, placed)))))
 
 pub arguments::write_beside-write_inline-requires : goal.arguments::write_beside-write_inline-requires
+unfolding scope_parts
 arguments::write_beside-write_inline-requires g t c =
     let a = status g.B.Context.meant g.B.Context.is_plain g.F.FluentFunction.answer g.C.FluentType.content c.args.scope.now in
     let less = falls_to c.decreases (less_weight a.bundle a.bundle (inline_size (inline_view c.args.inline.now)) (1 + inline_size (inline_view c.args.inline.now)) (1 + at_most a.budget) (1 + at_most a.budget) refl (omega arith) (omega arith)) in
     λ κs h. (less, (h.0, (h.1.0, (h.1.1.0, (h.1.1.1, c.requires)))))
 
 pub expression::write_expression-write_inline-requires : goal.expression::write_expression-write_inline-requires
+unfolding scope_parts
 expression::write_expression-write_inline-requires g t c =
     let a = status g.B.Context.meant g.B.Context.is_plain g.F.FluentFunction.answer g.C.FluentType.content c.args.scope.now in
     let sized : expression_size (expression_view c.args.expression.now) ≡ 1 + inline_size (inline_view c.in-Inline.inline) = ap expression_size (view_in c.args.expression.now c.in-Inline.inline c.in-Inline.is) in
@@ -596,6 +672,7 @@ expression::write_expression-write_inline-requires g t c =
     λ κs h. (less, (h.0, (h.1.0, (h.1.1.0, (h.1.1.1, placed)))))
 
 pub expression::write_expression-write_select-requires : goal.expression::write_expression-write_select-requires
+unfolding scope_parts
 expression::write_expression-write_select-requires g t c =
     let a = status g.B.Context.meant g.B.Context.is_plain g.F.FluentFunction.answer g.C.FluentType.content c.args.scope.now in
     let x = inline_view c.in-Select.selector in
@@ -609,6 +686,7 @@ expression::write_expression-write_select-requires g t c =
     λ κs h. (less, (h.0, (h.1.0, (h.1.1.0, (h.1.1.1, placed)))))
 
 pub expression::write_select-write_pattern-requires : goal.expression::write_select-write_pattern-requires
+unfolding scope_parts
 expression::write_select-write_pattern-requires g t c =
     let a = status g.B.Context.meant g.B.Context.is_plain g.F.FluentFunction.answer g.C.FluentType.content c.args.scope.now in
     let b = status g.B.Context.meant g.B.Context.is_plain g.F.FluentFunction.answer g.C.FluentType.content c.choose_variant.new.scope in
@@ -628,6 +706,7 @@ expression::write_select-write_pattern-requires g t c =
     λ κs h. (less, (h.0, (h.1.0, (h.1.1.0, (h.1.1.1, placed)))))
 
 pub variants::choose_by_value-resolve-requires : goal.variants::choose_by_value-resolve-requires
+unfolding scope_parts
 variants::choose_by_value-resolve-requires g t c =
     let a = status g.B.Context.meant g.B.Context.is_plain g.F.FluentFunction.answer g.C.FluentType.content c.args.scope.now in
     let vs = variants_of (map variant_view c.args.variants.now) in
@@ -636,6 +715,7 @@ variants::choose_by_value-resolve-requires g t c =
     λ κs h. (less, (h.0, (h.1.0, (h.1.1.0, (h.1.1.1, placed)))))
 
 pub variants::choose_by_value-returns-in_err-value-clause-chose : goal.variants::choose_by_value-returns-in_err-value-clause-chose
+unfolding scope_parts
 variants::choose_by_value-returns-in_err-value-clause-chose g t c =
     let a = status g.B.Context.meant g.B.Context.is_plain g.F.FluentFunction.answer g.C.FluentType.content c.args.scope.now in
     let vs = variants_of (map variant_view c.args.variants.now) in
@@ -645,6 +725,7 @@ variants::choose_by_value-returns-in_err-value-clause-chose g t c =
     }
 
 pub inline_expression::follow-go-requires : goal.inline_expression::follow-go-requires
+unfolding scope_parts
 inline_expression::follow-go-requires g t c =
     let a = status g.B.Context.meant g.B.Context.is_plain g.F.FluentFunction.answer g.C.FluentType.content c.args.scope.now in
     let p = content_at c.in-Pattern.target.step in
@@ -654,6 +735,7 @@ inline_expression::follow-go-requires g t c =
     λ κs h. (less, (h.0, (h.1.0, (h.1.1.0, (h.1.1.1, (small, stored))))))
 
 pub inline_expression::go-write_pattern-written-requires : goal.inline_expression::go-write_pattern-written-requires
+unfolding scope_parts
 inline_expression::go-write_pattern-written-requires g t c =
     let a = status g.B.Context.meant g.B.Context.is_plain g.F.FluentFunction.answer g.C.FluentType.content c.args.scope.now in
     let p = content_at c.args.target.step in
@@ -663,6 +745,7 @@ inline_expression::go-write_pattern-written-requires g t c =
     λ κs h. (less, (h.0, (h.1.0, (h.1.1.0, (h.1.1.1, placed)))))
 
 pub inline_expression::write_inline-write_function-requires : goal.inline_expression::write_inline-write_function-requires
+unfolding scope_parts
 inline_expression::write_inline-write_function-requires g t c =
     let a = status g.B.Context.meant g.B.Context.is_plain g.F.FluentFunction.answer g.C.FluentType.content c.args.scope.now in
     let k = arguments_view c.deref.result.now in
@@ -672,6 +755,7 @@ inline_expression::write_inline-write_function-requires g t c =
     λ κs h. (less, (h.0, (h.1.0, (h.1.1.0, (h.1.1.1, (view, c.requires))))))
 
 pub inline_expression::write_function-resolve_call-requires : goal.inline_expression::write_function-resolve_call-requires
+unfolding scope_parts
 inline_expression::write_function-resolve_call-requires g t c =
     let a = status g.B.Context.meant g.B.Context.is_plain g.F.FluentFunction.answer g.C.FluentType.content c.args.scope.now in
     let less = falls_to c.decreases (less_weight a.bundle a.bundle (arguments_size (arguments_view c.args.arguments.now)) (1 + arguments_size (arguments_view c.args.arguments.now)) (1 + at_most a.budget) (1 + at_most a.budget) refl (omega arith) (omega arith)) in
@@ -679,6 +763,7 @@ inline_expression::write_function-resolve_call-requires g t c =
     λ κs h. (less, (h.0, (h.1.0, (h.1.1.0, (h.1.1.1, placed)))))
 
 pub inline_expression::write_function-put_answer-requires : goal.inline_expression::write_function-put_answer-requires
+unfolding scope_parts
 inline_expression::write_function-put_answer-requires g t c =
     let a = status g.B.Context.meant g.B.Context.is_plain g.F.FluentFunction.answer g.C.FluentType.content c.args.scope.now in
     let b = status g.B.Context.meant g.B.Context.is_plain g.F.FluentFunction.answer g.C.FluentType.content c.resolve_call.new.scope in
@@ -687,6 +772,7 @@ inline_expression::write_function-put_answer-requires g t c =
     placed_still a b (r ∷ []) c.args.place kept.stored (placed_first a.stored.numbers (in_inline (inline_view c.args.inline.now)) r (in_arguments (arguments_view c.args.arguments.now)) c.args.place (ap in_inline c.requires.view) c.requires.placed)
 
 pub inline_expression::write_inline-follow-requires : goal.inline_expression::write_inline-follow-requires
+unfolding scope_parts
 inline_expression::write_inline-follow-requires g t c =
     let a = status g.B.Context.meant g.B.Context.is_plain g.F.FluentFunction.answer g.C.FluentType.content c.args.scope.now in
     let sized : inline_size (inline_view c.args.inline.now) ≡ 1 = ap inline_size (view_message_in c.args.inline.now c.in-MessageReference.id c.in-MessageReference.attribute c.in-MessageReference.is) in
@@ -695,6 +781,7 @@ inline_expression::write_inline-follow-requires g t c =
     λ κs h. (less, (h.0, (h.1.0, (h.1.1.0, (h.1.1.1, (below, c.message-found.ensures.led))))))
 
 pub inline_expression::write_inline-write_term-requires : goal.inline_expression::write_inline-write_term-requires
+unfolding scope_parts
 inline_expression::write_inline-write_term-requires g t c =
     let a = status g.B.Context.meant g.B.Context.is_plain g.F.FluentFunction.answer g.C.FluentType.content c.args.scope.now in
     let view = view_term_in c.args.inline.now c.in-TermReference.id c.in-TermReference.attribute c.in-TermReference.arguments c.in-TermReference.is in
@@ -703,9 +790,11 @@ inline_expression::write_inline-write_term-requires g t c =
     λ κs h. (less, (h.0, (h.1.0, (h.1.1.0, (h.1.1.1, (view, c.requires))))))
 
 pub inline_expression::write_inline-write_variable-requires : goal.inline_expression::write_inline-write_variable-requires
+unfolding scope_parts
 inline_expression::write_inline-write_variable-requires g t c = view_variable_in c.args.inline.now c.in-VariableReference.id c.in-VariableReference.is
 
 pub inline_expression::write_inline-write_expression-requires : goal.inline_expression::write_inline-write_expression-requires
+unfolding scope_parts
 inline_expression::write_inline-write_expression-requires g t c =
     let a = status g.B.Context.meant g.B.Context.is_plain g.F.FluentFunction.answer g.C.FluentType.content c.args.scope.now in
     let sized : inline_size (inline_view c.args.inline.now) ≡ 1 + expression_size (expression_view c.in-Placeable.expression.value) = ap inline_size (view_nested_in c.args.inline.now c.in-Placeable.expression c.in-Placeable.is) in
@@ -716,6 +805,7 @@ inline_expression::write_inline-write_expression-requires g t c =
     λ κs h. (less, (h.0, (h.1.0, (h.1.1.0, (h.1.1.1, placed)))))
 
 pub inline_expression::write_term-resolve_local-requires : goal.inline_expression::write_term-resolve_local-requires
+unfolding scope_parts
 inline_expression::write_term-resolve_local-requires g t c =
     let a = status g.B.Context.meant g.B.Context.is_plain g.F.FluentFunction.answer g.C.FluentType.content c.args.scope.now in
     let less = falls_to c.decreases (less_weight a.bundle a.bundle (call_size (call_view c.args.arguments.now)) (1 + call_size (call_view c.args.arguments.now)) (1 + at_most a.budget) (1 + at_most a.budget) refl (omega arith) (omega arith)) in
@@ -724,6 +814,7 @@ inline_expression::write_term-resolve_local-requires g t c =
     λ κs h. (less, (h.0, (h.1.0, (h.1.1.0, (h.1.1.1, placed)))))
 
 pub inline_expression::write_term-term-found-requires : goal.inline_expression::write_term-term-found-requires
+unfolding scope_parts
 inline_expression::write_term-term-found-requires g t c =
     let a = status g.B.Context.meant g.B.Context.is_plain g.F.FluentFunction.answer g.C.FluentType.content c.args.scope.now in
     let b = status g.B.Context.meant g.B.Context.is_plain g.F.FluentFunction.answer g.C.FluentType.content c.resolve_local.new.scope in
@@ -732,6 +823,7 @@ inline_expression::write_term-term-found-requires g t c =
     placed_still a b (r ∷ []) c.args.place kept.stored (placed_first a.stored.numbers (in_inline (inline_view c.args.inline.now)) r (in_call (call_view c.args.arguments.now)) c.args.place (ap in_inline c.requires.view) c.requires.placed)
 
 pub inline_expression::write_term-follow-written-requires : goal.inline_expression::write_term-follow-written-requires
+unfolding scope_parts
 inline_expression::write_term-follow-written-requires g t c =
     let a = status g.B.Context.meant g.B.Context.is_plain g.F.FluentFunction.answer g.C.FluentType.content c.args.scope.now in
     let b = status g.B.Context.meant g.B.Context.is_plain g.F.FluentFunction.answer g.C.FluentType.content c.resolve_local.new.scope in
@@ -740,6 +832,7 @@ inline_expression::write_term-follow-written-requires g t c =
     λ κs h. (less, (h.0, (h.1.0, (h.1.1.0, (h.1.1.1, (below, c.term-found.ensures.led))))))
 
 pub pattern::write_elements-write_placeable-requires : goal.pattern::write_elements-write_placeable-requires
+unfolding scope_parts
 pattern::write_elements-write_placeable-requires g t c =
     let a = status g.B.Context.meant g.B.Context.is_plain g.F.FluentFunction.answer g.C.FluentType.content c.args.scope.now in
     let b = status g.B.Context.meant g.B.Context.is_plain g.F.FluentFunction.answer g.C.FluentType.content c.loop-element.scope in
@@ -755,12 +848,15 @@ pattern::write_elements-write_placeable-requires g t c =
     λ κs h. (less, (h.0, (h.1.0, (h.1.1.0, (h.1.1.1, (left, placed))))))
 
 pub pattern::write_elements-returns-after-loop-element-clause-memory : goal.pattern::write_elements-returns-after-loop-element-clause-memory
+unfolding scope_parts
 pattern::write_elements-returns-after-loop-element-clause-memory g t c = λ h plain bare is. cc
 
 pub pattern::write_elements-returns-then-dirty-clause-memory : goal.pattern::write_elements-returns-then-dirty-clause-memory
+unfolding scope_parts
 pattern::write_elements-returns-then-dirty-clause-memory g t c = λ h plain bare is. cc
 
 pub pattern::write_pattern-write_elements-written-requires : goal.pattern::write_pattern-write_elements-written-requires
+unfolding scope_parts
 pattern::write_pattern-write_elements-written-requires g t c =
     let a = status g.B.Context.meant g.B.Context.is_plain g.F.FluentFunction.answer g.C.FluentType.content c.args.scope.now in
     let less = falls_to c.decreases (still_weight (size (pattern_view c.args.pattern.now)) (1 + size (pattern_view c.args.pattern.now)) c.begin-begun.ensures.elsewhere (omega arith)) in
@@ -769,6 +865,7 @@ pattern::write_pattern-write_elements-written-requires g t c =
     λ κs h. (less, (h.0, (h.1.0, (h.1.1.0, (h.1.1.1, placed)))))
 
 pub pattern::write_placeable-write_expression-requires : goal.pattern::write_placeable-write_expression-requires
+unfolding scope_parts
 pattern::write_placeable-write_expression-requires g t c =
     let a = status g.B.Context.meant g.B.Context.is_plain g.F.FluentFunction.answer g.C.FluentType.content c.args.scope.now in
     let less = falls_to c.decreases (taken_weight (expression_size (expression_view c.args.expression.now)) (1 + expression_size (expression_view c.args.expression.now)) c.if-not-take_one.false c.take_one.ensures.takes (omega arith)) in
@@ -777,9 +874,11 @@ pattern::write_placeable-write_expression-requires g t c =
     λ κs h. (less, (h.0, (h.1.0, (h.1.1.0, (h.1.1.1, placed)))))
 
 pub inline_expression::write_inline-returns-in-FunctionReference : goal.inline_expression::write_inline-returns-in-FunctionReference
+unfolding scope_parts
 inline_expression::write_inline-returns-in-FunctionReference g t c = c.write_function.ensures
 
 pub inline_expression::write_function-returns-in_err-positional : goal.inline_expression::write_function-returns-in_err-positional
+unfolding scope_parts
 inline_expression::write_function-returns-in_err-positional g t c =
     let a = status g.B.Context.meant g.B.Context.is_plain g.F.FluentFunction.answer g.C.FluentType.content c.args.scope.now in
     let out = c.args.out.now in
@@ -791,6 +890,7 @@ inline_expression::write_function-returns-in_err-positional g t c =
     ask_stops (λ p. walked a (answering x m p.0 p.1)) c.in_err-positional.was (search rules) gave begun
 
 pub inline_expression::write_function-returns : goal.inline_expression::write_function-returns
+unfolding scope_parts
 inline_expression::write_function-returns g t c =
     let a = status g.B.Context.meant g.B.Context.is_plain g.F.FluentFunction.answer g.C.FluentType.content c.args.scope.now in
     let out = c.args.out.now in
@@ -805,6 +905,7 @@ inline_expression::write_function-returns g t c =
     wrote (tail c.put_answer.ensures (turns (ap (λ ps. walked a (answering x m (map (value_view g.C.FluentType.content) ps) given_named) b.budget) (sym c.deref.ensures.value)) asked))
 
 pub inline_expression::write_term-returns-in_err-local : goal.inline_expression::write_term-returns-in_err-local
+unfolding scope_parts
 inline_expression::write_term-returns-in_err-local g t c =
     let a = status g.B.Context.meant g.B.Context.is_plain g.F.FluentFunction.answer g.C.FluentType.content c.args.scope.now in
     let out = c.args.out.now in
@@ -816,6 +917,7 @@ inline_expression::write_term-returns-in_err-local g t c =
     ask_stops (inside a x id at) c.in_err-local.was (search rules) gave (turns (term_at a x id at k a.budget c.requires.view) (starts a _ _))
 
 pub inline_expression::write_term-returns : goal.inline_expression::write_term-returns
+unfolding scope_parts
 inline_expression::write_term-returns g t c =
     let a = status g.B.Context.meant g.B.Context.is_plain g.F.FluentFunction.answer g.C.FluentType.content c.args.scope.now in
     let out = c.args.out.now in
@@ -835,11 +937,13 @@ inline_expression::write_term-returns g t c =
     wrote (lends refl refl refl refl refl refl (keeps_back kept w.went.along.passed.keeps refl refl refl refl refl refl refl refl refl refl refl refl outer) w (turns (inside_at a b x id at m (found_view c.term-found.result) kept.bundle kept.path inner led) asked))
 
 pub arguments::write_beside-returns : goal.arguments::write_beside-returns
+unfolding scope_parts
 arguments::write_beside-returns g t c =
     let out = c.write_inline.new.out in
     by_buffer g.W.Write.contents _ out.writer.ghost_name _ out.buffer.ghost_name c.args.w.now out.writer.now c.w-1.given.0 c.args.text.now out.buffer.now c.text-1.given.0 out.is_buffered (search rules) (search rules) c.write_inline.ensures
 
 pub arguments::resolve_function-returns : goal.arguments::resolve_function-returns
+unfolding scope_parts
 arguments::resolve_function-returns g t c =
     let a = status g.B.Context.meant g.B.Context.is_plain g.F.FluentFunction.answer g.C.FluentType.content c.args.scope.now in
     let m = c.args.id.now.name.now in
@@ -859,6 +963,7 @@ arguments::resolve_function-returns g t c =
     record { got = got c.unwrap_or.result (reads (ap (λ y. given y b.budget) (sym same)) gathered); rests = rests_ok c.in_ok-positional.was c.resolve_call.ensures.rests }
 
 pub arguments::resolve-returns-in_err-write_beside-in_default : goal.arguments::resolve-returns-in_err-write_beside-in_default
+unfolding scope_parts
 arguments::resolve-returns-in_err-write_beside-in_default g t c =
     let a = status g.B.Context.meant g.B.Context.is_plain g.F.FluentFunction.answer g.C.FluentType.content c.args.scope.now in
     let is = view_written c.args.inline.now c.in_default.not-StringLiteral c.in_default.not-NumberLiteral c.in_default.not-FunctionReference c.in_default.not-VariableReference in
@@ -871,6 +976,7 @@ arguments::resolve-returns-in_err-write_beside-in_default g t c =
     }
 
 pub arguments::resolve-returns-in_ok-write_beside-in_default : goal.arguments::resolve-returns-in_ok-write_beside-in_default
+unfolding scope_parts
 arguments::resolve-returns-in_ok-write_beside-in_default g t c =
     let a = status g.B.Context.meant g.B.Context.is_plain g.F.FluentFunction.answer g.C.FluentType.content c.args.scope.now in
     let is = view_written c.args.inline.now c.in_default.not-StringLiteral c.in_default.not-NumberLiteral c.in_default.not-FunctionReference c.in_default.not-VariableReference in
@@ -883,6 +989,7 @@ arguments::resolve-returns-in_ok-write_beside-in_default g t c =
     }
 
 pub arguments::resolve_call-returns-in_err-positional : goal.arguments::resolve_call-returns-in_err-positional
+unfolding scope_parts
 arguments::resolve_call-returns-in_err-positional g t c =
     let a = status g.B.Context.meant g.B.Context.is_plain g.F.FluentFunction.answer g.C.FluentType.content c.args.scope.now in
     let ns = named_in c.args.arguments.now in
@@ -890,6 +997,7 @@ arguments::resolve_call-returns-in_err-positional g t c =
     record { got = misses_as c.in_err-positional.was (search rules) (gets_part (naming_after a ns) c.resolve_positional.ensures.got (reads means (begins a _))); rests = rests_err c.in_err-positional.was (search rules) c.resolve_positional.ensures.rests }
 
 pub arguments::resolve_call-returns-in_err-named : goal.arguments::resolve_call-returns-in_err-named
+unfolding scope_parts
 arguments::resolve_call-returns-in_err-named g t c =
     let a = status g.B.Context.meant g.B.Context.is_plain g.F.FluentFunction.answer g.C.FluentType.content c.args.scope.now in
     let ns = c.deref-3.result.now in
@@ -899,6 +1007,7 @@ arguments::resolve_call-returns-in_err-named g t c =
     record { got = misses_as c.in_err-named.was (search rules) (gets_part (pairing vs) c.resolve_named.ensures.got first); rests = rests_on (rests_ok {T = Unit {0}} {x = tt} c.in_ok-positional.was c.resolve_positional.ensures.rests) (rests_err c.in_err-named.was (search rules) c.resolve_named.ensures.rests) }
 
 pub arguments::resolve_call-returns : goal.arguments::resolve_call-returns
+unfolding scope_parts
 arguments::resolve_call-returns g t c =
     let a = status g.B.Context.meant g.B.Context.is_plain g.F.FluentFunction.answer g.C.FluentType.content c.args.scope.now in
     let ns = c.deref-3.result.now in
@@ -908,11 +1017,13 @@ arguments::resolve_call-returns g t c =
     record { got = got (c.in_ok-positional.positional, c.in_ok-named.named) (gets (pairing vs) c.in_ok-named.was c.resolve_named.ensures.got first); rests = rests_on (rests_ok {T = Unit {0}} {x = tt} c.in_ok-positional.was c.resolve_positional.ensures.rests) (rests_ok c.in_ok-named.was c.resolve_named.ensures.rests) }
 
 pub arguments::resolve_positional-loop-argument-init : goal.arguments::resolve_positional-loop-argument-init
+unfolding scope_parts
 arguments::resolve_positional-loop-argument-init g t c =
     let a = status g.B.Context.meant g.B.Context.is_plain g.F.FluentFunction.answer g.C.FluentType.content c.args.scope.now in
     record { gathers = gathers_same (ap (map (value_view g.C.FluentType.content)) (sym c.new-values.ensures.items)) (gathers_none a _); rests = rests_same _; placed = c.requires }
 
 pub arguments::resolve_positional-loop-argument-preserved : goal.arguments::resolve_positional-loop-argument-preserved
+unfolding scope_parts
 arguments::resolve_positional-loop-argument-preserved g t c =
     let a = status g.B.Context.meant g.B.Context.is_plain g.F.FluentFunction.answer g.C.FluentType.content c.args.scope.now in
     let b = status g.B.Context.meant g.B.Context.is_plain g.F.FluentFunction.answer g.C.FluentType.content c.loop-argument.scope in
@@ -925,6 +1036,7 @@ arguments::resolve_positional-loop-argument-preserved g t c =
     record { gathers = gathers_same (sym c.in_ok-push_value.ensures) one; rests = rests_on before.rests (rests_ok c.in_ok-value.was c.resolve.ensures.rests); placed = leaves of_positional in_positional_list positional_in_turn c.args.arguments.now c.loop-argument.argument-index x c.loop-argument-test.true c.argument-item.is a.stored.numbers (seen c.loop-argument.place) (seen c.behind_inline-place.result) c.behind_inline-place.ensures before.placed }
 
 pub arguments::resolve_positional-returns-in_err-value : goal.arguments::resolve_positional-returns-in_err-value
+unfolding scope_parts
 arguments::resolve_positional-returns-in_err-value g t c =
     let a = status g.B.Context.meant g.B.Context.is_plain g.F.FluentFunction.answer g.C.FluentType.content c.args.scope.now in
     let b = status g.B.Context.meant g.B.Context.is_plain g.F.FluentFunction.answer g.C.FluentType.content c.loop-argument.scope in
@@ -936,6 +1048,7 @@ arguments::resolve_positional-returns-in_err-value g t c =
     record { got = gathers_stops_as (place_walk c.args.arguments.now) (λ vs. vs) c.in_err-value.was (search rules) refl (gathers_part (placing_more a rest) c.resolve.ensures.got here); rests = rests_on before.rests (rests_err c.in_err-value.was (search rules) c.resolve.ensures.rests) }
 
 pub arguments::resolve_positional-returns-in_err-push_value : goal.arguments::resolve_positional-returns-in_err-push_value
+unfolding scope_parts
 arguments::resolve_positional-returns-in_err-push_value g t c =
     let a = status g.B.Context.meant g.B.Context.is_plain g.F.FluentFunction.answer g.C.FluentType.content c.args.scope.now in
     let b = status g.B.Context.meant g.B.Context.is_plain g.F.FluentFunction.answer g.C.FluentType.content c.loop-argument.scope in
@@ -948,6 +1061,7 @@ arguments::resolve_positional-returns-in_err-push_value g t c =
     record { got = gathers_stops {e = fault.Memory} (place_walk c.args.arguments.now) (λ vs. vs) (search rules) refl one; rests = rests_on (rests_on before.rests (rests_ok {T = Unit {0}} {x = tt} c.in_ok-value.was c.resolve.ensures.rests)) (rests_memory _ (search rules)) }
 
 pub arguments::resolve_positional-returns : goal.arguments::resolve_positional-returns
+unfolding scope_parts
 arguments::resolve_positional-returns g t c =
     let a = status g.B.Context.meant g.B.Context.is_plain g.F.FluentFunction.answer g.C.FluentType.content c.args.scope.now in
     let b = status g.B.Context.meant g.B.Context.is_plain g.F.FluentFunction.answer g.C.FluentType.content c.loop-argument.scope in
@@ -956,11 +1070,13 @@ arguments::resolve_positional-returns g t c =
     record { got = gathers_all (place_walk c.args.arguments.now) (λ vs. vs) c.loop-argument.values refl refl (gathers_as (placing_end a _ b.budget none) before.gathers); rests = rests_ok {v = tt} refl before.rests }
 
 pub arguments::resolve_named-loop-argument-init : goal.arguments::resolve_named-loop-argument-init
+unfolding scope_parts
 arguments::resolve_named-loop-argument-init g t c =
     let a = status g.B.Context.meant g.B.Context.is_plain g.F.FluentFunction.answer g.C.FluentType.content c.args.scope.now in
     record { done = []; is = c.new-values.ensures; gathers = gathers_none a _; rests = rests_same _; placed = c.requires }
 
 pub arguments::resolve_named-loop-argument-preserved : goal.arguments::resolve_named-loop-argument-preserved
+unfolding scope_parts
 arguments::resolve_named-loop-argument-preserved g t c =
     let a = status g.B.Context.meant g.B.Context.is_plain g.F.FluentFunction.answer g.C.FluentType.content c.args.scope.now in
     let b = status g.B.Context.meant g.B.Context.is_plain g.F.FluentFunction.answer g.C.FluentType.content c.loop-argument.scope in
@@ -975,6 +1091,7 @@ arguments::resolve_named-loop-argument-preserved g t c =
     record { done = before.done ++ labelled k v ∷ []; is = c.in_ok-set.ensures ∙ ap (set k v) before.is ∙ sym (set_all_next before.done k v []); gathers = one; rests = rests_on before.rests (rests_ok c.in_ok-value.was c.resolve.ensures.rests); placed = leaves of_named in_named_list named_in_turn c.args.arguments.now c.loop-argument.argument-index x c.loop-argument-test.true c.argument-item.is a.stored.numbers (seen c.loop-argument.place) (seen c.behind_inline-place.result) c.behind_inline-place.ensures before.placed }
 
 pub arguments::resolve_named-returns-in_err-value : goal.arguments::resolve_named-returns-in_err-value
+unfolding scope_parts
 arguments::resolve_named-returns-in_err-value g t c =
     let a = status g.B.Context.meant g.B.Context.is_plain g.F.FluentFunction.answer g.C.FluentType.content c.args.scope.now in
     let b = status g.B.Context.meant g.B.Context.is_plain g.F.FluentFunction.answer g.C.FluentType.content c.loop-argument.scope in
@@ -987,6 +1104,7 @@ arguments::resolve_named-returns-in_err-value g t c =
     record { got = gathers_stops_as (label_walk c.args.arguments.now) (λ m. set_all m []) c.in_err-value.was (search rules) refl (gathers_part (labelling_more a rest k) c.resolve.ensures.got here); rests = rests_on before.rests (rests_err c.in_err-value.was (search rules) c.resolve.ensures.rests) }
 
 pub arguments::resolve_named-returns-in_err-set : goal.arguments::resolve_named-returns-in_err-set
+unfolding scope_parts
 arguments::resolve_named-returns-in_err-set g t c =
     let a = status g.B.Context.meant g.B.Context.is_plain g.F.FluentFunction.answer g.C.FluentType.content c.args.scope.now in
     let b = status g.B.Context.meant g.B.Context.is_plain g.F.FluentFunction.answer g.C.FluentType.content c.loop-argument.scope in
@@ -1000,6 +1118,7 @@ arguments::resolve_named-returns-in_err-set g t c =
     record { got = gathers_stops {e = fault.Memory} (label_walk c.args.arguments.now) (λ m. set_all m []) (search rules) refl one; rests = rests_on (rests_on before.rests (rests_ok {T = Unit {0}} {x = tt} c.in_ok-value.was c.resolve.ensures.rests)) (rests_memory _ (search rules)) }
 
 pub arguments::resolve_named-returns-in_err-args : goal.arguments::resolve_named-returns-in_err-args
+unfolding scope_parts
 arguments::resolve_named-returns-in_err-args g t c =
     let a = status g.B.Context.meant g.B.Context.is_plain g.F.FluentFunction.answer g.C.FluentType.content c.args.scope.now in
     let b = status g.B.Context.meant g.B.Context.is_plain g.F.FluentFunction.answer g.C.FluentType.content c.loop-argument.scope in
@@ -1007,6 +1126,7 @@ arguments::resolve_named-returns-in_err-args g t c =
     record { got = gathers_stops {e = fault.Memory} (label_walk c.args.arguments.now) (λ m. set_all m []) (search rules) refl before.gathers; rests = rests_on before.rests (rests_memory _ (search rules)) }
 
 pub arguments::resolve_named-returns : goal.arguments::resolve_named-returns
+unfolding scope_parts
 arguments::resolve_named-returns g t c =
     let a = status g.B.Context.meant g.B.Context.is_plain g.F.FluentFunction.answer g.C.FluentType.content c.args.scope.now in
     let b = status g.B.Context.meant g.B.Context.is_plain g.F.FluentFunction.answer g.C.FluentType.content c.loop-argument.scope in
@@ -1015,21 +1135,27 @@ arguments::resolve_named-returns g t c =
     record { got = gathers_all (label_walk c.args.arguments.now) (λ m. set_all m []) c.in_ok-args.args (c.in_ok-args.ensures ∙ before.is) refl (gathers_as (labelling_end a _ b.budget none) before.gathers); rests = rests_ok {v = tt} refl before.rests }
 
 pub arguments::resolve_positional-offset_bounds-arguments-argument-index : goal.arguments::resolve_positional-offset_bounds-arguments-argument-index
+unfolding scope_parts
 arguments::resolve_positional-offset_bounds-arguments-argument-index g t c = search rules
 
 pub arguments::resolve_positional-loop-argument-smaller : goal.arguments::resolve_positional-loop-argument-smaller
+unfolding scope_parts
 arguments::resolve_positional-loop-argument-smaller g t c = falls _ _ c.loop-argument-test.true
 
 pub arguments::resolve_named-offset_bounds-arguments-argument-index : goal.arguments::resolve_named-offset_bounds-arguments-argument-index
+unfolding scope_parts
 arguments::resolve_named-offset_bounds-arguments-argument-index g t c = search rules
 
 pub arguments::resolve_named-loop-argument-smaller : goal.arguments::resolve_named-loop-argument-smaller
+unfolding scope_parts
 arguments::resolve_named-loop-argument-smaller g t c = falls _ _ c.loop-argument-test.true
 
 pub arguments::resolve_named-fact_in-set : goal.arguments::resolve_named-fact_in-set
+unfolding scope_parts
 arguments::resolve_named-fact_in-set g t c = search rules
 
 pub variants::choose_by_value-returns-clause-placed : goal.variants::choose_by_value-returns-clause-placed
+unfolding scope_parts
 variants::choose_by_value-returns-clause-placed g t c =
     let a = status g.B.Context.meant g.B.Context.is_plain g.F.FluentFunction.answer g.C.FluentType.content c.args.scope.now in
     let vs = variants_of (map variant_view c.args.variants.now) in

@@ -18,6 +18,7 @@ invariant_of-self-in-Err g c =
     record { ordered = rise_after c.insert.result c.args.self.now.pairs.items c.insert.new.self.items c.in-Err.at c.args.name c.args.value c.args.self.now.ordered at c.insert.ensures.items }
 
 pub returns-in_err-insert-in-Err-clause-new_name : goal.returns-in_err-insert-in-Err-clause-new_name
+unfolding named
 returns-in_err-insert-in-Err-clause-new_name g c =
     let at = subst (λ t. IsPlaceOf t c.args.self.now.pairs.items (Err c.in-Err.at)) c.as_str.ensures.value c.in-Err.ensures in
     let absent : fin.get (cow_str_bytes c.args.name) (named g.C.FluentType.content c.args.self.now) ≡ None =
@@ -25,6 +26,7 @@ returns-in_err-insert-in-Err-clause-new_name g c =
     search (rules, absent)
 
 pub returns-in-Ok-clause-ok : goal.returns-in-Ok-clause-ok
+unfolding named
 returns-in-Ok-clause-ok g c =
     let at = subst (λ t. IsPlaceOf t c.args.self.now.pairs.items (Ok c.in-Ok.at)) c.as_str.ensures.value c.in-Ok.ensures in
     let of = value_view g.C.FluentType.content in
@@ -32,6 +34,7 @@ returns-in-Ok-clause-ok g c =
     put_there cow_str_bytes of c.args.self.now.pairs.items c.in-Ok.at c.args.name c.args.value up at.0 at.1
 
 pub returns-in_ok-insert-in-Err-clause-ok : goal.returns-in_ok-insert-in-Err-clause-ok
+unfolding named
 returns-in_ok-insert-in-Err-clause-ok g c =
     let at = subst (λ t. IsPlaceOf t c.args.self.now.pairs.items (Err c.in-Err.at)) c.as_str.ensures.value c.in-Err.ensures in
     let of = value_view g.C.FluentType.content in

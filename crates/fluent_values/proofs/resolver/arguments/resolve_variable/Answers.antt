@@ -3,7 +3,7 @@ use Rattle.std.specs.Option.{option_map}
 use Rattle.fluent_tree.specs.View.{inline_view}
 use Rattle.fluent_meaning.specs.Value.{error_value}
 use Rattle.fluent_values.specs.Along.{given}
-use Rattle.fluent_values.specs.Status.{status, arguments_view, environment_view}
+use Rattle.fluent_values.specs.Status.{status, arguments_view, environment_view, scope_parts}
 use Rattle.fluent_values.specs.View.{value_view, named}
 use Rattle.fluent_meaning.specs.Arguments.{get}
 use Rattle.fluent_meaning.specs.Walk.{variables}
@@ -12,6 +12,7 @@ use Rattle.fluent_values.proofs.Steps.{value_found, value_lost, value_unseen}
 use Rattle.fluent_values.proofs.resolver.arguments.resolve_variable.Goals as goal
 
 pub returns-in-Some : goal.returns-in-Some
+unfolding scope_parts
 returns-in-Some g c =
     let content = g.C.FluentType.content in
     let a = status g.B.Context.meant g.B.Context.is_plain g.F.FluentFunction.answer g.C.FluentType.content c.args.scope.now in
@@ -21,6 +22,7 @@ returns-in-Some g c =
     got_if (value_view content c.in-Some.value.now) (value_found a x id (value_view content c.in-Some.value.now) a.budget c.requires there) c.try_clone.ensures.same
 
 pub returns-in-None : goal.returns-in-None
+unfolding scope_parts
 returns-in-None g c =
     let content = g.C.FluentType.content in
     let a = status g.B.Context.meant g.B.Context.is_plain g.F.FluentFunction.answer g.C.FluentType.content c.args.scope.now in
@@ -29,6 +31,7 @@ returns-in-None g c =
     got _ (reads (value_unseen a x id (named content c.in-Local.args) a.budget c.requires (ap (environment_view content) c.in-Local.is) (sym c.get.ensures ∙ ap (option_map (λ v. value_view content v.now)) c.in-None.is)) (begins a _))
 
 pub returns-in-Some-argument : goal.returns-in-Some-argument
+unfolding scope_parts
 returns-in-Some-argument g c =
     let content = g.C.FluentType.content in
     let a = status g.B.Context.meant g.B.Context.is_plain g.F.FluentFunction.answer g.C.FluentType.content c.args.scope.now in
@@ -38,6 +41,7 @@ returns-in-Some-argument g c =
     got_if (value_view content c.in-Some-argument.value.now) (value_found a x id (value_view content c.in-Some-argument.value.now) a.budget c.requires there) c.lent.ensures
 
 pub returns-in_err-report_lost-in-None-argument : goal.returns-in_err-report_lost-in-None-argument
+unfolding scope_parts
 returns-in_err-report_lost-in-None-argument g c =
     let content = g.C.FluentType.content in
     let a = status g.B.Context.meant g.B.Context.is_plain g.F.FluentFunction.answer g.C.FluentType.content c.args.scope.now in
@@ -46,6 +50,7 @@ returns-in_err-report_lost-in-None-argument g c =
     misses (search rules) (tells_stops c.in_err-report_lost-in-None-argument.was c.report_lost.ensures (reads (value_lost a x id (arguments_view content c.in-Application.args) a.budget c.requires (ap (environment_view content) c.in-Application.is) (sym c.argument.ensures ∙ ap (option_map (λ v. value_view content v.now)) c.in-None-argument.is)) (begins a _)))
 
 pub returns-in_ok-report_lost-in-None-argument : goal.returns-in_ok-report_lost-in-None-argument
+unfolding scope_parts
 returns-in_ok-report_lost-in-None-argument g c =
     let content = g.C.FluentType.content in
     let a = status g.B.Context.meant g.B.Context.is_plain g.F.FluentFunction.answer g.C.FluentType.content c.args.scope.now in

@@ -3,18 +3,20 @@ use Rattle.fluent_tree.specs.Fallback.{fallback, in_braces}
 use Rattle.fluent_tree.specs.View.{inline_view}
 use Rattle.fluent_meaning.specs.Work.{work}
 use Rattle.fluent_values.specs.Along.{given}
-use Rattle.fluent_values.specs.Status.{status}
+use Rattle.fluent_values.specs.Status.{status, scope_parts}
 use Rattle.fluent_values.specs.Trail.{on_path}
 use Rattle.fluent_values.proofs.Along.{starts, turns, adds, refuses, puts_last, wrote}
 use Rattle.fluent_values.proofs.Cases.{loses_is}
 use Rattle.fluent_values.proofs.resolver.inline_expression.lose.Goals as goal
 
 pub returns-in_err-report_lost : goal.returns-in_err-report_lost
+unfolding scope_parts
 returns-in_err-report_lost g c =
     let a = status g.B.Context.meant g.B.Context.is_plain g.F.FluentFunction.answer g.C.FluentType.content c.args.scope.now in
     refuses c.in_err-report_lost.was (search rules) c.report_lost.ensures (turns (loses_is a.bundle (work a.bundle) a.environment (on_path a.path) (inline_view c.args.inline.now) a.budget) (starts a _ _))
 
 pub returns : goal.returns
+unfolding scope_parts
 returns g c =
     let a = status g.B.Context.meant g.B.Context.is_plain g.F.FluentFunction.answer g.C.FluentType.content c.args.scope.now in
     let x = inline_view c.args.inline.now in

@@ -1,7 +1,7 @@
 use Rattle.std.proofs.Common.{◌∙◌, ap, refl, length}
 use Rattle.fluent_tree.specs.View.{expression_view, pattern_view}
 use Rattle.fluent_values.specs.Along.{adding, from_here, trace}
-use Rattle.fluent_values.specs.Status.{status}
+use Rattle.fluent_values.specs.Status.{status, scope_parts}
 use Rattle.fluent_values.specs.Trail.{on_path}
 use Rattle.fluent_values.specs.Tracking.{closes}
 use Rattle.fluent_values.proofs.Along.{starts, turns, lends, wrote}
@@ -11,6 +11,7 @@ use Rattle.fluent_values.proofs.Tracking.{maybe_at}
 use Rattle.fluent_values.proofs.resolver.tracking.write_maybe_tracked.Goals as goal
 
 pub returns : goal.returns
+unfolding scope_parts
 returns g c =
     let a = status g.B.Context.meant g.B.Context.is_plain g.F.FluentFunction.answer g.C.FluentType.content c.args.scope.now in
     let b = status g.B.Context.meant g.B.Context.is_plain g.F.FluentFunction.answer g.C.FluentType.content c.begin-begun.new.self in

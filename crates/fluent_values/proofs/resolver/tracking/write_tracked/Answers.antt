@@ -3,7 +3,7 @@ use Rattle.fluent_tree.specs.Fallback.{fallback, in_braces}
 use Rattle.fluent_tree.specs.View.{inline_view, pattern_view}
 use Rattle.fluent_values.specs.Along.{adding, from_here, given, trace}
 use Rattle.fluent_meaning.specs.Walk.{is_on}
-use Rattle.fluent_values.specs.Status.{status}
+use Rattle.fluent_values.specs.Status.{status, scope_parts}
 use Rattle.fluent_values.specs.Trail.{content_at, on_path}
 use Rattle.fluent_values.proofs.Along.{starts, turns, adds, lends, memory_halts, passes, puts_last, refuses, wrote}
 use Rattle.fluent_values.proofs.Passing.{keeps_around, keeps_elsewhere, passed_still}
@@ -11,6 +11,7 @@ use Rattle.fluent_values.proofs.Steps.{cyclic_at, entered_at, going, wholing}
 use Rattle.fluent_values.proofs.resolver.tracking.write_tracked.Goals as goal
 
 pub returns-in_err-add_error : goal.returns-in_err-add_error
+unfolding scope_parts
 returns-in_err-add_error g c =
     let a = status g.B.Context.meant g.B.Context.is_plain g.F.FluentFunction.answer g.C.FluentType.content c.args.scope.now in
     let x = inline_view c.args.inline.now in
@@ -20,6 +21,7 @@ returns-in_err-add_error g c =
     refuses c.in_err-add_error.was (search rules) c.add_error.ensures.added begun
 
 pub returns-then-is_on : goal.returns-then-is_on
+unfolding scope_parts
 returns-then-is_on g c =
     let a = status g.B.Context.meant g.B.Context.is_plain g.F.FluentFunction.answer g.C.FluentType.content c.args.scope.now in
     let x = inline_view c.args.inline.now in
@@ -31,6 +33,7 @@ returns-then-is_on g c =
     wrote (puts_last c.put_in_braces.ensures (turns (ap (given shown) (sym c.add_error.ensures.added.budget)) reported))
 
 pub returns-in_err-enter : goal.returns-in_err-enter
+unfolding scope_parts
 returns-in_err-enter g c =
     let a = status g.B.Context.meant g.B.Context.is_plain g.F.FluentFunction.answer g.C.FluentType.content c.args.scope.now in
     let before = c.enter.ensures.elsewhere in
@@ -38,6 +41,7 @@ returns-in_err-enter g c =
     memory_halts (search rules) (passes refl (passed_still before.errors c.enter.ensures.tally kept) (starts a _ _))
 
 pub returns : goal.returns
+unfolding scope_parts
 returns g c =
     let a = status g.B.Context.meant g.B.Context.is_plain g.F.FluentFunction.answer g.C.FluentType.content c.args.scope.now in
     let b = status g.B.Context.meant g.B.Context.is_plain g.F.FluentFunction.answer g.C.FluentType.content c.enter.new.self in

@@ -8,7 +8,7 @@ use Rattle.fluent_meaning.specs.Value.{Value, error_value}
 use Rattle.fluent_meaning.specs.Walk.{variables}
 use Rattle.fluent_values.specs.Along.{given, mapping}
 use Rattle.fluent_values.specs.Choice.{choice, first_default}
-use Rattle.fluent_values.specs.Status.{status, arguments_view, environment_view}
+use Rattle.fluent_values.specs.Status.{status, arguments_view, environment_view, scope_parts}
 use Rattle.fluent_values.specs.View.{value_view, named}
 use Rattle.fluent_values.proofs.Choice.{error_chooses}
 use Rattle.fluent_values.proofs.Values.{begins, reads, got, misses, tells_on, tells_stops}
@@ -16,6 +16,7 @@ use Rattle.fluent_values.proofs.Steps.{value_found, value_lost, value_unseen}
 use Rattle.fluent_values.proofs.resolver.variants.choose_by_variable.Goals as goal
 
 pub returns-in-Some-clause-chose : goal.returns-in-Some-clause-chose
+unfolding scope_parts
 returns-in-Some-clause-chose g c =
     let content = g.C.FluentType.content in
     let a = status g.B.Context.meant g.B.Context.is_plain g.F.FluentFunction.answer g.C.FluentType.content c.args.scope.now in
@@ -28,6 +29,7 @@ returns-in-Some-clause-chose g c =
     got _ (reads (found ∙ ap (λ o. given o a.budget) (sym c.choose.ensures.chose)) (begins a _))
 
 pub returns-in-None-clause-chose : goal.returns-in-None-clause-chose
+unfolding scope_parts
 returns-in-None-clause-chose g c =
     let content = g.C.FluentType.content in
     let a = status g.B.Context.meant g.B.Context.is_plain g.F.FluentFunction.answer g.C.FluentType.content c.args.scope.now in
@@ -39,6 +41,7 @@ returns-in-None-clause-chose g c =
     got _ (reads (unseen ∙ ap (λ o. given o a.budget) (error_chooses a.bundle (first_default vs) vs ∙ sym c.first_default.ensures.chose)) (begins a _))
 
 pub returns-in-Some-argument-clause-chose : goal.returns-in-Some-argument-clause-chose
+unfolding scope_parts
 returns-in-Some-argument-clause-chose g c =
     let content = g.C.FluentType.content in
     let a = status g.B.Context.meant g.B.Context.is_plain g.F.FluentFunction.answer g.C.FluentType.content c.args.scope.now in
@@ -51,6 +54,7 @@ returns-in-Some-argument-clause-chose g c =
     got _ (reads (found ∙ ap (λ o. given o a.budget) (sym c.choose-in-Some-argument.ensures.chose)) (begins a _))
 
 pub returns-in_err-report_lost-in-None-argument-clause-chose : goal.returns-in_err-report_lost-in-None-argument-clause-chose
+unfolding scope_parts
 returns-in_err-report_lost-in-None-argument-clause-chose g c =
     let content = g.C.FluentType.content in
     let a = status g.B.Context.meant g.B.Context.is_plain g.F.FluentFunction.answer g.C.FluentType.content c.args.scope.now in
@@ -62,6 +66,7 @@ returns-in_err-report_lost-in-None-argument-clause-chose g c =
     misses (search rules) (tells_stops c.in_err-report_lost-in-None-argument.was c.report_lost.ensures (reads lost (begins a _)))
 
 pub returns-in_ok-report_lost-in-None-argument-clause-chose : goal.returns-in_ok-report_lost-in-None-argument-clause-chose
+unfolding scope_parts
 returns-in_ok-report_lost-in-None-argument-clause-chose g c =
     let content = g.C.FluentType.content in
     let a = status g.B.Context.meant g.B.Context.is_plain g.F.FluentFunction.answer g.C.FluentType.content c.args.scope.now in

@@ -1,17 +1,19 @@
 use Rattle.std.proofs.Common.{◌∙◌, ap, sym, subst, rules}
 use Rattle.fluent_meaning.specs.Walk.{is_on}
-use Rattle.fluent_values.specs.Trail.{AreClassed, content_at, on_path}
+use Rattle.fluent_values.specs.Trail.{AreClassed, content_at, on_path, trail}
 use Rattle.fluent_values.proofs.Classed.{first_classed, is_first, is_later, is_next, is_not_next, next_classed, none_next, others_classed}
 use Rattle.fluent_values.proofs.resolver.path.Path.is_on.Goals.{in_default-via-in-None-1, in_default-via-in-Some-other+else-is_like-2}
 use Rattle.fluent_values.proofs.resolver.path.Path.is_on.Goals as goal
 
 pub returns-then-is_like : goal.returns-then-is_like
+unfolding trail
 returns-then-is_like c = λ table distinct all own.
     let bottom = c.args.self.now.bottom in
     let others = c.args.self.now.others.items in
     is_first bottom c.in-Some.bottom others (content_at c.args.step.now) _ c.in-Some.is (c.is_like.ensures table distinct (first_classed table bottom c.in-Some.bottom others c.in-Some.is all) own) c.if-is_like.true
 
 pub loop-other-init : goal.loop-other-init
+unfolding trail
 loop-other-init c = λ table distinct all own.
     let bottom = c.args.self.now.bottom in
     let others = c.args.self.now.others.items in
@@ -20,6 +22,7 @@ loop-other-init c = λ table distinct all own.
     ∙ ap (λ xs. is_on (on_path xs) p) (sym c.as_slice-other-items.ensures)
 
 pub returns-in-loop-other : goal.returns-in-loop-other
+unfolding trail
 returns-in-loop-other c = λ table distinct all own.
     let items = c.as_slice-other-items.result.now in
     let p = content_at c.args.step.now in
@@ -29,6 +32,7 @@ returns-in-loop-other c = λ table distinct all own.
     ∙ sym (c.loop-other.invariant table distinct all own)
 
 pub loop-other-preserved : goal.loop-other-preserved
+unfolding trail
 loop-other-preserved c = λ table distinct all own.
     let items = c.as_slice-other-items.result.now in
     let i = c.loop-other.other-index in

@@ -2,23 +2,26 @@ use Rattle.std.proofs.Common.{rules, ap, []}
 use Rattle.std.specs.Option.{option_map}
 use Rattle.fluent_tree.specs.View.{arguments_view}
 use Rattle.fluent_values.specs.Along.{from_here}
-use Rattle.fluent_values.specs.Status.{status}
+use Rattle.fluent_values.specs.Status.{status, scope_parts}
 use Rattle.fluent_values.specs.Tracking.{calling}
 use Rattle.fluent_values.proofs.Tracking.{calling_runs}
 use Rattle.fluent_values.proofs.Values.{got_if}
 use Rattle.fluent_values.proofs.resolver.scope.Scope.get_arguments.Goals as goal
 
 pub returns-in_default-clause-got : goal.returns-in_default-clause-got
+unfolding scope_parts
 returns-in_default-clause-got g c =
     let a = status g.B.Context.meant g.B.Context.is_plain g.F.FluentFunction.answer g.C.FluentType.content c.args.self.now in
     got_if ([], []) (ap (λ o. from_here a (calling (option_map (λ k. arguments_view k.now) o))) c.in_default.is) (search rules)
 
 pub returns-in-Ok-clause-runs : goal.returns-in-Ok-clause-runs
+unfolding scope_parts
 returns-in-Ok-clause-runs g c =
     let a = status g.B.Context.meant g.B.Context.is_plain g.F.FluentFunction.answer g.C.FluentType.content c.args.self.now in
     calling_runs c.calls_pass_through.ensures a (option_map (λ k. arguments_view k.now) c.args.arguments)
 
 pub returns-clause-runs : goal.returns-clause-runs
+unfolding scope_parts
 returns-clause-runs g c =
     let a = status g.B.Context.meant g.B.Context.is_plain g.F.FluentFunction.answer g.C.FluentType.content c.args.self.now in
     calling_runs c.calls_pass_through.ensures a (option_map (λ k. arguments_view k.now) c.args.arguments)

@@ -1,9 +1,10 @@
 use Rattle.fluent_tree.specs.View.{inline_view}
-use Rattle.fluent_values.specs.Status.{status}
+use Rattle.fluent_values.specs.Status.{status, scope_parts}
 use Rattle.fluent_values.proofs.Tracking.{losing_runs}
 use Rattle.fluent_values.proofs.resolver.scope.Scope.write_ref_error.Goals as goal
 
 pub returns-clause-runs : goal.returns-clause-runs
+unfolding scope_parts
 returns-clause-runs g c =
     let a = status g.B.Context.meant g.B.Context.is_plain g.F.FluentFunction.answer g.C.FluentType.content c.args.self.now in
     losing_runs a (inline_view c.args.inline.now)

@@ -6,6 +6,7 @@ use Rattle.fluent_values.proofs.Pairs.{rise_seen}
 use Rattle.fluent_values.proofs.types.merge.FluentNumberOptionsMergeArgs.merge.Goals as goal
 
 pub returns-clause-ok : goal.returns-clause-ok
+unfolding named
 returns-clause-ok g c =
     let m = named g.C.FluentType.content c.args.args.now in
     c.merge_digits.ensures ∙ ap (with_digits m) (c.merge_kinds.ensures ∙ ap (with_kinds m) c.in_ok-merge_currency.ensures.ok)
