@@ -1,9 +1,12 @@
 -- Links gathered part after part.
-use Rattle.std.proofs.Common.{◌≡◌, ℕ, ◌+◌, ◌<◌, List, [], ◌∷◌, ◌++◌, length, get_or, map, drop, take, Bool, true, false, is_some, if◌then◌else◌, Option, Some, None, refl, ap, sym, subst, ◌∙◌}
+use Rattle.std.proofs.Common.{◌≡◌, ℕ, ◌+◌, ◌<◌, List, [], ◌∷◌, ◌++◌, length, get_or, map, drop, take, Bool, true, false, is_some, nat_eq, true≢false, arith, if◌then◌else◌, Option, Some, None, refl, ap, sym, subst, ◌∙◌, unwrap_or}
+use Rattle.std.proofs.lemmas.Bool.{eqb-true}
 use Rattle.std.proofs.lemmas.List.{append_assoc, append-nil, map-append, take-append-drop, take_more}
 use Rattle.std.proofs.lemmas.List.Sums.{fold-append}
-use Rattle.fluent_tree.specs.Tree.{Text}
-use Rattle.fluent_tree.specs.References.{Reference}
+use Rattle.fluent_tree.specs.Tree.{Text, Pattern}
+use Rattle.fluent_tree.specs.References.{Reference, references}
+use Rattle.fluent_links.specs.Classes.{HasClass, with_class}
+use Rattle.fluent_links.specs.Linked.{IsClassOf, are_some, with_referring}
 use Rattle.fluent_links.specs.Links.{id_of, KeepsNumbers}
 use Rattle.fluent_links.specs.Linking.{AppendsLinks, SlotsOfFront, with_slots}
 use Rattle.fluent_links.specs.Numbered.{AreNumbers, keeps_numbers}
@@ -99,3 +102,31 @@ module _ {P : Type 0} (f : P → List Reference) (L : List P → List Reference)
   -- after one more part
   pub adds_next : {X : Type 0} (xs : List P) (i : ℕ) (x : P) → i < length xs → x ≡ get_or xs i x → (a b c : Entries X) (ls ls' ls'' : List ℕ) → AppendsLinks a b ls ls' (L (take i xs)) → AppendsLinks b c ls' ls'' (f x) → AppendsLinks a c ls ls'' (L (take (i + 1) xs))
   adds_next xs i x h is a b c ls ls' ls'' first second = adds_as a c ls ls'' (L (take i xs) ++ f x) (L (take (i + 1) xs)) (next_taken xs i x h is) (adds_on a b c ls ls' ls'' (L (take i xs)) (f x) first second)
+
+-- ---- whether anything is referred to
+
+-- no links are those of no references
+pub none_referred : (number : Text → Option ℕ) (rs : List Reference) (ls : List ℕ) → ls ≡ [] → AreNumbers number rs ls → rs ≡ []
+none_referred number [] ls h are = refl
+none_referred number (r ∷ rs) [] h are = absurd cc
+none_referred number (r ∷ rs) (l ∷ ls) h are = absurd cc
+
+-- by a test of their count
+pub no_items : (ls : List ℕ) (b : Bool) → b ≡ nat_eq (length ls) 0 → b ≡ true → ls ≡ []
+no_items [] b is h = refl
+no_items (l ∷ ls) b is h = let e : length (l ∷ ls) ≡ 0 = eqb-true (length (l ∷ ls)) 0 (sym is ∙ h) in absurd (omega (arith, e))
+
+pub some_items : (ls : List ℕ) (b : Bool) → b ≡ nat_eq (length ls) 0 → b ≡ false → ls ≡ [] → ⊥
+some_items ls b is h none = true≢false (ap (λ ls. nat_eq (length ls) 0) (sym none) ∙ sym is ∙ h)
+
+-- where there are links, the content is stored
+pub referring : (number : Text → Option ℕ) (rs : List Reference) (ls : List ℕ) (p : Pattern) (table : List Pattern) → (ls ≡ [] → ⊥) → AreNumbers number rs ls → with_class p table ≡ with_referring rs p table
+referring number [] [] p table some are = absurd (some refl)
+referring number [] (l ∷ ls) p table some are = absurd cc
+referring number (r ∷ rs) ls p table some are = refl
+
+pub has_class : (table : List Pattern) (p : Pattern) (class : ℕ) → HasClass table class p → IsClassOf table p (Some class)
+has_class table p class h = (λ c at. subst (λ n. HasClass table n p) (ap (λ o. unwrap_or o class) at) h, λ none. absurd cc)
+
+pub no_class : (table : List Pattern) (p : Pattern) → references p ≡ [] → IsClassOf table p None
+no_class table p h = (λ c at. absurd cc, λ none. ap are_some h)

@@ -147,17 +147,17 @@ module _ {K X : Type 0} (key : K → Text) where
           (later (omega (arith, rest)))
 
 -- the same of slots
-module _ {K X : Type 0} (key : K → Text) (es : List (K × Option X)) (n : ℕ) (x : X) where
-  flat_cond : (b : Bool) (o : Option (Option X)) → flat (cond b (Some (Some x)) o) ≡ cond b (Some x) (flat o)
+module _ {K X : Type 0} (key : K → Text) (es : List (K × Option X)) (n : ℕ) (x : Option X) where
+  flat_cond : (b : Bool) (o : Option (Option X)) → flat (cond b (Some x) o) ≡ cond b x (flat o)
   flat_cond true o = refl
   flat_cond false o = refl
 
   pub filled : (id : Text) → number (seen key es) id ≡ Some n → (q : Text)
-      → named q (seen key (set_value_at es n (Some x))) ≡ cond (bytes_eq id q) (Some x) (named q (seen key es))
+      → named q (seen key (set_value_at es n x)) ≡ cond (bytes_eq id q) x (named q (seen key es))
   filled id h q =
       let at = placed _ (position_or_len (bytes_eq id) (keys_of (seen key es))) n h in
       let within : n < length (keys_of (seen key es)) = subst (λ m. m < length (keys_of (seen key es))) at.1 (ltb-true _ _ at.0) in
-      ap flat (set_at key es n (Some x) id q at.1 (omega (arith, within, all_of es))) ∙ flat_cond (bytes_eq id q) (lookup (bytes_eq q) (seen key es))
+      ap flat (set_at key es n x id q at.1 (omega (arith, within, all_of es))) ∙ flat_cond (bytes_eq id q) (lookup (bytes_eq q) (seen key es))
     where
       all_of : (fs : List (K × Option X)) → length (keys_of (seen key fs)) ≡ length fs
       all_of [] = refl

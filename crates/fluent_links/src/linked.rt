@@ -5,7 +5,7 @@ ghost use Rattle.fluent_tree.specs.Tree.{Text};
 ghost use Rattle.fluent_tree.specs.View.{pattern_view};
 ghost use Rattle.fluent_tree.specs.References.{references};
 ghost use Rattle.fluent_links.specs.Links.{IsBefore, KeepsNumbers};
-ghost use Rattle.fluent_links.specs.Classes.{Grows, with_class};
+ghost use Rattle.fluent_links.specs.Classes.{Grows};
 ghost use Rattle.fluent_links.specs.Linking.{SlotsOfFront, with_slots};
 ghost use Rattle.fluent_links.specs.Places.{seen};
 ghost use Rattle.fluent_links.specs.Slots.{named, number, slots as slots_of};
@@ -18,19 +18,19 @@ use crate::slots::Slots;
 use fluent_tree::ast::Pattern;
 use std::alloc::{AllocError, Global};
 
-/// What is kept of a stored pattern: the number of its content among all that are stored, and the numbers of the ids
-/// that it refers to, in the order of the tree.
+/// What is kept of a stored pattern: the numbers of the ids that it refers to, in the order of the tree, and, where it
+/// refers to any, the number of its content among all that do.
 #[derive(Drop)]
 pub struct Linked {
-    class: u32,
+    class: Option<u32>,
     links: Vec<u32>,
 }
 
 impl Linked {
-    ghost use Rattle.fluent_links.specs.Linked.{class_of, links_of, IsOf};
+    ghost use Rattle.fluent_links.specs.Linked.{class_of, links_of, with_content, IsOf};
 
-    /// The class of its content.
-    pub fn class(&self) -> u32
+    /// The class of its content, if it has one.
+    pub fn class(&self) -> Option<u32>
         ensures { result ≡ class_of self.now }
     {
         self.class
@@ -45,8 +45,8 @@ impl Linked {
         Place::from_links(&self.links)
     }
 
-    /// Links a pattern that is going to be stored: it gets its class, and each id that it refers to a number. What ids
-    /// name stays. Of a pattern that refers to nothing no links are kept.
+    /// Links a pattern that is going to be stored: each id that it refers to gets a number, and the pattern its class,
+    /// where there are such ids. What ids name stays.
     ///
     /// # Errors
     ///
@@ -63,11 +63,11 @@ impl Linked {
         ensures numbers { KeepsNumbers (number (slots_of slots.old)) (number (slots_of slots.new)) }
         ensures named { (q : Text) → named q (slots_of slots.new) ≡ named q (slots_of slots.old) }
         ensures classes { Grows (table classes.old) (table classes.new) }
-        // Each reference has a slot, and the content a class.
+        // Each reference has a slot, and the content a class, where it refers to anything.
         ensures slots { OnOk result (slots_of slots.new
             ≡ with_slots (references (pattern_view pattern.now)) (slots_of slots.old)) }
         ensures stored { OnOk result (table classes.new
-            ≡ with_class (pattern_view pattern.now) (table classes.old)) }
+            ≡ with_content (pattern_view pattern.now) (table classes.old)) }
         // The first references may have slots, but no content is stored.
         ensures begun { OnErr result (SlotsOfFront (slots_of slots.old) (slots_of slots.new)
             (references (pattern_view pattern.now))) }
@@ -75,7 +75,13 @@ impl Linked {
     {
         let mut links = Vec::new(alloc);
         link_pattern(&mut links, slots, pattern)?;
+        if links.is_empty() {
+            return Ok(Linked { class: None, links });
+        }
         let class = classes.class_of(pattern)?;
-        Ok(Linked { class, links })
+        Ok(Linked {
+            class: Some(class),
+            links,
+        })
     }
 }

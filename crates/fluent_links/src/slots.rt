@@ -91,19 +91,19 @@ impl<'s, X: Drop> Slots<'s, X> {
         Ok(())
     }
 
-    /// Puts what it names into the slot of an id with this number, in place of what stood there.
+    /// Puts what it names, if anything, into the slot of an id with this number, in place of what stood there.
     #[tactic(auto, unfolding(crate::specs::Slots::slots))]
-    pub fn fill(&mut self, number: u32, x: X)
+    pub fn fill(&mut self, number: u32, x: Option<X>)
         ensures numbers { (id : Text) →
             number_in (slots self.new) id ≡ number_in (slots self.old) id }
         ensures filled { (id : Text) → number_in (slots self.old) id ≡ Some number → (q : Text) →
             named q (slots self.new)
-            ≡ (if bytes_eq id q then Some x else named q (slots self.old)) }
+            ≡ (if bytes_eq id q then x else named q (slots self.old)) }
         // A number beyond them changes nothing.
-        ensures set { slots self.new ≡ set_value_at (slots self.old) number (Some x) }
+        ensures set { slots self.new ≡ set_value_at (slots self.old) number x }
     {
         if let Some(slot) = self.ids.get_index_mut(number as usize) {
-            *slot = Some(x);
+            *slot = x;
         }
     }
 }

@@ -18,8 +18,8 @@ pub fn link<'r>(
     }
 }
 
-/// That a pattern has this class, and that its links are these numbers.
-fn is_linked(linked: &Linked, class: u32, numbers: &[u32]) -> bool {
+/// That a pattern has this class, or none, and that its links are these numbers.
+fn is_linked(linked: &Linked, class: Option<u32>, numbers: &[u32]) -> bool {
     let mut place = linked.place();
     for number in numbers {
         if place.first() != Some(*number) {
@@ -41,9 +41,9 @@ fn references_are_numbered_in_order(rt: HostRuntime) -> Result<(), Fail> {
     let mut slots = Slots::new(alloc);
     let mut classes = Classes::new(alloc);
     let linked = link(alloc, &mut slots, &mut classes, &first)?;
-    assert!(rt; is_linked(&linked, 0, WHOLE), "the whole");
+    assert!(rt; is_linked(&linked, Some(0), WHOLE), "the whole");
     let again = link(alloc, &mut slots, &mut classes, &second)?;
-    assert!(rt; is_linked(&again, 0, WHOLE), "the same again");
+    assert!(rt; is_linked(&again, Some(0), WHOLE), "the same again");
     assert!(rt; number_of(&mut slots, "f")? == 9, "the last");
     assert!(rt;
         number_of(&mut slots, "v")? == 10,
@@ -64,13 +64,13 @@ fn linking_goes_on_behind_earlier_slots(rt: HostRuntime) -> Result<(), Fail> {
     let mut slots = Slots::new(alloc);
     let mut classes = Classes::new(alloc);
     number_of(&mut slots, "b")?;
-    slots.fill(0, 7);
+    slots.fill(0, Some(7));
     let linked = link(alloc, &mut slots, &mut classes, &plain)?;
-    assert!(rt; is_linked(&linked, 0, &[]), "a text");
+    assert!(rt; is_linked(&linked, None, &[]), "a text");
     let linked = link(alloc, &mut slots, &mut classes, &asked)?;
-    assert!(rt; is_linked(&linked, 1, &[]), "a variable");
+    assert!(rt; is_linked(&linked, None, &[]), "a variable");
     let linked = link(alloc, &mut slots, &mut classes, &tree)?;
-    assert!(rt; is_linked(&linked, 2, &[1]), "a message");
+    assert!(rt; is_linked(&linked, Some(0), &[1]), "a message");
     assert!(rt; slots.find("b") == Some(&7) && slots.find("a").is_none());
     Ok(())
 }

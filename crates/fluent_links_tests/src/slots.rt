@@ -73,7 +73,7 @@ fn slots_hold_what_was_put_there_last(rt: HostRuntime) -> Result<(), Fail> {
     }
     assert!(rt; hold(&slots, (None, None, None)), "before");
     for (number, value, named) in FILLED {
-        slots.fill(*number, *value);
+        slots.fill(*number, Some(*value));
         assert!(rt; hold(&slots, *named), "behind {value} at {number}");
     }
     Ok(())
@@ -84,7 +84,7 @@ fn slots_hold_what_was_put_there_last(rt: HostRuntime) -> Result<(), Fail> {
 fn a_new_slot_is_empty(rt: HostRuntime) -> Result<(), Fail> {
     let mut slots = Slots::new(rt.alloc());
     number_of(&mut slots, "a")?;
-    slots.fill(0, 7);
+    slots.fill(0, Some(7));
     number_of(&mut slots, "b")?;
     assert!(rt; hold(&slots, (Some(7), None, None)));
     Ok(())

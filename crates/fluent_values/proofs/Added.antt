@@ -1,10 +1,5 @@
 -- Adding entry by entry.
-use Rattle.std.specs.Prelude.{◌≡◌, ℕ, List, [], ◌∷◌, ◌++◌, map, refl, cond, true, false, Bool, ◌||◌, take, drop, length, ◌<◌, ◌+◌, is_some, Option, Some}
-use Rattle.std.specs.Ordering.{nat_cmp, eq_by_cmp}
-use Rattle.std.specs.Cmp.{eq_by_cmp_equiv}
-use Rattle.std.specs.Cmp.Lexicographic.{slice_cmp, nat_list_cmp_total, texts_ties}
-use Rattle.std.specs.FinMap.Entries.{find-put}
-use Rattle.std.specs.Str.{bytes_eq}
+use Rattle.std.specs.Prelude.{◌≡◌, ℕ, List, [], ◌∷◌, ◌++◌, map, refl, take, drop, length, ◌<◌, ◌+◌}
 use Rattle.std.proofs.Common.{sym, ◌∙◌, ap, get_or, append_assoc}
 use Rattle.std.proofs.lemmas.List.{drop_more, map_more, append-nil}
 use Rattle.fluent_tree.specs.Tree.{Text, Entry, message_entry, term_entry, junk_entry}
@@ -14,12 +9,6 @@ use Rattle.fluent_meaning.specs.Arguments.{Map, get, set}
 use Rattle.fluent_meaning.specs.Bundle.{added, overridden, not_added, add_free, error_if_taken, a_message, a_term}
 use Rattle.fluent_meaning.specs.Bundle as m
 use Rattle.fluent_meaning.specs.Errors.{Error, Kind, message_kind, term_kind}
-
-or_seen : (known seen equal : Bool) → cond equal true (known || seen) ≡ (known || cond equal true seen)
-or_seen true seen true = refl
-or_seen true seen false = refl
-or_seen false seen true = refl
-or_seen false seen false = refl
 
 module _ {C : Type 0} where
   pub added_append : (es fs : List Entry) (ids : Map (m.Entry C)) → added (es ++ fs) ids ≡ added fs (added es ids)
@@ -81,22 +70,3 @@ module _ {C : Type 0} where
   -- what an entry by itself tells
   pub alone : (kind : Kind) (id : Text) (ids : Map (m.Entry C)) (so more : List Error) → more ≡ so ++ error_if_taken kind id ids → more ≡ so ++ (error_if_taken kind id ids ++ [])
   alone kind id ids so more told = told ∙ ap (λ r. so ++ r) (sym (append-nil (error_if_taken kind id ids)))
-
-  -- ---- which ids are taken
-
-  some_cond : (b : Bool) (e : m.Entry C) (o : Option (m.Entry C)) → is_some (cond b (Some e) o) ≡ cond b true (is_some o)
-  some_cond true e o = refl
-  some_cond false e o = refl
-
-  is_set : (id q : Text) (e : m.Entry C) (ids : Map (m.Entry C)) → is_some (get q (set id e ids)) ≡ cond (bytes_eq id q) true (is_some (get q ids))
-  is_set id q e ids =
-      let tied : eq_by_cmp (slice_cmp nat_cmp) q id ≡ bytes_eq id q = sym (texts_ties id q ∙ (eq_by_cmp_equiv nat_list_cmp_total).symm id q) in
-      ap is_some (find-put (slice_cmp nat_cmp) nat_list_cmp_total q id e ids) ∙ ap (λ b. is_some (cond b (Some e) (get q ids))) tied ∙ some_cond (bytes_eq id q) e (get q ids)
-
-  -- an id that was free is taken once it was seen
-  pub taken_more : (known seen now : Text → Bool) (id : Text) (e : m.Entry C) (ids : Map (m.Entry C)) → is_some (get id ids) ≡ false
-      → ((q : Text) → is_some (get q ids) ≡ (known q || seen q)) → ((q : Text) → now q ≡ cond (bytes_eq id q) true (seen q))
-      → (q : Text) → is_some (get q (add_free id e ids)) ≡ (known q || now q)
-  taken_more known seen now id e ids free taken more q =
-      ap (λ b. is_some (get q (cond b ids (set id e ids)))) free ∙ is_set id q e ids ∙ ap (cond (bytes_eq id q) true) (taken q)
-      ∙ or_seen (known q) (seen q) (bytes_eq id q) ∙ ap (λ b. known q || b) (sym (more q))

@@ -16,6 +16,7 @@ pub mod Own
 pub mod ByName
 pub mod Added
 pub mod Waiting
+pub mod Undone
 pub mod Linking
 pub mod Passing
 pub mod Along

@@ -8,14 +8,14 @@ use Rattle.fluent_tree.specs.declared.ast.Entry as code
 use Rattle.fluent_links.specs.Classes.{Grows}
 use Rattle.fluent_links.specs.Links.{KeepsNumbers}
 use Rattle.fluent_meaning.specs.Arguments.{Map, set, set_all}
-use Rattle.fluent_meaning.specs.Bundle.{Function, added, overridden, add_free, a_message, a_term}
+use Rattle.fluent_meaning.specs.Bundle.{Function, overridden, a_message, a_term}
 use Rattle.fluent_meaning.specs.Bundle as m
 use Rattle.fluent_values.specs.declared.ready.Ready.{Ready}
 use Rattle.fluent_values.specs.EntryView.{entry_of}
 use Rattle.fluent_values.specs.Named.{own_id}
 use Rattle.fluent_values.specs.Linking.{IsLinked}
 use Rattle.fluent_values.proofs.Linking.{grows_by, kept_by, still_linked}
-use Rattle.fluent_values.specs.Adding.{AreReady, waiting, given, add_each}
+use Rattle.fluent_values.specs.Adding.{AreReady, waiting, given}
 
 -- where all were taken none is left
 pub none_left : {A : Type 0} (taken all rest : List A) → all ≡ taken ++ rest → taken ≡ all → rest ≡ []
@@ -23,12 +23,6 @@ none_left taken all [] whole end = refl
 none_left taken all (x ∷ rest) whole end = let e : length taken ≡ length taken + suc (length rest) = ap length (end ∙ whole) ∙ length-append taken (x ∷ rest) in absurd (omega (arith, e))
 
 module _ {C : Type 0} where
-  pub added_given : (es : List Entry) (ids : Map (m.Entry C)) → add_each (given es) ids ≡ added es ids
-  added_given [] ids = refl
-  added_given (message_entry id v a ∷ es) ids = added_given es (add_free id (a_message v a) ids)
-  added_given (term_entry id p a ∷ es) ids = added_given es (add_free id (a_term p a) ids)
-  added_given (junk_entry c ∷ es) ids = added_given es ids
-
   pub overridden_given : (es : List Entry) (ids : Map (m.Entry C)) → set_all (given es) ids ≡ overridden es ids
   overridden_given [] ids = refl
   overridden_given (message_entry id v a ∷ es) ids = overridden_given es (set id (a_message v a) ids)
@@ -70,8 +64,5 @@ module _ {F : Type 0} where
     rest_ready n' t' same same' h = let both : AreReady n t (r ∷ rest) = next_ready h in ready_still n n' t t' (kept_by n n' same) (grows_by t t' same') rest both.2
 
   module _ (answer : F → Function Text) (all rest : List (Ready F)) (r : Ready F) (ids next whole : Map (m.Entry Text)) (steps : all ≡ r ∷ rest) where
-    pub one_put_free : next ≡ add_free (own_id r.slot.entry) (entry_of answer r.slot.entry) ids → add_each (map (waiting answer) all) ids ≡ whole → add_each (map (waiting answer) rest) next ≡ whole
-    one_put_free step inv = ap (add_each (map (waiting answer) rest)) step ∙ ap (λ rs. add_each (map (waiting answer) rs) ids) (sym steps) ∙ inv
-
     pub one_put : next ≡ set (own_id r.slot.entry) (entry_of answer r.slot.entry) ids → set_all (map (waiting answer) all) ids ≡ whole → set_all (map (waiting answer) rest) next ≡ whole
     one_put step inv = ap (set_all (map (waiting answer) rest)) step ∙ ap (λ rs. set_all (map (waiting answer) rs) ids) (sym steps) ∙ inv

@@ -1,21 +1,16 @@
--- How a look at ids, and entries that wait with their numbers, stand to the map that adding makes.
-use Rattle.std.specs.Prelude.{◌≡◌, ◌||◌, is_some, ℕ, List, [], ◌∷◌, Option, Some}
-use Rattle.std.specs.HashSet.{HashSet}
-use Rattle.std.proofs.Common.{Bor}
+-- Entries that wait with their numbers, and what adding can take back.
+use Rattle.std.specs.Prelude.{◌≡◌, ℕ, nat_eq, Bool, false, List, [], ◌∷◌, Option, None, Some, if◌then◌else◌}
 use Rattle.fluent_tree.specs.Tree.{Text, Pattern, message_entry, term_entry, junk_entry}
 use Rattle.fluent_tree.specs.Tree as t
 use Rattle.fluent_meaning.specs.Arguments.{Map, get}
-use Rattle.fluent_meaning.specs.Bundle.{Function, a_message, a_term, add_free}
+use Rattle.fluent_meaning.specs.Bundle.{Function, a_message, a_term}
 use Rattle.fluent_meaning.specs.Bundle as m
 use Rattle.fluent_values.specs.declared.ids.Ids.{Ids}
 use Rattle.fluent_values.specs.declared.ready.Ready.{Ready}
-use Rattle.fluent_values.specs.EntryView.{ids, entry_of, has}
+use Rattle.fluent_values.specs.EntryView.{ids, entry_of}
 use Rattle.fluent_values.specs.Linking.{IsLinked}
 use Rattle.fluent_values.specs.Named.{own_id}
-
--- the ids of a map are those that are known and those that were seen
-abbrev pub AreTaken : {F T : Type 0} → (F → Function Text) → Ids F → HashSet (Bor Text) T → Map (m.Entry Text) → Type 0
-AreTaken answer known seen taken = (q : Text) → is_some (get q taken) ≡ (is_some (get q (ids answer known)) || has seen q)
+use Rattle.fluent_values.specs.Numbered.{numbers}
 
 -- the messages and terms among entries, each with its id
 abbrev pub given : {C : Type 0} → List t.Entry → List (Text × m.Entry C)
@@ -33,7 +28,24 @@ abbrev pub AreReady : {F : Type 0} → (Text → Option ℕ) → List Pattern �
 AreReady number table [] = Unit {0}
 AreReady number table (r ∷ rs) = (number (own_id r.slot.entry) ≡ Some r.number) × IsLinked number table r.slot × AreReady number table rs
 
--- each where its id is free, in order
-abbrev pub add_each : {C : Type 0} → List (Text × m.Entry C) → Map (m.Entry C) → Map (m.Entry C)
-add_each [] ids = ids
-add_each (e ∷ es) ids = add_each es (add_free e.0 e.1 ids)
+-- ---- what can be taken back
+
+-- whether this is the number
+abbrev pub is_number : Option ℕ → ℕ → Bool
+is_number None n = false
+is_number (Some m) n = nat_eq m n
+
+-- what an id of a number names, without what ids of these numbers name
+abbrev pub without : {A : Type 0} → List ℕ → Option ℕ → Option A → Option A
+without [] number named = named
+without (n ∷ ns) number named = if is_number number n then None else without ns number named
+
+-- each of these is the number of an id
+abbrev pub AreNumbered : (Text → Option ℕ) → List ℕ → Type 0
+AreNumbered number [] = Unit {0}
+AreNumbered number (n ∷ ns) = ((id : Text) × (number id ≡ Some n)) × AreNumbered number ns
+
+-- without what the ids of these numbers name, ids name what they first named
+pub record IsWithout {F : Type 0} (first : Ids F) (filled : List ℕ) (now : Ids F) : Type 0 where
+  pub numbered : AreNumbered (numbers now) filled
+  pub names : (answer : F → Function Text) (q : Text) → get q (ids answer first) ≡ without filled (numbers now q) (get q (ids answer now))

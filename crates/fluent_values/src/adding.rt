@@ -1,19 +1,20 @@
-//! Adding the entries of a resource: first a look at the ids, then what is kept of each entry, then steps that can't fail.
-ghost use Rattle.std.specs.Prelude.{◌≡◌, ◌<◌, ◌≤◌, ◌+◌, ◌++◌, ◌||◌, [], ◌∷◌, IfOk, OnOk, OnErr, IsTrue, None, is_some, map};
+//! Adding the entries of a resource, one by one; where memory is refused, what was added is taken back.
+ghost use Rattle.std.specs.Prelude.{◌≡◌, ◌++◌, [], ◌∷◌, IfOk, OnOk, OnErr, IsTrue, None, Some, false, is_some, map};
 ghost use Rattle.std.specs.Option.{option_map};
 ghost use Rattle.std.specs.Cow.{cow_str_bytes};
 ghost use Rattle.fluent_tree.specs.Tree.{Text};
 ghost use Rattle.fluent_tree.specs.View.{entry_view, pattern_view};
-ghost use Rattle.fluent_meaning.specs.Arguments.{Map, get, set_all};
+ghost use Rattle.fluent_meaning.specs.Arguments.{get, set_all};
 ghost use Rattle.fluent_meaning.specs.Bundle.{Function, a_function, number_builtin, added, overridden, add_free, error_if_taken, not_added};
-ghost use Rattle.fluent_meaning.specs.Bundle as m;
 ghost use Rattle.fluent_meaning.specs.Errors as e;
 ghost use Rattle.fluent_values.specs.View.{error_view, kind_view};
-ghost use Rattle.fluent_values.specs.EntryView.{ids, entry_of, has};
-ghost use Rattle.fluent_values.specs.Named.{is_named};
+ghost use Rattle.fluent_values.specs.EntryView.{ids, entry_of};
+ghost use Rattle.fluent_values.specs.Named.{is_named, own_id};
 ghost use Rattle.fluent_values.specs.Linking.{AreOf, IsLinked, attributes_in, patterns, value_in};
 ghost use Rattle.fluent_values.specs.Numbered.{Grown, numbers, table};
-ghost use Rattle.fluent_values.specs.Adding.{AreTaken, AreReady, waiting, given, add_each};
+ghost use Rattle.fluent_values.specs.Adding.{AreNumbered, AreReady, IsWithout, waiting, given};
+ghost use Rattle.fluent_values.specs.declared.entry.Entry.TheVariants.{Message, Term};
+ghost use Rattle.fluent_values.specs.declared.ids.Ids.{Ids};
 
 use crate::entry::Entry;
 use crate::ids::Ids;
@@ -24,7 +25,6 @@ use fluent_links::Linked;
 use fluent_tree::ast;
 use std::alloc::{AllocError, Global};
 use std::borrow::CowStr;
-use std::collections::HashSet;
 
 /// What is kept of each attribute's pattern, in order.
 fn linked_attributes<'r, 's, F: Drop>(
@@ -133,17 +133,6 @@ fn all_ready<'r, 's, F: Drop>(
     Ok(list)
 }
 
-/// Gives each free id its meaning, in order.
-fn add_all<'r, 's, F: Drop>(known: &mut Ids<'r, 's, F>, list: Vec<Ready<'r, 's, F>>)
-    requires { AreReady (numbers known.old) (table known.old) list.items }
-    ensures { (answer : F → Function Text) → ids answer known.new
-        ≡ add_each (map (waiting answer) list.entry.items) (ids answer known.old) }
-{
-    for ready in list {
-        known.put_where_free(ready.number, ready.slot);
-    }
-}
-
 /// Gives each id its meaning in place of what it had, in order.
 fn override_all<'r, 's, F: Drop>(known: &mut Ids<'r, 's, F>, list: Vec<Ready<'r, 's, F>>)
     requires { AreReady (numbers known.old) (table known.old) list.items }
@@ -194,87 +183,137 @@ fn add_where_free<'r, 's, F: Drop>(
     Ok(errors)
 }
 
-/// Whether an id is known, or was seen before.
-fn is_taken<'r, 's, F>(known: &Ids<'r, 's, F>, seen: &HashSet<&'s str>, id: &str) -> bool
-    ensures { (answer : F → Function Text) → result
-        ≡ (is_some (get id.now (ids answer known.now)) || has seen.now id.now) }
-{
-    known.is_known(id) || seen.contains(id)
-}
-
-/// Reports an id that is taken, and takes it otherwise.
-fn look_for<'r, 's, F>(
-    alloc: Global,
-    known: &Ids<'r, 's, F>,
-    seen: &mut HashSet<&'s str>,
-    kind: EntryKind,
-    id: &'s str,
-    errors: &mut Vec<FluentError>,
+/// Gives a free id its meaning, behind a note of its number.
+fn fill<'r, 's, F: Drop>(
+    known: &mut Ids<'r, 's, F>,
+    number: u32,
+    slot: Slot<'r, 's, F>,
+    filled: &mut Vec<u32>,
 ) -> Result<(), AllocError>
-    ensures told { OnOk result ((answer : F → Function Text) (taken : Map (m.Entry Text)) →
-        AreTaken answer known.now seen.old taken → map error_view errors.new.items
-        ≡ map error_view errors.old.items ++ error_if_taken (kind_view kind) id.now taken) }
-    ensures seen { OnOk result ((answer : F → Function Text) (taken : Map (m.Entry Text))
-        (entry : m.Entry Text) → AreTaken answer known.now seen.old taken →
-        AreTaken answer known.now seen.new (add_free id.now entry taken)) }
+    requires own { numbers known.old (own_id slot.entry) ≡ Some number }
+    requires linked { IsLinked (numbers known.old) (table known.old) slot }
+    requires free { (answer : F → Function Text) →
+        is_some (get (own_id slot.entry) (ids answer known.old)) ≡ false }
+    ensures after { OnOk result ((answer : F → Function Text) → ids answer known.new
+        ≡ add_free (own_id slot.entry.entry) (entry_of answer slot.entry.entry)
+        (ids answer known.old)) }
+    ensures undone { (first : Ids F) → IsWithout first filled.old.items known.old →
+        IsWithout first filled.new.items known.new }
 {
-    if is_taken(known, seen, id) {
-        errors.push(left(alloc, kind, id)?)?;
-    } else {
-        seen.insert(id)?;
-    }
+    filled.push(number)?;
+    known.put(number, slot);
     Ok(())
 }
 
-/// Reports the entry where its id is taken, and takes the id otherwise.
-fn look_at<'r, 's, F>(
+/// Gives a message its meaning where its id is free, and reports it otherwise.
+fn add_message<'r, 's, F: Drop>(
     alloc: Global,
-    known: &Ids<'r, 's, F>,
-    seen: &mut HashSet<&'s str>,
-    entry: &ast::Entry<'s>,
+    known: &mut Ids<'r, 's, F>,
+    message: &'r ast::Message<'s>,
+    filled: &mut Vec<u32>,
     errors: &mut Vec<FluentError>,
 ) -> Result<(), AllocError>
-    ensures told { OnOk result ((answer : F → Function Text) (taken : Map (m.Entry Text)) →
-        AreTaken answer known.now seen.old taken → map error_view errors.new.items
-        ≡ map error_view errors.old.items ++ not_added (entry_view entry.now ∷ []) taken) }
-    ensures seen { OnOk result ((answer : F → Function Text) (taken : Map (m.Entry Text)) →
-        AreTaken answer known.now seen.old taken → AreTaken answer known.now seen.new
-        (added (entry_view entry.now ∷ []) taken)) }
+    ensures after { OnOk result ((answer : F → Function Text) → ids answer known.new
+        ≡ add_free message.now.id.name.now (entry_of answer (Message message.entry))
+        (ids answer known.old)) }
+    ensures told { OnOk result ((answer : F → Function Text) → map error_view errors.new.items
+        ≡ map error_view errors.old.items
+        ++ error_if_taken e.message_kind message.now.id.name.now (ids answer known.old)) }
+    ensures undone { (first : Ids F) → IsWithout first filled.old.items known.old →
+        IsWithout first filled.new.items known.new }
+{
+    let number = known.number_of(CowStr::Borrowed(message.id.name))?;
+    if known.is_filled(number) {
+        errors.push(left(alloc, EntryKind::Message, message.id.name)?)?;
+        return Ok(());
+    }
+    let entry = Entry::Message(message);
+    let value = message.value.as_ref();
+    let slot = linked_slot(alloc, known, entry, value, &message.attributes)?;
+    fill(known, number, slot, filled)
+}
+
+/// The same of a term.
+fn add_term<'r, 's, F: Drop>(
+    alloc: Global,
+    known: &mut Ids<'r, 's, F>,
+    term: &'r ast::Term<'s>,
+    filled: &mut Vec<u32>,
+    errors: &mut Vec<FluentError>,
+) -> Result<(), AllocError>
+    ensures after { OnOk result ((answer : F → Function Text) → ids answer known.new
+        ≡ add_free term.now.id.name.now (entry_of answer (Term term.entry)) (ids answer known.old)) }
+    ensures told { OnOk result ((answer : F → Function Text) → map error_view errors.new.items
+        ≡ map error_view errors.old.items
+        ++ error_if_taken e.term_kind term.now.id.name.now (ids answer known.old)) }
+    ensures undone { (first : Ids F) → IsWithout first filled.old.items known.old →
+        IsWithout first filled.new.items known.new }
+{
+    let number = known.number_of(CowStr::Borrowed(term.id.name))?;
+    if known.is_filled(number) {
+        errors.push(left(alloc, EntryKind::Term, term.id.name)?)?;
+        return Ok(());
+    }
+    let entry = Entry::Term(term);
+    let value = Some(&term.value);
+    let slot = linked_slot(alloc, known, entry, value, &term.attributes)?;
+    fill(known, number, slot, filled)
+}
+
+/// Gives a message or a term its meaning where its id is free, and reports it otherwise. Junk is passed over.
+fn add_entry<'r, 's, F: Drop>(
+    alloc: Global,
+    known: &mut Ids<'r, 's, F>,
+    entry: &'r ast::Entry<'s>,
+    filled: &mut Vec<u32>,
+    errors: &mut Vec<FluentError>,
+) -> Result<(), AllocError>
+    ensures after { OnOk result ((answer : F → Function Text) →
+        ids answer known.new ≡ added (entry_view entry.now ∷ []) (ids answer known.old)) }
+    ensures told { OnOk result ((answer : F → Function Text) → map error_view errors.new.items
+        ≡ map error_view errors.old.items
+        ++ not_added (entry_view entry.now ∷ []) (ids answer known.old)) }
+    ensures undone { (first : Ids F) → IsWithout first filled.old.items known.old →
+        IsWithout first filled.new.items known.new }
 {
     match entry {
-        ast::Entry::Message(message) => {
-            look_for(
-                alloc,
-                known,
-                seen,
-                EntryKind::Message,
-                message.id.name,
-                errors,
-            )
-        }
-        ast::Entry::Term(term) => {
-            look_for(alloc, known, seen, EntryKind::Term, term.id.name, errors)
-        }
+        ast::Entry::Message(message) => add_message(alloc, known, message, filled, errors),
+        ast::Entry::Term(term) => add_term(alloc, known, term, filled, errors),
         ast::Entry::Junk { .. } => Ok(()),
     }
 }
 
-/// The reports of the entries whose id is taken when their turn comes.
-fn look<'r, 's, F>(
+/// Adds the entries in order, and notes the numbers of what it fills, also where memory is refused on the way.
+fn add_all<'r, 's, F: Drop>(
     alloc: Global,
-    known: &Ids<'r, 's, F>,
-    entries: &[ast::Entry<'s>],
+    known: &mut Ids<'r, 's, F>,
+    entries: &'r [ast::Entry<'s>],
+    filled: &mut Vec<u32>,
 ) -> Result<Vec<FluentError>, AllocError>
-    ensures { IfOk result (λ errors. (answer : F → Function Text) →
+    ensures after { OnOk result ((answer : F → Function Text) →
+        ids answer known.new ≡ added (map entry_view entries.now) (ids answer known.old)) }
+    ensures errors { IfOk result (λ errors. (answer : F → Function Text) →
         map error_view errors.items ≡ not_added (map entry_view entries.now)
-        (ids answer known.now)) }
+        (ids answer known.old)) }
+    ensures undone { (first : Ids F) → IsWithout first filled.old.items known.old →
+        IsWithout first filled.new.items known.new }
 {
-    let mut seen: HashSet<&'s str> = HashSet::new(alloc);
     let mut errors = Vec::new(alloc);
     for entry in entries {
-        look_at(alloc, known, &mut seen, entry, &mut errors)?;
+        add_entry(alloc, known, entry, filled, &mut errors)?;
     }
     Ok(errors)
+}
+
+/// Takes away what the ids with these numbers name.
+fn take_all_back<'r, 's, F: Drop>(known: &mut Ids<'r, 's, F>, filled: Vec<u32>)
+    requires { AreNumbered (numbers known.old) filled.items }
+    ensures { (first : Ids F) → IsWithout first filled.items known.old →
+        IsWithout first [] known.new }
+{
+    for number in filled {
+        known.take_back(number);
+    }
 }
 
 impl<'r, 's, F: Drop> Ids<'r, 's, F> {
@@ -297,10 +336,14 @@ impl<'r, 's, F: Drop> Ids<'r, 's, F> {
         ensures err { OnErr result ((answer : F → Function Text) →
             ids answer self.new ≡ ids answer self.old) }
     {
-        let errors = look(alloc, self, entries)?;
-        let list = all_ready(alloc, self, entries)?;
-        add_all(self, list);
-        Ok(errors)
+        let mut filled = Vec::with_capacity(alloc, entries.len())?;
+        match add_all(alloc, self, entries, &mut filled) {
+            Ok(errors) => Ok(errors),
+            Err(refused) => {
+                take_all_back(self, filled);
+                Err(refused)
+            }
+        }
     }
 
     /// Gives each message and term its meaning, in order, in place of what had its id. Junk is passed over.

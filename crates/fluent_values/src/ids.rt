@@ -89,13 +89,14 @@ impl<'r, 's, F> Ids<'r, 's, F> {
 }
 
 impl<'r, 's, F: Drop> Ids<'r, 's, F> {
-    ghost use Rattle.std.specs.Prelude.{◌≡◌, IfOk, IsTrue, Some};
+    ghost use Rattle.std.specs.Prelude.{◌≡◌, IfOk, IsTrue, None, Some, if◌then◌else◌};
     ghost use Rattle.std.specs.Cow.{cow_str_bytes};
+    ghost use Rattle.std.specs.Str.{bytes_eq};
     ghost use Rattle.fluent_tree.specs.Tree.{Text};
     ghost use Rattle.fluent_tree.specs.View.{pattern_view};
     ghost use Rattle.fluent_links.specs.Linked.{IsOf};
-    ghost use Rattle.fluent_meaning.specs.Arguments.{set};
-    ghost use Rattle.fluent_meaning.specs.Bundle.{Function, add_free};
+    ghost use Rattle.fluent_meaning.specs.Arguments.{get, set};
+    ghost use Rattle.fluent_meaning.specs.Bundle.{Function};
     ghost use Rattle.fluent_values.specs.EntryView.{ids, entry_of};
     ghost use Rattle.fluent_values.specs.Linking.{IsLinked};
     ghost use Rattle.fluent_values.specs.Named.{is_named};
@@ -136,22 +137,18 @@ impl<'r, 's, F: Drop> Ids<'r, 's, F> {
             (answer : F → Function Text) → ids answer self.new
             ≡ set id (entry_of answer slot.entry.entry) (ids answer self.old) }
     {
-        self.known.fill(number, slot);
+        self.known.fill(number, Some(slot));
     }
 
-    /// Gives the id with this number its meaning, where it names nothing yet.
-    pub(crate) fn put_where_free(&mut self, number: u32, slot: Slot<'r, 's, F>)
-        requires own { (id : Text) × (numbers self.old id ≡ Some number)
-            × IsTrue (is_named id slot.entry) }
-        requires linked { IsLinked (numbers self.old) (table self.old) slot }
+    /// Takes away what the id with this number names.
+    pub(crate) fn take_back(&mut self, number: u32)
+        requires { (id : Text) × (numbers self.old id ≡ Some number) }
         ensures numbers { (id : Text) → numbers self.new id ≡ numbers self.old id }
         ensures table { table self.new ≡ table self.old }
-        ensures after { (id : Text) → numbers self.old id ≡ Some number →
-            (answer : F → Function Text) → ids answer self.new
-            ≡ add_free id (entry_of answer slot.entry.entry) (ids answer self.old) }
+        ensures after { (id : Text) → numbers self.old id ≡ Some number → (q : Text) →
+            (answer : F → Function Text) → get q (ids answer self.new)
+            ≡ (if bytes_eq id q then None else get q (ids answer self.old)) }
     {
-        if !self.is_filled(number) {
-            self.put(number, slot);
-        }
+        self.known.fill(number, None);
     }
 }

@@ -105,7 +105,7 @@ impl<'p, 's> Target<'p, 's> {
             Some(linked) => Target {
                 step: Step {
                     pattern,
-                    class: Some(linked.class()),
+                    class: linked.class(),
                 },
                 place: linked.place(),
             },

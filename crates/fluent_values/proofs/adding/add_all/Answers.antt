@@ -1,32 +1,24 @@
-use Rattle.std.proofs.Common.{ap, sym, ◌∙◌, ◌++◌, ◌∷◌, [], map, map-id, append_assoc, rules}
-use Rattle.std.proofs.lemmas.Iterator.Adapters.{YieldsList-from_vec}
-use Rattle.std.proofs.lemmas.Iterator.Consumers.{YieldsList-end}
-use Rattle.std.specs.Vec.Iter.{into_iter_items}
+use Rattle.std.proofs.Common.{ap, ◌∙◌, ◌++◌, ◌∷◌, [], map, take}
+use Rattle.fluent_tree.specs.View.{entry_view}
+use Rattle.fluent_meaning.specs.Bundle.{added, not_added}
 use Rattle.fluent_values.specs.EntryView.{ids}
-use Rattle.fluent_values.specs.Named.{own_id}
-use Rattle.fluent_values.specs.Numbered.{numbers, table}
-use Rattle.fluent_values.specs.Adding.{waiting, add_each}
-use Rattle.fluent_values.proofs.Own.{by_own_id}
-use Rattle.fluent_values.proofs.Waiting.{none_left, next_ready, rest_ready, one_put_free}
+use Rattle.fluent_values.specs.View.{error_view}
+use Rattle.fluent_values.proofs.Added.{one_taken, one_told}
 use Rattle.fluent_values.proofs.adding.add_all.Goals as goal
 
-pub put_where_free-requires : goal.put_where_free-requires
-put_where_free-requires g c =
-    let next = next_ready (into_iter_items c.loop-ready.ready-iterator) (into_iter_items c.next.new.self) c.in-Some.ready c.in-Some.ensures.steps.0 (numbers c.loop-ready.known) (table c.loop-ready.known) c.loop-ready.invariant.ready in
-    record { own = (own_id c.in-Some.ready.slot.entry, next.0, by_own_id c.in-Some.ready.slot.entry); linked = next.1 }
-
-pub loop-ready-preserved : goal.loop-ready-preserved
-loop-ready-preserved g c =
-    let next = next_ready (into_iter_items c.loop-ready.ready-iterator) (into_iter_items c.next.new.self) c.in-Some.ready c.in-Some.ensures.steps.0 (numbers c.loop-ready.known) (table c.loop-ready.known) c.loop-ready.invariant.ready in
+pub loop-entry-preserved : goal.loop-entry-preserved
+loop-entry-preserved g c =
+    let es = c.args.entries.now in
+    let i = c.loop-entry.entry-index in
+    let e = c.entry-item.result in
     record {
-      whole = c.loop-ready.invariant.whole ∙ ap (λ xs. c.loop-ready.yielded ++ xs) c.in-Some.ensures.steps.0 ∙ sym (append_assoc c.loop-ready.yielded (c.in-Some.ready ∷ []) _);
-      ready = rest_ready (into_iter_items c.loop-ready.ready-iterator) (into_iter_items c.next.new.self) c.in-Some.ready c.in-Some.ensures.steps.0 (numbers c.loop-ready.known) (table c.loop-ready.known) (numbers c.put_where_free.new.self) (table c.put_where_free.new.self) c.put_where_free.ensures.numbers c.put_where_free.ensures.table c.loop-ready.invariant.ready;
-      same = λ answer. one_put_free answer (into_iter_items c.loop-ready.ready-iterator) (into_iter_items c.next.new.self) c.in-Some.ready (ids answer c.loop-ready.known) (ids answer c.put_where_free.new.self) _ c.in-Some.ensures.steps.0
-          (c.put_where_free.ensures.after (own_id c.in-Some.ready.slot.entry) next.0 answer) (c.loop-ready.invariant.same answer);
+      after = λ answer.
+          c.in_ok-add_entry.ensures.after answer ∙ ap (added (entry_view e ∷ [])) (c.loop-entry.invariant.after answer)
+          ∙ one_taken es i _ _ (ids answer c.args.known.now) c.loop-entry-test.true c.entry-item.is;
+      told = λ answer. one_told es i _ _ (map error_view c.loop-entry.errors.items) _ (ids answer c.args.known.now) c.loop-entry-test.true c.entry-item.is
+          (c.in_ok-add_entry.ensures.told answer ∙ ap (λ is. map error_view c.loop-entry.errors.items ++ not_added (entry_view e ∷ []) is) (c.loop-entry.invariant.after answer)) (c.loop-entry.invariant.told answer);
+      undone = λ first h. c.add_entry.ensures.undone first (c.loop-entry.invariant.undone first h);
     }
 
-pub returns : goal.returns
-returns g c = λ answer.
-    let gives = c.into_iter-ready-iterator.ensures.into_iter_gives in
-    let end = YieldsList-end (YieldsList-from_vec {s = c.into_iter-ready-iterator.result} c.args.list.items gives.0 (search (rules, gives.1))) c.loop-ready.yielded c.loop-ready.ready-iterator c.loop-ready.yielded_by c.next.result c.next.new.self c.in-None.is c.next.ensures.steps in
-    ap (λ rs. add_each (map (waiting answer) rs) (ids answer c.loop-ready.known)) (sym (none_left c.loop-ready.yielded c.args.list.items (into_iter_items c.loop-ready.ready-iterator) c.loop-ready.invariant.whole (sym (map-id c.loop-ready.yielded) ∙ end.0))) ∙ c.loop-ready.invariant.same answer
+pub returns-in_err-add_entry-clause-undone : goal.returns-in_err-add_entry-clause-undone
+returns-in_err-add_entry-clause-undone g c = λ first h. c.add_entry.ensures.undone first (c.loop-entry.invariant.undone first h)

@@ -1,16 +1,17 @@
-use Rattle.std.proofs.Common.{◌≡◌, ◌++◌, map}
-use Rattle.std.specs.Vec.Iter.{into_iter_items}
+use Rattle.std.proofs.Common.{◌≡◌, take, map}
 use Rattle.fluent_tree.specs.Tree.{Text}
-use Rattle.fluent_meaning.specs.Bundle.{Function}
+use Rattle.fluent_tree.specs.View.{entry_view}
+use Rattle.fluent_meaning.specs.Bundle.{Function, added, not_added}
+use Rattle.fluent_values.specs.View.{error_view}
 use Rattle.fluent_values.specs.EntryView.{ids}
-use Rattle.fluent_values.specs.Numbered.{numbers, table}
-use Rattle.fluent_values.specs.Adding.{AreReady, waiting, add_each}
+use Rattle.fluent_values.specs.Adding.{IsWithout}
+use Rattle.fluent_values.specs.declared.ids.Ids.{Ids}
 use Rattle.fluent_values.proofs.adding.add_all.Given as goal
 
--- what is left has the numbers of its ids, and makes of the ids what all of it would
-abbrev pub invariant-loop-ready : goal.invariant-loop-ready
-invariant-loop-ready g l = record {
-  whole : l.fn.list.items ≡ l.yielded ++ into_iter_items l.ready-iterator;
-  ready : AreReady (numbers l.known) (table l.known) (into_iter_items l.ready-iterator);
-  same : (answer : _ → Function Text) → add_each (map (waiting answer) (into_iter_items l.ready-iterator)) (ids answer l.known) ≡ add_each (map (waiting answer) l.fn.list.items) (ids answer l.fn.known);
+-- the entries so far are added, and what they filled can be taken back
+abbrev pub invariant-loop-entry : goal.invariant-loop-entry
+invariant-loop-entry g l = record {
+  after : (answer : _ → Function Text) → ids answer l.known ≡ added (map entry_view (take l.entry-index l.entries)) (ids answer l.fn.known);
+  told : (answer : _ → Function Text) → map error_view l.errors.items ≡ not_added (map entry_view (take l.entry-index l.entries)) (ids answer l.fn.known);
+  undone : (first : Ids _) → IsWithout first l.fn.filled.items l.fn.known → IsWithout first l.filled.items l.known;
 }

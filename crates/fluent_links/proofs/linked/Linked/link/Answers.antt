@@ -1,12 +1,46 @@
-use Rattle.std.proofs.Common.{[], Some, map, ap, sym}
+use Rattle.std.proofs.Common.{[], Some, map, ap, sym, rules, ◌≡◌, ◌∙◌, length, nat_eq}
 use Rattle.fluent_tree.specs.References.{references}
 use Rattle.fluent_tree.specs.View.{pattern_view}
-use Rattle.fluent_links.specs.Slots.{slots as slots_of}
-use Rattle.fluent_links.proofs.Gathered.{kept, names_kept}
+use Rattle.fluent_links.specs.Linked.{with_referring}
+use Rattle.fluent_links.specs.Slots.{slots as slots_of, number}
+use Rattle.fluent_links.specs.Table.{table}
+use Rattle.fluent_links.proofs.Gathered.{has_class, kept, names_kept, no_class, no_items, none_referred, referring, some_items}
 use Rattle.fluent_links.proofs.linked.Linked.link.Goals as goal
 
 pub returns-clause-linked : goal.returns-clause-linked
-returns-clause-linked g c = (c.in_ok-class.ensures.class, c.in_ok-link_pattern.ensures.ok.1 [] (sym (ap (map Some) c.new-links.ensures.items)))
+returns-clause-linked g c = (has_class (table c.class_of.new.self) (pattern_view c.args.pattern.now) c.in_ok-class.class c.in_ok-class.ensures.class, c.in_ok-link_pattern.ensures.ok.1 [] (sym (ap (map Some) c.new-links.ensures.items)))
+
+pub returns-clause-stored : goal.returns-clause-stored
+returns-clause-stored g c =
+    let p = pattern_view c.args.pattern.now in
+    let items = c.link_pattern.new.links.items in
+    let told : c.is_empty.result ≡ nat_eq (length items) 0 = search (rules, c.is_empty.ensures) in
+    c.in_ok-class.ensures.stored
+    ∙ referring (number (slots_of c.link_pattern.new.slots)) (references p) items p (table c.args.classes.now)
+    (some_items items c.is_empty.result told c.if-is_empty.false)
+    (c.in_ok-link_pattern.ensures.ok.1 [] (sym (ap (map Some) c.new-links.ensures.items)))
+
+pub returns-then-is_empty-clause-linked : goal.returns-then-is_empty-clause-linked
+returns-then-is_empty-clause-linked g c =
+    let p = pattern_view c.args.pattern.now in
+    let items = c.link_pattern.new.links.items in
+    let told : c.is_empty.result ≡ nat_eq (length items) 0 = search (rules, c.is_empty.ensures) in
+    let are = c.in_ok-link_pattern.ensures.ok.1 [] (sym (ap (map Some) c.new-links.ensures.items)) in
+    (no_class (table c.args.classes.now) p (none_referred (number (slots_of c.link_pattern.new.slots)) (references p) items (no_items items c.is_empty.result told c.if-is_empty.true) are), are)
+
+pub returns-then-is_empty-clause-stored : goal.returns-then-is_empty-clause-stored
+returns-then-is_empty-clause-stored g c =
+    let p = pattern_view c.args.pattern.now in
+    let items = c.link_pattern.new.links.items in
+    let told : c.is_empty.result ≡ nat_eq (length items) 0 = search (rules, c.is_empty.ensures) in
+    let are = c.in_ok-link_pattern.ensures.ok.1 [] (sym (ap (map Some) c.new-links.ensures.items)) in
+    sym (ap (λ rs. with_referring rs p (table c.args.classes.now)) (none_referred (number (slots_of c.link_pattern.new.slots)) (references p) items (no_items items c.is_empty.result told c.if-is_empty.true) are))
+
+pub returns-then-is_empty-clause-numbers : goal.returns-then-is_empty-clause-numbers
+returns-then-is_empty-clause-numbers g c = kept (slots_of c.args.slots.now) (slots_of c.link_pattern.new.slots) (references (pattern_view c.args.pattern.now)) c.in_ok-link_pattern.ensures.ok.0
+
+pub returns-then-is_empty-clause-named : goal.returns-then-is_empty-clause-named
+returns-then-is_empty-clause-named g c = names_kept (slots_of c.args.slots.now) (slots_of c.link_pattern.new.slots) (references (pattern_view c.args.pattern.now)) c.in_ok-link_pattern.ensures.ok.0
 
 pub returns-clause-numbers : goal.returns-clause-numbers
 returns-clause-numbers g c = kept (slots_of c.args.slots.now) (slots_of c.link_pattern.new.slots) (references (pattern_view c.args.pattern.now)) c.in_ok-link_pattern.ensures.ok.0

@@ -1,7 +1,5 @@
-use Rattle.std.proofs.Common.{sym, subst, ◌∙◌}
+use Rattle.std.proofs.Common.{sym, ◌∙◌}
 use Rattle.fluent_tree.specs.View.{pattern_view}
-use Rattle.fluent_links.specs.Classes.{HasClass}
-use Rattle.fluent_values.proofs.Kept.{value_is}
 use Rattle.fluent_values.proofs.resolver.found.Target.of.Goals as goal
 
 pub returns-in-Some-clause-stored : goal.returns-in-Some-clause-stored
@@ -9,6 +7,6 @@ returns-in-Some-clause-stored c = λ number table kept.
     let p = pattern_view c.args.pattern.now in
     let is = kept c.in-Some.linked c.in-Some.is in
     record {
-      classed = λ n at. subst (λ n. HasClass table n p) (sym c.class.ensures ∙ value_is _ _ at) is.0;
+      classed = λ n at. is.0.0 n (sym c.class.ensures ∙ at);
       placed = c.place.ensures.before number table p is;
     }
