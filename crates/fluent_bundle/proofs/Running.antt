@@ -7,7 +7,7 @@ use Rattle.std.proofs.lemmas.List.Elements.{All-head, All-tail}
 use Rattle.fluent_tree.specs.Tree.{Text}
 use Rattle.fluent_meaning.specs.Bundle as m
 use Rattle.fluent_meaning.specs.Bundle.{Bundle, after, after_all}
-use Rattle.fluent_bundle.specs.BundleView.{Kept, KeptBeside}
+use Rattle.fluent_bundle.specs.BundleView.{formatter_in, intls_in, transform_in, Kept, KeptBeside}
 use Rattle.fluent_bundle.specs.Calls.{Makes, BegunBy, transform_after_all, formatter_after_all}
 use Rattle.fluent_bundle.specs.declared.bundle.FluentBundle.{FluentBundle}
 use Rattle.fluent_bundle.specs.declared.calls.Call.{Call}
@@ -43,8 +43,8 @@ module _ {M C F G X : Type 0} (of : FluentBundle M C F G X → Bundle Text) (ask
   made_on cs ds a b c h k = record {
     meaning = k.meaning ∙ ap (after_all (map ask ds)) h.meaning ∙ sym (ap (λ es. after_all es (of a)) (map-append ask cs ds) ∙ after_more (map ask cs) (map ask ds) (of a));
     beside = beside_on a b c h.beside k.beside;
-    transform = k.transform ∙ ap (transform_after_all ds) h.transform ∙ sym (transform_more cs ds a.transform);
-    formatter = k.formatter ∙ ap (formatter_after_all ds) h.formatter ∙ sym (formatter_more cs ds a.formatter);
+    transform = k.transform ∙ ap (transform_after_all ds) h.transform ∙ sym (transform_more cs ds (transform_in a));
+    formatter = k.formatter ∙ ap (formatter_after_all ds) h.formatter ∙ sym (formatter_more cs ds (formatter_in a));
   }
 
   -- each call of a list
@@ -62,12 +62,12 @@ module _ {M C F G X : Type 0} (of : FluentBundle M C F G X → Bundle Text) (ask
 
 module _ {M C F G X : Type 0} (of : FluentBundle M C F G X → Bundle Text) (ask : M → Call F G X → m.Call Text) where
   -- one more call, asked by the plural source of the bundle on the way
-  pub one_made : (cs : List (Call F G X)) (d : Call F G X) (a b c : FluentBundle M C F G X) → Makes of (ask a.intls) cs a b → Makes of (ask b.intls) (d ∷ []) b c → Makes of (ask a.intls) (cs ++ d ∷ []) a c
-  one_made cs d a b c h k = made_on of (ask a.intls) cs (d ∷ []) a b c h (subst (λ i. Makes of (ask i) (d ∷ []) b c) h.beside.intls k)
+  pub one_made : (cs : List (Call F G X)) (d : Call F G X) (a b c : FluentBundle M C F G X) → Makes of (ask (intls_in a)) cs a b → Makes of (ask (intls_in b)) (d ∷ []) b c → Makes of (ask (intls_in a)) (cs ++ d ∷ []) a c
+  one_made cs d a b c h k = made_on of (ask (intls_in a)) cs (d ∷ []) a b c h (subst (λ i. Makes of (ask i) (d ∷ []) b c) h.beside.intls k)
 
   -- where a call is refused, those before it were made
-  pub begun_by : (all cs ds : List (Call F G X)) (a b c : FluentBundle M C F G X) → all ≡ cs ++ ds → Makes of (ask a.intls) cs a b → (of c ≡ of b) × Kept b c → BegunBy of (ask a.intls) all a c
-  begun_by all cs ds a b c whole h same = record { made = cs; left = ds; whole = whole; makes = made_still of (ask a.intls) cs a b c h same.0 same.1 }
+  pub begun_by : (all cs ds : List (Call F G X)) (a b c : FluentBundle M C F G X) → all ≡ cs ++ ds → Makes of (ask (intls_in a)) cs a b → (of c ≡ of b) × Kept b c → BegunBy of (ask (intls_in a)) all a c
+  begun_by all cs ds a b c whole h same = record { made = cs; left = ds; whole = whole; makes = made_still of (ask (intls_in a)) cs a b c h same.0 same.1 }
 
 -- what holds of all holds of each
 of_each : {K : Type 0} (P : K → Type 0) (cs : List K) (d : K) (ds : List K) → All P (cs ++ d ∷ ds) → P d

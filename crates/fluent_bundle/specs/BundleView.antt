@@ -1,6 +1,7 @@
 -- The content of resources, messages and bundles of the code.
-use Rattle.std.specs.Prelude.{Bool, not, is_some, List, map, Option, None, Result, Ok, Err, ◌≡◌, ◌≢◌, [], ◌∷◌}
+use Rattle.std.specs.Prelude.{ℕ, Bool, not, is_some, List, map, Option, None, Result, Ok, Err, ◌≡◌, ◌≢◌, [], ◌∷◌}
 use Rattle.std.specs.Option.{option_map}
+use Rattle.std.specs.declared.alloc.Global.{Global}
 use Rattle.fluent_tree.specs.Tree as t
 use Rattle.fluent_tree.specs.Tree.{Text}
 use Rattle.fluent_tree.specs.View.{resource_view}
@@ -13,6 +14,7 @@ use Rattle.fluent_meaning.specs.Bundle.{Bundle, Function, transform_of, formatte
 use Rattle.fluent_values.specs.View.{error_view}
 use Rattle.fluent_values.specs.MessageView.{Content}
 use Rattle.fluent_values.specs.EntryView.{ids, message_content}
+use Rattle.fluent_values.specs.declared.ids.Ids.{Ids}
 use Rattle.fluent_bundle.specs.declared.resource.FluentResource.{FluentResource}
 use Rattle.fluent_bundle.specs.declared.resource.TryNewFault.{TryNewFault}
 use Rattle.fluent_bundle.specs.declared.resource.TryNewFault.TheVariants as refused
@@ -20,13 +22,17 @@ use Rattle.fluent_bundle.specs.declared.bundle.FluentBundle.{FluentBundle}
 use Rattle.fluent_bundle.specs.declared.bundle.AddFault.{AddFault}
 use Rattle.fluent_bundle.specs.declared.bundle.AddFault.TheVariants as fault
 
+-- the source of a resource
+unfoldable pub source_in : FluentResource → Text
+source_in r = r.source.now
+
 -- the entries of a resource, Junk among them
-abbrev pub entries_of : FluentResource → List t.Entry
+unfoldable pub entries_of : FluentResource → List t.Entry
 entries_of r = resource_view r.body
 
 -- a resource of the source, with its entries
 abbrev pub IsRead : Text → FluentResource → Type 0
-IsRead source r = (r.source.now ≡ source) × (entries_of r ≡ entries source)
+IsRead source r = (source_in r ≡ source) × (entries_of r ≡ entries source)
 
 -- What reading a source answers: without Junk a resource, with Junk the byte ranges of it beside the resource.
 abbrev pub Tried : Text → Result FluentResource TryNewFault → Type 0
@@ -38,17 +44,56 @@ Tried source (Err refused.Memory) = Unit {0}
 abbrev pub custom_by : (Text → Text) → (Text → Text → Bool) → Custom Text
 custom_by shown alike = record { text = shown; same = alike }
 
+-- What a bundle holds beside its locales.
+pub record BundleParts (M F G X : Type 0) : Type 0 where
+  pub entries : Ids F
+  pub isolates : Bool
+  pub transform : Option X
+  pub formatter : Option G
+  pub intls : M
+  pub limit : ℕ
+  pub alloc : Global
+
+unfoldable pub bundle_parts : {M C F G X : Type 0} → FluentBundle M C F G X → BundleParts M F G X
+bundle_parts b = record {
+  entries = b.entries;
+  isolates = b.use_isolating;
+  transform = b.transform;
+  formatter = b.formatter;
+  intls = b.intls;
+  limit = b.placeable_limit;
+  alloc = b.alloc;
+}
+
+-- its map of ids, its transform, its formatter, its plural source, and the allocator that it keeps
+abbrev pub entries_in : {M C F G X : Type 0} → FluentBundle M C F G X → Ids F
+entries_in b = (bundle_parts b).entries
+
+abbrev pub transform_in : {M C F G X : Type 0} → FluentBundle M C F G X → Option X
+transform_in b = (bundle_parts b).transform
+
+abbrev pub formatter_in : {M C F G X : Type 0} → FluentBundle M C F G X → Option G
+formatter_in b = (bundle_parts b).formatter
+
+abbrev pub intls_in : {M C F G X : Type 0} → FluentBundle M C F G X → M
+intls_in b = (bundle_parts b).intls
+
+abbrev pub alloc_in : {M C F G X : Type 0} → FluentBundle M C F G X → Global
+alloc_in b = (bundle_parts b).alloc
+
 -- The content of a bundle, by what the types of its parts state: its plural source, custom values, functions, formatter and transform.
 abbrev pub meant : {M C F G X : Type 0} → (M → Plurals) → (Text → Text) → (Text → Text → Bool) → (F → Function Text) → (G → Value Text → M → Option Text) → (X → Text → Text) → FluentBundle M C F G X → Bundle Text
-meant category shown alike answer formatted changed b = record {
-  ids = ids answer b.entries;
-  isolates = b.use_isolating;
-  transform = transform_of (option_map changed b.transform);
-  formatter = formatter_of (option_map (λ g v. formatted g v b.intls) b.formatter);
-  plurals = category b.intls;
-  custom = custom_by shown alike;
-  limit = b.placeable_limit;
-}
+meant category shown alike answer formatted changed b =
+    let of = bundle_parts b in
+    record {
+      ids = ids answer of.entries;
+      isolates = of.isolates;
+      transform = transform_of (option_map changed of.transform);
+      formatter = formatter_of (option_map (λ g v. formatted g v of.intls) of.formatter);
+      plurals = category of.intls;
+      custom = custom_by shown alike;
+      limit = of.limit;
+    }
 
 -- one locale, which has no part
 abbrev pub IsUndetermined : LanguageIdentifier → Type 0
@@ -76,15 +121,15 @@ AnswersCall old call new (Err fault.Memory) = new ≡ old
 
 -- whether a bundle changes no text
 abbrev pub is_plain : {M C F G X : Type 0} → FluentBundle M C F G X → Bool
-is_plain b = not (is_some b.transform)
+is_plain b = not (is_some (transform_in b))
 
 -- What a bundle's meaning does not show is as before, but for its transform and its formatter: its locales and its plural source.
 pub record KeptBeside {M C F G X : Type 0} (b b' : FluentBundle M C F G X) : Type 0 where
   pub locales : b'.locales ≡ b.locales
-  pub intls : b'.intls ≡ b.intls
+  pub intls : intls_in b' ≡ intls_in b
 
 -- The same, and it holds the transform and the formatter that it held.
 pub record Kept {M C F G X : Type 0} (b b' : FluentBundle M C F G X) : Type 0 where
   pub beside : KeptBeside b b'
-  pub transform : b'.transform ≡ b.transform
-  pub formatter : b'.formatter ≡ b.formatter
+  pub transform : transform_in b' ≡ transform_in b
+  pub formatter : formatter_in b' ≡ formatter_in b

@@ -5,7 +5,7 @@ use Rattle.fluent_tree.specs.Tree.{Text}
 use Rattle.fluent_meaning.specs.Value.{Value}
 use Rattle.fluent_meaning.specs.Bundle as m
 use Rattle.fluent_meaning.specs.Bundle.{Bundle, Function, after_all}
-use Rattle.fluent_bundle.specs.BundleView.{entries_of, KeptBeside}
+use Rattle.fluent_bundle.specs.BundleView.{entries_of, formatter_in, transform_in, KeptBeside}
 use Rattle.fluent_bundle.specs.declared.bundle.FluentBundle.{FluentBundle}
 use Rattle.fluent_bundle.specs.declared.calls.Call.{Call}
 use Rattle.fluent_bundle.specs.declared.calls.Call.TheVariants as call
@@ -44,8 +44,8 @@ formatter_after_all (c ∷ cs) held = formatter_after_all cs (formatter_after c 
 pub record Makes {M C F G X : Type 0} (of : FluentBundle M C F G X → Bundle Text) (ask : Call F G X → m.Call Text) (calls : List (Call F G X)) (old new : FluentBundle M C F G X) : Type 0 where
   pub meaning : of new ≡ after_all (map ask calls) (of old)
   pub beside : KeptBeside old new
-  pub transform : new.transform ≡ transform_after_all calls old.transform
-  pub formatter : new.formatter ≡ formatter_after_all calls old.formatter
+  pub transform : transform_in new ≡ transform_after_all calls (transform_in old)
+  pub formatter : formatter_in new ≡ formatter_after_all calls (formatter_in old)
 
 -- From old, some of the calls from the front on led to new.
 pub record BegunBy {M C F G X : Type 0} (of : FluentBundle M C F G X → Bundle Text) (ask : Call F G X → m.Call Text) (calls : List (Call F G X)) (old new : FluentBundle M C F G X) : Type 0 where

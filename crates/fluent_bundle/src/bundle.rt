@@ -1,10 +1,12 @@
 //! The bundle: messages, terms and functions by id, and its settings.
+#![tactic(auto, unfolding(crate::specs::BundleView::bundle_parts))]
+
 ghost use Rattle.std.specs.Prelude.{◌≡◌, ◌≤◌, ◌↔◌, map, is_some, None, IfOk, OnOk, OnErr, IsTrue};
 ghost use Rattle.std.specs.Option.{option_map};
 ghost use Rattle.fluent_intl.specs.Plurals.{english};
 ghost use Rattle.fluent_meaning.specs.Bundle.{empty_bundle, after, answered, add_resource, add_resource_overriding, add_function, add_builtins, set_use_isolating, set_transform, set_formatter, set_placeable_limit};
 ghost use Rattle.fluent_values.specs.View.{error_view};
-ghost use Rattle.fluent_bundle.specs.BundleView.{custom_by, entries_of, message_at, message_entry_at, AnswersCall, AreUndetermined, Kept, KeptBeside};
+ghost use Rattle.fluent_bundle.specs.BundleView.{custom_by, entries_in, entries_of, formatter_in, intls_in, message_at, message_entry_at, transform_in, AnswersCall, AreUndetermined, Kept, KeptBeside};
 ghost use Rattle.fluent_values.specs.MessageView.{entry_seen, message_view};
 ghost use Rattle.fluent_bundle.specs.Adding.{answer_of};
 
@@ -84,8 +86,8 @@ impl<
     /// Makes a bundle with no messages, with isolation on, without transform and formatter, and with a limit of 100
     /// placeables. It keeps the allocator and takes no memory yet.
     pub fn new(alloc: Global, locales: Vec<LanguageIdentifier>, intls: M) -> Self
-        ensures holds { (result.locales ≡ locales) × (result.intls ≡ intls) }
-        ensures unset { (result.transform ≡ None) × (result.formatter ≡ None) }
+        ensures holds { (result.locales ≡ locales) × (intls_in result ≡ intls) }
+        ensures unset { (transform_in result ≡ None) × (formatter_in result ≡ None) }
         ensures empty { let of = ⟦<Self as Context<C>>⟧.meant in
             of result ≡ empty_bundle (M.category intls) (custom_by C.shown C.alike) }
     {
@@ -104,7 +106,7 @@ impl<
 
     /// What the bundle's ids name, which a scope is handed beside the bundle.
     pub fn ids(&self) -> &Ids<'r, 's, F>
-        ensures { result.now ≡ self.now.entries }
+        ensures { result.now ≡ entries_in self.now }
     {
         &self.entries
     }
@@ -123,9 +125,9 @@ impl<
         ensures step { let of = ⟦<Self as Context<C>>⟧.meant in
             let changes = option_map T.changed transform in
             of self.new ≡ after (set_transform changes) (of self.old) }
-        ensures set { self.new.transform ≡ transform }
+        ensures set { transform_in self.new ≡ transform }
         ensures kept { KeptBeside self.old self.new }
-        ensures formatter { self.new.formatter ≡ self.old.formatter }
+        ensures formatter { formatter_in self.new ≡ formatter_in self.old }
     {
         self.transform = transform;
     }
@@ -134,11 +136,11 @@ impl<
     /// set is dropped.
     pub fn set_formatter(&mut self, formatter: Option<G>)
         ensures step { let of = ⟦<Self as Context<C>>⟧.meant in
-            let shows = option_map (λ g v. G.formatted g v self.old.intls) formatter in
+            let shows = option_map (λ g v. G.formatted g v (intls_in self.old)) formatter in
             of self.new ≡ after (set_formatter shows) (of self.old) }
-        ensures set { self.new.formatter ≡ formatter }
+        ensures set { formatter_in self.new ≡ formatter }
         ensures kept { KeptBeside self.old self.new }
-        ensures transform { self.new.transform ≡ self.old.transform }
+        ensures transform { transform_in self.new ≡ transform_in self.old }
     {
         self.formatter = formatter;
     }
@@ -167,7 +169,8 @@ impl<
     /// `Memory` where memory was refused: the bundle is as before.
     pub fn add_resource(&mut self, resource: &'r FluentResource<'s>) -> Result<(), AddFault>
         ensures step { let of = ⟦<Self as Context<C>>⟧.meant in
-            AnswersCall (of self.old) (add_resource (entries_of resource.now)) (of self.new) result }
+            let adding = add_resource (entries_of resource.now) in
+            AnswersCall (of self.old) adding (of self.new) result }
         ensures kept { Kept self.old self.new }
     {
         all_added(self.take_resource(resource))
@@ -219,7 +222,8 @@ impl<
     /// before, and the function is dropped.
     pub fn add_function(&mut self, id: &str, function: F) -> Result<(), AddFault>
         ensures step { let of = ⟦<Self as Context<C>>⟧.meant in
-            AnswersCall (of self.old) (add_function id.now (F.answer function)) (of self.new) result }
+            let adding = add_function id.now (F.answer function) in
+            AnswersCall (of self.old) adding (of self.new) result }
         ensures kept { Kept self.old self.new }
     {
         all_added(self.take_function(id, function))
@@ -295,7 +299,7 @@ impl<
         ensures empty { let of = ⟦<Self as Context<C>>⟧.meant in
             IfOk result (λ b. of b ≡ empty_bundle english (custom_by C.shown C.alike)) }
         ensures locales { IfOk result (λ b. AreUndetermined b.locales.items) }
-        ensures unset { IfOk result (λ b. (b.transform ≡ None) × (b.formatter ≡ None)) }
+        ensures unset { IfOk result (λ b. (transform_in b ≡ None) × (formatter_in b ≡ None)) }
     {
         let mut locales = Vec::new(alloc);
         locales.push(LanguageIdentifier::und(alloc))?;
@@ -316,7 +320,7 @@ impl<
     ghost use Rattle.fluent_values.specs.EntryView.{ids};
 
     // The ids of what the bundle means.
-    ghost named = { λ b id. get id (ids F.answer b.entries) };
+    ghost named = { λ b id. get id (ids F.answer (entries_in b)) };
 
     ghost answer = { F.answer };
 

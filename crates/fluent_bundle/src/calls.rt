@@ -2,7 +2,7 @@
 ghost use Rattle.std.specs.Prelude.{◌≡◌, [], ◌∷◌, OnOk, OnErr, IsOk};
 ghost use Rattle.std.specs.List.{All};
 ghost use Rattle.fluent_bundle.specs.Adding.{unless_refused};
-ghost use Rattle.fluent_bundle.specs.BundleView.{Kept};
+ghost use Rattle.fluent_bundle.specs.BundleView.{intls_in, Kept};
 ghost use Rattle.fluent_bundle.specs.Calls.{asked, BegunBy, Makes, TakesNoMemory};
 
 use crate::bundle::{AddFault, FluentBundle};
@@ -44,7 +44,7 @@ impl<
     /// Memory was refused, which the setters can't meet: the bundle is as before.
     pub fn make(&mut self, call: Call<'r, 's, F, G, T>) -> Result<(), AllocError>
         ensures ok { let of = ⟦<Self as Context<C>>⟧.meant in
-            let ask = asked F.answer G.formatted T.changed self.old.intls in
+            let ask = asked F.answer G.formatted T.changed (intls_in self.old) in
             OnOk result (Makes of ask (call.entry ∷ []) self.old self.new) }
         ensures err { let of = ⟦<Self as Context<C>>⟧.meant in
             OnErr result ((of self.new ≡ of self.old) × Kept self.old self.new) }
@@ -82,10 +82,10 @@ impl<
     /// what the others hand over is dropped.
     pub fn make_all(&mut self, calls: Vec<Call<'r, 's, F, G, T>>) -> Result<(), AllocError>
         ensures ok { let of = ⟦<Self as Context<C>>⟧.meant in
-            let ask = asked F.answer G.formatted T.changed self.old.intls in
+            let ask = asked F.answer G.formatted T.changed (intls_in self.old) in
             OnOk result (Makes of ask calls.entry.items self.old self.new) }
         ensures err { let of = ⟦<Self as Context<C>>⟧.meant in
-            let ask = asked F.answer G.formatted T.changed self.old.intls in
+            let ask = asked F.answer G.formatted T.changed (intls_in self.old) in
             OnErr result (BegunBy of ask calls.entry.items self.old self.new) }
         ensures succeeds { All TakesNoMemory calls.entry.items → IsOk result }
     {

@@ -1,10 +1,13 @@
 //! The formatting calls of a bundle.
+#![tactic(auto, unfolding(crate::specs::BundleView::bundle_parts))]
+
 ghost use Rattle.std.specs.Prelude.{◌≡◌, ◌≢◌, ◌≤◌, ◌++◌, ◌&&◌, not, if◌then◌else◌, is_some, None, false, Err, IfOk, OnOk, IsOk, true, string_bytes};
 ghost use Rattle.std.specs.Option.{option_map};
 ghost use Rattle.fluent_meaning.specs.Value.{text_value};
 ghost use Rattle.fluent_text.specs.Taken.{Faulted};
 ghost use Rattle.fluent_tree.specs.View.{pattern_view};
 ghost use Rattle.fluent_meaning.specs.Result.{written_pattern};
+ghost use Rattle.fluent_bundle.specs.BundleView.{formatter_in, transform_in};
 ghost use Rattle.fluent_bundle.specs.Formatted.{AddsAll, AddsFront, Writes};
 ghost use Rattle.fluent_bundle.specs.Formatting.{WritesWithin, WritesWhole, WritesBeginning, GivesWithin, GivesWhole, AddsBeginning};
 ghost use Rattle.fluent_bundle.specs.Limits.{KeepsLimit};
@@ -86,7 +89,7 @@ impl<
             let args = arguments_view C.content args.entry in
             KeepsLimit (of self.now) args (pattern_view pattern.now) }
         ensures fault { Faulted w.old.failed w.old.empty w.new.failed w.new.empty result }
-        ensures memory { IsTextAlone (pattern_view pattern.now) → self.now.transform ≡ None →
+        ensures memory { IsTextAlone (pattern_view pattern.now) → transform_in self.now ≡ None →
             result ≢ Err WriteFault.Memory }
     {
         laws::limits_are_kept();
@@ -130,7 +133,7 @@ impl<
             let args = arguments_view C.content args.entry in
             KeepsLimit (of self.now) args (pattern_view pattern.now) }
         ensures lent { is_some (sole_text (pattern_view pattern.now)) ≡ true →
-            self.now.transform ≡ None → self.now.formatter ≡ None → IsOk result }
+            transform_in self.now ≡ None → formatter_in self.now ≡ None → IsOk result }
     {
         laws::limits_are_kept();
         if let Some(text) = self.sole_text(pattern) {
@@ -145,8 +148,8 @@ impl<
 
     /// The text of a pattern that is one text, where no transform and no formatter is set.
     fn sole_text<'p>(&self, pattern: &Pattern<'p>) -> Option<&'p str>
-        ensures { option_map (λ t. t.now) result ≡ (if not (is_some self.now.transform)
-            && not (is_some self.now.formatter) then sole_text (pattern_view pattern.now)
+        ensures { option_map (λ t. t.now) result ≡ (if not (is_some (transform_in self.now))
+            && not (is_some (formatter_in self.now)) then sole_text (pattern_view pattern.now)
             else None) }
     {
         if self.transform.is_none() && self.formatter.is_none() {
@@ -158,7 +161,7 @@ impl<
 
     /// Whether the text of a pattern is its own: it holds nothing else, and no transform is set.
     fn writes_texts_alone(&self, pattern: &Pattern<'_>) -> bool
-        ensures { result ≡ (not (is_some self.now.transform)
+        ensures { result ≡ (not (is_some (transform_in self.now))
             && is_text (pattern_view pattern.now)) }
     {
         self.transform.is_none() && is_text(pattern)
@@ -187,7 +190,7 @@ impl<
             Writes result (written_pattern (of self.now) args (pattern_view pattern.now))
             (sink W.contents out.old) (sink W.contents out.new)
             errors.old.items errors.new.items }
-        ensures memory { IsTextAlone (pattern_view pattern.now) → self.now.transform ≡ None →
+        ensures memory { IsTextAlone (pattern_view pattern.now) → transform_in self.now ≡ None →
             out.old.is_buffered ≡ false → result ≢ Err Halt.Memory }
     {
         if self.writes_texts_alone(pattern) {

@@ -1,10 +1,12 @@
 //! A source with what was read from it.
+#![tactic(auto, unfolding(crate::specs::BundleView::source_in, crate::specs::BundleView::entries_of))]
+
 ghost use Rattle.std.specs.Prelude.{◌≡◌, map};
 ghost use Rattle.std.specs.Option.{option_map};
 ghost use Rattle.std.specs.List.{slice_get};
 ghost use Rattle.std.specs.Slice.Iter.{iter_rest};
 ghost use Rattle.fluent_tree.specs.View.{entry_view};
-ghost use Rattle.fluent_bundle.specs.BundleView.{Tried, entries_of};
+ghost use Rattle.fluent_bundle.specs.BundleView.{Tried, entries_of, source_in};
 
 use fluent_syntax::{ParseFault, ParserError, ast, parse_runtime};
 use std::alloc::Global;
@@ -50,7 +52,7 @@ impl<'s> FluentResource<'s> {
 
     /// The text that the resource was read from.
     pub fn source(&self) -> &'s str
-        ensures { result.now ≡ self.now.source.now }
+        ensures { result.now ≡ source_in self.now }
     {
         self.source
     }

@@ -8,6 +8,7 @@ use Rattle.fluent_meaning.specs.Arguments.{Map}
 use Rattle.fluent_meaning.specs.Bundle.{Bundle}
 use Rattle.fluent_values.specs.Texts.{sole_text}
 use Rattle.fluent_values.specs.declared.errors.FluentError.{FluentError}
+use Rattle.fluent_bundle.specs.BundleView.{formatter_in, transform_in}
 use Rattle.fluent_bundle.specs.Formatted.{GivesText}
 use Rattle.fluent_bundle.specs.declared.bundle.FluentBundle.{FluentBundle}
 use Rattle.fluent_chain.specs.Chain.{shown_of, substituted_of, IsWithin}
@@ -40,4 +41,5 @@ abbrev pub AnswersWithoutMemory : {M C F G X : Type 0}
     → Option (FluentBundle M C F G X × Pattern) → Type 0
 AnswersWithoutMemory None = ⊤
 AnswersWithoutMemory (Some found) =
-    (is_some (sole_text found.1) ≡ true) × (found.0.transform ≡ None) × (found.0.formatter ≡ None)
+    (is_some (sole_text found.1) ≡ true)
+    × (transform_in found.0 ≡ None) × (formatter_in found.0 ≡ None)

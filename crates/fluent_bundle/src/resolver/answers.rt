@@ -1,4 +1,5 @@
 //! What a bundle answers to the resolver.
+#![tactic(auto, unfolding(crate::specs::BundleView::bundle_parts))]
 
 ghost use Rattle.std.specs.Prelude.{◌≡◌, IfOk, string_bytes};
 ghost use Rattle.std.specs.Option.{option_map};
@@ -25,13 +26,13 @@ impl<
     G: FluentFormatter<C, M>,
     T: Transform,
 > Context<C> for FluentBundle<'r, 's, M, C, F, G, T> {
-    ghost use Rattle.fluent_bundle.specs.BundleView.{meant, is_plain};
+    ghost use Rattle.fluent_bundle.specs.BundleView.{alloc_in, meant, is_plain};
 
     ghost meant = { λ b. meant M.category C.shown C.alike F.answer G.formatted T.changed b };
 
     ghost is_plain = { is_plain };
 
-    ghost memory = { λ b. b.alloc };
+    ghost memory = { alloc_in };
 
     fn allocator(&self) -> Global {
         self.alloc

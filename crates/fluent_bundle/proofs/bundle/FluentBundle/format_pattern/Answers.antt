@@ -2,7 +2,7 @@ use Rattle.std.proofs.Common.{rules, sym, ap, ◌∙◌}
 use Rattle.std.specs.Option.{option_map}
 use Rattle.fluent_tree.specs.View.{pattern_view}
 use Rattle.fluent_meaning.specs.Bundle.{transform_of, formatter_of}
-use Rattle.fluent_bundle.specs.BundleView.{meant}
+use Rattle.fluent_bundle.specs.BundleView.{formatter_in, intls_in, meant, transform_in}
 use Rattle.fluent_values.specs.Status.{arguments_view}
 use Rattle.fluent_bundle.proofs.Givings.{gives_within, lent_where, sole_formatted, none_added}
 use Rattle.fluent_bundle.proofs.bundle.FluentBundle.format_pattern.Goals as goal
@@ -14,11 +14,11 @@ returns-in-Some-clause-whole g c =
     let env = arguments_view g.C.FluentType.content c.args.args in
     let p = pattern_view c.args.pattern.now in
     let t = c.in-Some.text.now in
-    let lent = lent_where self.transform self.formatter p t (sym (ap (option_map (λ t. t.now)) c.in-Some.is) ∙ c.sole_text.ensures) in
+    let lent = lent_where (transform_in self) (formatter_in self) p t (sym (ap (option_map (λ t. t.now)) c.in-Some.is) ∙ c.sole_text.ensures) in
     record {
       text = sole_formatted b env p t
           (λ u. ap (λ o. transform_of (option_map g.T.Transform.changed o) u) lent.0)
-          (λ v. ap (λ o. formatter_of (option_map (λ f v. g.G.FluentFormatter.formatted f v self.intls) o) v) lent.1)
+          (λ v. ap (λ o. formatter_of (option_map (λ f v. g.G.FluentFormatter.formatted f v (intls_in self)) o) v) lent.1)
           lent.2;
       adds = none_added b env p t c.args.errors.now.items lent.2;
     }

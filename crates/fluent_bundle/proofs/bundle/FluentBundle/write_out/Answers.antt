@@ -4,8 +4,8 @@ use Rattle.fluent_tree.specs.Tree.{Text}
 use Rattle.fluent_tree.specs.View.{pattern_view}
 use Rattle.fluent_meaning.specs.Bundle.{transform_of}
 use Rattle.fluent_meaning.specs.Result.{written_pattern}
-use Rattle.fluent_bundle.specs.BundleView.{meant, is_plain}
-use Rattle.fluent_values.specs.Status.{arguments_view, reported, status}
+use Rattle.fluent_bundle.specs.BundleView.{bundle_parts, is_plain, meant, transform_in}
+use Rattle.fluent_values.specs.Status.{arguments_view, errors_in, reported, status}
 use Rattle.fluent_bundle.proofs.Formats.{fresh, never_none, writes_of, writes_text}
 use Rattle.fluent_bundle.proofs.Givings.{texts_errors, texts_value, texts_where}
 use Rattle.fluent_bundle.proofs.bundle.FluentBundle.write_out.Goals as goal
@@ -16,13 +16,14 @@ returns-then-writes_texts_alone-clause-writes g c =
     let b = meant g.M.MemoizerKind.category g.C.FluentType.shown g.C.FluentType.alike g.F.FluentFunction.answer g.G.FluentFormatter.formatted g.T.Transform.changed self in
     let env = arguments_view g.C.FluentType.content c.args.args in
     let p = pattern_view c.args.pattern.now in
-    let here = texts_where self.transform p (sym c.writes_texts_alone.ensures ∙ c.if-writes_texts_alone.true) in
+    let here = texts_where (transform_in self) p (sym c.writes_texts_alone.ensures ∙ c.if-writes_texts_alone.true) in
     let plain : (u : Text) → b.transform u ≡ u = λ u. ap (λ o. transform_of (option_map g.T.Transform.changed o) u) here.0 in
     writes_text (written_pattern b env p) c.args.errors.now.items
     (texts_value b env p plain here.1)
     (texts_errors b env p plain here.1) c.put_texts.ensures.took
 
 pub returns-in-Some-clause-writes : goal.returns-in-Some-clause-writes
+unfolding bundle_parts
 returns-in-Some-clause-writes g c =
     let of = meant g.M.MemoizerKind.category g.C.FluentType.shown g.C.FluentType.alike g.F.FluentFunction.answer g.G.FluentFormatter.formatted g.T.Transform.changed in
     let begins = c.new-scope.ensures.begins in
@@ -37,4 +38,4 @@ returns-in-Some-clause-writes g c =
 pub returns-in-None-clause-writes : goal.returns-in-None-clause-writes
 returns-in-None-clause-writes g c =
     let kept = c.write_pattern-written.ensures.wrote.went.along.passed.keeps.list in
-    absurd (never_none (λ e. e.ghost_name) c.write_pattern-written.new.scope.errors _ (sym c.into_errors.ensures ∙ c.in-None.is) (kept ∙ ap (option_map (λ e. e.ghost_name)) c.new-scope.ensures.errors))
+    absurd (never_none (λ e. e.ghost_name) (errors_in c.write_pattern-written.new.scope) _ (sym c.into_errors.ensures ∙ c.in-None.is) (kept ∙ ap (option_map (λ e. e.ghost_name)) c.new-scope.ensures.errors))
