@@ -19,8 +19,8 @@ value_at id b = option_and_then (λ message. message.value) (message_at id b)
 -- its first attribute of the name
 abbrev pub attribute_at : {C : Type 0} → Text → Text → Bundle C → Option Pattern
 attribute_at id name b =
-    let value = λ message. option_map (λ a. a.1) (first_named name message.attributes) in
-    option_and_then value (message_at id b)
+    option_and_then (λ message. option_map (λ a. a.1) (first_named name message.attributes))
+    (message_at id b)
 
 -- ---- which bundle answers
 

@@ -12,7 +12,7 @@ ghost use Rattle.fluent_command.specs.Words.{name_and_value};
 ghost use Rattle.fluent_command.specs.Inside.WordsView.{asked_view};
 ghost use Rattle.fluent_command.specs.Inside.PluralsView.{plurals_view};
 ghost use Rattle.fluent_command.specs.EndingView.{ending_view};
-ghost use Rattle.fluent_command.specs.Inside.BundleView.{arguments_view, bundle_view};
+ghost use Rattle.fluent_command.specs.Inside.BundleView.{args_view, bundle_view};
 ghost use Rattle.fluent_command.specs.Program.{arguments_of, error_at, junk_errors, adding_errors, both_adding_errors, start, bundle_of};
 ghost use Rattle.fluent_command.specs.Program.{run_pattern, run_chain, run_value, run_entries, run_alone, run_both, run_fallback, run_source, source_errors, errors_of_sources};
 ghost use Rattle.fluent_command.specs.Inside.Far.{Added, AddedFirst, Took};
@@ -44,7 +44,7 @@ type Bundle<'p, 'r, 's> = FluentBundle<
 /// The arguments that words `NAME=VALUE` give. A value that is the text of a number is a number, any other a text.
 fn arguments<'w>(alloc: Global, words: &'w [String]) -> Result<FluentArgs<'w, NoCustom>, AllocError>
     ensures { IfOk result (λ args.
-        arguments_view args ≡ arguments_of (map name_and_value (map string_bytes words.now))) }
+        args_view args ≡ arguments_of (map name_and_value (map string_bytes words.now))) }
 {
     let mut args = FluentArgs::new(alloc);
     for word in words {

@@ -21,5 +21,5 @@ abbrev pub bundle_view : FluentBundle Plurals NoCustom NoFunction NoFormatter No
 bundle_view =
     meant plurals_view (λ t. []) (λ s t. true) (λ f vs as'. error_value) (λ g v m. None) (λ x t. t)
 
-abbrev pub arguments_view : FluentArgs NoCustom → Map (Value Text)
-arguments_view = named (λ c. [])
+abbrev pub args_view : FluentArgs NoCustom → Map (Value Text)
+args_view = named (λ c. [])

@@ -1,11 +1,11 @@
 use Rattle.std.proofs.Common.{◌≡◌, map, drop, string_bytes}
 use Rattle.fluent_meaning.specs.Arguments.{set_all}
 use Rattle.fluent_command.specs.Words.{name_and_value}
-use Rattle.fluent_command.specs.Inside.BundleView.{arguments_view}
+use Rattle.fluent_command.specs.Inside.BundleView.{args_view}
 use Rattle.fluent_command.specs.Program.{argument, arguments_of}
 use Rattle.fluent_command.proofs.show.arguments.Given as goal
 
 abbrev pub invariant-loop-word : goal.invariant-loop-word
 invariant-loop-word l =
-    set_all (map argument (map name_and_value (map string_bytes (drop l.word-index l.words)))) (arguments_view l.args)
+    set_all (map argument (map name_and_value (map string_bytes (drop l.word-index l.words)))) (args_view l.args)
     ≡ arguments_of (map name_and_value (map string_bytes l.words))
