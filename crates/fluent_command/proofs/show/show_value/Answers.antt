@@ -10,3 +10,8 @@ returns-in_err-write_value-clause-text g c =
     let faulted : is_ok c.from_residual.result ≡ false = search rules in
     let found : value_at c.args.request.id.now (bundle_view c.args.bundle.now) ≡ Some (pattern_view c.in-Some-value.pattern.now) = search rules in
     rw found (took_recast c.write_value.result _ _ _ _ _ (faulted ∙ sym (ap is_ok c.in_err-write_value.was)) refl c.write_value.ensures.text)
+
+pub returns-clause-text : goal.returns-clause-text
+returns-clause-text g c =
+    let found : value_at c.args.request.id.now (bundle_view c.args.bundle.now) ≡ Some (pattern_view c.in-Some-value.pattern.now) = search rules in
+    rw found (took_recast c.write_value.result _ _ _ _ _ (sym (ap is_ok c.in_ok-write_value.was)) refl c.write_value.ensures.text)
