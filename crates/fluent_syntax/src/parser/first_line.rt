@@ -50,7 +50,7 @@ pub fn may_go_on(s: &str) -> bool
 /// The same where blank lines may follow.
 #[inline(never)]
 fn may_go_on_below(s: &str) -> bool
-    ensures { (result ≡ false) → Ends s.now }
+    ensures { (result ≡ false) → LineEndsPattern s.now }
 {
     let Some((_, line)) = blank_block(s) else {
         return true;
