@@ -112,10 +112,16 @@ fn pairs(alloc: Global) -> Result<Vec<Pair>, AllocError> {
     Ok(pairs)
 }
 
+/// Whether the arguments are two.
+fn are_two(args: &Args) -> bool {
+    let mut pairs = args.iter();
+    pairs.next().is_some() && pairs.next().is_some() && pairs.next().is_none()
+}
+
 /// Whether they are there, and the last that came twice.
 fn are_gathered(args: Result<Args, AllocError>) -> Result<bool, AllocError> {
     let args = args?;
-    Ok(has(&args, "a", "2") && has(&args, "b", "3") && args.iter().count() == 2)
+    Ok(has(&args, "a", "2") && has(&args, "b", "3") && are_two(&args))
 }
 
 fn arguments_are_gathered(alloc: Global) -> Result<bool, AllocError> {
