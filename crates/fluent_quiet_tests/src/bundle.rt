@@ -164,14 +164,16 @@ fn is_named(bundle: &Bundle<'_, '_>, id: &str, kind: Kind) -> bool {
         && bundle.get_message(id).is_some() == is_message
 }
 
-/// Adds a resource, a function and the built-in one.
-fn fill<'r, 's>(
-    bundle: &mut Bundle<'r, 's>,
+/// A bundle of a resource, with a function and the built-in one.
+fn made<'r, 's>(
+    alloc: Global,
     resource: &'r FluentResource<'s>,
-) -> Result<(), AllocError> {
+) -> Result<Bundle<'r, 's>, AllocError> {
+    let mut bundle: Bundle<'r, 's> = empty(alloc);
     bundle.make(Call::AddResource(resource))?;
     bundle.make(Call::AddFunction("F", Own::Nothing))?;
-    bundle.make(Call::AddBuiltins)
+    bundle.make(Call::AddBuiltins)?;
+    Ok(bundle)
 }
 
 fn has_no_ids(alloc: Global) -> bool {
@@ -181,15 +183,16 @@ fn has_no_ids(alloc: Global) -> bool {
 
 fn answer_alike<'r, 's: 'r>(
     rt: &impl Abort,
-    bundle: &Bundle<'r, 's>,
+    alloc: Global,
     resource: &'r FluentResource<'s>,
 ) -> Result<(), Fail> {
+    let bundle = made(alloc, resource)?;
     let first = message_of(resource)?;
     check(rt, is_read(resource), "entries");
     check(rt, is_first(bundle.get_message("m"), first), "m");
     check(rt, is_second(bundle.get_message("k"), first), "k");
     for (id, kind) in NAMED {
-        check(rt, is_named(bundle, *id, *kind), *id);
+        check(rt, is_named(&bundle, *id, *kind), *id);
     }
     Ok(())
 }
@@ -198,8 +201,6 @@ fn answer_alike<'r, 's: 'r>(
 #[test]
 fn look_ups_take_no_memory(rt: HostRuntime) -> Result<(), Fail> {
     let resource = read(rt.alloc(), SOURCE)?;
-    let mut bundle: Bundle<'_, '_> = empty(rt.alloc());
-    fill(&mut bundle, &resource)?;
     check(&rt, has_no_ids(rt.alloc()), "no ids");
-    answer_alike(&rt, &bundle, &resource)
+    answer_alike(&rt, rt.alloc(), &resource)
 }

@@ -135,25 +135,14 @@ fn new<'r, 's>(alloc: Global) -> Bundle<'r, 's> {
     FluentBundle::new(alloc, Vec::new(alloc), EnglishPlurals)
 }
 
-/// Whether a setter does what it should, called and as a value.
-fn is_set(
-    called: &mut Bundle<'_, '_>,
-    made: &mut Bundle<'_, '_>,
-    setter: Setter,
-    settings: Settings,
-) -> bool {
-    set(called, setter)
-        && made.make(call(setter)).is_ok()
-        && has(called, settings)
-        && has(made, settings)
-}
-
-/// Whether each setter does.
+/// Whether each setter does what it should, called and as a value.
 fn are_set(alloc: Global) -> bool {
     let mut called = new(alloc);
     let mut made = new(alloc);
     for (setter, settings) in ROWS {
-        if !is_set(&mut called, &mut made, *setter, *settings) {
+        let is_told = set(&mut called, *setter);
+        let is_made = made.make(call(*setter)).is_ok();
+        if !is_told || !is_made || !has(&called, *settings) || !has(&made, *settings) {
             return false;
         }
     }

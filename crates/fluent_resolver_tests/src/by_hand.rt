@@ -1,5 +1,5 @@
 //! Patterns made by hand, of which many stand in no source, and patterns of other sources.
-use crate::rows::{Wanted, gives, wants};
+use crate::rows::{gives, wants};
 use crate::trees::{
     Asked, Inline, Tree, alone, asked, bare_term, beside, case_number, case_of, choice, default,
     function, in_brackets, message, named, nested, number, only, only_named, put, say, select,
@@ -131,26 +131,30 @@ fn patterns_of_any_elements_are_written(rt: HostRuntime) -> Result<(), Fail> {
     patterns_give(&rt, rt.alloc(), &bundle)
 }
 
-/// What the first message of another source gives.
-fn other_gives(
-    rt: &impl Abort,
-    alloc: Global,
-    bundle: &Bundle<'_, 'static>,
-    source: &'static str,
-    wanted: &Wanted<'_>,
-) -> Result<(), Fail> {
-    let other = read(alloc, source)?;
-    gives(rt, alloc, bundle, value_of(&other)?, NINE, wanted)
-}
-
 /// A pattern of another source goes by its content, and not by the id that it has there.
 #[test]
 fn patterns_of_other_sources_are_written(rt: HostRuntime) -> Result<(), Fail> {
-    let resource = read(rt.alloc(), SOURCE)?;
-    let bundle = bundle_of(rt.alloc(), SETTINGS, &resource)?;
-    other_gives(&rt, rt.alloc(), &bundle, "m = x{ m }", &wants("xmm", ""))?;
-    let same = wants("x{foo}", CYCLIC);
-    other_gives(&rt, rt.alloc(), &bundle, "other = x{ foo }", &same)
+    let alloc = rt.alloc();
+    let resource = read(alloc, SOURCE)?;
+    let bundle = bundle_of(alloc, SETTINGS, &resource)?;
+    let of_one_id = read(alloc, "m = x{ m }")?;
+    let of_one_content = read(alloc, "other = x{ foo }")?;
+    gives(
+        &rt,
+        alloc,
+        &bundle,
+        value_of(&of_one_id)?,
+        NINE,
+        &wants("xmm", ""),
+    )?;
+    gives(
+        &rt,
+        alloc,
+        &bundle,
+        value_of(&of_one_content)?,
+        NINE,
+        &wants("x{foo}", CYCLIC),
+    )
 }
 
 // ---- references

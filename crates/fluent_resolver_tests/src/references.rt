@@ -1,7 +1,6 @@
 //! References to messages, terms and attributes: what they give, in which environment, and where they are cyclic.
 use crate::check::check;
 use crate::rows::{Table, gives, hold, wants};
-use fluent_bundle::{FluentAttribute, FluentMessage};
 use fluent_fixtures::common::read;
 use fluent_fixtures::objects::Answer;
 use fluent_fixtures::settings::{Bundle, Given, Named, Setting, bundle_of};
@@ -297,49 +296,37 @@ fn references_give_what_they_lead_to(rt: HostRuntime) -> Result<(), Fail> {
     hold(&rt, rt.alloc(), &[MESSAGES, TERMS, CYCLES, TWINS, LONG])
 }
 
-const MODAL: &str = "
-confirm-modal = Are you sure?
-    .confirm = Yes
-    .cancel = No
-    .tooltip = Closing the window will lose all unsaved data.
-";
-
-/// What an attribute is written and formatted as.
-fn attribute_gives<'s>(
-    rt: &impl Abort,
-    alloc: Global,
-    bundle: &Bundle<'_, 's>,
-    next: Option<FluentAttribute<'_, 's>>,
-    text: &str,
-) -> Result<(), Fail> {
-    match next {
-        Some(attribute) => gives(rt, alloc, bundle, attribute.value(), &[], &wants(text, "")),
-        None => Err("no attribute".into()),
-    }
-}
-
 /// The texts of all attributes of a message, in order.
-fn attributes_give<'s>(
+fn attributes_give(
     rt: &impl Abort,
     alloc: Global,
-    bundle: &Bundle<'_, 's>,
-    message: &FluentMessage<'_, 's>,
+    bundle: &Bundle<'_, '_>,
+    id: &str,
+    texts: &[&str],
 ) -> Result<(), Fail> {
-    let mut attributes = message.attributes();
-    attribute_gives(rt, alloc, bundle, attributes.next(), "Yes")?;
-    attribute_gives(rt, alloc, bundle, attributes.next(), "No")?;
-    let tooltip = "Closing the window will lose all unsaved data.";
-    attribute_gives(rt, alloc, bundle, attributes.next(), tooltip)?;
+    let mut attributes = bundle.get_message(id).ok_or("no message")?.attributes();
+    for text in texts {
+        let attribute = attributes.next().ok_or("no attribute")?;
+        gives(rt, alloc, bundle, attribute.value(), &[], &wants(*text, ""))?;
+    }
     check(rt, attributes.next().is_none(), "no more");
     Ok(())
 }
 
 #[test]
 fn attributes_are_patterns_too(rt: HostRuntime) -> Result<(), Fail> {
-    let resource = read(rt.alloc(), MODAL)?;
+    let source = "
+confirm-modal = Are you sure?
+    .confirm = Yes
+    .cancel = No
+    .tooltip = Closing the window will lose all unsaved data.
+";
+    let texts = [
+        "Yes",
+        "No",
+        "Closing the window will lose all unsaved data.",
+    ];
+    let resource = read(rt.alloc(), source)?;
     let bundle = bundle_of(rt.alloc(), &[], &resource)?;
-    match bundle.get_message("confirm-modal") {
-        Some(message) => attributes_give(&rt, rt.alloc(), &bundle, &message),
-        None => Err("no message".into()),
-    }
+    attributes_give(&rt, rt.alloc(), &bundle, "confirm-modal", &texts)
 }
