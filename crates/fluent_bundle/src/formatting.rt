@@ -4,7 +4,7 @@
 ghost use Rattle.std.specs.Prelude.{◌≡◌, ◌≢◌, ◌≤◌, ◌++◌, ◌&&◌, not, if◌then◌else◌, is_some, None, false, Err, IfOk, OnOk, IsOk, true, string_bytes};
 ghost use Rattle.std.specs.Option.{option_map};
 ghost use Rattle.fluent_meaning.specs.Value.{text_value};
-ghost use Rattle.fluent_text.specs.Taken.{Faulted};
+ghost use Rattle.fluent_text.specs.Writer.{writer_in, failed_in, empty_in, CountsFault};
 ghost use Rattle.fluent_tree.specs.View.{pattern_view};
 ghost use Rattle.fluent_meaning.specs.Result.{written_pattern};
 ghost use Rattle.fluent_bundle.specs.BundleView.{formatter_in, transform_in};
@@ -69,26 +69,26 @@ impl<
         ensures within { let of = ⟦<Self as Context<C>>⟧.meant in
             let args = arguments_view C.content args.entry in
             WritesWithin (of self.now) args (pattern_view pattern.now) result
-            (W.contents w.old.inner) (W.contents w.new.inner)
+            (W.contents (writer_in w.old)) (W.contents (writer_in w.new))
             errors.old.items errors.new.items }
 
         // With the budget, in every case.
         ensures whole { let of = ⟦<Self as Context<C>>⟧.meant in
             let args = arguments_view C.content args.entry in
             WritesWhole (of self.now) args (pattern_view pattern.now) result
-            (W.contents w.old.inner) (W.contents w.new.inner)
+            (W.contents (writer_in w.old)) (W.contents (writer_in w.new))
             errors.old.items errors.new.items }
 
         // Whatever is answered.
         ensures front { let of = ⟦<Self as Context<C>>⟧.meant in
             let args = arguments_view C.content args.entry in
             WritesBeginning (of self.now) args (pattern_view pattern.now)
-            (W.contents w.old.inner) (W.contents w.new.inner)
+            (W.contents (writer_in w.old)) (W.contents (writer_in w.new))
             errors.old.items errors.new.items }
         ensures limit { let of = ⟦<Self as Context<C>>⟧.meant in
             let args = arguments_view C.content args.entry in
             KeepsLimit (of self.now) args (pattern_view pattern.now) }
-        ensures fault { Faulted w.old.failed w.old.empty w.new.failed w.new.empty result }
+        ensures fault { CountsFault w.old w.new result }
         ensures memory { IsTextAlone (pattern_view pattern.now) → transform_in self.now ≡ None →
             result ≢ Err WriteFault.Memory }
     {
@@ -257,8 +257,8 @@ impl<
             let args = arguments_view C.content args.entry in
             AddsFront (written_pattern (of self.now) args (pattern_view pattern.now)).errors
             errors.old.items errors.new.items }
-        ensures fault { CountsTell unused.old.failed unused.old.empty unused.new.failed
-            unused.new.empty result }
+        ensures fault { CountsTell (failed_in unused.old) (empty_in unused.old)
+            (failed_in unused.new) (empty_in unused.new) result }
     {
         let mut out = Output {
             writer: unused,

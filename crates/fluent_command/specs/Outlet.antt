@@ -3,6 +3,7 @@ use Rattle.std.specs.Prelude.{◌≡◌, ℕ, ◌⊎◌, Option}
 use Rattle.std.specs.Io.KnownBytes.{Appends}
 use Rattle.fluent_tree.specs.Tree.{Text}
 use Rattle.fluent_text.specs.Taken.{raised, TookFront}
+use Rattle.fluent_text.specs.Writer.{writer_in, failed_in, empty_in}
 use Rattle.fluent_text.specs.declared.counting.Counting.{Counting}
 use Rattle.fluent_meaning.specs.Laws.{Begins}
 
@@ -13,7 +14,7 @@ pub record Outlet : Type 0 where
   pub empty : ℕ
 
 abbrev pub outlet : {W : Type 0} → (W → Option Text) → Counting W → Outlet
-outlet contents w = record { held = contents w.inner; failed = w.failed; empty = w.empty }
+outlet contents w = record { held = contents (writer_in w); failed = failed_in w; empty = empty_in w }
 
 -- one of two counts went up: that of the writes that failed, or that of those that took nothing
 abbrev pub Rose : ℕ → ℕ → ℕ → ℕ → Type 0

@@ -1,7 +1,7 @@
 //! What is said on standard error, and the status.
 
 ghost use Rattle.std.specs.Prelude.{◌≡◌, ◌≢◌, [], Err, IfOk, OnErr, string_bytes};
-ghost use Rattle.fluent_text.specs.Taken.{Faulted};
+ghost use Rattle.fluent_text.specs.Writer.{writer_in, CountsFault};
 ghost use Rattle.fluent_meaning.specs.Errors.{error_text};
 ghost use Rattle.fluent_values.specs.View.{error_view};
 ghost use Rattle.fluent_command.specs.Ending.{exit_status, line, no_message, ending_line};
@@ -14,7 +14,7 @@ ghost use Rattle.fluent_command.specs.Inside.Said.{BeganToSay, Says, TookErrors}
 
 use fluent_bundle::{Counting, FluentError, WriteFault};
 use fluent_intl::RuleFault;
-use fluent_syntax::counting::put;
+use fluent_syntax::put;
 use std::alloc::{AllocError, Global};
 use std::io::Write;
 
@@ -93,8 +93,8 @@ fn put_errors<E: Write>(
     err: &mut Counting<E>,
 ) -> Result<(), WriteFault>
     ensures lines { TookErrors result (reported errors.now)
-        (E.contents err.old.inner) (E.contents err.new.inner) }
-    ensures fault { Faulted err.old.failed err.old.empty err.new.failed err.new.empty result }
+        (E.contents (writer_in err.old)) (E.contents (writer_in err.new)) }
+    ensures fault { CountsFault err.old err.new result }
 {
     for error in errors {
         let line = error_line(alloc, error)?;
@@ -105,8 +105,8 @@ fn put_errors<E: Write>(
 
 fn put_no_message<E: Write>(id: &str, err: &mut Counting<E>) -> Result<(), WriteFault>
     ensures took { Took result (ending_line (no_message id.now))
-        (E.contents err.old.inner) (E.contents err.new.inner) }
-    ensures fault { Faulted err.old.failed err.old.empty err.new.failed err.new.empty result }
+        (E.contents (writer_in err.old)) (E.contents (writer_in err.new)) }
+    ensures fault { CountsFault err.old err.new result }
     ensures memory { result ≢ Err WriteFault.Memory }
 {
     put(err, b"fluent_show: no message with a value: ")?;
@@ -117,8 +117,8 @@ fn put_no_message<E: Write>(id: &str, err: &mut Counting<E>) -> Result<(), Write
 /// Writes the line of an ending, which takes no memory.
 fn put_ending<E: Write>(ending: Ending<'_>, err: &mut Counting<E>) -> Result<(), WriteFault>
     ensures took { Took result (ending_line (ending_view ending.entry))
-        (E.contents err.old.inner) (E.contents err.new.inner) }
-    ensures fault { Faulted err.old.failed err.old.empty err.new.failed err.new.empty result }
+        (E.contents (writer_in err.old)) (E.contents (writer_in err.new)) }
+    ensures fault { CountsFault err.old err.new result }
     ensures memory { result ≢ Err WriteFault.Memory }
 {
     match ending {
@@ -150,10 +150,10 @@ pub(crate) fn report<'w, E: Write>(
 ) -> Result<Ending<'w>, WriteFault>
     ensures says { IfOk result (λ final.
         Says (reported errors.now) (ending_view ending.entry) (ending_view final)
-        (E.contents err.old.inner) (E.contents err.new.inner)) }
+        (E.contents (writer_in err.old)) (E.contents (writer_in err.new))) }
     ensures front { OnErr result (BeganToSay (reported errors.now) (ending_view ending.entry)
-        (E.contents err.old.inner) (E.contents err.new.inner)) }
-    ensures fault { Faulted err.old.failed err.old.empty err.new.failed err.new.empty result }
+        (E.contents (writer_in err.old)) (E.contents (writer_in err.new))) }
+    ensures fault { CountsFault err.old err.new result }
     ensures memory { result ≢ Err WriteFault.Memory }
 {
     let ending = match put_errors(alloc, errors, err) {

@@ -3,7 +3,7 @@
 ghost use Rattle.std.specs.Prelude.{◌≡◌, ◌++◌, ◌∷◌, [], map, Some, None, IfOk, string_bytes};
 ghost use Rattle.fluent_syntax.specs.Chunks.{entries};
 ghost use Rattle.fluent_syntax.specs.Parsed.{error_range};
-ghost use Rattle.fluent_text.specs.Taken.{Faulted};
+ghost use Rattle.fluent_text.specs.Writer.{writer_in, CountsFault};
 ghost use Rattle.fluent_tree.specs.View.{pattern_view};
 ghost use Rattle.fluent_meaning.specs.Result.{written_pattern};
 ghost use Rattle.fluent_bundle.specs.BundleView.{entries_of};
@@ -25,7 +25,7 @@ use fluent_bundle::{
     NoCustom, NoFormatter, NoFunction, NoTransform, ParserError, TryNewFault, WriteFault, ast,
 };
 use fluent_chain::{Chain, Link};
-use fluent_syntax::counting::put;
+use fluent_syntax::put;
 use std::alloc::{AllocError, Global};
 use std::borrow::CowStr;
 use std::io::Write;
@@ -142,12 +142,12 @@ fn write_value<'p, 'r, 's: 'r, W: Write>(
     ensures text { let args = arguments_of (map name_and_value (map string_bytes words.now)) in
         let run = run_pattern (written_pattern (bundle_view bundle.now) args
         (pattern_view pattern.now)) in
-        Took result run.output (W.contents out.old.inner) (W.contents out.new.inner) }
+        Took result run.output (W.contents (writer_in out.old)) (W.contents (writer_in out.new)) }
     ensures errors { let args = arguments_of (map name_and_value (map string_bytes words.now)) in
         let run = run_pattern (written_pattern (bundle_view bundle.now) args
         (pattern_view pattern.now)) in
         Added result run.errors errors.old.items errors.new.items }
-    ensures fault { Faulted out.old.failed out.old.empty out.new.failed out.new.empty result }
+    ensures fault { CountsFault out.old out.new result }
 {
     let args = arguments(alloc, words)?;
     bundle.write_pattern(out, pattern, Some(&args), errors)?;
@@ -164,14 +164,14 @@ fn show_value<'w, 'p, 'r, 's: 'r, W: Write>(
 ) -> Result<Ending<'w>, WriteFault>
     ensures text { let value = value_at request.entry.id.now (bundle_view bundle.now) in
         let run = run_value (asked_view request.entry) (bundle_view bundle.now) value in
-        Took result run.output (W.contents out.old.inner) (W.contents out.new.inner) }
+        Took result run.output (W.contents (writer_in out.old)) (W.contents (writer_in out.new)) }
     ensures errors { let value = value_at request.entry.id.now (bundle_view bundle.now) in
         let run = run_value (asked_view request.entry) (bundle_view bundle.now) value in
         Added result run.errors errors.old.items errors.new.items }
     ensures ending { let value = value_at request.entry.id.now (bundle_view bundle.now) in
         let run = run_value (asked_view request.entry) (bundle_view bundle.now) value in
         IfOk result (λ ending. ending_view ending ≡ run.ending) }
-    ensures fault { Faulted out.old.failed out.old.empty out.new.failed out.new.empty result }
+    ensures fault { CountsFault out.old out.new result }
 {
     let Some(message) = bundle.get_message(request.id) else {
         return Ok(Ending::NoMessage(request.id));
@@ -194,7 +194,7 @@ fn show_resource<'w, W: Write>(
 ) -> Result<Ending<'w>, WriteFault>
     ensures text { let asked = asked_view request.entry in
         let run = run_entries asked (plurals_view plurals.entry) (entries_of resource.now) in
-        Took result run.output (W.contents out.old.inner) (W.contents out.new.inner) }
+        Took result run.output (W.contents (writer_in out.old)) (W.contents (writer_in out.new)) }
     ensures errors { let asked = asked_view request.entry in
         let run = run_entries asked (plurals_view plurals.entry) (entries_of resource.now) in
         Added result run.errors errors.old.items errors.new.items }
@@ -205,7 +205,7 @@ fn show_resource<'w, W: Write>(
     ensures ending { let asked = asked_view request.entry in
         let run = run_entries asked (plurals_view plurals.entry) (entries_of resource.now) in
         IfOk result (λ ending. ending_view ending ≡ run.ending) }
-    ensures fault { Faulted out.old.failed out.old.empty out.new.failed out.new.empty result }
+    ensures fault { CountsFault out.old out.new result }
 {
     let bundle = bundle_of(alloc, plurals, request.options.isolate, resource, errors)?;
     show_value(alloc, request, &bundle, out, errors)
@@ -222,7 +222,7 @@ fn show_alone<'w, W: Write>(
 ) -> Result<Ending<'w>, WriteFault>
     ensures text { let run = run_alone (asked_view request.entry)
         (plurals_view plurals.entry) source.now in
-        Took result run.output (W.contents out.old.inner) (W.contents out.new.inner) }
+        Took result run.output (W.contents (writer_in out.old)) (W.contents (writer_in out.new)) }
     ensures errors { let run = run_alone (asked_view request.entry)
         (plurals_view plurals.entry) source.now in
         Added result run.errors errors.old.items errors.new.items }
@@ -232,7 +232,7 @@ fn show_alone<'w, W: Write>(
     ensures ending { let run = run_alone (asked_view request.entry)
         (plurals_view plurals.entry) source.now in
         IfOk result (λ ending. ending_view ending ≡ run.ending) }
-    ensures fault { Faulted out.old.failed out.old.empty out.new.failed out.new.empty result }
+    ensures fault { CountsFault out.old out.new result }
 {
     let resource = read(alloc, source, errors)?;
     show_resource(alloc, request, plurals, &resource, out, errors)
@@ -252,12 +252,12 @@ fn write_chain<'p, 'r, 's: 'r, W: Write>(
     ensures text { let asked = asked_view request.entry in
         let bundles = bundle_view first.now ∷ bundle_view second.now ∷ [] in
         let run = run_chain (chain_value asked.id (arguments_of asked.arguments) bundles) in
-        Took result run.output (W.contents out.old.inner) (W.contents out.new.inner) }
+        Took result run.output (W.contents (writer_in out.old)) (W.contents (writer_in out.new)) }
     ensures errors { let asked = asked_view request.entry in
         let bundles = bundle_view first.now ∷ bundle_view second.now ∷ [] in
         let run = run_chain (chain_value asked.id (arguments_of asked.arguments) bundles) in
         Added result run.errors errors.old.items errors.new.items }
-    ensures fault { Faulted out.old.failed out.old.empty out.new.failed out.new.empty result }
+    ensures fault { CountsFault out.old out.new result }
 {
     let args = arguments(alloc, request.arguments)?;
     let links = [Link(first), Link(second)];
@@ -279,7 +279,7 @@ fn show_both<'w, 'r, 's, W: Write>(
     ensures text { let asked = asked_view request.entry in
         let run = run_both asked (plurals_view plurals.entry) (entries_of first.now)
         (entries_of second.now) in
-        Took result run.output (W.contents out.old.inner) (W.contents out.new.inner) }
+        Took result run.output (W.contents (writer_in out.old)) (W.contents (writer_in out.new)) }
     ensures errors { let asked = asked_view request.entry in
         let run = run_both asked (plurals_view plurals.entry) (entries_of first.now)
         (entries_of second.now) in
@@ -293,7 +293,7 @@ fn show_both<'w, 'r, 's, W: Write>(
         let run = run_both asked (plurals_view plurals.entry) (entries_of first.now)
         (entries_of second.now) in
         IfOk result (λ ending. ending_view ending ≡ run.ending) }
-    ensures fault { Faulted out.old.failed out.old.empty out.new.failed out.new.empty result }
+    ensures fault { CountsFault out.old out.new result }
 {
     let isolate = request.options.isolate;
     let first = bundle_of(alloc, plurals, isolate, first, errors)?;
@@ -314,7 +314,7 @@ fn show_fallback<'w, W: Write>(
 ) -> Result<Ending<'w>, WriteFault>
     ensures text { let asked = asked_view request.entry in
         let run = run_fallback asked (plurals_view plurals.entry) source.now fallback.now in
-        Took result run.output (W.contents out.old.inner) (W.contents out.new.inner) }
+        Took result run.output (W.contents (writer_in out.old)) (W.contents (writer_in out.new)) }
     ensures errors { let asked = asked_view request.entry in
         let run = run_fallback asked (plurals_view plurals.entry) source.now fallback.now in
         Added result run.errors errors.old.items errors.new.items }
@@ -325,7 +325,7 @@ fn show_fallback<'w, W: Write>(
     ensures ending { let asked = asked_view request.entry in
         let run = run_fallback asked (plurals_view plurals.entry) source.now fallback.now in
         IfOk result (λ ending. ending_view ending ≡ run.ending) }
-    ensures fault { Faulted out.old.failed out.old.empty out.new.failed out.new.empty result }
+    ensures fault { CountsFault out.old out.new result }
 {
     let first = read(alloc, source, errors)?;
     let second = read(alloc, fallback, errors)?;
@@ -350,7 +350,7 @@ pub fn show<'w, W: Write>(
 ) -> Result<Ending<'w>, WriteFault>
     ensures text { let run = run_source (asked_view request.entry)
         (plurals_view plurals.entry) source.now in
-        Took result run.output (W.contents out.old.inner) (W.contents out.new.inner) }
+        Took result run.output (W.contents (writer_in out.old)) (W.contents (writer_in out.new)) }
     ensures errors { let run = run_source (asked_view request.entry)
         (plurals_view plurals.entry) source.now in
         Added result run.errors errors.old.items errors.new.items }
@@ -360,7 +360,7 @@ pub fn show<'w, W: Write>(
     ensures ending { let run = run_source (asked_view request.entry)
         (plurals_view plurals.entry) source.now in
         IfOk result (λ ending. ending_view ending ≡ run.ending) }
-    ensures fault { Faulted out.old.failed out.old.empty out.new.failed out.new.empty result }
+    ensures fault { CountsFault out.old out.new result }
 {
     match request.options.fallback {
         None => show_alone(alloc, request, plurals, source, out, errors),

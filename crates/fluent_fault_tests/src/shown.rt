@@ -6,7 +6,7 @@ use fluent_bundle::{Counting, FluentValue, Scope, WriteFault};
 use fluent_fixtures::common::{read, value_of};
 use fluent_fixtures::objects::Star;
 use fluent_fixtures::settings::{Bundle, Setting, bundle_of};
-use fluent_syntax::counting::put;
+use fluent_syntax::put;
 use fluent_syntax::unescape_unicode;
 use fluent_values::resolver::output::{Output, put_text, with_error};
 use fluent_values::resolver::texts::put_texts;

@@ -3,7 +3,7 @@
 
 ghost use Rattle.std.specs.Prelude.{◌≡◌, map, IfOk};
 ghost use Rattle.fluent_syntax.specs.Chunks.{entries};
-ghost use Rattle.fluent_text.specs.Taken.{Faulted};
+ghost use Rattle.fluent_text.specs.Writer.{writer_in, CountsFault};
 ghost use Rattle.fluent_tree.specs.View.{pattern_view};
 ghost use Rattle.fluent_bundle.specs.BundleView.{custom_by, entries_of, meant};
 ghost use Rattle.fluent_bundle.specs.Calls.{asked};
@@ -180,20 +180,20 @@ pub fn write_after<
         calls.entry.items in
         let b = bundle_after (M.category intls) (custom_by C.shown C.alike) steps in
         WritesWithin b (arguments_view C.content args.entry) (pattern_view pattern.now) result
-        (W.contents w.old.inner) (W.contents w.new.inner) errors.old.items errors.new.items }
+        (W.contents (writer_in w.old)) (W.contents (writer_in w.new)) errors.old.items errors.new.items }
 
     // With the budget, in every case.
     ensures whole { let steps = map (step F.answer G.formatted T.changed intls) calls.entry.items in
         let b = bundle_after (M.category intls) (custom_by C.shown C.alike) steps in
         WritesWhole b (arguments_view C.content args.entry) (pattern_view pattern.now) result
-        (W.contents w.old.inner) (W.contents w.new.inner) errors.old.items errors.new.items }
+        (W.contents (writer_in w.old)) (W.contents (writer_in w.new)) errors.old.items errors.new.items }
 
     // Whatever is answered.
     ensures front { let steps = map (step F.answer G.formatted T.changed intls) calls.entry.items in
         let b = bundle_after (M.category intls) (custom_by C.shown C.alike) steps in
         WritesBeginning b (arguments_view C.content args.entry) (pattern_view pattern.now)
-        (W.contents w.old.inner) (W.contents w.new.inner) errors.old.items errors.new.items }
-    ensures fault { Faulted w.old.failed w.old.empty w.new.failed w.new.empty result }
+        (W.contents (writer_in w.old)) (W.contents (writer_in w.new)) errors.old.items errors.new.items }
+    ensures fault { CountsFault w.old w.new result }
 {
     let resources = resources_of(alloc, calls.as_slice())?;
     let bundle: FluentBundle<'_, '_, M, C, F, G, T> = bundle_over(

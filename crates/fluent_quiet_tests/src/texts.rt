@@ -6,7 +6,7 @@ use fluent_bundle::{Counting, FluentError, WriteFault};
 use fluent_fixtures::common::{Bundle, empty, read, value_of};
 use fluent_fixtures::stopped::{ended, writer};
 use fluent_fixtures::stopping::{FAULTS, Fault, Stopping};
-use fluent_syntax::counting::put;
+use fluent_syntax::put;
 use fluent_syntax::{unescape_unicode, unescape_unicode_to_string};
 use fluent_values::resolver::texts::is_text;
 use std::alloc::{AllocError, Global};

@@ -4,7 +4,7 @@ use fluent_laws::{
     chunks_make_up, entries_are_well_formed, junk_ranges_in_order, read_from_there_on,
     texts_are_slices,
 };
-use fluent_syntax::counting::put;
+use fluent_syntax::put;
 use fluent_syntax::{Counting, WriteFault};
 use std::alloc::Global;
 use std::io;

@@ -1,4 +1,5 @@
 pub mod Taken
+pub mod Writer
 pub mod Parser
 pub mod Facts
 pub mod Reading

@@ -1,9 +1,10 @@
 //! A writer that counts its single writes that failed and those that took nothing.
+#![tactic(auto, unfolding(crate::specs::Writer::writer_in, crate::specs::Writer::failed_in, crate::specs::Writer::empty_in))]
 
-ghost use Rattle.std.specs.Prelude.{◌≡◌, ◌≢◌, ◌+◌, ◌<◌, length, MatchResult, OnOk, OnErr, IfErr, is_ok, if◌then◌else◌};
-ghost use Rattle.std.specs.Io.KnownBytes.{Appends, WriteAppends};
+ghost use Rattle.std.specs.Prelude.{◌≡◌, is_ok, if◌then◌else◌};
+ghost use Rattle.std.specs.Io.KnownBytes.{WriteAppends};
 ghost use Rattle.std.specs.Io.{WritesAtMost};
-ghost use Rattle.fluent_text.specs.Taken.{raised, took_nothing, TookFront, Faulted};
+ghost use Rattle.fluent_text.specs.Taken.{raised, took_nothing};
 
 use std::alloc::AllocError;
 use std::io;
@@ -41,11 +42,13 @@ impl From<AllocError> for WriteFault {
 }
 
 impl<W: Write> Counting<W> {
+    ghost use Rattle.fluent_text.specs.Writer.{writer_in, failed_in, empty_in};
+
     /// Both counts begin at 0.
     pub fn new(inner: W) -> Counting<W>
-        ensures inner { result.inner ≡ inner }
-        ensures failed { result.failed ≡ 0 }
-        ensures empty { result.empty ≡ 0 }
+        ensures inner { writer_in result ≡ inner }
+        ensures failed { failed_in result ≡ 0 }
+        ensures empty { empty_in result ≡ 0 }
     {
         Counting {
             inner,
@@ -56,21 +59,21 @@ impl<W: Write> Counting<W> {
 
     /// How many single writes failed.
     pub fn failed(&self) -> u64
-        ensures { result ≡ self.now.failed }
+        ensures { result ≡ failed_in self.now }
     {
         self.failed
     }
 
     /// How many single writes of a nonempty piece took no byte.
     pub fn empty(&self) -> u64
-        ensures { result ≡ self.now.empty }
+        ensures { result ≡ empty_in self.now }
     {
         self.empty
     }
 
     /// The writer, with all that it took.
     pub fn into_inner(self) -> W
-        ensures { result ≡ self.inner }
+        ensures { result ≡ writer_in self }
     {
         let Counting {
             inner,
@@ -84,13 +87,13 @@ impl<W: Write> Counting<W> {
     /// that is due.
     #[inline(always)]
     pub fn write(&mut self, piece: &[u8]) -> io::Result<usize>
-        ensures bytes { WriteAppends (W.contents self.old.inner)
-            (W.contents self.new.inner) result piece.now }
+        ensures bytes { WriteAppends (W.contents (writer_in self.old))
+            (W.contents (writer_in self.new)) result piece.now }
         ensures bound { WritesAtMost result piece.now }
-        ensures failed { self.new.failed ≡ (if is_ok result then self.old.failed
-            else raised self.old.failed) }
-        ensures empty { self.new.empty ≡ (if took_nothing result piece.now
-            then raised self.old.empty else self.old.empty) }
+        ensures failed { failed_in self.new ≡ (if is_ok result then failed_in self.old
+            else raised (failed_in self.old)) }
+        ensures empty { empty_in self.new ≡ (if took_nothing result piece.now
+            then raised (empty_in self.old) else empty_in self.old) }
     {
         let outcome = self.inner.write(piece);
         match &outcome {
@@ -104,28 +107,4 @@ impl<W: Write> Counting<W> {
         }
         outcome
     }
-}
-
-/// Writes the whole piece by single writes, each with what the one before it left.
-///
-/// A write that fails or takes nothing ends it, and is the one that raised a count; the writer took a front of the piece
-/// then. It takes no memory.
-#[inline(always)]
-pub fn put<W: Write>(w: &mut Counting<W>, piece: &[u8]) -> Result<(), WriteFault>
-    ensures whole { OnOk result (Appends (W.contents w.old.inner)
-        (W.contents w.new.inner) piece.now) }
-    ensures front { OnErr result (TookFront (W.contents w.old.inner)
-        (W.contents w.new.inner) piece.now) }
-    ensures fault { Faulted w.old.failed w.old.empty w.new.failed w.new.empty result }
-    ensures memory { result ≢ Err WriteFault.Memory }
-{
-    let mut rest = piece;
-    while !rest.is_empty() {
-        match w.write(rest) {
-            Ok(0) => return Err(WriteFault::Zero),
-            Ok(n) => rest = &rest[n..],
-            Err(e) => return Err(WriteFault::Writer(e)),
-        }
-    }
-    Ok(())
 }

@@ -2,8 +2,10 @@
 #![tactic(auto)]
 
 mod bytes;
-pub mod counting;
+mod counting;
 mod unicode;
+mod writing;
 
 pub use counting::{Counting, WriteFault};
 pub use unicode::{unescape_unicode, unescape_unicode_to_string};
+pub use writing::put;

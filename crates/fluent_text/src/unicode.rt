@@ -7,10 +7,12 @@ ghost use Rattle.std.specs.List.{All};
 ghost use Rattle.fluent_text.specs.Escapes as spec;
 ghost use Rattle.fluent_text.specs.Unescaped.{bytes_of, Lends};
 ghost use Rattle.fluent_text.specs.Reading.{found};
-ghost use Rattle.fluent_text.specs.Taken.{TookFront, Faulted, ByWriter};
+ghost use Rattle.fluent_text.specs.Taken.{TookFront, ByWriter};
+ghost use Rattle.fluent_text.specs.Writer.{writer_in, CountsFault};
 
 use crate::bytes::{byte_at, eat, split_plain};
-use crate::counting::{Counting, WriteFault, put};
+use crate::counting::{Counting, WriteFault};
+use crate::writing::put;
 use std::alloc::{AllocError, Global};
 use std::borrow::CowStr;
 use std::io::Write;
@@ -30,11 +32,11 @@ enum Unescaped<'s> {
 /// The one error is a fault of the writer: `Writer` with its error, or `Zero` where a write took no byte.
 /// After it the writer has taken a beginning of that text, and nothing is written any more.
 pub fn unescape_unicode<W: Write>(w: &mut Counting<W>, text: &str) -> Result<(), WriteFault>
-    ensures whole { OnOk result (Appends (W.contents w.old.inner) (W.contents w.new.inner)
+    ensures whole { OnOk result (Appends (W.contents (writer_in w.old)) (W.contents (writer_in w.new))
         (spec.unescaped text.now)) }
-    ensures front { OnErr result (TookFront (W.contents w.old.inner) (W.contents w.new.inner)
+    ensures front { OnErr result (TookFront (W.contents (writer_in w.old)) (W.contents (writer_in w.new))
         (spec.unescaped text.now)) }
-    ensures fault { Faulted w.old.failed w.old.empty w.new.failed w.new.empty result }
+    ensures fault { CountsFault w.old w.new result }
     ensures writer { ByWriter result }
 {
     let mut rest = text;
@@ -49,11 +51,11 @@ pub fn unescape_unicode<W: Write>(w: &mut Counting<W>, text: &str) -> Result<(),
 }
 
 fn put_part<W: Write>(w: &mut Counting<W>, part: Unescaped) -> Result<(), WriteFault>
-    ensures whole { OnOk result (Appends (W.contents w.old.inner) (W.contents w.new.inner)
+    ensures whole { OnOk result (Appends (W.contents (writer_in w.old)) (W.contents (writer_in w.new))
         (bytes_of part.entry)) }
-    ensures front { OnErr result (TookFront (W.contents w.old.inner) (W.contents w.new.inner)
+    ensures front { OnErr result (TookFront (W.contents (writer_in w.old)) (W.contents (writer_in w.new))
         (bytes_of part.entry)) }
-    ensures fault { Faulted w.old.failed w.old.empty w.new.failed w.new.empty result }
+    ensures fault { CountsFault w.old w.new result }
     ensures writer { ByWriter result }
 {
     match part {

@@ -2,6 +2,7 @@
 use Rattle.std.proofs.Common.{◌≡◌, refl, sym, ap, subst, ◌∙◌, ℕ, List, [], ◌∷◌, ◌++◌, append-nil, append_assoc, Bool, true, false, Option, Some, Result, Ok, Err, OnOk, IfOk, Global, String, string_bytes}
 use Rattle.fluent_tree.specs.Tree.{Text}
 use Rattle.fluent_text.specs.declared.counting.Counting.{Counting}
+use Rattle.fluent_text.specs.Writer.{writer_in}
 use Rattle.fluent_values.specs.declared.resolver.output.Halt.{Halt}
 use Rattle.fluent_values.specs.declared.resolver.output.Halt.TheVariants.{Memory}
 use Rattle.fluent_values.specs.declared.resolver.output.Halt.TheVariants as fault
@@ -163,7 +164,7 @@ as_got {r = r} {walk = walk} contents w w' s s' {a = a} {b = b} empty h =
 pub beside_rests : {T : Type 0} {r : Result T Halt} {walk : Walk Text} {W : Type 0} (contents : W → Option Text) (w w' : Counting W) (s s' : String Global) {a b : Status} → Wrote r walk (beside contents w s) (beside contents w' s') a b → Rests r (writer contents w) (writer contents w')
 beside_rests contents w w' s s' h =
     let way = h.went.along in
-    let same : Some (contents w'.inner) ≡ Some (contents w.inner) = way.beside in
+    let same : Some (contents w'.inner) ≡ Some (contents (writer_in w)) = way.beside in
     record { held = cc; fault = way.fault; beside = refl; lent = refl }
 
 -- what an output with a buffer took, its buffer took, and its writer was left alone

@@ -4,6 +4,7 @@ use Rattle.std.specs.Io.KnownBytes.{Appends}
 use Rattle.std.proofs.Common.{Global}
 use Rattle.fluent_tree.specs.Tree.{Text}
 use Rattle.fluent_text.specs.Taken.{raised}
+use Rattle.fluent_text.specs.Writer.{writer_in, failed_in, empty_in}
 use Rattle.fluent_text.specs.declared.counting.Counting.{Counting}
 use Rattle.fluent_text.specs.declared.counting.WriteFault.{WriteFault}
 use Rattle.fluent_text.specs.declared.counting.WriteFault.TheVariants as fault
@@ -38,15 +39,15 @@ pub record Sink : Type 0 where
 
 -- a writer that counts
 abbrev pub writer : {W : Type 0} → (W → Option Text) → Counting W → Sink
-writer contents w = record { held = contents w.inner; failed = w.failed; empty = w.empty; beside = None; lent = (0, (0, false)) }
+writer contents w = record { held = contents (writer_in w); failed = failed_in w; empty = empty_in w; beside = None; lent = (0, (0, false)) }
 
 -- a text beside a writer
 abbrev pub beside : {W : Type 0} → (W → Option Text) → Counting W → String Global → Sink
-beside contents w s = record { held = Some (string_bytes s); failed = w.failed; empty = w.empty; beside = Some (contents w.inner); lent = (0, (0, true)) }
+beside contents w s = record { held = Some (string_bytes s); failed = failed_in w; empty = empty_in w; beside = Some (contents (writer_in w)); lent = (0, (0, true)) }
 
 abbrev pub at : {W : Type 0} → (W → Option Text) → ℕ → Counting W → ℕ → String Global → Bool → Sink
 at contents name w name' s false = record (writer contents w) { lent = (name, (name', false)) }
-at contents name w name' s true = record { held = Some (string_bytes s); failed = w.failed; empty = w.empty; beside = Some (contents w.inner); lent = (name, (name', true)) }
+at contents name w name' s true = record { held = Some (string_bytes s); failed = failed_in w; empty = empty_in w; beside = Some (contents (writer_in w)); lent = (name, (name', true)) }
 
 abbrev pub sink : {W : Type 0} → (W → Option Text) → Output W → Sink
 sink contents out = at contents out.writer.ghost_name out.writer.now out.buffer.ghost_name out.buffer.now out.is_buffered

@@ -1,5 +1,6 @@
 use Rattle.std.proofs.Common.{rules, ◌≡◌, ◌+◌, sym, ap, subst, Err, take}
 use Rattle.std.proofs.KnownBytes.{Appends-trans}
+use Rattle.fluent_text.specs.Writer.{writer_in}
 use Rattle.fluent_text.specs.declared.counting.WriteFault.TheVariants.{Memory}
 use Rattle.fluent_text.specs.Taken.{TookFront}
 use Rattle.fluent_command.specs.Ending.{error_lines}
@@ -26,8 +27,8 @@ returns-in_err-put-clause-lines g c =
     let i = c.loop-error.error-index in
     let e = one_more errors i c.error-item.result c.loop-error-test.true c.error-item.is in
     let both = front_then _ _ _ _ _ c.loop-error.invariant.0 c.in_err-put.ensures.front in
-    let some : TookFront (g.E.Write.contents c.args.err.now.inner) (g.E.Write.contents c.put.new.w.inner) (error_lines (reported (take (i + 1) errors)))
+    let some : TookFront (g.E.Write.contents (writer_in c.args.err.now)) (g.E.Write.contents (writer_in c.put.new.w)) (error_lines (reported (take (i + 1) errors)))
     = rw e (rw (c.as_bytes.ensures.value, c.in_ok-line.ensures) at both) in
-    let all = subst (λ t. TookFront (g.E.Write.contents c.args.err.now.inner) (g.E.Write.contents c.put.new.w.inner) t) (sym (lines_on errors (i + 1))) (front_short _ _ _ _ some) in
+    let all = subst (λ t. TookFront (g.E.Write.contents (writer_in c.args.err.now)) (g.E.Write.contents (writer_in c.put.new.w)) t) (sym (lines_on errors (i + 1))) (front_short _ _ _ _ some) in
     let is : c.from_residual-in_err-put.result ≡ Err c.in_err-put.field-0.0 = search rules in
     took_fault _ _ (reported errors) _ _ is (λ m. c.in_err-put.ensures.memory (ap Err m)) all

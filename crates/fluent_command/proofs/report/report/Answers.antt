@@ -1,6 +1,7 @@
 use Rattle.std.proofs.Common.{rules, ◌≡◌, ap, inl, inr, subst, Err}
 use Rattle.std.specs.Io.KnownBytes.{Appends}
 use Rattle.std.proofs.KnownBytes.{Appends-trans}
+use Rattle.fluent_text.specs.Writer.{writer_in}
 use Rattle.fluent_text.specs.Taken.{TookFront}
 use Rattle.fluent_text.specs.declared.counting.WriteFault.{WriteFault}
 use Rattle.fluent_text.specs.declared.counting.WriteFault.TheVariants.{Memory}
@@ -26,9 +27,9 @@ returns-in-Err g c =
 
 pub returns-clause-says : goal.returns-clause-says
 returns-clause-says g c =
-    let to = λ (e : Ending). Appends (g.E.Write.contents c.put_errors.new.err.inner) (g.E.Write.contents c.put_ending.new.err.inner) (ending_line (ending_view e)) in
+    let to = λ (e : Ending). Appends (g.E.Write.contents (writer_in c.put_errors.new.err)) (g.E.Write.contents (writer_in c.put_ending.new.err)) (ending_line (ending_view e)) in
     let errors = reported c.args.errors.now in
-    let took = λ (f : WriteFault). TookErrors (Err f) errors (g.E.Write.contents c.args.err.now.inner) (g.E.Write.contents c.put_errors.new.err.inner) in
+    let took = λ (f : WriteFault). TookErrors (Err f) errors (g.E.Write.contents (writer_in c.args.err.now)) (g.E.Write.contents (writer_in c.put_errors.new.err)) in
     elim c.match-put_errors.branch [
       | in-Ok w ↦ inl (ap ending_view w.ending-is, Appends-trans _ _ _ _ _ w.in-Ok.ensures.lines (subst to w.ending-is c.in_ok-put_ending.ensures.took.all))
       | in-Err-Memory w ↦
@@ -38,9 +39,9 @@ returns-clause-says g c =
 
 pub returns-in_err-put_ending-clause-front : goal.returns-in_err-put_ending-clause-front
 returns-in_err-put_ending-clause-front g c =
-    let to = λ (e : Ending). TookFront (g.E.Write.contents c.put_errors.new.err.inner) (g.E.Write.contents c.put_ending.new.err.inner) (ending_line (ending_view e)) in
+    let to = λ (e : Ending). TookFront (g.E.Write.contents (writer_in c.put_errors.new.err)) (g.E.Write.contents (writer_in c.put_ending.new.err)) (ending_line (ending_view e)) in
     let errors = reported c.args.errors.now in
-    let took = λ (f : WriteFault). TookErrors (Err f) errors (g.E.Write.contents c.args.err.now.inner) (g.E.Write.contents c.put_errors.new.err.inner) in
+    let took = λ (f : WriteFault). TookErrors (Err f) errors (g.E.Write.contents (writer_in c.args.err.now)) (g.E.Write.contents (writer_in c.put_errors.new.err)) in
     let ending = ending_view c.args.ending in
     on_err c.from_residual.result (elim c.match-put_errors.branch [
       | in-Ok w ↦ began_all errors ending _ _ _ w.in-Ok.ensures.lines (subst to w.ending-is c.in_err-put_ending.ensures.took.front)

@@ -1,5 +1,6 @@
 use Rattle.std.proofs.Common.{◌-◌, ◌+◌, ◌++◌, ◌∙◌, ap, sym, refl, subst, length, arith, rules}
 use Rattle.std.specs.Io.KnownBytes.{Appends}
+use Rattle.fluent_text.specs.Writer.{writer_in}
 use Rattle.fluent_text.specs.Escapes.{part, value_of}
 use Rattle.fluent_text.specs.Unescaped.{bytes_of}
 use Rattle.fluent_text.proofs.Front.{appends_twice}
@@ -10,12 +11,12 @@ use Rattle.fluent_text.proofs.unicode.unescape_unicode.Goals as goal
 pub returns-in_default-clause-whole : goal.returns-in_default-clause-whole
 returns-in_default-clause-whole g c =
     let e = ap value_of (c.parts.invariant.1.1 ∙ none ◌++◌ part _ c.parts.invariant.1.0 c.parts.rest.now (omega arith) (sym c.in_default.ensures.gives)) in
-    subst (λ t. Appends (g.W.Write.contents c.args.w.now.inner) (g.W.Write.contents c.parts.w.inner) t) (sym e) c.parts.invariant.1.2
+    subst (λ t. Appends (g.W.Write.contents (writer_in c.args.w.now)) (g.W.Write.contents (writer_in c.parts.w)) t) (sym e) c.parts.invariant.1.2
 
 pub returns-clause-whole : goal.returns-clause-whole
 returns-clause-whole g c =
     let e = ap value_of (c.parts.invariant.1.1 ∙ done ◌++◌ part _ c.parts.invariant.1.0 c.parts.rest.now (omega arith)) in
-    subst (λ t. Appends (g.W.Write.contents c.args.w.now.inner) (g.W.Write.contents c.parts.w.inner) t) (sym e) c.parts.invariant.1.2
+    subst (λ t. Appends (g.W.Write.contents (writer_in c.args.w.now)) (g.W.Write.contents (writer_in c.parts.w)) t) (sym e) c.parts.invariant.1.2
 
 pub returns-in_err-put_part-clause-front : goal.returns-in_err-put_part-clause-front
 returns-in_err-put_part-clause-front g c =

@@ -1,0 +1,33 @@
+//! A whole text handed to a writer.
+
+ghost use Rattle.std.specs.Prelude.{◌≡◌, ◌≢◌, OnOk, OnErr};
+ghost use Rattle.std.specs.Io.KnownBytes.{Appends};
+ghost use Rattle.fluent_text.specs.Taken.{TookFront};
+ghost use Rattle.fluent_text.specs.Writer.{writer_in, CountsFault};
+
+use crate::counting::{Counting, WriteFault};
+use std::io::Write;
+
+/// Writes the whole piece by single writes, each with what the one before it left.
+///
+/// A write that fails or takes nothing ends it, and is the one that raised a count; the writer took a front of the piece
+/// then. It takes no memory.
+#[inline(always)]
+pub fn put<W: Write>(w: &mut Counting<W>, piece: &[u8]) -> Result<(), WriteFault>
+    ensures whole { OnOk result (Appends (W.contents (writer_in w.old))
+        (W.contents (writer_in w.new)) piece.now) }
+    ensures front { OnErr result (TookFront (W.contents (writer_in w.old))
+        (W.contents (writer_in w.new)) piece.now) }
+    ensures fault { CountsFault w.old w.new result }
+    ensures memory { result ≢ Err WriteFault.Memory }
+{
+    let mut rest = piece;
+    while !rest.is_empty() {
+        match w.write(rest) {
+            Ok(0) => return Err(WriteFault::Zero),
+            Ok(n) => rest = &rest[n..],
+            Err(e) => return Err(WriteFault::Writer(e)),
+        }
+    }
+    Ok(())
+}
