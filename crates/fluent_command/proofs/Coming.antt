@@ -24,7 +24,7 @@ use Rattle.fluent_command.specs.Words.{Asked, asked_by}
 use Rattle.fluent_command.specs.Plurals.{plurals_asked, HasBadRule}
 use Rattle.fluent_command.specs.Ending.{Ending, shown, no_message, bad_usage, bad_rule, not_utf8, out_of_memory, reading_failed, writing_failed}
 use Rattle.fluent_command.specs.EndingView.{ending_of, ending_of_rules}
-use Rattle.fluent_command.specs.Input.{ReadFor}
+use Rattle.fluent_command.specs.Input.{ReadFor, state_in}
 use Rattle.fluent_command.specs.Program.{Run, only, bundle_of, run_value, run_sources, run_source, run_input, run_by, run_asked, run_of, source_errors, errors_by, errors_asked}
 use Rattle.fluent_command.specs.Inside.Far.{Added, AddedFirst, Took}
 use Rattle.fluent_command.specs.Outlet.{Outlet, TakesAll}
@@ -104,7 +104,7 @@ some_left None = ([], tt)
 some_left (Some bytes) = (bytes, refl)
 
 -- an input that was read to its end fits every ending but one
-pub read_for : {R : Type 0} (ending : Ending) (input : Reads R) → ending ≢ reading_failed → input.state ≡ AtEnd → ReadFor ending input
+pub read_for : {R : Type 0} (ending : Ending) (input : Reads R) → ending ≢ reading_failed → state_in input ≡ AtEnd → ReadFor ending input
 read_for shown input not is = is
 read_for (no_message id) input not is = is
 read_for bad_usage input not is = tt
@@ -188,7 +188,7 @@ never_bad asked a plurals is read bad =
     cc
 
 -- an input of which nothing was read fits them
-pub read_for_rules : {R : Type 0} (fault : RuleFault) (ending : Ending) (input : Reads R) → ending ≡ ending_of_rules fault → input.state ≡ Open → ReadFor ending input
+pub read_for_rules : {R : Type 0} (fault : RuleFault) (ending : Ending) (input : Reads R) → ending ≡ ending_of_rules fault → state_in input ≡ Open → ReadFor ending input
 read_for_rules (rule_fault.Syntax kind at) ending input is unread = subst (λ e. ReadFor e input) (sym is) tt
 read_for_rules rule_fault.Memory ending input is unread = subst (λ e. ReadFor e input) (sym is) (λ failed. cc)
 

@@ -1,8 +1,9 @@
 //! The bytes of an input, by a bounded number of single reads.
+#![tactic(auto, unfolding(crate::specs::Input::reader_in, crate::specs::Input::room_in, crate::specs::Input::made_in, crate::specs::Input::state_in))]
 
 ghost use Rattle.std.specs.Prelude.{◌≡◌, ◌+◌, ◌≤◌, ◌<◌, IfOk, IfErr, OnOk};
 ghost use Rattle.std.specs.Io.KnownBytes.{Consumes, IsAtEnd, ReadConsumes};
-ghost use Rattle.fluent_command.specs.Input.{ReadsAreBounded, IsUnread};
+ghost use Rattle.fluent_command.specs.Input.{ReadsAreBounded, IsUnread, reader_in, room_in, made_in, state_in};
 ghost use Rattle.fluent_command.specs.Inside.OneRead.{state_after};
 ghost use Rattle.fluent_command.specs.Limits.{most_reads};
 
@@ -58,9 +59,9 @@ impl From<AllocError> for ReadFault {
 impl<R: Read> Reads<R> {
     /// A reader of which nothing was read.
     pub fn new(inner: R) -> Reads<R>
-        ensures inner { result.inner ≡ inner }
-        ensures made { result.made ≡ 0 }
-        ensures state { result.state ≡ InputState.Open }
+        ensures inner { reader_in result ≡ inner }
+        ensures made { made_in result ≡ 0 }
+        ensures state { state_in result ≡ InputState.Open }
     {
         Reads {
             inner,
@@ -72,7 +73,7 @@ impl<R: Read> Reads<R> {
 
     /// The reader itself, which stands where the reads left it.
     pub fn into_inner(self) -> R
-        ensures { result ≡ self.inner }
+        ensures { result ≡ reader_in self }
     {
         let Reads {
             inner,
@@ -85,10 +86,10 @@ impl<R: Read> Reads<R> {
 
     /// Counts the reads of a run from its beginning.
     pub(crate) fn begin(&mut self)
-        ensures inner { self.new.inner ≡ self.old.inner }
+        ensures inner { reader_in self.new ≡ reader_in self.old }
         ensures bounded { ReadsAreBounded self.new }
-        ensures made { self.new.made ≡ 0 }
-        ensures state { self.new.state ≡ InputState.Open }
+        ensures made { made_in self.new ≡ 0 }
+        ensures state { state_in self.new ≡ InputState.Open }
     {
         self.made = 0;
         self.state = InputState::Open;
@@ -96,14 +97,14 @@ impl<R: Read> Reads<R> {
 
     /// One single read into the room: how many bytes it gave, or why it failed. It is not tried again.
     fn read(&mut self) -> io::Result<usize>
-        requires open { self.old.state ≡ InputState.Open }
-        requires left { self.old.made < most_reads }
-        ensures bytes { ReadConsumes (R.remaining self.old.inner) (R.remaining self.new.inner)
-            result self.new.room }
+        requires open { state_in self.old ≡ InputState.Open }
+        requires left { made_in self.old < most_reads }
+        ensures bytes { ReadConsumes (R.remaining (reader_in self.old))
+            (R.remaining (reader_in self.new)) result (room_in self.new) }
         ensures bound { IfOk result (λ n. n ≤ ROOM) }
         ensures bounded { ReadsAreBounded self.new }
-        ensures made { self.new.made ≡ self.old.made + 1 }
-        ensures state { self.new.state ≡ state_after result }
+        ensures made { made_in self.new ≡ made_in self.old + 1 }
+        ensures state { state_in self.new ≡ state_after result }
     {
         let outcome = self.inner.read(&mut self.room);
         self.made += 1;
@@ -123,14 +124,14 @@ impl<R: Read> Reads<R> {
 /// `Reading` where a read failed or none of all showed the end, `Memory` where memory was refused. What was read
 /// is lost then.
 pub(crate) fn read_all<R: Read>(alloc: Global, input: &mut Reads<R>) -> Result<Vec<u8>, ReadFault>
-    ensures bytes { IfOk result (λ bytes.
-        Consumes (R.remaining input.old.inner) (R.remaining input.new.inner) bytes.items) }
-    ensures end { OnOk result (IsAtEnd (R.remaining input.new.inner)) }
+    ensures bytes { IfOk result (λ bytes. Consumes (R.remaining (reader_in input.old))
+        (R.remaining (reader_in input.new)) bytes.items) }
+    ensures end { OnOk result (IsAtEnd (R.remaining (reader_in input.new))) }
     ensures bounded { ReadsAreBounded input.new }
-    ensures shown { OnOk result (input.new.state ≡ InputState.AtEnd) }
+    ensures shown { OnOk result (state_in input.new ≡ InputState.AtEnd) }
     ensures unread { IfErr result (λ fault. fault ≡ ReadFault.Reading → IsUnread input.new) }
     ensures memory { IfErr result (λ fault.
-        fault ≡ ReadFault.Memory → input.new.state ≡ InputState.Open) }
+        fault ≡ ReadFault.Memory → state_in input.new ≡ InputState.Open) }
 {
     let mut bytes = Vec::new(alloc);
     input.begin();

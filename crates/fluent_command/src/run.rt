@@ -10,7 +10,7 @@ ghost use Rattle.fluent_command.specs.Inside.PluralsView.{plurals_view};
 ghost use Rattle.fluent_command.specs.Ending.{bad_usage, bad_rule, out_of_memory, reading_failed};
 ghost use Rattle.fluent_command.specs.EndingView.{ending_view};
 ghost use Rattle.fluent_command.specs.Program.{run_input, run_of, first_errors, source_errors, program};
-ghost use Rattle.fluent_command.specs.Input.{ReadsAreBounded, ReadFor};
+ghost use Rattle.fluent_command.specs.Input.{ReadsAreBounded, ReadFor, reader_in, made_in};
 ghost use Rattle.fluent_command.specs.Outlet.{outlet};
 ghost use Rattle.fluent_command.specs.Outcome.{AreLeft, EndsRun, AnswersAs, RanTo};
 
@@ -62,7 +62,7 @@ fn show_input<'w, R: Read, W: Write>(
     requires { errors.old.items ≡ [] }
     ensures ends { let asked = asked_view request.entry in
         let plurals = plurals_view plurals.entry in
-        (bytes : List ℕ) × AreLeft (R.remaining input.old.inner) bytes
+        (bytes : List ℕ) × AreLeft (R.remaining (reader_in input.old)) bytes
         × EndsRun (run_input asked plurals bytes) (source_errors asked plurals bytes)
         (outlet W.contents out.old) (outlet W.contents out.new)
         (ending_view result) (reported errors.new.items) }
@@ -86,7 +86,7 @@ fn attempt<'w, R: Read, W: Write>(
 ) -> Ending<'w>
     requires { errors.old.items ≡ [] }
     ensures ends { let asked = map string_bytes words.now in
-        (bytes : List ℕ) × AreLeft (R.remaining input.old.inner) bytes
+        (bytes : List ℕ) × AreLeft (R.remaining (reader_in input.old)) bytes
         × EndsRun (run_of asked bytes) (first_errors asked bytes)
         (outlet W.contents out.old) (outlet W.contents out.new)
         (ending_view result) (reported errors.new.items) }
@@ -96,7 +96,7 @@ fn attempt<'w, R: Read, W: Write>(
     ensures reads { ReadFor (ending_view result) input.new }
     ensures unread { asked_by (map string_bytes words.now) ≡ None → input.new ≡ input.old }
     ensures untouched { HasBadRule (asked_by (map string_bytes words.now)) →
-        (input.new.inner ≡ input.old.inner) × (input.new.made ≡ 0) }
+        (reader_in input.new ≡ reader_in input.old) × (made_in input.new ≡ 0) }
     ensures bounded { asked_by (map string_bytes words.now) ≢ None → ReadsAreBounded input.new }
 {
     let Some(request) = Request::of(words) else {
@@ -123,13 +123,13 @@ fn run_with<R: Read, W: Write, E: Write>(
 ) -> u8
     requires { errors.old.items ≡ [] }
     ensures ran { let asked = map string_bytes words.now in
-        (bytes : List ℕ) × AreLeft (R.remaining input.old.inner) bytes
+        (bytes : List ℕ) × AreLeft (R.remaining (reader_in input.old)) bytes
         × RanTo (run_of asked bytes) (first_errors asked bytes) (reported errors.new.items) input.new
         (outlet W.contents out.old) (outlet W.contents out.new)
         (outlet E.contents err.old) (outlet E.contents err.new) result }
     ensures unread { asked_by (map string_bytes words.now) ≡ None → input.new ≡ input.old }
     ensures untouched { HasBadRule (asked_by (map string_bytes words.now)) →
-        (input.new.inner ≡ input.old.inner) × (input.new.made ≡ 0) }
+        (reader_in input.new ≡ reader_in input.old) × (made_in input.new ≡ 0) }
     ensures bounded { asked_by (map string_bytes words.now) ≢ None → ReadsAreBounded input.new }
 {
     let ending = attempt(alloc, words, input, out, errors);
@@ -156,18 +156,18 @@ pub fn run<R: Read, W: Write, E: Write>(
     err: &mut Counting<E>,
 ) -> u8
     ensures works { let asked = map string_bytes words.now in
-        result ≢ 3 → (bytes : List ℕ) × AreLeft (R.remaining input.old.inner) bytes
+        result ≢ 3 → (bytes : List ℕ) × AreLeft (R.remaining (reader_in input.old)) bytes
         × AnswersAs (program asked bytes) result
         (outlet W.contents out.old) (outlet W.contents out.new)
         (outlet E.contents err.old) (outlet E.contents err.new) }
     ensures ran { let asked = map string_bytes words.now in
-        (bytes : List ℕ) × AreLeft (R.remaining input.old.inner) bytes × (errors : List Error)
+        (bytes : List ℕ) × AreLeft (R.remaining (reader_in input.old)) bytes × (errors : List Error)
         × RanTo (run_of asked bytes) (first_errors asked bytes) errors input.new
         (outlet W.contents out.old) (outlet W.contents out.new)
         (outlet E.contents err.old) (outlet E.contents err.new) result }
     ensures unread { asked_by (map string_bytes words.now) ≡ None → input.new ≡ input.old }
     ensures untouched { HasBadRule (asked_by (map string_bytes words.now)) →
-        (input.new.inner ≡ input.old.inner) × (input.new.made ≡ 0) }
+        (reader_in input.new ≡ reader_in input.old) × (made_in input.new ≡ 0) }
     ensures bounded { asked_by (map string_bytes words.now) ≢ None → ReadsAreBounded input.new }
     ensures status { result ≤ 3 }
 {

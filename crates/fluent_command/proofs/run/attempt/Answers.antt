@@ -1,4 +1,5 @@
 use Rattle.std.proofs.Common.{ap, refl, subst, sym, Some, ◌≡◌, ◌∙◌}
+use Rattle.fluent_command.specs.Input.{reader_in}
 use Rattle.fluent_command.specs.Plurals.{plurals_asked}
 use Rattle.fluent_command.specs.Inside.PluralsView.{plurals_view}
 use Rattle.fluent_command.specs.Program.{run_asked, errors_asked}
@@ -8,7 +9,7 @@ use Rattle.fluent_command.proofs.run.attempt.Goals as goal
 
 pub returns-in_default-clause-ends : goal.returns-in_default-clause-ends
 returns-in_default-clause-ends g c =
-    let left = some_left (g.R.Read.remaining c.args.input.now.inner) in
+    let left = some_left (g.R.Read.remaining (reader_in c.args.input.now)) in
     (left.0, left.1, ends_only _ _ _ _ _ c.requires (ap (λ asked. run_asked asked left.0) (sym c.in_default.ensures)))
 
 pub returns-in-Ok-clause-ends : goal.returns-in-Ok-clause-ends
@@ -41,7 +42,7 @@ returns-in-Ok-clause-untouched g c bad =
 
 pub returns-in-Err-clause-ends : goal.returns-in-Err-clause-ends
 returns-in-Err-clause-ends g c =
-    let left = some_left (g.R.Read.remaining c.args.input.now.inner) in (
+    let left = some_left (g.R.Read.remaining (reader_in c.args.input.now)) in (
       left.0,
       left.1,
       ends_of _ _ _ _ _ _ _ _ (ap (λ a. run_asked a left.0) c.in-Some.ensures) refl
