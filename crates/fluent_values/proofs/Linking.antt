@@ -1,26 +1,47 @@
 -- What is kept of patterns is theirs, and stays so while ids keep their numbers and contents their classes.
-use Rattle.std.specs.Prelude.{◌≡◌, ℕ, zero, suc, List, [], ◌∷◌, ◌++◌, length, take, slice_get, is_some, Bool, true, false, cond, Option, Some, None, IfSome, refl, ◌<◌, ◌+◌}
+use Rattle.std.specs.Prelude.{◌≡◌, ℕ, zero, suc, List, [], ◌∷◌, ◌++◌, length, take, slice_get, is_none, Bool, true, false, cond, Option, Some, None, IfSome, refl, ◌<◌, ◌+◌}
 use Rattle.std.specs.Option.{option_map, option_copied, unwrap_or}
+use Rattle.std.specs.Global.{Box}
+use Rattle.std.specs.List.{list_all}
 use Rattle.std.specs.Str.{bytes_eq}
 use Rattle.std.proofs.Common.{Bor, ap, sym, subst, ◌∙◌, get_or}
+use Rattle.std.proofs.lemmas.Bool.{and_parts}
 use Rattle.std.proofs.lemmas.List.{map_more}
 use Rattle.fluent_tree.specs.Tree.{Text, Pattern}
 use Rattle.fluent_tree.specs.View.{pattern_view, value_view}
 use Rattle.fluent_tree.specs.declared.ast.Attribute.{Attribute}
 use Rattle.fluent_tree.specs.declared.ast.Pattern as code
 use Rattle.fluent_links.specs.Classes.{Grows, HasClass}
-use Rattle.fluent_links.specs.Linked.{IsOf, still_of}
+use Rattle.fluent_links.specs.Linked.{IsOf, class_of, still_of}
 use Rattle.fluent_links.specs.Links.{KeepsNumbers}
 use Rattle.fluent_links.specs.Slots.{named, number}
 use Rattle.fluent_links.specs.declared.linked.Linked.{Linked}
 use Rattle.fluent_values.specs.declared.slot.Slot.{Slot}
-use Rattle.fluent_values.specs.Linking.{AreKept, AreLinked, AreOf, IsLinked, attributes_in, patterns, value_in}
+use Rattle.fluent_values.specs.declared.slot.Kept.{Kept}
+use Rattle.fluent_values.specs.Linking.{AreKept, AreLinked, AreOf, IsLinked, Keeps, RefersToNothing, attributes_in, attributes_kept, is_bare, patterns, value_in, value_kept}
 
 some_is : {A : Type 0} (x y : A) → Some x ≡ Some y → x ≡ y
 some_is x y h = ap (λ o. unwrap_or o x) h
 
 none_is : {A : Type 0} (o : Option A) (x : A) → o ≡ None → o ≡ Some x → ⊥
 none_is o x h k = let e : None ≡ Some x = sym h ∙ k in cc
+
+is_none_of : {A : Type 0} (o : Option A) → is_none o ≡ true → o ≡ None
+is_none_of None h = refl
+is_none_of (Some x) h = absurd cc
+
+none_at : (i : ℕ) (l : Linked) → slice_get [] i ≡ Some l → ⊥
+none_at zero l h = cc
+none_at (suc i) l h = cc
+
+-- what is kept of a value is the value's
+kept_is : (l l' : Linked) (ls : List Linked) (k : Option (Box Kept)) → Keeps (Some l) ls k → value_kept k ≡ Some l' → l ≡ l'
+kept_is l l' ls None keeps here = absurd cc
+kept_is l l' ls (Some k) keeps here = some_is l l' (sym keeps.0 ∙ here)
+
+left_is : (l : Linked) (ls : List Linked) (k : Option (Box Kept)) → Keeps (Some l) ls k → value_kept k ≡ None → is_bare l ≡ true
+left_is l ls None keeps here = keeps.0
+left_is l ls (Some k) keeps here = let e : None ≡ Some l = sym here ∙ keeps.0 in absurd cc
 
 pub kept_by : (n n' : Text → Option ℕ) → ((id : Text) → n' id ≡ n id) → KeepsNumbers n n'
 kept_by n n' same = λ id k h. same id ∙ h
@@ -37,15 +58,15 @@ grows_twice a b c h k = λ n p at. k n p (h n p at)
 module _ (n n' : Text → Option ℕ) (t t' : List Pattern) (kept : KeepsNumbers n n') (grows : Grows t t') where
   still_kept : (ps : List Pattern) (ls : List Linked) → AreKept n t ps ls → AreKept n' t' ps ls
   still_kept ps ls h = record {
-    count = h.count;
     each = λ k p l at here. still_of n n' t t' kept grows p l (h.each k p l at here);
+    left = h.left;
   }
 
   pub still_linked : {F : Type 0} (s : Slot F) → IsLinked n t s → IsLinked n' t' s
   still_linked s h = record {
-    valued = h.valued;
     value = λ p l at here. still_of n n' t t' kept grows p l (h.value p l at here);
-    attributes = still_kept (attributes_in s.entry) s.attributes.items h.attributes;
+    left = h.left;
+    attributes = still_kept (attributes_in s.entry) (attributes_kept s.kept) h.attributes;
   }
 
   pub still_all : (ps : List Pattern) (ls : List Linked) → AreOf n t ps ls → AreOf n' t' ps ls
@@ -70,41 +91,53 @@ module _ (n n' : Text → Option ℕ) (t t' : List Pattern) (kept : KeepsNumbers
       (more_of (patterns (take i as')) ls (pattern_view (get_or as' i d).value) l h here))
 
 module _ (n : Text → Option ℕ) (t : List Pattern) where
-  count_of : (ps : List Pattern) (ls : List Linked) → AreOf n t ps ls → length ls ≡ length ps
-  count_of [] [] h = refl
-  count_of [] (y ∷ ls) h = absurd h
-  count_of (x ∷ ps) [] h = absurd h
-  count_of (x ∷ ps) (y ∷ ls) h = ap suc (count_of ps ls h.1)
-
   each_of : (ps : List Pattern) (ls : List Linked) → AreOf n t ps ls → (k : ℕ) (p : Pattern) (l : Linked) → slice_get ps k ≡ Some p → slice_get ls k ≡ Some l → IsOf n t p l
   each_of [] ls h k p l at here = absurd cc
   each_of (x ∷ ps) [] h k p l at here = absurd h
   each_of (x ∷ ps) (y ∷ ls) h zero p l at here = subst (λ l. IsOf n t p l) (some_is y l here) (subst (λ p. IsOf n t p y) (some_is x p at) h.0)
   each_of (x ∷ ps) (y ∷ ls) h (suc k) p l at here = each_of ps ls h.1 k p l at here
 
-  kept_of : (ps : List Pattern) (ls : List Linked) → AreOf n t ps ls → AreKept n t ps ls
-  kept_of ps ls h = record { count = count_of ps ls h; each = each_of ps ls h }
+  -- none is left out
+  none_left : (ps : List Pattern) (ls : List Linked) → AreOf n t ps ls → (k : ℕ) (p : Pattern) → slice_get ps k ≡ Some p → slice_get ls k ≡ None → RefersToNothing p
+  none_left [] ls h k p at here = absurd cc
+  none_left (x ∷ ps) [] h k p at here = absurd h
+  none_left (x ∷ ps) (y ∷ ls) h zero p at here = absurd cc
+  none_left (x ∷ ps) (y ∷ ls) h (suc k) p at here = none_left ps ls h.1 k p at here
+
+  -- one of which nothing needs to be kept refers to nothing
+  bare_is : (p : Pattern) (l : Linked) → IsOf n t p l → is_bare l ≡ true → RefersToNothing p
+  bare_is p l h bare = h.0.1 (is_none_of (class_of l) bare)
+
+  bare_left : (ps : List Pattern) (ls : List Linked) → AreOf n t ps ls → list_all is_bare ls ≡ true → (k : ℕ) (p : Pattern) → slice_get ps k ≡ Some p → RefersToNothing p
+  bare_left [] ls h bare k p at = absurd cc
+  bare_left (x ∷ ps) [] h bare k p at = absurd h
+  bare_left (x ∷ ps) (y ∷ ls) h bare zero p at = subst RefersToNothing (some_is x p at) (bare_is x y h.0 (and_parts (is_bare y) (list_all is_bare ls) bare).0)
+  bare_left (x ∷ ps) (y ∷ ls) h bare (suc k) p at = bare_left ps ls h.1 (and_parts (is_bare y) (list_all is_bare ls) bare).1 k p at
+
+  kept_of : (v : Option Linked) (ps : List Pattern) (ls : List Linked) (k : Option (Box Kept)) → AreOf n t ps ls → Keeps v ls k → AreKept n t ps (attributes_kept k)
+  kept_of v ps ls None of keeps = record { each = λ i p l at here. absurd (none_at i l here); left = λ i p at here. bare_left ps ls of keeps.1 i p at }
+  kept_of v ps ls (Some k) of keeps = subst (AreKept n t ps) (sym keeps.1) (record { each = each_of ps ls of; left = none_left ps ls of })
 
   module _ {F : Type 0} (s : Slot F) where
     -- an entry with a value
-    pub valued_linked : (p : Pattern) (l : Linked) → value_in s.entry ≡ Some p → s.value ≡ Some l → IsOf n t p l → AreOf n t (attributes_in s.entry) s.attributes.items → IsLinked n t s
-    valued_linked p l at here one all = record {
-      valued = ap is_some here ∙ sym (ap is_some at);
-      value = λ p' l' at' here'. subst (λ l. IsOf n t p' l) (some_is l l' (sym here ∙ here')) (subst (λ p. IsOf n t p l) (some_is p p' (sym at ∙ at')) one);
-      attributes = kept_of (attributes_in s.entry) s.attributes.items all;
+    pub valued_linked : (p : Pattern) (l : Linked) (ls : List Linked) → value_in s.entry ≡ Some p → IsOf n t p l → AreOf n t (attributes_in s.entry) ls → Keeps (Some l) ls s.kept → IsLinked n t s
+    valued_linked p l ls at one all keeps = record {
+      value = λ p' l' at' here. subst (λ l. IsOf n t p' l) (kept_is l l' ls s.kept keeps here) (subst (λ p. IsOf n t p l) (some_is p p' (sym at ∙ at')) one);
+      left = λ p' at' here. subst RefersToNothing (some_is p p' (sym at ∙ at')) (bare_is p l one (left_is l ls s.kept keeps here));
+      attributes = kept_of (Some l) (attributes_in s.entry) ls s.kept all keeps;
     }
 
     -- one without
-    pub bare_linked : value_in s.entry ≡ None → s.value ≡ None → AreOf n t (attributes_in s.entry) s.attributes.items → IsLinked n t s
-    bare_linked at here all = record {
-      valued = ap is_some here ∙ sym (ap is_some at);
-      value = λ p l at' here'. absurd (none_is s.value l here here');
-      attributes = kept_of (attributes_in s.entry) s.attributes.items all;
+    pub bare_linked : (ls : List Linked) → value_in s.entry ≡ None → AreOf n t (attributes_in s.entry) ls → Keeps None ls s.kept → IsLinked n t s
+    bare_linked ls at all keeps = record {
+      value = λ p l at' here. absurd (none_is (value_in s.entry) p at at');
+      left = λ p at' here. absurd (none_is (value_in s.entry) p at at');
+      attributes = kept_of None (attributes_in s.entry) ls s.kept all keeps;
     }
 
     -- one that has no patterns at all
-    pub plain_linked : value_in s.entry ≡ None → s.value ≡ None → attributes_in s.entry ≡ [] → s.attributes.items ≡ [] → IsLinked n t s
-    plain_linked at here none none' = bare_linked at here (subst (λ ps. AreOf n t ps s.attributes.items) (sym none) (subst (AreOf n t []) (sym none') tt))
+    pub plain_linked : value_in s.entry ≡ None → attributes_in s.entry ≡ [] → s.kept ≡ None → IsLinked n t s
+    plain_linked at none here = bare_linked [] at (subst (λ ps. AreOf n t ps []) (sym none) tt) (subst (Keeps None []) (sym here) (refl, refl))
 
 module _ {F : Type 0} where
   -- no slots

@@ -43,8 +43,8 @@ abbrev pub OfPattern : (Text → Option ℕ) → List Pattern → Pattern → Op
 OfPattern number table p kept = (l : Bor Linked) → kept ≡ Some l → IsOf number table p l.now
 
 -- of a message's value
-abbrev pub OfValue : (Text → Option ℕ) → List Pattern → Option Pattern → Option Linked → Type 0
-OfValue number table value kept = (p : Pattern) (l : Linked) → value ≡ Some p → kept ≡ Some l → IsOf number table p l
+abbrev pub OfValue : (Text → Option ℕ) → List Pattern → Option Pattern → Option (Bor Linked) → Type 0
+OfValue number table value kept = (p : Pattern) → value ≡ Some p → OfPattern number table p kept
 
 -- of the patterns of attributes, one for each
 abbrev pub OfPatterns : (Text → Option ℕ) → List Pattern → List Pattern → List Linked → Type 0

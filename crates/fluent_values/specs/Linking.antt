@@ -1,15 +1,19 @@
 -- What is kept of the patterns of what ids name.
-use Rattle.std.specs.Prelude.{◌≡◌, ℕ, List, [], ◌∷◌, map, length, slice_get, is_some, Option, Some, None}
+use Rattle.std.specs.Prelude.{◌≡◌, ℕ, List, [], ◌∷◌, map, slice_get, is_none, Bool, true, false, Option, Some, None}
+use Rattle.std.specs.Global.{Box}
+use Rattle.std.specs.List.{list_all}
 use mathlib.Core.HLevel.{hedberg}
+use Rattle.fluent_tree.specs.References.{references}
 use Rattle.fluent_tree.specs.Tree.{Text, Pattern, pattern_same}
 use Rattle.fluent_tree.specs.View as view
 use Rattle.fluent_tree.specs.View.{pattern_view}
 use Rattle.fluent_tree.specs.declared.ast.Attribute.{Attribute}
-use Rattle.fluent_links.specs.Linked.{IsOf}
+use Rattle.fluent_links.specs.Linked.{IsOf, are_some, class_of}
 use Rattle.fluent_links.specs.Slots.{named, number}
 use Rattle.fluent_links.specs.declared.linked.Linked.{Linked}
 use Rattle.fluent_values.specs.declared.entry.Entry.{Entry}
 use Rattle.fluent_values.specs.declared.entry.Entry.TheVariants as entry
+use Rattle.fluent_values.specs.declared.slot.Kept.{Kept}
 use Rattle.fluent_values.specs.declared.slot.Slot.{Slot}
 
 -- the value of an entry, if it has one
@@ -36,16 +40,42 @@ AreOf number table [] (l ∷ ls) = ⊥
 AreOf number table (p ∷ ps) [] = ⊥
 AreOf number table (p ∷ ps) (l ∷ ls) = IsOf number table p l × AreOf number table ps ls
 
--- the same, place by place
+-- of a pattern that refers to nothing, nothing needs to be kept
+abbrev pub is_bare : Linked → Bool
+is_bare l = is_none (class_of l)
+
+abbrev pub is_value_bare : Option Linked → Bool
+is_value_bare None = true
+is_value_bare (Some l) = is_bare l
+
+-- what is kept of a value, and of attributes
+abbrev pub value_kept : Option (Box Kept) → Option Linked
+value_kept None = None
+value_kept (Some k) = k.value.value
+
+abbrev pub attributes_kept : Option (Box Kept) → List Linked
+attributes_kept None = []
+attributes_kept (Some k) = k.value.attributes.items
+
+-- both are kept, or nothing where none of them refers to anything
+abbrev pub Keeps : Option Linked → List Linked → Option (Box Kept) → Type 0
+Keeps value attributes None = (is_value_bare value ≡ true) × (list_all is_bare attributes ≡ true)
+Keeps value attributes (Some k) = (k.value.value ≡ value) × (k.value.attributes.items ≡ attributes)
+
+-- a pattern that refers to nothing
+abbrev pub RefersToNothing : Pattern → Type 0
+RefersToNothing p = are_some (references p) ≡ false
+
+-- Of each attribute's pattern that refers to anything, something is kept at its place; what is kept is of its pattern.
 pub record AreKept (number : Text → Option ℕ) (table ps : List Pattern) (ls : List Linked) : Type 0 where
-  pub count : length ls ≡ length ps
   pub each : (k : ℕ) (p : Pattern) (l : Linked) → slice_get ps k ≡ Some p → slice_get ls k ≡ Some l → IsOf number table p l
+  pub left : (k : ℕ) (p : Pattern) → slice_get ps k ≡ Some p → slice_get ls k ≡ None → RefersToNothing p
 
 -- what is kept in a slot is that of its entry's patterns
 pub record IsLinked {F : Type 0} (number : Text → Option ℕ) (table : List Pattern) (s : Slot F) : Type 0 where
-  pub valued : is_some s.value ≡ is_some (value_in s.entry)
-  pub value : (p : Pattern) (l : Linked) → value_in s.entry ≡ Some p → s.value ≡ Some l → IsOf number table p l
-  pub attributes : AreKept number table (attributes_in s.entry) s.attributes.items
+  pub value : (p : Pattern) (l : Linked) → value_in s.entry ≡ Some p → value_kept s.kept ≡ Some l → IsOf number table p l
+  pub left : (p : Pattern) → value_in s.entry ≡ Some p → value_kept s.kept ≡ None → RefersToNothing p
+  pub attributes : AreKept number table (attributes_in s.entry) (attributes_kept s.kept)
 
 -- the same of each slot that is filled
 abbrev pub AreLinked : {F : Type 0} → List (Text × Option (Slot F)) → List Pattern → Type 0

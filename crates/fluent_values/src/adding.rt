@@ -19,7 +19,7 @@ ghost use Rattle.fluent_values.specs.declared.ids.Ids.{Ids};
 use crate::entry::Entry;
 use crate::ids::Ids;
 use crate::ready::Ready;
-use crate::slot::{Slot, plain};
+use crate::slot::{Slot, keep, plain};
 use crate::{EntryKind, FluentError};
 use fluent_links::Linked;
 use fluent_tree::ast;
@@ -64,18 +64,12 @@ fn linked_slot<'r, 's, F: Drop>(
     match value {
         Some(pattern) => {
             let value = Some(known.link(alloc, pattern)?);
-            Ok(Slot {
-                entry,
-                value,
-                attributes,
-            })
+            let kept = keep(alloc, value, attributes)?;
+            Ok(Slot { entry, kept })
         }
         None => {
-            Ok(Slot {
-                entry,
-                value: None,
-                attributes,
-            })
+            let kept = keep(alloc, None, attributes)?;
+            Ok(Slot { entry, kept })
         }
     }
 }
@@ -178,7 +172,7 @@ fn add_where_free<'r, 's, F: Drop>(
         errors.push(left(alloc, EntryKind::Function, id.as_str())?)?;
     } else {
         let number = known.number_of(id)?;
-        known.put(number, plain(alloc, function));
+        known.put(number, plain(function));
     }
     Ok(errors)
 }

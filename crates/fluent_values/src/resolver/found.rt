@@ -59,8 +59,8 @@ impl<'r, 's, F> Ids<'r, 's, F> {
         };
         match &slot.entry {
             Entry::Message(message) => match attribute {
-                None => value_of(&message.value, &slot.value),
-                Some(name) => first_of(&message.attributes, &slot.attributes, name.name),
+                None => value_of(&message.value, slot.value()),
+                Some(name) => first_of(&message.attributes, slot.attributes(), name.name),
             },
             _ => Found::Unknown,
         }
@@ -85,8 +85,8 @@ impl<'r, 's, F> Ids<'r, 's, F> {
         };
         match &slot.entry {
             Entry::Term(term) => match attribute {
-                None => Found::Pattern(Target::of(&term.value, slot.value.as_ref())),
-                Some(name) => first_of(&term.attributes, &slot.attributes, name.name),
+                None => Found::Pattern(Target::of(&term.value, slot.value())),
+                Some(name) => first_of(&term.attributes, slot.attributes(), name.name),
             },
             _ => Found::Unknown,
         }
@@ -144,14 +144,14 @@ pub(crate) fn answer_of<'a, C: FluentType, F: FluentFunction<C>>(
 }
 
 /// A message's value, if it has one.
-fn value_of<'p, 's>(value: &'p Option<Pattern<'s>>, linked: &'p Option<Linked>) -> Found<'p, 's>
+fn value_of<'p, 's>(value: &'p Option<Pattern<'s>>, linked: Option<&'p Linked>) -> Found<'p, 's>
     ensures content { found_view result ≡ value_target (optional_view value.now) }
     ensures led { (number : Text → Option ℕ) (table : List Content) →
-        OfValue number table (optional_view value.now) linked.now → IsLedBy number table result }
+        OfValue number table (optional_view value.now) linked.entry → IsLedBy number table result }
 {
     match value {
         None => Found::WithoutValue,
-        Some(pattern) => Found::Pattern(Target::of(pattern, linked.as_ref())),
+        Some(pattern) => Found::Pattern(Target::of(pattern, linked)),
     }
 }
 

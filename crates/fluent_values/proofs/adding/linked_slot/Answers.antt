@@ -1,4 +1,4 @@
-use Rattle.std.proofs.Common.{◌∙◌, ap, sym, subst, refl}
+use Rattle.std.proofs.Common.{◌∙◌, ap, sym, subst}
 use Rattle.std.specs.Option.{option_map}
 use Rattle.fluent_tree.specs.View.{pattern_view}
 use Rattle.fluent_values.specs.Linking.{AreOf}
@@ -11,13 +11,15 @@ returns-in_ok-link-in-Some-clause-linked g c =
     let mid = c.linked_attributes.new.known in
     let last = c.link.new.self in
     let step = c.in_ok-link-in-Some.ensures.grown in
-    valued_linked (numbers last) (table last) _ (pattern_view c.in-Some.pattern.now) _
-    (sym c.requires.value ∙ ap (option_map (λ p. pattern_view p.now)) c.in-Some.is) refl c.in_ok-link-in-Some.ensures.linked
+    valued_linked (numbers last) (table last) _ (pattern_view c.in-Some.pattern.now) _ _
+    (sym c.requires.value ∙ ap (option_map (λ p. pattern_view p.now)) c.in-Some.is) c.in_ok-link-in-Some.ensures.linked
     (still_all (numbers mid) (numbers last) (table mid) (table last) step.0 step.1 _ _ (subst (λ ps. AreOf (numbers mid) (table mid) ps c.in_ok-attributes.attributes.items) c.requires.attributes c.in_ok-attributes.ensures.linked))
+    c.in_ok-kept-in-Some.ensures
 
 pub returns-in-None-clause-linked : goal.returns-in-None-clause-linked
 returns-in-None-clause-linked g c =
     let mid = c.linked_attributes.new.known in
-    bare_linked (numbers mid) (table mid) _
-    (sym c.requires.value ∙ ap (option_map (λ p. pattern_view p.now)) c.in-None.is) refl
+    bare_linked (numbers mid) (table mid) _ _
+    (sym c.requires.value ∙ ap (option_map (λ p. pattern_view p.now)) c.in-None.is)
     (subst (λ ps. AreOf (numbers mid) (table mid) ps c.in_ok-attributes.attributes.items) c.requires.attributes c.in_ok-attributes.ensures.linked)
+    c.in_ok-kept-in-None.ensures

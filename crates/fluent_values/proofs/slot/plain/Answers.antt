@@ -3,4 +3,4 @@ use Rattle.fluent_values.proofs.Linking.{plain_linked}
 use Rattle.fluent_values.proofs.slot.plain.Goals as goal
 
 pub returns-clause-linked : goal.returns-clause-linked
-returns-clause-linked g c = λ number table. plain_linked number table _ c.requires.value refl c.requires.attributes c.new.ensures.items
+returns-clause-linked g c = λ number table. plain_linked number table _ c.requires.value c.requires.attributes refl
