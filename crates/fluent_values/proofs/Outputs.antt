@@ -15,7 +15,7 @@ pub in_buffer : {W : Type 0} (contents : W → Option Text) (name name' : ℕ) (
 in_buffer contents name name' w s s' b t is h = subst (λ b. SinkTook (Ok tt) t (at contents name w name' s b) (at contents name w name' s' b)) (sym is) (took_whole t _ _ h (refl, refl) refl refl)
 
 -- to the writer
-pub to_writer : {W : Type 0} (r : Result (Unit {0}) WriteFault) (contents : W → Option Text) (name name' : ℕ) (w w' : Counting W) (s : String Global) (b : Bool) (t : Text) → b ≡ false → OnOk r (Appends (contents (writer_in w)) (contents w'.inner) t) → OnErr r (TookFront (contents (writer_in w)) (contents w'.inner) t) → CountsFault w w' r → SinkTook (without_error r) t (at contents name w name' s b) (at contents name w' name' s b)
+pub to_writer : {W : Type 0} (r : Result (Unit {0}) WriteFault) (contents : W → Option Text) (name name' : ℕ) (w w' : Counting W) (s : String Global) (b : Bool) (t : Text) → b ≡ false → OnOk r (Appends (contents (writer_in w)) (contents (writer_in w')) t) → OnErr r (TookFront (contents (writer_in w)) (contents (writer_in w')) t) → CountsFault w w' r → SinkTook (without_error r) t (at contents name w name' s b) (at contents name w' name' s b)
 to_writer r contents name name' w w' s b t is whole front fault = subst (λ b. SinkTook (without_error r) t (at contents name w name' s b) (at contents name w' name' s b)) (sym is) (took_by r t _ _ whole front fault refl refl)
 
 -- which of the two takes texts is part of what stands

@@ -164,7 +164,7 @@ as_got {r = r} {walk = walk} contents w w' s s' {a = a} {b = b} empty h =
 pub beside_rests : {T : Type 0} {r : Result T Halt} {walk : Walk Text} {W : Type 0} (contents : W → Option Text) (w w' : Counting W) (s s' : String Global) {a b : Status} → Wrote r walk (beside contents w s) (beside contents w' s') a b → Rests r (writer contents w) (writer contents w')
 beside_rests contents w w' s s' h =
     let way = h.went.along in
-    let same : Some (contents w'.inner) ≡ Some (contents (writer_in w)) = way.beside in
+    let same : Some (contents (writer_in w')) ≡ Some (contents (writer_in w)) = way.beside in
     record { held = cc; fault = way.fault; beside = refl; lent = refl }
 
 -- what an output with a buffer took, its buffer took, and its writer was left alone

@@ -90,7 +90,7 @@ pub(crate) fn keep(
     value: Option<Linked>,
     attributes: Vec<Linked>,
 ) -> Result<Option<Box<Kept>>, AllocError>
-    ensures { IfOk result (Keeps value.entry attributes.entry.items) }
+    ensures { IfOk result (Keeps value attributes.items) }
 {
     if is_value_bare(&value) && are_bare(&attributes) {
         return Ok(None);
