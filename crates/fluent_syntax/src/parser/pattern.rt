@@ -1,5 +1,7 @@
 //! Patterns, over a reader of placeables.
-ghost use Rattle.std.specs.Prelude.{◌≡◌, ℕ, List, map, Some, IfOk, IfSome};
+ghost use Rattle.std.specs.Prelude.{◌≡◌, ℕ, List, true, map, Some, IfOk};
+ghost use Rattle.fluent_text.specs.Lexical.{is_text};
+ghost use Rattle.fluent_text.specs.Parser.{run};
 ghost use Rattle.fluent_syntax.specs.Expressions.{level};
 ghost use Rattle.fluent_syntax.specs.Pieces as spec;
 ghost use Rattle.fluent_syntax.specs.Layout.{unless_empty, trim_spaces};
@@ -30,23 +32,25 @@ pub fn pattern<'s, F: Fn(Global, &'s str, usize) -> Result<(Expression<'s>, &'s 
         (F.post braces.now) }
     ensures { Gives pattern_view result (spec.pattern (level depth).braces s.now) }
 {
-    if let Some((line, rest)) = only_line(s) {
-        let elements = one_element(alloc, line)?;
-        return Ok((Pattern { elements }, rest));
+    let begin = split_run(s, Class::Text);
+    if is_whole(begin.0, begin.1) {
+        let elements = one_element(alloc, begin.0)?;
+        return Ok((Pattern { elements }, begin.1));
     }
-    long_pattern(alloc, s, depth, braces)
+    long_pattern(alloc, s, begin, depth, braces)
 }
 
-/// The text of a line, where it is a whole pattern: nothing behind it goes on with it.
-fn only_line<'s>(s: &'s str) -> Option<(&'s str, &'s str)>
-    ensures { IfSome result (λ p. (depth : ℕ) → spec.pattern (level depth).braces s.now
-        ≡ Some (pattern_of (unless_empty (trim_spaces p.0.now)), p.1.now)) }
+/// Whether the text of a line is a whole pattern: nothing behind it goes on with it.
+#[inline(always)]
+fn is_whole(line: &str, rest: &str) -> bool
+    ensures { (result ≡ true) → (s : List ℕ) → run is_text s ≡ Some (line.now, rest.now) →
+        (depth : ℕ) → spec.pattern (level depth).braces s
+        ≡ Some (pattern_of (unless_empty (trim_spaces line.now)), rest.now) }
 {
-    let (line, rest) = split_run(s, Class::Text);
     if line.is_empty() || byte_at(rest, 0) == b'{' || may_go_on(rest) {
-        return None;
+        return false;
     }
-    Some((line, rest))
+    true
 }
 
 /// The text of a line as the only element, without the spaces at its end.
@@ -64,19 +68,21 @@ fn one_element<'s>(alloc: Global, line: &'s str) -> Result<Vec<PatternElement<'s
     Ok(elements)
 }
 
-/// A pattern with placeables, or with several lines.
+/// A pattern with placeables, or with several lines, which begins with a text, maybe an empty one.
 #[inline(never)]
 fn long_pattern<'s, F: Fn(Global, &'s str, usize) -> Result<(Expression<'s>, &'s str), Stop>>(
     alloc: Global,
     s: &'s str,
+    begin: (&'s str, &'s str),
     depth: usize,
     braces: &F,
 ) -> Result<(Pattern<'s>, &'s str), Stop>
+    requires begin { run is_text s.now ≡ Some (begin.0.now, begin.1.now) }
     requires braces { GivesRule expression_view (level depth).braces depth (F.pre braces.now)
         (F.post braces.now) }
     ensures { Gives pattern_view result (spec.pattern (level depth).braces s.now) }
 {
-    let (mut elements, line) = first_line(alloc, s, depth, braces)?;
+    let (mut elements, line) = first_line(alloc, s, begin, depth, braces)?;
     match line {
         Line::Whole(rest) => {
             if elements.is_empty() {
