@@ -130,6 +130,17 @@ fn push_any_placeable<'s, F: Fn(Global, &'s str, usize) -> Result<(Expression<'s
     Ok(rest)
 }
 
+/// Whether a pattern ends with the text of a line that this stands behind.
+#[inline(always)]
+pub fn ends_pattern(s: &str) -> bool
+    ensures { (result ≡ true) → ((first s.now == 123) ≡ false) × LineEndsPattern s.now }
+{
+    if byte_at(s, 0) == b'{' || may_go_on(s) {
+        return false;
+    }
+    true
+}
+
 /// How many elements a placeable makes with these texts before and behind it.
 #[inline(always)]
 fn room(before: &str, behind: &str) -> usize
@@ -162,7 +173,7 @@ fn begun<'s>(
 /// The elements of a first line with its first placeable, which stands between `value` and `s`.
 ///
 /// Mostly the text behind it ends the pattern, or is empty and does so. Then the list has room for just these.
-#[inline(always)]
+#[inline(never)]
 fn behind_first<'s, F: Fn(Global, &'s str, usize) -> Result<(Expression<'s>, &'s str), Stop>>(
     alloc: Global,
     value: &'s str,
@@ -178,18 +189,18 @@ fn behind_first<'s, F: Fn(Global, &'s str, usize) -> Result<(Expression<'s>, &'s
         IfOk result (λ p. IsFirstLine depth whole (all element_view p.0) p.1) }
 {
     let (text, after) = split_run(s, Class::Text);
-    if byte_at(after, 0) == b'{' {
-        let mut found = begun(alloc, ROOM, value, expression)?;
+    let ends = ends_pattern(after);
+    let room = if ends { room(value, text) } else { ROOM };
+    let mut found = begun(alloc, room, value, expression)?;
+    if ends {
         push_text(&mut found, text)?;
-        return more_elements(alloc, after, depth, braces, found);
+        return Ok((found, Line::Whole(after)));
     }
-    if may_go_on(after) {
-        let found = begun(alloc, room(value, ""), value, expression)?;
+    if byte_at(after, 0) != b'{' {
         return Ok((found, Line::Open(s)));
     }
-    let mut found = begun(alloc, room(value, text), value, expression)?;
     push_text(&mut found, text)?;
-    Ok((found, Line::Whole(after)))
+    more_elements(alloc, after, depth, braces, found)
 }
 
 /// The same from a brace on, where the placeable may be any.
@@ -259,16 +270,16 @@ fn more_elements<'s, F: Fn(Global, &'s str, usize) -> Result<(Expression<'s>, &'
 pub fn first_line<'s, F: Fn(Global, &'s str, usize) -> Result<(Expression<'s>, &'s str), Stop>>(
     alloc: Global,
     s: &'s str,
-    begin: (&'s str, &'s str),
+    value: &'s str,
+    after: &'s str,
     depth: usize,
     braces: &F,
 ) -> Result<(Vec<PatternElement<'s>>, Line<'s>), AllocError>
-    requires begin { run is_text s.now ≡ Some (begin.0.now, begin.1.now) }
+    requires begin { run is_text s.now ≡ Some (value.now, after.now) }
     requires braces { GivesRule expression_view (level depth).braces depth (F.pre braces.now)
         (F.post braces.now) }
     ensures { IfOk result (λ p. IsFirstLine depth s.now (all element_view p.0) p.1) }
 {
-    let (value, after) = begin;
     if byte_at(after, 0) != b'{' {
         if value.is_empty() && !may_go_on(after) {
             return Ok((Vec::new(alloc), Line::Whole(after)));

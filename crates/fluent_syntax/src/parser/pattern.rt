@@ -11,8 +11,8 @@ ghost use Rattle.fluent_syntax.specs.Progress.{Reached, piece_of};
 ghost use Rattle.fluent_tree.specs.Tree.{pattern_of};
 ghost use Rattle.fluent_tree.specs.View.{element_view, expression_view, pattern_view};
 
-use crate::parser::bytes::{Class, byte_at, split_run};
-use crate::parser::first_line::{Line, first_line, may_go_on};
+use crate::parser::bytes::{Class, split_run};
+use crate::parser::first_line::{Line, ends_pattern, first_line};
 use crate::parser::layout::{elements, trim_last, without_spaces};
 use crate::parser::list::push;
 use crate::parser::pieces::{as_pieces, more_pieces};
@@ -32,12 +32,12 @@ pub fn pattern<'s, F: Fn(Global, &'s str, usize) -> Result<(Expression<'s>, &'s 
         (F.post braces.now) }
     ensures { Gives pattern_view result (spec.pattern (level depth).braces s.now) }
 {
-    let begin = split_run(s, Class::Text);
-    if is_whole(begin.0, begin.1) {
-        let elements = one_element(alloc, begin.0)?;
-        return Ok((Pattern { elements }, begin.1));
+    let (line, after) = split_run(s, Class::Text);
+    if is_whole(line, after) {
+        let elements = one_element(alloc, line)?;
+        return Ok((Pattern { elements }, after));
     }
-    long_pattern(alloc, s, begin, depth, braces)
+    long_pattern(alloc, s, line, after, depth, braces)
 }
 
 /// Whether the text of a line is a whole pattern: nothing behind it goes on with it.
@@ -47,10 +47,7 @@ fn is_whole(line: &str, rest: &str) -> bool
         (depth : ℕ) → spec.pattern (level depth).braces s
         ≡ Some (pattern_of (unless_empty (trim_spaces line.now)), rest.now) }
 {
-    if line.is_empty() || byte_at(rest, 0) == b'{' || may_go_on(rest) {
-        return false;
-    }
-    true
+    !line.is_empty() && ends_pattern(rest)
 }
 
 /// The text of a line as the only element, without the spaces at its end.
@@ -73,16 +70,17 @@ fn one_element<'s>(alloc: Global, line: &'s str) -> Result<Vec<PatternElement<'s
 fn long_pattern<'s, F: Fn(Global, &'s str, usize) -> Result<(Expression<'s>, &'s str), Stop>>(
     alloc: Global,
     s: &'s str,
-    begin: (&'s str, &'s str),
+    value: &'s str,
+    after: &'s str,
     depth: usize,
     braces: &F,
 ) -> Result<(Pattern<'s>, &'s str), Stop>
-    requires begin { run is_text s.now ≡ Some (begin.0.now, begin.1.now) }
+    requires begin { run is_text s.now ≡ Some (value.now, after.now) }
     requires braces { GivesRule expression_view (level depth).braces depth (F.pre braces.now)
         (F.post braces.now) }
     ensures { Gives pattern_view result (spec.pattern (level depth).braces s.now) }
 {
-    let (mut elements, line) = first_line(alloc, s, begin, depth, braces)?;
+    let (mut elements, line) = first_line(alloc, s, value, after, depth, braces)?;
     match line {
         Line::Whole(rest) => {
             if elements.is_empty() {

@@ -12,8 +12,8 @@ pub returns-then-not-may_go_on : goal.returns-then-not-may_go_on
 returns-then-not-may_go_on g c =
     let n = c.args.depth in
     let s = c.args.s.now in
-    let t = c.args.begin.0.now in
-    let after = c.args.begin.1.now in
+    let t = c.args.value.now in
+    let after = c.args.after.now in
     let empty : length t ≤ 0 = grind (arith, nat_tests, c.if-is_empty.ensures) in
     let none = c.may_go_on.ensures c.if-not-may_go_on.true (after_run s t after c.requires.begin) (is_other (first after) 123 (λ e. c.if-byte_at-ne123.true (c.byte_at.ensures ∙ e))) n in
     subst (λ fs. AreWhole n s fs after) (sym (ap (map element_view) c.new.ensures.items)) (line_empty n s t after empty c.requires.begin none)
@@ -22,8 +22,8 @@ pub returns : goal.returns
 returns g c =
     let n = c.args.depth in
     let s = c.args.s.now in
-    let t = c.args.begin.0.now in
-    let after = c.args.begin.1.now in
+    let t = c.args.value.now in
+    let after = c.args.after.now in
     let x = expression_view c.in-Some.expression in
     let rest = c.in-Some.rest.now in
     let deep : suc (n - 1) ≡ n = omega arith in
@@ -34,6 +34,6 @@ returns g c =
 pub returns-2 : goal.returns-2
 returns-2 g c =
     let s = c.args.s.now in
-    let after = c.args.begin.1.now in
+    let after = c.args.after.now in
     let brace : (first after == 123) ≡ true = is_equal (first after) 123 (sym c.byte_at.ensures ∙ c.if-byte_at-ne123.false) in
-    c.any_first.ensures s (text_first c.args.depth s c.args.begin.0.now after c.requires.begin brace) brace
+    c.any_first.ensures s (text_first c.args.depth s c.args.value.now after c.requires.begin brace) brace
