@@ -4,14 +4,13 @@ use Rattle.std.proofs.lemmas.Bool.{cases_Bool}
 use Rattle.std.proofs.lemmas.Bool.Decides.{nat_tests}
 use Rattle.std.proofs.lemmas.List.{map-append, length-map}
 use Rattle.std.specs.List.{prefix_len}
-use Rattle.std.specs.Str.{bytes_eq}
 use Rattle.fluent_text.specs.Parser.{Read, Parser, ◌<$>◌, ◌<|>◌, otherwise, pure, skip, many_from, turn, go_on, run, run1, run_len, byte, first}
 use Rattle.fluent_tree.specs.Tree.{Text, Expression, Element, text, placeable, pattern_of}
 use Rattle.fluent_text.specs.Lexical.{is_text, blank, blank_inline, at_end, line_break, line_end, blank_line, blank_block}
 use Rattle.fluent_syntax.specs.Layout.{Words, Piece, line, words, hole, unless_empty, lines, smallest_indent, is_feed, trim_last, elements}
 use Rattle.fluent_syntax.specs.Pieces.{pattern, follows, is_indented, indented_text, words_after, inline_text, block_text, indent, block_placeable, pattern_element, pieces}
 use Rattle.fluent_syntax.specs.Expressions.{level, expression, inline_placeable}
-use Rattle.fluent_syntax.specs.Progress.{goes_on, Reached, ended, piece_of, text_pieces, hole_pieces}
+use Rattle.fluent_syntax.specs.Progress.{goes_on, Reached, ended, piece_of, Plain, InLine, text_pieces, hole_pieces}
 use Rattle.fluent_text.specs.Facts.Runs.{run_len-le}
 use Rattle.fluent_text.specs.Facts.Turns.{more}
 use Rattle.fluent_syntax.specs.Facts.OneLine.{stops, stays, not_placeable, no_words, some_words, no_feed}
@@ -157,12 +156,6 @@ hole_reached n whole es s t x h b e =
 
 -- ---- the elements of one line
 
--- no text is empty or a line feed by itself
-abbrev pub Plain : List Element → Type 0
-Plain [] = Unit {0}
-Plain (text u ∷ es) = (0 < length u) × (bytes_eq u (10 ∷ []) ≡ false) × Plain es
-Plain (placeable x ∷ es) = Plain es
-
 pub plain-append : (es fs : List Element) → Plain es → Plain fs → Plain (es ++ fs)
 plain-append [] fs h k = k
 plain-append (text u ∷ es) fs h k = (h.0, h.1, plain-append es fs h.2 k)
@@ -243,6 +236,33 @@ whole_line n whole es s (b ∷ t) after h plain e none =
       laid_out es (text (b ∷ t) ∷ []) (w ∷ []) plain (plain-run s (b ∷ t) after e) refl (last_words (b ∷ t) (follows 10 after)),
       length-append (map piece_of es) (w ∷ []) ∙ (ap (λ k. k + 1) (length-map es piece_of) ∙ sym (length-append es (text (b ∷ t) ∷ []))),
     )
+
+-- ---- one element more on the line
+
+-- a text before a brace
+pub text_in_line : (n : ℕ) (whole : List ℕ) (es : List Element) (s t after : List ℕ) → InLine n whole es s → run is_text s ≡ Some (t, after) → (first after == 123) ≡ true → InLine n whole (es ++ unless_empty t) after
+text_in_line n whole es s t after h e b = (text_reached n whole es s t after h.0 e b, plain-append es (unless_empty t) h.1 (plain-run s t after e))
+
+-- the text that a pattern begins with, before a brace
+pub text_first : (n : ℕ) (s t after : List ℕ) → run is_text s ≡ Some (t, after) → (first after == 123) ≡ true → InLine n s (unless_empty t) after
+text_first n s t after e b = text_in_line n s [] s t after (refl, tt) e b
+
+-- the placeable that the brace begins
+pub hole_in_line : (n : ℕ) (whole : List ℕ) (es : List Element) (s t : List ℕ) (x : Expression) → InLine n whole es s → (first s == 123) ≡ true → (level n).braces s ≡ Some (x, t) → InLine n whole (es ++ placeable x ∷ []) t
+hole_in_line n whole es s t x h b e = (hole_reached n whole es s t x h.0 b e, plain-append es (placeable x ∷ []) h.1 tt)
+
+-- the text that ends the pattern
+pub line_ended : (n : ℕ) (whole : List ℕ) (es : List Element) (s t after : List ℕ) → InLine n whole es s → run is_text s ≡ Some (t, after) → element n after ≡ None → AreWhole n whole (es ++ unless_empty t) after
+line_ended n whole es s t after h e none = whole_line n whole es s t after h.0 h.1 e none
+
+-- or no placeable after all
+pub brace_ended : (n : ℕ) (whole : List ℕ) (es : List Element) (s : List ℕ) → InLine n whole es s → (first s == 123) ≡ true → (level n).braces s ≡ None → AreWhole n whole es s
+brace_ended n whole es s h b e = whole_here n whole es s h.0 h.1 (no_hole n s b e)
+
+-- nothing stands on the line
+pub line_empty : (n : ℕ) (s t after : List ℕ) → length t ≤ 0 → run is_text s ≡ Some (t, after) → element n after ≡ None → AreWhole n s [] after
+line_empty n s [] after h e none = line_ended n s [] s [] after (refl, tt) e none
+line_empty n s (b ∷ t) after h e none = absurd (omega arith)
 
 pub is_equal : (a b : ℕ) → a ≡ b → (a == b) ≡ true
 is_equal a b e = grind (arith, nat_tests)

@@ -1,6 +1,7 @@
 -- How far a pattern was read.
-use Rattle.std.specs.Prelude.{◌≡◌, ℕ, Bool, false, ◌||◌, ◌==◌, List, [], ◌∷◌, ◌++◌, length, map, Some, None, Result, Ok, Err}
+use Rattle.std.specs.Prelude.{◌≡◌, ℕ, ◌<◌, Bool, false, ◌||◌, ◌==◌, List, [], ◌∷◌, ◌++◌, length, map, Some, None, Result, Ok, Err}
 use Rattle.std.specs.Borrow.{Bor}
+use Rattle.std.specs.Str.{bytes_eq}
 use Rattle.fluent_text.specs.Parser.{Read, Parser, ◌<$>◌, ◌<|>◌, many_from, first, run_len}
 use Rattle.fluent_tree.specs.Tree.{Expression, Element, text, placeable}
 use Rattle.fluent_text.specs.Lexical.{is_text}
@@ -38,6 +39,16 @@ ended (p ∷ ps) = λ s. Some (p ∷ ps, s)
 abbrev pub piece_of : Element → Piece
 piece_of (text u) = words (record { indent = None; bytes = u; fed = false })
 piece_of (placeable x) = hole x
+
+-- no text is empty or a line feed by itself
+abbrev pub Plain : List Element → Type 0
+Plain [] = Unit {0}
+Plain (text u ∷ es) = (0 < length u) × (bytes_eq u (10 ∷ []) ≡ false) × Plain es
+Plain (placeable x ∷ es) = Plain es
+
+-- these elements of one line stand between the start of a pattern and what is left of it
+abbrev pub InLine : ℕ → List ℕ → List Element → List ℕ → Type 0
+InLine n whole es s = Reached n whole (map piece_of es) s × Plain es
 
 -- what the elements of a pattern's first line say: they are the pattern but for the spaces at its end, or the pattern may go on behind them
 abbrev pub IsFirstLine : ℕ → List ℕ → List Element → Line → Type 0

@@ -8,7 +8,7 @@ use Rattle.fluent_syntax.specs.Layout.{Piece, line, words, hole}
 use Rattle.fluent_syntax.specs.Layout as y
 use Rattle.fluent_syntax.specs.Pieces.{words_after, block_text, indent, block_placeable, pattern_element, pieces, pattern}
 use Rattle.fluent_syntax.specs.Expressions.{Level, level, string_literal, number_literal, literal, attribute_access, message_reference, is_function_name, function_reference, optional_call, term_reference, inline_expression, named_argument, Argument, positional, by_name, argument, Gathered, add, names, differ, is_well_formed, arguments_of, comma, argument_comma, last_argument, argument_list, call_arguments, variant_head, variant, variant_list, is_selector, arrow, selector, select_expression, stands_alone, alone, expression, inline_placeable, variable_reference}
-use Rattle.fluent_syntax.specs.WellFormed.{is_literal, one_if, defaults, names_of, AreLiterals, IsWellFormed, IsWellFormedInline, IsWellFormedCall, AreWellFormedArguments, AreWellFormedInlines, AreWellFormedVariants, IsWellFormedPattern, IsWellFormedElement}
+use Rattle.fluent_syntax.specs.WellFormed.{is_literal, one_if, defaults, names_of, AreLiterals, IsWellFormed, IsWellFormedInline, IsWellFormedCall, AreWellFormedArguments, AreWellFormedInlines, AreWellFormedVariants, IsWellFormedPattern}
 use Rattle.fluent_syntax.specs.Facts.Fronts.{Takes, takes-then, takes-byte}
 use Rattle.fluent_syntax.specs.Facts.LexicalFronts.{takes-identifier, takes-blanks, takes-line_end, takes-string_literal, takes-number_literal, takes-attribute_access, takes-comma, takes-variant_head, takes-arrow, takes-blank_block, takes-words_after, takes-block_text, takes-indent}
 use Rattle.fluent_syntax.specs.Facts.LayoutTrees.{OfPieces, pieces_append, laid_out}

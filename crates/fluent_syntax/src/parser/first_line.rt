@@ -1,10 +1,13 @@
 //! The first line of a pattern, read straight into its elements.
-ghost use Rattle.std.specs.Prelude.{◌≡◌, ◌++◌, false, OnOk, IfOk};
+ghost use Rattle.std.specs.Prelude.{◌≡◌, ◌==◌, ◌+◌, ◌++◌, ◌∷◌, [], ℕ, List, true, false, length, Some, OnOk, IfOk};
+ghost use Rattle.fluent_text.specs.Lexical.{is_text};
+ghost use Rattle.fluent_text.specs.Parser.{first, run};
 ghost use Rattle.fluent_syntax.specs.Expressions.{level};
 ghost use Rattle.fluent_syntax.specs.Layout.{unless_empty};
 ghost use Rattle.fluent_syntax.specs.Nests.{GivesRule};
-ghost use Rattle.fluent_syntax.specs.Progress.{closes_pattern, LineEndsPattern, Places, IsFirstLine};
+ghost use Rattle.fluent_syntax.specs.Progress.{closes_pattern, LineEndsPattern, Places, InLine, IsFirstLine};
 ghost use Rattle.fluent_syntax.specs.Reading.{all};
+ghost use Rattle.fluent_tree.specs.Tree.{placeable};
 ghost use Rattle.fluent_tree.specs.View.{element_view, expression_view};
 
 use crate::parser::bare::bare_placeable;
@@ -14,6 +17,9 @@ use crate::parser::list::push;
 use crate::parser::stop::Stop;
 use fluent_tree::ast::{Expression, PatternElement};
 use std::alloc::{AllocError, Global};
+
+/// How many elements a list of them has room for at first, where more follow than are known.
+const ROOM: usize = 4;
 
 /// What follows the elements of a pattern's first line.
 #[derive(Drop)]
@@ -124,34 +130,166 @@ fn push_any_placeable<'s, F: Fn(Global, &'s str, usize) -> Result<(Expression<'s
     Ok(rest)
 }
 
-/// The texts and placeables of a pattern's first line. Where the pattern may go on, the line's last text is left.
-pub fn first_line<'s, F: Fn(Global, &'s str, usize) -> Result<(Expression<'s>, &'s str), Stop>>(
+/// Whether a pattern ends with the text of a line that this stands behind.
+#[inline(always)]
+pub fn ends_pattern(s: &str) -> bool
+    ensures { (result ≡ true) → ((first s.now == 123) ≡ false) × LineEndsPattern s.now }
+{
+    if byte_at(s, 0) == b'{' || may_go_on(s) {
+        return false;
+    }
+    true
+}
+
+/// How many elements a placeable makes with these texts before and behind it.
+#[inline(always)]
+fn room(before: &str, behind: &str) -> usize
+    ensures { result ≡ length (unless_empty before.now ++ unless_empty behind.now) + 1 }
+{
+    match (before.is_empty(), behind.is_empty()) {
+        (true, true) => 1,
+        (false, false) => 3,
+        _ => 2,
+    }
+}
+
+/// A list that begins with a text, unless it is empty, and a placeable, and has room for so many elements.
+#[inline(always)]
+fn begun<'s>(
     alloc: Global,
+    room: usize,
+    value: &'s str,
+    expression: Expression<'s>,
+) -> Result<Vec<PatternElement<'s>>, AllocError>
+    ensures { IfOk result (λ found. all element_view found
+        ≡ unless_empty value.now ++ placeable (expression_view expression.entry) ∷ []) }
+{
+    let mut found = Vec::with_capacity(alloc, room)?;
+    push_text(&mut found, value)?;
+    push(&mut found, PatternElement::Placeable { expression })?;
+    Ok(found)
+}
+
+/// The elements of a first line with its first placeable, which stands between `value` and `s`.
+///
+/// Mostly the text behind it ends the pattern, or is empty and does so. Then the list has room for just these.
+#[inline(never)]
+fn behind_first<'s, F: Fn(Global, &'s str, usize) -> Result<(Expression<'s>, &'s str), Stop>>(
+    alloc: Global,
+    value: &'s str,
+    expression: Expression<'s>,
     s: &'s str,
     depth: usize,
     braces: &F,
 ) -> Result<(Vec<PatternElement<'s>>, Line<'s>), AllocError>
     requires braces { GivesRule expression_view (level depth).braces depth (F.pre braces.now)
         (F.post braces.now) }
-    ensures { IfOk result (λ p. IsFirstLine depth s.now (all element_view p.0) p.1) }
+    ensures { (whole : List ℕ) → InLine depth whole (unless_empty value.now
+        ++ placeable (expression_view expression.entry) ∷ []) s.now →
+        IfOk result (λ p. IsFirstLine depth whole (all element_view p.0) p.1) }
 {
-    let mut found = Vec::new(alloc);
+    let (text, after) = split_run(s, Class::Text);
+    let ends = ends_pattern(after);
+    let room = if ends { room(value, text) } else { ROOM };
+    let mut found = begun(alloc, room, value, expression)?;
+    if ends {
+        push_text(&mut found, text)?;
+        return Ok((found, Line::Whole(after)));
+    }
+    if byte_at(after, 0) != b'{' {
+        return Ok((found, Line::Open(s)));
+    }
+    push_text(&mut found, text)?;
+    more_elements(alloc, after, depth, braces, found)
+}
+
+/// The same from a brace on, where the placeable may be any.
+#[inline(never)]
+fn any_first<'s, F: Fn(Global, &'s str, usize) -> Result<(Expression<'s>, &'s str), Stop>>(
+    alloc: Global,
+    value: &'s str,
+    s: &'s str,
+    depth: usize,
+    braces: &F,
+) -> Result<(Vec<PatternElement<'s>>, Line<'s>), AllocError>
+    requires braces { GivesRule expression_view (level depth).braces depth (F.pre braces.now)
+        (F.post braces.now) }
+    ensures { (whole : List ℕ) → InLine depth whole (unless_empty value.now) s.now →
+        (first s.now == 123) ≡ true →
+        IfOk result (λ p. IsFirstLine depth whole (all element_view p.0) p.1) }
+{
+    match braces(alloc, s, depth) {
+        Ok((expression, rest)) => behind_first(alloc, value, expression, rest, depth, braces),
+        Err(Stop::Absent) => {
+            let mut found = Vec::new(alloc);
+            push_text(&mut found, value)?;
+            Ok((found, Line::Whole(s)))
+        }
+        Err(Stop::Memory) => Err(AllocError),
+    }
+}
+
+/// The other elements of a first line, from a brace on.
+#[inline(never)]
+fn more_elements<'s, F: Fn(Global, &'s str, usize) -> Result<(Expression<'s>, &'s str), Stop>>(
+    alloc: Global,
+    s: &'s str,
+    depth: usize,
+    braces: &F,
+    mut found: Vec<PatternElement<'s>>,
+) -> Result<(Vec<PatternElement<'s>>, Line<'s>), AllocError>
+    requires braces { GivesRule expression_view (level depth).braces depth (F.pre braces.now)
+        (F.post braces.now) }
+    ensures { (whole : List ℕ) → InLine depth whole (all element_view found.entry) s.now →
+        (first s.now == 123) ≡ true →
+        IfOk result (λ p. IsFirstLine depth whole (all element_view p.0) p.1) }
+{
     let mut rest = s;
     'elements: for _turn in 0..s.len() {
-        let (value, after) = split_run(rest, Class::Text);
+        let next = match push_placeable(alloc, rest, depth, braces, &mut found) {
+            Ok(next) => next,
+            Err(Stop::Absent) => return Ok((found, Line::Whole(rest))),
+            Err(Stop::Memory) => return Err(AllocError),
+        };
+        let (text, after) = split_run(next, Class::Text);
         if byte_at(after, 0) != b'{' {
             if may_go_on(after) {
-                return Ok((found, Line::Open(rest)));
+                return Ok((found, Line::Open(next)));
             }
-            push_text(&mut found, value)?;
+            push_text(&mut found, text)?;
             return Ok((found, Line::Whole(after)));
         }
-        push_text(&mut found, value)?;
-        match push_placeable(alloc, after, depth, braces, &mut found) {
-            Ok(next) => rest = next,
-            Err(Stop::Absent) => return Ok((found, Line::Whole(after))),
-            Err(Stop::Memory) => return Err(AllocError),
-        }
+        push_text(&mut found, text)?;
+        rest = after;
     }
     Ok((found, Line::Open(rest)))
+}
+
+/// The texts and placeables of a pattern's first line, which begins with a text, maybe an empty one. Where the pattern may
+/// go on, the line's last text is left.
+pub fn first_line<'s, F: Fn(Global, &'s str, usize) -> Result<(Expression<'s>, &'s str), Stop>>(
+    alloc: Global,
+    s: &'s str,
+    value: &'s str,
+    after: &'s str,
+    depth: usize,
+    braces: &F,
+) -> Result<(Vec<PatternElement<'s>>, Line<'s>), AllocError>
+    requires begin { run is_text s.now ≡ Some (value.now, after.now) }
+    requires braces { GivesRule expression_view (level depth).braces depth (F.pre braces.now)
+        (F.post braces.now) }
+    ensures { IfOk result (λ p. IsFirstLine depth s.now (all element_view p.0) p.1) }
+{
+    if byte_at(after, 0) != b'{' {
+        if value.is_empty() && !may_go_on(after) {
+            return Ok((Vec::new(alloc), Line::Whole(after)));
+        }
+        return Ok((Vec::new(alloc), Line::Open(s)));
+    }
+    if depth > 0
+        && let Some((expression, rest)) = bare_placeable(after)
+    {
+        return behind_first(alloc, value, expression, rest, depth, braces);
+    }
+    any_first(alloc, value, after, depth, braces)
 }

@@ -1,5 +1,7 @@
 //! Patterns, over a reader of placeables.
-ghost use Rattle.std.specs.Prelude.{◌≡◌, ℕ, List, map, Some, IfOk, IfSome};
+ghost use Rattle.std.specs.Prelude.{◌≡◌, ℕ, List, true, map, Some, IfOk};
+ghost use Rattle.fluent_text.specs.Lexical.{is_text};
+ghost use Rattle.fluent_text.specs.Parser.{run};
 ghost use Rattle.fluent_syntax.specs.Expressions.{level};
 ghost use Rattle.fluent_syntax.specs.Pieces as spec;
 ghost use Rattle.fluent_syntax.specs.Layout.{unless_empty, trim_spaces};
@@ -9,8 +11,8 @@ ghost use Rattle.fluent_syntax.specs.Progress.{Reached, piece_of};
 ghost use Rattle.fluent_tree.specs.Tree.{pattern_of};
 ghost use Rattle.fluent_tree.specs.View.{element_view, expression_view, pattern_view};
 
-use crate::parser::bytes::{Class, byte_at, split_run};
-use crate::parser::first_line::{Line, first_line, may_go_on};
+use crate::parser::bytes::{Class, split_run};
+use crate::parser::first_line::{Line, ends_pattern, first_line};
 use crate::parser::layout::{elements, trim_last, without_spaces};
 use crate::parser::list::push;
 use crate::parser::pieces::{as_pieces, more_pieces};
@@ -30,23 +32,22 @@ pub fn pattern<'s, F: Fn(Global, &'s str, usize) -> Result<(Expression<'s>, &'s 
         (F.post braces.now) }
     ensures { Gives pattern_view result (spec.pattern (level depth).braces s.now) }
 {
-    if let Some((line, rest)) = only_line(s) {
+    let (line, after) = split_run(s, Class::Text);
+    if is_whole(line, after) {
         let elements = one_element(alloc, line)?;
-        return Ok((Pattern { elements }, rest));
+        return Ok((Pattern { elements }, after));
     }
-    long_pattern(alloc, s, depth, braces)
+    long_pattern(alloc, s, line, after, depth, braces)
 }
 
-/// The text of a line, where it is a whole pattern: nothing behind it goes on with it.
-fn only_line<'s>(s: &'s str) -> Option<(&'s str, &'s str)>
-    ensures { IfSome result (λ p. (depth : ℕ) → spec.pattern (level depth).braces s.now
-        ≡ Some (pattern_of (unless_empty (trim_spaces p.0.now)), p.1.now)) }
+/// Whether the text of a line is a whole pattern: nothing behind it goes on with it.
+#[inline(always)]
+fn is_whole(line: &str, rest: &str) -> bool
+    ensures { (result ≡ true) → (s : List ℕ) → run is_text s ≡ Some (line.now, rest.now) →
+        (depth : ℕ) → spec.pattern (level depth).braces s
+        ≡ Some (pattern_of (unless_empty (trim_spaces line.now)), rest.now) }
 {
-    let (line, rest) = split_run(s, Class::Text);
-    if line.is_empty() || byte_at(rest, 0) == b'{' || may_go_on(rest) {
-        return None;
-    }
-    Some((line, rest))
+    !line.is_empty() && ends_pattern(rest)
 }
 
 /// The text of a line as the only element, without the spaces at its end.
@@ -64,19 +65,22 @@ fn one_element<'s>(alloc: Global, line: &'s str) -> Result<Vec<PatternElement<'s
     Ok(elements)
 }
 
-/// A pattern with placeables, or with several lines.
+/// A pattern with placeables, or with several lines, which begins with a text, maybe an empty one.
 #[inline(never)]
 fn long_pattern<'s, F: Fn(Global, &'s str, usize) -> Result<(Expression<'s>, &'s str), Stop>>(
     alloc: Global,
     s: &'s str,
+    value: &'s str,
+    after: &'s str,
     depth: usize,
     braces: &F,
 ) -> Result<(Pattern<'s>, &'s str), Stop>
+    requires begin { run is_text s.now ≡ Some (value.now, after.now) }
     requires braces { GivesRule expression_view (level depth).braces depth (F.pre braces.now)
         (F.post braces.now) }
     ensures { Gives pattern_view result (spec.pattern (level depth).braces s.now) }
 {
-    let (mut elements, line) = first_line(alloc, s, depth, braces)?;
+    let (mut elements, line) = first_line(alloc, s, value, after, depth, braces)?;
     match line {
         Line::Whole(rest) => {
             if elements.is_empty() {
