@@ -99,9 +99,9 @@ fn placeable<'s, F: Fn(Global, &'s str, usize) -> Result<(Expression<'s>, &'s st
     ensures { Gives expression_view result ((level depth).braces s.now) }
 {
     if depth > 0
-        && let Some((expression, rest)) = bare_placeable(s)
+        && let Some(read) = bare_placeable(s)
     {
-        return Ok((expression, rest));
+        return Ok(read);
     }
     braces(alloc, s, depth)
 }
@@ -183,7 +183,7 @@ fn from_brace<'s, F: Fn(Global, &'s str, usize) -> Result<(Expression<'s>, &'s s
     let mut rest = s;
     'elements: for _turn in 0..s.len() {
         let (expression, next) = match placeable(alloc, rest, depth, braces) {
-            Ok((expression, next)) => (expression, next),
+            Ok(read) => read,
             Err(Stop::Absent) => {
                 push_text(&mut found, value)?;
                 return Ok((found, Line::Whole(rest)));

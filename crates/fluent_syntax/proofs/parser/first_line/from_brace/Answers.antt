@@ -23,8 +23,8 @@ returns-then-ends g c = λ whole h b.
     let n = c.args.depth in
     let v = unless_empty c.elements.value.now in
     let es = all element_view c.elements.found in
-    let x = expression_view c.in-Ok.expression in
-    let next = c.in-Ok.next.now in
+    let x = expression_view c.in-Ok.read.0 in
+    let next = c.in-Ok.read.1.now in
     let i = c.elements.invariant.reached whole h b in
     let kept : all element_view c.push_both.new.found ≡ (es ++ v) ++ placeable x ∷ [] =
     c.in_ok-push_both.ensures ∙ ap (λ xs. (map element_view xs ++ v) ++ placeable x ∷ []) c.in_ok-make_room.ensures in
@@ -41,8 +41,8 @@ returns-then-byte_at-ne123 g c = λ whole h b.
     let n = c.args.depth in
     let v = unless_empty c.elements.value.now in
     let es = all element_view c.elements.found in
-    let x = expression_view c.in-Ok.expression in
-    let next = c.in-Ok.next.now in
+    let x = expression_view c.in-Ok.read.0 in
+    let next = c.in-Ok.read.1.now in
     let i = c.elements.invariant.reached whole h b in
     let kept : all element_view c.push_both.new.found ≡ (es ++ v) ++ placeable x ∷ [] =
     c.in_ok-push_both.ensures ∙ ap (λ xs. (map element_view xs ++ v) ++ placeable x ∷ []) c.in_ok-make_room.ensures in
@@ -58,8 +58,8 @@ elements-preserved g c = record {
       let n = c.args.depth in
       let v = unless_empty c.elements.value.now in
       let es = all element_view c.elements.found in
-      let x = expression_view c.in-Ok.expression in
-      let next = c.in-Ok.next.now in
+      let x = expression_view c.in-Ok.read.0 in
+      let next = c.in-Ok.read.1.now in
       let i = c.elements.invariant.reached whole h b in
       let kept : all element_view c.push_both.new.found ≡ (es ++ v) ++ placeable x ∷ [] =
       c.in_ok-push_both.ensures ∙ ap (λ xs. (map element_view xs ++ v) ++ placeable x ∷ []) c.in_ok-make_room.ensures in
