@@ -30,7 +30,7 @@ pub enum Line<'s> {
 /// Whether a pattern may go on with the lines behind a line's text. It may not before an attribute, a variant or the end of a select.
 ///
 /// The next line is mostly not blank: then its indent is passed over once, and the byte behind it tells.
-pub fn may_go_on(s: &str) -> bool
+fn may_go_on(s: &str) -> bool
     ensures { (result ≡ false) → LineEndsPattern s.now }
 {
     let Some(line) = line_break(s) else {
@@ -162,8 +162,8 @@ fn push_both<'s>(
 
 /// The elements of a first line, from a brace on, before which a text stands, maybe an empty one.
 ///
-/// What follows a placeable is looked at before it is added: mostly the pattern ends there, and the list needs room for just
-/// what was read.
+/// What follows a placeable is looked at before it is added: mostly the pattern ends there, and the list needs room
+/// for just what was read.
 #[inline(always)]
 fn from_brace<'s, F: Fn(Global, &'s str, usize) -> Result<(Expression<'s>, &'s str), Stop>>(
     alloc: Global,
@@ -208,8 +208,8 @@ fn from_brace<'s, F: Fn(Global, &'s str, usize) -> Result<(Expression<'s>, &'s s
     Ok((found, Line::Open(rest)))
 }
 
-/// The texts and placeables of a pattern's first line, which begins with a text, maybe an empty one. Where the pattern may
-/// go on, the line's last text is left.
+/// The texts and placeables of a pattern's first line, which begins with a text, maybe an empty one. Where the pattern
+/// may go on, the line's last text is left.
 pub fn first_line<'s, F: Fn(Global, &'s str, usize) -> Result<(Expression<'s>, &'s str), Stop>>(
     alloc: Global,
     s: &'s str,
