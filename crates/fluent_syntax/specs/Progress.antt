@@ -3,7 +3,7 @@ use Rattle.std.specs.Prelude.{◌≡◌, ℕ, ◌<◌, Bool, false, ◌||◌, �
 use Rattle.std.specs.Borrow.{Bor}
 use Rattle.std.specs.Str.{bytes_eq}
 use Rattle.fluent_text.specs.Parser.{Read, Parser, ◌<$>◌, ◌<|>◌, many_from, first, run_len}
-use Rattle.fluent_tree.specs.Tree.{Expression, Element, text, placeable}
+use Rattle.fluent_tree.specs.Tree.{Element, text, placeable}
 use Rattle.fluent_text.specs.Lexical.{is_text}
 use Rattle.fluent_syntax.specs.Layout.{Piece, line, words, hole, elements, trim_last}
 use Rattle.fluent_syntax.specs.Pieces.{inline_text, block_text, block_placeable, pattern_element, pieces}
@@ -54,12 +54,6 @@ InLine n whole es s = Reached n whole (map piece_of es) s × Plain es
 abbrev pub IsFirstLine : ℕ → List ℕ → List Element → Line → Type 0
 IsFirstLine n whole es (Whole rest) = (ps : List Piece) × (pieces (level n).braces whole ≡ ended ps rest.now) × (elements ps ≡ trim_last es) × (length ps ≡ length es)
 IsFirstLine n whole es (Open rest) = Reached n whole (map piece_of es) rest.now
-
--- a placeable that was read stands behind the elements that were there
-abbrev pub Places : Result (Bor (List ℕ)) Stop → List Element → List Element → Read Expression → Type 0
-Places (Ok rest) old new r = (x : Expression) × (r ≡ Some (x, rest.now)) × (new ≡ old ++ placeable x ∷ [])
-Places (Err Absent) old new r = (r ≡ None) × (new ≡ old)
-Places (Err Memory) old new r = Unit {0}
 
 -- inline_text | block_text, and inline_placeable | block_placeable: together the elements of a pattern
 abbrev pub text_pieces : Parser (List Piece)

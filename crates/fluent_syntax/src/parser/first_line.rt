@@ -5,8 +5,8 @@ ghost use Rattle.fluent_text.specs.Parser.{first, run};
 ghost use Rattle.fluent_syntax.specs.Expressions.{level};
 ghost use Rattle.fluent_syntax.specs.Layout.{unless_empty};
 ghost use Rattle.fluent_syntax.specs.Nests.{GivesRule};
-ghost use Rattle.fluent_syntax.specs.Progress.{closes_pattern, LineEndsPattern, Places, InLine, IsFirstLine};
-ghost use Rattle.fluent_syntax.specs.Reading.{all};
+ghost use Rattle.fluent_syntax.specs.Progress.{closes_pattern, LineEndsPattern, InLine, IsFirstLine};
+ghost use Rattle.fluent_syntax.specs.Reading.{Gives, all};
 ghost use Rattle.fluent_tree.specs.Tree.{placeable};
 ghost use Rattle.fluent_tree.specs.View.{element_view, expression_view};
 
@@ -17,9 +17,6 @@ use crate::parser::list::push;
 use crate::parser::stop::Stop;
 use fluent_tree::ast::{Expression, PatternElement};
 use std::alloc::{AllocError, Global};
-
-/// How many elements a list of them has room for at first, where more follow than are known.
-const ROOM: usize = 4;
 
 /// What follows the elements of a pattern's first line.
 #[derive(Drop)]
@@ -33,7 +30,7 @@ pub enum Line<'s> {
 /// Whether a pattern may go on with the lines behind a line's text. It may not before an attribute, a variant or the end of a select.
 ///
 /// The next line is mostly not blank: then its indent is passed over once, and the byte behind it tells.
-pub fn may_go_on(s: &str) -> bool
+fn may_go_on(s: &str) -> bool
     ensures { (result ≡ false) → LineEndsPattern s.now }
 {
     let Some(line) = line_break(s) else {
@@ -89,45 +86,24 @@ fn push_text<'s>(found: &mut Vec<PatternElement<'s>>, value: &'s str) -> Result<
     push(found, PatternElement::TextElement { value })
 }
 
-/// Reads a placeable and adds it. One that holds a reference alone, as most do, is read at once.
+/// A placeable. One that holds a reference alone, as most do, is read at once.
 #[inline(always)]
-fn push_placeable<'s, F: Fn(Global, &'s str, usize) -> Result<(Expression<'s>, &'s str), Stop>>(
+fn placeable<'s, F: Fn(Global, &'s str, usize) -> Result<(Expression<'s>, &'s str), Stop>>(
     alloc: Global,
     s: &'s str,
     depth: usize,
     braces: &F,
-    found: &mut Vec<PatternElement<'s>>,
-) -> Result<&'s str, Stop>
+) -> Result<(Expression<'s>, &'s str), Stop>
     requires braces { GivesRule expression_view (level depth).braces depth (F.pre braces.now)
         (F.post braces.now) }
-    ensures { Places result (all element_view found.old) (all element_view found.new)
-        ((level depth).braces s.now) }
+    ensures { Gives expression_view result ((level depth).braces s.now) }
 {
     if depth > 0
-        && let Some((expression, rest)) = bare_placeable(s)
+        && let Some(read) = bare_placeable(s)
     {
-        push(found, PatternElement::Placeable { expression })?;
-        return Ok(rest);
+        return Ok(read);
     }
-    push_any_placeable(alloc, s, depth, braces, found)
-}
-
-#[inline(never)]
-fn push_any_placeable<'s, F: Fn(Global, &'s str, usize) -> Result<(Expression<'s>, &'s str), Stop>>(
-    alloc: Global,
-    s: &'s str,
-    depth: usize,
-    braces: &F,
-    found: &mut Vec<PatternElement<'s>>,
-) -> Result<&'s str, Stop>
-    requires braces { GivesRule expression_view (level depth).braces depth (F.pre braces.now)
-        (F.post braces.now) }
-    ensures { Places result (all element_view found.old) (all element_view found.new)
-        ((level depth).braces s.now) }
-{
-    let (expression, rest) = braces(alloc, s, depth)?;
-    push(found, PatternElement::Placeable { expression })?;
-    Ok(rest)
+    braces(alloc, s, depth)
 }
 
 /// Whether a pattern ends with the text of a line that this stands behind.
@@ -153,120 +129,87 @@ fn room(before: &str, behind: &str) -> usize
     }
 }
 
-/// A list that begins with a text, unless it is empty, and a placeable, and has room for so many elements.
+/// Makes room for just these, where the pattern ends with them.
 #[inline(always)]
-fn begun<'s>(
-    alloc: Global,
-    room: usize,
-    value: &'s str,
-    expression: Expression<'s>,
-) -> Result<Vec<PatternElement<'s>>, AllocError>
-    ensures { IfOk result (λ found. all element_view found
-        ≡ unless_empty value.now ++ placeable (expression_view expression.entry) ∷ []) }
+fn make_room(
+    found: &mut Vec<PatternElement<'_>>,
+    ends: bool,
+    before: &str,
+    behind: &str,
+) -> Result<(), AllocError>
+    ensures { OnOk result (found.new.items ≡ found.old.items) }
 {
-    let mut found = Vec::with_capacity(alloc, room)?;
-    push_text(&mut found, value)?;
-    push(&mut found, PatternElement::Placeable { expression })?;
-    Ok(found)
-}
-
-/// The elements of a first line with its first placeable, which stands between `value` and `s`.
-///
-/// Mostly the text behind it ends the pattern, or is empty and does so. Then the list has room for just these.
-#[inline(never)]
-fn behind_first<'s, F: Fn(Global, &'s str, usize) -> Result<(Expression<'s>, &'s str), Stop>>(
-    alloc: Global,
-    value: &'s str,
-    expression: Expression<'s>,
-    s: &'s str,
-    depth: usize,
-    braces: &F,
-) -> Result<(Vec<PatternElement<'s>>, Line<'s>), AllocError>
-    requires braces { GivesRule expression_view (level depth).braces depth (F.pre braces.now)
-        (F.post braces.now) }
-    ensures { (whole : List ℕ) → InLine depth whole (unless_empty value.now
-        ++ placeable (expression_view expression.entry) ∷ []) s.now →
-        IfOk result (λ p. IsFirstLine depth whole (all element_view p.0) p.1) }
-{
-    let (text, after) = split_run(s, Class::Text);
-    let ends = ends_pattern(after);
-    let room = if ends { room(value, text) } else { ROOM };
-    let mut found = begun(alloc, room, value, expression)?;
     if ends {
-        push_text(&mut found, text)?;
-        return Ok((found, Line::Whole(after)));
+        found.reserve_exact(room(before, behind))?;
     }
-    if byte_at(after, 0) != b'{' {
-        return Ok((found, Line::Open(s)));
-    }
-    push_text(&mut found, text)?;
-    more_elements(alloc, after, depth, braces, found)
+    Ok(())
 }
 
-/// The same from a brace on, where the placeable may be any.
-#[inline(never)]
-fn any_first<'s, F: Fn(Global, &'s str, usize) -> Result<(Expression<'s>, &'s str), Stop>>(
-    alloc: Global,
+/// Adds a placeable and the text before it, unless that is empty.
+#[inline(always)]
+fn push_both<'s>(
+    found: &mut Vec<PatternElement<'s>>,
     value: &'s str,
-    s: &'s str,
-    depth: usize,
-    braces: &F,
-) -> Result<(Vec<PatternElement<'s>>, Line<'s>), AllocError>
-    requires braces { GivesRule expression_view (level depth).braces depth (F.pre braces.now)
-        (F.post braces.now) }
-    ensures { (whole : List ℕ) → InLine depth whole (unless_empty value.now) s.now →
-        (first s.now == 123) ≡ true →
-        IfOk result (λ p. IsFirstLine depth whole (all element_view p.0) p.1) }
+    expression: Expression<'s>,
+) -> Result<(), AllocError>
+    ensures { OnOk result (all element_view found.new
+        ≡ (all element_view found.old ++ unless_empty value.now)
+        ++ placeable (expression_view expression.entry) ∷ []) }
 {
-    match braces(alloc, s, depth) {
-        Ok((expression, rest)) => behind_first(alloc, value, expression, rest, depth, braces),
-        Err(Stop::Absent) => {
-            let mut found = Vec::new(alloc);
-            push_text(&mut found, value)?;
-            Ok((found, Line::Whole(s)))
-        }
-        Err(Stop::Memory) => Err(AllocError),
-    }
+    push_text(found, value)?;
+    push(found, PatternElement::Placeable { expression })
 }
 
-/// The other elements of a first line, from a brace on.
-#[inline(never)]
-fn more_elements<'s, F: Fn(Global, &'s str, usize) -> Result<(Expression<'s>, &'s str), Stop>>(
+/// The elements of a first line, from a brace on, before which a text stands, maybe an empty one.
+///
+/// What follows a placeable is looked at before it is added: mostly the pattern ends there, and the list needs room
+/// for just what was read.
+#[inline(always)]
+fn from_brace<'s, F: Fn(Global, &'s str, usize) -> Result<(Expression<'s>, &'s str), Stop>>(
     alloc: Global,
+    before: &'s str,
     s: &'s str,
     depth: usize,
     braces: &F,
-    mut found: Vec<PatternElement<'s>>,
 ) -> Result<(Vec<PatternElement<'s>>, Line<'s>), AllocError>
     requires braces { GivesRule expression_view (level depth).braces depth (F.pre braces.now)
         (F.post braces.now) }
-    ensures { (whole : List ℕ) → InLine depth whole (all element_view found.entry) s.now →
+    ensures { (whole : List ℕ) → InLine depth whole (unless_empty before.now) s.now →
         (first s.now == 123) ≡ true →
         IfOk result (λ p. IsFirstLine depth whole (all element_view p.0) p.1) }
 {
+    let mut found = Vec::new(alloc);
+    let mut value = before;
     let mut rest = s;
     'elements: for _turn in 0..s.len() {
-        let next = match push_placeable(alloc, rest, depth, braces, &mut found) {
-            Ok(next) => next,
-            Err(Stop::Absent) => return Ok((found, Line::Whole(rest))),
+        let (expression, next) = match placeable(alloc, rest, depth, braces) {
+            Ok(read) => read,
+            Err(Stop::Absent) => {
+                push_text(&mut found, value)?;
+                return Ok((found, Line::Whole(rest)));
+            }
             Err(Stop::Memory) => return Err(AllocError),
         };
         let (text, after) = split_run(next, Class::Text);
-        if byte_at(after, 0) != b'{' {
-            if may_go_on(after) {
-                return Ok((found, Line::Open(next)));
-            }
+        let ends = ends_pattern(after);
+        make_room(&mut found, ends, value, text)?;
+        push_both(&mut found, value, expression)?;
+        if ends {
             push_text(&mut found, text)?;
             return Ok((found, Line::Whole(after)));
         }
-        push_text(&mut found, text)?;
+        if byte_at(after, 0) != b'{' {
+            return Ok((found, Line::Open(next)));
+        }
+        value = text;
         rest = after;
     }
+    push_text(&mut found, value)?;
     Ok((found, Line::Open(rest)))
 }
 
-/// The texts and placeables of a pattern's first line, which begins with a text, maybe an empty one. Where the pattern may
-/// go on, the line's last text is left.
+/// The texts and placeables of a pattern's first line, which begins with a text, maybe an empty one. Where the pattern
+/// may go on, the line's last text is left.
 pub fn first_line<'s, F: Fn(Global, &'s str, usize) -> Result<(Expression<'s>, &'s str), Stop>>(
     alloc: Global,
     s: &'s str,
@@ -286,10 +229,5 @@ pub fn first_line<'s, F: Fn(Global, &'s str, usize) -> Result<(Expression<'s>, &
         }
         return Ok((Vec::new(alloc), Line::Open(s)));
     }
-    if depth > 0
-        && let Some((expression, rest)) = bare_placeable(after)
-    {
-        return behind_first(alloc, value, expression, rest, depth, braces);
-    }
-    any_first(alloc, value, after, depth, braces)
+    from_brace(alloc, value, after, depth, braces)
 }

@@ -1,11 +1,9 @@
-use Rattle.std.proofs.Common.{◌≡◌, ◌==◌, ◌-◌, ◌≤◌, suc, true, Some, length, map, sym, ap, ◌∙◌, subst, arith}
+use Rattle.std.proofs.Common.{◌≡◌, ◌==◌, ◌≤◌, true, length, map, sym, ap, ◌∙◌, subst, arith}
 use Rattle.std.proofs.lemmas.Bool.Decides.{nat_tests}
 use Rattle.fluent_text.specs.Parser.{first}
-use Rattle.fluent_syntax.specs.Expressions.{level}
-use Rattle.fluent_syntax.specs.Layout.{unless_empty}
-use Rattle.fluent_tree.specs.View.{element_view, expression_view}
+use Rattle.fluent_tree.specs.View.{element_view}
 use Rattle.fluent_syntax.specs.Facts.OneLine.{is_other}
-use Rattle.fluent_syntax.proofs.Progress.{AreWhole, text_first, hole_in_line, line_empty, after_run, is_equal}
+use Rattle.fluent_syntax.proofs.Progress.{AreWhole, text_first, line_empty, after_run, is_equal}
 use Rattle.fluent_syntax.proofs.parser.first_line.first_line.Goals as goal
 
 pub returns-then-not-may_go_on : goal.returns-then-not-may_go_on
@@ -20,20 +18,7 @@ returns-then-not-may_go_on g c =
 
 pub returns : goal.returns
 returns g c =
-    let n = c.args.depth in
-    let s = c.args.s.now in
-    let t = c.args.value.now in
-    let after = c.args.after.now in
-    let x = expression_view c.in-Some.expression in
-    let rest = c.in-Some.rest.now in
-    let deep : suc (n - 1) ≡ n = omega arith in
-    let read : (level n).braces after ≡ Some (x, rest) = subst (λ n. (level n).braces after ≡ Some (x, rest)) deep (c.in-Some.ensures (n - 1)) in
-    let brace : (first after == 123) ≡ true = is_equal (first after) 123 (sym c.byte_at.ensures ∙ c.if-byte_at-ne123.false) in
-    c.behind_first.ensures s (hole_in_line n s (unless_empty t) after rest x (text_first n s t after c.requires.begin brace) brace read)
-
-pub returns-2 : goal.returns-2
-returns-2 g c =
     let s = c.args.s.now in
     let after = c.args.after.now in
     let brace : (first after == 123) ≡ true = is_equal (first after) 123 (sym c.byte_at.ensures ∙ c.if-byte_at-ne123.false) in
-    c.any_first.ensures s (text_first c.args.depth s c.args.value.now after c.requires.begin brace) brace
+    c.from_brace.ensures s (text_first c.args.depth s c.args.value.now after c.requires.begin brace) brace
