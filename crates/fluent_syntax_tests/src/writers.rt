@@ -4,8 +4,7 @@ use fluent_laws::{
     chunks_make_up, entries_are_well_formed, junk_ranges_in_order, read_from_there_on,
     texts_are_slices,
 };
-use fluent_syntax::put;
-use fluent_syntax::{Counting, WriteFault};
+use fluent_syntax::{Counting, WriteFault, put};
 use std::alloc::Global;
 use std::io;
 

@@ -2,8 +2,7 @@
 ghost use Rattle.std.specs.Prelude.{◌≡◌, ◌≢◌, Err, false};
 ghost use Rattle.fluent_values.specs.Written.{halt_of, sink, without_error, SinkTook};
 
-use fluent_text::put;
-use fluent_text::{Counting, WriteFault};
+use fluent_text::{Counting, WriteFault, put};
 use std::alloc::AllocError;
 use std::io;
 use std::io::Write;

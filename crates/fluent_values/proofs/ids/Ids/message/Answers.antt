@@ -7,7 +7,7 @@ use Rattle.fluent_values.proofs.ids.Ids.message.Goals as goal
 pub returns-in-None-clause-led : goal.returns-in-None-clause-led
 returns-in-None-clause-led g c =
     let kept = c.in-Some.ensures.linked in
-    c.value_of.ensures.led (numbers c.args.self.now) (table c.args.self.now) 
+    c.value_of.ensures.led (numbers c.args.self.now) (table c.args.self.now)
     (λ p is l at. kept.value p l.now (ap value_in c.in-Message.is ∙ is) (sym c.value.ensures ∙ ap (option_map (λ l. l.now)) at))
 
 pub returns-in-Some-attribute-clause-led : goal.returns-in-Some-attribute-clause-led
