@@ -1,4 +1,5 @@
 //! Classes: equal exactly where patterns are.
+use crate::check::check_at;
 use crate::trees::{
     Inline, Tree, alone, asked, attribute, bare_term, function, message, named, nested,
     no_arguments, number, put, select, string, term, text, variable, variant, whole,
@@ -6,6 +7,7 @@ use crate::trees::{
 use fluent_links::Classes;
 use fluent_tree::ast::Pattern;
 use std::alloc::{AllocError, Global};
+use std::process::Abort;
 use std::test::Fail;
 
 /// The class of a pattern, asked again where memory is refused.
@@ -86,14 +88,23 @@ fn twice(alloc: Global) -> Result<Vec<Tree>, AllocError> {
     Ok(trees)
 }
 
+fn are_classed<'r>(
+    rt: &impl Abort,
+    classes: &mut Classes<'r, 'static>,
+    trees: &'r [Tree],
+) -> Result<(), AllocError> {
+    for (i, tree) in trees.iter().enumerate() {
+        let class = class_of(classes, tree)?;
+        check_at(rt, class as usize == i % ALL, "its class", i);
+    }
+    Ok(())
+}
+
 /// Run with each allocation failing in turn: a pattern that was refused gets the class that it would have got.
 #[test]
 fn classes_are_equal_where_patterns_are(rt: HostRuntime) -> Result<(), Fail> {
     let trees = twice(rt.alloc())?;
     let mut classes = Classes::new(rt.alloc());
-    for (i, tree) in trees.iter().enumerate() {
-        let class = class_of(&mut classes, tree)?;
-        assert!(rt; class as usize == i % ALL, "{i} has {class}");
-    }
+    are_classed(&rt, &mut classes, &trees)?;
     Ok(())
 }

@@ -123,20 +123,28 @@ fn expressions_are_passed(rt: &impl Abort, start: Place<'_>, tree: &Tree) {
     }
 }
 
+/// From the whole pattern on.
+fn all_are_passed(
+    rt: &impl Abort,
+    alloc: Global,
+    start: Place<'_>,
+    tree: &Tree,
+) -> Result<(), AllocError> {
+    elements_are_passed(rt, start, tree);
+    expressions_are_passed(rt, start, tree);
+    a_function_is_passed(rt, alloc, start)?;
+    a_term_is_passed(rt, alloc, behind(start, tree, 2))?;
+    a_select_is_passed(rt, alloc, behind(start, tree, 3))
+}
+
 /// Run with each allocation failing in turn.
 #[test]
 fn parts_are_passed(rt: HostRuntime) -> Result<(), Fail> {
-    let alloc = rt.alloc();
-    let tree = whole(alloc)?;
-    let mut slots = Slots::new(alloc);
-    let mut classes = Classes::new(alloc);
-    let linked = link(alloc, &mut slots, &mut classes, &tree)?;
-    let start = linked.place();
-    elements_are_passed(&rt, start, &tree);
-    expressions_are_passed(&rt, start, &tree);
-    a_function_is_passed(&rt, alloc, start)?;
-    a_term_is_passed(&rt, alloc, behind(start, &tree, 2))?;
-    a_select_is_passed(&rt, alloc, behind(start, &tree, 3))?;
+    let tree = whole(rt.alloc())?;
+    let mut slots = Slots::new(rt.alloc());
+    let mut classes = Classes::new(rt.alloc());
+    let linked = link(rt.alloc(), &mut slots, &mut classes, &tree)?;
+    all_are_passed(&rt, rt.alloc(), linked.place(), &tree)?;
     Ok(())
 }
 

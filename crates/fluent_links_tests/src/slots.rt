@@ -1,7 +1,9 @@
 //! Numbers of ids, and what stands in their slots.
+use crate::check::{check, check_at};
 use fluent_links::Slots;
 use std::alloc::AllocError;
 use std::borrow::CowStr;
+use std::process::Abort;
 use std::test::Fail;
 
 /// The number of an id, asked again where memory is refused.
@@ -25,14 +27,19 @@ const IDS: &[(&str, u32)] = &[
     ("c", 5),
 ];
 
+fn get_numbers(rt: &impl Abort, slots: &mut Slots<'static, u8>) -> Result<(), AllocError> {
+    for (id, number) in IDS {
+        let found = number_of(slots, id)?;
+        check(rt, found == *number, id);
+    }
+    Ok(())
+}
+
 /// Run with each allocation failing in turn: an id that was refused gets the number that it would have got.
 #[test]
 fn ids_get_numbers_in_turn(rt: HostRuntime) -> Result<(), Fail> {
     let mut slots = Slots::new(rt.alloc());
-    for (id, number) in IDS {
-        let found = number_of(&mut slots, id)?;
-        assert!(rt; found == *number, "{id:?} has {found}");
-    }
+    get_numbers(&rt, &mut slots)?;
     Ok(())
 }
 
@@ -64,18 +71,33 @@ fn hold(slots: &Slots<'_, u8>, named: Named) -> bool {
         && holds(slots, "d", 3, None)
 }
 
+fn hold_what_was_put_last(
+    rt: &impl Abort,
+    slots: &mut Slots<'static, u8>,
+) -> Result<(), AllocError> {
+    for id in ["a", "b", "c"] {
+        number_of(slots, id)?;
+    }
+    check(rt, hold(slots, (None, None, None)), "before");
+    for (at, (number, value, named)) in FILLED.iter().enumerate() {
+        slots.fill(*number, Some(*value));
+        check_at(rt, hold(slots, *named), "filled", at);
+    }
+    Ok(())
+}
+
 /// Run with each allocation failing in turn.
 #[test]
 fn slots_hold_what_was_put_there_last(rt: HostRuntime) -> Result<(), Fail> {
     let mut slots = Slots::new(rt.alloc());
-    for id in ["a", "b", "c"] {
-        number_of(&mut slots, id)?;
-    }
-    assert!(rt; hold(&slots, (None, None, None)), "before");
-    for (number, value, named) in FILLED {
-        slots.fill(*number, Some(*value));
-        assert!(rt; hold(&slots, *named), "behind {value} at {number}");
-    }
+    hold_what_was_put_last(&rt, &mut slots)?;
+    Ok(())
+}
+
+fn put_and_add(slots: &mut Slots<'static, u8>) -> Result<(), AllocError> {
+    number_of(slots, "a")?;
+    slots.fill(0, Some(7));
+    number_of(slots, "b")?;
     Ok(())
 }
 
@@ -83,9 +105,7 @@ fn slots_hold_what_was_put_there_last(rt: HostRuntime) -> Result<(), Fail> {
 #[test]
 fn a_new_slot_is_empty(rt: HostRuntime) -> Result<(), Fail> {
     let mut slots = Slots::new(rt.alloc());
-    number_of(&mut slots, "a")?;
-    slots.fill(0, Some(7));
-    number_of(&mut slots, "b")?;
-    assert!(rt; hold(&slots, (Some(7), None, None)));
+    put_and_add(&mut slots)?;
+    check(&rt, hold(&slots, (Some(7), None, None)), "a new slot");
     Ok(())
 }

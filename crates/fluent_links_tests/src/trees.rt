@@ -131,15 +131,22 @@ pub fn alone(alloc: Global, element: Element) -> Result<Tree, AllocError> {
 
 // ---- a pattern of every part that refers to something
 
+/// Two expressions in a row.
+fn pair(alloc: Global, first: Inline, second: Inline) -> Result<Vec<Inline>, AllocError> {
+    Ok(vec![in alloc; first, second]?)
+}
+
 /// `a, { b }, n: c` of `F`.
 pub fn of_function(alloc: Global) -> Result<Box<CallArguments<'static>>, AllocError> {
-    let positional = vec![in alloc; message("a"), nested(alloc, message("b"))?]?;
-    asked(alloc, positional, vec![in alloc; named("n", message("c"))]?)
+    let second = nested(alloc, message("b"))?;
+    let positional = pair(alloc, message("a"), second)?;
+    let named = vec![in alloc; named("n", message("c"))]?;
+    asked(alloc, positional, named)
 }
 
 /// `d, $v, n: "e", m: -u` of `-t`.
 pub fn of_term(alloc: Global) -> Result<Box<CallArguments<'static>>, AllocError> {
-    let positional = vec![in alloc; message("d"), variable("v")]?;
+    let positional = pair(alloc, message("d"), variable("v"))?;
     let named = vec![in alloc; named("n", string("e")), named("m", bare_term("u"))]?;
     asked(alloc, positional, named)
 }

@@ -1,11 +1,13 @@
 -- What an expression or an argument is, by whether it begins with a name and what follows that.
-use Rattle.std.proofs.Common.{◌≡◌, ℕ, Bool, true, false, List, Some, None, refl}
+use Rattle.std.proofs.Common.{◌≡◌, ◌==◌, ◌<◌, ◌∙◌, ℕ, Bool, true, false, List, Some, None, refl, sym, arith}
+use Rattle.std.proofs.lemmas.Bool.Decides.{nat_tests}
 use Rattle.fluent_text.specs.Parser.{Text, Read, ◌<$>◌, ◌<|>◌, ◌>>◌, and_then, otherwise, pure, skip, first, byte}
 use Rattle.fluent_text.specs.Lexical.{identifier, blank}
 use Rattle.fluent_tree.specs.Tree.{Attribute, attribute, no_attribute, name_key, number_key, Inline, Arguments, function, message, nested}
-use Rattle.fluent_syntax.specs.Expressions.{Level, Argument, by_name, number_literal, literal, key_inside, attribute_access, message_reference, is_function_name, function_reference, term_reference, variable_reference, inline_expression, named_argument, argument}
+use Rattle.fluent_syntax.specs.Expressions.{Level, level, Argument, positional, by_name, number_literal, literal, key_inside, attribute_access, message_reference, is_function_name, function_reference, term_reference, variable_reference, inline_expression, named_argument, argument}
 use Rattle.fluent_syntax.specs.Gathering.{positional_argument, value_argument, message_argument, reference_argument}
-use Rattle.fluent_syntax.proofs.BareReferences.{no_number, no_literal, name_letter, letter_else, no_function, no_message, variable_first}
+use Rattle.fluent_syntax.proofs.Spaces.{no_spaces}
+use Rattle.fluent_syntax.proofs.BareReferences.{no_byte, no_brackets, bare_message, no_number, no_literal, name_letter, letter_else, no_function, no_message, variable_first}
 use Rattle.fluent_syntax.specs.Parts.{message_to, reference_to, nameless}
 
 -- a name is no literal
@@ -129,6 +131,17 @@ colon s r c d v id e b n k = rw (e, b, n, k) (valued (literal v))
     valued : (x : Read Inline) → and_then (and_then x (λ i. pure (id, i))) (λ n. pure (by_name n)) ≡ and_then x (λ i. pure (by_name (id, i)))
     valued None = refl
     valued (Some p) = refl
+
+-- a comma
+behind_comma : (c : ℕ) → (c == 44) ≡ true → (32 < c) × ((c == 46) ≡ false) × ((c == 58) ≡ false) × ((c == 40) ≡ false)
+behind_comma c e = (grind (arith, nat_tests), grind (arith, nat_tests), grind (arith, nat_tests), grind (arith, nat_tests))
+
+pub message_before : (n : ℕ) (s r : List ℕ) (id : Text) → identifier s ≡ Some (id, r) → (first r == 44) ≡ true → argument (level n) s ≡ Some (positional (message id no_attribute), r)
+message_before n s r id e c =
+    let other = behind_comma (first r) c in
+    let blanks = no_spaces r other.0 in
+    let read = (bare_message s r id e other.1).reads (level n) (no_brackets n r r blanks (no_byte 40 r other.3)) in
+    plain_at (level n) s r r id e blanks (no_byte 58 r other.2) ∙ (sym (reference_at (level n) s r id e) ∙ rw read refl)
 
 pub named_at : (g : Level) (s r c d v rest : List ℕ) (id : Text) (a : Argument) → identifier s ≡ Some (id, r) → skip blank r ≡ Some (tt, c) → byte 58 c ≡ Some (tt, d) → skip blank d ≡ Some (tt, v) → value_argument id v ≡ Some (a, rest) → argument g s ≡ Some (a, rest)
 unfolding argument

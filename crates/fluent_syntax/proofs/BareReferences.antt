@@ -150,7 +150,7 @@ variable_first g s r x e =
 
 -- ---- between braces
 
-no_brackets : (n : ℕ) (r c : List ℕ) → skip blank r ≡ Some (tt, c) → byte 40 c ≡ None → (level n).brackets r ≡ None
+pub no_brackets : (n : ℕ) (r c : List ℕ) → skip blank r ≡ Some (tt, c) → byte 40 c ≡ None → (level n).brackets r ≡ None
 unfolding level call_arguments
 no_brackets zero r c e b = refl
 no_brackets (suc n) r c e b = rw (e, b) refl

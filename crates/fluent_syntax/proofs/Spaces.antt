@@ -29,7 +29,7 @@ turn_at : (s t : List ℕ) (n : ℕ) → blank_inline s ≡ Some (n, t) → blan
 unfolding blank_turn
 turn_at s t n e = rw e refl
 
-no_spaces : (s : List ℕ) → 32 < first s → skip blank s ≡ Some (tt, s)
+pub no_spaces : (s : List ℕ) → 32 < first s → skip blank s ≡ Some (tt, s)
 unfolding blank
 no_spaces s h = rw (no_turn s h) refl
 

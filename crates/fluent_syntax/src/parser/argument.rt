@@ -1,5 +1,6 @@
 //! The arguments of a call.
-ghost use Rattle.std.specs.Prelude.{◌≡◌, map, OnOk, IfOk};
+ghost use Rattle.std.specs.Prelude.{◌≡◌, ℕ, List, Some, map, OnOk, IfOk};
+ghost use Rattle.fluent_text.specs.Lexical as lexical;
 ghost use Rattle.fluent_syntax.specs.Expressions as spec;
 ghost use Rattle.fluent_text.specs.Reading.{found, passed};
 ghost use Rattle.fluent_syntax.specs.Reading.{Gives};
@@ -7,7 +8,7 @@ ghost use Rattle.fluent_syntax.specs.Gathering.{argument_view, gathered_view, po
 ghost use Rattle.fluent_syntax.specs.Nests.{GivesRule};
 ghost use Rattle.fluent_tree.specs.View.{named_view, name_view, expression_view, arguments_view};
 
-use crate::parser::bytes::eat;
+use crate::parser::bytes::{byte_at, eat};
 use crate::parser::inner::Inner;
 use crate::parser::lines::{after_blank, identifier};
 use crate::parser::list::push;
@@ -95,7 +96,8 @@ impl<
     F: Fn(Global, &'s str, usize) -> Result<(Expression<'s>, &'s str), Stop>,
     G: Fn(Global, &'s str, usize) -> Result<(CallArguments<'s>, &'s str), Stop>,
 > Inner<F, G> {
-    /// Reads an argument and adds it. A name is read once, whether an argument's, a function's or a message's.
+    /// Reads an argument and adds it. A name is read once, whether an argument's, a function's or a message's. Before a
+    /// comma it is a message's, which needs no room for anything else.
     #[inline(always)]
     fn push_argument(&self, s: &'s str, found: &mut Gathered<'s>) -> Result<&'s str, Stop>
         requires braces { GivesRule expression_view (spec.level self.now.depth).braces self.now.depth
@@ -108,6 +110,30 @@ impl<
         let Some((id, rest)) = identifier(s) else {
             return self.push_nameless(s, found);
         };
+        if byte_at(rest, 0) == b',' {
+            found.add(Argument::Positional(InlineExpression::MessageReference {
+                id,
+                attribute: None,
+            }))?;
+            return Ok(rest);
+        }
+        self.push_named_or_reference(id, rest, found)
+    }
+
+    /// Reads what follows a name, the name of an argument or of what one refers to, and adds the argument.
+    #[inline(never)]
+    fn push_named_or_reference(
+        &self,
+        id: Identifier<'s>,
+        rest: &'s str,
+        found: &mut Gathered<'s>,
+    ) -> Result<&'s str, Stop>
+        requires brackets { GivesRule arguments_view (spec.level self.now.depth).brackets self.now.depth
+            (G.pre self.now.brackets) (G.post self.now.brackets) }
+        ensures { (s : List ℕ) → Some (name_view id.entry, rest.now) ≡ lexical.identifier s →
+            Gathers result (gathered_view found.old) (gathered_view found.new)
+            (spec.argument (spec.level self.now.depth) s) }
+    {
         let Some(colon) = eat(after_blank(rest), b':') else {
             return self.push_reference(id, rest, found);
         };

@@ -160,7 +160,7 @@ fn push_both<'s>(
     push(found, PatternElement::Placeable { expression })
 }
 
-/// The elements of a first line, from a brace on, before which a text stands, maybe an empty one.
+/// Adds the elements of a first line, from a brace on, before which a text stands, maybe an empty one.
 ///
 /// What follows a placeable is looked at before it is added: mostly the pattern ends there, and the list needs room
 /// for just what was read.
@@ -171,45 +171,47 @@ fn from_brace<'s, F: Fn(Global, &'s str, usize) -> Result<(Expression<'s>, &'s s
     s: &'s str,
     depth: usize,
     braces: &F,
-) -> Result<(Vec<PatternElement<'s>>, Line<'s>), AllocError>
+    found: &mut Vec<PatternElement<'s>>,
+) -> Result<Line<'s>, AllocError>
+    requires none { all element_view found.old ≡ [] }
     requires braces { GivesRule expression_view (level depth).braces depth (F.pre braces.now)
         (F.post braces.now) }
     ensures { (whole : List ℕ) → InLine depth whole (unless_empty before.now) s.now →
         (first s.now == 123) ≡ true →
-        IfOk result (λ p. IsFirstLine depth whole (all element_view p.0) p.1) }
+        IfOk result (λ line. IsFirstLine depth whole (all element_view found.new) line) }
 {
-    let mut found = Vec::new(alloc);
     let mut value = before;
     let mut rest = s;
     'elements: for _turn in 0..s.len() {
         let (expression, next) = match placeable(alloc, rest, depth, braces) {
             Ok(read) => read,
             Err(Stop::Absent) => {
-                push_text(&mut found, value)?;
-                return Ok((found, Line::Whole(rest)));
+                push_text(found, value)?;
+                return Ok(Line::Whole(rest));
             }
             Err(Stop::Memory) => return Err(AllocError),
         };
         let (text, after) = split_run(next, Class::Text);
         let ends = ends_pattern(after);
-        make_room(&mut found, ends, value, text)?;
-        push_both(&mut found, value, expression)?;
+        make_room(found, ends, value, text)?;
+        push_both(found, value, expression)?;
         if ends {
-            push_text(&mut found, text)?;
-            return Ok((found, Line::Whole(after)));
+            push_text(found, text)?;
+            return Ok(Line::Whole(after));
         }
         if byte_at(after, 0) != b'{' {
-            return Ok((found, Line::Open(next)));
+            return Ok(Line::Open(next));
         }
         value = text;
         rest = after;
     }
-    push_text(&mut found, value)?;
-    Ok((found, Line::Open(rest)))
+    push_text(found, value)?;
+    Ok(Line::Open(rest))
 }
 
-/// The texts and placeables of a pattern's first line, which begins with a text, maybe an empty one. Where the pattern
-/// may go on, the line's last text is left.
+/// Adds the texts and placeables of a pattern's first line, which begins with a text, maybe an empty one. Where the
+/// pattern may go on, the line's last text is left. The list stays where the caller has it: handed back beside the
+/// line, it would be copied four times.
 pub fn first_line<'s, F: Fn(Global, &'s str, usize) -> Result<(Expression<'s>, &'s str), Stop>>(
     alloc: Global,
     s: &'s str,
@@ -217,17 +219,19 @@ pub fn first_line<'s, F: Fn(Global, &'s str, usize) -> Result<(Expression<'s>, &
     after: &'s str,
     depth: usize,
     braces: &F,
-) -> Result<(Vec<PatternElement<'s>>, Line<'s>), AllocError>
+    found: &mut Vec<PatternElement<'s>>,
+) -> Result<Line<'s>, AllocError>
+    requires none { all element_view found.old ≡ [] }
     requires begin { run is_text s.now ≡ Some (value.now, after.now) }
     requires braces { GivesRule expression_view (level depth).braces depth (F.pre braces.now)
         (F.post braces.now) }
-    ensures { IfOk result (λ p. IsFirstLine depth s.now (all element_view p.0) p.1) }
+    ensures { IfOk result (λ line. IsFirstLine depth s.now (all element_view found.new) line) }
 {
     if byte_at(after, 0) != b'{' {
         if value.is_empty() && !may_go_on(after) {
-            return Ok((Vec::new(alloc), Line::Whole(after)));
+            return Ok(Line::Whole(after));
         }
-        return Ok((Vec::new(alloc), Line::Open(s)));
+        return Ok(Line::Open(s));
     }
-    from_brace(alloc, value, after, depth, braces)
+    from_brace(alloc, value, after, depth, braces, found)
 }

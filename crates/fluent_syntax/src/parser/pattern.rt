@@ -14,7 +14,6 @@ ghost use Rattle.fluent_tree.specs.View.{element_view, expression_view, pattern_
 use crate::parser::bytes::{Class, split_run};
 use crate::parser::first_line::{Line, ends_pattern, first_line};
 use crate::parser::layout::{elements, trim_last, without_spaces};
-use crate::parser::list::push;
 use crate::parser::pieces::{as_pieces, more_pieces};
 use crate::parser::stop::Stop;
 use fluent_tree::ast::{Expression, Pattern, PatternElement};
@@ -60,9 +59,7 @@ fn one_element<'s>(alloc: Global, line: &'s str) -> Result<Vec<PatternElement<'s
     if value.is_empty() {
         return Ok(Vec::new(alloc));
     }
-    let mut elements = Vec::with_capacity(alloc, 1)?;
-    push(&mut elements, PatternElement::TextElement { value })?;
-    Ok(elements)
+    Ok(Vec::from_array(alloc, [PatternElement::TextElement { value }])?)
 }
 
 /// A pattern with placeables, or with several lines, which begins with a text, maybe an empty one.
@@ -80,7 +77,8 @@ fn long_pattern<'s, F: Fn(Global, &'s str, usize) -> Result<(Expression<'s>, &'s
         (F.post braces.now) }
     ensures { Gives pattern_view result (spec.pattern (level depth).braces s.now) }
 {
-    let (mut elements, line) = first_line(alloc, s, value, after, depth, braces)?;
+    let mut elements = Vec::new(alloc);
+    let line = first_line(alloc, s, value, after, depth, braces, &mut elements)?;
     match line {
         Line::Whole(rest) => {
             if elements.is_empty() {

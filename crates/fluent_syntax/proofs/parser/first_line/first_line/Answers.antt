@@ -14,7 +14,7 @@ returns-then-not-may_go_on g c =
     let after = c.args.after.now in
     let empty : length t ≤ 0 = grind (arith, nat_tests, c.if-is_empty.ensures) in
     let none = c.may_go_on.ensures c.if-not-may_go_on.true (after_run s t after c.requires.begin) (is_other (first after) 123 (λ e. c.if-byte_at-ne123.true (c.byte_at.ensures ∙ e))) n in
-    subst (λ fs. AreWhole n s fs after) (sym (ap (map element_view) c.new.ensures.items)) (line_empty n s t after empty c.requires.begin none)
+    subst (λ fs. AreWhole n s fs after) (sym c.requires.none) (line_empty n s t after empty c.requires.begin none)
 
 pub returns : goal.returns
 returns g c =

@@ -1,29 +1,27 @@
-use Rattle.std.proofs.Common.{sym, subst}
+use Rattle.std.proofs.Common.{◌==◌, ◌≡◌, true, sym, ap, ◌∙◌}
+use Rattle.fluent_text.specs.Parser.{first}
+use Rattle.fluent_tree.specs.Tree.{message, no_attribute}
 use Rattle.fluent_tree.specs.View.{name_view}
-use Rattle.fluent_syntax.specs.Expressions.{level, Gathered}
-use Rattle.fluent_syntax.specs.Gathering.{gathered_view, reference_argument, Gathers}
-use Rattle.fluent_syntax.proofs.Arguments.{nameless_at, plain_at, named_at, unnamed_at}
+use Rattle.fluent_syntax.specs.Expressions.{level, positional}
+use Rattle.fluent_syntax.proofs.Arguments.{nameless_at, message_before}
+use Rattle.fluent_syntax.proofs.Progress.{is_equal}
+use Rattle.fluent_syntax.proofs.Views.{view_message}
+use Rattle.fluent_syntax.specs.Gathering.{gathered_view}
+use Rattle.fluent_syntax.specs.Expressions.{add}
 use Rattle.fluent_syntax.proofs.parser.inner.Inner.push_argument.Goals as goal
 
 pub returns-in_default : goal.returns-in_default
 returns-in_default g c =
     rw (nameless_at (level c.args.self.now.depth) c.args.s.now (sym c.in_default.ensures)) c.push_nameless.ensures
 
-pub returns-in_default-eat : goal.returns-in_default-eat
-returns-in_default-eat g c =
-    rw (plain_at (level c.args.self.now.depth) c.args.s.now c.in-Some.rest.now c.after_blank.result.now (name_view c.in-Some.id) (sym c.in-Some.ensures) c.after_blank.ensures (sym c.in_default-eat.ensures.gives)) c.push_reference.ensures
-
-pub returns-in-Ok : goal.returns-in-Ok
-returns-in-Ok g c =
-    let p = c.in-Ok.ensures in (
-      p.0,
-      named_at (level c.args.self.now.depth) c.args.s.now c.in-Some.rest.now c.after_blank.result.now c.in-Some-eat.colon.now c.after_blank-2.result.now c.in-Ok.end.now (name_view c.in-Some.id) p.0 (sym c.in-Some.ensures) c.after_blank.ensures (sym c.in-Some-eat.ensures.gives) c.after_blank-2.ensures p.1,
-      p.2,
+pub returns-then-byte_at-eq44 : goal.returns-then-byte_at-eq44
+returns-then-byte_at-eq44 g c =
+    let rest = c.in-Some.rest.now in
+    let comma : (first rest == 44) ≡ true = is_equal (first rest) 44 (sym c.byte_at.ensures ∙ c.if-byte_at-eq44.true) in (
+      positional (message (name_view c.in-Some.id) no_attribute),
+      message_before c.args.self.now.depth c.args.s.now rest (name_view c.in-Some.id) (sym c.in-Some.ensures) comma,
+      c.in_ok-add.ensures ∙ ap (λ x. add (gathered_view c.args.found.now) (positional x)) (view_message c.in-Some.id),
     )
 
-pub returns-in-Err-Absent : goal.returns-in-Err-Absent
-returns-in-Err-Absent g c =
-    let p = rw c.in-Err-Absent.field-0-is at c.in-Err-Absent.ensures in
-    let l = level c.args.self.now.depth in
-    rw (unnamed_at l c.args.s.now c.in-Some.rest.now c.after_blank.result.now c.in-Some-eat.colon.now c.after_blank-2.result.now (name_view c.in-Some.id) (sym c.in-Some.ensures) c.after_blank.ensures (sym c.in-Some-eat.ensures.gives) c.after_blank-2.ensures p.0)
-    (subst (λ (b : Gathered). Gathers c.push_reference-in-Err-Absent.result b (gathered_view c.push_reference-in-Err-Absent.new.found) (reference_argument l (name_view c.in-Some.id) c.in-Some.rest.now)) p.1 c.push_reference-in-Err-Absent.ensures)
+pub returns : goal.returns
+returns g c = c.push_named_or_reference.ensures c.args.s.now c.in-Some.ensures
