@@ -13,10 +13,18 @@ use std::alloc::Global;
 use std::slice::Iter;
 
 /// An FTL source and its entries.
-#[derive(Debug, Drop)]
+#[derive(Debug)]
 pub struct FluentResource<'s> {
     source: &'s str,
     body: ast::Resource<'s>,
+}
+
+// Written out, so that the drop of each part of a tree is proved here, and not in each crate that a resource goes out
+// of scope in.
+impl Drop for FluentResource<'_> {
+    fn drop(self) {
+        let FluentResource { source: _, body: _ } = self;
+    }
 }
 
 /// Why a source gave no resource, or not a clean one.
