@@ -3,6 +3,7 @@ use Rattle.std.specs.Prelude.{◌≡◌, ◌≢◌, ℕ, ◌*◌, ◌%◌, ◌^�
 use Rattle.std.specs.Option.{option_map}
 use Rattle.std.specs.Borrow.{Bor}
 use Rattle.std.specs.declared.alloc.Global.{Global}
+use Rattle.std.specs.Int.NonZero.{non_zero_u64_get}
 use Rattle.std.specs.declared.num.NonZeroU64.{NonZeroU64}
 use Rattle.fluent_text.specs.Parser.{Read}
 use Rattle.fluent_intl.specs.declared.plurals.PluralRuleType.{PluralRuleType}
@@ -34,7 +35,7 @@ abbrev pub all : {A B : Type 0} → (A → B) → Vec A Global → List B
 all view v = map view v.items
 
 abbrev pub number_view : NonZeroU64 → ℕ
-number_view n = n.value
+number_view = non_zero_u64_get
 
 abbrev pub relation_view : CodeRelation → Relation
 relation_view r = relation_of r.operand (option_map number_view r.divisor) r.equal r.ranges.items
