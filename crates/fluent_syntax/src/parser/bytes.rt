@@ -1,10 +1,11 @@
 //! Runs of bytes.
-ghost use Rattle.std.specs.Prelude.{◌≡◌, ◌+◌, ◌<◌, ◌≤◌, Some, length, drop, slice_index, IfSome};
+ghost use Rattle.std.specs.Prelude.{◌≡◌, ◌+◌, ◌<◌, ◌≤◌, ℕ, true, Some, length, drop, slice_index, IfSome};
 ghost use Rattle.fluent_text.specs.Parser as parser;
 ghost use Rattle.fluent_text.specs.Lexical as spec;
 ghost use Rattle.fluent_syntax.specs.Classes.{class_test};
 ghost use Rattle.fluent_text.specs.Reading.{passed};
 
+use crate::parser::lanes::{LANES, name_lanes};
 use crate::parser::text::{line_len, text_len};
 
 /// A set of bytes, each judged with the byte after it.
@@ -70,6 +71,39 @@ fn is_name_byte(byte: u8) -> bool
     NAME_BYTES[byte as usize] != 0
 }
 
+/// How many bytes at the front may stand in an identifier. Most names end within sixteen bytes, which are looked at at
+/// once.
+#[inline(always)]
+fn name_len(s: &str) -> usize
+    ensures { result ≡ parser.run_len spec.is_identifier_byte s.now }
+{
+    let bytes = s.as_bytes();
+    if bytes.len() <= LANES {
+        return long_name_len(s, 0);
+    }
+    let at = name_lanes(bytes);
+    if is_name_byte(bytes[at]) {
+        return long_name_len(s, at);
+    }
+    at
+}
+
+/// The same, byte by byte from `from` on.
+#[inline(never)]
+fn long_name_len(s: &str, from: usize) -> usize
+    requires within { from ≤ length s.now }
+    requires passed { (k : ℕ) → k < from → spec.is_identifier_byte (slice_index s.now k) 0 ≡ true }
+    ensures { result ≡ parser.run_len spec.is_identifier_byte s.now }
+{
+    let bytes = s.as_bytes();
+    'name: for at in from..bytes.len() {
+        if !is_name_byte(bytes[at]) {
+            return at;
+        }
+    }
+    bytes.len()
+}
+
 #[inline(always)]
 fn is_in(class: Class, byte: u8, next: u8) -> bool
     ensures { result ≡ class_test class byte next }
@@ -103,6 +137,9 @@ pub fn run_len(s: &str, class: Class) -> usize
     }
     if let Class::Inside = class {
         return line_len(s);
+    }
+    if let Class::Identifier = class {
+        return name_len(s);
     }
     let bytes = s.as_bytes();
     'bytes: for at in 0..bytes.len() {

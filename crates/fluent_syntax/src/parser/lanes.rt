@@ -1,7 +1,8 @@
 //! Sixteen bytes, looked at at once.
-ghost use Rattle.std.specs.Prelude.{◌≡◌, ◌+◌, ◌<◌, ◌≤◌, ◌==◌, if◌then◌else◌, length};
+ghost use Rattle.std.specs.Prelude.{◌≡◌, ◌+◌, ◌<◌, ◌≤◌, ◌==◌, ℕ, true, if◌then◌else◌, length, slice_index};
 ghost use Rattle.std.specs.Int.{w64, trailing_zeros};
 ghost use Rattle.memchr.specs.Find.{Nowhere, Passes, is_byte3};
+ghost use Rattle.fluent_text.specs.Lexical.{is_identifier_byte};
 
 use std::simd::prelude::*;
 
@@ -32,4 +33,18 @@ pub fn plain_lanes(bytes: &[u8], at: usize) -> usize
     let feeds = lanes.simd_eq(u8x16::splat(b'\n'));
     let braces = lanes.simd_eq(u8x16::splat(b'{')) | lanes.simd_eq(u8x16::splat(b'}'));
     first_set((feeds | braces).to_bitmask())
+}
+
+/// How many of the first sixteen bytes are letters, digits or dashes, of which most names are made.
+#[inline(always)]
+pub fn name_lanes(bytes: &[u8]) -> usize
+    requires room { 16 ≤ length bytes.now }
+    ensures within { result ≤ 16 }
+    ensures passed { (k : ℕ) → k < result → is_identifier_byte (slice_index bytes.now k) 0 ≡ true }
+{
+    let lanes = u8x16::from_slice(bytes);
+    let from_a = (lanes | u8x16::splat(0x20)) - u8x16::splat(b'a');
+    let from_0 = lanes - u8x16::splat(b'0');
+    let others = from_a.simd_ge(u8x16::splat(26)) & from_0.simd_ge(u8x16::splat(10));
+    first_set((others & lanes.simd_ne(u8x16::splat(b'-'))).to_bitmask())
 }
