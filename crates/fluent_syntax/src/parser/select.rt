@@ -112,14 +112,18 @@ impl<
         let Some((key, rest)) = key_closed(s) else {
             return Err(Stop::Absent);
         };
-        let (value, end) = pattern(self.alloc, rest, self.depth, &self.braces)?;
-        let variant = Variant {
-            key,
-            value,
-            default,
-        };
-        push(found, variant)?;
-        Ok(end)
+        match pattern(self.alloc, rest, self.depth, &self.braces) {
+            Ok((value, end)) => {
+                let variant = Variant {
+                    key,
+                    value,
+                    default,
+                };
+                push(found, variant)?;
+                Ok(end)
+            }
+            Err(stop) => Err(stop),
+        }
     }
 
     /// Variants in order, of which exactly one is the default.
