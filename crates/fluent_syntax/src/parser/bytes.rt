@@ -5,7 +5,7 @@ ghost use Rattle.fluent_text.specs.Lexical as spec;
 ghost use Rattle.fluent_syntax.specs.Classes.{class_test};
 ghost use Rattle.fluent_text.specs.Reading.{passed};
 
-use crate::parser::lanes::{LANES, name_lanes};
+use crate::parser::lanes::{LANES, name_lanes, space_lanes};
 use crate::parser::text::{line_len, text_len};
 
 /// A set of bytes, each judged with the byte after it.
@@ -157,4 +157,37 @@ pub fn split_run<'s>(s: &'s str, class: Class) -> (&'s str, &'s str)
     ensures lens { length result.0.now + length result.1.now ≡ length s.now }
 {
     s.split_at(run_len(s, class))
+}
+
+/// How many spaces a line begins with: mostly some, but fewer than sixteen, which are looked at at once.
+#[inline(always)]
+fn indent_len(s: &str) -> usize
+    ensures { result ≡ parser.run_len spec.is_space s.now }
+{
+    let bytes = s.as_bytes();
+    if bytes.len() <= LANES {
+        return long_indent_len(s);
+    }
+    let at = space_lanes(bytes);
+    if bytes[at] == b' ' {
+        return long_indent_len(s);
+    }
+    at
+}
+
+/// The same, byte by byte.
+#[inline(never)]
+fn long_indent_len(s: &str) -> usize
+    ensures { result ≡ parser.run_len spec.is_space s.now }
+{
+    run_len(s, Class::Space)
+}
+
+/// The spaces that a line begins with, and the rest.
+#[inline(always)]
+pub fn split_indent<'s>(s: &'s str) -> (&'s str, &'s str)
+    ensures parts { parser.run spec.is_space s.now ≡ Some (result.0.now, result.1.now) }
+    ensures lens { length result.0.now + length result.1.now ≡ length s.now }
+{
+    s.split_at(indent_len(s))
 }

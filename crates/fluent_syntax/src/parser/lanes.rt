@@ -2,7 +2,7 @@
 ghost use Rattle.std.specs.Prelude.{◌≡◌, ◌+◌, ◌<◌, ◌≤◌, ◌==◌, ℕ, true, if◌then◌else◌, length, slice_index};
 ghost use Rattle.std.specs.Int.{w64, trailing_zeros};
 ghost use Rattle.memchr.specs.Find.{Nowhere, Passes, is_byte3};
-ghost use Rattle.fluent_text.specs.Lexical.{is_identifier_byte};
+ghost use Rattle.fluent_text.specs.Lexical.{is_identifier_byte, is_space};
 
 use std::simd::prelude::*;
 
@@ -47,4 +47,15 @@ pub fn name_lanes(bytes: &[u8]) -> usize
     let from_0 = lanes - u8x16::splat(b'0');
     let others = from_a.simd_ge(u8x16::splat(26)) & from_0.simd_ge(u8x16::splat(10));
     first_set((others & lanes.simd_ne(u8x16::splat(b'-'))).to_bitmask())
+}
+
+/// How many of the first sixteen bytes stand before the first that is no space.
+#[inline(always)]
+pub fn space_lanes(bytes: &[u8]) -> usize
+    requires room { 16 ≤ length bytes.now }
+    ensures within { result ≤ 16 }
+    ensures passed { (k : ℕ) → k < result → is_space (slice_index bytes.now k) 0 ≡ true }
+{
+    let lanes = u8x16::from_slice(bytes);
+    first_set(lanes.simd_ne(u8x16::splat(b' ')).to_bitmask())
 }
