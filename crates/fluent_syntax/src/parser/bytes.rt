@@ -72,8 +72,8 @@ fn is_name_byte(byte: u8) -> bool
 }
 
 /// How many bytes at the front may stand in an identifier. Most names end within sixteen bytes, which are looked at at
-/// once.
-#[inline(always)]
+/// once. It stands by itself, so that what reads names stays small enough to be inlined.
+#[inline(never)]
 fn name_len(s: &str) -> usize
     ensures { result ≡ parser.run_len spec.is_identifier_byte s.now }
 {
