@@ -307,6 +307,11 @@ element_is n s = sym (first_of s (((λ w. words w ∷ []) <$> inline_text) s) ((
 
 -- ---- each of them, beside what the reader found
 
+-- at a brace stands neither
+pub no_text_here : (s : List ℕ) → (first s == 123) ≡ true → text_pieces s ≡ None
+unfolding block_text
+no_text_here s e = rw (no_words None s (no_text s e), no_blank_block s e) refl
+
 pub text_here : (s t : List ℕ) (w : Words) → words_after None s ≡ Some (w, t) → text_pieces s ≡ Some (words w ∷ [], t)
 text_here s t w e = rw e refl
 

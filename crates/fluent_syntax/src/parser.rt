@@ -9,6 +9,7 @@ mod expression;
 mod first_line;
 mod inner;
 mod junk;
+mod lanes;
 mod layout;
 mod lines;
 mod list;

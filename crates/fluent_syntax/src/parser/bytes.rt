@@ -1,10 +1,11 @@
 //! Runs of bytes.
-ghost use Rattle.std.specs.Prelude.{◌≡◌, ◌+◌, ◌<◌, ◌≤◌, Some, length, drop, slice_index, IfSome};
+ghost use Rattle.std.specs.Prelude.{◌≡◌, ◌+◌, ◌<◌, ◌≤◌, ℕ, true, Some, length, drop, slice_index, IfSome};
 ghost use Rattle.fluent_text.specs.Parser as parser;
 ghost use Rattle.fluent_text.specs.Lexical as spec;
 ghost use Rattle.fluent_syntax.specs.Classes.{class_test};
 ghost use Rattle.fluent_text.specs.Reading.{passed};
 
+use crate::parser::lanes::{LANES, name_lanes, space_lanes};
 use crate::parser::text::{line_len, text_len};
 
 /// A set of bytes, each judged with the byte after it.
@@ -70,6 +71,39 @@ fn is_name_byte(byte: u8) -> bool
     NAME_BYTES[byte as usize] != 0
 }
 
+/// How many bytes at the front may stand in an identifier. Most names end within sixteen bytes, which are looked at at
+/// once. It stands by itself, so that what reads names stays small enough to be inlined.
+#[inline(never)]
+fn name_len(s: &str) -> usize
+    ensures { result ≡ parser.run_len spec.is_identifier_byte s.now }
+{
+    let bytes = s.as_bytes();
+    if bytes.len() <= LANES {
+        return long_name_len(s, 0);
+    }
+    let at = name_lanes(bytes);
+    if is_name_byte(bytes[at]) {
+        return long_name_len(s, at);
+    }
+    at
+}
+
+/// The same, byte by byte from `from` on.
+#[inline(never)]
+fn long_name_len(s: &str, from: usize) -> usize
+    requires within { from ≤ length s.now }
+    requires passed { (k : ℕ) → k < from → spec.is_identifier_byte (slice_index s.now k) 0 ≡ true }
+    ensures { result ≡ parser.run_len spec.is_identifier_byte s.now }
+{
+    let bytes = s.as_bytes();
+    'name: for at in from..bytes.len() {
+        if !is_name_byte(bytes[at]) {
+            return at;
+        }
+    }
+    bytes.len()
+}
+
 #[inline(always)]
 fn is_in(class: Class, byte: u8, next: u8) -> bool
     ensures { result ≡ class_test class byte next }
@@ -104,6 +138,9 @@ pub fn run_len(s: &str, class: Class) -> usize
     if let Class::Inside = class {
         return line_len(s);
     }
+    if let Class::Identifier = class {
+        return name_len(s);
+    }
     let bytes = s.as_bytes();
     'bytes: for at in 0..bytes.len() {
         if !is_in(class, bytes[at], byte_at(s, at + 1)) {
@@ -120,4 +157,37 @@ pub fn split_run<'s>(s: &'s str, class: Class) -> (&'s str, &'s str)
     ensures lens { length result.0.now + length result.1.now ≡ length s.now }
 {
     s.split_at(run_len(s, class))
+}
+
+/// How many spaces a line begins with: mostly some, but fewer than sixteen, which are looked at at once.
+#[inline(always)]
+fn indent_len(s: &str) -> usize
+    ensures { result ≡ parser.run_len spec.is_space s.now }
+{
+    let bytes = s.as_bytes();
+    if bytes.len() <= LANES {
+        return long_indent_len(s);
+    }
+    let at = space_lanes(bytes);
+    if bytes[at] == b' ' {
+        return long_indent_len(s);
+    }
+    at
+}
+
+/// The same, byte by byte.
+#[inline(never)]
+fn long_indent_len(s: &str) -> usize
+    ensures { result ≡ parser.run_len spec.is_space s.now }
+{
+    run_len(s, Class::Space)
+}
+
+/// The spaces that a line begins with, and the rest.
+#[inline(always)]
+pub fn split_indent<'s>(s: &'s str) -> (&'s str, &'s str)
+    ensures parts { parser.run spec.is_space s.now ≡ Some (result.0.now, result.1.now) }
+    ensures lens { length result.0.now + length result.1.now ≡ length s.now }
+{
+    s.split_at(indent_len(s))
 }

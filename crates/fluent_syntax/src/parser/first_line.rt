@@ -12,7 +12,7 @@ ghost use Rattle.fluent_tree.specs.View.{element_view, expression_view};
 
 use crate::parser::bare::bare_placeable;
 use crate::parser::bytes::{Class, byte_at, split_run};
-use crate::parser::lines::{blank_block, blank_inline, line_break};
+use crate::parser::lines::{blank_block, line_break, line_indent};
 use crate::parser::list::push;
 use crate::parser::stop::Stop;
 use fluent_tree::ast::{Expression, PatternElement};
@@ -36,7 +36,7 @@ fn may_go_on(s: &str) -> bool
     let Some(line) = line_break(s) else {
         return may_go_on_below(s);
     };
-    let Some((_, text)) = blank_inline(line) else {
+    let Some((_, text)) = line_indent(line) else {
         let next = byte_at(line, 0);
         if next > b' ' {
             return next == b'{';
@@ -58,7 +58,7 @@ fn may_go_on_below(s: &str) -> bool
     let Some((_, line)) = blank_block(s) else {
         return true;
     };
-    let Some((_, text)) = blank_inline(line) else {
+    let Some((_, text)) = line_indent(line) else {
         return byte_at(line, 0) == b'{';
     };
     if closes_pattern(byte_at(text, 0)) {

@@ -7,7 +7,7 @@ ghost use Rattle.fluent_text.specs.Reading.{found, passed};
 ghost use Rattle.fluent_syntax.specs.Reading.{IsIndent};
 ghost use Rattle.fluent_tree.specs.View.{name_view, inline_view};
 
-use crate::parser::bytes::{Class, byte_at, eat, split_run};
+use crate::parser::bytes::{Class, byte_at, eat, split_indent, split_run};
 use fluent_tree::ast::{Identifier, InlineExpression};
 
 #[inline(always)]
@@ -29,6 +29,21 @@ pub fn blank_inline(s: &str) -> Option<(usize, &str)>
     ensures indent { IfSome result (λ p. IsIndent s.now p.0 p.1.now) }
 {
     let (spaces, rest) = split_run(s, Class::Space);
+    let len = spaces.len();
+    if len == 0 {
+        return None;
+    }
+    Some((len, rest))
+}
+
+/// The same at the start of a line, where mostly several stand.
+#[inline(always)]
+#[tactic(auto, unfolding(fluent_text::specs::Lexical::blank_inline, fluent_text::specs::Parser::run1))]
+pub fn line_indent(s: &str) -> Option<(usize, &str)>
+    ensures gives { found (λ n. n) result ≡ spec.blank_inline s.now }
+    ensures indent { IfSome result (λ p. IsIndent s.now p.0 p.1.now) }
+{
+    let (spaces, rest) = split_indent(s);
     let len = spaces.len();
     if len == 0 {
         return None;
@@ -81,6 +96,28 @@ pub fn after_blank(s: &str) -> &str
         return rest;
     }
     after_lines(s)
+}
+
+/// The same at the start of a line.
+#[inline(always)]
+pub fn after_indent(s: &str) -> &str
+    ensures { parser.skip spec.blank s.now ≡ Some (tt, result.now) }
+{
+    let rest = after_line_spaces(s);
+    if byte_at(rest, 0) > b' ' {
+        return rest;
+    }
+    after_lines(s)
+}
+
+#[inline(always)]
+fn after_line_spaces(s: &str) -> &str
+    ensures { parser.skip spec.blank_inline s.now ≡ Some (tt, result.now) }
+{
+    match line_indent(s) {
+        Some((_, rest)) => rest,
+        None => s,
+    }
 }
 
 /// The same where line ends stand among the blanks.

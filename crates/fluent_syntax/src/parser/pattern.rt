@@ -33,8 +33,10 @@ pub fn pattern<'s, F: Fn(Global, &'s str, usize) -> Result<(Expression<'s>, &'s 
 {
     let (line, after) = split_run(s, Class::Text);
     if is_whole(line, after) {
-        let elements = one_element(alloc, line)?;
-        return Ok((Pattern { elements }, after));
+        return match one_element(alloc, line) {
+            Ok(elements) => Ok((Pattern { elements }, after)),
+            Err(_) => Err(Stop::Memory),
+        };
     }
     long_pattern(alloc, s, line, after, depth, braces)
 }
@@ -59,7 +61,10 @@ fn one_element<'s>(alloc: Global, line: &'s str) -> Result<Vec<PatternElement<'s
     if value.is_empty() {
         return Ok(Vec::new(alloc));
     }
-    Ok(Vec::from_array(alloc, [PatternElement::TextElement { value }])?)
+    let mut elements = Vec::new(alloc);
+    elements.reserve_exact(1)?;
+    elements.push_reserved(PatternElement::TextElement { value });
+    Ok(elements)
 }
 
 /// A pattern with placeables, or with several lines, which begins with a text, maybe an empty one.

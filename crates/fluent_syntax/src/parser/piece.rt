@@ -5,7 +5,7 @@ ghost use Rattle.fluent_syntax.specs.Pieces as spec;
 ghost use Rattle.fluent_text.specs.Reading.{found};
 
 use crate::parser::bytes::{Class, byte_at, run_len};
-use crate::parser::lines::{blank_block, blank_inline};
+use crate::parser::lines::{blank_block, line_indent};
 use fluent_tree::ast::Expression;
 use std::marker::Model;
 
@@ -123,7 +123,7 @@ pub fn block_text<'s>(s: &'s str) -> Option<((usize, Slice<'s>), &'s str)>
     ensures { found (λ p. p) result ≡ spec.block_text s.now }
 {
     let (ends, line) = blank_block(s)?;
-    let (n, text) = blank_inline(line)?;
+    let (n, text) = line_indent(line)?;
     let next = byte_at(text, 0);
     if next == b'[' || next == b'*' || next == b'.' {
         return None;
@@ -138,7 +138,7 @@ pub fn block_text<'s>(s: &'s str) -> Option<((usize, Slice<'s>), &'s str)>
 pub fn indent<'s>(s: &'s str) -> (Slice<'s>, &'s str)
     ensures { spec.indent s.now ≡ Some (result.0, result.1.now) }
 {
-    match blank_inline(s) {
+    match line_indent(s) {
         Some((n, rest)) => (
             Slice {
                 indent: Some(n),

@@ -102,6 +102,9 @@ fn push_words<'s>(s: &'s str, found: &mut Vec<Piece<'s>>) -> Result<&'s str, Sto
     ensures { PushesPieces result (all piece_view found.old) (all piece_view found.new)
         (text_pieces s.now) }
 {
+    if byte_at(s, 0) == b'{' {
+        return Err(Stop::Absent);
+    }
     if let Some((words, rest)) = inline_text(s) {
         push(found, Piece::Words(words))?;
         return Ok(rest);

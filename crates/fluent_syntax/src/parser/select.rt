@@ -11,7 +11,7 @@ ghost use Rattle.fluent_tree.specs.View.{key_view, inline_view, variant_view, ex
 
 use crate::parser::bytes::eat;
 use crate::parser::inner::Inner;
-use crate::parser::lines::{after_blank, after_spaces, identifier, line_end};
+use crate::parser::lines::{after_blank, after_indent, after_spaces, identifier, line_end};
 use crate::parser::list::push;
 use crate::parser::literal::number_literal;
 use crate::parser::pattern::pattern;
@@ -58,7 +58,7 @@ fn key_inside<'s>(s: &'s str) -> Option<(VariantKey<'s>, &'s str)>
 fn key_opened(s: &str, default: bool) -> Option<&str>
     ensures { passed result ≡ parts.key_opened default s.now }
 {
-    let rest = after_blank(line_end(s)?);
+    let rest = after_indent(line_end(s)?);
     let rest = if default { eat(rest, b'*')? } else { rest };
     eat(rest, b'[')
 }
@@ -112,14 +112,18 @@ impl<
         let Some((key, rest)) = key_closed(s) else {
             return Err(Stop::Absent);
         };
-        let (value, end) = pattern(self.alloc, rest, self.depth, &self.braces)?;
-        let variant = Variant {
-            key,
-            value,
-            default,
-        };
-        push(found, variant)?;
-        Ok(end)
+        match pattern(self.alloc, rest, self.depth, &self.braces) {
+            Ok((value, end)) => {
+                let variant = Variant {
+                    key,
+                    value,
+                    default,
+                };
+                push(found, variant)?;
+                Ok(end)
+            }
+            Err(stop) => Err(stop),
+        }
     }
 
     /// Variants in order, of which exactly one is the default.

@@ -1,10 +1,12 @@
 //! How far the text of a line goes.
-ghost use Rattle.std.specs.Prelude.{◌≡◌};
+ghost use Rattle.std.specs.Prelude.{◌≡◌, ◌≤◌, length};
+ghost use Rattle.memchr.specs.Find.{IsFirstByte, Nowhere, Passes, is_byte3};
 ghost use Rattle.fluent_text.specs.Parser as parser;
 ghost use Rattle.fluent_text.specs.Lexical.{is_text, is_inside};
 
 use crate::parser::bytes::byte_at;
-use memchr::{memchr, memchr3};
+use crate::parser::lanes::{LANES, plain_lanes};
+use memchr::memchr;
 
 /// How many bytes at the front are text: up to a brace or the end of the line, which may be a carriage return and a line feed.
 #[inline(always)]
@@ -19,7 +21,7 @@ pub fn text_len(s: &str) -> usize
         return 0;
     }
     let bytes = s.as_bytes();
-    let Some(at) = memchr3(b'\n', b'{', b'}', bytes) else {
+    let Some(at) = first_stop(bytes) else {
         return bytes.len();
     };
     if bytes[at] != b'\n' {
@@ -32,6 +34,38 @@ pub fn text_len(s: &str) -> usize
         return at - 1;
     }
     at
+}
+
+/// The first line feed or brace. Most stand near, so sixteen bytes are looked at at once.
+#[inline(always)]
+fn first_stop(bytes: &[u8]) -> Option<usize>
+    ensures { IsFirstByte (is_byte3 10 123 125) bytes.now result }
+{
+    let mut at = 0;
+    'loads: while bytes.len() - at >= LANES {
+        let run = plain_lanes(bytes, at);
+        if run < LANES {
+            return Some(at + run);
+        }
+        at += LANES;
+    }
+    stop_from(bytes, at)
+}
+
+/// The same behind bytes that were passed, byte by byte.
+#[inline(never)]
+fn stop_from(bytes: &[u8], from: usize) -> Option<usize>
+    requires within { from ≤ length bytes.now }
+    requires passed { Nowhere (Passes (is_byte3 10 123 125) bytes.now) 0 from }
+    ensures { IsFirstByte (is_byte3 10 123 125) bytes.now result }
+{
+    'tail: for at in from..bytes.len() {
+        let byte = bytes[at];
+        if byte == b'\n' || byte == b'{' || byte == b'}' {
+            return Some(at);
+        }
+    }
+    None
 }
 
 /// How many bytes at the front stand before a line feed.

@@ -1,7 +1,6 @@
-use Rattle.std.proofs.Common.{◌≡◌, ◌==◌, ◌≤◌, true, length, map, sym, ap, ◌∙◌, subst, arith}
+use Rattle.std.proofs.Common.{◌≡◌, ◌==◌, ◌≤◌, true, length, sym, ◌∙◌, subst, arith}
 use Rattle.std.proofs.lemmas.Bool.Decides.{nat_tests}
 use Rattle.fluent_text.specs.Parser.{first}
-use Rattle.fluent_tree.specs.View.{element_view}
 use Rattle.fluent_syntax.specs.Facts.OneLine.{is_other}
 use Rattle.fluent_syntax.proofs.Progress.{AreWhole, text_first, line_empty, after_run, is_equal}
 use Rattle.fluent_syntax.proofs.parser.first_line.first_line.Goals as goal

@@ -1,7 +1,7 @@
-use Rattle.std.proofs.Common.{[], ◌∷◌, sym}
+use Rattle.std.proofs.Common.{[], ◌∷◌, refl, sym, ◌∙◌}
 use Rattle.fluent_syntax.specs.Layout.{line, words}
 use Rattle.fluent_syntax.specs.PieceView.{piece_view}
-use Rattle.fluent_syntax.proofs.Progress.{text_here, text_below, added, added_two}
+use Rattle.fluent_syntax.proofs.Progress.{no_text_here, text_here, text_below, added, added_two, is_equal}
 use Rattle.fluent_syntax.proofs.parser.pieces.push_words.Goals as goal
 
 pub returns-in-Some : goal.returns-in-Some
@@ -19,3 +19,6 @@ returns-in-Some-block_text c = (
   text_below c.args.s.now c.in-Some-block_text.rest.now c.in-Some-block_text.parts.0 c.in-Some-block_text.parts.1 (sym c.in_default.ensures) (sym c.in-Some-block_text.ensures),
   added_two piece_view c.args.found.now.items c.push-in-Some-block_text.new.list.items c.push-in-Some-block_text-2.new.list.items _ _ c.in_ok-push-2.ensures.items c.in_ok-push-3.ensures.items,
 )
+
+pub returns-then-byte_at-eq123 : goal.returns-then-byte_at-eq123
+returns-then-byte_at-eq123 c = (no_text_here c.args.s.now (is_equal _ 123 (sym c.byte_at.ensures ∙ c.if-byte_at-eq123.true)), refl)
