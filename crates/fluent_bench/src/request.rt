@@ -2,8 +2,8 @@
 
 use std::{env, io};
 
-/// `parse N`: read the source N times. `format ID N [--no-isolate] [NAME=VALUE]..`: format a message, or an attribute
-/// `MESSAGE.ATTRIBUTE`, in batches of N calls; `words` holds all of them but the first.
+/// `parse N`: read the source in batches of N turns. `format ID N [--no-isolate] [NAME=VALUE]..`: format a message, or
+/// an attribute `MESSAGE.ATTRIBUTE`, in batches of N calls; `words` holds all of them but the first.
 #[derive(Drop)]
 pub enum Request {
     Parse { turns: u32 },
