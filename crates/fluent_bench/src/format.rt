@@ -12,7 +12,7 @@ use std::borrow::CowStr;
 use std::io;
 use std::time::Instant;
 
-type Bundle<'r, 's> = FluentBundle<
+pub type Bundle<'r, 's> = FluentBundle<
     'r,
     's,
     EnglishPlurals,
@@ -23,14 +23,14 @@ type Bundle<'r, 's> = FluentBundle<
 >;
 
 /// A figure is the best of so many batches.
-const BATCHES: u32 = 5;
+pub const BATCHES: u32 = 5;
 
 fn out_of_memory() -> io::Error {
     io::Error::from(io::ErrorKind::OutOfMemory)
 }
 
 /// A resource of what could be read of a source.
-fn read<'s>(alloc: Global, source: &'s str) -> io::Result<FluentResource<'s>> {
+pub fn read<'s>(alloc: Global, source: &'s str) -> io::Result<FluentResource<'s>> {
     match FluentResource::try_new(alloc, source) {
         Ok(resource) => Ok(resource),
         Err(TryNewFault::Parser(resource, _)) => Ok(resource),
@@ -39,7 +39,7 @@ fn read<'s>(alloc: Global, source: &'s str) -> io::Result<FluentResource<'s>> {
 }
 
 /// A bundle of a resource, with the built-in function.
-fn bundle_of<'r, 's>(
+pub fn bundle_of<'r, 's>(
     alloc: Global,
     isolate: bool,
     resource: &'r FluentResource<'s>,

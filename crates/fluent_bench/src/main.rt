@@ -1,11 +1,13 @@
-//! Reads an FTL source, or formats a message of one, again and again, for measuring.
+//! Reads an FTL source, adds one to a bundle, or formats a message of one, again and again, for measuring.
 #![tactic(auto)]
 
+mod add;
 mod count;
 mod format;
 mod read;
 mod request;
 
+use add::time_adding;
 use format::time_formatting;
 use read::time_reading;
 use request::Request;
@@ -16,6 +18,7 @@ fn main(rt: HostRuntime) -> io::Result<()> {
     let source = io::read_to_string(rt.alloc(), rt.stdin())?;
     match request {
         Request::Parse { turns } => time_reading(&rt, source.as_str(), turns),
+        Request::Add { turns } => time_adding(&rt, source.as_str(), turns),
         Request::Format { turns, words } => {
             time_formatting(&rt, source.as_str(), turns, words.as_slice())
         }

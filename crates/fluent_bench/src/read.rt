@@ -1,14 +1,12 @@
 //! Times the reader.
 
 use crate::count::Count;
+use crate::format::BATCHES;
 use fluent_syntax::ast::Resource;
 use fluent_syntax::{ParseFault, parse_runtime};
 use std::alloc::Global;
 use std::io;
 use std::time::Instant;
-
-/// A figure is the best of so many batches.
-const BATCHES: u32 = 5;
 
 fn read<'s>(alloc: Global, source: &'s str) -> io::Result<Resource<'s>> {
     match parse_runtime(alloc, source) {

@@ -2,11 +2,13 @@
 
 use std::{env, io};
 
-/// `parse N`: read the source in batches of N turns. `format ID N [--no-isolate] [NAME=VALUE]..`: format a message, or
-/// an attribute `MESSAGE.ATTRIBUTE`, in batches of N calls; `words` holds all of them but the first.
+/// `parse N`: read the source in batches of N turns. `add N`: add it to a bundle, likewise. `format ID N [--no-isolate]
+/// [NAME=VALUE]..`: format a message, or an attribute `MESSAGE.ATTRIBUTE`, in batches of N calls; `words` holds all of
+/// them but the first.
 #[derive(Drop)]
 pub enum Request {
     Parse { turns: u32 },
+    Add { turns: u32 },
     Format { turns: u32, words: Vec<String> },
 }
 
@@ -19,6 +21,9 @@ impl Request {
         }
         match words.first() {
             Some(command) if command.as_str() == "parse" => Ok(Request::Parse {
+                turns: number_at(words.as_slice(), 1)?,
+            }),
+            Some(command) if command.as_str() == "add" => Ok(Request::Add {
                 turns: number_at(words.as_slice(), 1)?,
             }),
             Some(command) if command.as_str() == "format" => Ok(Request::Format {
