@@ -79,6 +79,18 @@ impl<'s, X: Drop> Slots<'s, X> {
         Ok(number)
     }
 
+    /// Makes room for so many more ids, so that giving them numbers moves nothing. What ids name stays.
+    ///
+    /// # Errors
+    ///
+    /// Memory was refused.
+    #[tactic(auto, unfolding(crate::specs::Slots::slots))]
+    pub fn reserve(&mut self, more: usize) -> Result<(), AllocError>
+        ensures { slots self.new ≡ slots self.old }
+    {
+        self.ids.reserve(more)
+    }
+
     /// An empty slot for an id that has none yet.
     #[tactic(auto, unfolding(crate::specs::Slots::slots))]
     fn add(&mut self, id: CowStr<'s>) -> Result<(), AllocError>

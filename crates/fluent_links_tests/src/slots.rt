@@ -109,3 +109,26 @@ fn a_new_slot_is_empty(rt: HostRuntime) -> Result<(), Fail> {
     check(&rt, hold(&slots, (Some(7), None, None)), "a new slot");
     Ok(())
 }
+
+/// Makes room, again where memory is refused.
+fn make_room(slots: &mut Slots<'static, u8>, more: usize) -> Result<(), AllocError> {
+    match slots.reserve(more) {
+        Ok(()) => Ok(()),
+        Err(AllocError) => slots.reserve(more),
+    }
+}
+
+fn put_and_make_room(slots: &mut Slots<'static, u8>) -> Result<(), AllocError> {
+    make_room(slots, 1)?;
+    put_and_add(slots)?;
+    make_room(slots, 100)
+}
+
+/// Run with each allocation failing in turn: what ids name, and their numbers, are as before.
+#[test]
+fn room_for_more_changes_nothing(rt: HostRuntime) -> Result<(), Fail> {
+    let mut slots = Slots::new(rt.alloc());
+    put_and_make_room(&mut slots)?;
+    check(&rt, hold(&slots, (Some(7), None, None)), "what was there");
+    Ok(())
+}

@@ -5,7 +5,7 @@ use Rattle.std.proofs.lemmas.List.{drop_more, map_more, append-nil}
 use Rattle.fluent_tree.specs.Tree.{Text, Entry, message_entry, term_entry, junk_entry}
 use Rattle.fluent_tree.specs.View.{entry_view}
 use Rattle.fluent_tree.specs.declared.ast.Entry as code
-use Rattle.fluent_meaning.specs.Arguments.{Map, get, set}
+use Rattle.fluent_meaning.specs.Arguments.{Map, set}
 use Rattle.fluent_meaning.specs.Bundle.{added, overridden, not_added, add_free, error_if_taken, a_message, a_term}
 use Rattle.fluent_meaning.specs.Bundle as m
 use Rattle.fluent_meaning.specs.Errors.{Error, Kind, message_kind, term_kind}

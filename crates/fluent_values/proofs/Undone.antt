@@ -1,11 +1,11 @@
 -- What adding filled can be taken back: ids name again what they named.
-use Rattle.std.proofs.Common.{◌≡◌, ℕ, zero, suc, ◌+◌, ◌<◌, List, [], ◌∷◌, ◌++◌, length, position, nat_lt, nat_eq, not, Bool, true, false, cond, true≢false, is_some, Option, None, Some, unwrap_or, refl, ap, sym, subst, ◌∙◌, arith, ltb-true, lt-ltb}
+use Rattle.std.proofs.Common.{◌≡◌, ℕ, ◌+◌, ◌<◌, List, [], ◌∷◌, ◌++◌, length, not, Bool, true, false, cond, true≢false, is_some, Option, None, Some, unwrap_or, refl, ap, sym, subst, ◌∙◌, arith, ltb-true, lt-ltb}
 use Rattle.std.proofs.lemmas.Bool.{eq-eqb, eqb-true}
 use Rattle.std.proofs.lemmas.List.{append-nil}
 use Rattle.std.proofs.lemmas.Slice.Eq.{bytes_eq-Decides}
 use Rattle.std.specs.Cmp.{eq_by_cmp_equiv}
 use Rattle.std.specs.Cmp.Lexicographic.{slice_cmp, nat_list_cmp_total, texts_ties}
-use Rattle.std.specs.FinMap.{from_entries, entries, find, get-entries, same_map, slice_cmp-IsAntisymmetric, nat_cmp-IsAntisymmetric}
+use Rattle.std.specs.FinMap.{from_entries, entries, get-entries, same_map, slice_cmp-IsAntisymmetric, nat_cmp-IsAntisymmetric}
 use Rattle.std.specs.FinMap.Entries.{find-put}
 use Rattle.std.specs.List.{position_or_len}
 use Rattle.std.specs.Map.{lookup, keys_of}
@@ -21,10 +21,9 @@ use Rattle.fluent_meaning.specs.Bundle as meaning
 use Rattle.fluent_meaning.specs.Errors.{Error, Kind, overriding}
 use Rattle.fluent_values.specs.Adding.{AreNumbered, IsWithout, is_number, without}
 use Rattle.fluent_values.specs.EntryView.{entry_of, filled, ids}
-use Rattle.fluent_values.specs.Linking.{AreLinked, IsLinked}
+use Rattle.fluent_values.specs.Linking.{AreLinked}
 use Rattle.fluent_values.specs.Named.{AreNamed, is_found_named}
 use Rattle.fluent_values.specs.Numbered.{numbers}
-use Rattle.fluent_values.specs.View.{by_name}
 use Rattle.fluent_values.specs.declared.ids.Ids.{Ids}
 use Rattle.fluent_values.specs.declared.slot.Slot.{Slot}
 use Rattle.fluent_values.proofs.ByName.{get_named}

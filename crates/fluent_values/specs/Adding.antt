@@ -2,7 +2,7 @@
 use Rattle.std.specs.Prelude.{◌≡◌, ℕ, nat_eq, Bool, false, List, [], ◌∷◌, Option, None, Some, if◌then◌else◌}
 use Rattle.fluent_tree.specs.Tree.{Text, Pattern, message_entry, term_entry, junk_entry}
 use Rattle.fluent_tree.specs.Tree as t
-use Rattle.fluent_meaning.specs.Arguments.{Map, get}
+use Rattle.fluent_meaning.specs.Arguments.{get}
 use Rattle.fluent_meaning.specs.Bundle.{Function, a_message, a_term}
 use Rattle.fluent_meaning.specs.Bundle as m
 use Rattle.fluent_values.specs.declared.ids.Ids.{Ids}

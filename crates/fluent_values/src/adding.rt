@@ -310,6 +310,12 @@ fn take_all_back<'r, 's, F: Drop>(known: &mut Ids<'r, 's, F>, filled: Vec<u32>)
     }
 }
 
+/// How many of them have an id.
+fn how_many(entries: &[ast::Entry<'_>]) -> usize {
+    let has_id = |entry: &&ast::Entry<'_>| !matches!(**entry, ast::Entry::Junk { .. });
+    entries.iter().filter(has_id).count()
+}
+
 impl<'r, 's, F: Drop> Ids<'r, 's, F> {
     /// Gives each message and term whose id is free its meaning, in order, and gives the reports of those whose id
     /// was there when their turn came. Junk is passed over.
@@ -330,7 +336,9 @@ impl<'r, 's, F: Drop> Ids<'r, 's, F> {
         ensures err { OnErr result ((answer : F → Function Text) →
             ids answer self.new ≡ ids answer self.old) }
     {
-        let mut filled = Vec::with_capacity(alloc, entries.len())?;
+        let count = how_many(entries);
+        self.reserve(count)?;
+        let mut filled = Vec::with_capacity(alloc, count)?;
         match add_all(alloc, self, entries, &mut filled) {
             Ok(errors) => Ok(errors),
             Err(refused) => {

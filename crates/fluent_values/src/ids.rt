@@ -102,6 +102,17 @@ impl<'r, 's, F: Drop> Ids<'r, 's, F> {
     ghost use Rattle.fluent_values.specs.Named.{is_named};
     ghost use Rattle.fluent_values.specs.Numbered.{Grown, numbers, table};
 
+    /// Makes room for so many more ids, so that their numbers and slots are put where they stay. What ids name stays.
+    ///
+    /// # Errors
+    ///
+    /// Memory was refused.
+    pub(crate) fn reserve(&mut self, more: usize) -> Result<(), AllocError>
+        ensures { (answer : F → Function Text) → ids answer self.new ≡ ids answer self.old }
+    {
+        self.known.reserve(more)
+    }
+
     /// The number of an id, a new one where it has none. What ids name stays.
     pub(crate) fn number_of(&mut self, id: CowStr<'s>) -> Result<u32, AllocError>
         ensures number { IfOk result (λ n. numbers self.new (cow_str_bytes id.entry) ≡ Some n) }

@@ -1,4 +1,4 @@
-use Rattle.std.proofs.Common.{ap, ◌∙◌, ◌++◌, ◌∷◌, [], map, take}
+use Rattle.std.proofs.Common.{ap, ◌∙◌, ◌++◌, ◌∷◌, [], map}
 use Rattle.fluent_tree.specs.View.{entry_view}
 use Rattle.fluent_meaning.specs.Bundle.{added, not_added}
 use Rattle.fluent_values.specs.EntryView.{ids}

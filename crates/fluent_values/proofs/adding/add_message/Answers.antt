@@ -9,7 +9,7 @@ use Rattle.fluent_values.specs.Numbered.{numbers}
 use Rattle.fluent_values.specs.View.{error_view}
 use Rattle.fluent_values.specs.declared.entry.Entry.TheVariants.{Message}
 use Rattle.fluent_values.proofs.Linking.{lent_value}
-use Rattle.fluent_values.proofs.Undone.{grown, not_added_free, told_free}
+use Rattle.fluent_values.proofs.Undone.{grown, told_free}
 use Rattle.fluent_values.proofs.adding.add_message.Goals as goal
 
 pub linked_slot-requires : goal.linked_slot-requires

@@ -8,7 +8,7 @@ use Rattle.fluent_values.specs.Named.{own_id}
 use Rattle.fluent_values.specs.Numbered.{numbers}
 use Rattle.fluent_values.specs.View.{error_view}
 use Rattle.fluent_values.specs.declared.entry.Entry.TheVariants.{Term}
-use Rattle.fluent_values.proofs.Undone.{grown, not_added_free, told_free}
+use Rattle.fluent_values.proofs.Undone.{grown, told_free}
 use Rattle.fluent_values.proofs.adding.add_term.Goals as goal
 
 pub linked_slot-requires : goal.linked_slot-requires
