@@ -363,6 +363,7 @@ impl<'r, 's, F: Drop> Ids<'r, 's, F> {
         ensures err { OnErr result ((answer : F → Function Text) →
             ids answer self.new ≡ ids answer self.old) }
     {
+        self.reserve(how_many(entries))?;
         let list = all_ready(alloc, self, entries)?;
         override_all(self, list);
         Ok(())
