@@ -15,8 +15,8 @@ pub mod Measures
 pub mod Own
 pub mod ByName
 pub mod Added
+pub mod OneId
 pub mod Waiting
-pub mod Undone
 pub mod Linking
 pub mod Passing
 pub mod Along

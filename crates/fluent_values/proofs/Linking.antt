@@ -1,5 +1,5 @@
 -- What is kept of patterns is theirs, and stays so while ids keep their numbers and contents their classes.
-use Rattle.std.specs.Prelude.{◌≡◌, ℕ, zero, suc, List, [], ◌∷◌, ◌++◌, length, take, slice_get, is_none, Bool, true, false, cond, Option, Some, None, IfSome, refl, ◌<◌, ◌+◌}
+use Rattle.std.specs.Prelude.{◌≡◌, ◌&&◌, ℕ, zero, suc, List, [], ◌∷◌, ◌++◌, length, map, take, slice_get, is_none, Bool, true, false, cond, Option, Some, None, IfSome, refl, ◌<◌, ◌+◌}
 use Rattle.std.specs.Option.{option_map, option_copied, unwrap_or}
 use Rattle.std.specs.Global.{Box}
 use Rattle.std.specs.List.{list_all}
@@ -7,18 +7,20 @@ use Rattle.std.specs.Str.{bytes_eq}
 use Rattle.std.proofs.Common.{Bor, ap, sym, subst, ◌∙◌, get_or}
 use Rattle.std.proofs.lemmas.Bool.{and_parts}
 use Rattle.std.proofs.lemmas.List.{map_more}
-use Rattle.fluent_tree.specs.Tree.{Text, Pattern}
+use Rattle.fluent_tree.specs.Tree.{Text, Pattern, nothing, more, text, placeable}
+use Rattle.fluent_tree.specs.References.{references}
 use Rattle.fluent_tree.specs.View.{pattern_view, value_view}
 use Rattle.fluent_tree.specs.declared.ast.Attribute.{Attribute}
 use Rattle.fluent_tree.specs.declared.ast.Pattern as code
 use Rattle.fluent_links.specs.Classes.{Grows, HasClass}
-use Rattle.fluent_links.specs.Linked.{IsOf, class_of, still_of}
+use Rattle.fluent_links.specs.Linked.{IsOf, are_some, class_of, still_of}
 use Rattle.fluent_links.specs.Links.{KeepsNumbers}
 use Rattle.fluent_links.specs.Slots.{named, number}
 use Rattle.fluent_links.specs.declared.linked.Linked.{Linked}
 use Rattle.fluent_values.specs.declared.slot.Slot.{Slot}
 use Rattle.fluent_values.specs.declared.slot.Kept.{Kept}
-use Rattle.fluent_values.specs.Linking.{AreKept, AreLinked, AreOf, IsLinked, Keeps, RefersToNothing, attributes_in, attributes_kept, is_bare, patterns, value_in, value_kept}
+use Rattle.fluent_values.specs.Linking.{AreKept, AreLinked, AreOf, IsKeptOf, IsLinked, IsValueKept, Keeps, RefersToNothing, attributes_in, attributes_kept, is_bare, is_value_bare, patterns, value_in, value_kept}
+use Rattle.fluent_values.specs.Texts.{is_text}
 
 some_is : {A : Type 0} (x y : A) → Some x ≡ Some y → x ≡ y
 some_is x y h = ap (λ o. unwrap_or o x) h
@@ -34,14 +36,21 @@ none_at : (i : ℕ) (l : Linked) → slice_get [] i ≡ Some l → ⊥
 none_at zero l h = cc
 none_at (suc i) l h = cc
 
--- what is kept of a value is the value's
-kept_is : (l l' : Linked) (ls : List Linked) (k : Option (Box Kept)) → Keeps (Some l) ls k → value_kept k ≡ Some l' → l ≡ l'
-kept_is l l' ls None keeps here = absurd cc
-kept_is l l' ls (Some k) keeps here = some_is l l' (sym keeps.0 ∙ here)
+all_mapped : {A B : Type 0} (f : B → Bool) (g : A → B) (xs : List A) → list_all (λ x. f (g x)) xs ≡ list_all f (map g xs)
+all_mapped f g [] = refl
+all_mapped f g (x ∷ xs) = ap (λ b. f (g x) && b) (all_mapped f g xs)
 
-left_is : (l : Linked) (ls : List Linked) (k : Option (Box Kept)) → Keeps (Some l) ls k → value_kept k ≡ None → is_bare l ≡ true
-left_is l ls None keeps here = keeps.0
-left_is l ls (Some k) keeps here = let e : None ≡ Some l = sym here ∙ keeps.0 in absurd cc
+pub all_texts : (as' : List Attribute) → list_all (λ a. is_text (pattern_view a.value)) as' ≡ list_all is_text (patterns as')
+all_texts as' = all_mapped is_text (λ a. pattern_view a.value) as'
+
+-- texts refer to nothing
+texts_refer : (p : Pattern) → is_text p ≡ true → references p ≡ []
+texts_refer nothing h = refl
+texts_refer (more (text t) p) h = texts_refer p h
+texts_refer (more (placeable e) p) h = absurd cc
+
+refers_to_nothing : (p : Pattern) → is_text p ≡ true → RefersToNothing p
+refers_to_nothing p h = ap are_some (texts_refer p h)
 
 pub kept_by : (n n' : Text → Option ℕ) → ((id : Text) → n' id ≡ n id) → KeepsNumbers n n'
 kept_by n n' same = λ id k h. same id ∙ h
@@ -62,18 +71,18 @@ module _ (n n' : Text → Option ℕ) (t t' : List Pattern) (kept : KeepsNumbers
     left = h.left;
   }
 
-  pub still_linked : {F : Type 0} (s : Slot F) → IsLinked n t s → IsLinked n' t' s
-  still_linked s h = record {
+  pub still_kept_of : (v : Option Pattern) (ps : List Pattern) (k : Option (Box Kept)) → IsKeptOf n t v ps k → IsKeptOf n' t' v ps k
+  still_kept_of v ps k h = record {
     value = λ p l at here. still_of n n' t t' kept grows p l (h.value p l at here);
     left = h.left;
-    attributes = still_kept (attributes_in s.entry) (attributes_kept s.kept) h.attributes;
+    attributes = still_kept ps (attributes_kept k) h.attributes;
   }
 
-  pub still_all : (ps : List Pattern) (ls : List Linked) → AreOf n t ps ls → AreOf n' t' ps ls
-  still_all [] [] h = tt
-  still_all [] (y ∷ ls) h = absurd h
-  still_all (x ∷ ps) [] h = absurd h
-  still_all (x ∷ ps) (y ∷ ls) h = (still_of n n' t t' kept grows x y h.0, still_all ps ls h.1)
+  pub still_linked : {F : Type 0} (s : Slot F) → IsLinked n t s → IsLinked n' t' s
+  still_linked s h = still_kept_of (value_in s.entry) (attributes_in s.entry) s.kept h
+
+  pub still_value : (v : Option Pattern) (l : Option Linked) → IsValueKept n t v l → IsValueKept n' t' v l
+  still_value v l h = record { value = λ p l' at here. still_of n n' t t' kept grows p l' (h.value p l' at here); left = h.left }
 
   more_of : (ps : List Pattern) (ls : List Linked) (p : Pattern) (l : Linked) → AreOf n t ps ls → IsOf n' t' p l → AreOf n' t' (ps ++ p ∷ []) (ls ++ l ∷ [])
   more_of [] [] p l h one = (one, tt)
@@ -84,9 +93,9 @@ module _ (n n' : Text → Option ℕ) (t t' : List Pattern) (kept : KeepsNumbers
   -- one attribute more
   pub one_linked : (as' : List Attribute) (i : ℕ) (d a : Attribute) (ls ls' : List Linked) (l : Linked) → i < length as' → a ≡ get_or as' i d
       → IsOf n' t' (pattern_view a.value) l → ls' ≡ ls ++ l ∷ [] → AreOf n t (patterns (take i as')) ls → AreOf n' t' (patterns (take (i + 1) as')) ls'
-  one_linked as' i d a ls ls' l lt is one more h =
+  one_linked as' i d a ls ls' l lt is one longer h =
       let here : IsOf n' t' (pattern_view (get_or as' i d).value) l = subst (λ (x : Attribute). IsOf n' t' (pattern_view x.value) l) is one in
-      subst (AreOf n' t' (patterns (take (i + 1) as'))) (sym more)
+      subst (AreOf n' t' (patterns (take (i + 1) as'))) (sym longer)
       (subst (λ ps. AreOf n' t' ps (ls ++ l ∷ [])) (sym (map_more (λ x. pattern_view x.value) as' i d lt))
       (more_of (patterns (take i as')) ls (pattern_view (get_or as' i d).value) l h here))
 
@@ -108,36 +117,67 @@ module _ (n : Text → Option ℕ) (t : List Pattern) where
   bare_is : (p : Pattern) (l : Linked) → IsOf n t p l → is_bare l ≡ true → RefersToNothing p
   bare_is p l h bare = h.0.1 (is_none_of (class_of l) bare)
 
-  bare_left : (ps : List Pattern) (ls : List Linked) → AreOf n t ps ls → list_all is_bare ls ≡ true → (k : ℕ) (p : Pattern) → slice_get ps k ≡ Some p → RefersToNothing p
-  bare_left [] ls h bare k p at = absurd cc
-  bare_left (x ∷ ps) [] h bare k p at = absurd h
-  bare_left (x ∷ ps) (y ∷ ls) h bare zero p at = subst RefersToNothing (some_is x p at) (bare_is x y h.0 (and_parts (is_bare y) (list_all is_bare ls) bare).0)
-  bare_left (x ∷ ps) (y ∷ ls) h bare (suc k) p at = bare_left ps ls h.1 (and_parts (is_bare y) (list_all is_bare ls) bare).1 k p at
+  -- what is kept of attributes, of each
+  pub all_kept : (ps : List Pattern) (ls : List Linked) → AreOf n t ps ls → AreKept n t ps ls
+  all_kept ps ls h = record { each = each_of ps ls h; left = none_left ps ls h }
 
-  kept_of : (v : Option Linked) (ps : List Pattern) (ls : List Linked) (k : Option (Box Kept)) → AreOf n t ps ls → Keeps v ls k → AreKept n t ps (attributes_kept k)
-  kept_of v ps ls None of keeps = record { each = λ i p l at here. absurd (none_at i l here); left = λ i p at here. bare_left ps ls of keeps.1 i p at }
-  kept_of v ps ls (Some k) of keeps = subst (AreKept n t ps) (sym keeps.1) (record { each = each_of ps ls of; left = none_left ps ls of })
+  -- or of none, where they are texts
+  text_left : (ps : List Pattern) → list_all is_text ps ≡ true → (k : ℕ) (p : Pattern) → slice_get ps k ≡ Some p → RefersToNothing p
+  text_left [] texts k p at = absurd cc
+  text_left (x ∷ ps) texts zero p at = subst RefersToNothing (some_is x p at) (refers_to_nothing x (and_parts (is_text x) (list_all is_text ps) texts).0)
+  text_left (x ∷ ps) texts (suc k) p at = text_left ps (and_parts (is_text x) (list_all is_text ps) texts).1 k p at
 
-  module _ {F : Type 0} (s : Slot F) where
-    -- an entry with a value
-    pub valued_linked : (p : Pattern) (l : Linked) (ls : List Linked) → value_in s.entry ≡ Some p → IsOf n t p l → AreOf n t (attributes_in s.entry) ls → Keeps (Some l) ls s.kept → IsLinked n t s
-    valued_linked p l ls at one all keeps = record {
-      value = λ p' l' at' here. subst (λ l. IsOf n t p' l) (kept_is l l' ls s.kept keeps here) (subst (λ p. IsOf n t p l) (some_is p p' (sym at ∙ at')) one);
-      left = λ p' at' here. subst RefersToNothing (some_is p p' (sym at ∙ at')) (bare_is p l one (left_is l ls s.kept keeps here));
-      attributes = kept_of (Some l) (attributes_in s.entry) ls s.kept all keeps;
-    }
+  pub texts_kept : (ps : List Pattern) → list_all is_text ps ≡ true → AreKept n t ps []
+  texts_kept ps texts = record { each = λ k p l at here. absurd (none_at k l here); left = λ k p at here. text_left ps texts k p at }
 
-    -- one without
-    pub bare_linked : (ls : List Linked) → value_in s.entry ≡ None → AreOf n t (attributes_in s.entry) ls → Keeps None ls s.kept → IsLinked n t s
-    bare_linked ls at all keeps = record {
-      value = λ p l at' here. absurd (none_is (value_in s.entry) p at at');
-      left = λ p at' here. absurd (none_is (value_in s.entry) p at at');
-      attributes = kept_of None (attributes_in s.entry) ls s.kept all keeps;
-    }
+  -- what is kept of a value
+  pub one_value : (p : Pattern) (l : Linked) → IsOf n t p l → IsValueKept n t (Some p) (Some l)
+  one_value p l h = record {
+    value = λ p' l' at here. subst (IsOf n t p') (some_is l l' here) (subst (λ p. IsOf n t p l) (some_is p p' at) h);
+    left = λ p' at here. absurd cc;
+  }
 
-    -- one that has no patterns at all
-    pub plain_linked : value_in s.entry ≡ None → attributes_in s.entry ≡ [] → s.kept ≡ None → IsLinked n t s
-    plain_linked at none here = bare_linked [] at (subst (λ ps. AreOf n t ps []) (sym none) tt) (subst (Keeps None []) (sym here) (refl, refl))
+  pub text_value : (p : Pattern) → is_text p ≡ true → IsValueKept n t (Some p) None
+  text_value p is = record {
+    value = λ p' l at here. absurd cc;
+    left = λ p' at here. subst RefersToNothing (some_is p p' at) (refers_to_nothing p is);
+  }
+
+  pub no_value : (l : Option Linked) → IsValueKept n t None l
+  no_value l = record { value = λ p l' at here. absurd cc; left = λ p at here. absurd cc }
+
+  bare_value : (v : Option Pattern) (l : Option Linked) → IsValueKept n t v l → is_value_bare l ≡ true → (p : Pattern) → v ≡ Some p → RefersToNothing p
+  bare_value v None h bare p at = h.left p at refl
+  bare_value v (Some l) h bare p at = bare_is p l (h.value p l at refl) bare
+
+  bare_at : (ls : List Linked) → list_all is_bare ls ≡ true → (k : ℕ) (l : Linked) → slice_get ls k ≡ Some l → is_bare l ≡ true
+  bare_at [] bare k l at = absurd cc
+  bare_at (x ∷ ls) bare zero l at = subst (λ l. is_bare l ≡ true) (some_is x l at) (and_parts (is_bare x) (list_all is_bare ls) bare).0
+  bare_at (x ∷ ls) bare (suc k) l at = bare_at ls (and_parts (is_bare x) (list_all is_bare ls) bare).1 k l at
+
+  bare_all : (ps : List Pattern) (ls : List Linked) → AreKept n t ps ls → list_all is_bare ls ≡ true → (k : ℕ) (p : Pattern) → slice_get ps k ≡ Some p → (o : Option Linked) → slice_get ls k ≡ o → RefersToNothing p
+  bare_all ps ls h bare k p at None here = h.left k p at here
+  bare_all ps ls h bare k p at (Some l) here = bare_is p l (h.each k p l at here) (bare_at ls bare k l here)
+
+  -- what is kept of both
+  pub both_kept : (v : Option Pattern) (ps : List Pattern) (l : Option Linked) (ls : List Linked) (k : Option (Box Kept)) → IsValueKept n t v l → AreKept n t ps ls → Keeps l ls k → IsKeptOf n t v ps k
+  both_kept v ps l ls None value all keeps = record {
+    value = λ p l' at here. absurd cc;
+    left = λ p at here. bare_value v l value keeps.0 p at;
+    attributes = record { each = λ i p l' at here. absurd (none_at i l' here); left = λ i p at here. bare_all ps ls all keeps.1 i p at (slice_get ls i) refl };
+  }
+  both_kept v ps l ls (Some k) value all keeps = record {
+    value = λ p l' at here. value.value p l' at (sym keeps.0 ∙ here);
+    left = λ p at here. value.left p at (sym keeps.0 ∙ here);
+    attributes = subst (AreKept n t ps) (sym keeps.1) all;
+  }
+
+  -- nothing is kept of an entry that has no patterns
+  pub plain_linked : {F : Type 0} (s : Slot F) → value_in s.entry ≡ None → attributes_in s.entry ≡ [] → s.kept ≡ None → IsLinked n t s
+  plain_linked s at none here =
+      subst (λ v. IsKeptOf n t v (attributes_in s.entry) s.kept) (sym at)
+      (subst (λ ps. IsKeptOf n t None ps s.kept) (sym none)
+      (both_kept None [] None [] s.kept (no_value None) (all_kept [] [] tt) (subst (Keeps None []) (sym here) (refl, refl))))
 
 module _ {F : Type 0} where
   -- no slots

@@ -1,16 +1,19 @@
--- Entries that wait with their numbers, and what adding can take back.
-use Rattle.std.specs.Prelude.{◌≡◌, ℕ, nat_eq, Bool, false, List, [], ◌∷◌, Option, None, Some, if◌then◌else◌}
+-- Entries that wait to be put into their slots.
+use Rattle.std.specs.Prelude.{◌≡◌, ◌++◌, ℕ, nat_eq, Bool, false, List, [], ◌∷◌, map, slice_get, Option, Some, None, is_some}
+use Rattle.std.specs.Global.{Box}
+use Rattle.std.specs.List.{list_any}
+use Rattle.std.specs.Option.{option_to_list, unwrap_or}
 use Rattle.fluent_tree.specs.Tree.{Text, Pattern, message_entry, term_entry, junk_entry}
 use Rattle.fluent_tree.specs.Tree as t
-use Rattle.fluent_meaning.specs.Arguments.{get}
-use Rattle.fluent_meaning.specs.Bundle.{Function, a_message, a_term}
+use Rattle.fluent_tree.specs.View.{entry_view, pattern_view, value_view}
+use Rattle.fluent_tree.specs.declared.ast.Entry.{Entry}
+use Rattle.fluent_tree.specs.declared.ast.Entry.TheVariants as entries
+use Rattle.fluent_meaning.specs.Bundle.{a_message, a_term}
 use Rattle.fluent_meaning.specs.Bundle as m
-use Rattle.fluent_values.specs.declared.ids.Ids.{Ids}
+use Rattle.fluent_meaning.specs.Errors.{Kind, message_kind, term_kind}
 use Rattle.fluent_values.specs.declared.ready.Ready.{Ready}
-use Rattle.fluent_values.specs.EntryView.{ids, entry_of}
-use Rattle.fluent_values.specs.Linking.{IsLinked}
-use Rattle.fluent_values.specs.Named.{own_id}
-use Rattle.fluent_values.specs.Numbered.{numbers}
+use Rattle.fluent_values.specs.declared.slot.Kept.{Kept}
+use Rattle.fluent_values.specs.Linking.{IsKeptOf, patterns}
 
 -- the messages and terms among entries, each with its id
 abbrev pub given : {C : Type 0} → List t.Entry → List (Text × m.Entry C)
@@ -19,33 +22,53 @@ given (message_entry id v as' ∷ es) = (id, a_message v as') ∷ given es
 given (term_entry id p as' ∷ es) = (id, a_term p as') ∷ given es
 given (junk_entry source ∷ es) = given es
 
--- an entry that waits, with its id
-abbrev pub waiting : {F : Type 0} → (F → Function Text) → Ready F → Text × m.Entry Text
-waiting answer r = (own_id r.slot.entry, entry_of answer r.slot.entry)
+-- the entry at a place, if there is one
+abbrev pub at_place : List Entry → ℕ → List t.Entry
+at_place es place = map entry_view (option_to_list (slice_get es place))
 
--- entries that wait have the numbers of their ids, and what is kept of their patterns
-abbrev pub AreReady : {F : Type 0} → (Text → Option ℕ) → List Pattern → List (Ready F) → Type 0
-AreReady number table [] = Unit {0}
-AreReady number table (r ∷ rs) = (number (own_id r.slot.entry) ≡ Some r.number) × IsLinked number table r.slot × AreReady number table rs
+-- with its id, if it is a message or a term
+abbrev pub given_at : {C : Type 0} → List Entry → ℕ → List (Text × m.Entry C)
+given_at es place = given (at_place es place)
 
--- ---- what can be taken back
+-- the entries that wait, each with its id
+abbrev pub given_by : {C : Type 0} → List Entry → List Ready → List (Text × m.Entry C)
+given_by es [] = []
+given_by es (r ∷ rs) = given_at es r.place ++ given_by es rs
 
--- whether this is the number
-abbrev pub is_number : Option ℕ → ℕ → Bool
-is_number None n = false
-is_number (Some m) n = nat_eq m n
+-- an entry is a message or a term of this id, this value and attributes with these patterns
+abbrev pub HasParts : Entry → Kind → Text → Option Pattern → List Pattern → Type 0
+HasParts (entries.Message x) kind id v ps = (kind ≡ message_kind) × (x.id.name.now ≡ id) × (value_view x.value ≡ v) × (patterns x.attributes.items ≡ ps)
+HasParts (entries.Term x) kind id v ps = (kind ≡ term_kind) × (x.id.name.now ≡ id) × (Some (pattern_view x.value) ≡ v) × (patterns x.attributes.items ≡ ps)
+HasParts (entries.Junk source) kind id v ps = ⊥
 
--- what an id of a number names, without what ids of these numbers name
-abbrev pub without : {A : Type 0} → List ℕ → Option ℕ → Option A → Option A
-without [] number named = named
-without (n ∷ ns) number named = if is_number number n then None else without ns number named
+abbrev pub IsJunk : Entry → Type 0
+IsJunk (entries.Message x) = ⊥
+IsJunk (entries.Term x) = ⊥
+IsJunk (entries.Junk source) = Unit {0}
 
--- each of these is the number of an id
-abbrev pub AreNumbered : (Text → Option ℕ) → List ℕ → Type 0
-AreNumbered number [] = Unit {0}
-AreNumbered number (n ∷ ns) = ((id : Text) × (number id ≡ Some n)) × AreNumbered number ns
+-- this is the number of an entry's id, and this is kept of its patterns
+abbrev pub IsReady : (Text → Option ℕ) → List Pattern → ℕ → Option (Box Kept) → Entry → Type 0
+IsReady number table n kept (entries.Message x) = (number x.id.name.now ≡ Some n) × IsKeptOf number table (value_view x.value) (patterns x.attributes.items) kept
+IsReady number table n kept (entries.Term x) = (number x.id.name.now ≡ Some n) × IsKeptOf number table (Some (pattern_view x.value)) (patterns x.attributes.items) kept
+IsReady number table n kept (entries.Junk source) = ⊥
 
--- without what the ids of these numbers name, ids name what they first named
-pub record IsWithout {F : Type 0} (first : Ids F) (filled : List ℕ) (now : Ids F) : Type 0 where
-  pub numbered : AreNumbered (numbers now) filled
-  pub names : (answer : F → Function Text) (q : Text) → get q (ids answer first) ≡ without filled (numbers now q) (get q (ids answer now))
+-- one that waits has the number of its id, and what is kept of its patterns if anything is
+abbrev pub Waits : (Text → Option ℕ) → List Pattern → List Entry → Ready → Option (Box Kept) → Type 0
+Waits number table es r kept = (r.is_linked ≡ is_some kept) × (e : Entry) × (slice_get es r.place ≡ Some e) × IsReady number table r.number kept e
+
+-- the same of each that waits; what is kept of them stands in their order
+abbrev pub AreReady : (Text → Option ℕ) → List Pattern → List Entry → List Ready → List (Box Kept) → Type 0
+AreReady number table es [] ks = ks ≡ []
+AreReady number table es (r ∷ rs) ks = (kept : Option (Box Kept)) × (rest : List (Box Kept)) × (ks ≡ option_to_list kept ++ rest) × Waits number table es r kept × AreReady number table es rs rest
+
+-- ---- which numbers are those of entries that wait
+
+abbrev pub has_number : List Ready → ℕ → Bool
+has_number rs n = list_any (λ r. nat_eq r.number n) rs
+
+abbrev pub is_marked : List Bool → ℕ → Bool
+is_marked marks n = unwrap_or (slice_get marks n) false
+
+-- they are marked, and no others
+abbrev pub AreMarked : List Bool → List Ready → Type 0
+AreMarked marks rs = (n : ℕ) → is_marked marks n ≡ has_number rs n

@@ -71,11 +71,20 @@ pub record AreKept (number : Text → Option ℕ) (table ps : List Pattern) (ls 
   pub each : (k : ℕ) (p : Pattern) (l : Linked) → slice_get ps k ≡ Some p → slice_get ls k ≡ Some l → IsOf number table p l
   pub left : (k : ℕ) (p : Pattern) → slice_get ps k ≡ Some p → slice_get ls k ≡ None → RefersToNothing p
 
+-- what is kept of a value is its own; of one that refers to anything something is kept
+pub record IsValueKept (number : Text → Option ℕ) (table : List Pattern) (v : Option Pattern) (kept : Option Linked) : Type 0 where
+  pub value : (p : Pattern) (l : Linked) → v ≡ Some p → kept ≡ Some l → IsOf number table p l
+  pub left : (p : Pattern) → v ≡ Some p → kept ≡ None → RefersToNothing p
+
+-- the same of a value and of attributes
+pub record IsKeptOf (number : Text → Option ℕ) (table : List Pattern) (v : Option Pattern) (ps : List Pattern) (kept : Option (Box Kept)) : Type 0 where
+  pub value : (p : Pattern) (l : Linked) → v ≡ Some p → value_kept kept ≡ Some l → IsOf number table p l
+  pub left : (p : Pattern) → v ≡ Some p → value_kept kept ≡ None → RefersToNothing p
+  pub attributes : AreKept number table ps (attributes_kept kept)
+
 -- what is kept in a slot is that of its entry's patterns
-pub record IsLinked {F : Type 0} (number : Text → Option ℕ) (table : List Pattern) (s : Slot F) : Type 0 where
-  pub value : (p : Pattern) (l : Linked) → value_in s.entry ≡ Some p → value_kept s.kept ≡ Some l → IsOf number table p l
-  pub left : (p : Pattern) → value_in s.entry ≡ Some p → value_kept s.kept ≡ None → RefersToNothing p
-  pub attributes : AreKept number table (attributes_in s.entry) (attributes_kept s.kept)
+abbrev pub IsLinked : {F : Type 0} → (Text → Option ℕ) → List Pattern → Slot F → Type 0
+IsLinked number table s = IsKeptOf number table (value_in s.entry) (attributes_in s.entry) s.kept
 
 -- the same of each slot that is filled
 abbrev pub AreLinked : {F : Type 0} → List (Text × Option (Slot F)) → List Pattern → Type 0

@@ -89,13 +89,12 @@ impl<'r, 's, F> Ids<'r, 's, F> {
 }
 
 impl<'r, 's, F: Drop> Ids<'r, 's, F> {
-    ghost use Rattle.std.specs.Prelude.{◌≡◌, IfOk, IsTrue, None, Some, if◌then◌else◌};
+    ghost use Rattle.std.specs.Prelude.{◌≡◌, IfOk, IsTrue, Some};
     ghost use Rattle.std.specs.Cow.{cow_str_bytes};
-    ghost use Rattle.std.specs.Str.{bytes_eq};
     ghost use Rattle.fluent_tree.specs.Tree.{Text};
     ghost use Rattle.fluent_tree.specs.View.{pattern_view};
     ghost use Rattle.fluent_links.specs.Linked.{IsOf};
-    ghost use Rattle.fluent_meaning.specs.Arguments.{get, set};
+    ghost use Rattle.fluent_meaning.specs.Arguments.{set};
     ghost use Rattle.fluent_meaning.specs.Bundle.{Function};
     ghost use Rattle.fluent_values.specs.EntryView.{ids, entry_of};
     ghost use Rattle.fluent_values.specs.Linking.{IsLinked};
@@ -149,17 +148,5 @@ impl<'r, 's, F: Drop> Ids<'r, 's, F> {
             ≡ set id (entry_of answer slot.entry.entry) (ids answer self.old) }
     {
         self.known.fill(number, Some(slot));
-    }
-
-    /// Takes away what the id with this number names.
-    pub(crate) fn take_back(&mut self, number: u32)
-        requires { (id : Text) × (numbers self.old id ≡ Some number) }
-        ensures numbers { (id : Text) → numbers self.new id ≡ numbers self.old id }
-        ensures table { table self.new ≡ table self.old }
-        ensures after { (id : Text) → numbers self.old id ≡ Some number → (q : Text) →
-            (answer : F → Function Text) → get q (ids answer self.new)
-            ≡ (if bytes_eq id q then None else get q (ids answer self.old)) }
-    {
-        self.known.fill(number, None);
     }
 }

@@ -1,36 +1,29 @@
-use Rattle.std.proofs.Common.{sym, subst, ap, ◌∙◌, rules}
-use Rattle.fluent_values.specs.Named.{own_id}
+use Rattle.std.proofs.Common.{◌≡◌, ◌∙◌, ◌++◌, ◌∷◌, [], ap, sym, subst, refl, is_some}
+use Rattle.std.specs.Option.{option_map}
+use Rattle.fluent_tree.specs.View.{pattern_view}
+use Rattle.fluent_values.specs.Adding.{AreReady, Waits, given_by}
+use Rattle.fluent_values.specs.Linking.{patterns}
 use Rattle.fluent_values.specs.Numbered.{numbers, table}
-use Rattle.fluent_values.specs.Adding.{AreReady}
-use Rattle.fluent_values.proofs.Linking.{grows_twice, keeps_twice, lent_value}
-use Rattle.fluent_values.proofs.Waiting.{ready_more}
+use Rattle.fluent_values.specs.View.{kind_view}
+use Rattle.fluent_values.specs.declared.ready.Ready.{Ready}
+use Rattle.fluent_values.proofs.Waiting.{given_more, is_ready, ready_more, ready_still}
 use Rattle.fluent_values.proofs.adding.make_ready.Goals as goal
 
-pub linked_slot-requires : goal.linked_slot-requires
-linked_slot-requires g c = record { value = lent_value c.as_ref-value.result c.in-Message.message.value c.as_ref-value.ensures.value; attributes = search rules }
-
-pub returns-in_ok-push-in-Message-clause-ready : goal.returns-in_ok-push-in-Message-clause-ready
-returns-in_ok-push-in-Message-clause-ready g c = λ h.
+pub returns-clause-ready : goal.returns-clause-ready
+returns-clause-ready g c = λ es e h at parts.
     let first = c.args.known.now in
-    let mid = c.number_of.new.self in
-    let last = c.linked_slot.new.known in
-    subst (AreReady (numbers last) (table last)) (sym c.in_ok-push-in-Message.ensures.items)
-    (ready_more (numbers first) (numbers last) (table first) (table last)
-    (keeps_twice (numbers first) (numbers mid) (numbers last) c.in_ok-number-in-Message.ensures.grown.0 c.in_ok-slot-in-Message.ensures.grown.0)
-    (grows_twice (table first) (table mid) (table last) c.in_ok-number-in-Message.ensures.grown.1 c.in_ok-slot-in-Message.ensures.grown.1)
-    c.args.list.now.items _
-    (ap (λ e. numbers last (own_id e)) c.in_ok-slot-in-Message.ensures.entry ∙ c.in_ok-slot-in-Message.ensures.grown.0 _ _ c.in_ok-number-in-Message.ensures.number)
-    c.in_ok-slot-in-Message.ensures.linked h)
+    let last = c.kept_of.new.known in
+    let n = numbers last in
+    let t = table last in
+    let step = c.in_ok-kept.ensures.grown in
+    let o = c.in_ok-kept.kept in
+    let rs = c.args.waiting.now.list.items in
+    let ks = c.args.waiting.now.kept.items in
+    let r : Ready = record { place = c.args.place; number = c.args.number; is_linked = is_some o } in
+    let waits : Waits n t es r o = (refl, e, at, is_ready n t c.args.number o e (kind_view c.args.parts.kind) c.args.parts.id.now (option_map (λ v. pattern_view v.now) c.args.parts.value) (patterns c.args.parts.attributes.now) parts (step.0 c.args.parts.id.now c.args.number c.requires) c.in_ok-kept.ensures.linked) in
+    subst (λ rs. AreReady n t es rs c.push.new.self.kept.items) (sym c.in_ok-push.ensures.list)
+    (subst (AreReady n t es (rs ++ r ∷ [])) (sym c.in_ok-push.ensures.kept)
+    (ready_more n t es r o waits rs ks (ready_still (numbers first) n (table first) t step.0 step.1 es rs ks h)))
 
-pub returns-in_ok-push-in-Term-clause-ready : goal.returns-in_ok-push-in-Term-clause-ready
-returns-in_ok-push-in-Term-clause-ready g c = λ h.
-    let first = c.args.known.now in
-    let mid = c.number_of-in-Term.new.self in
-    let last = c.linked_slot-in-Term.new.known in
-    subst (AreReady (numbers last) (table last)) (sym c.in_ok-push-in-Term.ensures.items)
-    (ready_more (numbers first) (numbers last) (table first) (table last)
-    (keeps_twice (numbers first) (numbers mid) (numbers last) c.in_ok-number-in-Term.ensures.grown.0 c.in_ok-slot-in-Term.ensures.grown.0)
-    (grows_twice (table first) (table mid) (table last) c.in_ok-number-in-Term.ensures.grown.1 c.in_ok-slot-in-Term.ensures.grown.1)
-    c.args.list.now.items _
-    (ap (λ e. numbers last (own_id e)) c.in_ok-slot-in-Term.ensures.entry ∙ c.in_ok-slot-in-Term.ensures.grown.0 _ _ c.in_ok-number-in-Term.ensures.number)
-    c.in_ok-slot-in-Term.ensures.linked h)
+pub returns-clause-more : goal.returns-clause-more
+returns-clause-more g c = λ es. ap (given_by es) c.in_ok-push.ensures.list ∙ given_more es c.args.waiting.now.list.items _

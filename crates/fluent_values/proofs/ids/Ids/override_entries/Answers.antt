@@ -8,7 +8,7 @@ use Rattle.fluent_values.proofs.ids.Ids.override_entries.Goals as goal
 
 pub returns-clause-after : goal.returns-clause-after
 returns-clause-after g c = λ answer.
-    c.override_all.ensures answer
-    ∙ ap (λ es. set_all es (ids answer c.all_ready.new.known)) (c.in_ok-list.ensures.given answer)
-    ∙ ap (set_all (given (map entry_view c.args.entries.now))) (c.in_ok-list.ensures.same answer ∙ c.reserve.ensures answer)
-    ∙ overridden_given (map entry_view c.args.entries.now) (ids answer c.args.self.now)
+    c.put_all.ensures answer
+    ∙ (ap (λ ws. set_all ws (ids answer c.override_all.new.known)) c.in_ok-waiting.ensures.given
+    ∙ (ap (set_all (given (map entry_view c.args.entries.now))) (c.in_ok-waiting.ensures.same answer ∙ c.reserve.ensures answer)
+    ∙ overridden_given (map entry_view c.args.entries.now) (ids answer c.args.self.now)))
