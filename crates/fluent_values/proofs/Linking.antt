@@ -19,7 +19,7 @@ use Rattle.fluent_links.specs.Slots.{named, number}
 use Rattle.fluent_links.specs.declared.linked.Linked.{Linked}
 use Rattle.fluent_values.specs.declared.slot.Slot.{Slot}
 use Rattle.fluent_values.specs.declared.slot.Kept.{Kept}
-use Rattle.fluent_values.specs.Linking.{AreKept, AreLinked, AreOf, IsKeptOf, IsLinked, IsValueKept, Keeps, RefersToNothing, attributes_in, attributes_kept, is_bare, is_value_bare, patterns, value_in, value_kept}
+use Rattle.fluent_values.specs.Linking.{AreKept, AreLinked, AreOf, IsKeptOf, IsLinked, IsValueKept, Keeps, RefersToNothing, attributes_in, attributes_kept, is_bare, is_value_bare, patterns, value_in}
 use Rattle.fluent_values.specs.Texts.{is_text}
 
 some_is : {A : Type 0} (x y : A) → Some x ≡ Some y → x ≡ y

@@ -1,12 +1,11 @@
 -- Entries that wait with their numbers, and what putting them into their slots makes of the ids.
-use Rattle.std.specs.Prelude.{◌≡◌, ℕ, zero, suc, nat_eq, List, [], ◌∷◌, ◌++◌, map, refl, take, length, ◌<◌, ◌+◌, slice_get, Bool, true, false, ◌||◌, is_some, Option, Some, None, cond}
+use Rattle.std.specs.Prelude.{◌≡◌, ℕ, zero, suc, nat_eq, List, [], ◌∷◌, ◌++◌, map, refl, take, length, ◌+◌, slice_get, Bool, true, false, ◌||◌, is_some, Option, Some, None, cond}
 use Rattle.std.specs.Global.{Box}
-use Rattle.std.specs.List.{list_any}
 use Rattle.std.specs.Option.{option_to_list, unwrap_or}
 use Rattle.std.specs.Str.{bytes_eq}
 use Rattle.std.proofs.Common.{sym, ◌∙◌, ap, subst, arith, append_assoc, get_or, true≢false}
 use Rattle.std.proofs.lemmas.Bool.{eq-eqb, eqb-true}
-use Rattle.std.proofs.lemmas.List.{append-nil, take_all}
+use Rattle.std.proofs.lemmas.List.{append-nil}
 use Rattle.std.proofs.lemmas.Option.{slice_get_read, slice_get_within}
 use Rattle.std.proofs.lemmas.Slice.Eq.{bytes_eq-Decides}
 use Rattle.fluent_tree.specs.Tree.{Text, Pattern, Entry, message_entry, term_entry, junk_entry}
@@ -18,13 +17,13 @@ use Rattle.fluent_links.specs.Links.{KeepsNumbers}
 use Rattle.fluent_meaning.specs.Arguments.{Map, get, set, set_all}
 use Rattle.fluent_meaning.specs.Bundle.{added, overridden, not_added, a_message, a_term}
 use Rattle.fluent_meaning.specs.Bundle as m
-use Rattle.fluent_meaning.specs.Errors.{Error, Kind, message_kind, overriding, term_kind}
+use Rattle.fluent_meaning.specs.Errors.{Kind, message_kind, overriding, term_kind}
 use Rattle.fluent_values.specs.declared.ids.Ids.{Ids}
 use Rattle.fluent_values.specs.declared.ready.Ready.{Ready}
 use Rattle.fluent_values.specs.declared.slot.Kept.{Kept}
 use Rattle.fluent_values.specs.Linking.{IsKeptOf, patterns}
-use Rattle.fluent_values.specs.Numbered.{numbers, table}
-use Rattle.fluent_values.specs.Adding.{AreReady, HasParts, IsJunk, IsReady, Waits, at_place, given, given_at, has_number, given_by}
+use Rattle.fluent_values.specs.Numbered.{numbers}
+use Rattle.fluent_values.specs.Adding.{AreMarked, AreReady, HasParts, IsJunk, IsReady, Waits, at_place, given, given_at, given_by, has_number, is_marked}
 use Rattle.fluent_values.proofs.Linking.{still_kept_of}
 use Rattle.fluent_values.proofs.OneId.{got_set, one_id}
 
@@ -193,10 +192,20 @@ module _ {F : Type 0} (m' : Ids F) (id : Text) (n : ℕ) (at_id : numbers m' id 
     one_waits r o (entries.Junk c) there h ids = absurd h
 
     -- it is taken where it was, or where one that waits has its number
-    pub is_taken : (rs : List Ready) (ks : List (Box Kept)) → AreReady (numbers m') t es rs ks → (ids : Map (m.Entry Text)) → is_some (get id (set_all (given_by es rs) ids)) ≡ (has_number rs n || is_some (get id ids))
+    is_taken : (rs : List Ready) (ks : List (Box Kept)) → AreReady (numbers m') t es rs ks → (ids : Map (m.Entry Text)) → is_some (get id (set_all (given_by es rs) ids)) ≡ (has_number rs n || is_some (get id ids))
     is_taken [] ks h ids = refl
     is_taken (r ∷ rs) ks h ids =
         ap (λ x. is_some (get id x)) (set_more (given_at es r.place) (given_by es rs) ids)
         ∙ (is_taken rs h.1 h.4 (set_all (given_at es r.place) ids)
         ∙ (ap (λ b. has_number rs n || b) (one_waits r h.0 h.3.1 h.3.2 h.3.3 ids)
         ∙ moved (has_number rs n) (nat_eq r.number n) (is_some (get id ids))))
+
+    -- so its mark and what it names tell whether it is
+    pub is_taken_by : (marks marks' : List Bool) (rs : List Ready) (ks : List (Box Kept)) → AreReady (numbers m') t es rs ks → AreMarked marks rs → marks' ≡ marks → (first now : Map (m.Entry Text)) → now ≡ first
+        → (r b : Bool) → r ≡ (is_marked marks' n || is_some (get id now)) → r ≡ b → is_some (get id (set_all (given_by es rs) first)) ≡ b
+    is_taken_by marks marks' rs ks h marked lent first now same r b test is =
+        is_taken rs ks h first
+        ∙ (ap (λ x. x || is_some (get id first)) (sym (marked n))
+        ∙ (ap (λ x. is_marked marks n || is_some (get id x)) (sym same)
+        ∙ (ap (λ ms. is_marked ms n || is_some (get id now)) (sym lent)
+        ∙ (sym test ∙ is))))

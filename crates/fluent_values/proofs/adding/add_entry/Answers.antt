@@ -1,15 +1,14 @@
-use Rattle.std.proofs.Common.{◌≡◌, ◌∙◌, ◌++◌, ◌∷◌, [], ◌||◌, ap, sym, refl, map, is_some, Bool, true, false}
+use Rattle.std.proofs.Common.{◌≡◌, ◌∙◌, ◌++◌, ◌∷◌, [], ap, sym, refl, map, is_some, true, false}
 use Rattle.std.proofs.lemmas.List.{append-nil, map-append}
 use Rattle.std.proofs.lemmas.Option.{slice_get_read}
 use Rattle.std.proofs.lemmas.Result.{on_ok_weaker}
-use Rattle.fluent_tree.specs.Tree.{Text}
 use Rattle.fluent_meaning.specs.Arguments.{get, set_all}
 use Rattle.fluent_meaning.specs.Bundle.{added, not_added}
-use Rattle.fluent_values.specs.Adding.{at_place, given, given_at, given_by, is_marked}
+use Rattle.fluent_values.specs.Adding.{given, given_at, given_by}
 use Rattle.fluent_values.specs.EntryView.{ids}
 use Rattle.fluent_values.specs.Numbered.{numbers, table}
 use Rattle.fluent_values.specs.View.{error_view}
-use Rattle.fluent_values.proofs.Waiting.{added_free, added_junk, added_taken, is_taken, one_at, ready_still, set_more, told_free, told_junk, told_taken}
+use Rattle.fluent_values.proofs.Waiting.{added_free, added_taken, is_taken_by, one_at, ready_still, set_more, told_free, told_junk, told_taken}
 use Rattle.fluent_values.proofs.adding.add_entry.Goals as goal
 
 pub returns-in_default-clause-told : goal.returns-in_default-clause-told
@@ -43,12 +42,7 @@ returns-then-is_taken-clause-after g c = λ answer.
     let before = set_all (given_by es rs) now in
     let there = slice_get_read es _ c.args.place e refl c.requires.within c.index-entries-place.is in
     let ready = ready_still (numbers first) (numbers mid) (table first) (table mid) step.0 step.1 es rs ks c.requires.ready in
-    let taken : is_some (get id before) ≡ true =
-    is_taken mid id n c.in_ok-number.ensures.number (table mid) es rs ks ready now
-    ∙ (ap (λ b. b || is_some (get id now)) (sym (c.requires.marked n))
-    ∙ (ap (λ x. is_marked c.args.marks.now.items n || is_some (get id x)) (sym (c.in_ok-number.ensures.same answer))
-    ∙ (ap (λ ms. is_marked ms n || is_some (get id (ids answer mid))) (sym c.deref.ensures.value)
-    ∙ (sym (c.is_taken.ensures id c.in_ok-number.ensures.number answer) ∙ c.if-is_taken.true)))) in
+    let taken : is_some (get id before) ≡ true = is_taken_by mid id n c.in_ok-number.ensures.number (table mid) es c.args.marks.now.items c.deref.result.now rs ks ready c.requires.marked c.deref.ensures.value now (ids answer mid) (c.in_ok-number.ensures.same answer) c.is_taken.result true (c.is_taken.ensures id c.in_ok-number.ensures.number answer) c.if-is_taken.true in
     sym (ap (λ p. added p before) (one_at es c.args.place e there) ∙ added_taken e _ id _ _ c.in-Some.ensures.some before taken)
 
 pub returns-then-is_taken-clause-told : goal.returns-then-is_taken-clause-told
@@ -67,12 +61,7 @@ returns-then-is_taken-clause-told g c = λ answer.
     let so = map error_view c.args.errors.now.items in
     let there = slice_get_read es _ c.args.place e refl c.requires.within c.index-entries-place.is in
     let ready = ready_still (numbers first) (numbers mid) (table first) (table mid) step.0 step.1 es rs ks c.requires.ready in
-    let taken : is_some (get id before) ≡ true =
-    is_taken mid id n c.in_ok-number.ensures.number (table mid) es rs ks ready now
-    ∙ (ap (λ b. b || is_some (get id now)) (sym (c.requires.marked n))
-    ∙ (ap (λ x. is_marked c.args.marks.now.items n || is_some (get id x)) (sym (c.in_ok-number.ensures.same answer))
-    ∙ (ap (λ ms. is_marked ms n || is_some (get id (ids answer mid))) (sym c.deref.ensures.value)
-    ∙ (sym (c.is_taken.ensures id c.in_ok-number.ensures.number answer) ∙ c.if-is_taken.true)))) in
+    let taken : is_some (get id before) ≡ true = is_taken_by mid id n c.in_ok-number.ensures.number (table mid) es c.args.marks.now.items c.deref.result.now rs ks ready c.requires.marked c.deref.ensures.value now (ids answer mid) (c.in_ok-number.ensures.same answer) c.is_taken.result true (c.is_taken.ensures id c.in_ok-number.ensures.number answer) c.if-is_taken.true in
     ap (map error_view) c.in_ok-push.ensures.items
     ∙ (map-append error_view c.args.errors.now.items _
     ∙ (ap (λ x. so ++ x ∷ []) c.in_ok-left.ensures
@@ -107,12 +96,7 @@ returns-clause-after g c =
     (λ more answer.
     let now = ids answer first in
     let before = set_all (given_by es rs) now in
-    let free : is_some (get id before) ≡ false =
-    is_taken mid id n c.in_ok-number.ensures.number (table mid) es rs ks ready now
-    ∙ (ap (λ b. b || is_some (get id now)) (sym (c.requires.marked n))
-    ∙ (ap (λ x. is_marked c.args.marks.now.items n || is_some (get id x)) (sym (c.in_ok-number.ensures.same answer))
-    ∙ (ap (λ ms. is_marked ms n || is_some (get id (ids answer mid))) (sym c.deref.ensures.value)
-    ∙ (sym (c.is_taken.ensures id c.in_ok-number.ensures.number answer) ∙ c.if-is_taken.false)))) in
+    let free : is_some (get id before) ≡ false = is_taken_by mid id n c.in_ok-number.ensures.number (table mid) es c.args.marks.now.items c.deref.result.now rs ks ready c.requires.marked c.deref.ensures.value now (ids answer mid) (c.in_ok-number.ensures.same answer) c.is_taken.result false (c.is_taken.ensures id c.in_ok-number.ensures.number answer) c.if-is_taken.false in
     ap (λ ws. set_all ws now) (more es)
     ∙ (set_more (given_by es rs) (given_at es c.args.place) now
     ∙ (ap (λ p. set_all (given p) before) (one_at es c.args.place e there)
@@ -138,11 +122,6 @@ returns-clause-told g c =
     (λ more answer.
     let now = ids answer first in
     let before = set_all (given_by es rs) now in
-    let free : is_some (get id before) ≡ false =
-    is_taken mid id n c.in_ok-number.ensures.number (table mid) es rs ks ready now
-    ∙ (ap (λ b. b || is_some (get id now)) (sym (c.requires.marked n))
-    ∙ (ap (λ x. is_marked c.args.marks.now.items n || is_some (get id x)) (sym (c.in_ok-number.ensures.same answer))
-    ∙ (ap (λ ms. is_marked ms n || is_some (get id (ids answer mid))) (sym c.deref.ensures.value)
-    ∙ (sym (c.is_taken.ensures id c.in_ok-number.ensures.number answer) ∙ c.if-is_taken.false)))) in
+    let free : is_some (get id before) ≡ false = is_taken_by mid id n c.in_ok-number.ensures.number (table mid) es c.args.marks.now.items c.deref.result.now rs ks ready c.requires.marked c.deref.ensures.value now (ids answer mid) (c.in_ok-number.ensures.same answer) c.is_taken.result false (c.is_taken.ensures id c.in_ok-number.ensures.number answer) c.if-is_taken.false in
     sym (ap (λ l. so ++ l) (ap (λ p. not_added p before) (one_at es c.args.place e there) ∙ told_free e _ id _ _ c.in-Some.ensures.some before free) ∙ append-nil so))
     c.make_ready.ensures.more

@@ -1,4 +1,4 @@
-use Rattle.std.proofs.Common.{◌∙◌, sym, subst, rules}
+use Rattle.std.proofs.Common.{◌∙◌, sym, subst}
 use Rattle.std.proofs.lemmas.List.{take_all}
 use Rattle.fluent_values.specs.Linking.{AreKept, AreOf, patterns}
 use Rattle.fluent_values.specs.Numbered.{numbers, table}

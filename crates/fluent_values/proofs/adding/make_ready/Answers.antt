@@ -1,4 +1,4 @@
-use Rattle.std.proofs.Common.{◌≡◌, ◌∙◌, ◌++◌, ◌∷◌, [], ap, sym, subst, refl, is_some}
+use Rattle.std.proofs.Common.{◌∙◌, ◌++◌, ◌∷◌, [], ap, sym, subst, refl, is_some}
 use Rattle.std.specs.Option.{option_map}
 use Rattle.fluent_tree.specs.View.{pattern_view}
 use Rattle.fluent_values.specs.Adding.{AreReady, Waits, given_by}
