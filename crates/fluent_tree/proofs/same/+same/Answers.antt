@@ -25,10 +25,10 @@ pub same_elements-returns-then-a-b : goal.same_elements-returns-then-a-b
 same_elements-returns-then-a-b t c = unlike_length element_view _ _ c.if-a-b.true
 
 pub same_elements-returns-then-not-same_element : goal.same_elements-returns-then-not-same_element
-same_elements-returns-then-not-same_element t c = unlike_at element_view _ _ _ _ _ c.elements-test.true c.if-a-b.false c.index-a-i.is c.index-b-i.is c.if-not-same_element.ensures
+same_elements-returns-then-not-same_element t c = search (rules, unlike_at)
 
 pub same_elements-elements-preserved : goal.same_elements-elements-preserved
-same_elements-elements-preserved t c = alike_more element_view _ _ _ _ _ c.elements-test.true c.if-a-b.false c.index-a-i.is c.index-b-i.is c.elements.invariant c.if-not-same_element.ensures
+same_elements-elements-preserved t c = search (rules, alike_more)
 
 pub same_elements-returns : goal.same_elements-returns
 same_elements-returns t c = alike_all element_view _ _ _ c.elements-test.false c.if-a-b.false c.elements.invariant
@@ -37,10 +37,10 @@ pub same_variants-returns-then-a-b : goal.same_variants-returns-then-a-b
 same_variants-returns-then-a-b t c = unlike_length variant_view _ _ c.if-a-b.true
 
 pub same_variants-returns-then-not-same_variant : goal.same_variants-returns-then-not-same_variant
-same_variants-returns-then-not-same_variant t c = unlike_at variant_view _ _ _ _ _ c.variants-test.true c.if-a-b.false c.index-a-i.is c.index-b-i.is c.if-not-same_variant.ensures
+same_variants-returns-then-not-same_variant t c = search (rules, unlike_at)
 
 pub same_variants-variants-preserved : goal.same_variants-variants-preserved
-same_variants-variants-preserved t c = alike_more variant_view _ _ _ _ _ c.variants-test.true c.if-a-b.false c.index-a-i.is c.index-b-i.is c.variants.invariant c.if-not-same_variant.ensures
+same_variants-variants-preserved t c = search (rules, alike_more)
 
 pub same_variants-returns : goal.same_variants-returns
 same_variants-returns t c = alike_all variant_view _ _ _ c.variants-test.false c.if-a-b.false c.variants.invariant
@@ -49,10 +49,10 @@ pub same_inlines-returns-then-a-b : goal.same_inlines-returns-then-a-b
 same_inlines-returns-then-a-b t c = unlike_length inline_view _ _ c.if-a-b.true
 
 pub same_inlines-returns-then-not-same_inline : goal.same_inlines-returns-then-not-same_inline
-same_inlines-returns-then-not-same_inline t c = unlike_at inline_view _ _ _ _ _ c.inlines-test.true c.if-a-b.false c.index-a-i.is c.index-b-i.is c.if-not-same_inline.ensures
+same_inlines-returns-then-not-same_inline t c = search (rules, unlike_at)
 
 pub same_inlines-inlines-preserved : goal.same_inlines-inlines-preserved
-same_inlines-inlines-preserved t c = alike_more inline_view _ _ _ _ _ c.inlines-test.true c.if-a-b.false c.index-a-i.is c.index-b-i.is c.inlines.invariant c.if-not-same_inline.ensures
+same_inlines-inlines-preserved t c = search (rules, alike_more)
 
 pub same_inlines-returns : goal.same_inlines-returns
 same_inlines-returns t c = alike_all inline_view _ _ _ c.inlines-test.false c.if-a-b.false c.inlines.invariant
@@ -61,25 +61,13 @@ pub same_nameds-returns-then-a-b : goal.same_nameds-returns-then-a-b
 same_nameds-returns-then-a-b t c = unlike_length named_view _ _ c.if-a-b.true
 
 pub same_nameds-returns-then-not-same_named : goal.same_nameds-returns-then-not-same_named
-same_nameds-returns-then-not-same_named t c = unlike_at named_view _ _ _ _ _ c.nameds-test.true c.if-a-b.false c.index-a-i.is c.index-b-i.is c.if-not-same_named.ensures
+same_nameds-returns-then-not-same_named t c = search (rules, unlike_at)
 
 pub same_nameds-nameds-preserved : goal.same_nameds-nameds-preserved
-same_nameds-nameds-preserved t c = alike_more named_view _ _ _ _ _ c.nameds-test.true c.if-a-b.false c.index-a-i.is c.index-b-i.is c.nameds.invariant c.if-not-same_named.ensures
+same_nameds-nameds-preserved t c = search (rules, alike_more)
 
 pub same_nameds-returns : goal.same_nameds-returns
 same_nameds-returns t c = alike_all named_view _ _ _ c.nameds-test.false c.if-a-b.false c.nameds.invariant
-
-pub same_call-returns-in-None-None : goal.same_call-returns-in-None-None
-same_call-returns-in-None-None t c = search (rules, the_lemmas)
-
-pub same_call-returns-in-Some-Some : goal.same_call-returns-in-Some-Some
-same_call-returns-in-Some-Some t c = search (rules, the_lemmas)
-
-pub same_call-returns-in_default : goal.same_call-returns-in_default
-same_call-returns-in_default t c = search (rules, the_lemmas)
-
-pub same_call-returns-in_default-2 : goal.same_call-returns-in_default-2
-same_call-returns-in_default-2 t c = search (rules, the_lemmas)
 
 pub same_element-returns-in-TextElement-TextElement : goal.same_element-returns-in-TextElement-TextElement
 same_element-returns-in-TextElement-TextElement t c = search (rules, the_lemmas)

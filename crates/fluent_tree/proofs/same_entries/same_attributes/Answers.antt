@@ -1,3 +1,4 @@
+use Rattle.std.proofs.Common.{rules}
 use Rattle.fluent_tree.specs.View.{attribute_view}
 use Rattle.fluent_tree.proofs.Alike.{alike_more, alike_all, unlike_at, unlike_length}
 use Rattle.fluent_tree.proofs.same_entries.same_attributes.Goals as goal
@@ -6,10 +7,10 @@ pub returns-then-a-b : goal.returns-then-a-b
 returns-then-a-b c = unlike_length attribute_view _ _ c.if-a-b.true
 
 pub returns-then-not-same_attribute : goal.returns-then-not-same_attribute
-returns-then-not-same_attribute c = unlike_at attribute_view _ _ _ _ _ c.attributes-test.true c.if-a-b.false c.index-a-i.is c.index-b-i.is c.if-not-same_attribute.ensures
+returns-then-not-same_attribute c = search (rules, unlike_at)
 
 pub attributes-preserved : goal.attributes-preserved
-attributes-preserved c = alike_more attribute_view _ _ _ _ _ c.attributes-test.true c.if-a-b.false c.index-a-i.is c.index-b-i.is c.attributes.invariant c.if-not-same_attribute.ensures
+attributes-preserved c = search (rules, alike_more)
 
 pub returns : goal.returns
 returns c = alike_all attribute_view _ _ _ c.attributes-test.false c.if-a-b.false c.attributes.invariant
