@@ -12,7 +12,6 @@ use std::hash::{Hash, Hasher};
 
 /// Hashes a pattern by its content.
 #[cycle(hashing)]
-#[tactic(auto, using(crate::proofs::Fed::fed))]
 pub fn hash_pattern<H: Hasher>(pattern: &Pattern<'_>, state: &mut H)
     ensures { state.new ≡ fold H.write state.old (hashed (pattern_view pattern.now)) }
 {
@@ -23,7 +22,6 @@ pub fn hash_pattern<H: Hasher>(pattern: &Pattern<'_>, state: &mut H)
 }
 
 #[cycle(hashing)]
-#[tactic(auto, using(crate::proofs::Fed::fed))]
 fn hash_element<H: Hasher>(element: &PatternElement<'_>, state: &mut H)
     ensures { state.new ≡ fold H.write state.old (hashed_element (element_view element.now)) }
 {
@@ -34,7 +32,6 @@ fn hash_element<H: Hasher>(element: &PatternElement<'_>, state: &mut H)
 }
 
 #[cycle(hashing)]
-#[tactic(auto, using(crate::proofs::Fed::fed))]
 fn hash_expression<H: Hasher>(expression: &Expression<'_>, state: &mut H)
     ensures { state.new
         ≡ fold H.write state.old (hashed_expression (expression_view expression.now)) }
@@ -50,7 +47,6 @@ fn hash_expression<H: Hasher>(expression: &Expression<'_>, state: &mut H)
 }
 
 #[cycle(hashing)]
-#[tactic(auto, using(crate::proofs::Fed::fed))]
 fn hash_variants<H: Hasher>(variants: &[Variant<'_>], state: &mut H)
     ensures { state.new ≡ fold H.write state.old (hashed_variants (variants_view variants.now)) }
 {
@@ -73,7 +69,6 @@ fn hash_key<H: Hasher>(key: &VariantKey<'_>, state: &mut H)
 }
 
 #[cycle(hashing)]
-#[tactic(auto, using(crate::proofs::Fed::fed))]
 fn hash_inline<H: Hasher>(inline: &InlineExpression<'_>, state: &mut H)
     ensures { state.new ≡ fold H.write state.old (hashed_inline (inline_view inline.now)) }
 {
@@ -123,7 +118,6 @@ fn hash_attribute<H: Hasher>(attribute: &Option<Identifier<'_>>, state: &mut H)
 }
 
 #[cycle(hashing)]
-#[tactic(auto, using(crate::proofs::Fed::fed))]
 fn hash_call<H: Hasher>(arguments: &Option<Box<CallArguments<'_>>>, state: &mut H)
     ensures { state.new ≡ fold H.write state.old (hashed_call (call_view arguments.now)) }
 {
@@ -134,7 +128,6 @@ fn hash_call<H: Hasher>(arguments: &Option<Box<CallArguments<'_>>>, state: &mut 
 }
 
 #[cycle(hashing)]
-#[tactic(auto, using(crate::proofs::Fed::fed))]
 fn hash_arguments<H: Hasher>(arguments: &CallArguments<'_>, state: &mut H)
     ensures { state.new ≡ fold H.write state.old (hashed_arguments (arguments_view arguments.now)) }
 {
@@ -143,7 +136,6 @@ fn hash_arguments<H: Hasher>(arguments: &CallArguments<'_>, state: &mut H)
 }
 
 #[cycle(hashing)]
-#[tactic(auto, using(crate::proofs::Fed::fed))]
 fn hash_positional<H: Hasher>(positional: &[InlineExpression<'_>], state: &mut H)
     ensures { state.new
         ≡ fold H.write state.old (hashed_positional (inlines_view positional.now)) }
@@ -155,7 +147,6 @@ fn hash_positional<H: Hasher>(positional: &[InlineExpression<'_>], state: &mut H
 }
 
 #[cycle(hashing)]
-#[tactic(auto, using(crate::proofs::Fed::fed))]
 fn hash_named<H: Hasher>(named: &[NamedArgument<'_>], state: &mut H)
     ensures { state.new ≡ fold H.write state.old (hashed_named (nameds_view named.now)) }
 {

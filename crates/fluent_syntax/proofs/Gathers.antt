@@ -47,5 +47,3 @@ gathers-more g k j before s x after behind k1 e h lt = ap (λ r. and_then r (las
 pub gathers-done : (g : Level) (k : ℕ) (before : Gathered) (s : List ℕ) → k ≡ 0 → gathers g k before s ≡ last_argument g before s
 unfolding gathers
 gathers-done g k before s e = ap (λ r. and_then r (last_argument g)) (done add (argument_comma g) k before s e)
-
-pub ruleset gathered = (starts, gathers-none, gathers-last, gathers-empty, gathers-done)

@@ -35,7 +35,6 @@ pub fn references<'s>(
 }
 
 #[cycle(listing)]
-#[tactic(auto, using(crate::proofs::Listed::listed))]
 fn add_pattern<'s>(list: &mut Vec<Reference<'s>>, pattern: &Pattern<'s>) -> Result<(), AllocError>
     ensures { OnOk result (AddsReferences list.old list.new (references (pattern_view pattern.now))) }
 {
@@ -48,7 +47,6 @@ fn add_pattern<'s>(list: &mut Vec<Reference<'s>>, pattern: &Pattern<'s>) -> Resu
 }
 
 #[cycle(listing)]
-#[tactic(auto, using(crate::proofs::Listed::listed))]
 fn add_expression<'s>(
     list: &mut Vec<Reference<'s>>,
     expression: &Expression<'s>,
@@ -66,7 +64,6 @@ fn add_expression<'s>(
 }
 
 #[cycle(listing)]
-#[tactic(auto, using(crate::proofs::Listed::listed))]
 fn add_variants<'s>(
     list: &mut Vec<Reference<'s>>,
     variants: &[Variant<'s>],
@@ -80,7 +77,6 @@ fn add_variants<'s>(
 }
 
 #[cycle(listing)]
-#[tactic(auto, using(crate::proofs::Listed::listed))]
 fn add_inline<'s>(
     list: &mut Vec<Reference<'s>>,
     inline: &InlineExpression<'s>,
@@ -111,7 +107,6 @@ fn add_inline<'s>(
 }
 
 #[cycle(listing)]
-#[tactic(auto, using(crate::proofs::Listed::listed))]
 fn add_arguments<'s>(
     list: &mut Vec<Reference<'s>>,
     arguments: &CallArguments<'s>,
@@ -123,7 +118,6 @@ fn add_arguments<'s>(
 }
 
 #[cycle(listing)]
-#[tactic(auto, using(crate::proofs::Listed::listed))]
 fn add_positional<'s>(
     list: &mut Vec<Reference<'s>>,
     positional: &[InlineExpression<'s>],
@@ -137,7 +131,6 @@ fn add_positional<'s>(
 }
 
 #[cycle(listing)]
-#[tactic(auto, using(crate::proofs::Listed::listed))]
 fn add_named<'s>(
     list: &mut Vec<Reference<'s>>,
     named: &[NamedArgument<'s>],

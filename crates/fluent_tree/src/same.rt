@@ -16,7 +16,6 @@ pub(crate) fn same_pattern<'s>(a: &Pattern<'s>, b: &Pattern<'s>) -> bool
 }
 
 #[cycle(same)]
-#[tactic(auto, using(crate::proofs::Alike::alikes))]
 fn same_elements<'s>(a: &[PatternElement<'s>], b: &[PatternElement<'s>]) -> bool
     ensures { IsTrue result ↔ (map element_view a.now ≡ map element_view b.now) }
 {
@@ -67,7 +66,6 @@ pub(crate) fn same_expression<'s>(a: &Expression<'s>, b: &Expression<'s>) -> boo
 }
 
 #[cycle(same)]
-#[tactic(auto, using(crate::proofs::Alike::alikes))]
 fn same_variants<'s>(a: &[Variant<'s>], b: &[Variant<'s>]) -> bool
     ensures { IsTrue result ↔ (map variant_view a.now ≡ map variant_view b.now) }
 {
@@ -168,7 +166,6 @@ pub(crate) fn same_arguments<'s>(a: &CallArguments<'s>, b: &CallArguments<'s>) -
 }
 
 #[cycle(same)]
-#[tactic(auto, using(crate::proofs::Alike::alikes))]
 fn same_inlines<'s>(a: &[InlineExpression<'s>], b: &[InlineExpression<'s>]) -> bool
     ensures { IsTrue result ↔ (map inline_view a.now ≡ map inline_view b.now) }
 {
@@ -184,7 +181,6 @@ fn same_inlines<'s>(a: &[InlineExpression<'s>], b: &[InlineExpression<'s>]) -> b
 }
 
 #[cycle(same)]
-#[tactic(auto, using(crate::proofs::Alike::alikes))]
 fn same_nameds<'s>(a: &[NamedArgument<'s>], b: &[NamedArgument<'s>]) -> bool
     ensures { IsTrue result ↔ (map named_view a.now ≡ map named_view b.now) }
 {

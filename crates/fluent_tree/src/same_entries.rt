@@ -6,7 +6,6 @@ ghost use Rattle.fluent_tree.specs.View.{attribute_view, entry_view, message_vie
 use crate::ast::{Attribute, Entry, Message, Pattern, Term};
 use crate::same::same_pattern;
 
-#[tactic(auto, using(crate::proofs::Alike::alikes))]
 pub(crate) fn same_entries<'s>(a: &[Entry<'s>], b: &[Entry<'s>]) -> bool
     ensures { IsTrue result ↔ (map entry_view a.now ≡ map entry_view b.now) }
 {
@@ -60,7 +59,6 @@ fn same_value<'s>(a: &Option<Pattern<'s>>, b: &Option<Pattern<'s>>) -> bool
     }
 }
 
-#[tactic(auto, using(crate::proofs::Alike::alikes))]
 fn same_attributes<'s>(a: &[Attribute<'s>], b: &[Attribute<'s>]) -> bool
     ensures { IsTrue result ↔ (map attribute_view a.now ≡ map attribute_view b.now) }
 {

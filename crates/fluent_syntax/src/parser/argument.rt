@@ -202,7 +202,6 @@ impl<
     }
 
     /// The arguments and the commas between them. Each argument is read once, whether a comma follows it or not.
-    #[tactic(auto, using(crate::proofs::Gathers::gathered))]
     fn argument_list(&self, s: &'s str) -> Result<(Gathered<'s>, &'s str), Stop>
         requires braces { GivesRule expression_view (spec.level self.now.depth).braces self.now.depth
             (F.pre self.now.braces) (F.post self.now.braces) }

@@ -1,7 +1,7 @@
 use Rattle.std.proofs.Common.{◌-◌, ◌+◌, ◌∙◌, sym, ap, length, arith, rules}
 use Rattle.fluent_syntax.specs.Expressions.{level}
 use Rattle.fluent_syntax.specs.Gathering.{gathered_view}
-use Rattle.fluent_syntax.proofs.Gathers.{gathers, gathers-more}
+use Rattle.fluent_syntax.proofs.Gathers.{gathers, gathers-more, gathers-none, gathers-last, gathers-empty, gathers-done, starts}
 use Rattle.fluent_syntax.proofs.parser.inner.Inner.argument_list.Goals as goal
 
 pub arguments-preserved : goal.arguments-preserved
@@ -16,3 +16,18 @@ arguments-preserved g c =
           ∙ gathers-more l (n - c.arguments._turn) j (gathered_view c.arguments.found) c.arguments.rest.now read.0 c.in-Ok.after.now behind (omega arith) read.1 (sym c.in-Some.ensures) (omega arith)
           ∙ ap (λ b. gathers l j b behind) (sym read.2),
     )
+
+pub arguments-init : goal.arguments-init
+arguments-init g c = grind (arith, starts)
+
+pub returns-in_default : goal.returns-in_default
+returns-in_default g c = grind (arith, gathers-last)
+
+pub returns-then-behind-rest : goal.returns-then-behind-rest
+returns-then-behind-rest g c = grind (arith, gathers-empty)
+
+pub returns-in-Err-Absent : goal.returns-in-Err-Absent
+returns-in-Err-Absent g c = grind (arith, gathers-none)
+
+pub returns : goal.returns
+returns g c = grind (arith, gathers-done)
