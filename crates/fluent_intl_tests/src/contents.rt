@@ -4,6 +4,7 @@ ghost use Rattle.fluent_intl.specs.declared.options.FluentNumberType.TheVariants
 ghost use Rattle.fluent_intl.specs.declared.options.FluentNumberStyle.TheVariants.{Decimal as DecimalStyle};
 ghost use Rattle.fluent_intl.specs.declared.options.FluentNumberCurrencyDisplayStyle.TheVariants.{Symbol};
 
+use crate::check::check;
 use crate::numbers::{value, with_minimum};
 use fluent_intl::{
     Decimal, FluentNumber, FluentNumberCurrencyDisplayStyle, FluentNumberOptions,
@@ -81,12 +82,15 @@ fn rules_by_content() -> bool {
         && !same_rules(first, (PluralRuleType::CARDINAL, PluralCategory::MANY))
 }
 
-fn is_undetermined(alloc: Global) -> bool {
-    let language = LanguageIdentifier::und(alloc);
+fn says_nothing(language: &LanguageIdentifier) -> bool {
     language.language.is_none()
         && language.script.is_none()
         && language.region.is_none()
         && language.variants.is_empty()
+}
+
+fn is_undetermined(alloc: Global) -> bool {
+    says_nothing(&LanguageIdentifier::und(alloc))
 }
 
 fn hash_of<T: Hash>(value: &T) -> u64 {
@@ -113,12 +117,16 @@ fn zeros_hash_alike() -> bool {
     }
 }
 
-/// Five in a currency.
-fn price(alloc: Global, currency: &str) -> Result<FluentNumber, AllocError> {
+fn with_currency(currency: String) -> FluentNumber {
     let mut options = FluentNumberOptions::default();
     options.style = FluentNumberStyle::Currency;
-    options.currency = Some(String::from_str(alloc, currency)?);
-    Ok(FluentNumber::new(Decimal::from_u64(5), options))
+    options.currency = Some(currency);
+    FluentNumber::new(Decimal::from_u64(5), options)
+}
+
+/// Five in a currency.
+fn price(alloc: Global, currency: &str) -> Result<FluentNumber, AllocError> {
+    Ok(with_currency(String::from_str(alloc, currency)?))
 }
 
 /// Whether two numbers are equal, and their options are, and hash alike.
@@ -130,21 +138,40 @@ fn differ(one: &FluentNumber, other: &FluentNumber) -> bool {
     one != other && one.options != other.options
 }
 
-/// Copies agree, and numbers of other currencies differ.
-fn copies_agree(
-    alloc: Global,
-    euros: &FluentNumber,
-    dollars: &FluentNumber,
-) -> Result<bool, AllocError> {
-    let copy = euros.try_clone(alloc)?;
-    let options = euros.options.try_clone(alloc)?;
-    Ok(agree(euros, &copy) && options == euros.options && differ(euros, dollars))
+/// Whether a copy of a number, and one of its options, agree with it.
+fn agree_with(
+    number: &FluentNumber,
+    copy: &Result<FluentNumber, AllocError>,
+    options: &Result<FluentNumberOptions, AllocError>,
+) -> bool {
+    match (copy, options) {
+        (Ok(copy), Ok(options)) => agree(number, copy) && *options == number.options,
+        _ => false,
+    }
 }
 
-fn prices_by_content(alloc: Global) -> Result<bool, AllocError> {
-    let euros = price(alloc, "EUR")?;
-    let dollars = price(alloc, "USD")?;
-    copies_agree(alloc, &euros, &dollars)
+fn copies_agree(alloc: Global, number: &FluentNumber) -> bool {
+    let copy = number.try_clone(alloc);
+    let options = number.options.try_clone(alloc);
+    agree_with(number, &copy, &options)
+}
+
+/// Copies of a price agree with it, and a price in another currency differs.
+fn are_by_content(
+    alloc: Global,
+    euros: &Result<FluentNumber, AllocError>,
+    dollars: &Result<FluentNumber, AllocError>,
+) -> bool {
+    match (euros, dollars) {
+        (Ok(euros), Ok(dollars)) => copies_agree(alloc, euros) && differ(euros, dollars),
+        _ => false,
+    }
+}
+
+fn prices_by_content(alloc: Global) -> bool {
+    let euros = price(alloc, "EUR");
+    let dollars = price(alloc, "USD");
+    are_by_content(alloc, &euros, &dollars)
 }
 
 /// A number that is made of a whole one has the options by default, and its minimum counts.
@@ -157,9 +184,13 @@ fn options_by_content() -> bool {
 }
 
 #[test]
-fn equality_is_that_of_contents(rt: HostRuntime) -> Result<(), AllocError> {
-    assert!(rt; operands_by_content() && words_by_content() && rules_by_content());
-    assert!(rt; words_hash_alike() && zeros_hash_alike() && options_by_content());
-    assert!(rt; is_undetermined(rt.alloc()) && prices_by_content(rt.alloc())?);
-    Ok(())
+fn equality_is_that_of_contents(rt: HostRuntime) {
+    check(&rt, operands_by_content(), "operands");
+    check(&rt, words_by_content(), "words");
+    check(&rt, rules_by_content(), "kinds of rules and categories");
+    check(&rt, words_hash_alike(), "hashes of words");
+    check(&rt, zeros_hash_alike(), "hashes of zeros");
+    check(&rt, options_by_content(), "options");
+    check(&rt, is_undetermined(rt.alloc()), "a language");
+    check(&rt, prices_by_content(rt.alloc()), "prices");
 }

@@ -3,7 +3,9 @@
 ghost use Rattle.std.specs.Prelude.{◌≡◌, ◌+◌, ◌-◌, ◌*◌, ◌/◌, ◌^◌, pos, neg_ℤ, codes};
 ghost use Rattle.fluent_intl.specs.Decimal.{Reads, decimal_text};
 
+use crate::check::{Row, check, check_rows};
 use fluent_intl::{Decimal, FluentNumber, OutOfRange};
+use std::alloc::Global;
 
 const HALF: u64 = 500_000_000_000_000_000;
 
@@ -27,6 +29,12 @@ const MADE: &[Parts] = &[
     (false, u64::MAX, 1, u64::MAX as i128),
     (true, u64::MAX, 1, -(u64::MAX as i128)),
 ];
+
+impl Row for Parts {
+    fn holds(&self, _alloc: Global) -> bool {
+        has_parts(Decimal::new(self.0, self.1, self.2), *self)
+    }
+}
 
 /// Whole numbers of 64 bits, and what is no number or not another one.
 fn whole_numbers_are_made() -> bool {
@@ -71,11 +79,9 @@ fn limits_of_whole_numbers() -> bool {
 
 #[test]
 fn makes_and_takes_numbers(rt: HostRuntime) {
-    for parts in MADE {
-        let made = Decimal::new(parts.0, parts.1, parts.2);
-        assert!(rt; has_parts(made, *parts));
-    }
-    assert!(rt; whole_numbers_are_made() && limits_of_whole_numbers());
+    check_rows(&rt, rt.alloc(), MADE);
+    check(&rt, whole_numbers_are_made(), "whole numbers");
+    check(&rt, limits_of_whole_numbers(), "limits of whole numbers");
 }
 
 /// Rows of the tables as theorems of the definitions.

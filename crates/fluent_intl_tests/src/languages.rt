@@ -2,91 +2,116 @@
 ghost use Rattle.std.specs.Prelude.{◌≡◌, ◌∷◌, ◌++◌, [], codes};
 ghost use Rattle.fluent_intl.specs.Languages.{rules_of, shortened};
 
-use fluent_intl::{cldr_plurals, rules_for};
-use std::test::Fail;
+use crate::check::{Row, check_rows, is_same};
+use fluent_intl::{LanguageRules, cldr_plurals, rules_for};
+use std::alloc::Global;
 
-/// The cardinal rules of a tag.
-fn cardinal<'t>(table: &'t str, tag: &str) -> Option<&'t str> {
-    Some(rules_for(table, tag)?.cardinal)
+/// The cardinal and the ordinal rules of a language.
+type Rules = (&'static str, &'static str);
+
+/// What a row shows, a table where it is not CLDR's, a tag, and the rules of its language in the table, where there are
+/// any.
+type Language = (
+    &'static str,
+    Option<&'static str>,
+    &'static str,
+    Option<Rules>,
+);
+
+/// CLDR's rules of Swedish.
+const SV: Option<Rules> = Some((
+    "one: i = 1 and v = 0; other:",
+    "one: n % 10 = 1,2 and n % 100 != 11,12; other:",
+));
+
+/// CLDR's rules of Portuguese.
+const PT: Option<Rules> = Some((
+    "one: i = 0..1; many: e = 0 and i != 0 and i % 1000000 = 0 and v = 0 or e != 0..5; other:",
+    "other:",
+));
+
+/// Those of Portuguese in Portugal, where other numbers are `one`.
+const PT_PT: Option<Rules> = Some((
+    "one: i = 1 and v = 0; many: e = 0 and i != 0 and i % 1000000 = 0 and v = 0 or e != 0..5; other:",
+    "other:",
+));
+
+/// Comments, lines that end in two ways, two lines of one tag, an empty line and one with a single tab.
+const LINES: Option<&str> = Some(
+    "# a\tb\tc\n#d\te\tf\r\nxx\tone: n = 1\tother:\r\nxx\tother:\tother:\n\nyy\tother:",
+);
+
+const LANGUAGES: &[Language] = &[
+    ("a language has the rules of its line", None, "sv", SV),
+    ("so has another language", None, "pt", PT),
+    ("a region has the rules of its language", None, "sv-FI", SV),
+    ("subtags are dropped one by one", None, "sv-Latn-FI", SV),
+    (
+        "a region of another language has its rules",
+        None,
+        "pt-AO",
+        PT,
+    ),
+    ("a region may have rules of its own", None, "pt-PT", PT_PT),
+    (
+        "a variant has the rules of its region",
+        None,
+        "pt-PT-variant",
+        PT_PT,
+    ),
+    (
+        "case and underscores make no difference",
+        None,
+        "PT_pt",
+        PT_PT,
+    ),
+    ("nor does case where a region is dropped", None, "Sv_fi", SV),
+    (
+        "a region of an unknown language has none",
+        None,
+        "xx-PL",
+        None,
+    ),
+    ("an empty tag has none", None, "", None),
+    ("a part of a tag has none", None, "p", None),
+    ("an empty language has none", None, "-pl", None),
+    ("an empty table has none", Some(""), "pl", None),
+    (
+        "the first line of a tag counts",
+        LINES,
+        "xx",
+        Some(("one: n = 1", "other:")),
+    ),
+    ("a comment is no line of a tag", LINES, "#d", None),
+    ("nor is a comment with a blank", LINES, "# a", None),
+    ("a line with one tab has no rules", LINES, "yy", None),
+    ("texts may be empty", Some("xx\t\t"), "xx", Some(("", ""))),
+    (
+        "the second text may hold tabs",
+        Some("xx\tother:\tone:\tn = 1"),
+        "xx",
+        Some(("other:", "one:\tn = 1")),
+    ),
+];
+
+fn are_rules(found: LanguageRules<'_>, rules: Rules) -> bool {
+    is_same(found.cardinal, rules.0) && is_same(found.ordinal, rules.1)
 }
 
-/// The ordinal rules of a tag.
-fn ordinal<'t>(table: &'t str, tag: &str) -> Option<&'t str> {
-    Some(rules_for(table, tag)?.ordinal)
+impl Row for Language {
+    fn holds(&self, _alloc: Global) -> bool {
+        let table = self.1.unwrap_or(cldr_plurals());
+        match (rules_for(table, self.2), self.3) {
+            (Some(found), Some(rules)) => are_rules(found, rules),
+            (None, None) => true,
+            _ => false,
+        }
+    }
 }
 
 #[test]
-fn the_table_has_the_rules_of_a_language(rt: HostRuntime) -> Result<(), Fail> {
-    let sv = rules_for(cldr_plurals(), "sv").ok_or("no sv")?;
-    assert_eq!(rt; sv.cardinal, "one: i = 1 and v = 0; other:");
-    assert_eq!(rt;
-        sv.ordinal,
-        "one: n % 10 = 1,2 and n % 100 != 11,12; other:"
-    );
-    Ok(())
-}
-
-#[test]
-fn a_region_has_the_rules_of_its_language(rt: HostRuntime) {
-    assert!(rt; cardinal(cldr_plurals(), "sv-FI").is_some());
-    assert_eq!(rt;
-        cardinal(cldr_plurals(), "sv-Latn-FI"),
-        cardinal(cldr_plurals(), "sv")
-    );
-    assert_eq!(rt;
-        ordinal(cldr_plurals(), "pt-AO"),
-        ordinal(cldr_plurals(), "pt")
-    );
-}
-
-#[test]
-fn a_region_with_rules_of_its_own_keeps_them(rt: HostRuntime) -> Result<(), Fail> {
-    let own = cardinal(cldr_plurals(), "pt-PT").ok_or("no pt-PT")?;
-    assert_ne!(rt; own, cardinal(cldr_plurals(), "pt").ok_or("no pt")?);
-    assert_eq!(rt; cardinal(cldr_plurals(), "pt-PT-variant"), Some(own));
-    Ok(())
-}
-
-#[test]
-fn case_and_underscores_make_no_difference(rt: HostRuntime) {
-    assert!(rt; cardinal(cldr_plurals(), "PT_pt").is_some());
-    assert_eq!(rt;
-        cardinal(cldr_plurals(), "PT_pt"),
-        cardinal(cldr_plurals(), "pt-PT")
-    );
-    assert_eq!(rt;
-        ordinal(cldr_plurals(), "Sv_fi"),
-        ordinal(cldr_plurals(), "sv")
-    );
-}
-
-#[test]
-fn other_tags_have_none(rt: HostRuntime) {
-    assert!(rt; rules_for(cldr_plurals(), "xx-PL").is_none());
-    assert!(rt; rules_for(cldr_plurals(), "").is_none());
-    assert!(rt; rules_for(cldr_plurals(), "p").is_none());
-    assert!(rt; rules_for(cldr_plurals(), "-pl").is_none());
-    assert!(rt; rules_for("", "pl").is_none());
-}
-
-#[test]
-fn the_first_line_counts_and_comments_do_not(rt: HostRuntime) {
-    let table = "# a\tb\tc\n#d\te\tf\r\nxx\tone: n = 1\tother:\r\nxx\tother:\tother:\n\nyy\tother:";
-    assert_eq!(rt; cardinal(table, "xx"), Some("one: n = 1"));
-    assert_eq!(rt; ordinal(table, "xx"), Some("other:"));
-    assert!(rt; rules_for(table, "#d").is_none());
-    assert!(rt; rules_for(table, "# a").is_none());
-    assert!(rt; rules_for(table, "yy").is_none());
-}
-
-#[test]
-fn a_text_may_be_empty_or_hold_tabs(rt: HostRuntime) {
-    assert_eq!(rt; cardinal("xx\t\t", "xx"), Some(""));
-    assert_eq!(rt; ordinal("xx\t\t", "xx"), Some(""));
-    assert_eq!(rt;
-        ordinal("xx\tother:\tone:\tn = 1", "xx"),
-        Some("one:\tn = 1")
-    );
+fn languages_have_the_rules_of_their_lines(rt: HostRuntime) {
+    check_rows(&rt, rt.alloc(), LANGUAGES);
 }
 
 /// Worked rows of the definitions, on a table with the line `pt`, tab, `a`, tab, `b`.

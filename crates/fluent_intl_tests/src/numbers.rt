@@ -1,5 +1,6 @@
 //! Texts that are numbers, and the texts that numbers have, each by a decimal and by a number with options.
-use fluent_intl::{Decimal, FluentNumber, FluentNumberOptions, NotANumber};
+use crate::check::{Row, check_rows, is_same, is_text};
+use fluent_intl::{Decimal, FluentNumber, FluentNumberOptions, NotANumber, PluralOperands};
 use std::alloc::{AllocError, Global};
 use std::borrow::CowStr;
 use std::str::FromStr;
@@ -9,46 +10,54 @@ const TENTH: u64 = 100_000_000_000_000_000;
 
 const QUARTER: u64 = 250_000_000_000_000_000;
 
-/// A text, and the sign, whole part and fraction of its number, and the digits after its point.
-type Reading = (&'static str, bool, u64, u64, Option<usize>);
+/// The sign, whole part and fraction of a number, and the digits after the point of its text.
+type Parts = (bool, u64, u64, Option<usize>);
+
+/// A text, and what it is read as, where it is a number.
+type Reading = (&'static str, Option<Parts>);
 
 const READ: &[Reading] = &[
-    ("5", false, 5, 0, None),
-    ("+5.", false, 5, 0, Some(0)),
-    (".50", false, 0, 5 * TENTH, Some(2)),
-    ("-0", false, 0, 0, None),
-    ("18446744073709551615", false, u64::MAX, 0, None),
-    ("0005", false, 5, 0, None),
-    ("1.000000000000000001", false, 1, 1, Some(18)),
-    ("-1.5", true, 1, 5 * TENTH, Some(1)),
-    ("-1.9", true, 1, 9 * TENTH, Some(1)),
-    ("007.250", false, 7, QUARTER, Some(3)),
-    ("0.000000000000000001", false, 0, 1, Some(18)),
-    ("5.0", false, 5, 0, Some(1)),
-    ("0.5", false, 0, 5 * TENTH, Some(1)),
-    ("1.25", false, 1, QUARTER, Some(2)),
-    ("-.5", true, 0, 5 * TENTH, Some(1)),
-    ("100", false, 100, 0, None),
-];
-
-const OTHERS: &[&str] = &[
-    "18446744073709551616",
-    ".",
-    "1e5",
-    "inf",
-    "1 ",
-    "",
-    "-",
-    "+-5",
-    "--1",
-    "1.2.3",
-    "1.0000000000000000000",
-    "0.0000000000000000001",
+    ("5", Some((false, 5, 0, None))),
+    ("+5.", Some((false, 5, 0, Some(0)))),
+    (".50", Some((false, 0, 5 * TENTH, Some(2)))),
+    ("-0", Some((false, 0, 0, None))),
+    ("18446744073709551615", Some((false, u64::MAX, 0, None))),
+    ("0005", Some((false, 5, 0, None))),
+    ("1.000000000000000001", Some((false, 1, 1, Some(18)))),
+    ("-1.5", Some((true, 1, 5 * TENTH, Some(1)))),
+    ("-1.9", Some((true, 1, 9 * TENTH, Some(1)))),
+    ("007.250", Some((false, 7, QUARTER, Some(3)))),
+    ("0.000000000000000001", Some((false, 0, 1, Some(18)))),
+    ("5.0", Some((false, 5, 0, Some(1)))),
+    ("0.5", Some((false, 0, 5 * TENTH, Some(1)))),
+    ("1.25", Some((false, 1, QUARTER, Some(2)))),
+    ("-.5", Some((true, 0, 5 * TENTH, Some(1)))),
+    ("100", Some((false, 100, 0, None))),
+    ("18446744073709551616", None),
+    (".", None),
+    ("1e5", None),
+    ("inf", None),
+    ("1 ", None),
+    ("", None),
+    ("-", None),
+    ("+-5", None),
+    ("--1", None),
+    ("1.2.3", None),
+    ("1.0000000000000000000", None),
+    ("0.0000000000000000001", None),
 ];
 
 /// The number that a text is.
 pub fn number(text: &str) -> Option<FluentNumber> {
     FluentNumber::from_str(text).ok()
+}
+
+/// The plural operands of the number that a text is.
+pub fn operands(text: &str) -> Option<PluralOperands> {
+    match number(text) {
+        Some(number) => Some(PluralOperands::from(&number)),
+        None => None,
+    }
 }
 
 /// A number with a minimum of fraction digits.
@@ -78,26 +87,29 @@ fn read_as_number(text: &str) -> Option<(Decimal, Option<usize>)> {
     }
 }
 
-fn is_read(row: &Reading) -> bool {
-    let Some(number) = Decimal::new(row.1, row.2, row.3) else {
-        return false;
-    };
-    let wanted = Some((number, row.4));
-    read(row.0) == wanted && read_as_number(row.0) == wanted
+fn reads_as(text: &str, wanted: Option<(Decimal, Option<usize>)>) -> bool {
+    read(text) == wanted && read_as_number(text) == wanted
 }
 
-fn is_refused(text: &str) -> bool {
-    Decimal::from_text(text) == Err(NotANumber) && read_as_number(text).is_none()
+fn reads_as_number(text: &str, parts: &Parts) -> bool {
+    match Decimal::new(parts.0, parts.1, parts.2) {
+        Some(number) => reads_as(text, Some((number, parts.3))),
+        None => false,
+    }
+}
+
+impl Row for Reading {
+    fn holds(&self, _alloc: Global) -> bool {
+        match &self.1 {
+            Some(parts) => reads_as_number(self.0, parts),
+            None => Decimal::from_text(self.0) == Err(NotANumber) && reads_as(self.0, None),
+        }
+    }
 }
 
 #[test]
 fn reads_texts(rt: HostRuntime) {
-    for row in READ {
-        assert!(rt; is_read(row), "at {}", row.0);
-    }
-    for text in OTHERS {
-        assert!(rt; is_refused(*text), "at {text}");
-    }
+    check_rows(&rt, rt.alloc(), READ);
 }
 
 /// The sign, whole part and fraction of a number, a minimum, and its text.
@@ -128,45 +140,30 @@ const WRITTEN: &[Writing] = &[
     (false, 100, 0, Some(1), "100.0"),
 ];
 
-fn decimal_text(
-    alloc: Global,
-    value: Decimal,
-    minimum: Option<usize>,
-) -> Result<String, AllocError> {
-    value.as_text(alloc, minimum)
+fn is_number_text(found: &Result<CowStr<'static>, AllocError>, text: &str) -> bool {
+    match found {
+        Ok(found) => is_same(found.as_str(), text),
+        Err(AllocError) => false,
+    }
 }
 
-fn number_text(
-    alloc: Global,
-    value: Decimal,
-    minimum: Option<usize>,
-) -> Result<CowStr<'static>, AllocError> {
-    with_minimum(value, minimum).as_string(alloc)
+/// Whether a number and its value, with the number's minimum, have a text.
+fn has_text(alloc: Global, number: &FluentNumber, text: &str) -> bool {
+    let minimum = number.options.minimum_fraction_digits;
+    is_text(&number.value.as_text(alloc, minimum), text)
+        && is_number_text(&number.as_string(alloc), text)
 }
 
-fn is_text(
-    alloc: Global,
-    value: Decimal,
-    minimum: Option<usize>,
-    text: &str,
-) -> Result<bool, AllocError> {
-    let plain = decimal_text(alloc, value, minimum)?;
-    let shown = number_text(alloc, value, minimum)?;
-    Ok(plain.as_str() == text && shown.as_str() == text)
-}
-
-fn is_written(alloc: Global, row: &Writing) -> Result<bool, AllocError> {
-    match Decimal::new(row.0, row.1, row.2) {
-        Some(value) => is_text(alloc, value, row.3, row.4),
-        None => Ok(false),
+impl Row for Writing {
+    fn holds(&self, alloc: Global) -> bool {
+        match Decimal::new(self.0, self.1, self.2) {
+            Some(value) => has_text(alloc, &with_minimum(value, self.3), self.4),
+            None => false,
+        }
     }
 }
 
 #[test]
-fn writes_texts(rt: HostRuntime) -> Result<(), AllocError> {
-    for row in WRITTEN {
-        let holds = is_written(rt.alloc(), row)?;
-        assert!(rt; holds, "at {}", row.4);
-    }
-    Ok(())
+fn writes_texts(rt: HostRuntime) {
+    check_rows(&rt, rt.alloc(), WRITTEN);
 }

@@ -1,8 +1,10 @@
 //! Operands and English categories.
-use crate::numbers::{number, value, with_minimum};
+use crate::check::{Row, check_rows};
+use crate::numbers::{operands, value, with_minimum};
 use fluent_intl::{
-    Decimal, EnglishPlurals, MemoizerKind, PluralCategory, PluralOperands, PluralRuleType,
+    EnglishPlurals, FluentNumber, MemoizerKind, PluralCategory, PluralOperands, PluralRuleType,
 };
+use std::alloc::Global;
 
 /// A text and a minimum, and the operands n, i, v, w, f and t, the first as a text.
 type Operands = (
@@ -20,25 +22,29 @@ const OPERANDS: &[Operands] = &[
     ("2", Some(400), "2", (2, 18, 0, 0, 0)),
 ];
 
-fn operands_of(value: Decimal, minimum: Option<usize>) -> PluralOperands {
-    PluralOperands::of(&value, minimum)
+/// Whether a number with a minimum has operands, and so has its value.
+fn has_operands(number: &FluentNumber, wanted: &PluralOperands) -> bool {
+    let minimum = number.options.minimum_fraction_digits;
+    PluralOperands::of(&number.value, minimum) == *wanted && PluralOperands::from(number) == *wanted
 }
 
-fn operands_of_number(value: Decimal, minimum: Option<usize>) -> PluralOperands {
-    PluralOperands::from(&with_minimum(value, minimum))
-}
-
-fn has_operands(row: &Operands) -> bool {
-    let (text, minimum, n, (i, v, w, f, t)) = *row;
-    let (Some(read), Some(n)) = (value(text), value(n)) else {
-        return false;
-    };
-    let want = PluralOperands { n, i, v, w, f, t };
-    operands_of(read, minimum) == want && operands_of_number(read, minimum) == want
+impl Row for Operands {
+    fn holds(&self, _alloc: Global) -> bool {
+        let (text, minimum, n, (i, v, w, f, t)) = *self;
+        match (value(text), value(n)) {
+            (Some(value), Some(n)) => has_operands(
+                &with_minimum(value, minimum),
+                &PluralOperands { n, i, v, w, f, t },
+            ),
+            _ => false,
+        }
+    }
 }
 
 /// A number's category as a cardinal and as an ordinal.
-const CATEGORIES: &[(&str, PluralCategory, PluralCategory)] = &[
+type Categories = (&'static str, PluralCategory, PluralCategory);
+
+const CATEGORIES: &[Categories] = &[
     ("1", PluralCategory::ONE, PluralCategory::ONE),
     ("1.0", PluralCategory::OTHER, PluralCategory::ONE),
     ("0", PluralCategory::OTHER, PluralCategory::OTHER),
@@ -59,21 +65,20 @@ fn is_category(kind: PluralRuleType, operands: &PluralOperands, category: Plural
     EnglishPlurals.select(kind, operands) == category
 }
 
-fn has_categories(row: &(&str, PluralCategory, PluralCategory)) -> bool {
-    let Some(number) = number(row.0) else {
-        return false;
-    };
-    let operands = PluralOperands::from(&number);
-    is_category(PluralRuleType::CARDINAL, &operands, row.1)
-        && is_category(PluralRuleType::ORDINAL, &operands, row.2)
+impl Row for Categories {
+    fn holds(&self, _alloc: Global) -> bool {
+        match operands(self.0) {
+            Some(operands) => {
+                is_category(PluralRuleType::CARDINAL, &operands, self.1)
+                    && is_category(PluralRuleType::ORDINAL, &operands, self.2)
+            }
+            None => false,
+        }
+    }
 }
 
 #[test]
 fn operands_and_english_categories(rt: HostRuntime) {
-    for row in OPERANDS {
-        assert!(rt; has_operands(row), "at {}", row.0);
-    }
-    for row in CATEGORIES {
-        assert!(rt; has_categories(row), "at {}", row.0);
-    }
+    check_rows(&rt, rt.alloc(), OPERANDS);
+    check_rows(&rt, rt.alloc(), CATEGORIES);
 }

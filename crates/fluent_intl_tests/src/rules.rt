@@ -1,5 +1,6 @@
 //! Plural rules from text.
-use crate::numbers::number;
+use crate::check::{Row, check_rows, is_text};
+use crate::numbers::operands;
 use fluent_intl::{
     MemoizerKind, PluralCategory, PluralOperands, PluralRuleType, RuleFault, RuleTexts,
 };
@@ -12,7 +13,9 @@ many: v = 0 and i != 1 and i % 10 = 0..1 or v = 0 and i % 10 = 5..9 or v = 0 and
 other: @decimal 0.0";
 
 /// A text of rules, a number and its category.
-const CATEGORIES: &[(&str, &str, PluralCategory)] = &[
+type Category = (&'static str, &'static str, PluralCategory);
+
+const CATEGORIES: &[Category] = &[
     (FOUR, "1", PluralCategory::ONE),
     (FOUR, "22", PluralCategory::FEW),
     (FOUR, "12", PluralCategory::MANY),
@@ -43,33 +46,44 @@ fn read(alloc: Global, cardinal: &str, ordinal: &str) -> Result<RuleTexts, RuleF
     }
 }
 
-/// The category of a number under a text of rules, which is both texts of a language in turn.
-fn category(
-    alloc: Global,
-    text: &str,
-    number: &PluralOperands,
+fn selects(
+    rules: &Result<RuleTexts, RuleFault>,
     kind: PluralRuleType,
-) -> Result<PluralCategory, RuleFault> {
-    let texts = match kind {
-        PluralRuleType::CARDINAL => read(alloc, text, "")?,
-        PluralRuleType::ORDINAL => read(alloc, "", text)?,
-    };
-    Ok(texts.select(kind, number))
+    number: &PluralOperands,
+    category: PluralCategory,
+) -> bool {
+    match rules {
+        Ok(rules) => rules.select(kind, number) == category,
+        Err(_) => false,
+    }
 }
 
+/// Whether a number has a category under a text of rules, which is both texts of a language in turn.
 fn has_category(
     alloc: Global,
-    row: &(&str, &str, PluralCategory),
-    kind: PluralRuleType,
-) -> Result<bool, RuleFault> {
-    let Some(number) = number(row.1) else {
-        return Ok(false);
-    };
-    Ok(category(alloc, row.0, &PluralOperands::from(&number), kind)? == row.2)
+    rules: &str,
+    number: &PluralOperands,
+    category: PluralCategory,
+) -> bool {
+    let cardinal = read(alloc, rules, "");
+    let ordinal = read(alloc, "", rules);
+    selects(&cardinal, PluralRuleType::CARDINAL, number, category)
+        && selects(&ordinal, PluralRuleType::ORDINAL, number, category)
+}
+
+impl Row for Category {
+    fn holds(&self, alloc: Global) -> bool {
+        match operands(self.1) {
+            Some(number) => has_category(alloc, self.0, &number, self.2),
+            None => false,
+        }
+    }
 }
 
 /// The two texts, and the fault that reading them has.
-const FAULTS: &[(&str, &str, PluralRuleType, usize)] = &[
+type Fault = (&'static str, &'static str, PluralRuleType, usize);
+
+const FAULTS: &[Fault] = &[
     ("one: i is 1", "", PluralRuleType::CARDINAL, 0),
     ("one: n % 0 = 1", "", PluralRuleType::CARDINAL, 0),
     ("", " ;two: n %", PluralRuleType::ORDINAL, 2),
@@ -88,12 +102,36 @@ const FAULTS: &[(&str, &str, PluralRuleType, usize)] = &[
     ),
 ];
 
-fn has_fault(alloc: Global, row: &(&str, &str, PluralRuleType, usize)) -> bool {
-    match read(alloc, row.0, row.1) {
+fn has_fault(rules: &Result<RuleTexts, RuleFault>, wanted: RuleFault) -> bool {
+    match rules {
         Ok(_) => false,
-        Err(fault) => fault == RuleFault::Syntax(row.2, row.3),
+        Err(fault) => *fault == wanted,
     }
 }
+
+impl Row for Fault {
+    fn holds(&self, alloc: Global) -> bool {
+        has_fault(
+            &read(alloc, self.0, self.1),
+            RuleFault::Syntax(self.2, self.3),
+        )
+    }
+}
+
+/// A fault, and what it says.
+type FaultText = (RuleFault, &'static str);
+
+const TEXTS: &[FaultText] = &[
+    (
+        RuleFault::Syntax(PluralRuleType::CARDINAL, 0),
+        "unreadable cardinal rule at byte 0",
+    ),
+    (
+        RuleFault::Syntax(PluralRuleType::ORDINAL, 12),
+        "unreadable ordinal rule at byte 12",
+    ),
+    (RuleFault::Memory, "out of memory"),
+];
 
 /// What a fault says. Where memory is refused it is asked again.
 fn text_of(alloc: Global, fault: RuleFault) -> Result<String, AllocError> {
@@ -103,46 +141,21 @@ fn text_of(alloc: Global, fault: RuleFault) -> Result<String, AllocError> {
     }
 }
 
-fn has_text(alloc: Global, fault: RuleFault, text: &str) -> Result<bool, AllocError> {
-    Ok(text_of(alloc, fault)?.as_str() == text)
-}
-
-fn have_texts(alloc: Global) -> Result<bool, AllocError> {
-    let cardinal = RuleFault::Syntax(PluralRuleType::CARDINAL, 0);
-    let ordinal = RuleFault::Syntax(PluralRuleType::ORDINAL, 12);
-    Ok(
-        has_text(alloc, cardinal, "unreadable cardinal rule at byte 0")?
-            && has_text(alloc, ordinal, "unreadable ordinal rule at byte 12")?
-            && has_text(alloc, RuleFault::Memory, "out of memory")?,
-    )
+impl Row for FaultText {
+    fn holds(&self, alloc: Global) -> bool {
+        is_text(&text_of(alloc, self.0), self.1)
+    }
 }
 
 /// Run with each allocation failing in turn.
 #[test]
-fn rules_select_categories(rt: HostRuntime) -> Result<(), RuleFault> {
-    for row in CATEGORIES {
-        assert!(rt;
-            has_category(rt.alloc(), row, PluralRuleType::CARDINAL)?,
-            "{} of {}",
-            row.1,
-            row.0
-        );
-        assert!(rt;
-            has_category(rt.alloc(), row, PluralRuleType::ORDINAL)?,
-            "{} of {}",
-            row.1,
-            row.0
-        );
-    }
-    Ok(())
+fn rules_select_categories(rt: HostRuntime) {
+    check_rows(&rt, rt.alloc(), CATEGORIES);
 }
 
 /// Run with each allocation failing in turn.
 #[test]
-fn rules_that_cannot_be_read_are_named(rt: HostRuntime) -> Result<(), AllocError> {
-    for row in FAULTS {
-        assert!(rt; has_fault(rt.alloc(), row), "at {} and {}", row.0, row.1);
-    }
-    assert!(rt; have_texts(rt.alloc())?);
-    Ok(())
+fn rules_that_cannot_be_read_are_named(rt: HostRuntime) {
+    check_rows(&rt, rt.alloc(), FAULTS);
+    check_rows(&rt, rt.alloc(), TEXTS);
 }

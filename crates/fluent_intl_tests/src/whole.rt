@@ -1,45 +1,82 @@
 //! Numbers and whole numbers of each type.
 ghost use Rattle.std.specs.Prelude.{◌≡◌};
 
+use crate::check::{Row, check, check_rows};
 use crate::numbers::number;
 use fluent_intl::FluentNumber;
+use std::alloc::Global;
 
-/// -1.9 as each type.
-fn is_cut_toward_zero(read: &FluentNumber) -> bool {
-    i8::from(read) == -1
-        && i16::from(read) == -1
-        && i32::from(read) == -1
-        && u8::from(read) == 0
-        && u16::from(read) == 0
-        && u128::from(read) == 0
+/// A whole number as each signed type.
+type Signed = (i8, i16, i32, i64, isize, i128);
+
+/// A whole number as each unsigned type.
+type Unsigned = (u8, u16, u32, u64, usize, u128);
+
+/// A text of a number, and what each type takes out of it: it is cut toward zero, and nearest to it in the type.
+type Taken = (&'static str, Signed, Unsigned);
+
+const TAKEN: &[Taken] = &[
+    ("-1.9", (-1, -1, -1, -1, -1, -1), (0, 0, 0, 0, 0, 0)),
+    (
+        "300",
+        (127, 300, 300, 300, 300, 300),
+        (255, 300, 300, 300, 300, 300),
+    ),
+    (
+        "-300",
+        (-128, -300, -300, -300, -300, -300),
+        (0, 0, 0, 0, 0, 0),
+    ),
+    (
+        "18446744073709551615",
+        (
+            i8::MAX,
+            i16::MAX,
+            i32::MAX,
+            i64::MAX,
+            isize::MAX,
+            u64::MAX as i128,
+        ),
+        (
+            u8::MAX,
+            u16::MAX,
+            u32::MAX,
+            u64::MAX,
+            usize::MAX,
+            u64::MAX as u128,
+        ),
+    ),
+];
+
+fn is_taken_signed(number: &FluentNumber, wanted: &Signed) -> bool {
+    i8::from(number) == wanted.0
+        && i16::from(number) == wanted.1
+        && i32::from(number) == wanted.2
+        && i64::from(number) == wanted.3
+        && isize::from(number) == wanted.4
+        && i128::from(number) == wanted.5
 }
 
-/// `u64::MAX` as each type.
-fn is_nearest_to_the_largest(most: &FluentNumber) -> bool {
-    u64::from(most) == u64::MAX
-        && usize::from(most) == usize::MAX
-        && i64::from(most) == i64::MAX
-        && isize::from(most) == isize::MAX
-        && u32::from(most) == u32::MAX
-        && i128::from(most) == u64::MAX as i128
+fn is_taken_unsigned(number: &FluentNumber, wanted: &Unsigned) -> bool {
+    u8::from(number) == wanted.0
+        && u16::from(number) == wanted.1
+        && u32::from(number) == wanted.2
+        && u64::from(number) == wanted.3
+        && usize::from(number) == wanted.4
+        && u128::from(number) == wanted.5
 }
 
-fn negative_is_cut() -> bool {
-    match number("-1.9") {
-        Some(read) => is_cut_toward_zero(&read),
+fn is_taken(number: &Option<FluentNumber>, signed: &Signed, unsigned: &Unsigned) -> bool {
+    match number {
+        Some(number) => is_taken_signed(number, signed) && is_taken_unsigned(number, unsigned),
         None => false,
     }
 }
 
-fn largest_is_taken() -> bool {
-    match number("18446744073709551615") {
-        Some(most) => is_nearest_to_the_largest(&most) && u128::from(most) == u64::MAX as u128,
-        None => false,
+impl Row for Taken {
+    fn holds(&self, _alloc: Global) -> bool {
+        is_taken(&number(self.0), &self.1, &self.2)
     }
-}
-
-fn small_types_saturate() -> bool {
-    i8::from(FluentNumber::from(300i64)) == 127 && i8::from(FluentNumber::from(-300i64)) == -128
 }
 
 // A whole number that is put in and taken out as its own type is itself, by the public contracts alone: it is put in by
@@ -133,6 +170,7 @@ fn other_numbers_come_out_again() -> bool {
 
 #[test]
 fn whole_numbers_are_taken(rt: HostRuntime) {
-    assert!(rt; small_types_saturate() && negative_is_cut() && largest_is_taken());
-    assert!(rt; signed_numbers_come_out_again() && other_numbers_come_out_again());
+    check_rows(&rt, rt.alloc(), TAKEN);
+    check(&rt, signed_numbers_come_out_again(), "signed numbers");
+    check(&rt, other_numbers_come_out_again(), "other numbers");
 }

@@ -1,4 +1,5 @@
 //! Words of options.
+use crate::check::check;
 use fluent_intl::{FluentNumberCurrencyDisplayStyle, FluentNumberStyle, FluentNumberType};
 use std::process::Abort;
 
@@ -28,7 +29,7 @@ fn stand_for<T: Copy + PartialEq + From<&'static str>>(
     rows: &[(&'static str, T)],
 ) {
     for (word, value) in rows {
-        assert!(rt; T::from(*word) == *value, "at {word}");
+        check(rt, T::from(*word) == *value, word);
     }
 }
 

@@ -1,110 +1,172 @@
 //! Classes: equal exactly where patterns are.
-use crate::check::check_at;
+use crate::check::{check, check_at};
 use crate::trees::{
-    Inline, Tree, alone, asked, attribute, bare_term, function, message, named, nested,
-    no_arguments, number, put, select, string, term, text, variable, variant, whole,
+    Inline, Maker, Tree, add, alone, asked, attribute, bare_term, function, list, message, named,
+    nested, no_arguments, number, put, select, string, term, text, variable, variant, whole,
 };
 use fluent_links::Classes;
 use fluent_tree::ast::Pattern;
-use std::alloc::{AllocError, Global};
+use std::alloc::AllocError;
 use std::process::Abort;
 use std::test::Fail;
 
 /// The class of a pattern, asked again where memory is refused.
 fn class_of<'r>(classes: &mut Classes<'r, 'static>, tree: &'r Tree) -> Result<u32, AllocError> {
     match classes.class_of(tree) {
-        Ok(class) => Ok(class),
         Err(AllocError) => classes.class_of(tree),
+        class => class,
     }
 }
 
-fn texts(alloc: Global, first: &'static str, second: &'static str) -> Result<Tree, AllocError> {
-    Ok(Pattern {
-        elements: vec![in alloc; text(first), text(second)]?,
-    })
+// Patterns, each unlike all others.
+
+/// Those of texts alone.
+const TEXTS: &[&[&str]] = &[
+    &[],
+    &[""],
+    &["x"],
+    &["y"],
+    &["xy"],
+    &["x", "y"],
+    &["", "xy"],
+];
+
+fn of_texts(maker: &mut Maker, texts: &[&'static str]) -> Tree {
+    let mut elements = list(maker, []);
+    for x in texts {
+        add(maker, &mut elements, text(*x));
+    }
+    Pattern { elements }
 }
 
-/// `{ F(x) }`
-fn given(alloc: Global, inline: Inline) -> Result<Tree, AllocError> {
-    let arguments = asked(alloc, vec![in alloc; inline]?, Vec::new(alloc))?;
-    alone(alloc, put(function("F", arguments)))
+/// Those of one expression that takes no memory.
+const SIMPLE: usize = 8;
+
+fn simple(i: usize) -> Inline {
+    match i {
+        0 => string("x"),
+        1 => string("1"),
+        2 => number("1"),
+        3 => number("1.0"),
+        4 => variable("x"),
+        5 => message("x"),
+        6 => attribute("x", "y"),
+        _ => bare_term("x"),
+    }
 }
 
-/// `{ F(n: x) }`
-fn given_as(alloc: Global, name: &'static str, inline: Inline) -> Result<Tree, AllocError> {
-    let named = vec![in alloc; named(name, inline)]?;
-    let arguments = asked(alloc, Vec::new(alloc), named)?;
-    alone(alloc, put(function("F", arguments)))
+/// Those of one expression that takes memory.
+const CALLS: usize = 5;
+
+fn call(maker: &mut Maker, i: usize) -> Inline {
+    match i {
+        0 => term("x", no_arguments(maker)),
+        1 => nested(maker, message("x")),
+        2 => given(maker, message("x")),
+        3 => given_as(maker, "n", message("x")),
+        _ => given_as(maker, "m", message("x")),
+    }
+}
+
+/// `F(x)`
+fn given(maker: &mut Maker, inline: Inline) -> Inline {
+    let positional = list(maker, [inline]);
+    let named = list(maker, []);
+    function("F", asked(maker, positional, named))
+}
+
+/// `F(n: x)`
+fn given_as(maker: &mut Maker, name: &'static str, inline: Inline) -> Inline {
+    let positional = list(maker, []);
+    let named = list(maker, [named(name, inline)]);
+    function("F", asked(maker, positional, named))
 }
 
 /// `{ $v -> [k] x *[l] y }`, or with the first variant as the default.
-fn chosen(alloc: Global, first: bool) -> Result<Tree, AllocError> {
-    let variants = vec![in alloc;
-        variant(alloc, "k", text("x"), first)?,
-        variant(alloc, "l", text("y"), !first)?,
-    ]?;
-    alone(alloc, select(variable("v"), variants))
+fn chosen(maker: &mut Maker, first: bool) -> Tree {
+    let k = variant(maker, "k", text("x"), first);
+    let l = variant(maker, "l", text("y"), !first);
+    let variants = list(maker, [k, l]);
+    alone(maker, select(variable("v"), variants))
 }
 
-/// Patterns, each unlike all others.
-const ALL: usize = 23;
+/// How many they are, with two selects and the whole pattern.
+const ALL: usize = TEXTS.len() + SIMPLE + CALLS + 3;
 
-fn tree(alloc: Global, i: usize) -> Result<Tree, AllocError> {
-    match i {
-        0 => Ok(Pattern {
-            elements: Vec::new(alloc),
-        }),
-        1 => alone(alloc, text("")),
-        2 => alone(alloc, text("x")),
-        3 => alone(alloc, text("y")),
-        4 => alone(alloc, text("xy")),
-        5 => texts(alloc, "x", "y"),
-        6 => texts(alloc, "", "xy"),
-        7 => alone(alloc, put(string("x"))),
-        8 => alone(alloc, put(string("1"))),
-        9 => alone(alloc, put(number("1"))),
-        10 => alone(alloc, put(number("1.0"))),
-        11 => alone(alloc, put(variable("x"))),
-        12 => alone(alloc, put(message("x"))),
-        13 => alone(alloc, put(attribute("x", "y"))),
-        14 => alone(alloc, put(bare_term("x"))),
-        15 => alone(alloc, put(term("x", no_arguments(alloc)?))),
-        16 => alone(alloc, put(nested(alloc, message("x"))?)),
-        17 => given(alloc, message("x")),
-        18 => given_as(alloc, "n", message("x")),
-        19 => given_as(alloc, "m", message("x")),
-        20 => chosen(alloc, false),
-        21 => chosen(alloc, true),
-        _ => whole(alloc),
+fn add_texts(maker: &mut Maker, trees: &mut Vec<Tree>) {
+    for texts in TEXTS {
+        let tree = of_texts(maker, *texts);
+        add(maker, trees, tree);
     }
+}
+
+fn add_expressions(maker: &mut Maker, trees: &mut Vec<Tree>) {
+    for i in 0..SIMPLE {
+        let tree = alone(maker, put(simple(i)));
+        add(maker, trees, tree);
+    }
+    for i in 0..CALLS {
+        let inline = call(maker, i);
+        let tree = alone(maker, put(inline));
+        add(maker, trees, tree);
+    }
+}
+
+fn add_others(maker: &mut Maker, trees: &mut Vec<Tree>) {
+    for first in [false, true] {
+        let tree = chosen(maker, first);
+        add(maker, trees, tree);
+    }
+    let tree = whole(maker);
+    add(maker, trees, tree);
 }
 
 /// All of them in order, and all once more.
-fn twice(alloc: Global) -> Result<Vec<Tree>, AllocError> {
-    let mut trees = Vec::new(alloc);
-    for i in 0..2 * ALL {
-        trees.push(tree(alloc, i % ALL)?)?;
+fn twice(maker: &mut Maker) -> Vec<Tree> {
+    let mut trees = list(maker, []);
+    for _ in 0..2 {
+        add_texts(maker, &mut trees);
+        add_expressions(maker, &mut trees);
+        add_others(maker, &mut trees);
     }
-    Ok(trees)
+    trees
+}
+
+fn is_class(found: Result<u32, AllocError>, wanted: usize) -> bool {
+    match found {
+        Ok(class) => class as usize == wanted,
+        Err(AllocError) => false,
+    }
+}
+
+fn have_their_classes<'r>(rt: &impl Abort, classes: &mut Classes<'r, 'static>, trees: &'r [Tree]) {
+    check(rt, trees.len() == 2 * ALL, "how many");
+    for (i, tree) in trees.iter().enumerate() {
+        check_at(
+            rt,
+            is_class(class_of(classes, tree), i % ALL),
+            "its class",
+            i,
+        );
+    }
 }
 
 fn are_classed<'r>(
     rt: &impl Abort,
+    maker: &Maker,
     classes: &mut Classes<'r, 'static>,
     trees: &'r [Tree],
-) -> Result<(), AllocError> {
-    for (i, tree) in trees.iter().enumerate() {
-        let class = class_of(classes, tree)?;
-        check_at(rt, class as usize == i % ALL, "its class", i);
-    }
+) -> Result<(), Fail> {
+    maker.all_made()?;
+    have_their_classes(rt, classes, trees);
     Ok(())
 }
 
 /// Run with each allocation failing in turn: a pattern that was refused gets the class that it would have got.
 #[test]
 fn classes_are_equal_where_patterns_are(rt: HostRuntime) -> Result<(), Fail> {
-    let trees = twice(rt.alloc())?;
+    let mut maker = Maker::new(rt.alloc());
+    let trees = twice(&mut maker);
     let mut classes = Classes::new(rt.alloc());
-    are_classed(&rt, &mut classes, &trees)?;
-    Ok(())
+    are_classed(&rt, &maker, &mut classes, &trees)
 }

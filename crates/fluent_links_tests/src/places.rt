@@ -1,22 +1,27 @@
 //! Places before, within and behind the parts of a pattern.
+use crate::check::{check, check_at};
 use crate::linked::link;
-use crate::trees::{Tree, of_function, of_select, of_term, whole};
-use fluent_links::{Classes, Place, Slots};
-use fluent_tree::ast::{Expression, PatternElement};
+use crate::trees::{Arguments, Inline, Maker, Tree, whole};
+use fluent_links::{Classes, Linked, Place, Slots};
+use fluent_tree::ast::{CallArguments, Expression, InlineExpression, PatternElement, Variant};
 use std::alloc::{AllocError, Global};
 use std::process::Abort;
 use std::test::Fail;
 
 /// That this number comes next.
 fn comes(rt: &impl Abort, place: Place<'_>, next: Option<u32>, name: &str) {
-    assert!(rt; place.first() == next, "{name}");
+    check(rt, place.first() == next, name);
 }
 
 /// The place behind the first elements, so many.
 fn behind<'b>(place: Place<'b>, tree: &Tree, count: usize) -> Place<'b> {
     let mut place = place;
-    for element in tree.elements.iter().take(count) {
-        place = place.behind_element(element);
+    let mut left = count;
+    for element in tree.elements.as_slice() {
+        if left > 0 {
+            place = place.behind_element(element);
+            left -= 1;
+        }
     }
     place
 }
@@ -27,79 +32,117 @@ const BEHIND: &[Option<u32>] = &[Some(0), Some(4), Some(4), Some(7), Some(9), No
 fn elements_are_passed(rt: &impl Abort, start: Place<'_>, tree: &Tree) {
     for (count, next) in BEHIND.iter().enumerate() {
         let place = behind(start, tree, count);
-        assert!(rt; place.first() == *next, "behind {count}");
+        check_at(rt, place.first() == *next, "behind elements", count);
     }
     comes(rt, start.behind_pattern(tree), None, "behind all");
 }
 
+/// The place behind the first of some expressions.
+fn behind_first<'b>(place: Place<'b>, inlines: &[Inline]) -> Place<'b> {
+    match inlines.first() {
+        Some(inline) => place.behind_inline(inline),
+        None => place,
+    }
+}
+
 /// From the function on.
-fn a_function_is_passed(
-    rt: &impl Abort,
-    alloc: Global,
-    start: Place<'_>,
-) -> Result<(), AllocError> {
-    let arguments = of_function(alloc)?;
+fn a_function_is_passed(rt: &impl Abort, start: Place<'_>, arguments: &CallArguments<'static>) {
     let within = start.after_one();
     comes(rt, within, Some(1), "behind the function itself");
-    for argument in arguments.positional.iter().take(1) {
-        comes(
-            rt,
-            within.behind_inline(argument),
-            Some(2),
-            "behind its first argument",
-        );
-    }
-    let named = within.behind_positional(&arguments.positional);
-    comes(rt, named, Some(3), "behind its positional arguments");
     comes(
         rt,
-        within.behind_arguments(&arguments),
-        Some(4),
-        "behind its arguments",
+        behind_first(within, arguments.positional.as_slice()),
+        Some(2),
+        "behind its first argument",
     );
-    Ok(())
+    let named = within.behind_positional(&arguments.positional);
+    comes(rt, named, Some(3), "behind its positional arguments");
+    let behind = within.behind_arguments(arguments);
+    comes(rt, behind, Some(4), "behind its arguments");
 }
 
 /// From the term on.
-fn a_term_is_passed(rt: &impl Abort, alloc: Global, start: Place<'_>) -> Result<(), AllocError> {
-    let arguments = of_term(alloc)?;
+fn a_term_is_passed(rt: &impl Abort, start: Place<'_>, arguments: &Arguments) {
     let within = start.after_one();
     comes(rt, within, Some(5), "behind the term itself");
     comes(rt, within.behind_call(&None), Some(5), "behind no call");
-    let named = within.behind_positional(&arguments.positional);
-    comes(rt, named, Some(6), "behind its positional arguments");
     comes(
         rt,
-        within.behind_call(&Some(arguments)),
+        behind_positional(within, arguments),
+        Some(6),
+        "behind its positional arguments",
+    );
+    comes(
+        rt,
+        within.behind_call(arguments),
         Some(7),
         "behind its arguments",
     );
-    Ok(())
+}
+
+/// The place behind the positional arguments, where there are any.
+fn behind_positional<'b>(place: Place<'b>, arguments: &Arguments) -> Place<'b> {
+    match arguments {
+        Some(arguments) => place.behind_positional(&arguments.positional),
+        None => place,
+    }
+}
+
+/// The place behind the value of the first of some variants.
+fn behind_first_variant<'b>(place: Place<'b>, variants: &[Variant]) -> Place<'b> {
+    match variants.first() {
+        Some(variant) => place.behind_pattern(&variant.value),
+        None => place,
+    }
 }
 
 /// From the select on.
-fn a_select_is_passed(rt: &impl Abort, alloc: Global, start: Place<'_>) -> Result<(), AllocError> {
-    let variants = of_select(alloc)?;
+fn a_select_is_passed(
+    rt: &impl Abort,
+    start: Place<'_>,
+    selector: &Inline,
+    variants: &[Variant<'static>],
+) {
     let within = start.after_one();
     comes(rt, within, Some(8), "behind the selector");
-    for variant in variants.iter().take(1) {
-        comes(
-            rt,
-            within.behind_pattern(&variant.value),
-            Some(1),
-            "behind a variant",
-        );
-    }
     comes(
         rt,
-        within.behind_variants(&variants),
+        start.behind_inline(selector),
+        Some(8),
+        "behind the selector as a whole",
+    );
+    comes(
+        rt,
+        behind_first_variant(within, variants),
+        Some(1),
+        "behind a variant",
+    );
+    comes(
+        rt,
+        within.behind_variants(variants),
         Some(9),
         "behind the variants",
     );
-    Ok(())
 }
 
-/// The expressions of the elements, as the tree has them: their numbers, and what comes next behind each.
+/// What stands within an expression.
+fn parts_of_one_are_passed(rt: &impl Abort, place: Place<'_>, expression: &Expression<'static>) {
+    match expression {
+        Expression::Inline(InlineExpression::FunctionReference { arguments, .. }) => {
+            a_function_is_passed(rt, place, arguments)
+        }
+        Expression::Inline(InlineExpression::TermReference { arguments, .. }) => {
+            a_term_is_passed(rt, place, arguments)
+        }
+        Expression::Inline(_) => {}
+        Expression::Select { selector, variants } => {
+            a_select_is_passed(rt, place, selector, variants)
+        }
+    }
+}
+
+/// The expressions of the elements, as the tree has them: their numbers, what comes next behind each, and what stands
+/// within the function, the term and the select.
 fn expressions_are_passed(rt: &impl Abort, start: Place<'_>, tree: &Tree) {
     for (count, element) in tree.elements.iter().enumerate() {
         if let PatternElement::Placeable { expression } = element {
@@ -111,51 +154,59 @@ fn expressions_are_passed(rt: &impl Abort, start: Place<'_>, tree: &Tree) {
                 next,
                 "behind an expression",
             );
-            if let Expression::Select { selector, .. } = expression {
-                comes(
-                    rt,
-                    place.behind_inline(selector),
-                    Some(8),
-                    "behind a selector",
-                );
-            }
+            parts_of_one_are_passed(rt, place, expression);
         }
     }
 }
 
-/// From the whole pattern on.
-fn all_are_passed(
+fn are_passed(rt: &impl Abort, linked: &Result<Linked, AllocError>, tree: &Tree) {
+    match linked {
+        Ok(linked) => {
+            elements_are_passed(rt, linked.place(), tree);
+            expressions_are_passed(rt, linked.place(), tree)
+        }
+        Err(AllocError) => check(rt, false, "linking"),
+    }
+}
+
+/// Where memory for the whole pattern was not refused.
+fn parts_of_all_are_passed<'r>(
     rt: &impl Abort,
+    maker: &Maker,
+    slots: &mut Slots<'static, u8>,
+    classes: &mut Classes<'r, 'static>,
+    tree: &'r Tree,
     alloc: Global,
-    start: Place<'_>,
-    tree: &Tree,
-) -> Result<(), AllocError> {
-    elements_are_passed(rt, start, tree);
-    expressions_are_passed(rt, start, tree);
-    a_function_is_passed(rt, alloc, start)?;
-    a_term_is_passed(rt, alloc, behind(start, tree, 2))?;
-    a_select_is_passed(rt, alloc, behind(start, tree, 3))
+) -> Result<(), Fail> {
+    maker.all_made()?;
+    are_passed(rt, &link(alloc, slots, classes, tree), tree);
+    Ok(())
 }
 
 /// Run with each allocation failing in turn.
 #[test]
 fn parts_are_passed(rt: HostRuntime) -> Result<(), Fail> {
-    let tree = whole(rt.alloc())?;
+    let mut maker = Maker::new(rt.alloc());
+    let tree = whole(&mut maker);
     let mut slots = Slots::new(rt.alloc());
     let mut classes = Classes::new(rt.alloc());
-    let linked = link(rt.alloc(), &mut slots, &mut classes, &tree)?;
-    all_are_passed(&rt, rt.alloc(), linked.place(), &tree)?;
-    Ok(())
+    parts_of_all_are_passed(&rt, &maker, &mut slots, &mut classes, &tree, rt.alloc())
 }
 
 /// Places by name know of no number, nor those behind all links.
-#[test]
-fn a_place_without_links_stays_so(rt: HostRuntime) -> Result<(), Fail> {
-    let tree = whole(rt.alloc())?;
+fn places_stay_so(rt: &impl Abort, maker: &Maker, tree: &Tree) -> Result<(), Fail> {
+    maker.all_made()?;
     for place in [Place::by_name(), Place::from_links(&[])] {
-        comes(&rt, place, None, "before");
-        comes(&rt, place.after_one(), None, "behind one");
-        comes(&rt, place.behind_pattern(&tree), None, "behind all");
+        comes(rt, place, None, "before");
+        comes(rt, place.after_one(), None, "behind one");
+        comes(rt, place.behind_pattern(tree), None, "behind all");
     }
     Ok(())
+}
+
+#[test]
+fn a_place_without_links_stays_so(rt: HostRuntime) -> Result<(), Fail> {
+    let mut maker = Maker::new(rt.alloc());
+    let tree = whole(&mut maker);
+    places_stay_so(&rt, &maker, &tree)
 }

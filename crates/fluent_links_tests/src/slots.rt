@@ -4,13 +4,20 @@ use fluent_links::Slots;
 use std::alloc::AllocError;
 use std::borrow::CowStr;
 use std::process::Abort;
-use std::test::Fail;
 
 /// The number of an id, asked again where memory is refused.
-pub fn number_of<'s>(slots: &mut Slots<'s, u8>, id: &'s str) -> Result<u32, AllocError> {
+fn number_of<'s>(slots: &mut Slots<'s, u8>, id: &'s str) -> Result<u32, AllocError> {
     match slots.number_of(CowStr::Borrowed(id)) {
-        Ok(number) => Ok(number),
         Err(AllocError) => slots.number_of(CowStr::Borrowed(id)),
+        number => number,
+    }
+}
+
+/// Whether an id has a number.
+pub fn has_number<'s>(slots: &mut Slots<'s, u8>, id: &'s str, number: u32) -> bool {
+    match number_of(slots, id) {
+        Ok(found) => found == number,
+        Err(AllocError) => false,
     }
 }
 
@@ -27,20 +34,17 @@ const IDS: &[(&str, u32)] = &[
     ("c", 5),
 ];
 
-fn get_numbers(rt: &impl Abort, slots: &mut Slots<'static, u8>) -> Result<(), AllocError> {
+fn get_numbers(rt: &impl Abort, slots: &mut Slots<'static, u8>) {
     for (id, number) in IDS {
-        let found = number_of(slots, id)?;
-        check(rt, found == *number, id);
+        check(rt, has_number(slots, id, *number), id);
     }
-    Ok(())
 }
 
 /// Run with each allocation failing in turn: an id that was refused gets the number that it would have got.
 #[test]
-fn ids_get_numbers_in_turn(rt: HostRuntime) -> Result<(), Fail> {
+fn ids_get_numbers_in_turn(rt: HostRuntime) {
     let mut slots = Slots::new(rt.alloc());
-    get_numbers(&rt, &mut slots)?;
-    Ok(())
+    get_numbers(&rt, &mut slots);
 }
 
 /// What the ids of the first three slots name.
@@ -71,64 +75,58 @@ fn hold(slots: &Slots<'_, u8>, named: Named) -> bool {
         && holds(slots, "d", 3, None)
 }
 
-fn hold_what_was_put_last(
-    rt: &impl Abort,
-    slots: &mut Slots<'static, u8>,
-) -> Result<(), AllocError> {
-    for id in ["a", "b", "c"] {
-        number_of(slots, id)?;
+fn hold_what_was_put_last(rt: &impl Abort, slots: &mut Slots<'static, u8>) {
+    for (number, id) in ["a", "b", "c"].into_iter().enumerate() {
+        check(rt, has_number(slots, id, number as u32), id);
     }
     check(rt, hold(slots, (None, None, None)), "before");
     for (at, (number, value, named)) in FILLED.iter().enumerate() {
         slots.fill(*number, Some(*value));
         check_at(rt, hold(slots, *named), "filled", at);
     }
-    Ok(())
 }
 
 /// Run with each allocation failing in turn.
 #[test]
-fn slots_hold_what_was_put_there_last(rt: HostRuntime) -> Result<(), Fail> {
+fn slots_hold_what_was_put_there_last(rt: HostRuntime) {
     let mut slots = Slots::new(rt.alloc());
-    hold_what_was_put_last(&rt, &mut slots)?;
-    Ok(())
+    hold_what_was_put_last(&rt, &mut slots);
 }
 
-fn put_and_add(slots: &mut Slots<'static, u8>) -> Result<(), AllocError> {
-    number_of(slots, "a")?;
+/// Puts `a`, fills its slot and puts `b`.
+fn put_and_add(slots: &mut Slots<'static, u8>) -> bool {
+    let is_put = has_number(slots, "a", 0);
     slots.fill(0, Some(7));
-    number_of(slots, "b")?;
-    Ok(())
+    is_put && has_number(slots, "b", 1)
 }
 
-/// A new slot is empty, and others stay as they are.
+/// Whether a new slot is empty, and the one before stays as it is.
+fn adds_an_empty_slot(slots: &mut Slots<'static, u8>) -> bool {
+    put_and_add(slots) && hold(slots, (Some(7), None, None))
+}
+
 #[test]
-fn a_new_slot_is_empty(rt: HostRuntime) -> Result<(), Fail> {
+fn a_new_slot_is_empty(rt: HostRuntime) {
     let mut slots = Slots::new(rt.alloc());
-    put_and_add(&mut slots)?;
-    check(&rt, hold(&slots, (Some(7), None, None)), "a new slot");
-    Ok(())
+    check(&rt, adds_an_empty_slot(&mut slots), "a new slot");
 }
 
 /// Makes room, again where memory is refused.
-fn make_room(slots: &mut Slots<'static, u8>, more: usize) -> Result<(), AllocError> {
-    match slots.reserve(more) {
-        Ok(()) => Ok(()),
-        Err(AllocError) => slots.reserve(more),
-    }
+fn make_room(slots: &mut Slots<'static, u8>, more: usize) -> bool {
+    slots.reserve(more).is_ok() || slots.reserve(more).is_ok()
 }
 
-fn put_and_make_room(slots: &mut Slots<'static, u8>) -> Result<(), AllocError> {
-    make_room(slots, 1)?;
-    put_and_add(slots)?;
-    make_room(slots, 100)
+/// Whether slots are with room for more as they are without, and stay so where there is room for many.
+fn are_same_with_room(slots: &mut Slots<'static, u8>) -> bool {
+    make_room(slots, 1)
+        && adds_an_empty_slot(slots)
+        && make_room(slots, 100)
+        && hold(slots, (Some(7), None, None))
 }
 
 /// Run with each allocation failing in turn: what ids name, and their numbers, are as before.
 #[test]
-fn room_for_more_changes_nothing(rt: HostRuntime) -> Result<(), Fail> {
+fn room_for_more_changes_nothing(rt: HostRuntime) {
     let mut slots = Slots::new(rt.alloc());
-    put_and_make_room(&mut slots)?;
-    check(&rt, hold(&slots, (Some(7), None, None)), "what was there");
-    Ok(())
+    check(&rt, are_same_with_room(&mut slots), "what was there");
 }

@@ -1,6 +1,7 @@
 //! Sources cut after each of their characters: each cut is read, and its Junk is what stands at its ranges.
-use crate::reading::read;
-use crate::shown::is_tree;
+use crate::check::{check, check_rows};
+use crate::reading::{Found, read};
+use crate::sources::Source;
 use fluent_syntax::ParserError;
 use fluent_syntax::ast::Entry;
 use std::alloc::{AllocError, Global};
@@ -19,7 +20,7 @@ const MIXED_TREE: &str =
     "!(\u{feff}a = b\r\n) -t=[(  x\u{1f602})(\n)(\n)(    ){$n}(\n)(y)] .at=[{\"\\u00e9\"}] !(? = }\r\n\n) m=[{-t(c:-1.5,)}( ){F({$b},d.e,)}] !( .x = y\n) z=[{{1}}] 6..16 77..85 126..134";
 
 /// The sources, with their trees.
-const SOURCES: &[(&str, &str)] = &[(ORDINALS, ORDINALS_TREE), (MIXED, MIXED_TREE)];
+const SOURCES: &[Source] = &[(ORDINALS, ORDINALS_TREE), (MIXED, MIXED_TREE)];
 
 /// The part of a source between two places.
 fn part_of<'x>(source: &'x str, start: usize, end: usize) -> Option<&'x str> {
@@ -50,31 +51,30 @@ fn junk_stands_in(source: &str, body: &[Entry], errors: &[ParserError]) -> bool 
     ranges.next().is_none()
 }
 
-fn is_read(alloc: Global, source: &str) -> Result<bool, AllocError> {
-    let (resource, errors) = read(alloc, source)?;
-    let body = resource.body.as_slice();
-    Ok(match &errors {
-        Some(errors) => !errors.is_empty() && junk_stands_in(source, body, errors.as_slice()),
-        None => junk_stands_in(source, body, &[]),
-    })
+fn has_its_junk(source: &str, found: &Found) -> bool {
+    match found {
+        Ok((resource, Some(errors))) => {
+            !errors.is_empty()
+                && junk_stands_in(source, resource.body.as_slice(), errors.as_slice())
+        }
+        Ok((resource, None)) => junk_stands_in(source, resource.body.as_slice(), &[]),
+        Err(AllocError) => false,
+    }
 }
 
 /// Each cut of a source is read.
-fn cuts_are_read(rt: &impl Abort, alloc: Global, source: &str) -> Result<(), AllocError> {
+fn cuts_are_read(rt: &impl Abort, alloc: Global, source: &str) {
     for end in 0..source.len() {
         if let Some((cut, _)) = source.split_at_checked(end) {
-            let holds = is_read(alloc, cut)?;
-            assert!(rt; holds, "cut at {end}");
+            check(rt, has_its_junk(cut, &read(alloc, cut)), cut);
         }
     }
-    Ok(())
 }
 
 #[test]
-fn each_cut_and_the_whole_are_read(rt: HostRuntime) -> Result<(), AllocError> {
-    for (source, tree) in SOURCES {
-        cuts_are_read(&rt, rt.alloc(), *source)?;
-        is_tree(&rt, rt.alloc(), *source, *tree)?;
+fn each_cut_and_the_whole_are_read(rt: HostRuntime) {
+    for (source, _) in SOURCES {
+        cuts_are_read(&rt, rt.alloc(), *source);
     }
-    Ok(())
+    check_rows(&rt, rt.alloc(), SOURCES);
 }

@@ -1,13 +1,16 @@
 //! `==` of the types of the tree, on pairs of sources: equal contents, wherever their texts lie.
-use crate::reading::read;
+use crate::check::{Row, check, check_rows};
+use crate::reading::{Found, read};
 use fluent_syntax::ast::{
-    Attribute, Entry, Expression, Identifier, InlineExpression, Pattern, PatternElement, Resource,
-    Variant, VariantKey,
+    Attribute, Entry, Expression, Identifier, InlineExpression, Pattern, PatternElement, Variant,
+    VariantKey,
 };
 use std::alloc::{AllocError, Global};
 
 /// Two sources, and whether their trees are equal.
-const PAIRS: &[(&str, &str, bool)] = &[
+type Pair = (&'static str, &'static str, bool);
+
+const PAIRS: &[Pair] = &[
     (
         "a = b{ F(-t.c(d: 1)) }\n .e = { F() }\n-t = { $n ->\n *[o] x\n }\n .c = y",
         "a = b{ F(-t.c(d: 1)) }\n .e = { F() }\n-t = { $n ->\n *[o] x\n }\n .c = y",
@@ -124,7 +127,7 @@ const PAIRS: &[(&str, &str, bool)] = &[
 ];
 
 /// Two sources that differ at one place within all parts of their first entries, or nowhere.
-const PARTS: &[(&str, &str, bool)] = &[
+const PARTS: &[Pair] = &[
     ("a = { F(b: 1) }", "a = { F(b: 1) }", true),
     ("a = { F(b: 1) }", "a = { F(b: 2) }", false),
     (
@@ -139,32 +142,37 @@ const PARTS: &[(&str, &str, bool)] = &[
     ),
 ];
 
-fn tree<'s>(alloc: Global, source: &'s str) -> Result<Resource<'s>, AllocError> {
-    let (tree, _) = read(alloc, source)?;
-    Ok(tree)
+fn are_alike<'s>(one: &Found<'s>, other: &Found<'s>, equal: bool) -> bool {
+    match (one, other) {
+        (Ok((one, _)), Ok((other, _))) => (one == other) == equal,
+        _ => false,
+    }
 }
 
-/// Whether two sources have equal trees.
-fn alike<'s>(alloc: Global, one: &'s str, other: &'s str) -> Result<bool, AllocError> {
-    let one = tree(alloc, one)?;
-    let other = tree(alloc, other)?;
-    Ok(one == other)
+/// Whether two sources have equal trees, or other ones.
+fn alike<'s>(alloc: Global, one: &'s str, other: &'s str, equal: bool) -> bool {
+    let one = read(alloc, one);
+    let other = read(alloc, other);
+    are_alike(&one, &other, equal)
 }
 
-/// Whether the trees are equal as the row says. The second source is read from a copy, which lies elsewhere.
-fn is_pair(alloc: Global, row: &(&str, &str, bool)) -> Result<bool, AllocError> {
-    let copy = String::from_str(alloc, row.1)?;
-    let found = alike(alloc, row.0, copy.as_str())?;
-    Ok(found == row.2)
+/// The same where the second source is a copy, which lies elsewhere.
+fn alike_copied(alloc: Global, one: &str, other: &Result<String, AllocError>, equal: bool) -> bool {
+    match other {
+        Ok(other) => alike(alloc, one, other.as_str(), equal),
+        Err(AllocError) => false,
+    }
+}
+
+impl Row for Pair {
+    fn holds(&self, alloc: Global) -> bool {
+        alike_copied(alloc, self.0, &String::from_str(alloc, self.1), self.2)
+    }
 }
 
 #[test]
-fn of_sources(rt: HostRuntime) -> Result<(), AllocError> {
-    for row in PAIRS {
-        let holds = is_pair(rt.alloc(), row)?;
-        assert!(rt; holds, "of {:?} and {:?}", row.0, row.1);
-    }
-    Ok(())
+fn of_sources(rt: HostRuntime) {
+    check_rows(&rt, rt.alloc(), PAIRS);
 }
 
 // Parts that are all equal, or all different, each by the `==` of its own type.
@@ -245,13 +253,20 @@ fn variants<'s>(one: &[Variant<'s>], other: &[Variant<'s>], equal: bool) -> bool
 }
 
 /// Whether the first entries of two sources have all parts equal, or none.
-fn parts<'s>(alloc: Global, one: &'s str, other: &'s str, equal: bool) -> Result<bool, AllocError> {
-    let one = tree(alloc, one)?;
-    let other = tree(alloc, other)?;
-    Ok(match (one.body.first(), other.body.first()) {
-        (Some(x), Some(y)) => entries(x, y, equal),
+fn parts<'s>(one: &Found<'s>, other: &Found<'s>, equal: bool) -> bool {
+    match (one, other) {
+        (Ok((one, _)), Ok((other, _))) => match (one.body.first(), other.body.first()) {
+            (Some(x), Some(y)) => entries(x, y, equal),
+            _ => false,
+        },
         _ => false,
-    })
+    }
+}
+
+fn have_parts(alloc: Global, row: &Pair) -> bool {
+    let one = read(alloc, row.0);
+    let other = read(alloc, row.1);
+    parts(&one, &other, row.2)
 }
 
 /// Whether each value is equal to itself and to no other of them.
@@ -279,11 +294,9 @@ fn names_and_keys_differ() -> bool {
 }
 
 #[test]
-fn of_parts(rt: HostRuntime) -> Result<(), AllocError> {
+fn of_parts(rt: HostRuntime) {
     for row in PARTS {
-        let holds = parts(rt.alloc(), row.0, row.1, row.2)?;
-        assert!(rt; holds, "of {:?} and {:?}", row.0, row.1);
+        check(&rt, have_parts(rt.alloc(), row), row.1);
     }
-    assert!(rt; names_and_keys_differ());
-    Ok(())
+    check(&rt, names_and_keys_differ(), "names and keys");
 }

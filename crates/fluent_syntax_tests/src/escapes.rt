@@ -1,4 +1,5 @@
 //! Escapes of string literals: texts that the standard gives, and what becomes of a writer that fails.
+use crate::check::{check, is_same};
 use crate::writers::{Slow, has_counts, slow_writer};
 use fluent_syntax::{Counting, WriteFault, unescape_unicode, unescape_unicode_to_string};
 use std::alloc::{AllocError, Global};
@@ -38,20 +39,26 @@ fn is_written(alloc: Global, text: &str, meaning: &str) -> bool {
 }
 
 /// That the text that is made is the meaning, lent where there is no backslash.
-fn is_made(alloc: Global, text: &str, meaning: &str) -> Result<bool, AllocError> {
-    let made = unescape_unicode_to_string(alloc, text)?;
-    let lent = matches!(&made, CowStr::Borrowed(_));
-    Ok(made.as_str() == meaning && lent != text.contains('\\'))
+fn is_made(made: &Result<CowStr<'_>, AllocError>, text: &str, meaning: &str) -> bool {
+    match made {
+        Ok(made) => {
+            let lent = matches!(made, CowStr::Borrowed(_));
+            is_same(made.as_str(), meaning) && lent != text.contains('\\')
+        }
+        Err(AllocError) => false,
+    }
+}
+
+fn is_meant(alloc: Global, text: &str, meaning: &str) -> bool {
+    is_written(alloc, text, meaning)
+        && is_made(&unescape_unicode_to_string(alloc, text), text, meaning)
 }
 
 #[test]
-fn texts_are_what_escapes_mean(rt: HostRuntime) -> Result<(), AllocError> {
+fn texts_are_what_escapes_mean(rt: HostRuntime) {
     for (text, meaning) in ESCAPES {
-        let written = is_written(rt.alloc(), *text, *meaning);
-        let made = is_made(rt.alloc(), *text, *meaning)?;
-        assert!(rt; written && made, "of {text:?}");
+        check(&rt, is_meant(rt.alloc(), *text, *meaning), text);
     }
-    Ok(())
 }
 
 /// Whether an escaped text is refused by a writer, with the writer's own error.
@@ -72,9 +79,17 @@ fn fails_after(alloc: Global, good: u64) -> bool {
             .starts_with(w.into_inner().taken.as_slice())
 }
 
+/// When a writer fails, and how many calls are good before.
+const FAILING: &[(&str, u64)] = &[
+    ("at once", 0),
+    ("after one call", 1),
+    ("after two calls", 2),
+    ("after three calls", 3),
+];
+
 #[test]
 fn a_writer_that_fails(rt: HostRuntime) {
-    for good in 0..4 {
-        assert!(rt; fails_after(rt.alloc(), good), "after {good}");
+    for (name, good) in FAILING {
+        check(&rt, fails_after(rt.alloc(), *good), name);
     }
 }

@@ -4,10 +4,9 @@ use fluent_syntax::{ParseFault, ParserError, parse_runtime};
 use std::alloc::{AllocError, Global};
 
 /// The tree of a source, and its errors where it has Junk.
-pub fn read<'s>(
-    alloc: Global,
-    source: &'s str,
-) -> Result<(Resource<'s>, Option<Vec<ParserError>>), AllocError> {
+pub type Found<'s> = Result<(Resource<'s>, Option<Vec<ParserError>>), AllocError>;
+
+pub fn read<'s>(alloc: Global, source: &'s str) -> Found<'s> {
     match parse_runtime(alloc, source) {
         Ok(resource) => Ok((resource, None)),
         Err(ParseFault::Parser(resource, errors)) => Ok((resource, Some(errors))),

@@ -1,14 +1,14 @@
 //! What patterns refer to, in the order of the tree.
-use crate::reading::read;
+use crate::check::{Row, check_rows};
+use crate::reading::{Found, read};
 use fluent_syntax::ast::{Entry, Pattern};
 use fluent_syntax::{Reference, references};
 use std::alloc::{AllocError, Global};
-use std::test::Fail;
 
 /// A source, and what the value of its first entry refers to.
-type Row = (&'static str, &'static [Reference<'static>]);
+type Refers = (&'static str, &'static [Reference<'static>]);
 
-const ROWS: &[Row] = &[
+const ROWS: &[Refers] = &[
     (
         "p = { F(a, -t(x: 1)) ->\n [k] { b.c }\n *[o] { G() }\n }",
         &[
@@ -73,29 +73,47 @@ fn value<'x, 's>(entries: &'x [Entry<'s>]) -> Option<&'x Pattern<'s>> {
     }
 }
 
-/// Whether a pattern refers to these, asked again where memory is refused.
-fn refers_to(alloc: Global, pattern: &Pattern, these: &[Reference]) -> Result<bool, AllocError> {
-    let list = match references(alloc, pattern) {
-        Ok(list) => list,
-        Err(AllocError) => references(alloc, pattern)?,
-    };
-    Ok(list.as_slice() == these)
+fn are_listed(list: &Result<Vec<Reference<'_>>, AllocError>, these: &[Reference]) -> bool {
+    match list {
+        Ok(list) => list.as_slice() == these,
+        Err(AllocError) => false,
+    }
 }
 
-fn is_listed(alloc: Global, row: &Row) -> Result<bool, AllocError> {
-    let (resource, errors) = read(alloc, row.0)?;
-    match value(resource.body.as_slice()) {
-        Some(pattern) if errors.is_none() => refers_to(alloc, pattern, row.1),
-        _ => Ok(false),
+/// What a pattern refers to, asked again where memory is refused.
+fn listed<'s>(alloc: Global, pattern: &Pattern<'s>) -> Result<Vec<Reference<'s>>, AllocError> {
+    match references(alloc, pattern) {
+        Err(AllocError) => references(alloc, pattern),
+        list => list,
+    }
+}
+
+fn refers_to(alloc: Global, found: &Found, these: &[Reference]) -> bool {
+    match found {
+        Ok((resource, None)) => match value(resource.body.as_slice()) {
+            Some(pattern) => are_listed(&listed(alloc, pattern), these),
+            None => false,
+        },
+        _ => false,
+    }
+}
+
+/// A source as it is read, again where memory is refused.
+fn read_again(alloc: Global, source: &'static str) -> Found<'static> {
+    match read(alloc, source) {
+        Err(AllocError) => read(alloc, source),
+        found => found,
+    }
+}
+
+impl Row for Refers {
+    fn holds(&self, alloc: Global) -> bool {
+        refers_to(alloc, &read_again(alloc, self.0), self.1)
     }
 }
 
 /// Run with each allocation failing in turn.
 #[test]
-fn patterns_refer_in_order(rt: HostRuntime) -> Result<(), Fail> {
-    for row in ROWS {
-        let holds = is_listed(rt.alloc(), row)?;
-        assert!(rt; holds, "of {:?}", row.0);
-    }
-    Ok(())
+fn patterns_refer_in_order(rt: HostRuntime) {
+    check_rows(&rt, rt.alloc(), ROWS);
 }

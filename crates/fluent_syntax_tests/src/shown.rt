@@ -1,41 +1,18 @@
 //! A short form of what the reader gives.
-use crate::reading::read;
+use crate::check::is_same;
+use crate::reading::{Found, read};
 use fluent_syntax::ParserError;
 use fluent_syntax::ast::{
     Attribute, CallArguments, Entry, Expression, Identifier, InlineExpression, NamedArgument,
-    Pattern, PatternElement, Variant, VariantKey,
+    Pattern, PatternElement, Resource, Variant, VariantKey,
 };
 use std::alloc::{AllocError, Global};
-use std::process::Abort;
-
-/// What a source is read as. Its entries in order: `id=[..]` a message, `-id=[..]` a term, each with ` .id=[..]` for an
-/// attribute, `!(..)` Junk. In a pattern `(..)` is a text and `{..}` a placeable; a select is `selector->` and its
-/// variants, `key[..]`, with `*` before the default and `#` before a number. Each argument ends in a comma.
-/// At the end stands the byte range of each Junk.
-pub fn shown(alloc: Global, source: &str) -> Result<String, AllocError> {
-    let (resource, errors) = read(alloc, source)?;
-    let mut out = Text {
-        text: String::new(alloc),
-        refused: false,
-    };
-    entries(&mut out, resource.body.as_slice());
-    if let Some(errors) = &errors {
-        ranges(&mut out, errors.as_slice());
-    }
-    whole(out)
-}
 
 /// A text that grows, and whether memory for a part of it was refused.
 #[derive(Drop)]
 struct Text {
     text: String,
     refused: bool,
-}
-
-/// The text, where no memory was refused.
-fn whole(out: Text) -> Result<String, AllocError> {
-    let Text { text, refused } = out;
-    if refused { Err(AllocError) } else { Ok(text) }
 }
 
 fn put(out: &mut Text, text: &str) {
@@ -59,15 +36,36 @@ fn ranges(out: &mut Text, errors: &[ParserError]) {
     }
 }
 
-/// That a source is read as a tree.
-pub fn is_tree(rt: &impl Abort, alloc: Global, source: &str, tree: &str) -> Result<(), AllocError> {
-    let found = shown(alloc, source)?;
-    is_same(rt, source, found.as_str(), tree);
-    Ok(())
+/// What a source is read as, in a short form. Its entries in order: `id=[..]` a message, `-id=[..]` a term, each with ` .id=[..]` for an
+/// attribute, `!(..)` Junk. In a pattern `(..)` is a text and `{..}` a placeable; a select is `selector->` and its
+/// variants, `key[..]`, with `*` before the default and `#` before a number. Each argument ends in a comma.
+/// At the end stands the byte range of each Junk.
+fn shown(alloc: Global, resource: &Resource, errors: &Option<Vec<ParserError>>) -> Text {
+    let mut out = Text {
+        text: String::new(alloc),
+        refused: false,
+    };
+    entries(&mut out, resource.body.as_slice());
+    if let Some(errors) = errors {
+        ranges(&mut out, errors.as_slice());
+    }
+    out
 }
 
-fn is_same(rt: &impl Abort, source: &str, found: &str, tree: &str) {
-    assert!(rt; found == tree, "of {source:?}");
+fn is_whole(found: &Text, tree: &str) -> bool {
+    !found.refused && is_same(found.text.as_str(), tree)
+}
+
+fn is_shown(alloc: Global, found: &Found, tree: &str) -> bool {
+    match found {
+        Ok((resource, errors)) => is_whole(&shown(alloc, resource, errors), tree),
+        Err(AllocError) => false,
+    }
+}
+
+/// Whether a source is read as a tree, in the short form.
+pub fn is_tree(alloc: Global, source: &str, tree: &str) -> bool {
+    is_shown(alloc, &read(alloc, source), tree)
 }
 
 fn entries(out: &mut Text, body: &[Entry]) {

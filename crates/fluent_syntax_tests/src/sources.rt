@@ -9,15 +9,24 @@ mod placeable_lines;
 mod placeables;
 mod selects;
 
+use crate::check::{Row, check_rows};
 use crate::shown::is_tree;
-use std::alloc::{AllocError, Global};
-use std::process::Abort;
+use std::alloc::Global;
+
+/// A source, and its tree.
+pub type Source = (&'static str, &'static str);
+
+impl Row for Source {
+    fn holds(&self, alloc: Global) -> bool {
+        is_tree(alloc, self.0, self.1)
+    }
+}
 
 /// How many tables there are.
 const TABLES: usize = 9;
 
-/// The table at a place: rows of a source and its tree.
-fn table(place: usize) -> &'static [(&'static str, &'static str)] {
+/// The table at a place.
+fn table(place: usize) -> &'static [Source] {
     match place {
         0 => attributes::ROWS,
         1 => calls::ROWS,
@@ -31,18 +40,9 @@ fn table(place: usize) -> &'static [(&'static str, &'static str)] {
     }
 }
 
-/// Compares what each source of a table is read as with the tree beside it.
-fn are_read(rt: &impl Abort, alloc: Global, rows: &[(&str, &str)]) -> Result<(), AllocError> {
-    for (source, tree) in rows {
-        is_tree(rt, alloc, *source, *tree)?;
-    }
-    Ok(())
-}
-
 #[test]
-fn sources_are_read_as_their_trees(rt: HostRuntime) -> Result<(), AllocError> {
+fn sources_are_read_as_their_trees(rt: HostRuntime) {
     for place in 0..TABLES {
-        are_read(&rt, rt.alloc(), table(place))?;
+        check_rows(&rt, rt.alloc(), table(place));
     }
-    Ok(())
 }

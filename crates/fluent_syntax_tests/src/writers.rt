@@ -1,5 +1,6 @@
 //! What no clause of `fluent_syntax` says of writers that fail.
 
+use crate::check::{Row, check, check_rows};
 use fluent_laws::{
     chunks_make_up, entries_are_well_formed, junk_ranges_in_order, read_from_there_on,
     texts_are_slices,
@@ -54,9 +55,9 @@ pub fn slow_writer(alloc: Global, step: usize, good: u64) -> Counting<Slow> {
 
 /// What a writer takes in a call, how many calls are good, what becomes of `hello`, what the writer has of it then, and
 /// the counts of calls that failed and that took nothing.
-type Row = (usize, u64, &'static str, &'static str, (u64, u64));
+type Writer = (usize, u64, &'static str, &'static str, (u64, u64));
 
-const WRITERS: &[Row] = &[
+const WRITERS: &[Writer] = &[
     (1, 100, "whole", "hello", (0, 0)),
     (0, 100, "nothing taken", "", (0, 1)),
     (2, 2, "broken", "hell", (1, 0)),
@@ -76,13 +77,15 @@ pub fn has_counts(w: &Counting<Slow>, counts: (u64, u64)) -> bool {
     w.failed() == counts.0 && w.empty() == counts.1
 }
 
-/// That `hello` is written as the row says, and then nothing, which needs no call.
-fn is_written(alloc: Global, row: &Row) -> bool {
-    let mut w = slow_writer(alloc, row.0, row.1);
-    outcome(&mut w, b"hello") == row.2
-        && outcome(&mut w, b"") == "whole"
-        && has_counts(&w, row.4)
-        && w.into_inner().taken.as_slice() == row.3.as_bytes()
+impl Row for Writer {
+    /// Whether `hello` is written as the row says, and then nothing, which needs no call.
+    fn holds(&self, alloc: Global) -> bool {
+        let mut w = slow_writer(alloc, self.0, self.1);
+        outcome(&mut w, b"hello") == self.2
+            && outcome(&mut w, b"") == "whole"
+            && has_counts(&w, self.4)
+            && w.into_inner().taken.as_slice() == self.3.as_bytes()
+    }
 }
 
 /// That one write of no bytes counts as none that takes nothing.
@@ -93,10 +96,8 @@ fn is_not_counted(alloc: Global) -> bool {
 
 #[test]
 fn writers_that_fail(rt: HostRuntime) {
-    for row in WRITERS {
-        assert!(rt; is_written(rt.alloc(), row), "at {}", row.2);
-    }
-    assert!(rt; is_not_counted(rt.alloc()));
+    check_rows(&rt, rt.alloc(), WRITERS);
+    check(&rt, is_not_counted(rt.alloc()), "no bytes");
 }
 
 /// What one write of a piece answers: how many bytes it took, or none where it was broken.
@@ -120,5 +121,5 @@ fn are_single(alloc: Global) -> bool {
 
 #[test]
 fn each_write_is_one_write_within(rt: HostRuntime) {
-    assert!(rt; are_single(rt.alloc()));
+    check(&rt, are_single(rt.alloc()), "single writes");
 }
