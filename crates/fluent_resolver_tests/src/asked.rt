@@ -230,5 +230,6 @@ twice = { NUMBER(NUMBER(5, minimumFractionDigits: 1), type: \"ordinal\") }
 /// Run with each allocation failing in turn.
 #[test]
 fn functions_are_asked_in_order(rt: HostRuntime) -> Result<(), Fail> {
-    hold(&rt, rt.alloc(), &[ANSWERS, ARGUMENTS, NUMBERS])
+    hold(&rt, rt.alloc(), &[ANSWERS, ARGUMENTS, NUMBERS])?;
+    Ok(())
 }

@@ -1,9 +1,9 @@
 //! The limit on placeables, through references, arguments, selectors and nested placeables: where it strikes, how the
 //! placeables that were open end, and which errors follow.
-use crate::rows::{Table, gives, hold, wants};
+use crate::rows::{Table, hold, message_gives, wants};
 use fluent_fixtures::common::read;
 use fluent_fixtures::objects::Answer;
-use fluent_fixtures::settings::{Bundle, Given, Named, Setting, bundle_of, pattern_in};
+use fluent_fixtures::settings::{Bundle, Given, Named, Setting, bundle_of};
 use std::alloc::{AllocError, Global};
 use std::process::Abort;
 use std::test::Fail;
@@ -17,7 +17,12 @@ type Pieces = &'static [(usize, &'static str)];
 type Row = (&'static str, Pieces, &'static str);
 
 /// What is set in a bundle, its source, and what its messages give without arguments.
-type Long = (&'static [Setting], Pieces, &'static [Row]);
+#[derive(Clone, Copy, Drop)]
+struct Long {
+    settings: &'static [Setting],
+    source: Pieces,
+    rows: &'static [Row],
+}
 
 fn joined(alloc: Global, pieces: Pieces) -> Result<String, AllocError> {
     let mut text = String::new(alloc);
@@ -29,41 +34,24 @@ fn joined(alloc: Global, pieces: Pieces) -> Result<String, AllocError> {
     Ok(text)
 }
 
-fn is_given(
-    rt: &impl Abort,
-    alloc: Global,
-    bundle: &Bundle<'_, '_>,
-    row: &Row,
-) -> Result<(), Fail> {
-    let pattern = pattern_in(bundle, row.0)?;
-    let text = joined(alloc, row.1)?;
-    gives(
-        rt,
-        alloc,
-        bundle,
-        pattern,
-        &[],
-        &wants(text.as_str(), row.2),
-    )
-}
-
 fn are_given(
     rt: &impl Abort,
     alloc: Global,
     bundle: &Bundle<'_, '_>,
     rows: &[Row],
-) -> Result<(), Fail> {
-    for row in rows {
-        is_given(rt, alloc, bundle, row)?;
+) -> Result<(), AllocError> {
+    for (id, pieces, errors) in rows {
+        let text = joined(alloc, *pieces)?;
+        message_gives(rt, alloc, bundle, *id, &[], &wants(text.as_str(), *errors))?;
     }
     Ok(())
 }
 
-fn long_holds(rt: &impl Abort, alloc: Global, long: &Long) -> Result<(), Fail> {
-    let source = joined(alloc, long.1)?;
+fn long_holds(rt: &impl Abort, alloc: Global, long: &Long) -> Result<(), AllocError> {
+    let source = joined(alloc, long.source)?;
     let resource = read(alloc, source.as_str())?;
-    let bundle = bundle_of(alloc, long.0, &resource)?;
-    are_given(rt, alloc, &bundle, long.2)
+    let bundle = bundle_of(alloc, long.settings, &resource)?;
+    are_given(rt, alloc, &bundle, long.rows)
 }
 
 const TOO_MANY: &str = "Resolver error: Too many placeables\n";
@@ -100,10 +88,10 @@ brackets = ",
     (1, " }\n"),
 ];
 
-const HUNDRED: Long = (
-    &[Setting::Builtins],
-    SOURCE,
-    &[
+const HUNDRED: Long = Long {
+    settings: &[Setting::Builtins],
+    source: SOURCE,
+    rows: &[
         ("within", &[(99, "a")], ""),
         ("hundred", &[(100, "a")], ""),
         ("m", &[(100, "a")], TOO_MANY),
@@ -128,16 +116,16 @@ const HUNDRED: Long = (
             "Resolver error: Unknown function: F()\n",
         ),
     ],
-);
+};
 
-const ONE_MORE: Long = (
-    &[Setting::Limit(101)],
-    SOURCE,
-    &[
+const ONE_MORE: Long = Long {
+    settings: &[Setting::Limit(101)],
+    source: SOURCE,
+    rows: &[
         ("m", &[(101, "a")], ""),
         ("n", &[(1, "x"), (100, "a"), (1, "{m}")], TOO_MANY),
     ],
-);
+};
 
 const LAUGHS: Pieces = &[
     (1, "a = lol\nb = "),
@@ -149,32 +137,32 @@ const LAUGHS: Pieces = &[
     (1, "\n"),
 ];
 
-const LAUGHING: Long = (
-    &[],
-    LAUGHS,
-    &[
+const LAUGHING: Long = Long {
+    settings: &[],
+    source: LAUGHS,
+    rows: &[
         ("b", &[(10, "lol")], ""),
         ("c", &[(90, "lol"), (1, "{b}")], TOO_MANY),
         ("d", &[(90, "lol"), (1, "{c}")], TOO_MANY),
     ],
-);
+};
 
-const ALL_LAUGHS: Long = (
-    &[Setting::Limit(1110)],
-    LAUGHS,
-    &[("d", &[(1000, "lol")], "")],
-);
+const ALL_LAUGHS: Long = Long {
+    settings: &[Setting::Limit(1110)],
+    source: LAUGHS,
+    rows: &[("d", &[(1000, "lol")], "")],
+};
 
-const LAST_LAUGH: Long = (
-    &[Setting::Limit(1109)],
-    LAUGHS,
-    &[("d", &[(999, "lol"), (1, "{b}{c}")], TOO_MANY)],
-);
+const LAST_LAUGH: Long = Long {
+    settings: &[Setting::Limit(1109)],
+    source: LAUGHS,
+    rows: &[("d", &[(999, "lol"), (1, "{b}{c}")], TOO_MANY)],
+};
 
 const LONGS: &[Long] = &[HUNDRED, ONE_MORE, LAUGHING, ALL_LAUGHS, LAST_LAUGH];
 
 #[test]
-fn the_limit_goes_through_everything(rt: HostRuntime) -> Result<(), Fail> {
+fn the_limit_goes_through_everything(rt: HostRuntime) -> Result<(), AllocError> {
     for long in LONGS {
         long_holds(&rt, rt.alloc(), long)?;
     }
@@ -391,5 +379,6 @@ q = x{ { m } }
 /// Run with each allocation failing in turn.
 #[test]
 fn small_limits_close_what_is_open(rt: HostRuntime) -> Result<(), Fail> {
-    hold(&rt, rt.alloc(), &[ONE, GOING_ON, TWO, THREE, NO_ISOLATION])
+    hold(&rt, rt.alloc(), &[ONE, GOING_ON, TWO, THREE, NO_ISOLATION])?;
+    Ok(())
 }

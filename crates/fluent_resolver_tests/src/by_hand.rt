@@ -1,15 +1,12 @@
 //! Patterns made by hand, of which many stand in no source, and patterns of other sources.
 use crate::rows::{gives, wants};
-use crate::trees::{
-    Asked, Inline, Tree, alone, asked, bare_term, beside, case_number, case_of, choice, default,
-    function, in_brackets, message, named, nested, number, only, only_named, put, say, select,
-    string, term, variable,
-};
-use fluent_bundle::ast::{Expression, Pattern};
+use crate::trees::{Asked, Case, Leaf, Named, Part, Tree, pattern};
+use fluent_bundle::FluentResource;
+use fluent_bundle::ast::Pattern;
 use fluent_fixtures::common::{read, value_of};
 use fluent_fixtures::objects::Answer;
-use fluent_fixtures::settings::{Bundle, Given, Named, Setting, bundle_of};
-use std::alloc::Global;
+use fluent_fixtures::settings::{Bundle, Given, Named as Argument, Setting, bundle_of};
+use std::alloc::{AllocError, Global};
 use std::process::Abort;
 use std::test::Fail;
 
@@ -29,7 +26,7 @@ const SETTINGS: &[Setting] = &[
     Setting::Function("NAMED", Answer::Named),
 ];
 
-const NINE: &[Named] = &[("n", Given::Read("9"))];
+const NINE: &[Argument] = &[("n", Given::Read("9"))];
 
 const P: &str = "Resolver error: Unknown variable: $p\n";
 
@@ -40,56 +37,94 @@ const Q: &str = "Resolver error: Unknown variable: $q\n";
 
 const CYCLIC: &str = "Resolver error: Cyclical dependency detected\n";
 
-/// What a tree gives where `n` is 9.
-fn row<'s>(
+// ---- tables of trees
+
+/// A tree, and what it gives where `n` is 9: its text, and the lines of its errors.
+#[derive(Clone, Copy, Drop)]
+struct Row {
+    tree: Tree,
+    text: &'static str,
+    errors: &'static str,
+}
+
+fn gives_row<'s>(
     rt: &impl Abort,
     alloc: Global,
     bundle: &Bundle<'_, 's>,
-    tree: Tree<'s>,
-    text: &str,
-    errors: &str,
-) -> Result<(), Fail> {
-    let pattern = tree?;
-    gives(rt, alloc, bundle, &pattern, NINE, &wants(text, errors))
+    row: &Row,
+) -> Result<(), AllocError> {
+    let made: Pattern<'s> = pattern(alloc, row.tree)?;
+    gives(rt, alloc, bundle, &made, NINE, &wants(row.text, row.errors))
+}
+
+fn gives_rows(
+    rt: &impl Abort,
+    alloc: Global,
+    bundle: &Bundle<'_, '_>,
+    rows: &[Row],
+) -> Result<(), AllocError> {
+    for row in rows {
+        gives_row(rt, alloc, bundle, row)?;
+    }
+    Ok(())
+}
+
+/// What rows give in a bundle with these settings.
+fn hold(
+    rt: &impl Abort,
+    alloc: Global,
+    settings: &[Setting],
+    rows: &[Row],
+) -> Result<(), AllocError> {
+    let resource = read(alloc, SOURCE)?;
+    let bundle = bundle_of(alloc, settings, &resource)?;
+    gives_rows(rt, alloc, &bundle, rows)
 }
 
 // ---- literals
 
-/// The source of a literal, and its text.
-type Literal = (&'static str, &'static str);
+/// A literal, and its text.
+#[derive(Clone, Copy, Drop)]
+struct Literal(Leaf, &'static str);
 
-const NUMBERS: &[Literal] = &[
-    ("abc", "abc"),
-    ("", ""),
-    ("1e5", "1e5"),
-    ("+5.", "5."),
-    (".50", "0.50"),
-    ("-0", "0"),
-    ("-1.0", "-1.0"),
-    ("18446744073709551615", "18446744073709551615"),
-    ("18446744073709551616", "18446744073709551616"),
-    ("1.0000000000000000000", "1.0000000000000000000"),
+const LITERALS: &[Literal] = &[
+    Literal(Leaf::Number("abc"), "abc"),
+    Literal(Leaf::Number(""), ""),
+    Literal(Leaf::Number("1e5"), "1e5"),
+    Literal(Leaf::Number("+5."), "5."),
+    Literal(Leaf::Number(".50"), "0.50"),
+    Literal(Leaf::Number("-0"), "0"),
+    Literal(Leaf::Number("-1.0"), "-1.0"),
+    Literal(Leaf::Number("18446744073709551615"), "18446744073709551615"),
+    Literal(Leaf::Number("18446744073709551616"), "18446744073709551616"),
+    Literal(
+        Leaf::Number("1.0000000000000000000"),
+        "1.0000000000000000000",
+    ),
+    Literal(Leaf::String("\\q"), "\u{FFFD}q"),
+    Literal(Leaf::String("\\u00"), "\u{FFFD}u00"),
+    Literal(Leaf::String("\\"), "\u{FFFD}"),
+    Literal(Leaf::String("\"{ $n }\n"), "\"{ $n }\n"),
 ];
 
-const STRINGS: &[Literal] = &[
-    ("\\q", "\u{FFFD}q"),
-    ("\\u00", "\u{FFFD}u00"),
-    ("\\", "\u{FFFD}"),
-    ("\"{ $n }\n", "\"{ $n }\n"),
-];
-
-fn literals_give<'s>(rt: &impl Abort, alloc: Global, bundle: &Bundle<'_, 's>) -> Result<(), Fail> {
-    for (source, text) in NUMBERS {
-        row(rt, alloc, bundle, alone(alloc, number(*source)), *text, "")?;
-    }
-    for (source, text) in STRINGS {
-        row(rt, alloc, bundle, alone(alloc, string(*source)), *text, "")?;
+fn literals_give(
+    rt: &impl Abort,
+    alloc: Global,
+    bundle: &Bundle<'_, '_>,
+) -> Result<(), AllocError> {
+    for literal in LITERALS {
+        let row = Row {
+            tree: Tree::Beside(&[], Part::Leaf(literal.0)),
+            text: literal.1,
+            errors: "",
+        };
+        gives_row(rt, alloc, bundle, &row)?;
     }
     Ok(())
 }
 
 #[test]
-fn literals_of_any_source_are_written(rt: HostRuntime) -> Result<(), Fail> {
+fn literals_of_any_source_are_written(rt: HostRuntime) -> Result<(), AllocError> {
     let resource = read(rt.alloc(), SOURCE)?;
     let bundle = bundle_of(rt.alloc(), SETTINGS, &resource)?;
     literals_give(&rt, rt.alloc(), &bundle)
@@ -97,168 +132,218 @@ fn literals_of_any_source_are_written(rt: HostRuntime) -> Result<(), Fail> {
 
 // ---- patterns
 
-/// A text, an empty text and a reference to `foo`.
-fn split<'s>(alloc: Global) -> Tree<'s> {
-    Ok(Pattern {
-        elements: vec![in alloc; say("x"), say(""), put(message("foo"))]?,
-    })
-}
-
-fn nothing<'s>(alloc: Global) -> Pattern<'s> {
-    Pattern {
-        elements: Vec::new(alloc),
-    }
-}
-
-fn deep<'s>(alloc: Global) -> Tree<'s> {
-    alone(alloc, in_brackets(alloc, string("x"), 200)?)
-}
-
-fn patterns_give<'s>(rt: &impl Abort, alloc: Global, bundle: &Bundle<'_, 's>) -> Result<(), Fail> {
-    row(rt, alloc, bundle, Ok(nothing(alloc)), "", "")?;
-    let marked = beside(alloc, "", variable("n"));
-    row(rt, alloc, bundle, marked, "\u{2068}9\u{2069}", "")?;
-    row(rt, alloc, bundle, deep(alloc), "x", "")?;
-    let same = beside(alloc, "x", message("foo"));
-    row(rt, alloc, bundle, same, "x{foo}", CYCLIC)?;
-    row(rt, alloc, bundle, split(alloc), "xx{foo}", CYCLIC)
-}
+const PATTERNS: &[Row] = &[
+    Row {
+        tree: Tree::Texts(&[]),
+        text: "",
+        errors: "",
+    },
+    Row {
+        tree: Tree::Beside(&[""], Part::Leaf(Leaf::Variable("n"))),
+        text: "\u{2068}9\u{2069}",
+        errors: "",
+    },
+    Row {
+        tree: Tree::Beside(&[], Part::Brackets(Leaf::String("x"), 200)),
+        text: "x",
+        errors: "",
+    },
+    Row {
+        tree: Tree::Beside(&["x"], Part::Leaf(Leaf::Message("foo"))),
+        text: "x{foo}",
+        errors: CYCLIC,
+    },
+    Row {
+        tree: Tree::Beside(&["x", ""], Part::Leaf(Leaf::Message("foo"))),
+        text: "xx{foo}",
+        errors: CYCLIC,
+    },
+];
 
 #[test]
-fn patterns_of_any_elements_are_written(rt: HostRuntime) -> Result<(), Fail> {
-    let resource = read(rt.alloc(), SOURCE)?;
-    let bundle = bundle_of(rt.alloc(), SETTINGS, &resource)?;
-    patterns_give(&rt, rt.alloc(), &bundle)
+fn patterns_of_any_elements_are_written(rt: HostRuntime) -> Result<(), AllocError> {
+    hold(&rt, rt.alloc(), SETTINGS, PATTERNS)
+}
+
+/// Another source, and what its first message gives.
+#[derive(Clone, Copy, Drop)]
+struct Other {
+    source: &'static str,
+    text: &'static str,
+    errors: &'static str,
+}
+
+const OTHERS: &[Other] = &[
+    Other {
+        source: "m = x{ m }",
+        text: "xmm",
+        errors: "",
+    },
+    Other {
+        source: "other = x{ foo }",
+        text: "x{foo}",
+        errors: CYCLIC,
+    },
+];
+
+fn other_gives<'s>(
+    rt: &impl Abort,
+    alloc: Global,
+    bundle: &Bundle<'_, 's>,
+    other: &Other,
+) -> Result<(), Fail> {
+    let resource: FluentResource<'s> = read(alloc, other.source)?;
+    let wanted = wants(other.text, other.errors);
+    gives(rt, alloc, bundle, value_of(&resource)?, NINE, &wanted)?;
+    Ok(())
 }
 
 /// A pattern of another source goes by its content, and not by the id that it has there.
 #[test]
 fn patterns_of_other_sources_are_written(rt: HostRuntime) -> Result<(), Fail> {
-    let alloc = rt.alloc();
-    let resource = read(alloc, SOURCE)?;
-    let bundle = bundle_of(alloc, SETTINGS, &resource)?;
-    let of_one_id = read(alloc, "m = x{ m }")?;
-    let of_one_content = read(alloc, "other = x{ foo }")?;
-    gives(
-        &rt,
-        alloc,
-        &bundle,
-        value_of(&of_one_id)?,
-        NINE,
-        &wants("xmm", ""),
-    )?;
-    gives(
-        &rt,
-        alloc,
-        &bundle,
-        value_of(&of_one_content)?,
-        NINE,
-        &wants("x{foo}", CYCLIC),
-    )
+    let resource = read(rt.alloc(), SOURCE)?;
+    let bundle = bundle_of(rt.alloc(), SETTINGS, &resource)?;
+    for other in OTHERS {
+        other_gives(&rt, rt.alloc(), &bundle, other)?;
+    }
+    Ok(())
 }
 
 // ---- references
 
-/// A text and an attribute of a term that is given `n`.
-fn attribute_given<'s>(alloc: Global) -> Tree<'s> {
-    let one = only_named(alloc, "n", number("1"))?;
-    beside(alloc, "x", term("t", "a", one))
-}
+/// What gives `n` as 1.
+const ONE: Asked = Asked(&[], &[Named("n", Leaf::Number("1"))]);
 
-/// Attributes of terms in placeables.
-fn attributes_give<'s>(
-    rt: &impl Abort,
-    alloc: Global,
-    bundle: &Bundle<'_, 's>,
-) -> Result<(), Fail> {
-    let attribute = alone(alloc, bare_term("t", "a"));
-    row(rt, alloc, bundle, attribute, "a\u{2068}{$n}\u{2069}", "")?;
-    let given = attribute_given(alloc);
-    row(rt, alloc, bundle, given, "xa\u{2068}1\u{2069}", "")?;
-    let unknown = alone(alloc, bare_term("t", "b"));
-    let lost = "Resolver error: Unknown attribute: -t.b\n";
-    row(rt, alloc, bundle, unknown, "{-t.b}", lost)
-}
-
-/// A term that is asked so.
-fn termed<'s>(alloc: Global, arguments: Asked<'s>) -> Tree<'s> {
-    alone(alloc, term("t", "", arguments?))
-}
-
-/// A term that is given `n`.
-fn given<'s>(alloc: Global, value: Inline<'s>) -> Tree<'s> {
-    termed(alloc, only_named(alloc, "n", value))
-}
-
-/// A function that is asked so.
-fn called<'s>(alloc: Global, id: &'s str, arguments: Asked<'s>) -> Tree<'s> {
-    alone(alloc, function(id, arguments?))
-}
-
-/// Two named arguments of one name.
-fn twice<'s>(alloc: Global, name: &'s str) -> Asked<'s> {
-    let both = vec![in alloc; named(name, number("1")), named(name, number("2"))]?;
-    asked(alloc, Vec::new(alloc), both)
-}
-
-/// A positional and a named argument that are missing.
-fn p_and_q<'s>(alloc: Global, name: &'s str) -> Asked<'s> {
-    let positional = vec![in alloc; variable("p")]?;
-    let beside_it = vec![in alloc; named(name, variable("q"))]?;
-    asked(alloc, positional, beside_it)
-}
-
-/// A text and an argument that is missing.
-fn s_and_p<'s>(alloc: Global) -> Asked<'s> {
-    let positional = vec![in alloc; string("s"), variable("p")]?;
-    asked(alloc, positional, Vec::new(alloc))
-}
-
-/// Named arguments of terms that are no literals, and two of one name, of which the last stands.
-fn terms_give<'s>(rt: &impl Abort, alloc: Global, bundle: &Bundle<'_, 's>) -> Result<(), Fail> {
-    let outer = given(alloc, variable("n"));
-    row(rt, alloc, bundle, outer, "9", "")?;
-    let text = given(alloc, message("m"));
-    row(rt, alloc, bundle, text, "mm", "")?;
-    let below = given(alloc, bare_term("b", ""));
-    row(rt, alloc, bundle, below, "uu", "")?;
-    let missing = given(alloc, variable("q"));
-    row(rt, alloc, bundle, missing, "", Q)?;
-    let last = termed(alloc, twice(alloc, "n"));
-    row(rt, alloc, bundle, last, "2", "")?;
-    let in_order = termed(alloc, p_and_q(alloc, "n"));
-    row(rt, alloc, bundle, in_order, "", P_AND_Q)
-}
-
-/// Arguments of functions that stand in no source, and an id that is no name of a function there.
-fn functions_give<'s>(rt: &impl Abort, alloc: Global, bundle: &Bundle<'_, 's>) -> Result<(), Fail> {
-    let text = called(alloc, "f", only(alloc, string("q")));
-    row(rt, alloc, bundle, text, "q", "")?;
-    let last = called(alloc, "NAMED", twice(alloc, "x"));
-    row(rt, alloc, bundle, last, "2", "")?;
-    let outer = called(alloc, "NAMED", only_named(alloc, "x", message("one")));
-    row(rt, alloc, bundle, outer, "9", "")?;
-    let in_order = called(alloc, "FIRST", p_and_q(alloc, "x"));
-    row(rt, alloc, bundle, in_order, "FIRST()", P_AND_Q)?;
-    let second = called(alloc, "FIRST", s_and_p(alloc));
-    row(rt, alloc, bundle, second, "s", P)
-}
-
-fn references_give<'s>(
-    rt: &impl Abort,
-    alloc: Global,
-    bundle: &Bundle<'_, 's>,
-) -> Result<(), Fail> {
-    attributes_give(rt, alloc, bundle)?;
-    terms_give(rt, alloc, bundle)?;
-    functions_give(rt, alloc, bundle)
-}
+const REFERENCES: &[Row] = &[
+    // Attributes of terms in placeables.
+    Row {
+        tree: Tree::Beside(&[], Part::Leaf(Leaf::Attribute("t", "a"))),
+        text: "a\u{2068}{$n}\u{2069}",
+        errors: "",
+    },
+    Row {
+        tree: Tree::Beside(&["x"], Part::Attribute("t", "a", ONE)),
+        text: "xa\u{2068}1\u{2069}",
+        errors: "",
+    },
+    Row {
+        tree: Tree::Beside(&[], Part::Leaf(Leaf::Attribute("t", "b"))),
+        text: "{-t.b}",
+        errors: "Resolver error: Unknown attribute: -t.b\n",
+    },
+    // Named arguments of terms that are no literals, and two of one name, of which the last stands.
+    Row {
+        tree: Tree::Beside(
+            &[],
+            Part::Term("t", Asked(&[], &[Named("n", Leaf::Variable("n"))])),
+        ),
+        text: "9",
+        errors: "",
+    },
+    Row {
+        tree: Tree::Beside(
+            &[],
+            Part::Term("t", Asked(&[], &[Named("n", Leaf::Message("m"))])),
+        ),
+        text: "mm",
+        errors: "",
+    },
+    Row {
+        tree: Tree::Beside(
+            &[],
+            Part::Term("t", Asked(&[], &[Named("n", Leaf::Term("b"))])),
+        ),
+        text: "uu",
+        errors: "",
+    },
+    Row {
+        tree: Tree::Beside(
+            &[],
+            Part::Term("t", Asked(&[], &[Named("n", Leaf::Variable("q"))])),
+        ),
+        text: "",
+        errors: Q,
+    },
+    Row {
+        tree: Tree::Beside(
+            &[],
+            Part::Term(
+                "t",
+                Asked(
+                    &[],
+                    &[Named("n", Leaf::Number("1")), Named("n", Leaf::Number("2"))],
+                ),
+            ),
+        ),
+        text: "2",
+        errors: "",
+    },
+    Row {
+        tree: Tree::Beside(
+            &[],
+            Part::Term(
+                "t",
+                Asked(&[Leaf::Variable("p")], &[Named("n", Leaf::Variable("q"))]),
+            ),
+        ),
+        text: "",
+        errors: P_AND_Q,
+    },
+    // Arguments of functions that stand in no source, and an id that is no name of a function there.
+    Row {
+        tree: Tree::Beside(&[], Part::Function("f", Asked(&[Leaf::String("q")], &[]))),
+        text: "q",
+        errors: "",
+    },
+    Row {
+        tree: Tree::Beside(
+            &[],
+            Part::Function(
+                "NAMED",
+                Asked(
+                    &[],
+                    &[Named("x", Leaf::Number("1")), Named("x", Leaf::Number("2"))],
+                ),
+            ),
+        ),
+        text: "2",
+        errors: "",
+    },
+    Row {
+        tree: Tree::Beside(
+            &[],
+            Part::Function("NAMED", Asked(&[], &[Named("x", Leaf::Message("one"))])),
+        ),
+        text: "9",
+        errors: "",
+    },
+    Row {
+        tree: Tree::Beside(
+            &[],
+            Part::Function(
+                "FIRST",
+                Asked(&[Leaf::Variable("p")], &[Named("x", Leaf::Variable("q"))]),
+            ),
+        ),
+        text: "FIRST()",
+        errors: P_AND_Q,
+    },
+    Row {
+        tree: Tree::Beside(
+            &[],
+            Part::Function(
+                "FIRST",
+                Asked(&[Leaf::String("s"), Leaf::Variable("p")], &[]),
+            ),
+        ),
+        text: "s",
+        errors: P,
+    },
+];
 
 #[test]
-fn references_with_any_arguments_are_resolved(rt: HostRuntime) -> Result<(), Fail> {
-    let resource = read(rt.alloc(), SOURCE)?;
-    let bundle = bundle_of(rt.alloc(), SETTINGS, &resource)?;
-    references_give(&rt, rt.alloc(), &bundle)
+fn references_with_any_arguments_are_resolved(rt: HostRuntime) -> Result<(), AllocError> {
+    hold(&rt, rt.alloc(), SETTINGS, REFERENCES)
 }
 
 // ---- selects
@@ -267,143 +352,141 @@ const NO_DEFAULT: &str = "Resolver error: No default\n";
 
 const Q_AND_NO_DEFAULT: &str = "Resolver error: Unknown variable: $q\nResolver error: No default\n";
 
-/// Selects without a default.
-fn lost_without_default<'s>(
-    rt: &impl Abort,
-    alloc: Global,
-    bundle: &Bundle<'_, 's>,
-) -> Result<(), Fail> {
-    let other = choice(alloc, number("7"), &[case_number("1", "x")]);
-    row(rt, alloc, bundle, other, "", NO_DEFAULT)?;
-    let matching = choice(alloc, number("7"), &[case_number("7", "x")]);
-    row(rt, alloc, bundle, matching, "x", "")?;
-    let empty = choice(alloc, number("7"), &[]);
-    row(rt, alloc, bundle, empty, "", NO_DEFAULT)?;
-    let missing = choice(alloc, variable("q"), &[case_of("a", "x")]);
-    row(rt, alloc, bundle, missing, "", Q_AND_NO_DEFAULT)
-}
+const SEVEN: Part = Part::Leaf(Leaf::Number("7"));
 
-/// One with two.
-fn two_defaults<'s>(alloc: Global, selector: Inline<'s>) -> Tree<'s> {
-    let two = [case_of("a", "1"), default("b", "2"), default("c", "3")];
-    choice(alloc, selector, &two)
-}
+const TWO_DEFAULTS: &[Case] = &[
+    Case::Name("a", "1"),
+    Case::Default("b", "2"),
+    Case::Default("c", "3"),
+];
 
-fn defaults_give<'s>(rt: &impl Abort, alloc: Global, bundle: &Bundle<'_, 's>) -> Result<(), Fail> {
-    lost_without_default(rt, alloc, bundle)?;
-    let default = two_defaults(alloc, string("z"));
-    row(rt, alloc, bundle, default, "2", "")?;
-    let last = two_defaults(alloc, string("c"));
-    row(rt, alloc, bundle, last, "3", "")
-}
+/// Of texts.
+const WORDS: &[Case] = &[
+    Case::Name("mm", "m"),
+    Case::Name("1", "one"),
+    Case::Default("o", "other"),
+];
 
-/// A select on texts.
-fn by_words<'s>(alloc: Global, selector: Inline<'s>) -> Tree<'s> {
-    let words = [
-        case_of("mm", "m"),
-        case_of("1", "one"),
-        default("o", "other"),
-    ];
-    choice(alloc, selector, &words)
-}
+/// Of a number and of the same text.
+const NUMBERS: &[Case] = &[
+    Case::Number("9", "a"),
+    Case::Name("9", "b"),
+    Case::Default("o", "c"),
+];
 
-/// A select on a number and on the same text.
-fn by_numbers<'s>(alloc: Global, selector: Inline<'s>) -> Tree<'s> {
-    let numbers = [case_number("9", "a"), case_of("9", "b"), default("o", "c")];
-    choice(alloc, selector, &numbers)
-}
-
-/// A select as a selector.
-fn by_select<'s>(alloc: Global) -> Tree<'s> {
-    let cases = [case_number("9", "mm"), default("o", "o")];
-    let inner = select(alloc, variable("n"), &cases)?;
-    by_words(alloc, nested(alloc, inner)?)
-}
-
-fn by_brackets<'s>(alloc: Global) -> Tree<'s> {
-    by_numbers(alloc, in_brackets(alloc, number("9"), 1)?)
-}
-
-fn by_term<'s>(alloc: Global) -> Tree<'s> {
-    by_words(alloc, term("t", "", only_named(alloc, "n", number("1"))?))
-}
-
-/// Selectors that stand in no source: what refers to a pattern, and a nested placeable, is a text.
-fn numbers_choose<'s>(rt: &impl Abort, alloc: Global, bundle: &Bundle<'_, 's>) -> Result<(), Fail> {
-    let one = by_numbers(alloc, message("one"));
-    row(rt, alloc, bundle, one, "b", "")?;
-    let nine = by_numbers(alloc, variable("n"));
-    row(rt, alloc, bundle, nine, "a", "")?;
-    row(rt, alloc, bundle, by_brackets(alloc), "b", "")
-}
-
-fn words_choose<'s>(rt: &impl Abort, alloc: Global, bundle: &Bundle<'_, 's>) -> Result<(), Fail> {
-    let text = by_words(alloc, message("m"));
-    row(rt, alloc, bundle, text, "m", "")?;
-    row(rt, alloc, bundle, by_select(alloc), "m", "")?;
-    row(rt, alloc, bundle, by_term(alloc), "one", "")?;
-    let none = by_words(alloc, message("none"));
-    let lost = "Resolver error: Unknown message: none\n";
-    row(rt, alloc, bundle, none, "other", lost)
-}
-
-fn selects_choose<'s>(rt: &impl Abort, alloc: Global, bundle: &Bundle<'_, 's>) -> Result<(), Fail> {
-    defaults_give(rt, alloc, bundle)?;
-    numbers_choose(rt, alloc, bundle)?;
-    words_choose(rt, alloc, bundle)
-}
+const SELECTS: &[Row] = &[
+    // Selects without a default, and with two.
+    Row {
+        tree: Tree::Choice(SEVEN, &[Case::Number("1", "x")]),
+        text: "",
+        errors: NO_DEFAULT,
+    },
+    Row {
+        tree: Tree::Choice(SEVEN, &[Case::Number("7", "x")]),
+        text: "x",
+        errors: "",
+    },
+    Row {
+        tree: Tree::Choice(SEVEN, &[]),
+        text: "",
+        errors: NO_DEFAULT,
+    },
+    Row {
+        tree: Tree::Choice(Part::Leaf(Leaf::Variable("q")), &[Case::Name("a", "x")]),
+        text: "",
+        errors: Q_AND_NO_DEFAULT,
+    },
+    Row {
+        tree: Tree::Choice(Part::Leaf(Leaf::String("z")), TWO_DEFAULTS),
+        text: "2",
+        errors: "",
+    },
+    Row {
+        tree: Tree::Choice(Part::Leaf(Leaf::String("c")), TWO_DEFAULTS),
+        text: "3",
+        errors: "",
+    },
+    // Selectors that stand in no source: what refers to a pattern, and a nested placeable, is a text.
+    Row {
+        tree: Tree::Choice(Part::Leaf(Leaf::Message("one")), NUMBERS),
+        text: "b",
+        errors: "",
+    },
+    Row {
+        tree: Tree::Choice(Part::Leaf(Leaf::Variable("n")), NUMBERS),
+        text: "a",
+        errors: "",
+    },
+    Row {
+        tree: Tree::Choice(Part::Brackets(Leaf::Number("9"), 1), NUMBERS),
+        text: "b",
+        errors: "",
+    },
+    Row {
+        tree: Tree::Choice(Part::Leaf(Leaf::Message("m")), WORDS),
+        text: "m",
+        errors: "",
+    },
+    Row {
+        tree: Tree::Choice(
+            Part::Select(
+                Leaf::Variable("n"),
+                &[Case::Number("9", "mm"), Case::Default("o", "o")],
+            ),
+            WORDS,
+        ),
+        text: "m",
+        errors: "",
+    },
+    Row {
+        tree: Tree::Choice(Part::Term("t", ONE), WORDS),
+        text: "one",
+        errors: "",
+    },
+    Row {
+        tree: Tree::Choice(Part::Leaf(Leaf::Message("none")), WORDS),
+        text: "other",
+        errors: "Resolver error: Unknown message: none\n",
+    },
+];
 
 #[test]
-fn selects_of_any_parts_choose(rt: HostRuntime) -> Result<(), Fail> {
-    let resource = read(rt.alloc(), SOURCE)?;
-    let bundle = bundle_of(rt.alloc(), SETTINGS, &resource)?;
-    selects_choose(&rt, rt.alloc(), &bundle)
+fn selects_of_any_parts_choose(rt: HostRuntime) -> Result<(), AllocError> {
+    hold(&rt, rt.alloc(), SETTINGS, SELECTS)
 }
 
 // ---- the limit
 
-fn struck_selector<'s>(alloc: Global) -> Tree<'s> {
-    let first = only(alloc, message("one"))?;
-    choice(alloc, function("FIRST", first), &[case_of("a", "x")])
-}
-
-fn struck_attribute<'s>(alloc: Global) -> Tree<'s> {
-    let inner = Expression::Inline(bare_term("t", "a"));
-    alone(alloc, nested(alloc, inner)?)
-}
-
-fn struck_select<'s>(alloc: Global) -> Tree<'s> {
-    let inner = select(alloc, message("one"), &[default("o", "o")])?;
-    alone(alloc, nested(alloc, inner)?)
-}
+const TOO_MANY: &str = "Resolver error: Too many placeables\n";
 
 /// A select without a default whose selector strikes the limit, and fallbacks of nested placeables.
-fn strikes<'s>(rt: &impl Abort, alloc: Global, bundle: &Bundle<'_, 's>) -> Result<(), Fail> {
-    let errors = "Resolver error: Too many placeables\nResolver error: No default\n";
-    row(
-        rt,
-        alloc,
-        bundle,
-        struck_selector(alloc),
-        "{FIRST()}",
-        errors,
-    )?;
-    let struck = "Resolver error: Too many placeables\n";
-    row(
-        rt,
-        alloc,
-        bundle,
-        struck_attribute(alloc),
-        "a{-t.a}",
-        struck,
-    )?;
-    row(rt, alloc, bundle, struck_select(alloc), "{one}", struck)
-}
+const STRIKING: &[Row] = &[
+    Row {
+        tree: Tree::Choice(
+            Part::Function("FIRST", Asked(&[Leaf::Message("one")], &[])),
+            &[Case::Name("a", "x")],
+        ),
+        text: "{FIRST()}",
+        errors: "Resolver error: Too many placeables\nResolver error: No default\n",
+    },
+    Row {
+        tree: Tree::Beside(&[], Part::Brackets(Leaf::Attribute("t", "a"), 1)),
+        text: "a{-t.a}",
+        errors: TOO_MANY,
+    },
+    Row {
+        tree: Tree::Beside(
+            &[],
+            Part::Select(Leaf::Message("one"), &[Case::Default("o", "o")]),
+        ),
+        text: "{one}",
+        errors: TOO_MANY,
+    },
+];
+
+const LIMITED: &[Setting] = &[Setting::Function("FIRST", Answer::First), Setting::Limit(1)];
 
 #[test]
-fn trees_made_by_hand_strike_the_limit(rt: HostRuntime) -> Result<(), Fail> {
-    let settings = [Setting::Function("FIRST", Answer::First), Setting::Limit(1)];
-    let resource = read(rt.alloc(), SOURCE)?;
-    let bundle = bundle_of(rt.alloc(), &settings, &resource)?;
-    strikes(&rt, rt.alloc(), &bundle)
+fn trees_made_by_hand_strike_the_limit(rt: HostRuntime) -> Result<(), AllocError> {
+    hold(&rt, rt.alloc(), LIMITED, STRIKING)
 }

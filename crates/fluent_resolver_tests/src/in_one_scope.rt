@@ -8,7 +8,7 @@ use fluent_fixtures::common::read;
 use fluent_fixtures::objects::{Answer, Star};
 use fluent_fixtures::settings::{Bundle, Given, Named, Setting, arguments, bundle_of, value_in};
 use fluent_fixtures::writers::{End, end_of};
-use std::alloc::Global;
+use std::alloc::{AllocError, Global};
 use std::process::Abort;
 use std::test::Fail;
 
@@ -69,19 +69,25 @@ enum Step {
     RefError(&'static str),
 }
 
-/// What a scope is after its calls: whether it is dirty, and how many placeables were opened, how long the path was,
-/// and how many patterns were entered.
-type After = (bool, u64, u64, u64);
+/// What a scope is after its calls.
+#[derive(Clone, Copy, Drop)]
+enum After {
+    /// Whether it is dirty, how many placeables were opened, how long the path was, and how many patterns were entered.
+    Counts(bool, u64, u64, u64),
+    /// It is dirty, and so many placeables were opened.
+    Struck(u64),
+}
 
 /// What is set in a bundle, calls of one scope where `n` is 9, their texts, the lines of their errors, and the scope
 /// after them.
-type Row = (
-    &'static [Setting],
-    &'static [Step],
-    &'static str,
-    &'static str,
-    After,
-);
+#[derive(Clone, Copy, Drop)]
+struct Row {
+    settings: &'static [Setting],
+    steps: &'static [Step],
+    text: &'static str,
+    errors: &'static str,
+    after: After,
+}
 
 type NineScope<'errors, 'p, 'r, 's> = Scope<
     'errors,
@@ -157,22 +163,28 @@ fn take_each<'p, 'r, 's>(
     Ok(())
 }
 
-fn after(scope: &NineScope<'_, '_, '_, '_>) -> After {
-    let counts = scope.counts();
-    (scope.dirty(), counts.opened, counts.longest, counts.entered)
+fn is_after(scope: &NineScope<'_, '_, '_, '_>, after: After) -> bool {
+    let found = scope.counts();
+    match after {
+        After::Counts(is_dirty, opened, longest, entered) => {
+            scope.dirty() == is_dirty
+                && (found.opened, found.longest, found.entered) == (opened, longest, entered)
+        }
+        After::Struck(opened) => scope.dirty() && found.opened == opened,
+    }
 }
 
-/// Makes the calls in one scope: how they end, and what the scope is then.
+/// Makes the calls of a row in one scope: how they end, and whether the scope is then as it should be.
 fn take_all<'p, 'r, 's>(
     bundle: &'p Bundle<'r, 's>,
     args: &'p FluentArgs<'static, Star>,
     w: &mut Counting<Vec<u8>>,
     errors: &mut Vec<FluentError>,
-    steps: &[Step],
-) -> (End, After) {
+    row: &Row,
+) -> (End, bool) {
     let mut scope = Scope::new(bundle, bundle.ids(), Some(args), Some(errors));
-    let end = end_of(take_each(&mut scope, bundle, w, steps));
-    (end, after(&scope))
+    let end = end_of(take_each(&mut scope, bundle, w, row.steps));
+    (end, is_after(&scope, row.after))
 }
 
 /// Makes the calls of a row; `false` where memory is refused, after which texts and errors begin those of the row.
@@ -182,23 +194,35 @@ fn once(
     bundle: &Bundle<'_, '_>,
     args: &FluentArgs<'static, Star>,
     row: &Row,
-) -> Result<bool, Fail> {
+) -> Result<bool, AllocError> {
     let mut errors = Vec::new(alloc);
     let mut w = Counting::new(Vec::new(alloc));
-    let (end, after) = take_all(bundle, args, &mut w, &mut errors, row.1);
-    check(rt, end == End::Memory || after == row.4, row.2);
+    let (end, is_after) = take_all(bundle, args, &mut w, &mut errors, row);
+    check(rt, end == End::Memory || is_after, row.text);
     let taken = w.into_inner();
-    let wanted = wants(row.2, row.3);
+    let wanted = wants(row.text, row.errors);
     is_left(rt, alloc, errors.as_slice(), taken.as_slice(), end, &wanted)
 }
 
-fn holds(rt: &impl Abort, alloc: Global, row: &Row) -> Result<(), Fail> {
-    let resource = read(alloc, SOURCE)?;
-    let bundle = bundle_of(alloc, row.0, &resource)?;
-    let args = arguments(alloc, NINE)?;
-    let is_whole = once(rt, alloc, &bundle, &args, row)? || once(rt, alloc, &bundle, &args, row)?;
-    check(rt, is_whole, row.2);
+/// The same, a second time where memory is refused at the first.
+fn gives(
+    rt: &impl Abort,
+    alloc: Global,
+    bundle: &Bundle<'_, '_>,
+    args: &FluentArgs<'static, Star>,
+    row: &Row,
+) -> Result<(), AllocError> {
+    if !once(rt, alloc, bundle, args, row)? {
+        check(rt, once(rt, alloc, bundle, args, row)?, row.text);
+    }
     Ok(())
+}
+
+fn holds(rt: &impl Abort, alloc: Global, row: &Row) -> Result<(), AllocError> {
+    let resource = read(alloc, SOURCE)?;
+    let bundle = bundle_of(alloc, row.settings, &resource)?;
+    let args = arguments(alloc, NINE)?;
+    gives(rt, alloc, &bundle, &args, row)
 }
 
 const CYCLIC: &str = "Resolver error: Cyclical dependency detected\n";
@@ -212,73 +236,79 @@ Resolver error: Unknown variable: $q
 ";
 
 const ROWS: &[Row] = &[
-    (&[], &[], "", "", (false, 0, 0, 0)),
-    (
-        &[],
-        &[Step::Track("a", "n")],
-        "x\u{2068}9\u{2069}",
-        "",
-        (false, 1, 1, 1),
-    ),
-    (
-        &[],
-        &[Step::Track("a", "n"), Step::Track("a", "n")],
-        "x\u{2068}9\u{2069}x\u{2068}9\u{2069}",
-        "",
-        (false, 2, 1, 2),
-    ),
-    (
-        &[],
-        &[Step::Track("n", "n"), Step::Track("v", "n")],
-        "abcy\u{2068}9\u{2069}",
-        "",
-        (false, 6, 2, 4),
-    ),
-    (
-        &[],
-        &[Step::Track("foo", "n")],
-        "{foo}",
-        CYCLIC,
-        (false, 1, 1, 1),
-    ),
-    (
-        &[Setting::Limit(2)],
-        &[Step::Track("m", "n"), Step::RefError("string")],
-        "ab{\"\\u0041\"}",
-        TOO_MANY,
-        (true, 2, 1, 1),
-    ),
-    (
-        &[],
-        &[Step::MaybeTrack("a", "a"), Step::MaybeTrack("a", "a")],
-        "99",
-        "",
-        (false, 0, 1, 2),
-    ),
-    (
-        &[],
-        &[Step::MaybeTrack("foo", "foo")],
-        "{foo}",
-        CYCLIC,
-        (false, 0, 1, 1),
-    ),
-    (
-        &[Setting::Limit(3)],
-        &[Step::MaybeTrack("n", "n")],
-        "abc",
-        "",
-        (false, 3, 2, 2),
-    ),
-    (
-        &[Setting::Limit(2)],
-        &[Step::MaybeTrack("n", "n")],
-        "ab{m}",
-        TOO_MANY,
-        (true, 2, 2, 2),
-    ),
-    (
-        &[],
-        &[
+    Row {
+        settings: &[],
+        steps: &[],
+        text: "",
+        errors: "",
+        after: After::Counts(false, 0, 0, 0),
+    },
+    Row {
+        settings: &[],
+        steps: &[Step::Track("a", "n")],
+        text: "x\u{2068}9\u{2069}",
+        errors: "",
+        after: After::Counts(false, 1, 1, 1),
+    },
+    Row {
+        settings: &[],
+        steps: &[Step::Track("a", "n"), Step::Track("a", "n")],
+        text: "x\u{2068}9\u{2069}x\u{2068}9\u{2069}",
+        errors: "",
+        after: After::Counts(false, 2, 1, 2),
+    },
+    Row {
+        settings: &[],
+        steps: &[Step::Track("n", "n"), Step::Track("v", "n")],
+        text: "abcy\u{2068}9\u{2069}",
+        errors: "",
+        after: After::Counts(false, 6, 2, 4),
+    },
+    Row {
+        settings: &[],
+        steps: &[Step::Track("foo", "n")],
+        text: "{foo}",
+        errors: CYCLIC,
+        after: After::Counts(false, 1, 1, 1),
+    },
+    Row {
+        settings: &[Setting::Limit(2)],
+        steps: &[Step::Track("m", "n"), Step::RefError("string")],
+        text: "ab{\"\\u0041\"}",
+        errors: TOO_MANY,
+        after: After::Counts(true, 2, 1, 1),
+    },
+    Row {
+        settings: &[],
+        steps: &[Step::MaybeTrack("a", "a"), Step::MaybeTrack("a", "a")],
+        text: "99",
+        errors: "",
+        after: After::Counts(false, 0, 1, 2),
+    },
+    Row {
+        settings: &[],
+        steps: &[Step::MaybeTrack("foo", "foo")],
+        text: "{foo}",
+        errors: CYCLIC,
+        after: After::Counts(false, 0, 1, 1),
+    },
+    Row {
+        settings: &[Setting::Limit(3)],
+        steps: &[Step::MaybeTrack("n", "n")],
+        text: "abc",
+        errors: "",
+        after: After::Counts(false, 3, 2, 2),
+    },
+    Row {
+        settings: &[Setting::Limit(2)],
+        steps: &[Step::MaybeTrack("n", "n")],
+        text: "ab{m}",
+        errors: TOO_MANY,
+        after: After::Counts(true, 2, 2, 2),
+    },
+    Row {
+        settings: &[],
+        steps: &[
             Step::RefError("none"),
             Step::RefError("term"),
             Step::RefError("string"),
@@ -287,10 +317,10 @@ const ROWS: &[Row] = &[
             Step::RefError("function"),
             Step::RefError("missing"),
         ],
-        "{no-message}{-no-term}{\"\\u0041\"}{5}{$q}{F()}{$q}",
-        LOST,
-        (false, 0, 0, 0),
-    ),
+        text: "{no-message}{-no-term}{\"\\u0041\"}{5}{$q}{F()}{$q}",
+        errors: LOST,
+        after: After::Counts(false, 0, 0, 0),
+    },
 ];
 
 /// Run with each allocation failing in turn.
@@ -302,36 +332,22 @@ fn parts_are_resolved_in_a_scope(rt: HostRuntime) -> Result<(), Fail> {
     Ok(())
 }
 
-const STRUCK: &[Step] = &[
-    Step::Track("m", "n"),
-    Step::Track("a", "n"),
-    Step::MaybeTrack("n", "n"),
-    Step::MaybeTrack("v", "v"),
-    Step::MaybeTrack("a", "a"),
-];
-
-fn is_struck(
-    rt: &impl Abort,
-    alloc: Global,
-    bundle: &Bundle<'_, '_>,
-    args: &FluentArgs<'static, Star>,
-) -> Result<(), Fail> {
-    let mut errors = Vec::new(alloc);
-    let mut w = Counting::new(Vec::new(alloc));
-    let (end, after) = take_all(bundle, args, &mut w, &mut errors, STRUCK);
-    check(rt, after.0 && after.1 == 2, "struck");
-    let taken = w.into_inner();
-    let wanted = wants("ab{m}{$n}9{$n}", TOO_MANY);
-    let is_whole = is_left(rt, alloc, errors.as_slice(), taken.as_slice(), end, &wanted)?;
-    check(rt, is_whole, wanted.text);
-    Ok(())
-}
+const STRUCK: Row = Row {
+    settings: &[Setting::Limit(2)],
+    steps: &[
+        Step::Track("m", "n"),
+        Step::Track("a", "n"),
+        Step::MaybeTrack("n", "n"),
+        Step::MaybeTrack("v", "v"),
+        Step::MaybeTrack("a", "a"),
+    ],
+    text: "ab{m}{$n}9{$n}",
+    errors: TOO_MANY,
+    after: After::Struck(2),
+};
 
 /// Once the limit is struck, patterns give nothing, and the fallback follows what is not a pattern.
 #[test]
-fn a_dirty_scope_writes_no_pattern(rt: HostRuntime) -> Result<(), Fail> {
-    let resource = read(rt.alloc(), SOURCE)?;
-    let bundle = bundle_of(rt.alloc(), &[Setting::Limit(2)], &resource)?;
-    let args = arguments(rt.alloc(), NINE)?;
-    is_struck(&rt, rt.alloc(), &bundle, &args)
+fn a_dirty_scope_writes_no_pattern(rt: HostRuntime) -> Result<(), AllocError> {
+    holds(&rt, rt.alloc(), &STRUCK)
 }

@@ -6,7 +6,6 @@ use fluent_fixtures::objects::Answer;
 use fluent_fixtures::settings::{Bundle, Given, Setting, add, bundle_of, set};
 use std::alloc::{AllocError, Global};
 use std::process::Abort;
-use std::test::Fail;
 
 /// A call after the first source was added: a setting, or a call with the second source.
 #[derive(Clone, Copy, Drop)]
@@ -35,56 +34,61 @@ fn take<'r, 's>(
     }
 }
 
-/// Two sources, what messages give where the first is added to a bundle, and calls with what they give after each.
-type List = (
-    &'static str,
-    &'static str,
-    &'static [Row],
-    &'static [(Step, &'static [Row])],
-);
+/// A call, and what messages give after it.
+#[derive(Clone, Copy, Drop)]
+struct Called(Step, &'static [Row]);
+
+/// Two sources, what messages give where the first is added to a bundle, and the calls that follow.
+#[derive(Clone, Copy, Drop)]
+struct List {
+    first: &'static str,
+    second: &'static str,
+    rows: &'static [Row],
+    calls: &'static [Called],
+}
 
 const NO_FUNCTION: Row = ("a", &[], "{F()}", "Resolver error: Unknown function: F()\n");
 
 /// A function is added after the message that calls it.
-const FUNCTION: List = (
-    "a = { F() }\n",
-    "",
-    &[NO_FUNCTION],
-    &[
-        (
+const FUNCTION: List = List {
+    first: "a = { F() }\n",
+    second: "",
+    rows: &[NO_FUNCTION],
+    calls: &[
+        Called(
             Step::Set(Setting::Function("F", Answer::Text("f"))),
             &[("a", &[], "f", "")],
         ),
-        (
+        Called(
             Step::Set(Setting::Function("F", Answer::One)),
             &[("a", &[], "f", "")],
         ),
     ],
-);
+};
 
 /// A message is added after the one that refers to it, and overridden: of two entries of one id the first is added,
 /// and the last overrides.
-const MESSAGE: List = (
-    "a = { b }\n",
-    "b = 1\nb = 2\n",
-    &[("a", &[], "{b}", "Resolver error: Unknown message: b\n")],
-    &[
-        (Step::Add, &[("a", &[], "1", "")]),
-        (Step::Override, &[("a", &[], "2", "")]),
+const MESSAGE: List = List {
+    first: "a = { b }\n",
+    second: "b = 1\nb = 2\n",
+    rows: &[("a", &[], "{b}", "Resolver error: Unknown message: b\n")],
+    calls: &[
+        Called(Step::Add, &[("a", &[], "1", "")]),
+        Called(Step::Override, &[("a", &[], "2", "")]),
     ],
-);
+};
 
 /// A term in place of a message.
-const TERM: List = (
-    "a = { foo }\nb = { -foo }\nfoo = x\n",
-    "-foo = y\n",
-    &[
+const TERM: List = List {
+    first: "a = { foo }\nb = { -foo }\nfoo = x\n",
+    second: "-foo = y\n",
+    rows: &[
         ("a", &[], "x", ""),
         ("b", &[], "{-foo}", "Resolver error: Unknown term: -foo\n"),
     ],
-    &[
-        (Step::Add, &[("a", &[], "x", "")]),
-        (
+    calls: &[
+        Called(Step::Add, &[("a", &[], "x", "")]),
+        Called(
             Step::Override,
             &[
                 ("a", &[], "{foo}", "Resolver error: Unknown message: foo\n"),
@@ -92,20 +96,20 @@ const TERM: List = (
             ],
         ),
     ],
-);
+};
 
 /// A message in place of the built-in function.
-const BUILTIN: List = (
-    "q = { NUMBER }\np = { NUMBER(5) }\n",
-    "NUMBER = n\n",
-    &[(
+const BUILTIN: List = List {
+    first: "q = { NUMBER }\np = { NUMBER(5) }\n",
+    second: "NUMBER = n\n",
+    rows: &[(
         "q",
         &[],
         "{NUMBER}",
         "Resolver error: Unknown message: NUMBER\n",
     )],
-    &[
-        (
+    calls: &[
+        Called(
             Step::Set(Setting::Builtins),
             &[
                 ("p", &[], "5", ""),
@@ -117,7 +121,7 @@ const BUILTIN: List = (
                 ),
             ],
         ),
-        (
+        Called(
             Step::Override,
             &[
                 (
@@ -130,21 +134,21 @@ const BUILTIN: List = (
             ],
         ),
     ],
-);
+};
 
 /// A message that another refers to, by which it is resolved, refers to one that is added later and overridden.
-const BELOW: List = (
-    "top = { a }{ c }\na = { b }\nc = { $n ->\n    [1] { b }\n   *[other] { d }{ b }\n}\n",
-    "b = 1\nd = 3\nb = 2\n",
-    &[(
+const BELOW: List = List {
+    first: "top = { a }{ c }\na = { b }\nc = { $n ->\n    [1] { b }\n   *[other] { d }{ b }\n}\n",
+    second: "b = 1\nd = 3\nb = 2\n",
+    rows: &[(
         "top",
         &[],
         "{b}{d}{b}",
         "Resolver error: Unknown message: b\nResolver error: Unknown variable: $n\nResolver error: Unknown message: d\nResolver error: Unknown message: b\n",
     )],
-    &[
-        (Step::Add, &[("top", &[("n", Given::Read("2"))], "131", "")]),
-        (
+    calls: &[
+        Called(Step::Add, &[("top", &[("n", Given::Read("2"))], "131", "")]),
+        Called(
             Step::Override,
             &[
                 ("top", &[("n", Given::Read("2"))], "232", ""),
@@ -152,7 +156,7 @@ const BELOW: List = (
             ],
         ),
     ],
-);
+};
 
 const CYCLIC: Row = (
     "a",
@@ -162,20 +166,20 @@ const CYCLIC: Row = (
 );
 
 /// A term is added once more, with the content that it has.
-const SAME: List = (
-    "a = { $n ->\n    [1] x\n   *[other] { -t(n: 1) }\n}\n-t = { $n ->\n    [1] x\n   *[other] { -t(n: 1) }\n}\n",
-    "-t = { $n ->\n    [1] x\n   *[other] { -t(n: 1) }\n}\n",
-    &[CYCLIC],
-    &[(Step::Override, &[CYCLIC])],
-);
+const SAME: List = List {
+    first: "a = { $n ->\n    [1] x\n   *[other] { -t(n: 1) }\n}\n-t = { $n ->\n    [1] x\n   *[other] { -t(n: 1) }\n}\n",
+    second: "-t = { $n ->\n    [1] x\n   *[other] { -t(n: 1) }\n}\n",
+    rows: &[CYCLIC],
+    calls: &[Called(Step::Override, &[CYCLIC])],
+};
 
 /// Messages that are there stay, and others win over them.
-const GREETINGS: List = (
-    "hello = Hi!\ngoodbye = Bye!\nintro = Welcome, { $name }.\n",
-    "hello = Another Hi!\nintro = Hi, { $name }.\n",
-    &[],
-    &[
-        (
+const GREETINGS: List = List {
+    first: "hello = Hi!\ngoodbye = Bye!\nintro = Welcome, { $name }.\n",
+    second: "hello = Another Hi!\nintro = Hi, { $name }.\n",
+    rows: &[],
+    calls: &[
+        Called(
             Step::Add,
             &[
                 ("hello", &[], "Hi!", ""),
@@ -187,7 +191,7 @@ const GREETINGS: List = (
                 ),
             ],
         ),
-        (
+        Called(
             Step::Override,
             &[
                 ("hello", &[], "Another Hi!", ""),
@@ -201,15 +205,15 @@ const GREETINGS: List = (
             ],
         ),
     ],
-);
+};
 
 /// The limit is changed between calls.
-const LIMIT: List = (
-    "a = { b }{ b }\nb = { $n }\n",
-    "",
-    &[("a", &[("n", Given::Read("9"))], "99", "")],
-    &[
-        (
+const LIMIT: List = List {
+    first: "a = { b }{ b }\nb = { $n }\n",
+    second: "",
+    rows: &[("a", &[("n", Given::Read("9"))], "99", "")],
+    calls: &[
+        Called(
             Step::Set(Setting::Limit(3)),
             &[(
                 "a",
@@ -218,7 +222,7 @@ const LIMIT: List = (
                 "Resolver error: Too many placeables\n",
             )],
         ),
-        (
+        Called(
             Step::Set(Setting::Limit(0)),
             &[(
                 "a",
@@ -227,33 +231,44 @@ const LIMIT: List = (
                 "Resolver error: Too many placeables\n",
             )],
         ),
-        (
+        Called(
             Step::Set(Setting::Limit(4)),
             &[("a", &[("n", Given::Read("9"))], "99", "")],
         ),
     ],
-);
+};
 
+/// Makes the calls in turn.
 fn are_taken<'r, 's>(
+    rt: &impl Abort,
+    alloc: Global,
+    bundle: &mut Bundle<'r, 's>,
+    second: &'r FluentResource<'s>,
+    calls: &[Called],
+) -> Result<(), AllocError> {
+    for called in calls {
+        take(bundle, second, called.0)?;
+        are_given(rt, alloc, bundle, called.1, false)?;
+    }
+    Ok(())
+}
+
+fn holds<'r, 's>(
     rt: &impl Abort,
     alloc: Global,
     first: &'r FluentResource<'s>,
     second: &'r FluentResource<'s>,
     list: &List,
-) -> Result<(), Fail> {
+) -> Result<(), AllocError> {
     let mut bundle: Bundle<'r, 's> = bundle_of(alloc, &[], first)?;
-    are_given(rt, alloc, &bundle, &[], list.2)?;
-    for (step, rows) in list.3 {
-        take(&mut bundle, second, *step)?;
-        are_given(rt, alloc, &bundle, &[], *rows)?;
-    }
-    Ok(())
+    are_given(rt, alloc, &bundle, list.rows, false)?;
+    are_taken(rt, alloc, &mut bundle, second, list.calls)
 }
 
-fn is_taken(rt: &impl Abort, alloc: Global, list: &List) -> Result<(), Fail> {
-    let first = read(alloc, list.0)?;
-    let second = read(alloc, list.1)?;
-    are_taken(rt, alloc, &first, &second, list)
+fn is_taken(rt: &impl Abort, alloc: Global, list: &List) -> Result<(), AllocError> {
+    let first = read(alloc, list.first)?;
+    let second = read(alloc, list.second)?;
+    holds(rt, alloc, &first, &second, list)
 }
 
 const LISTS: &[List] = &[
@@ -261,7 +276,7 @@ const LISTS: &[List] = &[
 ];
 
 #[test]
-fn references_follow_later_calls(rt: HostRuntime) -> Result<(), Fail> {
+fn references_follow_later_calls(rt: HostRuntime) -> Result<(), AllocError> {
     for list in LISTS {
         is_taken(&rt, rt.alloc(), list)?;
     }

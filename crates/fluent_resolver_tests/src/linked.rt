@@ -3,7 +3,7 @@
 use crate::rows::{Table, hold};
 use fluent_fixtures::objects::Answer;
 use fluent_fixtures::settings::{Given, Named, Setting};
-use std::test::Fail;
+use std::alloc::AllocError;
 
 const ONE: &[Named] = &[("n", Given::Read("1"))];
 
@@ -151,6 +151,6 @@ begun = { begins }
 );
 
 #[test]
-fn references_of_stored_patterns_are_followed(rt: HostRuntime) -> Result<(), Fail> {
+fn references_of_stored_patterns_are_followed(rt: HostRuntime) -> Result<(), AllocError> {
     hold(&rt, rt.alloc(), &[PASSED, UNKNOWN, ATTRIBUTES, EQUAL])
 }

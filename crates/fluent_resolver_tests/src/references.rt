@@ -1,10 +1,11 @@
 //! References to messages, terms and attributes: what they give, in which environment, and where they are cyclic.
 use crate::check::check;
 use crate::rows::{Table, gives, hold, wants};
+use fluent_bundle::{FluentAttribute, FluentMessage};
 use fluent_fixtures::common::read;
 use fluent_fixtures::objects::Answer;
 use fluent_fixtures::settings::{Bundle, Given, Named, Setting, bundle_of};
-use std::alloc::Global;
+use std::alloc::{AllocError, Global};
 use std::process::Abort;
 use std::test::Fail;
 
@@ -293,40 +294,60 @@ back = { m11 }, { m12 }
 /// Run with each allocation failing in turn.
 #[test]
 fn references_give_what_they_lead_to(rt: HostRuntime) -> Result<(), Fail> {
-    hold(&rt, rt.alloc(), &[MESSAGES, TERMS, CYCLES, TWINS, LONG])
+    hold(&rt, rt.alloc(), &[MESSAGES, TERMS, CYCLES, TWINS, LONG])?;
+    Ok(())
 }
 
-/// The texts of all attributes of a message, in order.
-fn attributes_give(
+/// The next attribute of a message gives this text.
+fn attribute_gives<'s>(
     rt: &impl Abort,
     alloc: Global,
-    bundle: &Bundle<'_, '_>,
-    id: &str,
-    texts: &[&str],
-) -> Result<(), Fail> {
-    let mut attributes = bundle.get_message(id).ok_or("no message")?.attributes();
-    for text in texts {
-        let attribute = attributes.next().ok_or("no attribute")?;
-        gives(rt, alloc, bundle, attribute.value(), &[], &wants(*text, ""))?;
+    bundle: &Bundle<'_, 's>,
+    attribute: Option<FluentAttribute<'_, 's>>,
+    text: &str,
+) -> Result<(), AllocError> {
+    match attribute {
+        Some(attribute) => { gives(rt, alloc, bundle, attribute.value(), &[], &wants(text, "")) }
+        None => {
+            check(rt, false, text);
+            Ok(())
+        }
+    }
+}
+
+const ATTRIBUTES: &[&str] = &[
+    "Yes",
+    "No",
+    "Closing the window will lose all unsaved data.",
+];
+
+/// The texts of all attributes of a message, in order.
+fn attributes_give<'s>(
+    rt: &impl Abort,
+    alloc: Global,
+    bundle: &Bundle<'_, 's>,
+    message: FluentMessage<'_, 's>,
+) -> Result<(), AllocError> {
+    let mut attributes = message.attributes();
+    for text in ATTRIBUTES {
+        attribute_gives(rt, alloc, bundle, attributes.next(), *text)?;
     }
     check(rt, attributes.next().is_none(), "no more");
     Ok(())
 }
 
-#[test]
-fn attributes_are_patterns_too(rt: HostRuntime) -> Result<(), Fail> {
-    let source = "
+const MODAL: &str = "
 confirm-modal = Are you sure?
     .confirm = Yes
     .cancel = No
     .tooltip = Closing the window will lose all unsaved data.
 ";
-    let texts = [
-        "Yes",
-        "No",
-        "Closing the window will lose all unsaved data.",
-    ];
-    let resource = read(rt.alloc(), source)?;
+
+#[test]
+fn attributes_are_patterns_too(rt: HostRuntime) -> Result<(), Fail> {
+    let resource = read(rt.alloc(), MODAL)?;
     let bundle = bundle_of(rt.alloc(), &[], &resource)?;
-    attributes_give(&rt, rt.alloc(), &bundle, "confirm-modal", &texts)
+    let message = bundle.get_message("confirm-modal").ok_or("no message")?;
+    attributes_give(&rt, rt.alloc(), &bundle, message)?;
+    Ok(())
 }

@@ -4,13 +4,12 @@ use fluent_bundle::ast::Pattern;
 use fluent_bundle::{Counting, FluentArgs, FluentError, FluentResource, WriteFault};
 use fluent_fixtures::common::{lines, read};
 use fluent_fixtures::objects::Star;
-use fluent_fixtures::settings::{Bundle, Named, Setting, arguments, bundle_of, pattern_in};
+use fluent_fixtures::settings::{Bundle, Named, Setting, arguments, bundle_of, value_in};
 use fluent_fixtures::writers::{End, end_of};
 use std::alloc::{AllocError, Global};
 use std::borrow::CowStr;
 use std::io::Write;
 use std::process::Abort;
-use std::test::Fail;
 
 // ---- both calls
 
@@ -31,69 +30,77 @@ pub fn wants<'x>(text: &'x str, errors: &'x str) -> Wanted<'x> {
     }
 }
 
-/// That the lines of errors are these.
-pub fn are_all(
-    rt: &impl Abort,
-    alloc: Global,
-    errors: &[FluentError],
-    wanted: &Wanted<'_>,
-) -> Result<(), Fail> {
-    let found = lines(alloc, errors)?;
-    check_same(rt, found.as_str(), wanted.errors);
-    Ok(())
+/// That lines of errors are those that are wanted, or begin them where a call wasn't whole.
+fn are_lines(rt: &impl Abort, found: &str, wanted: &str, is_whole: bool) {
+    if is_whole {
+        check_same(rt, found, wanted);
+    } else {
+        check(rt, wanted.starts_with(found), found);
+    }
 }
 
-/// That the lines of errors begin so.
-pub fn begin_them(
-    rt: &impl Abort,
-    alloc: Global,
-    errors: &[FluentError],
-    wanted: &Wanted<'_>,
-) -> Result<(), Fail> {
-    let found = lines(alloc, errors)?;
-    check(
-        rt,
-        wanted.errors.starts_with(found.as_str()),
-        found.as_str(),
-    );
-    Ok(())
-}
-
-/// That errors are those that are wanted, or begin them where a call wasn't whole.
-fn are_told(
+/// That errors are so. Whether the call was whole.
+pub fn are_told(
     rt: &impl Abort,
     alloc: Global,
     errors: &[FluentError],
     wanted: &Wanted<'_>,
     is_whole: bool,
-) -> Result<bool, Fail> {
-    if is_whole {
-        are_all(rt, alloc, errors, wanted)?;
-    } else {
-        begin_them(rt, alloc, errors, wanted)?;
-    }
+) -> Result<bool, AllocError> {
+    let found = lines(alloc, errors)?;
+    are_lines(rt, found.as_str(), wanted.errors, is_whole);
     Ok(is_whole)
 }
 
+/// What a call is made for: a bundle, a pattern, and arguments if there are some.
+#[derive(Clone, Copy, Drop)]
+pub struct Asked<'x, 'r, 's> {
+    pub bundle: &'x Bundle<'r, 's>,
+    pub pattern: &'x Pattern<'s>,
+    pub args: Option<&'x FluentArgs<'static, Star>>,
+}
+
+pub fn call_for<'x, 'r, 's>(
+    bundle: &'x Bundle<'r, 's>,
+    pattern: &'x Pattern<'s>,
+    args: Option<&'x FluentArgs<'static, Star>>,
+) -> Asked<'x, 'r, 's> {
+    Asked {
+        bundle,
+        pattern,
+        args,
+    }
+}
+
 /// Writes a pattern.
-pub fn write<'s, W: Write>(
-    bundle: &Bundle<'_, 's>,
-    pattern: &Pattern<'s>,
-    args: Option<&FluentArgs<'_, Star>>,
+pub fn write<W: Write>(
+    asked: &Asked<'_, '_, '_>,
     w: &mut Counting<W>,
     errors: &mut Vec<FluentError>,
 ) -> Result<(), WriteFault> {
-    bundle.write_pattern(w, pattern, args, errors)
+    asked
+        .bundle
+        .write_pattern(w, asked.pattern, asked.args, errors)
 }
 
 /// Formats a pattern.
-fn format<'p>(
-    bundle: &Bundle<'_, 'p>,
-    pattern: &Pattern<'p>,
-    args: Option<&FluentArgs<'_, Star>>,
+fn format<'s>(
+    asked: &Asked<'_, '_, 's>,
     errors: &mut Vec<FluentError>,
-) -> Result<CowStr<'p>, AllocError> {
-    bundle.format_pattern(pattern, args, errors)
+) -> Result<CowStr<'s>, AllocError> {
+    asked
+        .bundle
+        .format_pattern(asked.pattern, asked.args, errors)
+}
+
+/// That a call left a text in a writer, or a beginning of it where it wasn't whole.
+fn is_text(rt: &impl Abort, taken: &[u8], end: End, text: &str) {
+    if end == End::Memory {
+        check(rt, text.as_bytes().starts_with(taken), text);
+    } else {
+        check(rt, end == End::Whole, text);
+        check_same(rt, str::from_utf8(taken).unwrap_or("no text"), text);
+    }
 }
 
 /// What a call left in a writer and a list; `false` where memory was refused, after which text and errors begin those
@@ -105,31 +112,36 @@ pub fn is_left(
     taken: &[u8],
     end: End,
     wanted: &Wanted<'_>,
-) -> Result<bool, Fail> {
-    let is_whole = end != End::Memory;
-    if is_whole {
-        check(rt, end == End::Whole, wanted.text);
-        check_same(rt, str::from_utf8(taken).unwrap_or("no text"), wanted.text);
-    } else {
-        check(rt, wanted.text.as_bytes().starts_with(taken), wanted.text);
-    }
-    are_told(rt, alloc, errors, wanted, is_whole)
+) -> Result<bool, AllocError> {
+    is_text(rt, taken, end, wanted.text);
+    are_told(rt, alloc, errors, wanted, end != End::Memory)
 }
 
 /// Writes a pattern; `false` where memory is refused.
-fn writes_once<'s>(
+fn writes_once(
     rt: &impl Abort,
     alloc: Global,
-    bundle: &Bundle<'_, 's>,
-    pattern: &Pattern<'s>,
-    args: Option<&FluentArgs<'_, Star>>,
+    asked: &Asked<'_, '_, '_>,
     wanted: &Wanted<'_>,
-) -> Result<bool, Fail> {
+) -> Result<bool, AllocError> {
     let mut errors = Vec::new(alloc);
     let mut w = Counting::new(Vec::new(alloc));
-    let end = end_of(write(bundle, pattern, args, &mut w, &mut errors));
+    let end = end_of(write(asked, &mut w, &mut errors));
     let taken = w.into_inner();
     is_left(rt, alloc, errors.as_slice(), taken.as_slice(), end, wanted)
+}
+
+/// The same, a second time where memory is refused at the first.
+fn writes(
+    rt: &impl Abort,
+    alloc: Global,
+    asked: &Asked<'_, '_, '_>,
+    wanted: &Wanted<'_>,
+) -> Result<(), AllocError> {
+    if !writes_once(rt, alloc, asked, wanted)? {
+        check(rt, writes_once(rt, alloc, asked, wanted)?, wanted.text);
+    }
+    Ok(())
 }
 
 /// Whether a pattern was formatted, as this text.
@@ -144,52 +156,89 @@ fn is_formatted(rt: &impl Abort, formatted: Result<CowStr<'_>, AllocError>, text
 }
 
 /// Formats a pattern; `false` where memory is refused, after which the errors begin those that are wanted.
-fn formats_once<'s>(
+fn formats_once(
     rt: &impl Abort,
     alloc: Global,
-    bundle: &Bundle<'_, 's>,
-    pattern: &Pattern<'s>,
-    args: Option<&FluentArgs<'_, Star>>,
+    asked: &Asked<'_, '_, '_>,
     wanted: &Wanted<'_>,
-) -> Result<bool, Fail> {
+) -> Result<bool, AllocError> {
     let mut errors = Vec::new(alloc);
-    let formatted = format(bundle, pattern, args, &mut errors);
-    let is_whole = is_formatted(rt, formatted, wanted.formatted);
+    let is_whole = is_formatted(rt, format(asked, &mut errors), wanted.formatted);
     are_told(rt, alloc, errors.as_slice(), wanted, is_whole)
 }
 
-/// Writes and formats a pattern, each a second time where memory is refused at the first.
-fn gives_with<'s>(
+/// The same, a second time where memory is refused at the first.
+fn formats(
     rt: &impl Abort,
     alloc: Global,
-    bundle: &Bundle<'_, 's>,
-    pattern: &Pattern<'s>,
-    args: Option<&FluentArgs<'_, Star>>,
+    asked: &Asked<'_, '_, '_>,
     wanted: &Wanted<'_>,
-) -> Result<(), Fail> {
-    let is_written = writes_once(rt, alloc, bundle, pattern, args, wanted)?
-        || writes_once(rt, alloc, bundle, pattern, args, wanted)?;
-    check(rt, is_written, wanted.text);
-    let is_formatted = formats_once(rt, alloc, bundle, pattern, args, wanted)?
-        || formats_once(rt, alloc, bundle, pattern, args, wanted)?;
-    check(rt, is_formatted, wanted.formatted);
+) -> Result<(), AllocError> {
+    if !formats_once(rt, alloc, asked, wanted)? {
+        check(
+            rt,
+            formats_once(rt, alloc, asked, wanted)?,
+            wanted.formatted,
+        );
+    }
     Ok(())
 }
 
-/// What a pattern gives with these arguments, without any where there are none.
-pub fn gives<'s>(
+/// Writes and formats a pattern.
+fn gives_with(
     rt: &impl Abort,
     alloc: Global,
-    bundle: &Bundle<'_, 's>,
-    pattern: &Pattern<'s>,
+    asked: &Asked<'_, '_, '_>,
+    wanted: &Wanted<'_>,
+) -> Result<(), AllocError> {
+    writes(rt, alloc, asked, wanted)?;
+    formats(rt, alloc, asked, wanted)
+}
+
+/// The same with these arguments.
+fn gives_given<'x, 's>(
+    rt: &impl Abort,
+    alloc: Global,
+    bundle: &'x Bundle<'_, 's>,
+    pattern: &'x Pattern<'s>,
     named: &[Named],
     wanted: &Wanted<'_>,
-) -> Result<(), Fail> {
-    if named.is_empty() {
-        return gives_with(rt, alloc, bundle, pattern, None, wanted);
-    }
+) -> Result<(), AllocError> {
     let args = arguments(alloc, named)?;
-    gives_with(rt, alloc, bundle, pattern, Some(&args), wanted)
+    gives_with(rt, alloc, &call_for(bundle, pattern, Some(&args)), wanted)
+}
+
+/// What a pattern gives with these arguments, without any where there are none.
+pub fn gives<'x, 's>(
+    rt: &impl Abort,
+    alloc: Global,
+    bundle: &'x Bundle<'_, 's>,
+    pattern: &'x Pattern<'s>,
+    named: &[Named],
+    wanted: &Wanted<'_>,
+) -> Result<(), AllocError> {
+    if !named.is_empty() {
+        return gives_given(rt, alloc, bundle, pattern, named, wanted);
+    }
+    gives_with(rt, alloc, &call_for(bundle, pattern, None), wanted)
+}
+
+/// The same of a message, which is there.
+pub fn message_gives(
+    rt: &impl Abort,
+    alloc: Global,
+    bundle: &Bundle<'_, '_>,
+    id: &str,
+    named: &[Named],
+    wanted: &Wanted<'_>,
+) -> Result<(), AllocError> {
+    match value_in(bundle, id) {
+        Some(pattern) => gives(rt, alloc, bundle, pattern, named, wanted),
+        None => {
+            check(rt, false, id);
+            Ok(())
+        }
+    }
 }
 
 // ---- tables
@@ -210,49 +259,47 @@ fn has_formatter(settings: &[Setting]) -> bool {
     false
 }
 
-/// What is wanted of a row.
-fn wanted_of(settings: &[Setting], row: &Row) -> Wanted<'static> {
+/// What is wanted of a text and of the lines of errors, with the formatter or without.
+fn wanted_of<'x>(text: &'x str, errors: &'x str, has_formatter: bool) -> Wanted<'x> {
     Wanted {
-        text: row.2,
-        formatted: if has_formatter(settings) {
-            "text"
-        } else {
-            row.2
-        },
-        errors: row.3,
+        text,
+        formatted: if has_formatter { "text" } else { text },
+        errors,
     }
 }
 
-/// What rows give in a bundle.
+/// What rows give in a bundle, which has the formatter or not.
 pub fn are_given(
     rt: &impl Abort,
     alloc: Global,
     bundle: &Bundle<'_, '_>,
-    settings: &[Setting],
     rows: &[Row],
-) -> Result<(), Fail> {
-    for row in rows {
-        let pattern = pattern_in(bundle, row.0)?;
-        gives(rt, alloc, bundle, pattern, row.1, &wanted_of(settings, row))?;
+    has_formatter: bool,
+) -> Result<(), AllocError> {
+    for (id, named, text, errors) in rows {
+        let wanted = wanted_of(*text, *errors, has_formatter);
+        message_gives(rt, alloc, bundle, *id, *named, &wanted)?;
     }
     Ok(())
 }
 
-fn is_given(
+/// What the rows of a table give, whose source this is.
+fn holds(
     rt: &impl Abort,
     alloc: Global,
     resource: &FluentResource<'_>,
-    table: &Table,
-) -> Result<(), Fail> {
-    let bundle = bundle_of(alloc, table.0, resource)?;
-    are_given(rt, alloc, &bundle, table.0, table.2)
+    settings: &[Setting],
+    rows: &[Row],
+) -> Result<(), AllocError> {
+    let bundle = bundle_of(alloc, settings, resource)?;
+    are_given(rt, alloc, &bundle, rows, has_formatter(settings))
 }
 
 /// That what the tables hold is given.
-pub fn hold(rt: &impl Abort, alloc: Global, tables: &[Table]) -> Result<(), Fail> {
-    for table in tables {
-        let resource = read(alloc, table.1)?;
-        is_given(rt, alloc, &resource, table)?;
+pub fn hold(rt: &impl Abort, alloc: Global, tables: &[Table]) -> Result<(), AllocError> {
+    for (settings, source, rows) in tables {
+        let resource = read(alloc, *source)?;
+        holds(rt, alloc, &resource, *settings, *rows)?;
     }
     Ok(())
 }

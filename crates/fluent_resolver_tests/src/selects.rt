@@ -319,5 +319,6 @@ message = { FIRST(m) ->
 /// Run with each allocation failing in turn.
 #[test]
 fn the_first_variant_that_matches_is_chosen(rt: HostRuntime) -> Result<(), Fail> {
-    hold(&rt, rt.alloc(), &[RANKS, KEYS, SELECTORS, ANSWERS])
+    hold(&rt, rt.alloc(), &[RANKS, KEYS, SELECTORS, ANSWERS])?;
+    Ok(())
 }

@@ -258,5 +258,6 @@ fn settings_are_used_at_any_depth(rt: HostRuntime) -> Result<(), Fail> {
             LINES,
             OWN_TEXTS,
         ],
-    )
+    )?;
+    Ok(())
 }

@@ -1,207 +1,304 @@
-//! Parts of patterns, made by hand.
+//! Patterns made by hand, of what tables say of them.
 use fluent_bundle::ast::{
     CallArguments, Expression, Identifier, InlineExpression, NamedArgument, Pattern,
     PatternElement, Variant, VariantKey,
 };
 use std::alloc::{AllocError, Global};
 
-pub type Inline<'s> = InlineExpression<'s>;
+// ---- what tables say
 
-pub type Tree<'s> = Result<Pattern<'s>, AllocError>;
-
-pub type Asked<'s> = Result<Box<CallArguments<'s>>, AllocError>;
-
-// ---- elements
-
-pub fn say<'s>(value: &'s str) -> PatternElement<'s> {
-    PatternElement::TextElement { value }
+/// An expression that takes no memory; an attribute is one of a term.
+#[derive(Clone, Copy, Drop)]
+pub enum Leaf {
+    String(&'static str),
+    Number(&'static str),
+    Variable(&'static str),
+    Message(&'static str),
+    Term(&'static str),
+    Attribute(&'static str, &'static str),
 }
 
-pub fn put<'s>(inline: Inline<'s>) -> PatternElement<'s> {
-    PatternElement::Placeable {
-        expression: Expression::Inline(inline),
+/// A named argument.
+#[derive(Clone, Copy, Drop)]
+pub struct Named(pub &'static str, pub Leaf);
+
+/// What a term or a function is asked: positional arguments and named ones.
+#[derive(Clone, Copy, Drop)]
+pub struct Asked(pub &'static [Leaf], pub &'static [Named]);
+
+/// A variant by its key, which is a name or a number, and its text.
+#[derive(Clone, Copy, Drop)]
+pub enum Case {
+    Name(&'static str, &'static str),
+    Number(&'static str, &'static str),
+    Default(&'static str, &'static str),
+}
+
+/// An expression.
+#[derive(Clone, Copy, Drop)]
+pub enum Part {
+    Leaf(Leaf),
+    Term(&'static str, Asked),
+    Attribute(&'static str, &'static str, Asked),
+    Function(&'static str, Asked),
+    /// In so many brackets.
+    Brackets(Leaf, usize),
+    /// In brackets, by its selector.
+    Select(Leaf, &'static [Case]),
+}
+
+/// A pattern: texts, an expression behind them, or a select by its selector.
+#[derive(Clone, Copy, Drop)]
+pub enum Tree {
+    Texts(&'static [&'static str]),
+    Beside(&'static [&'static str], Part),
+    Choice(Part, &'static [Case]),
+}
+
+// ---- memory
+
+/// Takes memory for lists and boxes, and knows whether any was refused. So what makes parts of a pattern has no exit
+/// between them.
+#[derive(Drop)]
+struct Maker {
+    alloc: Global,
+    refused: bool,
+}
+
+fn add<T: Drop>(maker: &mut Maker, list: &mut Vec<T>, item: T) {
+    if list.push(item).is_err() {
+        maker.refused = true;
     }
 }
 
-/// A pattern of one placeable.
-pub fn alone<'s>(alloc: Global, inline: Inline<'s>) -> Tree<'s> {
-    Ok(Pattern {
-        elements: vec![in alloc; put(inline)]?,
-    })
-}
-
-/// A pattern of a text and a placeable.
-pub fn beside<'s>(alloc: Global, text: &'s str, inline: Inline<'s>) -> Tree<'s> {
-    Ok(Pattern {
-        elements: vec![in alloc; say(text), put(inline)]?,
-    })
-}
-
-// ---- inline expressions
-
-fn name_of<'s>(name: &'s str) -> Identifier<'s> {
-    Identifier { name }
-}
-
-/// The name of an attribute, none where it is empty.
-fn attribute_of<'s>(name: &'s str) -> Option<Identifier<'s>> {
-    if name.is_empty() {
-        None
-    } else {
-        Some(name_of(name))
+fn boxed<T: Drop>(maker: &mut Maker, value: T) -> Option<Box<T>> {
+    match Box::new(maker.alloc, value) {
+        Ok(boxed) => Some(boxed),
+        Err(_) => {
+            maker.refused = true;
+            None
+        }
     }
 }
 
-pub fn string<'s>(value: &'s str) -> Inline<'s> {
+// ---- expressions
+
+type Inline<'s> = InlineExpression<'s>;
+
+fn string<'s>(value: &'s str) -> Inline<'s> {
     InlineExpression::StringLiteral { value }
 }
 
-pub fn number<'s>(value: &'s str) -> Inline<'s> {
-    InlineExpression::NumberLiteral { value }
-}
-
-pub fn variable<'s>(name: &'s str) -> Inline<'s> {
-    InlineExpression::VariableReference { id: name_of(name) }
-}
-
-pub fn message<'s>(id: &'s str) -> Inline<'s> {
-    InlineExpression::MessageReference {
-        id: name_of(id),
-        attribute: None,
-    }
-}
-
-/// A term without arguments, or its attribute where the name is not empty.
-pub fn bare_term<'s>(id: &'s str, attribute: &'s str) -> Inline<'s> {
+fn bare_term<'s>(name: &'s str, attribute: Option<Identifier<'s>>) -> Inline<'s> {
     InlineExpression::TermReference {
-        id: name_of(id),
-        attribute: attribute_of(attribute),
+        id: Identifier { name },
+        attribute,
         arguments: None,
     }
 }
 
-/// A term, or its attribute where the name is not empty.
-pub fn term<'s>(id: &'s str, attribute: &'s str, arguments: Box<CallArguments<'s>>) -> Inline<'s> {
-    InlineExpression::TermReference {
-        id: name_of(id),
-        attribute: attribute_of(attribute),
-        arguments: Some(arguments),
+fn leaf_of<'s>(leaf: Leaf) -> Inline<'s> {
+    match leaf {
+        Leaf::String(value) => string(value),
+        Leaf::Number(value) => InlineExpression::NumberLiteral { value },
+        Leaf::Variable(name) => InlineExpression::VariableReference {
+            id: Identifier { name },
+        },
+        Leaf::Message(name) => InlineExpression::MessageReference {
+            id: Identifier { name },
+            attribute: None,
+        },
+        Leaf::Term(name) => bare_term(name, None),
+        Leaf::Attribute(name, attribute) => bare_term(name, Some(Identifier { name: attribute })),
     }
 }
 
-pub fn function<'s>(id: &'s str, arguments: Box<CallArguments<'s>>) -> Inline<'s> {
-    InlineExpression::FunctionReference {
-        id: name_of(id),
-        arguments,
+fn positional_of<'s>(maker: &mut Maker, leaves: &[Leaf]) -> Vec<Inline<'s>> {
+    let mut list = Vec::new(maker.alloc);
+    for part in leaves {
+        add(maker, &mut list, leaf_of(*part));
     }
+    list
 }
 
-pub fn nested<'s>(alloc: Global, expression: Expression<'s>) -> Result<Inline<'s>, AllocError> {
-    Ok(InlineExpression::Placeable {
-        expression: Box::new(alloc, expression)?,
-    })
-}
-
-/// An expression in so many brackets.
-pub fn in_brackets<'s>(
-    alloc: Global,
-    inline: Inline<'s>,
-    count: usize,
-) -> Result<Inline<'s>, AllocError> {
-    let mut inline = inline;
-    for _ in 0..count {
-        inline = nested(alloc, Expression::Inline(inline))?;
-    }
-    Ok(inline)
-}
-
-// ---- arguments
-
-pub fn named<'s>(name: &'s str, value: Inline<'s>) -> NamedArgument<'s> {
+fn argument<'s>(named: Named) -> NamedArgument<'s> {
     NamedArgument {
-        name: name_of(name),
-        value,
+        name: Identifier { name: named.0 },
+        value: leaf_of(named.1),
     }
 }
 
-pub fn asked<'s>(
-    alloc: Global,
-    positional: Vec<Inline<'s>>,
-    named: Vec<NamedArgument<'s>>,
-) -> Asked<'s> {
-    Ok(Box::new(alloc, CallArguments { positional, named })?)
+fn named_of<'s>(maker: &mut Maker, all: &[Named]) -> Vec<NamedArgument<'s>> {
+    let mut list = Vec::new(maker.alloc);
+    for named in all {
+        add(maker, &mut list, argument(*named));
+    }
+    list
 }
 
-/// One positional argument.
-pub fn only<'s>(alloc: Global, inline: Inline<'s>) -> Asked<'s> {
-    asked(alloc, vec![in alloc; inline]?, Vec::new(alloc))
+/// What is asked; nothing where memory for it was refused.
+fn arguments_of<'s>(maker: &mut Maker, asked: Asked) -> Option<Box<CallArguments<'s>>> {
+    let positional = positional_of(maker, asked.0);
+    let named = named_of(maker, asked.1);
+    boxed(maker, CallArguments { positional, named })
 }
 
-/// One named argument.
-pub fn only_named<'s>(alloc: Global, name: &'s str, value: Inline<'s>) -> Asked<'s> {
-    asked(alloc, Vec::new(alloc), vec![in alloc; named(name, value)]?)
+fn term<'s>(
+    maker: &mut Maker,
+    name: &'s str,
+    attribute: Option<Identifier<'s>>,
+    asked: Asked,
+) -> Inline<'s> {
+    InlineExpression::TermReference {
+        id: Identifier { name },
+        attribute,
+        arguments: arguments_of(maker, asked),
+    }
+}
+
+/// A function, or a text where memory for its arguments was refused.
+fn function<'s>(maker: &mut Maker, name: &'s str, asked: Asked) -> Inline<'s> {
+    match arguments_of(maker, asked) {
+        Some(arguments) => InlineExpression::FunctionReference {
+            id: Identifier { name },
+            arguments,
+        },
+        None => string(name),
+    }
+}
+
+/// An expression in brackets, or a text where memory for it was refused.
+fn nested<'s>(maker: &mut Maker, expression: Expression<'s>) -> Inline<'s> {
+    match boxed(maker, expression) {
+        Some(expression) => InlineExpression::Placeable { expression },
+        None => string(""),
+    }
+}
+
+fn in_brackets<'s>(maker: &mut Maker, part: Leaf, count: usize) -> Inline<'s> {
+    let mut inline = leaf_of(part);
+    for _ in 0..count {
+        inline = nested(maker, Expression::Inline(inline));
+    }
+    inline
+}
+
+fn inline_of<'s>(maker: &mut Maker, part: Part) -> Inline<'s> {
+    match part {
+        Part::Leaf(part) => leaf_of(part),
+        Part::Term(name, asked) => term(maker, name, None, asked),
+        Part::Attribute(name, attribute, asked) => {
+            term(maker, name, Some(Identifier { name: attribute }), asked)
+        }
+        Part::Function(name, asked) => function(maker, name, asked),
+        Part::Brackets(part, count) => in_brackets(maker, part, count),
+        Part::Select(selector, cases) => {
+            let select = select(maker, leaf_of(selector), cases);
+            nested(maker, select)
+        }
+    }
 }
 
 // ---- selects
 
-/// A variant with a name or a number as its key, and a text.
-#[derive(Clone, Copy, Drop)]
-pub struct Case<'s> {
-    pub key: VariantKey<'s>,
-    pub text: &'s str,
-    pub default: bool,
-}
-
-pub fn case_of<'s>(name: &'s str, text: &'s str) -> Case<'s> {
-    Case {
-        key: VariantKey::Identifier { name },
-        text,
-        default: false,
-    }
-}
-
-pub fn case_number<'s>(value: &'s str, text: &'s str) -> Case<'s> {
-    Case {
-        key: VariantKey::NumberLiteral { value },
-        text,
-        default: false,
-    }
-}
-
-pub fn default<'s>(name: &'s str, text: &'s str) -> Case<'s> {
-    Case {
-        key: VariantKey::Identifier { name },
-        text,
-        default: true,
-    }
-}
-
-fn variant_of<'s>(alloc: Global, case: Case<'s>) -> Result<Variant<'s>, AllocError> {
-    Ok(Variant {
-        key: case.key,
+/// A variant with a text, which is the default or not.
+fn variant<'s>(
+    maker: &mut Maker,
+    key: VariantKey<'s>,
+    text: &'static str,
+    default: bool,
+) -> Variant<'s> {
+    Variant {
+        key,
         value: Pattern {
-            elements: vec![in alloc; say(case.text)]?,
+            elements: texts(maker, &[text]),
         },
-        default: case.default,
-    })
-}
-
-pub fn select<'s>(
-    alloc: Global,
-    selector: Inline<'s>,
-    cases: &[Case<'s>],
-) -> Result<Expression<'s>, AllocError> {
-    let mut variants = Vec::new(alloc);
-    for case in cases {
-        variants.push(variant_of(alloc, *case)?)?;
+        default,
     }
-    Ok(Expression::Select { selector, variants })
 }
 
-/// A pattern of one select.
-pub fn choice<'s>(alloc: Global, selector: Inline<'s>, cases: &[Case<'s>]) -> Tree<'s> {
-    let expression = select(alloc, selector, cases)?;
-    Ok(Pattern {
-        elements: vec![in alloc; PatternElement::Placeable { expression }]?,
-    })
+fn variant_of<'s>(maker: &mut Maker, case: Case) -> Variant<'s> {
+    match case {
+        Case::Name(name, text) => variant(maker, VariantKey::Identifier { name }, text, false),
+        Case::Number(value, text) => {
+            variant(maker, VariantKey::NumberLiteral { value }, text, false)
+        }
+        Case::Default(name, text) => variant(maker, VariantKey::Identifier { name }, text, true),
+    }
+}
+
+fn variants<'s>(maker: &mut Maker, cases: &[Case]) -> Vec<Variant<'s>> {
+    let mut list = Vec::new(maker.alloc);
+    for case in cases {
+        let variant = variant_of(maker, *case);
+        add(maker, &mut list, variant);
+    }
+    list
+}
+
+fn select<'s>(maker: &mut Maker, selector: Inline<'s>, cases: &[Case]) -> Expression<'s> {
+    Expression::Select {
+        selector,
+        variants: variants(maker, cases),
+    }
+}
+
+// ---- patterns
+
+fn texts<'s>(maker: &mut Maker, texts: &[&'static str]) -> Vec<PatternElement<'s>> {
+    let mut list = Vec::new(maker.alloc);
+    for value in texts {
+        add(
+            maker,
+            &mut list,
+            PatternElement::TextElement { value: *value },
+        );
+    }
+    list
+}
+
+/// Texts, and an expression behind them.
+fn beside<'s>(
+    maker: &mut Maker,
+    front: &[&'static str],
+    expression: Expression<'s>,
+) -> Pattern<'s> {
+    let mut elements = texts(maker, front);
+    add(
+        maker,
+        &mut elements,
+        PatternElement::Placeable { expression },
+    );
+    Pattern { elements }
+}
+
+fn made<'s>(maker: &mut Maker, tree: Tree) -> Pattern<'s> {
+    match tree {
+        Tree::Texts(front) => Pattern {
+            elements: texts(maker, front),
+        },
+        Tree::Beside(front, part) => {
+            let inline = inline_of(maker, part);
+            beside(maker, front, Expression::Inline(inline))
+        }
+        Tree::Choice(selector, cases) => {
+            let selector = inline_of(maker, selector);
+            let select = select(maker, selector, cases);
+            beside(maker, &[], select)
+        }
+    }
+}
+
+/// The pattern that a table says.
+pub fn pattern<'s>(alloc: Global, tree: Tree) -> Result<Pattern<'s>, AllocError> {
+    let mut maker = Maker {
+        alloc,
+        refused: false,
+    };
+    let made = made(&mut maker, tree);
+    if maker.refused {
+        Err(AllocError)
+    } else {
+        Ok(made)
+    }
 }
