@@ -23,7 +23,7 @@ use Rattle.fluent_values.specs.Trail.{on_path}
 use Rattle.fluent_values.specs.Along.{Walk, Wrote, from_here, given}
 use Rattle.fluent_bundle.specs.Limits.{KeepsLimit}
 use Rattle.fluent_values.specs.Written.{Sink, SinkTook, CountsTell, without_error, writer, at}
-use Rattle.fluent_values.specs.declared.errors.FluentError.{FluentError}
+use Rattle.fluent_entries.specs.declared.errors.FluentError.{FluentError}
 use Rattle.fluent_text.specs.declared.counting.Counting.{Counting}
 
 -- a walk over a whole pattern

@@ -13,7 +13,7 @@ use Rattle.fluent_meaning.specs.Meaning.{Budget, Ran, left, ran, after_text, wit
 use Rattle.fluent_values.specs.Texts.{sole_text, is_text, texts_of}
 use Rattle.fluent_values.specs.Status.{reported}
 use Rattle.fluent_bundle.specs.Limits.{KeepsLimit}
-use Rattle.fluent_values.specs.declared.errors.FluentError.{FluentError}
+use Rattle.fluent_entries.specs.declared.errors.FluentError.{FluentError}
 
 -- the same by substitution, within the limit
 pub gives_within : {E : Type 0} (b : Bundle Text) (env : Map (Value Text)) (p : Pattern) (r : Result (CowStr Global) E) (list list' : List FluentError) → KeepsLimit b env p

@@ -14,7 +14,7 @@ use Rattle.fluent_meaning.specs.Bundle.{Bundle, Function, transform_of, formatte
 use Rattle.fluent_values.specs.View.{error_view}
 use Rattle.fluent_values.specs.MessageView.{Content}
 use Rattle.fluent_values.specs.EntryView.{ids, message_content}
-use Rattle.fluent_values.specs.declared.ids.Ids.{Ids}
+use Rattle.fluent_entries.specs.declared.ids.Ids.{Ids}
 use Rattle.fluent_bundle.specs.declared.resource.FluentResource.{FluentResource}
 use Rattle.fluent_bundle.specs.declared.resource.TryNewFault.{TryNewFault}
 use Rattle.fluent_bundle.specs.declared.resource.TryNewFault.TheVariants as refused

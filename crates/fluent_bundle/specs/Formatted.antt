@@ -10,7 +10,7 @@ use Rattle.fluent_meaning.specs.Meaning.{Ran}
 use Rattle.fluent_values.specs.Status.{reported}
 use Rattle.fluent_values.specs.Written.{Sink, CountsTell}
 use Rattle.fluent_values.specs.declared.resolver.output.Halt.{Halt}
-use Rattle.fluent_values.specs.declared.errors.FluentError.{FluentError}
+use Rattle.fluent_entries.specs.declared.errors.FluentError.{FluentError}
 
 -- The list of errors has these after those that stood in it.
 pub record AddsAll (errors : List Error) (list list' : List FluentError) : Type 0 where

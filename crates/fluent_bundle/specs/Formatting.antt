@@ -8,7 +8,7 @@ use Rattle.fluent_meaning.specs.Arguments.{Map}
 use Rattle.fluent_meaning.specs.Bundle.{Bundle}
 use Rattle.fluent_meaning.specs.Result.{formatted, written_pattern, substituted_pattern}
 use Rattle.fluent_bundle.specs.Formatted.{WritesAll, WritesFront, AddsFront, GivesText}
-use Rattle.fluent_values.specs.declared.errors.FluentError.{FluentError}
+use Rattle.fluent_entries.specs.declared.errors.FluentError.{FluentError}
 
 -- ---- what is written
 

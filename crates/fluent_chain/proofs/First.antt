@@ -6,7 +6,7 @@ use Rattle.std.specs.List.{list_any}
 use Rattle.std.specs.Option.{option_map}
 use Rattle.std.specs.declared.borrow.CowStr.{CowStr}
 use Rattle.fluent_tree.specs.Tree.{Pattern}
-use Rattle.fluent_values.specs.declared.errors.FluentError.{FluentError}
+use Rattle.fluent_entries.specs.declared.errors.FluentError.{FluentError}
 use Rattle.fluent_bundle.specs.Formatted.{GivesText}
 use Rattle.fluent_chain.specs.Chain.{or_others, first_with}
 

@@ -7,7 +7,7 @@ use Rattle.fluent_meaning.specs.Value.{Value}
 use Rattle.fluent_meaning.specs.Arguments.{Map}
 use Rattle.fluent_meaning.specs.Bundle.{Bundle}
 use Rattle.fluent_values.specs.Texts.{sole_text}
-use Rattle.fluent_values.specs.declared.errors.FluentError.{FluentError}
+use Rattle.fluent_entries.specs.declared.errors.FluentError.{FluentError}
 use Rattle.fluent_bundle.specs.BundleView.{formatter_in, transform_in}
 use Rattle.fluent_bundle.specs.Formatted.{GivesText}
 use Rattle.fluent_bundle.specs.declared.bundle.FluentBundle.{FluentBundle}

@@ -10,7 +10,7 @@ use Rattle.fluent_text.specs.declared.counting.WriteFault.TheVariants.{Memory}
 use Rattle.fluent_meaning.specs.Errors.{Error}
 use Rattle.fluent_values.specs.Status.{reported}
 use Rattle.fluent_values.specs.View.{error_view}
-use Rattle.fluent_values.specs.declared.errors.FluentError.{FluentError}
+use Rattle.fluent_entries.specs.declared.errors.FluentError.{FluentError}
 use Rattle.fluent_bundle.specs.Formatted.{AddsAll, AddsFront}
 use Rattle.fluent_command.specs.Inside.Far.{Added, AddedFirst}
 

@@ -5,7 +5,7 @@ use Rattle.std.proofs.Common.{sym, append-nil}
 use Rattle.fluent_tree.specs.Tree.{Text}
 use Rattle.fluent_meaning.specs.Errors.{Error}
 use Rattle.fluent_bundle.specs.Formatted.{WritesFront, AddsFront}
-use Rattle.fluent_values.specs.declared.errors.FluentError.{FluentError}
+use Rattle.fluent_entries.specs.declared.errors.FluentError.{FluentError}
 
 taken_none : (held : Option Text) → Appends held held []
 taken_none None = tt

@@ -8,7 +8,6 @@ use crate::sample_text::SAMPLE;
 use fluent_bundle::{FluentAttribute, ParserError};
 use std::alloc::{AllocError, Global};
 use std::process::Abort;
-use std::test::Fail;
 
 const RANK: &str =
     "rank = { NUMBER($n, type: \"ordinal\") ->\n [1] first\n [2] second\n [3] third\n [one] {$n}st\n [two] {$n}nd\n [few] {$n}rd\n *[other] {$n}th\n}";
@@ -99,7 +98,7 @@ fn rank_gives(
     bundle: &Bundle<'_, '_>,
     is_there: bool,
     args: &Args<'_>,
-) -> Result<(), Fail> {
+) -> Result<(), AllocError> {
     assert!(rt; bundle.has_message("rank") == is_there);
     let Some(pattern) = value_in(bundle, "rank") else {
         return Ok(());
@@ -124,7 +123,7 @@ fn attribute_gives<'s>(
     attribute: FluentAttribute<'_, 's>,
     wanted: (&str, &str),
     args: &Args<'_>,
-) -> Result<(), Fail> {
+) -> Result<(), AllocError> {
     assert!(rt; attribute.id() == wanted.0);
     let pattern = attribute.value();
     gives(rt, alloc, bundle, pattern, Some(args), (wanted.1, ""))?;
@@ -138,18 +137,18 @@ fn dialog_gives(
     bundle: &Bundle<'_, '_>,
     parts: &[(&'static str, &'static str)],
     args: &Args<'_>,
-) -> Result<(), Fail> {
+) -> Result<(), AllocError> {
     let Some(((_, value), others)) = parts.split_first() else {
         assert!(rt; !bundle.has_message("confirm-modal"));
         return Ok(());
     };
-    let message = bundle.get_message("confirm-modal").ok_or("no dialog")?;
-    let pattern = message.value().ok_or("no value")?;
+    let message = bundle.get_message("confirm-modal").expect(rt, "no dialog");
+    let pattern = message.value().expect(rt, "no value");
     gives(rt, alloc, bundle, pattern, Some(args), (*value, ""))?;
     gives(rt, alloc, bundle, pattern, None, (*value, ""))?;
     let mut attributes = message.attributes();
     for wanted in others {
-        let attribute = attributes.next().ok_or(wanted.0)?;
+        let attribute = attributes.next().expect(rt, wanted.0);
         attribute_gives(rt, alloc, bundle, attribute, *wanted, args)?;
     }
     assert!(rt; attributes.next().is_none());
@@ -157,7 +156,12 @@ fn dialog_gives(
 }
 
 /// What is left before a cut is read, and gives what it should.
-fn is_left(rt: &impl Abort, alloc: Global, read: &Source<'_>, end: usize) -> Result<(), Fail> {
+fn is_left(
+    rt: &impl Abort,
+    alloc: Global,
+    read: &Source<'_>,
+    end: usize,
+) -> Result<(), AllocError> {
     let left = left_before(alloc, end)?;
     assert!(rt; is_junk(read.errors.as_slice(), &left), "cut at {end}");
     assert!(rt; make_up(alloc, read)?, "cut at {end}");
@@ -169,11 +173,11 @@ fn is_left(rt: &impl Abort, alloc: Global, read: &Source<'_>, end: usize) -> Res
 
 /// Each cut of the select and the dialog.
 #[test]
-fn each_cut_gives_what_is_whole(rt: HostRuntime) -> Result<(), Fail> {
+fn each_cut_gives_what_is_whole(rt: HostRuntime) -> Result<(), AllocError> {
     let alloc = rt.alloc();
     let source = whole(alloc)?;
     for end in 0..source.len().saturating_add(1) {
-        let (cut, _) = source.as_str().split_at_checked(end).ok_or("no cut")?;
+        let (cut, _) = source.as_str().split_at_checked(end).expect(&rt, "no cut");
         let read = read(alloc, cut)?;
         is_left(&rt, alloc, &read, end)?;
     }
@@ -182,7 +186,7 @@ fn each_cut_gives_what_is_whole(rt: HostRuntime) -> Result<(), Fail> {
 
 /// Each cut of the sample.
 #[test]
-fn each_cut_of_the_sample_is_taken(rt: HostRuntime) -> Result<(), Fail> {
+fn each_cut_of_the_sample_is_taken(rt: HostRuntime) -> Result<(), AllocError> {
     let args = all_arguments(rt.alloc())?;
     for end in 0..SAMPLE.len() {
         if let Some((cut, _)) = SAMPLE.split_at_checked(end) {

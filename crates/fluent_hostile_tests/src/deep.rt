@@ -8,7 +8,6 @@ use fluent_bundle::ast::{
 };
 use std::alloc::{AllocError, Global};
 use std::process::Abort;
-use std::test::Fail;
 
 type Inline<'s> = InlineExpression<'s>;
 
@@ -172,7 +171,7 @@ fn row<'s>(
     bundle: &Bundle<'_, 's>,
     tree: Inline<'s>,
     wanted: (&str, &str),
-) -> Result<(), Fail> {
+) -> Result<(), AllocError> {
     let pattern = put(alloc, tree)?;
     let args = arguments(alloc, &[("v", "w")])?;
     gives(rt, alloc, bundle, &pattern, Some(&args), wanted)
@@ -185,7 +184,7 @@ fn are_chosen<'s>(
     bundle: &Bundle<'_, 's>,
     count: usize,
     place: In,
-) -> Result<(), Fail> {
+) -> Result<(), AllocError> {
     let whole = levels(alloc, string(marks(1)), count, place)?;
     let all = marks(count.saturating_add(1));
     row(rt, alloc, bundle, whole, (all, ""))?;
@@ -197,7 +196,7 @@ fn are_chosen<'s>(
 
 /// Placeables in arguments are not counted; the one in a term is, so that of the hundredth term is one too many.
 #[test]
-fn a_hundred_selects_in_arguments_are_chosen(rt: HostRuntime) -> Result<(), Fail> {
+fn a_hundred_selects_in_arguments_are_chosen(rt: HostRuntime) -> Result<(), AllocError> {
     let alloc = rt.alloc();
     let read = read(alloc, SOURCE)?;
     let bundle = bundle_of(alloc, FUNCTIONS, &read.resource)?;
@@ -232,7 +231,7 @@ fn repeated(alloc: Global, part: &str, count: usize) -> Result<String, AllocErro
 /// A hundred placeables in a message, which is the innermost selector, and one outside: the fallback of the whole is
 /// that of the innermost.
 #[test]
-fn the_fallback_of_a_hundred_selectors_is_the_innermost(rt: HostRuntime) -> Result<(), Fail> {
+fn the_fallback_of_a_hundred_selectors_is_the_innermost(rt: HostRuntime) -> Result<(), AllocError> {
     let alloc = rt.alloc();
     let mut source = String::from_str(alloc, "m = ")?;
     source.push_str(repeated(alloc, "{ \"a\" }", 100)?.as_str())?;
@@ -273,7 +272,7 @@ fn variants<'s>(alloc: Global, count: usize) -> Result<Pattern<'s>, AllocError> 
 
 /// Placeables of variants are counted; where one is too many, each of the others ends with its fallback.
 #[test]
-fn a_hundred_selects_in_variants_are_opened(rt: HostRuntime) -> Result<(), Fail> {
+fn a_hundred_selects_in_variants_are_opened(rt: HostRuntime) -> Result<(), AllocError> {
     let alloc = rt.alloc();
     let read = read(alloc, SOURCE)?;
     let bundle = bundle_of(alloc, FUNCTIONS, &read.resource)?;
@@ -300,7 +299,7 @@ fn are_one(alloc: Global, one: &str, other: &str) -> Result<bool, AllocError> {
 }
 
 #[test]
-fn trees_are_compared_to_their_innermost_part(rt: HostRuntime) -> Result<(), Fail> {
+fn trees_are_compared_to_their_innermost_part(rt: HostRuntime) -> Result<(), AllocError> {
     assert!(rt; are_one(rt.alloc(), "a", "a")?);
     assert!(rt; !are_one(rt.alloc(), "a", "b")?);
     Ok(())

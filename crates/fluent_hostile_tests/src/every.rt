@@ -7,9 +7,8 @@ use crate::given::given;
 use crate::objects::Answer;
 use fluent_bundle::ast::{Entry, Message, Pattern};
 use fluent_bundle::{FluentError, FluentMessage, ResolverError};
-use std::alloc::Global;
+use std::alloc::{AllocError, Global};
 use std::process::Abort;
-use std::test::Fail;
 
 /// The functions that the sources call.
 pub const FUNCTIONS: &[Function] = &[("FIRST", Answer::First), ("NAMED", Answer::Named)];
@@ -51,7 +50,7 @@ fn pattern_gives<'s>(
     bundle: &Bundle<'_, 's>,
     pattern: &Pattern<'s>,
     args: Option<&Args<'_>>,
-) -> Result<(), Fail> {
+) -> Result<(), AllocError> {
     let found = given(rt, alloc, bundle, pattern, args)?;
     assert!(rt; is_balanced(found.text.as_slice()));
     assert!(rt; is_struck_once_at_most(found.errors.as_slice()));
@@ -65,7 +64,7 @@ fn message_gives<'s>(
     bundle: &Bundle<'_, 's>,
     message: &Message<'s>,
     args: Option<&Args<'_>>,
-) -> Result<(), Fail> {
+) -> Result<(), AllocError> {
     let message = FluentMessage::from(message);
     if let Some(value) = message.value() {
         pattern_gives(rt, alloc, bundle, value, args)?;
@@ -82,7 +81,7 @@ fn messages_give(
     alloc: Global,
     read: &Source<'_>,
     args: &Args<'_>,
-) -> Result<(), Fail> {
+) -> Result<(), AllocError> {
     let bundle = bundle_of(alloc, FUNCTIONS, &read.resource)?;
     for entry in read.resource.entries() {
         if let Entry::Message(message) = entry {
@@ -94,13 +93,18 @@ fn messages_give(
 }
 
 /// A source is read as what makes it up, and added, and every message of it is formatted.
-pub fn holds(rt: &impl Abort, alloc: Global, source: &str, args: &Args<'_>) -> Result<(), Fail> {
+pub fn holds(
+    rt: &impl Abort,
+    alloc: Global,
+    source: &str,
+    args: &Args<'_>,
+) -> Result<(), AllocError> {
     let read = read(alloc, source)?;
     assert!(rt; make_up(alloc, &read)?, "of {source:?}");
     messages_give(rt, alloc, &read, args)
 }
 
 /// The arguments of every message.
-pub fn all_arguments(alloc: Global) -> Result<Args<'static>, Fail> {
+pub fn all_arguments(alloc: Global) -> Result<Args<'static>, AllocError> {
     Ok(arguments(alloc, ARGUMENTS)?)
 }

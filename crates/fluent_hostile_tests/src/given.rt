@@ -1,11 +1,10 @@
 //! What a pattern gives: the same text and the same errors by both formatting calls.
 use crate::common::{Args, Bundle, lines};
 use fluent_bundle::ast::Pattern;
-use fluent_bundle::{Counting, FluentError, WriteFault};
+use fluent_bundle::{Counting, FluentError};
 use std::alloc::{AllocError, Global};
 use std::borrow::CowStr;
 use std::process::Abort;
-use std::test::Fail;
 
 fn written<'s>(
     alloc: Global,
@@ -13,10 +12,12 @@ fn written<'s>(
     pattern: &Pattern<'s>,
     args: Option<&Args<'_>>,
     errors: &mut Vec<FluentError>,
-) -> Result<Vec<u8>, WriteFault> {
+) -> Result<Vec<u8>, AllocError> {
     let mut w = Counting::new(Vec::new(alloc));
-    bundle.write_pattern(&mut w, pattern, args, errors)?;
-    Ok(w.into_inner())
+    match bundle.write_pattern(&mut w, pattern, args, errors) {
+        Ok(()) => Ok(w.into_inner()),
+        Err(_) => Err(AllocError),
+    }
 }
 
 fn formatted<'s>(
@@ -42,7 +43,7 @@ pub fn given<'s>(
     bundle: &Bundle<'_, 's>,
     pattern: &Pattern<'s>,
     args: Option<&Args<'_>>,
-) -> Result<Outcome, Fail> {
+) -> Result<Outcome, AllocError> {
     let mut errors = Vec::new(alloc);
     let text = written(alloc, bundle, pattern, args, &mut errors)?;
     let mut others = Vec::new(alloc);
@@ -60,7 +61,7 @@ pub fn gives<'s>(
     pattern: &Pattern<'s>,
     args: Option<&Args<'_>>,
     wanted: (&str, &str),
-) -> Result<(), Fail> {
+) -> Result<(), AllocError> {
     let found = given(rt, alloc, bundle, pattern, args)?;
     let text = str::from_utf8(found.text.as_slice()).unwrap_or("no text");
     assert!(rt; text == wanted.0, "{text}");

@@ -4,7 +4,6 @@ use crate::every::{all_arguments, holds};
 use crate::sample_text::SAMPLE;
 use std::alloc::{AllocError, Global};
 use std::process::Abort;
-use std::test::Fail;
 
 /// The parts of the sample around the character at a place; `None` in the middle of one.
 fn around(place: usize) -> Option<(&'static str, &'static str)> {
@@ -29,7 +28,7 @@ fn hold_with(
     alloc: Global,
     character: &str,
     args: &Args<'_>,
-) -> Result<usize, Fail> {
+) -> Result<usize, AllocError> {
     let mut sources = 0usize;
     for place in 0..SAMPLE.len() {
         if let Some(around) = around(place) {
@@ -45,7 +44,7 @@ fn hold_with(
 const CHARACTERS: usize = 2003;
 
 /// Each place of the sample was spoiled by each of these characters.
-fn hold_with_each(rt: &impl Abort, alloc: Global, characters: &[&str]) -> Result<(), Fail> {
+fn hold_with_each(rt: &impl Abort, alloc: Global, characters: &[&str]) -> Result<(), AllocError> {
     let args = all_arguments(alloc)?;
     for character in characters {
         let sources = hold_with(rt, alloc, *character, &args)?;
@@ -55,16 +54,16 @@ fn hold_with_each(rt: &impl Abort, alloc: Global, characters: &[&str]) -> Result
 }
 
 #[test]
-fn brackets_in_any_place_are_taken(rt: HostRuntime) -> Result<(), Fail> {
+fn brackets_in_any_place_are_taken(rt: HostRuntime) -> Result<(), AllocError> {
     hold_with_each(&rt, rt.alloc(), &["{", "}", "[", "]", "(", ")"])
 }
 
 #[test]
-fn signs_in_any_place_are_taken(rt: HostRuntime) -> Result<(), Fail> {
+fn signs_in_any_place_are_taken(rt: HostRuntime) -> Result<(), AllocError> {
     hold_with_each(&rt, rt.alloc(), &[".", "-", "*", "$", "#", "=", ":", ","])
 }
 
 #[test]
-fn quotes_blanks_and_line_ends_in_any_place_are_taken(rt: HostRuntime) -> Result<(), Fail> {
+fn quotes_blanks_and_line_ends_in_any_place_are_taken(rt: HostRuntime) -> Result<(), AllocError> {
     hold_with_each(&rt, rt.alloc(), &["\"", "\\", " ", "\n", "\r"])
 }

@@ -5,7 +5,6 @@ use crate::objects::Answer;
 use fluent_bundle::{FluentResource, ParserError};
 use std::alloc::{AllocError, Global};
 use std::process::Abort;
-use std::test::Fail;
 
 /// What stands in front, what opens, what stands inside, what closes, what stands behind; how often it opens and closes.
 type Nest = (&'static [&'static str; 5], usize);
@@ -39,15 +38,15 @@ fn d_gives(
     alloc: Global,
     resource: &FluentResource<'_>,
     wanted: (&str, &str),
-) -> Result<(), Fail> {
+) -> Result<(), AllocError> {
     let bundle = bundle_of(alloc, &[], resource)?;
-    let pattern = value_in(&bundle, "d").ok_or("no d")?;
+    let pattern = value_in(&bundle, "d").expect(rt, "no d");
     gives(rt, alloc, &bundle, pattern, None, wanted)
 }
 
 /// Depth 100 is read, and resolved: an unknown function as an argument adds no error.
 #[test]
-fn a_hundred_levels_are_formatted(rt: HostRuntime) -> Result<(), Fail> {
+fn a_hundred_levels_are_formatted(rt: HostRuntime) -> Result<(), AllocError> {
     let alloc = rt.alloc();
     let unknown = "Resolver error: Unknown function: F()\n";
     for (nest, wanted) in [
@@ -69,7 +68,7 @@ fn has_d(alloc: Global, resource: &FluentResource<'_>) -> Result<bool, AllocErro
 
 /// One level more is one Junk, which is the whole source, and no message.
 #[test]
-fn one_level_more_is_junk(rt: HostRuntime) -> Result<(), Fail> {
+fn one_level_more_is_junk(rt: HostRuntime) -> Result<(), AllocError> {
     let alloc = rt.alloc();
     for (nest, end) in [((BRACES, 101), 209), ((CALLS, 100), 308)] {
         let source = nested(alloc, &nest)?;
@@ -98,15 +97,15 @@ fn is_chosen(
     resource: &FluentResource<'_>,
     function: Function,
     chosen: &str,
-) -> Result<(), Fail> {
+) -> Result<(), AllocError> {
     let bundle = bundle_of(alloc, &[function], resource)?;
-    let pattern = value_in(&bundle, "d").ok_or("no d")?;
+    let pattern = value_in(&bundle, "d").expect(rt, "no d");
     gives(rt, alloc, &bundle, pattern, None, (chosen, ""))
 }
 
 /// An answer that no key is compared with goes to the default, without an error.
 #[test]
-fn answers_of_each_kind_choose(rt: HostRuntime) -> Result<(), Fail> {
+fn answers_of_each_kind_choose(rt: HostRuntime) -> Result<(), AllocError> {
     let alloc = rt.alloc();
     let read = read(alloc, CHOICE)?;
     for (answer, chosen) in ANSWERS {

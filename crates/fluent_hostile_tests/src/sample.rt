@@ -6,9 +6,8 @@ use crate::given::gives;
 use crate::sample_text::SAMPLE;
 use fluent_bundle::ast::Pattern;
 use fluent_bundle::{FluentMessage, FluentResource, ParserError};
-use std::alloc::Global;
+use std::alloc::{AllocError, Global};
 use std::process::Abort;
-use std::test::Fail;
 
 /// The text of a pattern, and the lines of its errors.
 type Text = (&'static str, &'static str);
@@ -181,14 +180,14 @@ fn rows_hold(
     alloc: Global,
     bundle: &Bundle<'_, '_>,
     args: &Args<'_>,
-) -> Result<(), Fail> {
+) -> Result<(), AllocError> {
     for (id, attribute, text) in ALIKE {
-        let pattern = pattern_in(bundle, *id, *attribute).ok_or(*id)?;
+        let pattern = pattern_in(bundle, *id, *attribute).expect(rt, *id);
         gives(rt, alloc, bundle, pattern, None, *text)?;
         gives(rt, alloc, bundle, pattern, Some(args), *text)?;
     }
     for (id, attribute, with, without) in UNLIKE {
-        let pattern = pattern_in(bundle, *id, *attribute).ok_or(*id)?;
+        let pattern = pattern_in(bundle, *id, *attribute).expect(rt, *id);
         gives(rt, alloc, bundle, pattern, Some(args), *with)?;
         gives(rt, alloc, bundle, pattern, None, *without)?;
     }
@@ -196,18 +195,22 @@ fn rows_hold(
 }
 
 /// The limit is struck in the tenth message that stands in the message.
-fn strikes(rt: &impl Abort, alloc: Global, bundle: &Bundle<'_, '_>) -> Result<(), Fail> {
+fn strikes(rt: &impl Abort, alloc: Global, bundle: &Bundle<'_, '_>) -> Result<(), AllocError> {
     let mut text = String::new(alloc);
     for _ in 0..90 {
         text.push_str("lol")?;
     }
     text.push_str("{p}")?;
-    let pattern = pattern_in(bundle, "q", "").ok_or("no q")?;
+    let pattern = pattern_in(bundle, "q", "").expect(rt, "no q");
     let errors = "Resolver error: Too many placeables\n";
     gives(rt, alloc, bundle, pattern, None, (text.as_str(), errors))
 }
 
-fn all_hold(rt: &impl Abort, alloc: Global, resource: &FluentResource<'_>) -> Result<(), Fail> {
+fn all_hold(
+    rt: &impl Abort,
+    alloc: Global,
+    resource: &FluentResource<'_>,
+) -> Result<(), AllocError> {
     let bundle = bundle_of(alloc, FUNCTIONS, resource)?;
     let args = all_arguments(alloc)?;
     rows_hold(rt, alloc, &bundle, &args)?;
@@ -235,7 +238,7 @@ const JUNK: [ParserError; 4] = [
 ];
 
 #[test]
-fn the_sample_gives_what_its_rules_say(rt: HostRuntime) -> Result<(), Fail> {
+fn the_sample_gives_what_its_rules_say(rt: HostRuntime) -> Result<(), AllocError> {
     let alloc = rt.alloc();
     let read = read(alloc, SAMPLE)?;
     assert!(rt; read.errors.as_slice() == JUNK.as_slice());

@@ -12,12 +12,6 @@ pub mod Classed
 pub mod Cases
 mod Stored
 pub mod Measures
-pub mod Own
-pub mod ByName
-pub mod Added
-pub mod OneId
-pub mod Waiting
-pub mod Linking
 pub mod Passing
 pub mod Along
 pub mod Values

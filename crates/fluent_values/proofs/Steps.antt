@@ -31,7 +31,7 @@ use Rattle.fluent_values.specs.declared.types.value.FluentValue.{FluentValue}
 use Rattle.fluent_values.specs.declared.types.value.FluentValue.TheVariants as values
 use Rattle.fluent_values.proofs.Cases.{sequence, prepend, and_then, elements_end, elements_struck, elements_more, part_text, positional_none, positional_more, named_none, named_more, given_first, tells, loses_is, written_variable, variable_text_some, variable_text_none, missing_application, missing_local, resolved_variable, variable_value_some, variable_value_none, function_text_none, function_text_some, expression_inline, expression_select, chosen, chosen_is, meant, entering, go_cyclic, go_entered, whole_is, written_term, written_function, and_then_is, mapping_then, then_give, called_is}
 use Rattle.fluent_values.proofs.Views.{view_pattern, view_named, view_in, view_arguments}
-use Rattle.fluent_values.specs.Texts.{IsTextAlone}
+use Rattle.fluent_entries.specs.Texts.{IsTextAlone}
 
 -- LISTS
 

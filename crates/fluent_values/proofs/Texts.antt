@@ -3,7 +3,7 @@ use Rattle.std.proofs.Common.{◌≡◌, refl, sym, ap, ◌∙◌, ℕ, ◌+◌,
 use Rattle.fluent_tree.specs.Tree.{Text, Expression, text, placeable, more, pattern_of}
 use Rattle.fluent_tree.specs.View.{element_view}
 use Rattle.fluent_tree.specs.declared.ast.PatternElement.{PatternElement}
-use Rattle.fluent_values.specs.Texts.{texts_of}
+use Rattle.fluent_entries.specs.Texts.{texts_of}
 use Rattle.fluent_values.specs.Written.{Sink, SinkTook}
 use Rattle.fluent_values.proofs.Steps.{next_of, none_left}
 use Rattle.fluent_values.proofs.Took.{appends_none, took_same, took_whole}

@@ -8,9 +8,9 @@ use Rattle.fluent_links.specs.Links.{IsBefore}
 use Rattle.fluent_links.specs.Places.{seen}
 use Rattle.fluent_links.specs.declared.linked.Linked.{Linked}
 use Rattle.fluent_meaning.specs.Bundle.{Target, unknown, without_value, found}
-use Rattle.fluent_values.specs.Numbered.{numbers, table}
+use Rattle.fluent_entries.specs.Numbered.{numbers, table}
 use Rattle.fluent_values.specs.Trail.{IsClassed, content_at}
-use Rattle.fluent_values.specs.declared.ids.Ids.{Ids}
+use Rattle.fluent_entries.specs.declared.ids.Ids.{Ids}
 use Rattle.fluent_values.specs.declared.resolver.found.Found.{Found}
 use Rattle.fluent_values.specs.declared.resolver.found.Found.TheVariants as leads
 use Rattle.fluent_values.specs.declared.resolver.found.Target as code

@@ -1,4 +1,5 @@
 -- What takes no memory, so that it can't be refused.
+pub use Rattle.fluent_entries.specs.Free.{NamesNothing, HasNoText}
 use Rattle.std.specs.Prelude.{◌≡◌, ⊤, List, ◌∷◌, Option, Some, None, codes}
 use Rattle.std.specs.declared.borrow.CowStr.TheVariants as text
 use Rattle.fluent_tree.specs.Tree.{Text}
@@ -6,10 +7,6 @@ use Rattle.fluent_meaning.specs.Value.{Value, text_value, number_value}
 use Rattle.fluent_meaning.specs.Arguments.{Map, get}
 use Rattle.fluent_values.specs.declared.types.value.FluentValue.{FluentValue}
 use Rattle.fluent_values.specs.declared.types.value.FluentValue.TheVariants as values
-use Rattle.fluent_values.specs.declared.errors.FluentError.{FluentError}
-use Rattle.fluent_values.specs.declared.errors.FluentError.TheVariants as errors
-use Rattle.fluent_values.specs.declared.resolver.errors.ResolverError.{ResolverError}
-use Rattle.fluent_values.specs.declared.resolver.errors.ResolverError.TheVariants as resolving
 
 -- a value with no text of its own: a number without a currency, none or error
 abbrev pub IsTextless : {C : Type 0} → FluentValue C → Type 0
@@ -22,18 +19,6 @@ IsTextless _ = ⊥
 abbrev pub IsLent : {C : Type 0} → FluentValue C → Type 0
 IsLent (values.String (text.Borrowed t)) = ⊤
 IsLent v = IsTextless v
-
--- an error of the resolver that names nothing
-abbrev pub NamesNothing : ResolverError → Type 0
-NamesNothing (resolving.Reference r) = ⊥
-NamesNothing (resolving.NoValue id) = ⊥
-NamesNothing _ = ⊤
-
--- the same of any error
-abbrev pub HasNoText : FluentError → Type 0
-HasNoText (errors.Overriding kind id) = ⊥
-HasNoText (errors.ParserError p) = ⊤
-HasNoText (errors.ResolverError r) = NamesNothing r
 
 -- an argument that is a text
 abbrev pub IsTextGiven : Option (Value Text) → Type 0

@@ -1,3 +1,9 @@
+pub use Rattle.fluent_entries.specs.EntryView
+pub use Rattle.fluent_entries.specs.Linking
+pub use Rattle.fluent_entries.specs.MessageView
+pub use Rattle.fluent_entries.specs.Named
+pub use Rattle.fluent_entries.specs.Numbered
+pub use Rattle.fluent_entries.specs.Texts
 pub mod View
 pub mod Args
 pub mod Names
@@ -10,16 +16,8 @@ pub mod Trail
 pub mod Status
 pub mod Along
 pub mod Tracking
-pub mod Texts
-pub mod TextRows
 pub mod Sizes
 pub mod Choice
 pub mod ChosenView
 pub mod Written
 pub mod Free
-pub mod MessageView
-pub mod Named
-pub mod Numbered
-pub mod Linking
-pub mod EntryView
-pub mod Adding

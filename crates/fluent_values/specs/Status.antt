@@ -12,13 +12,13 @@ use Rattle.fluent_meaning.specs.Arguments.{Map}
 use Rattle.fluent_meaning.specs.Bundle.{Bundle, Entry, Function}
 use Rattle.fluent_meaning.specs.Walk.{Environment, application, local}
 use Rattle.fluent_meaning.specs.Meaning.{Budget, left, struck, at_most}
-use Rattle.fluent_values.specs.EntryView.{ids}
-use Rattle.fluent_values.specs.Numbered.{numbers, table}
+use Rattle.fluent_entries.specs.EntryView.{ids}
+use Rattle.fluent_entries.specs.Numbered.{numbers, table}
 use Rattle.fluent_values.specs.Trail.{trail}
 use Rattle.fluent_values.specs.View.{error_view, named}
 use Rattle.fluent_values.specs.declared.args.FluentArgs.{FluentArgs}
-use Rattle.fluent_values.specs.declared.errors.FluentError.{FluentError}
-use Rattle.fluent_values.specs.declared.ids.Ids.{Ids}
+use Rattle.fluent_entries.specs.declared.errors.FluentError.{FluentError}
+use Rattle.fluent_entries.specs.declared.ids.Ids.{Ids}
 use Rattle.fluent_values.specs.declared.resolver.environment.Environment as environments
 use Rattle.fluent_values.specs.declared.resolver.environment.Environment.TheVariants as environment
 use Rattle.fluent_values.specs.declared.resolver.path.Step.{Step}

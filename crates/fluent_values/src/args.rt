@@ -12,10 +12,16 @@ use std::{slice, vec};
 ///
 /// The pairs stand in the order of the names' bytes. Most calls have a few, which are found in one block of memory
 /// faster than in a tree.
-#[derive(Drop)]
 pub struct FluentArgs<'a, C> {
     pairs: Vec<(CowStr<'a>, FluentValue<'a, C>)>,
     ghost ordered: { NamesRise pairs.items },
+}
+
+// Written out, so that the drop of a pair is proved here, and not in each crate that arguments go out of scope in.
+impl<'a, C: Drop> Drop for FluentArgs<'a, C> {
+    fn drop(self) {
+        let FluentArgs { pairs: _ } = self;
+    }
 }
 
 impl<'a, C: FluentType> FluentArgs<'a, C> {
@@ -162,8 +168,9 @@ impl<'a, C: FluentType> IntoIterator for FluentArgs<'a, C> {
     ghost into_iter_gives = { λ args result. given_left C.content result ≡ named C.content args };
 
     fn into_iter(self) -> ArgsIntoIter<'a, C> {
+        let FluentArgs { pairs } = self;
         ArgsIntoIter {
-            inner: self.pairs.into_iter(),
+            inner: pairs.into_iter(),
         }
     }
 }

@@ -2,7 +2,6 @@
 mod arguments;
 pub mod context;
 pub mod environment;
-pub mod errors;
 mod expression;
 mod fallback;
 pub mod found;
@@ -18,7 +17,8 @@ pub mod value;
 mod variants;
 
 pub use context::Context;
-pub use errors::{ReferenceKind, ResolverError};
+pub use fluent_entries::errors::resolver as errors;
+pub use fluent_entries::{ReferenceKind, ResolverError};
 pub use fluent_links::Place;
 pub use found::{Found, Target};
 pub use path::Step;

@@ -10,7 +10,7 @@ ghost use Rattle.fluent_meaning.specs.Walk as walk;
 ghost use Rattle.fluent_meaning.specs.Walk.{is_bare};
 ghost use Rattle.fluent_meaning.specs.Work.{with_work};
 ghost use Rattle.fluent_values.specs.Along.{Wrote};
-ghost use Rattle.fluent_values.specs.Numbered.{IsPlaced};
+ghost use Rattle.fluent_entries.specs.Numbered.{IsPlaced};
 ghost use Rattle.fluent_values.specs.Status.{status};
 ghost use Rattle.fluent_values.specs.Written.{sink};
 

@@ -7,19 +7,18 @@ ghost use Rattle.fluent_tree.specs.Tree.{Text, Pattern as Content};
 ghost use Rattle.fluent_tree.specs.View.{attribute_of, attribute_view, pattern_view, value_view as optional_view};
 ghost use Rattle.fluent_meaning.specs.Arguments.{get};
 ghost use Rattle.fluent_meaning.specs.Bundle.{Function, message_target, term_target, value_target, first_of, function_found};
-ghost use Rattle.fluent_values.specs.EntryView.{ids, ids as ids_of};
+ghost use Rattle.fluent_entries.specs.EntryView.{ids as ids_of};
 ghost use Rattle.fluent_values.specs.FoundView.{IsLed, IsLedBy, IsStoredBy, OfPattern, OfPatterns, OfValue, found_view};
-ghost use Rattle.fluent_values.specs.Numbered.{IsPlaced};
+ghost use Rattle.fluent_entries.specs.Numbered.{IsPlaced};
 ghost use Rattle.fluent_values.specs.Trail.{content_at};
 ghost use Rattle.fluent_values.specs.View.{value_view, named};
 
 use super::path::Step;
 use crate::args::FluentArgs;
 use crate::builtins::NUMBER;
-use crate::entry::Entry;
 use crate::function::FluentFunction;
-use crate::ids::Ids;
 use crate::types::{FluentType, FluentValue};
+use fluent_entries::{Entry, Ids};
 use fluent_links::{Linked, Place};
 use fluent_tree::ast::{Attribute, Identifier, Pattern};
 use std::alloc::{AllocError, Global};
@@ -39,57 +38,55 @@ pub enum Found<'p, 's> {
     Pattern(Target<'p, 's>),
 }
 
-impl<'r, 's, F> Ids<'r, 's, F> {
-    /// What a message's id leads to, or its attribute of a name. Takes no memory.
-    #[inline(always)]
-    pub(crate) fn message<'p>(
-        &'p self,
-        id: &str,
-        attribute: &Option<Identifier<'_>>,
-        place: Place<'_>,
-    ) -> Found<'p, 's>
-        requires { IsPlaced self.now (a_message id.now ∷ []) place }
-        ensures content { (answer : F → Function Text) →
-            found_view result ≡ message_target (get id.now (ids answer self.now))
-            (attribute_of attribute.now) }
-        ensures led { IsLed self.now result }
-    {
-        let Some(slot) = self.slot(id, place.first()) else {
-            return Found::Unknown;
-        };
-        match &slot.entry {
-            Entry::Message(message) => match attribute {
-                None => value_of(&message.value, slot.value()),
-                Some(name) => first_of(&message.attributes, slot.attributes(), name.name),
-            },
-            _ => Found::Unknown,
-        }
+/// What a message's id leads to, or its attribute of a name. Takes no memory.
+#[inline(always)]
+pub(crate) fn message<'p, 's, F>(
+    ids: &'p Ids<'_, 's, F>,
+    id: &str,
+    attribute: &Option<Identifier<'_>>,
+    place: Place<'_>,
+) -> Found<'p, 's>
+    requires { IsPlaced ids.now (a_message id.now ∷ []) place }
+    ensures content { (answer : F → Function Text) →
+        found_view result ≡ message_target (get id.now (ids_of answer ids.now))
+        (attribute_of attribute.now) }
+    ensures led { IsLed ids.now result }
+{
+    let Some(slot) = ids.slot(id, place.first()) else {
+        return Found::Unknown;
+    };
+    match &slot.entry {
+        Entry::Message(message) => match attribute {
+            None => value_of(&message.value, slot.value()),
+            Some(name) => first_of(&message.attributes, slot.attributes(), name.name),
+        },
+        _ => Found::Unknown,
     }
+}
 
-    /// What a term's id leads to, or its attribute of a name. Takes no memory.
-    #[inline(always)]
-    pub(crate) fn term<'p>(
-        &'p self,
-        id: &str,
-        attribute: &Option<Identifier<'_>>,
-        place: Place<'_>,
-    ) -> Found<'p, 's>
-        requires { IsPlaced self.now (a_term id.now ∷ []) place }
-        ensures content { (answer : F → Function Text) →
-            found_view result ≡ term_target (get id.now (ids answer self.now))
-            (attribute_of attribute.now) }
-        ensures led { IsLed self.now result }
-    {
-        let Some(slot) = self.slot(id, place.first()) else {
-            return Found::Unknown;
-        };
-        match &slot.entry {
-            Entry::Term(term) => match attribute {
-                None => Found::Pattern(Target::of(&term.value, slot.value())),
-                Some(name) => first_of(&term.attributes, slot.attributes(), name.name),
-            },
-            _ => Found::Unknown,
-        }
+/// What a term's id leads to, or its attribute of a name. Takes no memory.
+#[inline(always)]
+pub(crate) fn term<'p, 's, F>(
+    ids: &'p Ids<'_, 's, F>,
+    id: &str,
+    attribute: &Option<Identifier<'_>>,
+    place: Place<'_>,
+) -> Found<'p, 's>
+    requires { IsPlaced ids.now (a_term id.now ∷ []) place }
+    ensures content { (answer : F → Function Text) →
+        found_view result ≡ term_target (get id.now (ids_of answer ids.now))
+        (attribute_of attribute.now) }
+    ensures led { IsLed ids.now result }
+{
+    let Some(slot) = ids.slot(id, place.first()) else {
+        return Found::Unknown;
+    };
+    match &slot.entry {
+        Entry::Term(term) => match attribute {
+            None => Found::Pattern(Target::of(&term.value, slot.value())),
+            Some(name) => first_of(&term.attributes, slot.attributes(), name.name),
+        },
+        _ => Found::Unknown,
     }
 }
 

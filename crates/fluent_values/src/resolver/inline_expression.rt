@@ -15,7 +15,7 @@ ghost use Rattle.fluent_meaning.specs.Work.{with_work};
 ghost use Rattle.fluent_values.specs.Along.{Wrote, ReportsIfOk, lost_of, shown_answer};
 ghost use Rattle.fluent_values.specs.FoundView.{IsLed, IsStored, found_view};
 ghost use Rattle.fluent_values.specs.Trail.{content_at};
-ghost use Rattle.fluent_values.specs.Numbered.{IsPlaced};
+ghost use Rattle.fluent_entries.specs.Numbered.{IsPlaced};
 ghost use Rattle.fluent_values.specs.Sizes.{size, bound, IsBelow};
 ghost use Rattle.fluent_values.specs.Status.{status};
 ghost use Rattle.fluent_values.specs.View.{value_view, named};
@@ -26,7 +26,7 @@ use super::context::Context;
 use super::environment::Environment;
 use super::expression::write_expression;
 use super::fallback::{put_fallback, put_id_in_braces, put_in_braces};
-use super::found::{Found, Target, answer_of};
+use super::found::{self, Found, Target, answer_of};
 use super::output::{Halt, Output, put_text, set_aside};
 use super::pattern::write_pattern;
 use super::scope::Scope;
@@ -67,7 +67,7 @@ pub(crate) fn write_inline<'p, 's, W: Write, C: FluentType, F: FluentFunction<C>
             write_function(scope, out, inline, id, arguments, place)
         }
         InlineExpression::MessageReference { id, attribute } => {
-            let found = scope.ids.message(id.name, attribute, place);
+            let found = found::message(scope.ids, id.name, attribute, place);
             follow(scope, out, inline, id, found)
         }
         InlineExpression::TermReference {
@@ -152,7 +152,7 @@ fn write_term<'p, 's, W: Write, C: FluentType, F: FluentFunction<C>, B: Context<
         (sink W.contents out.old) (sink W.contents out.new) (at scope.old) (at scope.new) }
 {
     let local = resolve_local(scope, out.writer, arguments, place.after_one())?;
-    let found = scope.ids.term(id.name, attribute, place);
+    let found = found::term(scope.ids, id.name, attribute, place);
     let outer = mem::replace(&mut scope.environment, Environment::Local(local));
     let written = follow(scope, out, inline, id, found);
     scope.environment = outer;

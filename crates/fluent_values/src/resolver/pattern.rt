@@ -10,9 +10,9 @@ ghost use Rattle.fluent_meaning.specs.Meaning.{first_mark, last_mark, ending, st
 ghost use Rattle.fluent_meaning.specs.Walk.{has_one, is_marked, elements, part, whole};
 ghost use Rattle.fluent_meaning.specs.Work.{with_work};
 ghost use Rattle.fluent_values.specs.Along.{Wrote};
-ghost use Rattle.fluent_values.specs.Numbered.{IsPlaced};
+ghost use Rattle.fluent_entries.specs.Numbered.{IsPlaced};
 ghost use Rattle.fluent_values.specs.Status.{budget_view, bundle_in, ids_in, status};
-ghost use Rattle.fluent_values.specs.Texts.{IsTextAlone};
+ghost use Rattle.fluent_entries.specs.Texts.{IsTextAlone};
 ghost use Rattle.fluent_values.specs.Written.{sink, SinkTook};
 
 use super::context::Context;

@@ -1,7 +1,7 @@
 //! The state of one formatting call.
 #![tactic(auto, unfolding(crate::specs::Status::scope_parts))]
 
-ghost use Rattle.fluent_values.specs.Numbered.{table};
+ghost use Rattle.fluent_entries.specs.Numbered.{table};
 ghost use Rattle.fluent_values.specs.Trail.{AreClassed, content_set, trail};
 ghost use Rattle.std.proofs.Props.{props};
 
@@ -9,9 +9,9 @@ use super::context::Context;
 use super::environment::Environment;
 use super::path::{Path, Step};
 use crate::function::FluentFunction;
-use crate::ids::Ids;
 use crate::types::FluentType;
 use crate::{FluentArgs, FluentError, ResolverError};
+use fluent_entries::Ids;
 use fluent_tree::ast::Pattern;
 use std::alloc::AllocError;
 
@@ -32,7 +32,6 @@ pub struct Counts {
 
 /// The state of one formatting call: its bundle, where its variables are looked up, the patterns that are being
 /// written, its list of errors, how many more placeables it may open, and what it did.
-#[derive(Drop)]
 pub struct Scope<'errors, 'p, 'r, 's, 'args, C, F, B> {
     pub(crate) errors: Option<&'errors mut Vec<FluentError>>,
     pub(crate) bundle: &'p B,
@@ -43,6 +42,22 @@ pub struct Scope<'errors, 'p, 'r, 's, 'args, C, F, B> {
     pub(crate) counts: Counts,
     /// The numbers on the path are those of its patterns.
     ghost classed: { AreClassed (table ids.now) (trail path) } by { Prim.hlevel (props, content_set) },
+}
+
+// Written out, so that it is one step of a caller's proof, where a derived drop stands in it part by part at each exit.
+impl<'errors, 'p, 'r, 's, 'args, C: Drop, F, B> Drop
+    for Scope<'errors, 'p, 'r, 's, 'args, C, F, B> {
+    fn drop(self) {
+        let Scope {
+            errors: _,
+            bundle: _,
+            ids: _,
+            environment: _,
+            path: _,
+            budget: _,
+            counts: _,
+        } = self;
+    }
 }
 
 impl<'errors, 'p, 'r, 's, 'args, C: FluentType, F: FluentFunction<C>, B: Context<C>> Scope<
@@ -60,7 +75,7 @@ impl<'errors, 'p, 'r, 's, 'args, C: FluentType, F: FluentFunction<C>, B: Context
     ghost use Rattle.fluent_meaning.specs.Errors.{resolver_error};
     ghost use Rattle.fluent_meaning.specs.Meaning.{struck};
     ghost use Rattle.fluent_values.specs.View.{error_view, resolver_error_view};
-    ghost use Rattle.fluent_values.specs.EntryView.{ids as ids_of};
+    ghost use Rattle.fluent_entries.specs.EntryView.{ids as ids_of};
     ghost use Rattle.fluent_values.specs.Status.{arguments_view, budget_view, bundle_in, counts_in, errors_in, status, with_ids};
     ghost use Rattle.fluent_meaning.specs.Walk.{is_on};
     ghost use Rattle.fluent_values.specs.Along.{can_open, ReportsIfOk, TakesOne, IsAtStart, StartsPattern, EndsPattern, Enters, Leaves};

@@ -1,25 +1,13 @@
 //! Patterns of texts alone, which need no scope.
 ghost use Rattle.std.specs.Prelude.{◌≡◌, ◌≢◌, Err, false};
 ghost use Rattle.fluent_tree.specs.View.{pattern_view};
-ghost use Rattle.fluent_values.specs.Texts.{is_text, texts_of};
+ghost use Rattle.fluent_entries.specs.Texts.{texts_of};
 ghost use Rattle.fluent_values.specs.Written.{sink, SinkTook};
 
 use super::output::{Halt, Output, put_text};
+pub use fluent_entries::is_text;
 use fluent_tree::ast::{Pattern, PatternElement};
 use std::io::Write;
-
-/// Whether each element of a pattern is a text.
-pub fn is_text(pattern: &Pattern) -> bool
-    ensures { result ≡ is_text (pattern_view pattern.now) }
-{
-    for element in &pattern.elements {
-        match element {
-            PatternElement::TextElement { .. } => {}
-            PatternElement::Placeable { .. } => return false,
-        }
-    }
-    true
-}
 
 /// Writes the texts of a pattern as they stand, in order, and none of its placeables.
 pub fn put_texts<W: Write>(out: &mut Output<W>, pattern: &Pattern) -> Result<(), Halt>

@@ -12,7 +12,7 @@ ghost use Rattle.fluent_meaning.specs.Value.{try_number};
 ghost use Rattle.fluent_values.specs.Along.{Gave, Got};
 ghost use Rattle.fluent_values.specs.Choice.{choice, choosing, first_default, is_like};
 ghost use Rattle.fluent_values.specs.ChosenView.{BeginsAt, BeginsIn, chosen_view};
-ghost use Rattle.fluent_values.specs.Numbered.{IsPlaced, numbers};
+ghost use Rattle.fluent_entries.specs.Numbered.{IsPlaced, numbers};
 ghost use Rattle.fluent_values.specs.Status.{status};
 ghost use Rattle.fluent_values.specs.View.{value_view};
 ghost use Rattle.fluent_values.specs.Written.{writer};

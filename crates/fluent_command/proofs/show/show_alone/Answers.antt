@@ -3,7 +3,7 @@ use Rattle.fluent_tree.specs.Tree.{Text, Entry}
 use Rattle.fluent_syntax.specs.Chunks.{entries}
 use Rattle.fluent_text.specs.declared.counting.WriteFault.{WriteFault}
 use Rattle.fluent_meaning.specs.Value.{Plurals}
-use Rattle.fluent_values.specs.declared.errors.FluentError.{FluentError}
+use Rattle.fluent_entries.specs.declared.errors.FluentError.{FluentError}
 use Rattle.fluent_bundle.specs.BundleView.{entries_of}
 use Rattle.fluent_command.specs.Words.{Asked}
 use Rattle.fluent_command.specs.Inside.WordsView.{asked_view}

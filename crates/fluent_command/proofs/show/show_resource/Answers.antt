@@ -1,6 +1,6 @@
 use Rattle.std.proofs.Common.{◌≡◌, ◌++◌, List, Option, Result, subst}
 use Rattle.fluent_tree.specs.Tree.{Text, Entry}
-use Rattle.fluent_values.specs.declared.errors.FluentError.{FluentError}
+use Rattle.fluent_entries.specs.declared.errors.FluentError.{FluentError}
 use Rattle.fluent_meaning.specs.Bundle.{Bundle}
 use Rattle.fluent_meaning.specs.Value.{Plurals}
 use Rattle.fluent_bundle.specs.BundleView.{entries_of}

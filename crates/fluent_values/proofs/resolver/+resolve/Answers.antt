@@ -24,7 +24,7 @@ use Rattle.fluent_values.proofs.Placed.{ok_value, placed_as, placed_back, placed
 use Rattle.fluent_values.specs.Choice.{choice, first_default}
 use Rattle.fluent_values.specs.Sizes.{size, bound, IsBelow, element_size, expression_size, variants_size, inline_size, call_size, arguments_size, inlines_size, nameds_size}
 use Rattle.fluent_values.specs.Status.{status, environment_view, scope_parts}
-use Rattle.fluent_values.specs.Texts.{IsTextAlone}
+use Rattle.fluent_entries.specs.Texts.{IsTextAlone}
 use Rattle.fluent_values.specs.View.{value_view, named}
 use Rattle.fluent_values.proofs.Along.{starts, turns, passes, put, puts_last, tail, wrote, ends, stops, memory_halts, refuses, adds, calls, lends, goes_on, at_value}
 use Rattle.fluent_values.proofs.Cases.{sequence, prepend, unmarked, closing, opening, part_opens, part_strikes, tells, written_string, written_number, written_message, written_nested, resolved_number, resolved_string, resolved_function, local_none, local_some, resolved_text}

@@ -1,7 +1,7 @@
 use Rattle.std.proofs.Common.{◌≡◌, drop, map, Result}
 use Rattle.fluent_tree.specs.Tree.{pattern_of}
 use Rattle.fluent_tree.specs.View.{element_view, pattern_view}
-use Rattle.fluent_values.specs.Texts.{texts_of}
+use Rattle.fluent_entries.specs.Texts.{texts_of}
 use Rattle.fluent_values.specs.Written.{Sink, SinkTook, sink}
 use Rattle.fluent_values.specs.declared.resolver.output.Halt.{Halt}
 use Rattle.fluent_values.proofs.resolver.texts.put_texts.Given as goal

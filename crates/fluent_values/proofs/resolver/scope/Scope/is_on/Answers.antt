@@ -1,4 +1,4 @@
-use Rattle.fluent_values.specs.Numbered.{table, table_is_distinct}
+use Rattle.fluent_entries.specs.Numbered.{table, table_is_distinct}
 use Rattle.fluent_values.specs.Status.{scope_parts}
 use Rattle.fluent_values.proofs.resolver.scope.Scope.is_on.Goals as goal
 

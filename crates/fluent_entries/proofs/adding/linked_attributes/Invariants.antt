@@ -1,0 +1,15 @@
+use Rattle.std.proofs.Common.{◌≡◌, take}
+use Rattle.fluent_tree.specs.Tree.{Text}
+use Rattle.fluent_meaning.specs.Bundle.{Function}
+use Rattle.fluent_entries.specs.EntryView.{ids}
+use Rattle.fluent_entries.specs.Linking.{AreOf, patterns}
+use Rattle.fluent_entries.specs.Numbered.{Grown, numbers, table}
+use Rattle.fluent_entries.proofs.adding.linked_attributes.Given as goal
+
+-- one is kept of each attribute so far, and no id names anything else
+abbrev pub invariant-loop-attribute : goal.invariant-loop-attribute
+invariant-loop-attribute g l = record {
+  linked : AreOf (numbers l.known) (table l.known) (patterns (take l.attribute-index l.attributes)) l.list.items;
+  grown : Grown l.fn.known l.known;
+  same : (answer : _ → Function Text) → ids answer l.known ≡ ids answer l.fn.known;
+}

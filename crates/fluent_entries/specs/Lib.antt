@@ -1,0 +1,10 @@
+pub mod ErrorView
+pub mod Free
+pub mod EntryView
+pub mod MessageView
+pub mod Named
+pub mod Linking
+pub mod Numbered
+pub mod Texts
+pub mod TextRows
+pub mod Adding

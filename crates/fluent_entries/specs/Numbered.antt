@@ -1,0 +1,31 @@
+-- The numbers of a bundle's ids, and the contents of its patterns.
+use Rattle.std.specs.Prelude.{ℕ, List, Option}
+use Rattle.fluent_tree.specs.Tree.{Text, Pattern}
+use Rattle.fluent_tree.specs.References.{Reference}
+use Rattle.fluent_links.specs.Classes.{AreDistinct, Grows}
+use Rattle.fluent_links.specs.Links.{IsBefore, KeepsNumbers}
+use Rattle.fluent_links.specs.Places.{seen}
+use Rattle.fluent_links.specs.Slots.{slots, number}
+use Rattle.fluent_links.specs.Table as contents
+use Rattle.fluent_links.specs.declared.place.Place.{Place}
+use Rattle.fluent_entries.specs.declared.ids.Ids.{Ids}
+
+-- the number of an id
+unfoldable pub numbers : {F : Type 0} → Ids F → Text → Option ℕ
+numbers m = number (slots m.known)
+
+-- the contents that are stored, by their classes
+unfoldable pub table : {F : Type 0} → Ids F → List Pattern
+table m = contents.table m.classes
+
+pub table_is_distinct : {F : Type 0} (m : Ids F) → AreDistinct (table m)
+unfolding table
+table_is_distinct m = contents.table_is_distinct m.classes
+
+-- every number and every class is still its own
+abbrev pub Grown : {F : Type 0} → Ids F → Ids F → Type 0
+Grown old new = KeepsNumbers (numbers old) (numbers new) × Grows (table old) (table new)
+
+-- a place stands before these references
+abbrev pub IsPlaced : {F : Type 0} → Ids F → List Reference → Place → Type 0
+IsPlaced m rs p = IsBefore (numbers m) rs (seen p)

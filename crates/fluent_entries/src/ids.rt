@@ -1,0 +1,161 @@
+//! The map of ids.
+ghost use Rattle.std.proofs.Props.{props};
+ghost use Rattle.fluent_links.specs.Slots.{slots};
+ghost use Rattle.fluent_links.specs.Table.{table as contents};
+ghost use Rattle.fluent_entries.specs.Linking.{AreLinked, content_set};
+ghost use Rattle.fluent_entries.specs.Named.{AreNamed};
+
+use crate::entry::Entry;
+use crate::slot::Slot;
+use fluent_links::{Classes, Linked, Slots};
+use fluent_tree::ast::Pattern;
+use std::alloc::{AllocError, Global};
+use std::borrow::CowStr;
+
+/// What each id names: ids of a source are slices of it, those of functions are copied. Each id that was seen has a
+/// number, and each content of a pattern a class, which stay their own.
+pub struct Ids<'r, 's, F> {
+    known: Slots<'s, Slot<'r, 's, F>>,
+    classes: Classes<'r, 's>,
+    /// A message or a term stands under its own id.
+    ghost named: { AreNamed (slots known) },
+    /// What is kept in a slot is that of its entry's patterns.
+    ghost linked: { AreLinked (slots known) (contents classes) } by { Prim.hlevel (props, content_set) },
+}
+
+// Written out, so that the drop of what ids name is proved here, and is one step of a caller's proof.
+impl<'r, 's, F: Drop> Drop for Ids<'r, 's, F> {
+    fn drop(self) {
+        let Ids {
+            known: _,
+            classes: _,
+        } = self;
+    }
+}
+
+impl<'r, 's, F> Ids<'r, 's, F> {
+    ghost use Rattle.std.specs.Prelude.{◌≡◌, [], IfSome, IsTrue, Some, is_some};
+    ghost use Rattle.std.specs.Option.{option_map};
+    ghost use Rattle.fluent_tree.specs.Tree.{Text};
+    ghost use Rattle.fluent_meaning.specs.Arguments.{get};
+    ghost use Rattle.fluent_meaning.specs.Bundle.{Function};
+    ghost use Rattle.fluent_entries.specs.EntryView.{ids, entry_of};
+    ghost use Rattle.fluent_entries.specs.Linking.{IsLinked};
+    ghost use Rattle.fluent_entries.specs.Named.{is_named};
+    ghost use Rattle.fluent_entries.specs.Numbered.{numbers, table};
+
+    /// A map that names nothing. It takes no memory yet.
+    pub fn new(alloc: Global) -> Ids<'r, 's, F>
+        ensures { (answer : F → Function Text) → ids answer result ≡ [] }
+    {
+        Ids {
+            known: Slots::new(alloc),
+            classes: Classes::new(alloc),
+        }
+    }
+
+    /// What an id names, or `None`. Takes no memory.
+    pub fn named<'m>(&'m self, id: &str) -> Option<&'m Entry<'r, 's, F>>
+        ensures content { (answer : F → Function Text) →
+            option_map (λ e. entry_of answer e.now) result ≡ get id.now (ids answer self.now) }
+        ensures own { IfSome result (λ e. IsTrue (is_named id.now e.now)) }
+    {
+        let slot = self.slot(id, None)?;
+        Some(&slot.entry)
+    }
+
+    /// What an id names, with what is kept of its patterns: by the id's number where that is known, else by look-up.
+    /// Takes no memory.
+    pub fn slot<'m>(&'m self, id: &str, number: Option<u32>) -> Option<&'m Slot<'r, 's, F>>
+        requires { IfSome number (λ n. numbers self.now id.now ≡ Some n) }
+        ensures content { (answer : F → Function Text) →
+            option_map (λ s. entry_of answer s.now.entry) result
+            ≡ get id.now (ids answer self.now) }
+        ensures own { IfSome result (λ s. IsTrue (is_named id.now s.now.entry)) }
+        ensures linked { IfSome result (λ s. IsLinked (numbers self.now) (table self.now) s.now) }
+    {
+        match number {
+            Some(number) => self.known.at(number),
+            None => self.known.find(id),
+        }
+    }
+
+    /// Whether an id names something.
+    pub(crate) fn is_known(&self, id: &str) -> bool
+        ensures { (answer : F → Function Text) → result
+            ≡ is_some (get id.now (ids answer self.now)) }
+    {
+        self.known.find(id).is_some()
+    }
+
+    /// Whether the id with this number names something.
+    pub(crate) fn is_filled(&self, number: u32) -> bool
+        ensures { (id : Text) → numbers self.now id ≡ Some number →
+            (answer : F → Function Text) → result ≡ is_some (get id (ids answer self.now)) }
+    {
+        self.known.at(number).is_some()
+    }
+}
+
+impl<'r, 's, F: Drop> Ids<'r, 's, F> {
+    ghost use Rattle.std.specs.Prelude.{◌≡◌, IfOk, IsTrue, Some};
+    ghost use Rattle.std.specs.Cow.{cow_str_bytes};
+    ghost use Rattle.fluent_tree.specs.Tree.{Text};
+    ghost use Rattle.fluent_tree.specs.View.{pattern_view};
+    ghost use Rattle.fluent_links.specs.Linked.{IsOf};
+    ghost use Rattle.fluent_meaning.specs.Arguments.{set};
+    ghost use Rattle.fluent_meaning.specs.Bundle.{Function};
+    ghost use Rattle.fluent_entries.specs.EntryView.{ids, entry_of};
+    ghost use Rattle.fluent_entries.specs.Linking.{IsLinked};
+    ghost use Rattle.fluent_entries.specs.Named.{is_named};
+    ghost use Rattle.fluent_entries.specs.Numbered.{Grown, numbers, table};
+
+    /// Makes room for so many more ids, so that their numbers and slots are put where they stay. What ids name stays.
+    ///
+    /// # Errors
+    ///
+    /// Memory was refused.
+    pub(crate) fn reserve(&mut self, more: usize) -> Result<(), AllocError>
+        ensures { (answer : F → Function Text) → ids answer self.new ≡ ids answer self.old }
+    {
+        self.known.reserve(more)
+    }
+
+    /// The number of an id, a new one where it has none. What ids name stays.
+    pub(crate) fn number_of(&mut self, id: CowStr<'s>) -> Result<u32, AllocError>
+        ensures number { IfOk result (λ n. numbers self.new (cow_str_bytes id.entry) ≡ Some n) }
+        ensures grown { Grown self.old self.new }
+        ensures same { (answer : F → Function Text) → ids answer self.new ≡ ids answer self.old }
+    {
+        self.known.number_of(id)
+    }
+
+    /// What is kept of a pattern that is going to be stored: its class, and the numbers of what it refers to. What ids
+    /// name stays.
+    pub(crate) fn link(
+        &mut self,
+        alloc: Global,
+        pattern: &'r Pattern<'s>,
+    ) -> Result<Linked, AllocError>
+        ensures linked { IfOk result
+            (IsOf (numbers self.new) (table self.new) (pattern_view pattern.now)) }
+        ensures grown { Grown self.old self.new }
+        ensures same { (answer : F → Function Text) → ids answer self.new ≡ ids answer self.old }
+    {
+        Linked::link(alloc, &mut self.known, &mut self.classes, pattern)
+    }
+
+    /// Gives the id with this number its meaning, in place of what it had.
+    pub(crate) fn put(&mut self, number: u32, slot: Slot<'r, 's, F>)
+        requires own { (id : Text) × (numbers self.old id ≡ Some number)
+            × IsTrue (is_named id slot.entry) }
+        requires linked { IsLinked (numbers self.old) (table self.old) slot }
+        ensures numbers { (id : Text) → numbers self.new id ≡ numbers self.old id }
+        ensures table { table self.new ≡ table self.old }
+        ensures after { (id : Text) → numbers self.old id ≡ Some number →
+            (answer : F → Function Text) → ids answer self.new
+            ≡ set id (entry_of answer slot.entry.entry) (ids answer self.old) }
+    {
+        self.known.fill(number, Some(slot));
+    }
+}
