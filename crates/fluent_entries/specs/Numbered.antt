@@ -1,5 +1,5 @@
 -- The numbers of a bundle's ids, and the contents of its patterns.
-use Rattle.std.specs.Prelude.{ℕ, List, Option}
+use Rattle.std.specs.Prelude.{◌≡◌, ℕ, List, Option, Some, IfSome}
 use Rattle.fluent_tree.specs.Tree.{Text, Pattern}
 use Rattle.fluent_tree.specs.References.{Reference}
 use Rattle.fluent_links.specs.Classes.{AreDistinct, Grows}
@@ -13,6 +13,10 @@ use Rattle.fluent_entries.specs.declared.ids.Ids.{Ids}
 -- the number of an id
 unfoldable pub numbers : {F : Type 0} → Ids F → Text → Option ℕ
 numbers m = number (slots m.known)
+
+-- a number that is handed in with an id, if one is, is the id's
+abbrev pub IsNumberOf : {F : Type 0} → Ids F → Text → Option ℕ → Type 0
+IsNumberOf m id n = IfSome n (λ n. numbers m id ≡ Some n)
 
 -- the contents that are stored, by their classes
 unfoldable pub table : {F : Type 0} → Ids F → List Pattern

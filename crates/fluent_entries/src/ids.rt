@@ -42,7 +42,7 @@ impl<'r, 's, F> Ids<'r, 's, F> {
     ghost use Rattle.fluent_entries.specs.EntryView.{ids, entry_of};
     ghost use Rattle.fluent_entries.specs.Linking.{IsLinked};
     ghost use Rattle.fluent_entries.specs.Named.{is_named};
-    ghost use Rattle.fluent_entries.specs.Numbered.{numbers, table};
+    ghost use Rattle.fluent_entries.specs.Numbered.{IsNumberOf, numbers, table};
 
     /// A map that names nothing. It takes no memory yet.
     pub fn new(alloc: Global) -> Ids<'r, 's, F>
@@ -65,14 +65,15 @@ impl<'r, 's, F> Ids<'r, 's, F> {
     }
 
     /// What an id names, with what is kept of its patterns: by the id's number where that is known, else by look-up.
-    /// Takes no memory.
+    /// With a number that isn't the id's, the answer is what that number's id names. Takes no memory.
     pub fn slot<'m>(&'m self, id: &str, number: Option<u32>) -> Option<&'m Slot<'r, 's, F>>
-        requires { IfSome number (λ n. numbers self.now id.now ≡ Some n) }
-        ensures content { (answer : F → Function Text) →
+        ensures content { IsNumberOf self.now id.now number → (answer : F → Function Text) →
             option_map (λ s. entry_of answer s.now.entry) result
             ≡ get id.now (ids answer self.now) }
-        ensures own { IfSome result (λ s. IsTrue (is_named id.now s.now.entry)) }
-        ensures linked { IfSome result (λ s. IsLinked (numbers self.now) (table self.now) s.now) }
+        ensures own { IsNumberOf self.now id.now number →
+            IfSome result (λ s. IsTrue (is_named id.now s.now.entry)) }
+        ensures linked { IsNumberOf self.now id.now number →
+            IfSome result (λ s. IsLinked (numbers self.now) (table self.now) s.now) }
     {
         match number {
             Some(number) => self.known.at(number),

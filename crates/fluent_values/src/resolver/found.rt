@@ -1,15 +1,17 @@
 //! What references lead to.
 
-ghost use Rattle.std.specs.Prelude.{◌≡◌, ◌∷◌, [], IfOk, List, Option, ℕ, drop, map};
+ghost use Rattle.std.specs.Prelude.{◌≡◌, ◌∷◌, [], IfOk, IfSome, IsTrue, List, Option, ℕ, drop, map};
 ghost use Rattle.std.specs.Option.{option_map};
 ghost use Rattle.fluent_tree.specs.References.{a_function, a_message, a_term};
 ghost use Rattle.fluent_tree.specs.Tree.{Text, Pattern as Content};
 ghost use Rattle.fluent_tree.specs.View.{attribute_of, attribute_view, pattern_view, value_view as optional_view};
 ghost use Rattle.fluent_meaning.specs.Arguments.{get};
 ghost use Rattle.fluent_meaning.specs.Bundle.{Function, message_target, term_target, value_target, first_of, function_found};
-ghost use Rattle.fluent_entries.specs.EntryView.{ids as ids_of};
+ghost use Rattle.fluent_entries.specs.EntryView.{entry_of, ids as ids_of};
+ghost use Rattle.fluent_entries.specs.Linking.{IsLinked};
+ghost use Rattle.fluent_entries.specs.Named.{is_named};
 ghost use Rattle.fluent_values.specs.FoundView.{IsLed, IsLedBy, IsStoredBy, OfPattern, OfPatterns, OfValue, found_view};
-ghost use Rattle.fluent_entries.specs.Numbered.{IsPlaced};
+ghost use Rattle.fluent_entries.specs.Numbered.{IsNumberOf, IsPlaced, numbers, table};
 ghost use Rattle.fluent_values.specs.Trail.{content_at};
 ghost use Rattle.fluent_values.specs.View.{value_view, named};
 
@@ -18,7 +20,7 @@ use crate::args::FluentArgs;
 use crate::builtins::NUMBER;
 use crate::function::FluentFunction;
 use crate::types::{FluentType, FluentValue};
-use fluent_entries::{Entry, Ids};
+use fluent_entries::{Entry, Ids, Slot};
 use fluent_links::{Linked, Place};
 use fluent_tree::ast::{Attribute, Identifier, Pattern};
 use std::alloc::{AllocError, Global};
@@ -38,6 +40,23 @@ pub enum Found<'p, 's> {
     Pattern(Target<'p, 's>),
 }
 
+/// What an id names, with what is kept of its patterns; by its number, where that is known.
+#[inline(always)]
+fn slot_of<'p, 'r, 's, F>(
+    ids: &'p Ids<'r, 's, F>,
+    id: &str,
+    number: Option<u32>,
+) -> Option<&'p Slot<'r, 's, F>>
+    requires { IsNumberOf ids.now id.now number }
+    ensures content { (answer : F → Function Text) →
+        option_map (λ s. entry_of answer s.now.entry) result
+        ≡ get id.now (ids_of answer ids.now) }
+    ensures own { IfSome result (λ s. IsTrue (is_named id.now s.now.entry)) }
+    ensures linked { IfSome result (λ s. IsLinked (numbers ids.now) (table ids.now) s.now) }
+{
+    ids.slot(id, number)
+}
+
 /// What a message's id leads to, or its attribute of a name. Takes no memory.
 #[inline(always)]
 pub(crate) fn message<'p, 's, F>(
@@ -52,7 +71,7 @@ pub(crate) fn message<'p, 's, F>(
         (attribute_of attribute.now) }
     ensures led { IsLed ids.now result }
 {
-    let Some(slot) = ids.slot(id, place.first()) else {
+    let Some(slot) = slot_of(ids, id, place.first()) else {
         return Found::Unknown;
     };
     match &slot.entry {
@@ -78,7 +97,7 @@ pub(crate) fn term<'p, 's, F>(
         (attribute_of attribute.now) }
     ensures led { IsLed ids.now result }
 {
-    let Some(slot) = ids.slot(id, place.first()) else {
+    let Some(slot) = slot_of(ids, id, place.first()) else {
         return Found::Unknown;
     };
     match &slot.entry {
@@ -130,7 +149,7 @@ pub(crate) fn answer_of<'a, C: FluentType, F: FluentFunction<C>>(
         (λ f. f (map (value_view C.content) positional.now) (named C.content arguments.now))
         (function_found (get id.now (ids_of F.answer ids.now)))) }
 {
-    let Some(slot) = ids.slot(id, place.first()) else {
+    let Some(slot) = slot_of(ids, id, place.first()) else {
         return Ok(None);
     };
     match &slot.entry {
