@@ -32,6 +32,7 @@ pub struct Counts {
 
 /// The state of one formatting call: its bundle, where its variables are looked up, the patterns that are being
 /// written, its list of errors, how many more placeables it may open, and what it did.
+#[derive(Drop)]
 pub struct Scope<'errors, 'p, 'r, 's, 'args, C, F, B> {
     pub(crate) errors: Option<&'errors mut Vec<FluentError>>,
     pub(crate) bundle: &'p B,
@@ -42,22 +43,6 @@ pub struct Scope<'errors, 'p, 'r, 's, 'args, C, F, B> {
     pub(crate) counts: Counts,
     /// The numbers on the path are those of its patterns.
     ghost classed: { AreClassed (table ids.now) (trail path) } by { Prim.hlevel (props, content_set) },
-}
-
-// Written out, so that it is one step of a caller's proof, where a derived drop stands in it part by part at each exit.
-impl<'errors, 'p, 'r, 's, 'args, C: Drop, F, B> Drop
-    for Scope<'errors, 'p, 'r, 's, 'args, C, F, B> {
-    fn drop(self) {
-        let Scope {
-            errors: _,
-            bundle: _,
-            ids: _,
-            environment: _,
-            path: _,
-            budget: _,
-            counts: _,
-        } = self;
-    }
 }
 
 impl<'errors, 'p, 'r, 's, 'args, C: FluentType, F: FluentFunction<C>, B: Context<C>> Scope<
