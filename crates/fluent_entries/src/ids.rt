@@ -65,7 +65,7 @@ impl<'r, 's, F> Ids<'r, 's, F> {
     }
 
     /// What an id names, with what is kept of its patterns: by the id's number where that is known, else by look-up.
-    /// With a number that isn't the id's, the answer is what that number's id names. Takes no memory.
+    /// Of a number that isn't the id's nothing is promised. Takes no memory.
     pub fn slot<'m>(&'m self, id: &str, number: Option<u32>) -> Option<&'m Slot<'r, 's, F>>
         ensures content { IsNumberOf self.now id.now number → (answer : F → Function Text) →
             option_map (λ s. entry_of answer s.now.entry) result
