@@ -19,5 +19,6 @@ pub mod Steps
 pub mod Texts
 pub mod Tracking
 pub mod Trails
+pub mod Placeables
 pub mod Placed
 pub mod Kept

@@ -1,5 +1,5 @@
 -- The measures of the resolver: each step into a placeable takes from the budget, and each other step goes to a smaller tree.
-use Rattle.std.proofs.Common.{◌≡◌, ℕ, zero, suc, ◌+◌, ◌*◌, ◌≤◌, ◌<◌, List, [], ◌∷◌, Option, Some, None, Bool, true, false, if◌then◌else◌, arith, rules, ap, sym, subst, ◌∙◌, map, length, get_or}
+use Rattle.std.proofs.Common.{◌≡◌, ℕ, zero, suc, ◌+◌, ◌*◌, ◌≤◌, ◌<◌, List, [], ◌∷◌, Option, Some, None, Bool, true, false, if◌then◌else◌, arith, rules, ap, refl, sym, subst, ◌∙◌, map, length, get_or}
 use Rattle.fluent_tree.specs.Tree.{Text, Key, Attribute, Pattern, nothing, more, Variants, no_variants, variant, pattern_of, inlines_of, nameds_of}
 use Rattle.fluent_tree.specs.View.{element_view, inline_view, named_view}
 use Rattle.fluent_tree.specs.declared.ast.InlineExpression.{InlineExpression}
@@ -29,6 +29,10 @@ weight_less k a b m n h j = omega (arith, times_less m n k j)
 -- a smaller tree, with no more budget
 pub less_weight : (a b : Bundle Text) (x y m n : ℕ) → b ≡ a → x < y → m ≤ n → weight (2 + bound b) x m < weight (2 + bound a) y n
 less_weight a b x y m n h small few = subst (λ c. weight (2 + bound c) x m < weight (2 + bound a) y n) (sym h) (weight_less (2 + bound a) x y m n small few)
+
+-- a smaller tree, in the same scope
+pub same_weight : (a : Status) (x y : ℕ) → x < y → weight (2 + bound a.bundle) x (1 + at_most a.budget) < weight (2 + bound a.bundle) y (1 + at_most a.budget)
+same_weight a x y small = less_weight a.bundle a.bundle x y (1 + at_most a.budget) (1 + at_most a.budget) refl small (omega arith)
 
 -- a tree of any size below k, with less budget
 pub weight_falls : (k a m n : ℕ) → a < k → m < n → weight k a m < weight k 0 n

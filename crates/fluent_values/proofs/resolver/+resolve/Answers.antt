@@ -6,8 +6,7 @@ use Rattle.fluent_tree.specs.declared.ast.CallArguments as of_call
 use Rattle.fluent_tree.specs.View.{inline_view, expression_view, pattern_view, element_view, variant_view, attribute_of, call_view, arguments_view, named_view}
 use Rattle.fluent_meaning.specs.Arguments.{get, set, set_all}
 use Rattle.fluent_meaning.specs.Bundle.{goes_to, message_target, term_target, function_found}
-use Rattle.fluent_meaning.specs.Errors.{resolver_error, too_many_placeables}
-use Rattle.fluent_meaning.specs.Meaning.{first_mark, last_mark, at_most, struck}
+use Rattle.fluent_meaning.specs.Meaning.{last_mark, at_most, struck}
 use Rattle.fluent_meaning.specs.Walk.{has_one, is_marked, part}
 use Rattle.fluent_meaning.specs.Work.{Worked, work, with_work}
 use Rattle.fluent_values.specs.Along.{given, walked, from_here, adding, trace}
@@ -20,6 +19,7 @@ use Rattle.fluent_links.specs.Places.{seen}
 use Rattle.fluent_values.specs.ChosenView.{BeginsAt, chosen_view}
 use Rattle.fluent_values.specs.declared.resolver.variants.Chosen.{Chosen}
 use Rattle.fluent_values.specs.Trail.{content_at, on_path}
+use Rattle.fluent_values.proofs.Placeables.{marked_as, marks, strikes}
 use Rattle.fluent_values.proofs.Placed.{ok_value, placed_as, placed_back, placed_behind, placed_first, placed_front, placed_still, some_value}
 use Rattle.fluent_values.specs.Choice.{choice, first_default}
 use Rattle.fluent_values.specs.Sizes.{size, bound, IsBelow, element_size, expression_size, variants_size, inline_size, call_size, arguments_size, inlines_size, nameds_size}
@@ -27,16 +27,15 @@ use Rattle.fluent_values.specs.Status.{status, environment_view, scope_parts}
 use Rattle.fluent_entries.specs.Texts.{IsTextAlone}
 use Rattle.fluent_values.specs.View.{value_view, named}
 use Rattle.fluent_values.proofs.Along.{starts, turns, passes, put, puts_last, tail, wrote, ends, stops, memory_halts, refuses, adds, calls, lends, goes_on, at_value}
-use Rattle.fluent_values.proofs.Cases.{sequence, prepend, unmarked, closing, opening, part_opens, part_strikes, tells, written_string, written_number, written_message, written_nested, resolved_number, resolved_string, resolved_function, local_none, local_some, resolved_text}
-use Rattle.fluent_values.proofs.Measures.{falls_to, less_weight, kept_weight, taken_weight, still_weight, less_found, element_less, place_less, label_less, some_variants, chosen_less, below_message, below_term}
+use Rattle.fluent_values.proofs.Cases.{sequence, closing, written_string, written_number, written_message, written_nested, resolved_number, resolved_string, resolved_function, local_none, local_some, resolved_text}
+use Rattle.fluent_values.proofs.Measures.{falls_to, less_weight, same_weight, kept_weight, taken_weight, still_weight, less_found, element_less, place_less, label_less, some_variants, chosen_less, below_message, below_term}
 use Rattle.fluent_values.proofs.Outputs.{still}
-use Rattle.fluent_values.proofs.Passing.{passed_still, passed_counts, keeps_elsewhere, keeps_around, keeps_back, entered_counts, opened_on, struck_same}
+use Rattle.fluent_values.proofs.Passing.{passed_still, keeps_elsewhere, keeps_around, keeps_back, entered_counts}
 use Rattle.fluent_values.proofs.Steps.{inline_at, cyclic_at, entered_at, begun_at, back, term_at, inside, inside_at, selecting_at, chosen_walk, function_at, answering, answered_value, wholing, elementing, following, giving, giving_all, giving_text, giving_placeable, giving_end, giving_struck, next_of, none_left, no_placeable, expressing, writing, resolving, locals, valued, place_walk, label_walk, placing_next, placing_end, placing_more, labelled, labelling_next, labelling_end, labelling_more, named_in, naming_after, pairing, calling_at, set_all_next}
 use Rattle.fluent_values.proofs.Took.{took_same}
 use Rattle.fluent_values.proofs.Values.{gave_outward, asks, ask_stops, misses, begins, reads, gets, gets_part, got_if, got_as, got_part_as, misses_as, rests_memory, rests_same, rests_err, rests_ok, rests_on, by_buffer, as_got, beside_rests, got, gathers_none, gathers_as, gathers_same, gathers_one, gathers_part, gathers_all, gathers_stops, gathers_stops_as}
 use Rattle.fluent_values.proofs.Views.{view_pattern, view_text_in, view_placeable_in, view_string_in, view_number_in, view_message_in, view_nested_in, view_function_in, view_in, view_select_in, view_term_in, view_variable_in, view_arguments, view_written}
 use Rattle.fluent_meaning.specs.Value.{text_value}
-use borrow.Author.Count.{falls}
 use Rattle.fluent_values.specs.declared.resolver.output.Halt.TheVariants as fault
 use Rattle.fluent_values.proofs.resolver.+resolve.Goals as goal
 
@@ -192,11 +191,8 @@ unfolding scope_parts
 pattern::write_placeable-returns-in_err-add_error g t c =
     let a = status g.B.Context.meant g.B.Context.is_plain g.F.FluentFunction.answer g.C.FluentType.content c.args.scope.now in
     let b = status g.B.Context.meant g.B.Context.is_plain g.F.FluentFunction.answer g.C.FluentType.content c.take_one.new.self in
-    let one = c.args.one in
     let e = expression_view c.args.expression.now in
-    let takes = c.take_one.ensures.takes in
-    let strikes = part_strikes a.bundle (work a.bundle) a.environment (on_path a.path) one e a.budget c.requires.left (sym c.take_one.ensures.opens ∙ c.if-not-take_one.true) ∙ ap (λ n. tells (resolver_error too_many_placeables ∷ []) (given [] n)) (sym takes.budget) in
-    let begun = passes refl (passed_still takes.errors (struck_same c.if-not-take_one.true takes) takes.keeps) (turns strikes (starts a _ _)) in
+    let begun = strikes tt a b c.args.one e _ c.requires.left c.take_one.ensures.opens c.if-not-take_one.true c.take_one.ensures.takes in
     refuses c.in_err-add_error.was (search rules) c.add_error.ensures.added begun
 
 pub pattern::write_placeable-returns-then-not-take_one : goal.pattern::write_placeable-returns-then-not-take_one
@@ -204,11 +200,8 @@ unfolding scope_parts
 pattern::write_placeable-returns-then-not-take_one g t c =
     let a = status g.B.Context.meant g.B.Context.is_plain g.F.FluentFunction.answer g.C.FluentType.content c.args.scope.now in
     let b = status g.B.Context.meant g.B.Context.is_plain g.F.FluentFunction.answer g.C.FluentType.content c.take_one.new.self in
-    let one = c.args.one in
     let e = expression_view c.args.expression.now in
-    let takes = c.take_one.ensures.takes in
-    let strikes = part_strikes a.bundle (work a.bundle) a.environment (on_path a.path) one e a.budget c.requires.left (sym c.take_one.ensures.opens ∙ c.if-not-take_one.true) ∙ ap (λ n. tells (resolver_error too_many_placeables ∷ []) (given [] n)) (sym takes.budget) in
-    let begun = passes refl (passed_still takes.errors (struck_same c.if-not-take_one.true takes) takes.keeps) (turns strikes (starts a _ _)) in
+    let begun = strikes tt a b c.args.one e _ c.requires.left c.take_one.ensures.opens c.if-not-take_one.true c.take_one.ensures.takes in
     ends (turns (ap (given []) (sym c.add_error.ensures.added.budget)) (adds (given [] b.budget) c.in_ok-add_error.was c.add_error.ensures.added begun))
 
 pub pattern::write_placeable-returns-in_err-put_first_mark : goal.pattern::write_placeable-returns-in_err-put_first_mark
@@ -216,14 +209,8 @@ unfolding scope_parts
 pattern::write_placeable-returns-in_err-put_first_mark g t c =
     let a = status g.B.Context.meant g.B.Context.is_plain g.F.FluentFunction.answer g.C.FluentType.content c.args.scope.now in
     let b = status g.B.Context.meant g.B.Context.is_plain g.F.FluentFunction.answer g.C.FluentType.content c.take_one.new.self in
-    let one = c.args.one in
     let e = expression_view c.args.expression.now in
-    let takes = c.take_one.ensures.takes in
-    let opens = part_opens a.bundle (work a.bundle) a.environment (on_path a.path) one e a.budget (sym c.take_one.ensures.opens ∙ c.if-not-take_one.false) ∙ ap (λ n. opening (prepend (first_mark (is_marked a.bundle.isolates one e)) (unmarked a.bundle (work a.bundle) a.environment (on_path a.path) one e n))) (sym takes.budget) in
-    let marked : c.is_marked-marked.result ≡ is_marked a.bundle.isolates one e = c.is_marked-marked.ensures ∙ ap (λ s. is_marked s.isolates one e) takes.keeps.bundle in
-    let rest = prepend (first_mark (is_marked a.bundle.isolates one e)) (unmarked a.bundle (work a.bundle) a.environment (on_path a.path) one e b.budget) in
-    let begun = passes {rest = opening rest} {rest' = rest} refl (passed_counts takes.errors refl refl (opened_on (trace rest) c.if-not-take_one.false takes) takes.keeps) (turns opens (starts a _ _)) in
-    let first = put (unmarked a.bundle (work a.bundle) a.environment (on_path a.path) one e b.budget) (took_same (ap first_mark marked) c.put_first_mark.ensures) begun in
+    let first = marks tt a b c.args.one e c.take_one.ensures.opens c.if-not-take_one.false c.take_one.ensures.takes c.is_marked-marked.ensures c.put_first_mark.ensures in
     stops c.in_err-put_first_mark.was (search rules) first
 
 pub pattern::write_placeable-returns-in_err-write_expression : goal.pattern::write_placeable-returns-in_err-write_expression
@@ -231,15 +218,9 @@ unfolding scope_parts
 pattern::write_placeable-returns-in_err-write_expression g t c =
     let a = status g.B.Context.meant g.B.Context.is_plain g.F.FluentFunction.answer g.C.FluentType.content c.args.scope.now in
     let b = status g.B.Context.meant g.B.Context.is_plain g.F.FluentFunction.answer g.C.FluentType.content c.take_one.new.self in
-    let one = c.args.one in
     let e = expression_view c.args.expression.now in
-    let takes = c.take_one.ensures.takes in
-    let opens = part_opens a.bundle (work a.bundle) a.environment (on_path a.path) one e a.budget (sym c.take_one.ensures.opens ∙ c.if-not-take_one.false) ∙ ap (λ n. opening (prepend (first_mark (is_marked a.bundle.isolates one e)) (unmarked a.bundle (work a.bundle) a.environment (on_path a.path) one e n))) (sym takes.budget) in
-    let marked : c.is_marked-marked.result ≡ is_marked a.bundle.isolates one e = c.is_marked-marked.ensures ∙ ap (λ s. is_marked s.isolates one e) takes.keeps.bundle in
-    let rest = prepend (first_mark (is_marked a.bundle.isolates one e)) (unmarked a.bundle (work a.bundle) a.environment (on_path a.path) one e b.budget) in
-    let begun = passes {rest = opening rest} {rest' = rest} refl (passed_counts takes.errors refl refl (opened_on (trace rest) c.if-not-take_one.false takes) takes.keeps) (turns opens (starts a _ _)) in
-    let first = put (unmarked a.bundle (work a.bundle) a.environment (on_path a.path) one e b.budget) (took_same (ap first_mark marked) c.put_first_mark.ensures) begun in
-    let written = calls (closing a.bundle one e) c.write_expression.ensures (goes_on c.in_ok-put_first_mark.was first) in
+    let first = marks tt a b c.args.one e c.take_one.ensures.opens c.if-not-take_one.false c.take_one.ensures.takes c.is_marked-marked.ensures c.put_first_mark.ensures in
+    let written = calls (closing a.bundle c.args.one e) c.write_expression.ensures (goes_on c.in_ok-put_first_mark.was first) in
     stops c.in_err-write_expression.was (search rules) written
 
 pub pattern::write_placeable-returns-in_err-put_ending : goal.pattern::write_placeable-returns-in_err-put_ending
@@ -247,17 +228,11 @@ unfolding scope_parts
 pattern::write_placeable-returns-in_err-put_ending g t c =
     let a = status g.B.Context.meant g.B.Context.is_plain g.F.FluentFunction.answer g.C.FluentType.content c.args.scope.now in
     let b = status g.B.Context.meant g.B.Context.is_plain g.F.FluentFunction.answer g.C.FluentType.content c.take_one.new.self in
-    let one = c.args.one in
     let e = expression_view c.args.expression.now in
-    let takes = c.take_one.ensures.takes in
-    let opens = part_opens a.bundle (work a.bundle) a.environment (on_path a.path) one e a.budget (sym c.take_one.ensures.opens ∙ c.if-not-take_one.false) ∙ ap (λ n. opening (prepend (first_mark (is_marked a.bundle.isolates one e)) (unmarked a.bundle (work a.bundle) a.environment (on_path a.path) one e n))) (sym takes.budget) in
-    let marked : c.is_marked-marked.result ≡ is_marked a.bundle.isolates one e = c.is_marked-marked.ensures ∙ ap (λ s. is_marked s.isolates one e) takes.keeps.bundle in
-    let rest = prepend (first_mark (is_marked a.bundle.isolates one e)) (unmarked a.bundle (work a.bundle) a.environment (on_path a.path) one e b.budget) in
-    let begun = passes {rest = opening rest} {rest' = rest} refl (passed_counts takes.errors refl refl (opened_on (trace rest) c.if-not-take_one.false takes) takes.keeps) (turns opens (starts a _ _)) in
-    let first = put (unmarked a.bundle (work a.bundle) a.environment (on_path a.path) one e b.budget) (took_same (ap first_mark marked) c.put_first_mark.ensures) begun in
-    let written = calls (closing a.bundle one e) c.write_expression.ensures (goes_on c.in_ok-put_first_mark.was first) in
+    let first = marks tt a b c.args.one e c.take_one.ensures.opens c.if-not-take_one.false c.take_one.ensures.takes c.is_marked-marked.ensures c.put_first_mark.ensures in
+    let written = calls (closing a.bundle c.args.one e) c.write_expression.ensures (goes_on c.in_ok-put_first_mark.was first) in
     let d = status g.B.Context.meant g.B.Context.is_plain g.F.FluentFunction.answer g.C.FluentType.content c.write_expression.new.scope in
-    let ended = put (given (last_mark (is_marked a.bundle.isolates one e)) d.budget) c.put_ending.ensures (goes_on c.in_ok-write_expression.was written) in
+    let ended = put (given (last_mark (is_marked a.bundle.isolates c.args.one e)) d.budget) c.put_ending.ensures (goes_on c.in_ok-write_expression.was written) in
     stops c.in_err-put_ending.was (search rules) ended
 
 pub pattern::write_placeable-returns : goal.pattern::write_placeable-returns
@@ -265,17 +240,12 @@ unfolding scope_parts
 pattern::write_placeable-returns g t c =
     let a = status g.B.Context.meant g.B.Context.is_plain g.F.FluentFunction.answer g.C.FluentType.content c.args.scope.now in
     let b = status g.B.Context.meant g.B.Context.is_plain g.F.FluentFunction.answer g.C.FluentType.content c.take_one.new.self in
-    let one = c.args.one in
     let e = expression_view c.args.expression.now in
-    let takes = c.take_one.ensures.takes in
-    let opens = part_opens a.bundle (work a.bundle) a.environment (on_path a.path) one e a.budget (sym c.take_one.ensures.opens ∙ c.if-not-take_one.false) ∙ ap (λ n. opening (prepend (first_mark (is_marked a.bundle.isolates one e)) (unmarked a.bundle (work a.bundle) a.environment (on_path a.path) one e n))) (sym takes.budget) in
-    let marked : c.is_marked-marked.result ≡ is_marked a.bundle.isolates one e = c.is_marked-marked.ensures ∙ ap (λ s. is_marked s.isolates one e) takes.keeps.bundle in
-    let rest = prepend (first_mark (is_marked a.bundle.isolates one e)) (unmarked a.bundle (work a.bundle) a.environment (on_path a.path) one e b.budget) in
-    let begun = passes {rest = opening rest} {rest' = rest} refl (passed_counts takes.errors refl refl (opened_on (trace rest) c.if-not-take_one.false takes) takes.keeps) (turns opens (starts a _ _)) in
-    let first = put (unmarked a.bundle (work a.bundle) a.environment (on_path a.path) one e b.budget) (took_same (ap first_mark marked) c.put_first_mark.ensures) begun in
-    let written = calls (closing a.bundle one e) c.write_expression.ensures (goes_on c.in_ok-put_first_mark.was first) in
+    let first = marks tt a b c.args.one e c.take_one.ensures.opens c.if-not-take_one.false c.take_one.ensures.takes c.is_marked-marked.ensures c.put_first_mark.ensures in
+    let written = calls (closing a.bundle c.args.one e) c.write_expression.ensures (goes_on c.in_ok-put_first_mark.was first) in
     let d = status g.B.Context.meant g.B.Context.is_plain g.F.FluentFunction.answer g.C.FluentType.content c.write_expression.new.scope in
-    let ended = put (given (last_mark (is_marked a.bundle.isolates one e)) d.budget) c.put_ending.ensures (goes_on c.in_ok-write_expression.was written) in
+    let ended = put (given (last_mark (is_marked a.bundle.isolates c.args.one e)) d.budget) c.put_ending.ensures (goes_on c.in_ok-write_expression.was written) in
+    let marked = marked_as c.args.one e c.take_one.ensures.takes.keeps c.is_marked-marked.ensures in
     wrote (puts_last (took_same (ap last_mark marked) c.put_last_mark.ensures) (goes_on c.in_ok-put_ending.was ended))
 
 pub pattern::write_elements-loop-element-init : goal.pattern::write_elements-loop-element-init
@@ -394,18 +364,6 @@ inline_expression::write_inline-returns-in-MessageReference g t c =
     let begun = turns (ap (λ x. from_here a (writing x)) v ∙ written_message a.bundle (work a.bundle) a.environment (on_path a.path) m at a.budget ∙ ap (λ y. walked a (following y m (message_target (get m a.bundle.ids) at)) a.budget) (sym v) ∙ ap (λ f. from_here a (following (inline_view c.args.inline.now) m f)) (sym (c.message-found.ensures.content g.F.FluentFunction.answer))) (starts a _ _) in
     wrote (tail c.follow.ensures begun)
 
-pub inline_expression::write_inline-returns-in-TermReference : goal.inline_expression::write_inline-returns-in-TermReference
-unfolding scope_parts
-inline_expression::write_inline-returns-in-TermReference g t c =
-    let a = status g.B.Context.meant g.B.Context.is_plain g.F.FluentFunction.answer g.C.FluentType.content c.args.scope.now in
-    c.write_term.ensures
-
-pub inline_expression::write_inline-returns-in-VariableReference : goal.inline_expression::write_inline-returns-in-VariableReference
-unfolding scope_parts
-inline_expression::write_inline-returns-in-VariableReference g t c =
-    let a = status g.B.Context.meant g.B.Context.is_plain g.F.FluentFunction.answer g.C.FluentType.content c.args.scope.now in
-    c.write_variable.ensures
-
 pub inline_expression::write_inline-returns-in-Placeable : goal.inline_expression::write_inline-returns-in-Placeable
 unfolding scope_parts
 inline_expression::write_inline-returns-in-Placeable g t c =
@@ -432,10 +390,6 @@ arguments::resolve-returns-in_ok-text-in-StringLiteral g t c =
     let a = status g.B.Context.meant g.B.Context.is_plain g.F.FluentFunction.answer g.C.FluentType.content c.args.scope.now in
     let means = ap (λ x. from_here a (resolving x)) (view_string_in c.args.inline.now c.in-StringLiteral.value c.in-StringLiteral.is) ∙ resolved_string a.bundle (work a.bundle) a.environment (on_path a.path) c.in-StringLiteral.value.now a.budget in
     record { got = got_if _ means (ap text_value (search rules)); rests = rests_same _ }
-
-pub arguments::resolve-returns-in-FunctionReference : goal.arguments::resolve-returns-in-FunctionReference
-unfolding scope_parts
-arguments::resolve-returns-in-FunctionReference g t c = c.resolve_function.ensures
 
 pub arguments::resolve_function-returns-in_err-positional : goal.arguments::resolve_function-returns-in_err-positional
 unfolding scope_parts
@@ -492,74 +446,6 @@ arguments::resolve_local-returns-in_ok-_positional-in-Some g t c =
 
 -- WHAT THE CALLS REQUIRE
 
-pub arguments::resolve-slice_bounds-unescape_unicode_to_string-end : goal.arguments::resolve-slice_bounds-unescape_unicode_to_string-end
-unfolding scope_parts
-arguments::resolve-slice_bounds-unescape_unicode_to_string-end g t c = search rules
-
-pub arguments::resolve-unescape_unicode_to_string-requires-text-text : goal.arguments::resolve-unescape_unicode_to_string-requires-text-text
-unfolding scope_parts
-arguments::resolve-unescape_unicode_to_string-requires-text-text g t c = search rules
-
-pub arguments::resolve-slice_bounds-try_number-end : goal.arguments::resolve-slice_bounds-try_number-end
-unfolding scope_parts
-arguments::resolve-slice_bounds-try_number-end g t c = search rules
-
-pub arguments::resolve-try_number-requires-text-text : goal.arguments::resolve-try_number-requires-text-text
-unfolding scope_parts
-arguments::resolve-try_number-requires-text-text g t c = search rules
-
-pub arguments::resolve_function-answer_of-requires-text-id : goal.arguments::resolve_function-answer_of-requires-text-id
-unfolding scope_parts
-arguments::resolve_function-answer_of-requires-text-id g t c = search rules
-
-pub inline_expression::follow-report_no_value-requires-text-id : goal.inline_expression::follow-report_no_value-requires-text-id
-unfolding scope_parts
-inline_expression::follow-report_no_value-requires-text-id g t c = search rules
-
-pub inline_expression::follow-put_id_in_braces-requires-text-id : goal.inline_expression::follow-put_id_in_braces-requires-text-id
-unfolding scope_parts
-inline_expression::follow-put_id_in_braces-requires-text-id g t c = search rules
-
-pub inline_expression::write_inline-slice_bounds-put_unescaped-end : goal.inline_expression::write_inline-slice_bounds-put_unescaped-end
-unfolding scope_parts
-inline_expression::write_inline-slice_bounds-put_unescaped-end g t c = search rules
-
-pub inline_expression::write_inline-put_unescaped-requires-text-value : goal.inline_expression::write_inline-put_unescaped-requires-text-value
-unfolding scope_parts
-inline_expression::write_inline-put_unescaped-requires-text-value g t c = search rules
-
-pub inline_expression::write_inline-slice_bounds-put_number-end : goal.inline_expression::write_inline-slice_bounds-put_number-end
-unfolding scope_parts
-inline_expression::write_inline-slice_bounds-put_number-end g t c = search rules
-
-pub inline_expression::write_inline-put_number-requires-text-source : goal.inline_expression::write_inline-put_number-requires-text-source
-unfolding scope_parts
-inline_expression::write_inline-put_number-requires-text-source g t c = search rules
-
-pub inline_expression::write_inline-message-found-requires-text-id : goal.inline_expression::write_inline-message-found-requires-text-id
-unfolding scope_parts
-inline_expression::write_inline-message-found-requires-text-id g t c = search rules
-
-pub inline_expression::write_term-term-found-requires-text-id : goal.inline_expression::write_term-term-found-requires-text-id
-unfolding scope_parts
-inline_expression::write_term-term-found-requires-text-id g t c = search rules
-
-pub pattern::write_elements-offset_bounds-element-items-element-index : goal.pattern::write_elements-offset_bounds-element-items-element-index
-unfolding scope_parts
-pattern::write_elements-offset_bounds-element-items-element-index g t c = search rules
-
-pub pattern::write_elements-slice_bounds-put_changed-end : goal.pattern::write_elements-slice_bounds-put_changed-end
-unfolding scope_parts
-pattern::write_elements-slice_bounds-put_changed-end g t c = search rules
-
-pub pattern::write_elements-put_changed-requires-text-text : goal.pattern::write_elements-put_changed-requires-text-text
-unfolding scope_parts
-pattern::write_elements-put_changed-requires-text-text g t c = search rules
-
-pub pattern::write_elements-loop-element-smaller : goal.pattern::write_elements-loop-element-smaller
-unfolding scope_parts
-pattern::write_elements-loop-element-smaller g t c = search rules
-
 pub arguments::resolve-resolve_function-requires : goal.arguments::resolve-resolve_function-requires
 unfolding scope_parts
 arguments::resolve-resolve_function-requires g t c =
@@ -567,14 +453,14 @@ arguments::resolve-resolve_function-requires g t c =
     let k = arguments_view c.deref.result.now in
     let view = view_function_in c.args.inline.now c.in-FunctionReference.id c.in-FunctionReference.arguments c.in-FunctionReference.is ∙ sym (ap (λ a. function c.in-FunctionReference.id.name.now (arguments_view a)) c.deref.ensures) in
     let sized : inline_size (inline_view c.args.inline.now) ≡ 2 + arguments_size k = ap inline_size view in
-    let less = falls_to c.decreases (less_weight a.bundle a.bundle (1 + arguments_size k) (2 + inline_size (inline_view c.args.inline.now)) (1 + at_most a.budget) (1 + at_most a.budget) refl (omega (arith, sized)) (omega arith)) in
+    let less = falls_to c.decreases (same_weight a (1 + arguments_size k) (2 + inline_size (inline_view c.args.inline.now)) (omega (arith, sized))) in
     λ κs h. (less, (h.0, (h.1.0, (h.1.1.0, (h.1.1.1, (view, c.requires))))))
 
 pub arguments::resolve_function-resolve_call-requires : goal.arguments::resolve_function-resolve_call-requires
 unfolding scope_parts
 arguments::resolve_function-resolve_call-requires g t c =
     let a = status g.B.Context.meant g.B.Context.is_plain g.F.FluentFunction.answer g.C.FluentType.content c.args.scope.now in
-    let less = falls_to c.decreases (less_weight a.bundle a.bundle (arguments_size (arguments_view c.args.arguments.now)) (1 + arguments_size (arguments_view c.args.arguments.now)) (1 + at_most a.budget) (1 + at_most a.budget) refl (omega arith) (omega arith)) in
+    let less = falls_to c.decreases (same_weight a (arguments_size (arguments_view c.args.arguments.now)) (1 + arguments_size (arguments_view c.args.arguments.now)) (omega arith)) in
     let placed = placed_behind a.stored.numbers (in_inline (inline_view c.args.inline.now)) (a_function c.args.id.now.name.now) (in_arguments (arguments_view c.args.arguments.now)) c.args.place c.after_one.result (ap in_inline c.requires.view) c.after_one.ensures c.requires.placed in
     λ κs h. (less, (h.0, (h.1.0, (h.1.1.0, (h.1.1.1, placed)))))
 
@@ -595,7 +481,7 @@ pub arguments::resolve-write_beside-requires : goal.arguments::resolve-write_bes
 unfolding scope_parts
 arguments::resolve-write_beside-requires g t c =
     let a = status g.B.Context.meant g.B.Context.is_plain g.F.FluentFunction.answer g.C.FluentType.content c.args.scope.now in
-    let less = falls_to c.decreases (less_weight a.bundle a.bundle (1 + inline_size (inline_view c.args.inline.now)) (2 + inline_size (inline_view c.args.inline.now)) (1 + at_most a.budget) (1 + at_most a.budget) refl (omega arith) (omega arith)) in
+    let less = falls_to c.decreases (same_weight a (1 + inline_size (inline_view c.args.inline.now)) (2 + inline_size (inline_view c.args.inline.now)) (omega arith)) in
     λ κs h. (less, (h.0, (h.1.0, (h.1.1.0, (h.1.1.1, c.requires)))))
 
 pub arguments::resolve_call-resolve_positional-requires : goal.arguments::resolve_call-resolve_positional-requires
@@ -604,7 +490,7 @@ arguments::resolve_call-resolve_positional-requires g t c =
     let a = status g.B.Context.meant g.B.Context.is_plain g.F.FluentFunction.answer g.C.FluentType.content c.args.scope.now in
     let sized : arguments_size (arguments_view c.args.arguments.now) ≡ 1 + inlines_size (inlines_of (map inline_view (of_call.out-CallArguments c.args.arguments.now).positional.items)) + nameds_size (nameds_of (map named_view (of_call.out-CallArguments c.args.arguments.now).named.items)) = ap arguments_size (view_arguments c.args.arguments.now) in
     let here : inlines_size (inlines_of (map inline_view c.deref.result.now)) ≡ inlines_size (inlines_of (map inline_view (of_call.out-CallArguments c.args.arguments.now).positional.items)) = ap (λ xs. inlines_size (inlines_of (map inline_view xs))) c.deref.ensures.value in
-    let less = falls_to c.decreases (less_weight a.bundle a.bundle (inlines_size (inlines_of (map inline_view c.deref.result.now))) (arguments_size (arguments_view c.args.arguments.now)) (1 + at_most a.budget) (1 + at_most a.budget) refl (omega (arith, sized, here)) (omega arith)) in
+    let less = falls_to c.decreases (same_weight a (inlines_size (inlines_of (map inline_view c.deref.result.now))) (arguments_size (arguments_view c.args.arguments.now)) (omega (arith, sized, here))) in
     let parts = of_call.out-CallArguments c.args.arguments.now in
     let first = placed_front a.stored.numbers (in_arguments (arguments_view c.args.arguments.now)) (in_positional_list parts.positional.items) (in_named_list parts.named.items) c.args.place (in_arguments_is c.args.arguments.now) c.requires in
     let placed = subst (λ xs. IsBefore a.stored.numbers (in_positional_list xs) (seen c.args.place)) (sym c.deref.ensures.value) first in
@@ -631,7 +517,7 @@ arguments::resolve_local-resolve_call-requires g t c =
     let a = status g.B.Context.meant g.B.Context.is_plain g.F.FluentFunction.answer g.C.FluentType.content c.args.scope.now in
     let given = ap call_view c.in-Some.is ∙ sym (ap (λ a. call (arguments_view a)) c.deref.ensures) in
     let sized : call_size (call_view c.args.arguments.now) ≡ 1 + arguments_size (arguments_view c.deref.result.now) = ap call_size given in
-    let less = falls_to c.decreases (less_weight a.bundle a.bundle (arguments_size (arguments_view c.deref.result.now)) (call_size (call_view c.args.arguments.now)) (1 + at_most a.budget) (1 + at_most a.budget) refl (omega (arith, sized)) (omega arith)) in
+    let less = falls_to c.decreases (same_weight a (arguments_size (arguments_view c.deref.result.now)) (call_size (call_view c.args.arguments.now)) (omega (arith, sized))) in
     let placed = placed_as a.stored.numbers (in_call (call_view c.args.arguments.now)) (in_arguments (arguments_view c.deref.result.now)) c.args.place (ap in_call given) c.requires in
     λ κs h. (less, (h.0, (h.1.0, (h.1.1.0, (h.1.1.1, placed)))))
 
@@ -659,7 +545,7 @@ pub arguments::write_beside-write_inline-requires : goal.arguments::write_beside
 unfolding scope_parts
 arguments::write_beside-write_inline-requires g t c =
     let a = status g.B.Context.meant g.B.Context.is_plain g.F.FluentFunction.answer g.C.FluentType.content c.args.scope.now in
-    let less = falls_to c.decreases (less_weight a.bundle a.bundle (inline_size (inline_view c.args.inline.now)) (1 + inline_size (inline_view c.args.inline.now)) (1 + at_most a.budget) (1 + at_most a.budget) refl (omega arith) (omega arith)) in
+    let less = falls_to c.decreases (same_weight a (inline_size (inline_view c.args.inline.now)) (1 + inline_size (inline_view c.args.inline.now)) (omega arith)) in
     λ κs h. (less, (h.0, (h.1.0, (h.1.1.0, (h.1.1.1, c.requires)))))
 
 pub expression::write_expression-write_inline-requires : goal.expression::write_expression-write_inline-requires
@@ -667,7 +553,7 @@ unfolding scope_parts
 expression::write_expression-write_inline-requires g t c =
     let a = status g.B.Context.meant g.B.Context.is_plain g.F.FluentFunction.answer g.C.FluentType.content c.args.scope.now in
     let sized : expression_size (expression_view c.args.expression.now) ≡ 1 + inline_size (inline_view c.in-Inline.inline) = ap expression_size (view_in c.args.expression.now c.in-Inline.inline c.in-Inline.is) in
-    let less = falls_to c.decreases (less_weight a.bundle a.bundle (inline_size (inline_view c.in-Inline.inline)) (expression_size (expression_view c.args.expression.now)) (1 + at_most a.budget) (1 + at_most a.budget) refl (omega (arith, sized)) (omega arith)) in
+    let less = falls_to c.decreases (same_weight a (inline_size (inline_view c.in-Inline.inline)) (expression_size (expression_view c.args.expression.now)) (omega (arith, sized))) in
     let placed = placed_as a.stored.numbers (in_expression (expression_view c.args.expression.now)) (in_inline (inline_view c.in-Inline.inline)) c.args.place (in_one_is c.args.expression.now c.in-Inline.inline c.in-Inline.is) c.requires in
     λ κs h. (less, (h.0, (h.1.0, (h.1.1.0, (h.1.1.1, placed)))))
 
@@ -680,7 +566,7 @@ expression::write_expression-write_select-requires g t c =
     let here = variants_of (map variant_view c.deref.result.now) in
     let sized : expression_size (expression_view c.args.expression.now) ≡ 5 + inline_size x + variants_size vs = ap expression_size (view_select_in c.args.expression.now c.in-Select.selector c.in-Select.variants c.in-Select.is) in
     let same : variants_size here ≡ variants_size vs = ap (λ vs. variants_size (variants_of (map variant_view vs))) c.deref.ensures.value in
-    let less = falls_to c.decreases (less_weight a.bundle a.bundle (4 + inline_size x + variants_size here) (expression_size (expression_view c.args.expression.now)) (1 + at_most a.budget) (1 + at_most a.budget) refl (omega (arith, sized, same)) (omega arith)) in
+    let less = falls_to c.decreases (same_weight a (4 + inline_size x + variants_size here) (expression_size (expression_view c.args.expression.now)) (omega (arith, sized, same))) in
     let refers = in_select_is c.args.expression.now c.in-Select.selector c.in-Select.variants c.in-Select.is ∙ ap (λ vs. in_inline x ++ in_variant_list vs) (sym c.deref.ensures.value) in
     let placed = placed_as a.stored.numbers (in_expression (expression_view c.args.expression.now)) (in_inline x ++ in_variant_list c.deref.result.now) c.args.place refers c.requires in
     λ κs h. (less, (h.0, (h.1.0, (h.1.1.0, (h.1.1.1, placed)))))
@@ -710,7 +596,7 @@ unfolding scope_parts
 variants::choose_by_value-resolve-requires g t c =
     let a = status g.B.Context.meant g.B.Context.is_plain g.F.FluentFunction.answer g.C.FluentType.content c.args.scope.now in
     let vs = variants_of (map variant_view c.args.variants.now) in
-    let less = falls_to c.decreases (less_weight a.bundle a.bundle (2 + inline_size (inline_view c.args.selector.now)) (2 + inline_size (inline_view c.args.selector.now) + variants_size vs) (1 + at_most a.budget) (1 + at_most a.budget) refl (omega (arith, some_variants vs)) (omega arith)) in
+    let less = falls_to c.decreases (same_weight a (2 + inline_size (inline_view c.args.selector.now)) (2 + inline_size (inline_view c.args.selector.now) + variants_size vs) (omega (arith, some_variants vs))) in
     let placed = placed_front a.stored.numbers _ (in_inline (inline_view c.args.selector.now)) (in_variants vs) c.args.place refl c.requires in
     λ κs h. (less, (h.0, (h.1.0, (h.1.1.0, (h.1.1.1, placed)))))
 
@@ -751,14 +637,14 @@ inline_expression::write_inline-write_function-requires g t c =
     let k = arguments_view c.deref.result.now in
     let view = view_function_in c.args.inline.now c.in-FunctionReference.id c.in-FunctionReference.arguments c.in-FunctionReference.is ∙ sym (ap (λ a. function c.in-FunctionReference.id.name.now (arguments_view a)) c.deref.ensures) in
     let sized : inline_size (inline_view c.args.inline.now) ≡ 2 + arguments_size k = ap inline_size view in
-    let less = falls_to c.decreases (less_weight a.bundle a.bundle (1 + arguments_size k) (inline_size (inline_view c.args.inline.now)) (1 + at_most a.budget) (1 + at_most a.budget) refl (omega (arith, sized)) (omega arith)) in
+    let less = falls_to c.decreases (same_weight a (1 + arguments_size k) (inline_size (inline_view c.args.inline.now)) (omega (arith, sized))) in
     λ κs h. (less, (h.0, (h.1.0, (h.1.1.0, (h.1.1.1, (view, c.requires))))))
 
 pub inline_expression::write_function-resolve_call-requires : goal.inline_expression::write_function-resolve_call-requires
 unfolding scope_parts
 inline_expression::write_function-resolve_call-requires g t c =
     let a = status g.B.Context.meant g.B.Context.is_plain g.F.FluentFunction.answer g.C.FluentType.content c.args.scope.now in
-    let less = falls_to c.decreases (less_weight a.bundle a.bundle (arguments_size (arguments_view c.args.arguments.now)) (1 + arguments_size (arguments_view c.args.arguments.now)) (1 + at_most a.budget) (1 + at_most a.budget) refl (omega arith) (omega arith)) in
+    let less = falls_to c.decreases (same_weight a (arguments_size (arguments_view c.args.arguments.now)) (1 + arguments_size (arguments_view c.args.arguments.now)) (omega arith)) in
     let placed = placed_behind a.stored.numbers (in_inline (inline_view c.args.inline.now)) (a_function c.args.id.now.name.now) (in_arguments (arguments_view c.args.arguments.now)) c.args.place c.after_one.result (ap in_inline c.requires.view) c.after_one.ensures c.requires.placed in
     λ κs h. (less, (h.0, (h.1.0, (h.1.1.0, (h.1.1.1, placed)))))
 
@@ -776,7 +662,7 @@ unfolding scope_parts
 inline_expression::write_inline-follow-requires g t c =
     let a = status g.B.Context.meant g.B.Context.is_plain g.F.FluentFunction.answer g.C.FluentType.content c.args.scope.now in
     let sized : inline_size (inline_view c.args.inline.now) ≡ 1 = ap inline_size (view_message_in c.args.inline.now c.in-MessageReference.id c.in-MessageReference.attribute c.in-MessageReference.is) in
-    let less = falls_to c.decreases (less_weight a.bundle a.bundle (0) (inline_size (inline_view c.args.inline.now)) (1 + at_most a.budget) (1 + at_most a.budget) refl (omega (arith, sized)) (omega arith)) in
+    let less = falls_to c.decreases (same_weight a (0) (inline_size (inline_view c.args.inline.now)) (omega (arith, sized))) in
     let below = subst (IsBelow (bound a.bundle)) (sym (c.message-found.ensures.content g.F.FluentFunction.answer)) (below_message a.bundle c.in-MessageReference.id.name.now (attribute_of c.in-MessageReference.attribute)) in
     λ κs h. (less, (h.0, (h.1.0, (h.1.1.0, (h.1.1.1, (below, c.message-found.ensures.led))))))
 
@@ -786,7 +672,7 @@ inline_expression::write_inline-write_term-requires g t c =
     let a = status g.B.Context.meant g.B.Context.is_plain g.F.FluentFunction.answer g.C.FluentType.content c.args.scope.now in
     let view = view_term_in c.args.inline.now c.in-TermReference.id c.in-TermReference.attribute c.in-TermReference.arguments c.in-TermReference.is in
     let sized : inline_size (inline_view c.args.inline.now) ≡ 2 + call_size (call_view c.in-TermReference.arguments) = ap inline_size view in
-    let less = falls_to c.decreases (less_weight a.bundle a.bundle (1 + call_size (call_view c.in-TermReference.arguments)) (inline_size (inline_view c.args.inline.now)) (1 + at_most a.budget) (1 + at_most a.budget) refl (omega (arith, sized)) (omega arith)) in
+    let less = falls_to c.decreases (same_weight a (1 + call_size (call_view c.in-TermReference.arguments)) (inline_size (inline_view c.args.inline.now)) (omega (arith, sized))) in
     λ κs h. (less, (h.0, (h.1.0, (h.1.1.0, (h.1.1.1, (view, c.requires))))))
 
 pub inline_expression::write_inline-write_variable-requires : goal.inline_expression::write_inline-write_variable-requires
@@ -799,7 +685,7 @@ inline_expression::write_inline-write_expression-requires g t c =
     let a = status g.B.Context.meant g.B.Context.is_plain g.F.FluentFunction.answer g.C.FluentType.content c.args.scope.now in
     let sized : inline_size (inline_view c.args.inline.now) ≡ 1 + expression_size (expression_view c.in-Placeable.expression.value) = ap inline_size (view_nested_in c.args.inline.now c.in-Placeable.expression c.in-Placeable.is) in
     let here : expression_size (expression_view c.deref-in-Placeable.result.now) ≡ expression_size (expression_view c.in-Placeable.expression.value) = ap (λ e. expression_size (expression_view e)) c.deref-in-Placeable.ensures in
-    let less = falls_to c.decreases (less_weight a.bundle a.bundle (expression_size (expression_view c.deref-in-Placeable.result.now)) (inline_size (inline_view c.args.inline.now)) (1 + at_most a.budget) (1 + at_most a.budget) refl (omega (arith, sized, here)) (omega arith)) in
+    let less = falls_to c.decreases (same_weight a (expression_size (expression_view c.deref-in-Placeable.result.now)) (inline_size (inline_view c.args.inline.now)) (omega (arith, sized, here))) in
     let refers = in_nested_is c.args.inline.now c.in-Placeable.expression c.in-Placeable.is ∙ ap (λ e. in_expression (expression_view e)) (sym c.deref-in-Placeable.ensures) in
     let placed = placed_as a.stored.numbers (in_inline (inline_view c.args.inline.now)) (in_expression (expression_view c.deref-in-Placeable.result.now)) c.args.place refers c.requires in
     λ κs h. (less, (h.0, (h.1.0, (h.1.1.0, (h.1.1.1, placed)))))
@@ -808,7 +694,7 @@ pub inline_expression::write_term-resolve_local-requires : goal.inline_expressio
 unfolding scope_parts
 inline_expression::write_term-resolve_local-requires g t c =
     let a = status g.B.Context.meant g.B.Context.is_plain g.F.FluentFunction.answer g.C.FluentType.content c.args.scope.now in
-    let less = falls_to c.decreases (less_weight a.bundle a.bundle (call_size (call_view c.args.arguments.now)) (1 + call_size (call_view c.args.arguments.now)) (1 + at_most a.budget) (1 + at_most a.budget) refl (omega arith) (omega arith)) in
+    let less = falls_to c.decreases (same_weight a (call_size (call_view c.args.arguments.now)) (1 + call_size (call_view c.args.arguments.now)) (omega arith)) in
     let call = call_view c.args.arguments.now in
     let placed = placed_behind a.stored.numbers (in_inline (inline_view c.args.inline.now)) (a_term c.args.id.now.name.now) (in_call call) c.args.place c.after_one.result (ap in_inline c.requires.view) c.after_one.ensures c.requires.placed in
     λ κs h. (less, (h.0, (h.1.0, (h.1.1.0, (h.1.1.1, placed)))))
@@ -847,14 +733,6 @@ pattern::write_elements-write_placeable-requires g t c =
     let placed = placed_still a b (in_expression (expression_view c.in-Placeable.expression)) c.loop-element.place kept.stored (placed_as a.stored.numbers (of_element x) (in_expression (expression_view c.in-Placeable.expression)) c.loop-element.place (in_placeable_is x c.in-Placeable.expression c.in-Placeable.is) here) in
     λ κs h. (less, (h.0, (h.1.0, (h.1.1.0, (h.1.1.1, (left, placed))))))
 
-pub pattern::write_elements-returns-after-loop-element-clause-memory : goal.pattern::write_elements-returns-after-loop-element-clause-memory
-unfolding scope_parts
-pattern::write_elements-returns-after-loop-element-clause-memory g t c = λ h plain bare is. cc
-
-pub pattern::write_elements-returns-then-dirty-clause-memory : goal.pattern::write_elements-returns-then-dirty-clause-memory
-unfolding scope_parts
-pattern::write_elements-returns-then-dirty-clause-memory g t c = λ h plain bare is. cc
-
 pub pattern::write_pattern-write_elements-written-requires : goal.pattern::write_pattern-write_elements-written-requires
 unfolding scope_parts
 pattern::write_pattern-write_elements-written-requires g t c =
@@ -872,10 +750,6 @@ pattern::write_placeable-write_expression-requires g t c =
     let b = status g.B.Context.meant g.B.Context.is_plain g.F.FluentFunction.answer g.C.FluentType.content c.take_one.new.self in
     let placed = placed_still a b (in_expression (expression_view c.args.expression.now)) c.args.place c.take_one.ensures.takes.keeps.stored c.requires.placed in
     λ κs h. (less, (h.0, (h.1.0, (h.1.1.0, (h.1.1.1, placed)))))
-
-pub inline_expression::write_inline-returns-in-FunctionReference : goal.inline_expression::write_inline-returns-in-FunctionReference
-unfolding scope_parts
-inline_expression::write_inline-returns-in-FunctionReference g t c = c.write_function.ensures
 
 pub inline_expression::write_function-returns-in_err-positional : goal.inline_expression::write_function-returns-in_err-positional
 unfolding scope_parts
@@ -1133,26 +1007,6 @@ arguments::resolve_named-returns g t c =
     let before = c.loop-argument.invariant in
     let none = none_left c.args.arguments.now c.loop-argument.argument-index c.loop-argument-test.false in
     record { got = gathers_all (label_walk c.args.arguments.now) (λ m. set_all m []) c.in_ok-args.args (c.in_ok-args.ensures ∙ before.is) refl (gathers_as (labelling_end a _ b.budget none) before.gathers); rests = rests_ok {v = tt} refl before.rests }
-
-pub arguments::resolve_positional-offset_bounds-arguments-argument-index : goal.arguments::resolve_positional-offset_bounds-arguments-argument-index
-unfolding scope_parts
-arguments::resolve_positional-offset_bounds-arguments-argument-index g t c = search rules
-
-pub arguments::resolve_positional-loop-argument-smaller : goal.arguments::resolve_positional-loop-argument-smaller
-unfolding scope_parts
-arguments::resolve_positional-loop-argument-smaller g t c = falls _ _ c.loop-argument-test.true
-
-pub arguments::resolve_named-offset_bounds-arguments-argument-index : goal.arguments::resolve_named-offset_bounds-arguments-argument-index
-unfolding scope_parts
-arguments::resolve_named-offset_bounds-arguments-argument-index g t c = search rules
-
-pub arguments::resolve_named-loop-argument-smaller : goal.arguments::resolve_named-loop-argument-smaller
-unfolding scope_parts
-arguments::resolve_named-loop-argument-smaller g t c = falls _ _ c.loop-argument-test.true
-
-pub arguments::resolve_named-fact_in-set : goal.arguments::resolve_named-fact_in-set
-unfolding scope_parts
-arguments::resolve_named-fact_in-set g t c = search rules
 
 pub variants::choose_by_value-returns-clause-placed : goal.variants::choose_by_value-returns-clause-placed
 unfolding scope_parts
