@@ -1,31 +1,13 @@
 //! A closure among the functions of a bundle, by the names of one crate.
-ghost use Rattle.std.specs.Prelude.{unwrap_or, slice_get};
-ghost use Rattle.fluent_meaning.specs.Value.{error_value};
 
 use crate::check::check;
+use crate::first_value::{Bundle, FirstValue};
 use fluent_bundle::{
-    AddFault, AnswerRule, Answering, EnglishPlurals, FluentArgs, FluentBundle, FluentFunction,
-    FluentValue, FunctionOf, FunctionRef, GetEntry, NoCustom, NoFormatter,
+    AddFault, Answering, EnglishPlurals, FluentArgs, FluentBundle, FluentFunction, FluentValue,
+    FunctionOf, FunctionRef, GetEntry, NoCustom,
 };
 use std::alloc::{AllocError, Global};
 use std::test::Fail;
-
-/// The first positional value, or an error where there is none.
-struct FirstValue;
-
-impl AnswerRule<NoCustom> for FirstValue {
-    ghost answer = { λ positional _. unwrap_or (slice_get positional 0) error_value };
-}
-
-/// A bundle whose functions are closures of one type.
-type Bundle<'r, 's, K> = FluentBundle<
-    'r,
-    's,
-    EnglishPlurals,
-    NoCustom,
-    FunctionOf<NoCustom, K, FirstValue>,
-    NoFormatter,
->;
 
 /// That the function of an id answers a text with itself.
 fn answers_itself<K: Answering<NoCustom, FirstValue> + Drop>(

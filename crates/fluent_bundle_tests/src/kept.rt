@@ -1,33 +1,16 @@
 //! Messages that call a closure of the application.
-ghost use Rattle.std.specs.Prelude.{unwrap_or, slice_get};
-ghost use Rattle.fluent_meaning.specs.Value.{error_value};
 
 use crate::check::check;
+use crate::first_value::{Bundle, FirstValue};
 use fluent_bundle::{
-    AddFault, AnswerRule, Answering, EnglishPlurals, FluentArgs, FluentBundle, FluentResource,
-    FluentValue, FunctionOf, NoCustom, NoFormatter,
+    AddFault, Answering, EnglishPlurals, FluentArgs, FluentBundle, FluentResource, FluentValue,
+    FunctionOf, NoCustom,
 };
 use fluent_fixtures::common::read;
 use std::alloc::{AllocError, Global};
 use std::test::Fail;
 
-/// The first positional value, or an error where there is none.
-struct Identity;
-
-impl AnswerRule<NoCustom> for Identity {
-    ghost answer = { λ positional _. unwrap_or (slice_get positional 0) error_value };
-}
-
-type Bundle<'r, 's, K> = FluentBundle<
-    'r,
-    's,
-    EnglishPlurals,
-    NoCustom,
-    FunctionOf<NoCustom, K, Identity>,
-    NoFormatter,
->;
-
-fn is_formatted<K: Answering<NoCustom, Identity> + Drop>(
+fn is_formatted<K: Answering<NoCustom, FirstValue> + Drop>(
     alloc: Global,
     bundle: &Bundle<'_, '_, K>,
     id: &str,
@@ -40,7 +23,7 @@ fn is_formatted<K: Answering<NoCustom, Identity> + Drop>(
     Ok(found.as_str() == text && errors.is_empty())
 }
 
-fn bundle_of<'r, 's, K: Answering<NoCustom, Identity> + Drop>(
+fn bundle_of<'r, 's, K: Answering<NoCustom, FirstValue> + Drop>(
     alloc: Global,
     resource: &'r FluentResource<'s>,
     closure: K,
@@ -53,7 +36,7 @@ fn bundle_of<'r, 's, K: Answering<NoCustom, Identity> + Drop>(
     Ok(bundle)
 }
 
-fn is_called<K: Answering<NoCustom, Identity> + Drop>(
+fn is_called<K: Answering<NoCustom, FirstValue> + Drop>(
     alloc: Global,
     resource: &FluentResource<'_>,
     closure: K,
@@ -81,7 +64,7 @@ where
         &FluentArgs<'a, NoCustom>,
     ) -> Result<FluentValue<'a, NoCustom>, AllocError>
         + Drop,
-    requires { ⟦<K as Answering<NoCustom, Identity>>⟧.ready closure }
+    requires { ⟦<K as Answering<NoCustom, FirstValue>>⟧.ready closure }
 {
     is_called(alloc, resource, closure)
 }

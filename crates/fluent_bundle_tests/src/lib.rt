@@ -14,6 +14,8 @@ mod composing;
 #[cfg(test)]
 mod errors;
 #[cfg(test)]
+mod first_value;
+#[cfg(test)]
 mod headline;
 #[cfg(test)]
 mod kept;

@@ -10,7 +10,7 @@ use fluent_bundle::{Counting, FluentArgs, FluentBundle, FluentError, NoCustom, W
 use fluent_fixtures::common::{
     Bundle, Given, arguments, default_bundle, empty, format, read, value_of,
 };
-use fluent_fixtures::writers::{End, Slow, Told, all, end_of, has_taken, writer};
+use fluent_fixtures::writers::{End, Narrow, Told, all, end_of, has_taken, writer};
 use fluent_intl::EnglishPlurals;
 use std::alloc::{AllocError, Global};
 use std::borrow::CowStr;
@@ -24,7 +24,7 @@ fn write<'s>(
     bundle: &Bundle<'_, 's>,
     pattern: &Pattern<'s>,
     args: Option<&FluentArgs<'_, NoCustom>>,
-    w: &mut Counting<Slow>,
+    w: &mut Counting<Narrow>,
     errors: &mut Vec<FluentError>,
 ) -> Result<(), WriteFault> {
     bundle.write_pattern(w, pattern, args, errors)
@@ -36,7 +36,7 @@ fn write_given<'s>(
     bundle: &Bundle<'_, 's>,
     pattern: &Pattern<'s>,
     given: Given,
-    w: &mut Counting<Slow>,
+    w: &mut Counting<Narrow>,
     errors: &mut Vec<FluentError>,
 ) -> Result<(), WriteFault> {
     let args = arguments(alloc, given)?;

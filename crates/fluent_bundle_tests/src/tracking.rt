@@ -5,24 +5,11 @@ use fluent_bundle::ast::{CallArguments, Expression, InlineExpression, Pattern, P
 use fluent_bundle::{
     Counting, FluentArgs, FluentError, FluentResource, FluentValue, NoCustom, Scope, WriteFault,
 };
-use fluent_fixtures::common::{Bundle, add, default_bundle, read, value_of};
-use fluent_fixtures::own::Own;
-use fluent_fixtures::writers::{End, Slow, all, end_of, has_taken, writer};
+use fluent_fixtures::common::{Bundle, Scoped, add, default_bundle, read, value_of};
+use fluent_fixtures::writers::{End, Narrow, all, end_of, has_taken, writer};
 use std::alloc::{AllocError, Global};
 use std::process::Abort;
 use std::test::Fail;
-
-/// A scope of a bundle in English.
-type Scoped<'errors, 'p, 'r, 's> = Scope<
-    'errors,
-    'p,
-    'r,
-    's,
-    'static,
-    NoCustom,
-    Own,
-    Bundle<'r, 's>,
->;
 
 /// A bundle with the messages of a source, and this limit on placeables.
 fn bundle_of<'r, 's>(
@@ -71,7 +58,7 @@ enum Writing {
 /// Makes a call for a pattern and the expression of its last placeable.
 fn write<'p, 's>(
     scope: &mut Scoped<'_, 'p, '_, 's>,
-    w: &mut Counting<Slow>,
+    w: &mut Counting<Narrow>,
     writing: Writing,
     pattern: &'p Pattern<'s>,
     expression: &'p Expression<'s>,
@@ -92,7 +79,7 @@ fn write<'p, 's>(
 fn write_in<'p, 's>(
     bundle: &'p Bundle<'_, 's>,
     errors: &mut Vec<FluentError>,
-    w: &mut Counting<Slow>,
+    w: &mut Counting<Narrow>,
     writing: Writing,
     pattern: &'p Pattern<'s>,
     expression: &'p Expression<'s>,

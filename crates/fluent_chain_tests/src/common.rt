@@ -2,28 +2,15 @@
 //! from the tests, which rest on none of it.
 use crate::check::check;
 use fluent_bundle::{
-    EnglishPlurals, FluentArgs, FluentBundle, FluentError, FluentResource, FluentValue, NoCustom,
-    NoFormatter, NoFunction, Transform, TryNewFault,
+    EnglishPlurals, FluentBundle, FluentError, FluentResource, NoCustom, NoFormatter, NoFunction,
 };
 use fluent_chain::{Chain, Link};
+use fluent_fixtures::common::{Given, arguments, lines, read};
+use fluent_fixtures::own::Upper;
 use std::alloc::{AllocError, Global};
 use std::borrow::CowStr;
 use std::process::Abort;
 use std::test::Fail;
-
-/// Makes ASCII letters upper case.
-#[derive(Clone, Copy, Drop)]
-pub struct Upper;
-
-impl Transform for Upper {
-    ghost use Rattle.std.specs.Str.{str_to_ascii_uppercase};
-
-    ghost changed = { λ _ t. str_to_ascii_uppercase t };
-
-    fn transform(&self, alloc: Global, text: &str) -> Result<String, AllocError> {
-        text.to_ascii_uppercase(alloc)
-    }
-}
 
 /// A bundle in English.
 pub type Bundle<'r, 's> = FluentBundle<
@@ -49,23 +36,6 @@ pub type Bundles<'c, 'b, 'r, 's> = Chain<
     Upper,
 >;
 
-/// A source as it is read, with Junk or without.
-fn read_once<'s>(alloc: Global, source: &'s str) -> Result<FluentResource<'s>, AllocError> {
-    match FluentResource::try_new(alloc, source) {
-        Ok(resource) => Ok(resource),
-        Err(TryNewFault::Parser(resource, _)) => Ok(resource),
-        Err(TryNewFault::Memory) => Err(AllocError),
-    }
-}
-
-/// The same, read a second time where memory is refused at the first.
-pub fn read<'s>(alloc: Global, source: &'s str) -> Result<FluentResource<'s>, AllocError> {
-    match read_once(alloc, source) {
-        Ok(resource) => Ok(resource),
-        Err(AllocError) => read_once(alloc, source),
-    }
-}
-
 fn bundle_once<'r, 's>(
     alloc: Global,
     resource: &'r FluentResource<'s>,
@@ -88,13 +58,13 @@ pub fn bundle_of<'r, 's>(
     }
 }
 
-/// The text of a message, or of an attribute where a name is given; the name and the text of an argument, where
-/// there is one.
+/// The text of a message, or of an attribute where a name is given, with this argument, which
+/// is none where its name is empty.
 #[derive(Clone, Copy)]
 pub struct Asked {
     pub id: &'static str,
     pub attribute: Option<&'static str>,
-    pub argument: Option<(&'static str, &'static str)>,
+    pub argument: Given,
 }
 
 /// A text, whether it is lent, and the lines of its errors.
@@ -107,7 +77,7 @@ pub const fn value(id: &'static str) -> Asked {
     Asked {
         id,
         attribute: None,
-        argument: None,
+        argument: ("", ""),
     }
 }
 
@@ -116,16 +86,8 @@ pub const fn attribute(id: &'static str, name: &'static str) -> Asked {
     Asked {
         id,
         attribute: Some(name),
-        argument: None,
+        argument: ("", ""),
     }
-}
-
-fn arguments(alloc: Global, asked: Asked) -> Result<FluentArgs<'static, NoCustom>, AllocError> {
-    let mut args = FluentArgs::new(alloc);
-    if let Some((name, text)) = asked.argument {
-        args.set(CowStr::Borrowed(name), FluentValue::try_number(text))?;
-    }
-    Ok(args)
 }
 
 /// A text in memory of its own, and whether it was lent.
@@ -140,7 +102,7 @@ fn format<'r, 's: 'r>(
     asked: Asked,
     errors: &mut Vec<FluentError>,
 ) -> Result<(String, bool), AllocError> {
-    let args = arguments(alloc, asked)?;
+    let args = arguments(alloc, asked.argument)?;
     match asked.attribute {
         None => owned(alloc, chain.format_value(asked.id, Some(&args), errors)?),
         Some(name) => owned(
@@ -148,15 +110,6 @@ fn format<'r, 's: 'r>(
             chain.format_attribute(asked.id, name, Some(&args), errors)?,
         ),
     }
-}
-
-/// The texts of errors, each with a line feed.
-fn lines(alloc: Global, errors: &[FluentError]) -> Result<String, AllocError> {
-    let mut out = String::new(alloc);
-    for error in errors {
-        write!(out, "{error}\n")?;
-    }
-    Ok(out)
 }
 
 /// Whether a text is the one of a row, and lent where it should be.

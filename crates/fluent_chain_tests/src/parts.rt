@@ -1,8 +1,9 @@
 //! Attributes, and whether a part is there at all.
 use crate::check::check;
-use crate::common::{Bundles, attribute, bundle_of, read, sources_show, value};
+use crate::common::{Bundles, attribute, bundle_of, sources_show, value};
 use fluent_bundle::FluentResource;
 use fluent_chain::{Chain, Link};
+use fluent_fixtures::common::read;
 use std::alloc::Global;
 use std::process::Abort;
 use std::test::Fail;

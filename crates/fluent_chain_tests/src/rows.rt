@@ -1,6 +1,7 @@
 //! Which bundle answers for the value of a message, with what text and which errors.
-use crate::common::{Bundle, Row, bundle_of, read, shows, sources_show, value};
+use crate::common::{Bundle, Row, bundle_of, shows, sources_show, value};
 use fluent_chain::{Chain, Link};
+use fluent_fixtures::common::read;
 use std::alloc::Global;
 use std::process::Abort;
 use std::test::Fail;
@@ -15,7 +16,7 @@ const UNKNOWN: &str = "Resolver error: Unknown variable: $x\n";
 #[test]
 fn the_first_with_a_value_answers(rt: HostRuntime) -> Result<(), Fail> {
     let mut given = value("b");
-    given.argument = Some(("x", "7"));
+    given.argument = ("x", "7");
     let rows = [
         (value("a"), ("1", true, "")),
         (value("b"), ("{$x}", false, UNKNOWN)),

@@ -2,9 +2,11 @@
 ghost use Rattle.std.specs.Prelude.{IsTrue};
 
 use crate::check::check;
-use crate::common::{Bundle, Row, Upper, both_show, bundle_of, read, value};
+use crate::common::{Bundle, Row, both_show, bundle_of, value};
 use fluent_bundle::{EnglishPlurals, FluentResource, NoCustom, NoFormatter, NoFunction};
 use fluent_chain::Chain;
+use fluent_fixtures::common::read;
+use fluent_fixtures::own::Upper;
 use std::alloc::{AllocError, Global};
 use std::process::Abort;
 use std::test::Fail;
@@ -94,9 +96,9 @@ fn bundles_have_their_own_transforms_and_isolation(rt: HostRuntime) -> Result<()
     let first = read(rt.alloc(), "a = x { $n }\n")?;
     let second = read(rt.alloc(), "a = no\nb = x { $n }\n")?;
     let mut a = value("a");
-    a.argument = Some(("n", "y"));
+    a.argument = ("n", "y");
     let mut b = value("b");
-    b.argument = Some(("n", "y"));
+    b.argument = ("n", "y");
     let rows = [
         (a, ("x y", false, "")),
         (b, ("X \u{2068}y\u{2069}", false, "")),

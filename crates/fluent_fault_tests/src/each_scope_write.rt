@@ -2,12 +2,12 @@
 //! and path are as before, so that the same call comes to the whole when it is made again in that scope.
 use crate::check::check;
 use crate::found::{Noted, are, are_behind, begin};
-use crate::scope::{Scoped, listed};
+use crate::scope::listed;
 use fluent_bundle::ast::{Expression, InlineExpression, Pattern, PatternElement};
 use fluent_bundle::{Counting, FluentArgs, Scope, WriteFault};
 use fluent_fixtures::common::read;
 use fluent_fixtures::objects::Star;
-use fluent_fixtures::settings::{Bundle, Given, Setting, arguments, bundle_of, pattern_in};
+use fluent_fixtures::settings::{Bundle, Given, Scoped, Setting, arguments, bundle_of, pattern_in};
 use fluent_fixtures::stopped::{ended, writer};
 use fluent_fixtures::stopping::{FAULTS, Fault, Stopping};
 use std::alloc::Global;

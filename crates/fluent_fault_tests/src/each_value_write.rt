@@ -2,11 +2,11 @@
 //! taken.
 use crate::check::check;
 use crate::found::{Noted, are};
-use crate::scope::{Scoped, listed};
+use crate::scope::listed;
 use fluent_bundle::{Counting, FluentArgs, FluentValue, Scope, WriteFault};
 use fluent_fixtures::common::read;
 use fluent_fixtures::objects::Star;
-use fluent_fixtures::settings::{Bundle, Given, Setting, arguments, bundle_of};
+use fluent_fixtures::settings::{Bundle, Given, Scoped, Setting, arguments, bundle_of};
 use fluent_fixtures::stopped::{ended, writer};
 use fluent_fixtures::stopping::{FAULTS, Fault, Stopping};
 use std::alloc::{AllocError, Global};

@@ -8,47 +8,16 @@ use fluent_bundle::{Counting, FluentArgs, FluentError};
 use fluent_fixtures::common::read;
 use fluent_fixtures::objects::Star;
 use fluent_fixtures::settings::{Bundle, arguments, bundle_of, pattern_in};
-use fluent_fixtures::writers::{End, end_of};
+use fluent_fixtures::writers::{End, How, Narrow, end_of, narrow};
 use std::alloc::Global;
-use std::io;
-use std::io::Write;
 use std::process::Abort;
 use std::test::Fail;
 
-/// Takes so many bytes at once, and where there is no room left it fails or takes none.
-#[derive(Drop)]
-struct Narrow {
-    taken: Vec<u8>,
-    at_once: usize,
-    room: usize,
-    fails: bool,
-}
-
-impl Write for Narrow {
-    fn write(&mut self, piece: &[u8]) -> io::Result<usize> {
-        let n = piece.len().min(self.at_once).min(self.room);
-        if self.room == 0 && self.fails {
-            return Err(io::Error::from(io::ErrorKind::BrokenPipe));
-        }
-        match self.taken.extend_from_slice(&piece[..n]) {
-            Ok(()) => {
-                self.room -= n;
-                Ok(n)
-            }
-            Err(_) => Err(io::Error::from(io::ErrorKind::OutOfMemory)),
-        }
-    }
-
-    fn flush(&mut self) -> io::Result<()> {
-        Ok(())
-    }
-}
-
-/// How many bytes a writer takes at once and in all, and whether it fails then; how the call ends, how often a write
-/// failed and took nothing, what was taken, and the lines of the errors.
+/// What a writer takes, how the call ends, how often a write failed and took nothing, what was taken, and the lines of
+/// the errors.
 struct Row {
     case: &'static Case,
-    takes: (usize, usize, bool),
+    takes: How,
     end: End,
     faults: (u64, u64),
     text: &'static str,
@@ -58,7 +27,11 @@ struct Row {
 const ROWS: &[Row] = &[
     Row {
         case: &ORDINAL,
-        takes: (1, 1000, true),
+        takes: How {
+            at_once: 1,
+            in_all: 1000,
+            fails: true,
+        },
         end: End::Whole,
         faults: (0, 0),
         text: "\u{2068}22\u{2069}nd",
@@ -66,7 +39,11 @@ const ROWS: &[Row] = &[
     },
     Row {
         case: &MISSING,
-        takes: (100, 9, false),
+        takes: How {
+            at_once: 100,
+            in_all: 9,
+            fails: false,
+        },
         end: End::Zero,
         faults: (0, 1),
         text: "Welcome, ",
@@ -74,22 +51,17 @@ const ROWS: &[Row] = &[
     },
     Row {
         case: &MISSING,
-        takes: (100, 12, true),
+        takes: How {
+            at_once: 100,
+            in_all: 12,
+            fails: true,
+        },
         end: End::Writer,
         faults: (1, 0),
         text: "Welcome, \u{2068}",
         lines: "Resolver error: Unknown variable: $name\n",
     },
 ];
-
-fn writer(alloc: Global, takes: (usize, usize, bool)) -> Counting<Narrow> {
-    Counting::new(Narrow {
-        taken: Vec::new(alloc),
-        at_once: takes.0,
-        room: takes.1,
-        fails: takes.2,
-    })
-}
 
 fn write<'s>(
     bundle: &Bundle<'_, 's>,
@@ -116,7 +88,7 @@ fn ends_in(
 ) -> Result<(), Fail> {
     let pattern = pattern_in(bundle, "p")?;
     let mut noted = Noted::new(alloc)?;
-    let mut w = writer(alloc, row.takes);
+    let mut w = narrow(alloc, row.takes);
     let end = write(bundle, pattern, args, &mut w, &mut noted.errors);
     check(rt, end == row.end, row.text);
     check(rt, has_taken(w, row), row.text);

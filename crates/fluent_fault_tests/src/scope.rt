@@ -8,8 +8,8 @@ use fluent_bundle::{
     Counting, FluentArgs, FluentError, FluentValue, ReferenceKind, ResolverError, Scope, WriteFault,
 };
 use fluent_fixtures::common::read;
-use fluent_fixtures::objects::{Answer, Star};
-use fluent_fixtures::settings::{Bundle, Given, Setting, arguments, bundle_of, value_in};
+use fluent_fixtures::objects::Star;
+use fluent_fixtures::settings::{Bundle, Given, Scoped, Setting, arguments, bundle_of, value_in};
 use fluent_values::resolver::output::{Output, with_error};
 use fluent_values::resolver::{Place, write_pattern};
 use std::alloc::{AllocError, Global};
@@ -23,17 +23,6 @@ m = y{ m }{ $q }
 a = x{ -t(n: 1) }{ m }{ a }{ $n }{ F($q) }
 c = { F($q, -t(n: 1), m, $n, x: 3) }
 ";
-
-pub type Scoped<'errors, 'p, 'r, 's> = Scope<
-    'errors,
-    'p,
-    'r,
-    's,
-    'static,
-    Star,
-    Answer,
-    Bundle<'r, 's>,
->;
 
 // ---- calls
 

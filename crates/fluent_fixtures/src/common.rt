@@ -4,7 +4,8 @@ use crate::own::{Bracketed, Own};
 use fluent_bundle::ast::{Entry, Expression, InlineExpression, Message, Pattern, PatternElement};
 use fluent_bundle::bundle::AddFault;
 use fluent_bundle::{
-    FluentArgs, FluentBundle, FluentError, FluentResource, FluentValue, NoCustom, TryNewFault,
+    FluentArgs, FluentBundle, FluentError, FluentResource, FluentValue, NoCustom, Scope,
+    TryNewFault,
 };
 use fluent_intl::EnglishPlurals;
 use std::alloc::{AllocError, Global};
@@ -13,6 +14,18 @@ use std::test::Fail;
 
 /// A bundle in English.
 pub type Bundle<'r, 's> = FluentBundle<'r, 's, EnglishPlurals, NoCustom, Own, Bracketed>;
+
+/// A scope of such a bundle.
+pub type Scoped<'errors, 'p, 'r, 's> = Scope<
+    'errors,
+    'p,
+    'r,
+    's,
+    'static,
+    NoCustom,
+    Own,
+    Bundle<'r, 's>,
+>;
 
 /// A source as it is read, with Junk or without.
 fn read_once<'s>(alloc: Global, source: &'s str) -> Result<FluentResource<'s>, AllocError> {

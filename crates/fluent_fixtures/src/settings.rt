@@ -2,7 +2,7 @@
 use crate::objects::{Answer, Kinds, Star};
 use crate::own::Upper;
 use fluent_bundle::ast::Pattern;
-use fluent_bundle::{Call, FluentArgs, FluentBundle, FluentResource, FluentValue};
+use fluent_bundle::{Call, FluentArgs, FluentBundle, FluentResource, FluentValue, Scope};
 use fluent_intl::EnglishPlurals;
 use std::alloc::{AllocError, Global};
 use std::borrow::CowStr;
@@ -12,6 +12,18 @@ use std::test::Fail;
 
 /// A bundle in English with functions, a formatter and a transform of tests.
 pub type Bundle<'r, 's> = FluentBundle<'r, 's, EnglishPlurals, Star, Answer, Kinds, Upper>;
+
+/// A scope of such a bundle.
+pub type Scoped<'errors, 'p, 'r, 's> = Scope<
+    'errors,
+    'p,
+    'r,
+    's,
+    'static,
+    Star,
+    Answer,
+    Bundle<'r, 's>,
+>;
 
 /// What is set in a bundle before its source is added.
 #[derive(Clone, Copy, Drop)]

@@ -4,23 +4,34 @@ use std::alloc::Global;
 use std::io;
 use std::io::Write;
 
-/// A writer that takes so many bytes at most in one write, and fails once it has taken all that it may.
-#[derive(Drop)]
-pub struct Slow {
-    taken: Vec<u8>,
-    at_once: usize,
-    in_all: usize,
+/// How many bytes a writer takes at once and in all, and whether it fails then or takes none.
+#[derive(Clone, Copy, Drop)]
+pub struct How {
+    pub at_once: usize,
+    pub in_all: usize,
+    pub fails: bool,
 }
 
-impl Write for Slow {
+/// A writer that does so.
+#[derive(Drop)]
+pub struct Narrow {
+    pub taken: Vec<u8>,
+    room: usize,
+    at_once: usize,
+    fails: bool,
+}
+
+impl Write for Narrow {
     fn write(&mut self, piece: &[u8]) -> io::Result<usize> {
-        let room = self.in_all.saturating_sub(self.taken.len());
-        if room == 0 {
+        let n = piece.len().min(self.at_once).min(self.room);
+        if self.room == 0 && self.fails {
             return Err(io::Error::from(io::ErrorKind::BrokenPipe));
         }
-        let n = piece.len().min(self.at_once).min(room);
         match self.taken.extend_from_slice(&piece[..n]) {
-            Ok(()) => Ok(n),
+            Ok(()) => {
+                self.room -= n;
+                Ok(n)
+            }
             Err(_) => Err(io::Error::from(io::ErrorKind::OutOfMemory)),
         }
     }
@@ -28,6 +39,16 @@ impl Write for Slow {
     fn flush(&mut self) -> io::Result<()> {
         Ok(())
     }
+}
+
+/// Such a writer, which has taken nothing.
+pub fn narrow(alloc: Global, how: How) -> Counting<Narrow> {
+    Counting::new(Narrow {
+        taken: Vec::new(alloc),
+        room: how.in_all,
+        at_once: how.at_once,
+        fails: how.fails,
+    })
 }
 
 /// How a call may end.
@@ -55,8 +76,8 @@ pub fn end_of(outcome: Result<(), WriteFault>) -> End {
     }
 }
 
-/// How many bytes a writer takes at once and in all, how writing through it ends, how often a write failed and took
-/// nothing, what was taken, and the lines of the errors.
+/// How many bytes a writer takes at once and in all before it fails, how writing through it ends, how often a write
+/// failed and took nothing, what was taken, and the lines of the errors.
 #[derive(Clone, Copy, Drop)]
 pub struct Told<'x> {
     pub takes: (usize, usize),
@@ -78,16 +99,20 @@ pub fn all<'x>(text: &'x str, errors: &'x str) -> Told<'x> {
 }
 
 /// The writer of a row, which has taken nothing.
-pub fn writer(alloc: Global, told: &Told<'_>) -> Counting<Slow> {
-    Counting::new(Slow {
-        taken: Vec::new(alloc),
-        at_once: told.takes.0,
-        in_all: told.takes.1,
-    })
+pub fn writer(alloc: Global, told: &Told<'_>) -> Counting<Narrow> {
+    let (at_once, in_all) = told.takes;
+    narrow(
+        alloc,
+        How {
+            at_once,
+            in_all,
+            fails: true,
+        },
+    )
 }
 
 /// That a writer has the faults and took the bytes that it should.
-pub fn has_taken(w: Counting<Slow>, told: &Told<'_>) -> bool {
+pub fn has_taken(w: Counting<Narrow>, told: &Told<'_>) -> bool {
     w.failed() == told.faults.0
         && w.empty() == told.faults.1
         && w.into_inner().taken.as_slice() == told.text.as_bytes()

@@ -3,25 +3,11 @@
 use crate::check::check;
 use crate::values::{Given, value};
 use fluent_bundle::ast::InlineExpression;
-use fluent_bundle::{
-    Context, Counting, FluentError, NoCustom, ReferenceKind, ResolverError, Scope,
-};
-use fluent_fixtures::common::{Bundle, empty};
-use fluent_fixtures::own::Own;
+use fluent_bundle::{Context, Counting, FluentError, ReferenceKind, ResolverError, Scope};
+use fluent_fixtures::common::{Bundle, Scoped, empty};
 use std::alloc::{AllocError, Global};
 use std::process::Abort;
 use std::test::Fail;
-
-type Scoped<'errors, 'p, 'r, 's> = Scope<
-    'errors,
-    'p,
-    'r,
-    's,
-    'static,
-    NoCustom,
-    Own,
-    Bundle<'r, 's>,
->;
 
 /// Whether a scope did nothing, and has so many errors, where it has a list.
 fn did_nothing(scope: &Scoped<'_, '_, '_, '_>, listed: Option<usize>) -> bool {

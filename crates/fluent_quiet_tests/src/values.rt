@@ -6,8 +6,7 @@ use fluent_bundle::{
     FluentArgs, FluentFormatter, FluentFunction, FluentNumberOptions, FluentType, FluentValue,
     MergeArgs, NoCustom, NoFormatter, NoFunction, Scope, builtins,
 };
-use fluent_fixtures::common::{Bundle, empty};
-use fluent_fixtures::own::Own;
+use fluent_fixtures::common::{Bundle, Scoped, empty};
 use fluent_intl::EnglishPlurals;
 use std::alloc::{AllocError, Global};
 use std::borrow::CowStr;
@@ -71,17 +70,6 @@ const PAIRS: &[Pair] = &[
     (Given::Nothing, Given::Nothing, false, false),
     (Given::Fault, Given::Fault, false, false),
 ];
-
-type Scoped<'errors, 'p, 'r, 's> = Scope<
-    'errors,
-    'p,
-    'r,
-    's,
-    'static,
-    NoCustom,
-    Own,
-    Bundle<'r, 's>,
->;
 
 fn is_compared(
     one: &Value<'_>,

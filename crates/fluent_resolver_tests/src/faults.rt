@@ -5,59 +5,9 @@ use fluent_bundle::{Counting, FluentArgs, FluentError};
 use fluent_fixtures::common::read;
 use fluent_fixtures::objects::{Answer, Star};
 use fluent_fixtures::settings::{Bundle, Given, Named, Setting, arguments, bundle_of, value_in};
-use fluent_fixtures::writers::{End, end_of};
+use fluent_fixtures::writers::{End, How, Narrow, end_of, narrow};
 use std::alloc::{AllocError, Global};
-use std::io;
-use std::io::Write;
 use std::process::Abort;
-
-// ---- writers
-
-/// How many bytes a writer takes at once and in all, and whether it fails then or takes none.
-#[derive(Clone, Copy, Drop)]
-struct How {
-    at_once: usize,
-    in_all: usize,
-    fails: bool,
-}
-
-/// A writer that does so.
-#[derive(Drop)]
-struct Narrow {
-    taken: Vec<u8>,
-    room: usize,
-    at_once: usize,
-    fails: bool,
-}
-
-impl Write for Narrow {
-    fn write(&mut self, piece: &[u8]) -> io::Result<usize> {
-        let n = piece.len().min(self.at_once).min(self.room);
-        if self.room == 0 && self.fails {
-            return Err(io::Error::from(io::ErrorKind::BrokenPipe));
-        }
-        match self.taken.extend_from_slice(&piece[..n]) {
-            Ok(()) => {
-                self.room -= n;
-                Ok(n)
-            }
-            Err(_) => Err(io::Error::from(io::ErrorKind::OutOfMemory)),
-        }
-    }
-
-    fn flush(&mut self) -> io::Result<()> {
-        Ok(())
-    }
-}
-
-fn writer(alloc: Global, how: How) -> Counting<Narrow> {
-    Counting::new(Narrow {
-        taken: Vec::new(alloc),
-        room: how.in_all,
-        at_once: how.at_once,
-        fails: how.fails,
-    })
-}
 
 // ---- one fault
 
@@ -99,7 +49,7 @@ fn stops(
     how: How,
     text: &str,
 ) -> bool {
-    let mut w = writer(alloc, how);
+    let mut w = narrow(alloc, how);
     let end = ended(asked, &mut w, errors);
     if end == End::Memory {
         return false;
@@ -263,7 +213,7 @@ fn goes(
         in_all: text.len(),
         fails: true,
     };
-    let mut w = writer(alloc, how);
+    let mut w = narrow(alloc, how);
     let end = ended(asked, &mut w, errors);
     if end == End::Memory {
         return false;

@@ -5,8 +5,10 @@ use crate::rows::{is_left, wants};
 use fluent_bundle::ast::{Expression, InlineExpression, Pattern, PatternElement};
 use fluent_bundle::{Counting, FluentArgs, FluentError, Scope, WriteFault};
 use fluent_fixtures::common::read;
-use fluent_fixtures::objects::{Answer, Star};
-use fluent_fixtures::settings::{Bundle, Given, Named, Setting, arguments, bundle_of, value_in};
+use fluent_fixtures::objects::Star;
+use fluent_fixtures::settings::{
+    Bundle, Given, Named, Scoped, Setting, arguments, bundle_of, value_in,
+};
 use fluent_fixtures::writers::{End, end_of};
 use std::alloc::{AllocError, Global};
 use std::process::Abort;
@@ -89,19 +91,8 @@ struct Row {
     after: After,
 }
 
-type NineScope<'errors, 'p, 'r, 's> = Scope<
-    'errors,
-    'p,
-    'r,
-    's,
-    'static,
-    Star,
-    Answer,
-    Bundle<'r, 's>,
->;
-
 fn track<'p, 'r, 's>(
-    scope: &mut NineScope<'_, 'p, 'r, 's>,
+    scope: &mut Scoped<'_, 'p, 'r, 's>,
     w: &mut Counting<Vec<u8>>,
     pattern: Option<&'p Pattern<'s>>,
     inline: Option<&'p InlineExpression<'s>>,
@@ -113,7 +104,7 @@ fn track<'p, 'r, 's>(
 }
 
 fn maybe_track<'p, 'r, 's>(
-    scope: &mut NineScope<'_, 'p, 'r, 's>,
+    scope: &mut Scoped<'_, 'p, 'r, 's>,
     w: &mut Counting<Vec<u8>>,
     pattern: Option<&'p Pattern<'s>>,
     expression: Option<&'p Expression<'s>>,
@@ -125,7 +116,7 @@ fn maybe_track<'p, 'r, 's>(
 }
 
 fn ref_error<'p, 'r, 's>(
-    scope: &mut NineScope<'_, 'p, 'r, 's>,
+    scope: &mut Scoped<'_, 'p, 'r, 's>,
     w: &mut Counting<Vec<u8>>,
     inline: Option<&'p InlineExpression<'s>>,
 ) -> Result<(), WriteFault> {
@@ -136,7 +127,7 @@ fn ref_error<'p, 'r, 's>(
 }
 
 fn take<'p, 'r, 's>(
-    scope: &mut NineScope<'_, 'p, 'r, 's>,
+    scope: &mut Scoped<'_, 'p, 'r, 's>,
     bundle: &'p Bundle<'r, 's>,
     w: &mut Counting<Vec<u8>>,
     step: Step,
@@ -152,7 +143,7 @@ fn take<'p, 'r, 's>(
 
 /// Makes the calls in a scope.
 fn take_each<'p, 'r, 's>(
-    scope: &mut NineScope<'_, 'p, 'r, 's>,
+    scope: &mut Scoped<'_, 'p, 'r, 's>,
     bundle: &'p Bundle<'r, 's>,
     w: &mut Counting<Vec<u8>>,
     steps: &[Step],
@@ -163,7 +154,7 @@ fn take_each<'p, 'r, 's>(
     Ok(())
 }
 
-fn is_after(scope: &NineScope<'_, '_, '_, '_>, after: After) -> bool {
+fn is_after(scope: &Scoped<'_, '_, '_, '_>, after: After) -> bool {
     let found = scope.counts();
     match after {
         After::Counts(is_dirty, opened, longest, entered) => {
