@@ -49,9 +49,9 @@ impl<
     ///
     /// A placeable stands between U+2068 and U+2069 where isolation is on and it is not all of its pattern. A
     /// variable that is missing is an error and shows as its name in braces. One call opens at most as many
-    /// placeables as the bundle's limit (100 where none was set): one more is an error, and nothing after it is
-    /// written. Text elements are written as the transform changes them, and values as the formatter shows them;
-    /// it is not asked about the whole text.
+    /// placeables as the bundle's limit (100 where none was set): one more is an error, and of what stands behind
+    /// it nothing is written but the fallback of each placeable that is open. Text elements are written as the
+    /// transform changes them, and values as the formatter shows them; it is not asked about the whole text.
     ///
     /// # Errors
     ///

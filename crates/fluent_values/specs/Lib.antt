@@ -10,7 +10,6 @@ pub mod Names
 pub mod Gathered
 pub mod Given
 pub mod Merging
-pub mod Ended
 pub mod FoundView
 pub mod Trail
 pub mod Status
