@@ -26,6 +26,12 @@ lent_where None None p t h = (refl, refl, sym h)
 lent_where None (Some f) p t h = search (rules, h)
 lent_where (Some x) f p t h = search (rules, h)
 
+-- of a pattern that is one text nothing else is made there
+pub sole_known : {X Y : Type 0} (o : Option X) (f : Option Y) (p : Pattern) (t : Text) (r : Option Text) → r ≡ (if not (is_some o) && not (is_some f) then sole_text p else None) → sole_text p ≡ Some t → o ≡ None → f ≡ None → r ≡ Some t
+sole_known None None p t r h is a b = h ∙ is
+sole_known None (Some f) p t r h is a b = absurd cc
+sole_known (Some x) f p t r h is a b = absurd cc
+
 -- where its texts are written as they stand, there is no transform and nothing else in it
 pub texts_where : {X : Type 0} (o : Option X) (p : Pattern) → (not (is_some o) && is_text p) ≡ true → (o ≡ None) × (is_text p ≡ true)
 texts_where None p h = (refl, h)

@@ -8,7 +8,7 @@ use Rattle.fluent_tree.specs.Tree.{Text}
 use Rattle.fluent_meaning.specs.Bundle as m
 use Rattle.fluent_meaning.specs.Bundle.{Bundle, after, after_all}
 use Rattle.fluent_bundle.specs.BundleView.{formatter_in, intls_in, transform_in, Kept, KeptBeside}
-use Rattle.fluent_bundle.specs.Calls.{Makes, BegunBy, transform_after_all, formatter_after_all}
+use Rattle.fluent_bundle.specs.Calls.{Makes, BegunBy, TakesNoMemory, transform_after_all, formatter_after_all}
 use Rattle.fluent_bundle.specs.declared.bundle.FluentBundle.{FluentBundle}
 use Rattle.fluent_bundle.specs.declared.calls.Call.{Call}
 
@@ -65,9 +65,9 @@ module _ {M C F G X : Type 0} (of : FluentBundle M C F G X → Bundle Text) (ask
   pub one_made : (cs : List (Call F G X)) (d : Call F G X) (a b c : FluentBundle M C F G X) → Makes of (ask (intls_in a)) cs a b → Makes of (ask (intls_in b)) (d ∷ []) b c → Makes of (ask (intls_in a)) (cs ++ d ∷ []) a c
   one_made cs d a b c h k = made_on of (ask (intls_in a)) cs (d ∷ []) a b c h (subst (λ i. Makes of (ask i) (d ∷ []) b c) h.beside.intls k)
 
-  -- where a call is refused, those before it were made
-  pub begun_by : (all cs ds : List (Call F G X)) (a b c : FluentBundle M C F G X) → all ≡ cs ++ ds → Makes of (ask (intls_in a)) cs a b → (of c ≡ of b) × Kept b c → BegunBy of (ask (intls_in a)) all a c
-  begun_by all cs ds a b c whole h same = record { made = cs; left = ds; whole = whole; makes = made_still of (ask (intls_in a)) cs a b c h same.0 same.1 }
+  -- where a call is refused, which takes memory, those before it were made
+  pub begun_by : (all cs ds : List (Call F G X)) (d : Call F G X) (a b c : FluentBundle M C F G X) → all ≡ cs ++ d ∷ ds → (TakesNoMemory d → ⊥) → Makes of (ask (intls_in a)) cs a b → (of c ≡ of b) × Kept b c → BegunBy of (ask (intls_in a)) all a c
+  begun_by all cs ds d a b c whole takes h same = record { made = cs; refused = d; left = ds; whole = whole; takes = takes; makes = made_still of (ask (intls_in a)) cs a b c h same.0 same.1 }
 
 -- what holds of all holds of each
 of_each : {K : Type 0} (P : K → Type 0) (cs : List K) (d : K) (ds : List K) → All P (cs ++ d ∷ ds) → P d

@@ -47,13 +47,6 @@ pub record Makes {M C F G X : Type 0} (of : FluentBundle M C F G X → Bundle Te
   pub transform : transform_in new ≡ transform_after_all calls (transform_in old)
   pub formatter : formatter_in new ≡ formatter_after_all calls (formatter_in old)
 
--- From old, some of the calls from the front on led to new.
-pub record BegunBy {M C F G X : Type 0} (of : FluentBundle M C F G X → Bundle Text) (ask : Call F G X → m.Call Text) (calls : List (Call F G X)) (old new : FluentBundle M C F G X) : Type 0 where
-  pub made : List (Call F G X)
-  pub left : List (Call F G X)
-  pub whole : calls ≡ made ++ left
-  pub makes : Makes of ask made old new
-
 -- a call that sets, and takes no memory
 abbrev pub TakesNoMemory : {F G X : Type 0} → Call F G X → Type 0
 TakesNoMemory (call.SetUseIsolating on) = ⊤
@@ -61,3 +54,12 @@ TakesNoMemory (call.SetTransform t) = ⊤
 TakesNoMemory (call.SetFormatter g) = ⊤
 TakesNoMemory (call.SetPlaceableLimit n) = ⊤
 TakesNoMemory _ = ⊥
+
+-- From old, the calls before one that takes memory led to new.
+pub record BegunBy {M C F G X : Type 0} (of : FluentBundle M C F G X → Bundle Text) (ask : Call F G X → m.Call Text) (calls : List (Call F G X)) (old new : FluentBundle M C F G X) : Type 0 where
+  pub made : List (Call F G X)
+  pub refused : Call F G X
+  pub left : List (Call F G X)
+  pub whole : calls ≡ made ++ refused ∷ left
+  pub takes : TakesNoMemory refused → ⊥
+  pub makes : Makes of ask made old new

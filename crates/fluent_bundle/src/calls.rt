@@ -78,8 +78,8 @@ impl<
     ///
     /// # Errors
     ///
-    /// Memory was refused at one of them, which the setters can't meet: those before it were made, and no other;
-    /// what the others hand over is dropped.
+    /// Memory was refused at one of them, which is no setter: those before it were made, and no other; what the
+    /// others hand over is dropped.
     pub fn make_all(&mut self, calls: Vec<Call<'r, 's, F, G, T>>) -> Result<(), AllocError>
         ensures ok { let of = ⟦<Self as Context<C>>⟧.meant in
             let ask = asked F.answer G.formatted T.changed (intls_in self.old) in

@@ -1,10 +1,12 @@
 //! The formatting calls of a bundle.
 #![tactic(auto, unfolding(crate::specs::BundleView::bundle_parts))]
 
-ghost use Rattle.std.specs.Prelude.{◌≡◌, ◌≢◌, ◌≤◌, ◌++◌, ◌&&◌, not, if◌then◌else◌, is_some, None, false, Err, IfOk, OnOk, IsOk, true, string_bytes};
+ghost use Rattle.std.specs.Prelude.{◌≡◌, ◌≢◌, ◌≤◌, ◌++◌, ◌&&◌, not, if◌then◌else◌, is_some, None, Some, false, Err, IfOk, OnOk, true, string_bytes};
 ghost use Rattle.std.specs.Option.{option_map};
 ghost use Rattle.fluent_meaning.specs.Value.{text_value};
+ghost use Rattle.fluent_text.specs.Unescaped.{Lends};
 ghost use Rattle.fluent_text.specs.Writer.{writer_in, failed_in, empty_in, CountsFault};
+ghost use Rattle.fluent_tree.specs.Tree.{Text};
 ghost use Rattle.fluent_tree.specs.View.{pattern_view};
 ghost use Rattle.fluent_meaning.specs.Result.{written_pattern};
 ghost use Rattle.fluent_bundle.specs.BundleView.{formatter_in, transform_in};
@@ -132,8 +134,8 @@ impl<
         ensures limit { let of = ⟦<Self as Context<C>>⟧.meant in
             let args = arguments_view C.content args.entry in
             KeepsLimit (of self.now) args (pattern_view pattern.now) }
-        ensures lent { is_some (sole_text (pattern_view pattern.now)) ≡ true →
-            transform_in self.now ≡ None → formatter_in self.now ≡ None → IsOk result }
+        ensures lent { (t : Text) → sole_text (pattern_view pattern.now) ≡ Some t →
+            transform_in self.now ≡ None → formatter_in self.now ≡ None → Lends result t }
     {
         laws::limits_are_kept();
         if let Some(text) = self.sole_text(pattern) {

@@ -1,7 +1,9 @@
 -- A chain of the code, and what its calls say.
-use Rattle.std.specs.Prelude.{◌≡◌, true, is_some, List, map, Option, Some, None, Result, ⊤}
+use Rattle.std.specs.Prelude.{◌≡◌, List, map, Option, Some, None, Result}
+use Rattle.std.specs.declared.alloc.AllocError.{AllocError}
 use Rattle.std.specs.declared.borrow.CowStr.{CowStr}
 use Rattle.std.proofs.Common.{Global}
+use Rattle.fluent_text.specs.Unescaped.{Lends}
 use Rattle.fluent_tree.specs.Tree.{Text, Pattern}
 use Rattle.fluent_meaning.specs.Value.{Value}
 use Rattle.fluent_meaning.specs.Arguments.{Map}
@@ -36,10 +38,10 @@ AnswersWhole id args found result list list' =
     let means = shown_of id args found in
     GivesText means.text means.errors result list list'
 
--- The id is answered, or a pattern that is one text, of a bundle without transform and formatter.
-abbrev pub AnswersWithoutMemory : {M C F G X : Type 0}
-    → Option (FluentBundle M C F G X × Pattern) → Type 0
-AnswersWithoutMemory None = ⊤
-AnswersWithoutMemory (Some found) =
-    (is_some (sole_text found.1) ≡ true)
-    × (transform_in found.0 ≡ None) × (formatter_in found.0 ≡ None)
+-- What is lent: the id, or a pattern that is one text, of a bundle without transform and formatter.
+abbrev pub LendsFound : {M C F G X : Type 0} → Text
+    → Option (FluentBundle M C F G X × Pattern) → Result (CowStr Global) AllocError → Type 0
+LendsFound id None result = Lends result id
+LendsFound id (Some found) result =
+    (t : Text) → sole_text found.1 ≡ Some t
+    → transform_in found.0 ≡ None → formatter_in found.0 ≡ None → Lends result t

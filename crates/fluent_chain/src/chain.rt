@@ -1,5 +1,5 @@
 //! Bundles that are asked in turn.
-ghost use Rattle.std.specs.Prelude.{◌≡◌, map, is_some, IsOk};
+ghost use Rattle.std.specs.Prelude.{◌≡◌, map, is_some};
 ghost use Rattle.std.specs.List.{list_any};
 ghost use Rattle.std.specs.Option.{option_map};
 ghost use Rattle.fluent_tree.specs.View.{pattern_view};
@@ -7,7 +7,7 @@ ghost use Rattle.fluent_values.specs.Status.{arguments_view};
 ghost use Rattle.fluent_bundle.specs.BundleView.{meant};
 ghost use Rattle.fluent_bundle.specs.Formatted.{AddsFront};
 ghost use Rattle.fluent_chain.specs.Chain.{value_at, attribute_at, first_with, shown_of};
-ghost use Rattle.fluent_chain.specs.ChainView.{bundles_of, AnswersWithin, AnswersWhole, AnswersWithoutMemory};
+ghost use Rattle.fluent_chain.specs.ChainView.{bundles_of, AnswersWithin, AnswersWhole, LendsFound};
 ghost use Rattle.fluent_chain.specs.Inside.Found.{bundle_found, pattern_at};
 
 use fluent_bundle::{
@@ -104,7 +104,7 @@ impl<
             AddsFront (shown_of id.now args found).errors errors.old.items errors.new.items }
         ensures lent { let of = meant M.category C.shown C.alike F.answer G.formatted T.changed in
             let found = first_with (λ b. value_at id.now (of b)) (bundles_of self.now) in
-            AnswersWithoutMemory found → IsOk result }
+            LendsFound id.now found result }
     {
         self.format(id, None, args, errors)
     }
@@ -139,7 +139,7 @@ impl<
         ensures lent { let of = meant M.category C.shown C.alike F.answer G.formatted T.changed in
             let found = first_with (λ b. attribute_at id.now name.now (of b))
             (bundles_of self.now) in
-            AnswersWithoutMemory found → IsOk result }
+            LendsFound id.now found result }
     {
         self.format(id, Some(name), args, errors)
     }
@@ -172,7 +172,7 @@ impl<
         ensures lent { let of = meant M.category C.shown C.alike F.answer G.formatted T.changed in
             let name = option_map (λ n. n.now) attribute.entry in
             let found = first_with (λ b. pattern_at id.now name (of b)) (bundles_of self.now) in
-            AnswersWithoutMemory found → IsOk result }
+            LendsFound id.now found result }
     {
         match self.find(id, attribute) {
             Some((bundle, pattern)) => bundle.format_pattern(pattern, args, errors),

@@ -69,12 +69,14 @@ module _ (n n' : Text → Option ℕ) (t t' : List Pattern) (kept : KeepsNumbers
   still_kept ps ls h = record {
     each = λ k p l at here. still_of n n' t t' kept grows p l (h.each k p l at here);
     left = h.left;
+    all = h.all;
   }
 
   pub still_kept_of : (v : Option Pattern) (ps : List Pattern) (k : Option (Box Kept)) → IsKeptOf n t v ps k → IsKeptOf n' t' v ps k
   still_kept_of v ps k h = record {
     value = λ p l at here. still_of n n' t t' kept grows p l (h.value p l at here);
     left = h.left;
+    none = h.none;
     attributes = still_kept ps (attributes_kept k) h.attributes;
   }
 
@@ -82,7 +84,7 @@ module _ (n n' : Text → Option ℕ) (t t' : List Pattern) (kept : KeepsNumbers
   still_linked s h = still_kept_of (value_in s.entry) (attributes_in s.entry) s.kept h
 
   pub still_value : (v : Option Pattern) (l : Option Linked) → IsValueKept n t v l → IsValueKept n' t' v l
-  still_value v l h = record { value = λ p l' at here. still_of n n' t t' kept grows p l' (h.value p l' at here); left = h.left }
+  still_value v l h = record { value = λ p l' at here. still_of n n' t t' kept grows p l' (h.value p l' at here); left = h.left; none = h.none }
 
   more_of : (ps : List Pattern) (ls : List Linked) (p : Pattern) (l : Linked) → AreOf n t ps ls → IsOf n' t' p l → AreOf n' t' (ps ++ p ∷ []) (ls ++ l ∷ [])
   more_of [] [] p l h one = (one, tt)
@@ -106,6 +108,12 @@ module _ (n : Text → Option ℕ) (t : List Pattern) where
   each_of (x ∷ ps) (y ∷ ls) h zero p l at here = subst (λ l. IsOf n t p l) (some_is y l here) (subst (λ p. IsOf n t p y) (some_is x p at) h.0)
   each_of (x ∷ ps) (y ∷ ls) h (suc k) p l at here = each_of ps ls h.1 k p l at here
 
+  as_many : (ps : List Pattern) (ls : List Linked) → AreOf n t ps ls → length ls ≡ length ps
+  as_many [] [] h = refl
+  as_many [] (l ∷ ls) h = absurd h
+  as_many (p ∷ ps) [] h = absurd h
+  as_many (p ∷ ps) (l ∷ ls) h = ap (λ k. suc k) (as_many ps ls h.1)
+
   -- none is left out
   none_left : (ps : List Pattern) (ls : List Linked) → AreOf n t ps ls → (k : ℕ) (p : Pattern) → slice_get ps k ≡ Some p → slice_get ls k ≡ None → RefersToNothing p
   none_left [] ls h k p at here = absurd cc
@@ -119,7 +127,7 @@ module _ (n : Text → Option ℕ) (t : List Pattern) where
 
   -- what is kept of attributes, of each
   pub all_kept : (ps : List Pattern) (ls : List Linked) → AreOf n t ps ls → AreKept n t ps ls
-  all_kept ps ls h = record { each = each_of ps ls h; left = none_left ps ls h }
+  all_kept ps ls h = record { each = each_of ps ls h; left = none_left ps ls h; all = λ some. as_many ps ls h }
 
   -- or of none, where they are texts
   text_left : (ps : List Pattern) → list_all is_text ps ≡ true → (k : ℕ) (p : Pattern) → slice_get ps k ≡ Some p → RefersToNothing p
@@ -128,23 +136,25 @@ module _ (n : Text → Option ℕ) (t : List Pattern) where
   text_left (x ∷ ps) texts (suc k) p at = text_left ps (and_parts (is_text x) (list_all is_text ps) texts).1 k p at
 
   pub texts_kept : (ps : List Pattern) → list_all is_text ps ≡ true → AreKept n t ps []
-  texts_kept ps texts = record { each = λ k p l at here. absurd (none_at k l here); left = λ k p at here. text_left ps texts k p at }
+  texts_kept ps texts = record { each = λ k p l at here. absurd (none_at k l here); left = λ k p at here. text_left ps texts k p at; all = λ some. absurd (some refl) }
 
   -- what is kept of a value
   pub one_value : (p : Pattern) (l : Linked) → IsOf n t p l → IsValueKept n t (Some p) (Some l)
   one_value p l h = record {
     value = λ p' l' at here. subst (IsOf n t p') (some_is l l' here) (subst (λ p. IsOf n t p l) (some_is p p' at) h);
     left = λ p' at here. absurd cc;
+    none = λ at. absurd cc;
   }
 
   pub text_value : (p : Pattern) → is_text p ≡ true → IsValueKept n t (Some p) None
   text_value p is = record {
     value = λ p' l at here. absurd cc;
     left = λ p' at here. subst RefersToNothing (some_is p p' at) (refers_to_nothing p is);
+    none = λ at. refl;
   }
 
-  pub no_value : (l : Option Linked) → IsValueKept n t None l
-  no_value l = record { value = λ p l' at here. absurd cc; left = λ p at here. absurd cc }
+  pub no_value : IsValueKept n t None None
+  no_value = record { value = λ p l at here. absurd cc; left = λ p at here. absurd cc; none = λ at. refl }
 
   bare_value : (v : Option Pattern) (l : Option Linked) → IsValueKept n t v l → is_value_bare l ≡ true → (p : Pattern) → v ≡ Some p → RefersToNothing p
   bare_value v None h bare p at = h.left p at refl
@@ -164,11 +174,13 @@ module _ (n : Text → Option ℕ) (t : List Pattern) where
   both_kept v ps l ls None value all keeps = record {
     value = λ p l' at here. absurd cc;
     left = λ p at here. bare_value v l value keeps.0 p at;
-    attributes = record { each = λ i p l' at here. absurd (none_at i l' here); left = λ i p at here. bare_all ps ls all keeps.1 i p at (slice_get ls i) refl };
+    none = λ at. refl;
+    attributes = record { each = λ i p l' at here. absurd (none_at i l' here); left = λ i p at here. bare_all ps ls all keeps.1 i p at (slice_get ls i) refl; all = λ some. absurd (some refl) };
   }
   both_kept v ps l ls (Some k) value all keeps = record {
     value = λ p l' at here. value.value p l' at (sym keeps.0 ∙ here);
     left = λ p at here. value.left p at (sym keeps.0 ∙ here);
+    none = λ at. ap is_none keeps.0 ∙ value.none at;
     attributes = subst (AreKept n t ps) (sym keeps.1) all;
   }
 
@@ -177,7 +189,7 @@ module _ (n : Text → Option ℕ) (t : List Pattern) where
   plain_linked s at none here =
       subst (λ v. IsKeptOf n t v (attributes_in s.entry) s.kept) (sym at)
       (subst (λ ps. IsKeptOf n t None ps s.kept) (sym none)
-      (both_kept None [] None [] s.kept (no_value None) (all_kept [] [] tt) (subst (Keeps None []) (sym here) (refl, refl))))
+      (both_kept None [] None [] s.kept no_value (all_kept [] [] tt) (subst (Keeps None []) (sym here) (refl, refl))))
 
 module _ {F : Type 0} where
   -- no slots

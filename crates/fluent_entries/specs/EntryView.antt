@@ -1,10 +1,7 @@
 -- What ids name, by content.
-use Rattle.std.specs.Prelude.{Bool, List, map, Option, Some, None}
+use Rattle.std.specs.Prelude.{List, map, Option, Some, None}
 use Rattle.std.specs.List.{filter_map}
 use Rattle.std.specs.Option.{option_map}
-use Rattle.std.specs.HashSet.{HashSet, contains_by}
-use Rattle.std.specs.Str.{bytes_eq}
-use Rattle.std.proofs.Common.{Bor}
 use Rattle.fluent_tree.specs.Tree.{Text, Pattern, Attributes}
 use Rattle.fluent_tree.specs.View as view
 use Rattle.fluent_tree.specs.View.{attribute_view, pattern_view}
@@ -39,10 +36,6 @@ filled f ss = filter_map (λ s. option_map (λ x. (s.0, f x)) (named s.0 ss)) ss
 
 unfoldable pub ids : {F : Type 0} → (F → Function Text) → Ids F → Map (m.Entry Text)
 ids answer m = by_name (filled (λ s. entry_of answer s.entry) (slots m.known))
-
--- a set of texts has this one
-abbrev pub has : {S : Type 0} → HashSet (Bor Text) S → Text → Bool
-has s q = contains_by (λ k. bytes_eq q k.now) s
 
 -- the message that an id names
 abbrev pub message_content : {C : Type 0} → Option (m.Entry C) → Option Content

@@ -1,5 +1,5 @@
 -- What is kept of the patterns of what ids name.
-use Rattle.std.specs.Prelude.{◌≡◌, ℕ, List, [], ◌∷◌, map, slice_get, is_none, Bool, true, false, Option, Some, None}
+use Rattle.std.specs.Prelude.{◌≡◌, ℕ, List, [], ◌∷◌, length, map, slice_get, is_none, Bool, true, false, Option, Some, None}
 use Rattle.std.specs.Global.{Box}
 use Rattle.std.specs.List.{list_all}
 use mathlib.Core.HLevel.{hedberg}
@@ -66,20 +66,23 @@ Keeps value attributes (Some k) = (k.value.value ≡ value) × (k.value.attribut
 abbrev pub RefersToNothing : Pattern → Type 0
 RefersToNothing p = are_some (references p) ≡ false
 
--- Of each attribute's pattern that refers to anything, something is kept at its place; what is kept is of its pattern.
+-- Of each attribute's pattern that refers to anything, something is kept at its place; what is kept is of its pattern, and there is one for each, or none.
 pub record AreKept (number : Text → Option ℕ) (table ps : List Pattern) (ls : List Linked) : Type 0 where
   pub each : (k : ℕ) (p : Pattern) (l : Linked) → slice_get ps k ≡ Some p → slice_get ls k ≡ Some l → IsOf number table p l
   pub left : (k : ℕ) (p : Pattern) → slice_get ps k ≡ Some p → slice_get ls k ≡ None → RefersToNothing p
+  pub all : (ls ≡ [] → ⊥) → length ls ≡ length ps
 
--- what is kept of a value is its own; of one that refers to anything something is kept
+-- what is kept of a value is its own; of one that refers to anything something is kept, and of none nothing
 pub record IsValueKept (number : Text → Option ℕ) (table : List Pattern) (v : Option Pattern) (kept : Option Linked) : Type 0 where
   pub value : (p : Pattern) (l : Linked) → v ≡ Some p → kept ≡ Some l → IsOf number table p l
   pub left : (p : Pattern) → v ≡ Some p → kept ≡ None → RefersToNothing p
+  pub none : v ≡ None → is_none kept ≡ true
 
 -- the same of a value and of attributes
 pub record IsKeptOf (number : Text → Option ℕ) (table : List Pattern) (v : Option Pattern) (ps : List Pattern) (kept : Option (Box Kept)) : Type 0 where
   pub value : (p : Pattern) (l : Linked) → v ≡ Some p → value_kept kept ≡ Some l → IsOf number table p l
   pub left : (p : Pattern) → v ≡ Some p → value_kept kept ≡ None → RefersToNothing p
+  pub none : v ≡ None → is_none (value_kept kept) ≡ true
   pub attributes : AreKept number table ps (attributes_kept kept)
 
 -- what is kept in a slot is that of its entry's patterns

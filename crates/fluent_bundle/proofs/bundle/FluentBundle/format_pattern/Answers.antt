@@ -1,10 +1,10 @@
 use Rattle.std.proofs.Common.{rules, sym, ap, ◌∙◌}
-use Rattle.std.specs.Option.{option_map}
+use Rattle.std.specs.Option.{option_map, unwrap_or}
 use Rattle.fluent_tree.specs.View.{pattern_view}
 use Rattle.fluent_meaning.specs.Bundle.{transform_of, formatter_of}
 use Rattle.fluent_bundle.specs.BundleView.{formatter_in, intls_in, meant, transform_in}
 use Rattle.fluent_values.specs.Status.{arguments_view}
-use Rattle.fluent_bundle.proofs.Givings.{gives_within, lent_where, sole_formatted, none_added}
+use Rattle.fluent_bundle.proofs.Givings.{gives_within, lent_where, sole_formatted, sole_known, none_added}
 use Rattle.fluent_bundle.proofs.bundle.FluentBundle.format_pattern.Goals as goal
 
 pub returns-in-Some-clause-whole : goal.returns-in-Some-clause-whole
@@ -62,3 +62,7 @@ pub returns-in_err-shown-clause-limit : goal.returns-in_err-shown-clause-limit
 returns-in_err-shown-clause-limit g c =
     let b = meant g.M.MemoizerKind.category g.C.FluentType.shown g.C.FluentType.alike g.F.FluentFunction.answer g.G.FluentFormatter.formatted g.T.Transform.changed c.args.self.now in
     c.limits_are_kept.ensures b (arguments_view g.C.FluentType.content c.args.args) (pattern_view c.args.pattern.now)
+
+pub returns-in-Some-clause-lent : goal.returns-in-Some-clause-lent
+returns-in-Some-clause-lent g c = λ t is a b.
+    ap (λ o. unwrap_or o t) (sym (ap (option_map (λ t. t.now)) c.in-Some.is) ∙ sole_known (transform_in c.args.self.now) (formatter_in c.args.self.now) (pattern_view c.args.pattern.now) t _ c.sole_text.ensures is a b)

@@ -17,9 +17,12 @@ loop-call-preserved g c =
 
 pub returns-in_err-make-clause-err : goal.returns-in_err-make-clause-err
 returns-in_err-make-clause-err g c =
+    let whole = c.loop-call.invariant.whole ∙ ap (λ xs. c.loop-call.yielded ++ xs) c.in-Some.ensures.steps.0 in
+    let takes : TakesNoMemory c.in-Some.call → ⊥ = λ few. let no : false ≡ true = c.in_err-make.ensures.succeeds few in cc in
     on_err c.from_residual.result
-    (begun_by _ (asked g.F.FluentFunction.answer g.G.FluentFormatter.formatted g.T.Transform.changed) c.args.calls.items c.loop-call.yielded _ c.args.self.now c.loop-call.self c.make.new.self
-    c.loop-call.invariant.whole
+    (begun_by _ (asked g.F.FluentFunction.answer g.G.FluentFormatter.formatted g.T.Transform.changed) c.args.calls.items c.loop-call.yielded _ c.in-Some.call c.args.self.now c.loop-call.self c.make.new.self
+    whole
+    takes
     c.loop-call.invariant.made
     c.in_err-make.ensures.err)
 
