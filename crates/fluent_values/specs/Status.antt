@@ -1,5 +1,5 @@
 -- What a scope is, by content.
-use Rattle.std.specs.Prelude.{◌≡◌, ℕ, ◌-◌, ◌^◌, ◌≤◌, min, List, [], ◌++◌, map, Bool, true, false, Option, None, Some}
+use Rattle.std.specs.Prelude.{◌≡◌, ℕ, ◌-◌, ◌^◌, ◌≤◌, min, List, [], ◌++◌, map, Bool, Option, None, Some}
 use Rattle.std.specs.Option.{option_map}
 use Rattle.std.specs.Borrow.{Bor, MutBor}
 use Rattle.std.specs.declared.vec.Vec.{Vec}
@@ -35,10 +35,6 @@ arguments_view content (Some a) = named content a.now
 abbrev pub environment_view : {C : Type 0} → (C → Text) → environments.Environment C → Environment Text
 environment_view content (environment.Application a) = application (arguments_view content a)
 environment_view content (environment.Local a) = local (named content a)
-
-abbrev pub is_local : Environment Text → Bool
-is_local (application m) = false
-is_local (local m) = true
 
 -- a list of errors, by content
 abbrev pub reported : List FluentError → List Error
