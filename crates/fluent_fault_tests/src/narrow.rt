@@ -8,7 +8,7 @@ use fluent_bundle::{Counting, FluentArgs, FluentError};
 use fluent_fixtures::common::read;
 use fluent_fixtures::objects::Star;
 use fluent_fixtures::settings::{Bundle, arguments, bundle_of, pattern_in};
-use fluent_fixtures::writers::{End, How, Narrow, end_of, narrow};
+use fluent_fixtures::writers::{End, How, Narrow, end_of, narrow_writer};
 use std::alloc::Global;
 use std::process::Abort;
 use std::test::Fail;
@@ -88,7 +88,7 @@ fn ends_in(
 ) -> Result<(), Fail> {
     let pattern = pattern_in(bundle, "p")?;
     let mut noted = Noted::new(alloc)?;
-    let mut w = narrow(alloc, row.takes);
+    let mut w = narrow_writer(alloc, row.takes);
     let end = write(bundle, pattern, args, &mut w, &mut noted.errors);
     check(rt, end == row.end, row.text);
     check(rt, has_taken(w, row), row.text);

@@ -42,7 +42,7 @@ impl Write for Narrow {
 }
 
 /// Such a writer, which has taken nothing.
-pub fn narrow(alloc: Global, how: How) -> Counting<Narrow> {
+pub fn narrow_writer(alloc: Global, how: How) -> Counting<Narrow> {
     Counting::new(Narrow {
         taken: Vec::new(alloc),
         room: how.in_all,
@@ -101,7 +101,7 @@ pub fn all<'x>(text: &'x str, errors: &'x str) -> Told<'x> {
 /// The writer of a row, which has taken nothing.
 pub fn writer(alloc: Global, told: &Told<'_>) -> Counting<Narrow> {
     let (at_once, in_all) = told.takes;
-    narrow(
+    narrow_writer(
         alloc,
         How {
             at_once,

@@ -5,7 +5,7 @@ use fluent_bundle::{Counting, FluentArgs, FluentError};
 use fluent_fixtures::common::read;
 use fluent_fixtures::objects::{Answer, Star};
 use fluent_fixtures::settings::{Bundle, Given, Named, Setting, arguments, bundle_of, value_in};
-use fluent_fixtures::writers::{End, How, Narrow, end_of, narrow};
+use fluent_fixtures::writers::{End, How, Narrow, end_of, narrow_writer};
 use std::alloc::{AllocError, Global};
 use std::process::Abort;
 
@@ -49,7 +49,7 @@ fn stops(
     how: How,
     text: &str,
 ) -> bool {
-    let mut w = narrow(alloc, how);
+    let mut w = narrow_writer(alloc, how);
     let end = ended(asked, &mut w, errors);
     if end == End::Memory {
         return false;
@@ -213,7 +213,7 @@ fn goes(
         in_all: text.len(),
         fails: true,
     };
-    let mut w = narrow(alloc, how);
+    let mut w = narrow_writer(alloc, how);
     let end = ended(asked, &mut w, errors);
     if end == End::Memory {
         return false;
