@@ -1,5 +1,6 @@
 //! What no clause says: that formatting succeeds, the rows of its texts, and what comes through odd writers.
-ghost use Rattle.std.specs.Prelude.{◌≡◌, is_some, true, IsTrue};
+ghost use Rattle.std.specs.Prelude.{◌≡◌, Some, IsTrue};
+ghost use Rattle.fluent_tree.specs.Tree.{Text};
 ghost use Rattle.fluent_tree.specs.View.{pattern_view};
 ghost use Rattle.fluent_values.specs.Texts.{sole_text};
 
@@ -295,7 +296,7 @@ pub fn formats<'s>(
 
 /// A pattern of one text is formatted by a new bundle, even where no memory is left.
 fn is_formatted(alloc: Global, pattern: &Pattern<'_>) -> bool
-    ensures { is_some (sole_text (pattern_view pattern.now)) ≡ true → IsTrue result }
+    ensures { (t : Text) → sole_text (pattern_view pattern.now) ≡ Some t → IsTrue result }
 {
     let mut made: Bundle<'_, '_> = FluentBundle::new(alloc, Vec::new(alloc), EnglishPlurals);
     made.set_use_isolating(false);
