@@ -22,7 +22,8 @@ pub enum Reference<'s> {
 /// stands in its arguments, positional ones before named ones, a select's selector before its variants. Of what is
 /// referred to it looks at nothing. The ids are lent by the source.
 ///
-/// Memory is taken for the list alone. Where that is refused, nothing is left of it, and the call can be made again.
+/// Memory is taken for the list alone, and none where the pattern refers to nothing: that call is never refused. Where
+/// memory is refused, nothing is left of the list, and the call can be made again.
 pub fn references<'s>(
     alloc: Global,
     pattern: &Pattern<'s>,
