@@ -1,10 +1,10 @@
 -- Links gathered part after part.
 use Rattle.std.proofs.Common.{◌≡◌, ℕ, ◌+◌, ◌<◌, List, [], ◌∷◌, ◌++◌, length, get_or, map, drop, take, Bool, true, false, is_some, nat_eq, true≢false, arith, if◌then◌else◌, Option, Some, None, refl, ap, sym, subst, ◌∙◌, unwrap_or}
 use Rattle.std.proofs.lemmas.Bool.{eqb-true}
-use Rattle.std.proofs.lemmas.List.{append_assoc, append-nil, map-append, take-append-drop, take_more}
+use Rattle.std.proofs.lemmas.List.{append_assoc, append-nil, length-append, map-append, take-append-drop, take_more}
 use Rattle.std.proofs.lemmas.List.Sums.{fold-append}
 use Rattle.fluent_tree.specs.Tree.{Text, Pattern}
-use Rattle.fluent_tree.specs.References.{Reference, references}
+use Rattle.fluent_tree.specs.References.{AreSome, Reference, references}
 use Rattle.fluent_links.specs.Classes.{HasClass, with_class}
 use Rattle.fluent_links.specs.Linked.{IsClassOf, are_some, with_referring}
 use Rattle.fluent_links.specs.Links.{id_of, KeepsNumbers}
@@ -99,6 +99,11 @@ module _ {P : Type 0} (f : P → List Reference) (L : List P → List Reference)
       begins_as a c (L (take i xs) ++ (f x ++ L (drop (i + 1) xs))) (L xs) (next_left xs i x h is)
       (begins_on a b c (L (take i xs)) (f x ++ L (drop (i + 1) xs)) first.0 (begins_more b c (f x) (L (drop (i + 1) xs)) second))
 
+  -- a reference in one part is a reference in all
+  pub some_in : (xs : List P) (i : ℕ) (x : P) → i < length xs → x ≡ get_or xs i x → (rs : List Reference) → L xs ≡ rs → AreSome (f x) → AreSome rs
+  some_in xs i x h is rs all some =
+      omega (arith, ap length (next_left xs i x h is ∙ all), length-append (L (take i xs)) (f x ++ L (drop (i + 1) xs)), length-append (f x) (L (drop (i + 1) xs)))
+
   -- after one more part
   pub adds_next : {X : Type 0} (xs : List P) (i : ℕ) (x : P) → i < length xs → x ≡ get_or xs i x → (a b c : Entries X) (ls ls' ls'' : List ℕ) → AppendsLinks a b ls ls' (L (take i xs)) → AppendsLinks b c ls' ls'' (f x) → AppendsLinks a c ls ls'' (L (take (i + 1) xs))
   adds_next xs i x h is a b c ls ls' ls'' first second = adds_as a c ls ls'' (L (take i xs) ++ f x) (L (take (i + 1) xs)) (next_taken xs i x h is) (adds_on a b c ls ls' ls'' (L (take i xs)) (f x) first second)
@@ -110,6 +115,12 @@ pub none_referred : (number : Text → Option ℕ) (rs : List Reference) (ls : L
 none_referred number [] ls h are = refl
 none_referred number (r ∷ rs) [] h are = absurd cc
 none_referred number (r ∷ rs) (l ∷ ls) h are = absurd cc
+
+-- no references have no links
+pub none_linked : (number : Text → Option ℕ) (rs : List Reference) (ls : List ℕ) → rs ≡ [] → AreNumbers number rs ls → ls ≡ []
+none_linked number [] [] h are = refl
+none_linked number [] (l ∷ ls) h are = absurd cc
+none_linked number (r ∷ rs) ls h are = absurd cc
 
 -- by a test of their count
 pub no_items : (ls : List ℕ) (b : Bool) → b ≡ nat_eq (length ls) 0 → b ≡ true → ls ≡ []

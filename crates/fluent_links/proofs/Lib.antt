@@ -1,5 +1,6 @@
 mod Distinct
 mod Fed
 mod Gathered
+mod HashedRows
 mod Passed
 mod Slotted

@@ -4,11 +4,16 @@ use Rattle.std.specs.Cow.{cow_str_bytes}
 use Rattle.std.specs.Map.{lookup, keys_of}
 use Rattle.std.specs.Option.{option_map}
 use Rattle.std.specs.Str.{bytes_eq}
+use Rattle.indexmap.specs.IndexMap.{spare}
 use Rattle.fluent_tree.specs.Tree.{Text}
 use Rattle.fluent_links.specs.declared.slots.Slots.{Slots}
 
 unfoldable pub slots : {X : Type 0} → Slots X → List (Text × Option X)
 slots s = map (λ e. (cow_str_bytes e.0, e.1)) s.ids.entries
+
+-- how many more ids there is room for
+abbrev pub room : {X : Type 0} → Slots X → ℕ
+room s = spare s.ids
 
 -- the place of an id among them
 abbrev pub number : {X : Type 0} → List (Text × Option X) → Text → Option ℕ

@@ -1,5 +1,5 @@
 //! What is kept of a stored pattern.
-ghost use Rattle.std.specs.Prelude.{◌≡◌, ℕ, List, Option, Some, IfOk, OnErr, OnOk};
+ghost use Rattle.std.specs.Prelude.{◌≡◌, ℕ, List, [], Option, Some, None, IfOk, IsOk, OnErr, OnOk};
 ghost use Rattle.fluent_tree.specs.Tree as t;
 ghost use Rattle.fluent_tree.specs.Tree.{Text};
 ghost use Rattle.fluent_tree.specs.View.{pattern_view};
@@ -46,7 +46,8 @@ impl Linked {
     }
 
     /// Links a pattern that is going to be stored: each id that it refers to gets a number, and the pattern its class,
-    /// where there are such ids. What ids name stays.
+    /// where there are such ids. One that refers to nothing has none, takes no memory, and is never refused. What ids
+    /// name stays.
     ///
     /// # Errors
     ///
@@ -68,6 +69,10 @@ impl Linked {
             ≡ with_slots (references (pattern_view pattern.now)) (slots_of slots.old)) }
         ensures stored { OnOk result (table classes.new
             ≡ with_content (pattern_view pattern.now) (table classes.old)) }
+        // Where it refers to nothing, no memory is asked for, and it has no class.
+        ensures succeeds { references (pattern_view pattern.now) ≡ [] → IsOk result }
+        ensures classless { references (pattern_view pattern.now) ≡ [] →
+            IfOk result (λ l. class_of l ≡ None) }
         // The first references may have slots, but no content is stored.
         ensures begun { OnErr result (SlotsOfFront (slots_of slots.old) (slots_of slots.new)
             (references (pattern_view pattern.now))) }

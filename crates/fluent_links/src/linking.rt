@@ -1,7 +1,7 @@
 //! Links gathered in the order of the tree.
 ghost use Rattle.std.specs.Prelude.{◌≡◌, [], ◌∷◌, OnErr, OnOk};
 ghost use Rattle.fluent_tree.specs.View.{arguments_view, call_view, element_view, expression_view, inline_view, pattern_view};
-ghost use Rattle.fluent_tree.specs.References.{Reference, in_arguments, in_call, in_element, in_expression, in_inline, in_named, in_positional, in_variants, inlines_view, nameds_view, references, variants_view};
+ghost use Rattle.fluent_tree.specs.References.{AreSome, Reference, in_arguments, in_call, in_element, in_expression, in_inline, in_named, in_positional, in_variants, inlines_view, nameds_view, references, variants_view};
 ghost use Rattle.fluent_links.specs.Links.{id_of};
 ghost use Rattle.fluent_links.specs.Linking.{AppendsLinks, SlotsOfFront};
 ghost use Rattle.fluent_links.specs.Slots.{slots as slots_of};
@@ -39,6 +39,7 @@ pub fn link_pattern<'s, X: Drop>(
         links.old.items links.new.items (references (pattern_view pattern.now))) }
     ensures err { OnErr result (SlotsOfFront (slots_of slots.old) (slots_of slots.new)
         (references (pattern_view pattern.now))) }
+    ensures refused { OnErr result (AreSome (references (pattern_view pattern.now))) }
 {
     for element in &pattern.elements {
         link_element(links, slots, element)?;
@@ -56,6 +57,7 @@ fn link_element<'s, X: Drop>(
         links.old.items links.new.items (in_element (element_view element.now))) }
     ensures err { OnErr result (SlotsOfFront (slots_of slots.old) (slots_of slots.new)
         (in_element (element_view element.now))) }
+    ensures refused { OnErr result (AreSome (in_element (element_view element.now))) }
 {
     match element {
         PatternElement::TextElement { .. } => Ok(()),
@@ -73,6 +75,7 @@ fn link_expression<'s, X: Drop>(
         links.old.items links.new.items (in_expression (expression_view expression.now))) }
     ensures err { OnErr result (SlotsOfFront (slots_of slots.old) (slots_of slots.new)
         (in_expression (expression_view expression.now))) }
+    ensures refused { OnErr result (AreSome (in_expression (expression_view expression.now))) }
 {
     match expression {
         Expression::Inline(inline) => link_inline(links, slots, inline),
@@ -94,6 +97,7 @@ fn link_variants<'s, X: Drop>(
         links.old.items links.new.items (in_variants (variants_view variants.now))) }
     ensures err { OnErr result (SlotsOfFront (slots_of slots.old) (slots_of slots.new)
         (in_variants (variants_view variants.now))) }
+    ensures refused { OnErr result (AreSome (in_variants (variants_view variants.now))) }
 {
     for variant in variants {
         link_pattern(links, slots, &variant.value)?;
@@ -111,6 +115,7 @@ fn link_inline<'s, X: Drop>(
         links.old.items links.new.items (in_inline (inline_view inline.now))) }
     ensures err { OnErr result (SlotsOfFront (slots_of slots.old) (slots_of slots.new)
         (in_inline (inline_view inline.now))) }
+    ensures refused { OnErr result (AreSome (in_inline (inline_view inline.now))) }
 {
     match inline {
         InlineExpression::FunctionReference { id, arguments } => {
@@ -141,6 +146,7 @@ fn link_call<'s, X: Drop>(
         links.old.items links.new.items (in_call (call_view arguments.now))) }
     ensures err { OnErr result (SlotsOfFront (slots_of slots.old) (slots_of slots.new)
         (in_call (call_view arguments.now))) }
+    ensures refused { OnErr result (AreSome (in_call (call_view arguments.now))) }
 {
     match arguments {
         Some(arguments) => link_arguments(links, slots, arguments),
@@ -158,6 +164,7 @@ fn link_arguments<'s, X: Drop>(
         links.old.items links.new.items (in_arguments (arguments_view arguments.now))) }
     ensures err { OnErr result (SlotsOfFront (slots_of slots.old) (slots_of slots.new)
         (in_arguments (arguments_view arguments.now))) }
+    ensures refused { OnErr result (AreSome (in_arguments (arguments_view arguments.now))) }
 {
     link_positional(links, slots, &arguments.positional)?;
     link_named(links, slots, &arguments.named)?;
@@ -174,6 +181,7 @@ fn link_positional<'s, X: Drop>(
         links.old.items links.new.items (in_positional (inlines_view positional.now))) }
     ensures err { OnErr result (SlotsOfFront (slots_of slots.old) (slots_of slots.new)
         (in_positional (inlines_view positional.now))) }
+    ensures refused { OnErr result (AreSome (in_positional (inlines_view positional.now))) }
 {
     for argument in positional {
         link_inline(links, slots, argument)?;
@@ -191,6 +199,7 @@ fn link_named<'s, X: Drop>(
         links.old.items links.new.items (in_named (nameds_view named.now))) }
     ensures err { OnErr result (SlotsOfFront (slots_of slots.old) (slots_of slots.new)
         (in_named (nameds_view named.now))) }
+    ensures refused { OnErr result (AreSome (in_named (nameds_view named.now))) }
 {
     for argument in named {
         link_inline(links, slots, &argument.value)?;

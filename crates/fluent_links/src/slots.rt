@@ -1,12 +1,12 @@
 //! Slots by number.
-ghost use Rattle.std.specs.Prelude.{◌≡◌, [], ◌∷◌, ◌++◌, IfOk, OnOk, OnErr, Some, None, if◌then◌else◌};
+ghost use Rattle.std.specs.Prelude.{◌≡◌, ◌<◌, ◌≤◌, ◌+◌, ◌^◌, [], ◌∷◌, ◌++◌, length, IfOk, IsOk, OnOk, OnErr, Some, None, if◌then◌else◌};
 ghost use Rattle.std.specs.Cow.{cow_str_bytes};
 ghost use Rattle.std.specs.Option.{option_map};
 ghost use Rattle.std.specs.Str.{bytes_eq};
 ghost use Rattle.indexmap.specs.Layout.{set_value_at};
 ghost use Rattle.fluent_tree.specs.Tree.{Text};
 ghost use Rattle.fluent_links.specs.Links.{KeepsNumbers};
-ghost use Rattle.fluent_links.specs.Slots.{slots, number as number_in, named, slot_at, with_slot};
+ghost use Rattle.fluent_links.specs.Slots.{room, slots, number as number_in, named, slot_at, with_slot};
 
 use indexmap::IndexMap;
 use std::alloc::{AllocError, Global};
@@ -14,7 +14,8 @@ use std::borrow::CowStr;
 
 /// The place as a number, which has 32 bits.
 fn as_number(place: usize) -> Result<u32, AllocError>
-    ensures { IfOk result (λ n. n ≡ place) }
+    ensures number { IfOk result (λ n. n ≡ place) }
+    ensures succeeds { place < 2 ^ 32 → IsOk result }
 {
     u32::try_from(place).map_err(|_| AllocError)
 }
@@ -57,7 +58,8 @@ impl<'s, X> Slots<'s, X> {
 }
 
 impl<'s, X: Drop> Slots<'s, X> {
-    /// The number of an id: its own, or a new one with an empty slot. What ids name stays.
+    /// The number of an id: its own, or a new one with an empty slot, for which memory is taken where there is no room
+    /// left. What ids name stays.
     ///
     /// # Errors
     ///
@@ -70,6 +72,9 @@ impl<'s, X: Drop> Slots<'s, X> {
         ensures ok { OnOk result (slots self.new
             ≡ with_slot (cow_str_bytes id.entry) (slots self.old)) }
         ensures err { OnErr result (slots self.new ≡ slots self.old) }
+        // With room it isn't refused while there are numbers, and it uses up the room of one.
+        ensures succeeds { 0 < room self.old → length (slots self.old) < 2 ^ 32 → IsOk result }
+        ensures room { room self.old ≤ room self.new + 1 }
     {
         if let Some(place) = self.ids.get_index_of(id.as_str()) {
             return as_number(place);
@@ -79,14 +84,18 @@ impl<'s, X: Drop> Slots<'s, X> {
         Ok(number)
     }
 
-    /// Makes room for so many more ids, so that giving them numbers moves nothing. What ids name stays.
+    /// Makes room for so many more ids, so that giving them numbers moves nothing and takes no memory. What ids name
+    /// stays.
     ///
     /// # Errors
     ///
     /// Memory was refused.
     #[tactic(auto, unfolding(crate::specs::Slots::slots))]
     pub fn reserve(&mut self, more: usize) -> Result<(), AllocError>
-        ensures { slots self.new ≡ slots self.old }
+        ensures slots { slots self.new ≡ slots self.old }
+        ensures room { OnOk result (more ≤ room self.new) }
+        ensures kept { room self.old ≤ room self.new }
+        ensures succeeds { more ≤ room self.old → IsOk result }
     {
         self.ids.reserve(more)
     }
@@ -98,6 +107,8 @@ impl<'s, X: Drop> Slots<'s, X> {
         ensures ok { OnOk result (slots self.new
             ≡ slots self.old ++ (cow_str_bytes id.entry, None) ∷ []) }
         ensures err { OnErr result (slots self.new ≡ slots self.old) }
+        ensures succeeds { 0 < room self.old → IsOk result }
+        ensures room { room self.old ≤ room self.new + 1 }
     {
         self.ids.insert(id, None)?;
         Ok(())

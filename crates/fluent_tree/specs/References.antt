@@ -1,5 +1,5 @@
 -- What a pattern refers to, in the order of the tree.
-use Rattle.std.specs.Prelude.{◌≡◌, List, [], ◌∷◌, ◌++◌, map, Vec}
+use Rattle.std.specs.Prelude.{◌≡◌, ◌<◌, List, [], ◌∷◌, ◌++◌, length, map, Vec}
 use Rattle.std.specs.declared.alloc.Global.{Global}
 use Rattle.fluent_tree.specs.Tree.{Text, Pattern, nothing, more, Element, text, placeable, Expression, inline, select, Variants, no_variants, variant, Inline, string, number, function, message, term, variable, nested, Call, no_call, call, Arguments, arguments, Inlines, no_inlines, argument, Nameds, no_nameds, named_argument, variants_of, inlines_of, nameds_of}
 use Rattle.fluent_tree.specs.View.{variant_view, inline_view, named_view}
@@ -14,6 +14,7 @@ pub data Reference : Type 0 where
   a_message : Text → Reference
   a_term : Text → Reference
   a_function : Text → Reference
+  deriving Discrete as Reference-discrete
 
 abbrev mutual
   pub references : Pattern → List Reference
@@ -81,3 +82,7 @@ nameds_view ns = nameds_of (map named_view ns)
 -- the new list is the old one with these behind it
 abbrev pub AddsReferences : Vec code.Reference Global → Vec code.Reference Global → List Reference → Type 0
 AddsReferences old new these = references_view new ≡ references_view old ++ these
+
+-- there is a reference
+abbrev pub AreSome : List Reference → Type 0
+AreSome rs = 0 < length rs

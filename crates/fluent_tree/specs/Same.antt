@@ -6,6 +6,7 @@ use Rattle.std.proofs.lemmas.Bool.{false≢true}
 use Rattle.std.specs.Cmp.{IsEquivalence}
 use mathlib.Core.List.{List-discrete}
 use Rattle.fluent_tree.specs.Tree.{Text, Pattern, Element, Expression, Inline, Arguments, Named, Variant, Entry, Attribute-discrete, Element-discrete, Expression-discrete, Inline-discrete, Arguments-discrete, Entry-discrete, is_yes, text_same, key_same, pattern_same}
+use Rattle.fluent_tree.specs.References.{Reference, Reference-discrete}
 
 -- ---- of pairs and options
 
@@ -61,6 +62,10 @@ entry_same = Entry-discrete text_same (option_same pattern_same) (List-discrete 
 
 pub entries_same : Discrete (List Entry)
 entries_same = List-discrete entry_same
+
+-- two references mean the same, by kind and id, or not
+pub reference_same : Discrete Reference
+reference_same = Reference-discrete text_same
 
 -- ---- equality of contents is an equivalence
 

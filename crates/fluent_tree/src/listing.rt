@@ -1,8 +1,8 @@
 //! What a pattern refers to, listed.
 
-ghost use Rattle.std.specs.Prelude.{◌≡◌, IfOk, OnOk};
+ghost use Rattle.std.specs.Prelude.{◌≡◌, [], IfOk, IsOk, OnErr, OnOk};
 ghost use Rattle.fluent_tree.specs.View.{arguments_view, expression_view, inline_view, pattern_view};
-ghost use Rattle.fluent_tree.specs.References.{AddsReferences, in_arguments, in_expression, in_inline, in_named, in_positional, in_variants, inlines_view, nameds_view, references, references_view, variants_view};
+ghost use Rattle.fluent_tree.specs.References.{AddsReferences, AreSome, in_arguments, in_expression, in_inline, in_named, in_positional, in_variants, inlines_view, nameds_view, references, references_view, variants_view};
 
 use crate::ast::{
     CallArguments, Expression, InlineExpression, NamedArgument, Pattern, PatternElement, Variant,
@@ -11,7 +11,7 @@ use std::alloc::{AllocError, Global};
 
 /// A reference to a message, a term or a function, by its id as the tree has it: a term's stands without the dash.
 /// Whether it asks for an attribute isn't told.
-#[derive(Clone, Copy, Debug, Drop, PartialEq, Eq)]
+#[derive(Clone, Copy, Debug, Drop)]
 pub enum Reference<'s> {
     Message(&'s str),
     Term(&'s str),
@@ -22,12 +22,14 @@ pub enum Reference<'s> {
 /// stands in its arguments, positional ones before named ones, a select's selector before its variants. Of what is
 /// referred to it looks at nothing. The ids are lent by the source.
 ///
-/// Memory is taken for the list alone. Where that is refused, nothing is left of it, and the call can be made again.
+/// Memory is taken for the list alone, and none where the pattern refers to nothing: that call is never refused. Where
+/// memory is refused, nothing is left of the list, and the call can be made again.
 pub fn references<'s>(
     alloc: Global,
     pattern: &Pattern<'s>,
 ) -> Result<Vec<Reference<'s>>, AllocError>
-    ensures { IfOk result (λ list. references_view list ≡ references (pattern_view pattern.now)) }
+    ensures listed { IfOk result (λ list. references_view list ≡ references (pattern_view pattern.now)) }
+    ensures succeeds { references (pattern_view pattern.now) ≡ [] → IsOk result }
 {
     let mut list = Vec::new(alloc);
     add_pattern(&mut list, pattern)?;
@@ -36,7 +38,9 @@ pub fn references<'s>(
 
 #[cycle(listing)]
 fn add_pattern<'s>(list: &mut Vec<Reference<'s>>, pattern: &Pattern<'s>) -> Result<(), AllocError>
-    ensures { OnOk result (AddsReferences list.old list.new (references (pattern_view pattern.now))) }
+    ensures added { OnOk result
+        (AddsReferences list.old list.new (references (pattern_view pattern.now))) }
+    ensures refused { OnErr result (AreSome (references (pattern_view pattern.now))) }
 {
     for element in &pattern.elements {
         if let PatternElement::Placeable { expression } = element {
@@ -51,8 +55,9 @@ fn add_expression<'s>(
     list: &mut Vec<Reference<'s>>,
     expression: &Expression<'s>,
 ) -> Result<(), AllocError>
-    ensures { OnOk result
+    ensures added { OnOk result
         (AddsReferences list.old list.new (in_expression (expression_view expression.now))) }
+    ensures refused { OnErr result (AreSome (in_expression (expression_view expression.now))) }
 {
     match expression {
         Expression::Inline(inline) => add_inline(list, inline),
@@ -68,7 +73,9 @@ fn add_variants<'s>(
     list: &mut Vec<Reference<'s>>,
     variants: &[Variant<'s>],
 ) -> Result<(), AllocError>
-    ensures { OnOk result (AddsReferences list.old list.new (in_variants (variants_view variants.now))) }
+    ensures added { OnOk result
+        (AddsReferences list.old list.new (in_variants (variants_view variants.now))) }
+    ensures refused { OnErr result (AreSome (in_variants (variants_view variants.now))) }
 {
     for variant in variants {
         add_pattern(list, &variant.value)?;
@@ -81,7 +88,9 @@ fn add_inline<'s>(
     list: &mut Vec<Reference<'s>>,
     inline: &InlineExpression<'s>,
 ) -> Result<(), AllocError>
-    ensures { OnOk result (AddsReferences list.old list.new (in_inline (inline_view inline.now))) }
+    ensures added { OnOk result
+        (AddsReferences list.old list.new (in_inline (inline_view inline.now))) }
+    ensures refused { OnErr result (AreSome (in_inline (inline_view inline.now))) }
 {
     match inline {
         InlineExpression::FunctionReference { id, arguments } => {
@@ -111,7 +120,9 @@ fn add_arguments<'s>(
     list: &mut Vec<Reference<'s>>,
     arguments: &CallArguments<'s>,
 ) -> Result<(), AllocError>
-    ensures { OnOk result (AddsReferences list.old list.new (in_arguments (arguments_view arguments.now))) }
+    ensures added { OnOk result
+        (AddsReferences list.old list.new (in_arguments (arguments_view arguments.now))) }
+    ensures refused { OnErr result (AreSome (in_arguments (arguments_view arguments.now))) }
 {
     add_positional(list, &arguments.positional)?;
     add_named(list, &arguments.named)
@@ -122,7 +133,9 @@ fn add_positional<'s>(
     list: &mut Vec<Reference<'s>>,
     positional: &[InlineExpression<'s>],
 ) -> Result<(), AllocError>
-    ensures { OnOk result (AddsReferences list.old list.new (in_positional (inlines_view positional.now))) }
+    ensures added { OnOk result
+        (AddsReferences list.old list.new (in_positional (inlines_view positional.now))) }
+    ensures refused { OnErr result (AreSome (in_positional (inlines_view positional.now))) }
 {
     for argument in positional {
         add_inline(list, argument)?;
@@ -135,7 +148,9 @@ fn add_named<'s>(
     list: &mut Vec<Reference<'s>>,
     named: &[NamedArgument<'s>],
 ) -> Result<(), AllocError>
-    ensures { OnOk result (AddsReferences list.old list.new (in_named (nameds_view named.now))) }
+    ensures added { OnOk result
+        (AddsReferences list.old list.new (in_named (nameds_view named.now))) }
+    ensures refused { OnErr result (AreSome (in_named (nameds_view named.now))) }
 {
     for argument in named {
         add_inline(list, &argument.value)?;

@@ -1,10 +1,10 @@
-use Rattle.std.proofs.Common.{[], Some, map, ap, sym, rules, ◌≡◌, ◌∙◌, length, nat_eq}
+use Rattle.std.proofs.Common.{[], Some, arith, map, ap, sym, rules, ◌≡◌, ◌∙◌, length, nat_eq}
 use Rattle.fluent_tree.specs.References.{references}
 use Rattle.fluent_tree.specs.View.{pattern_view}
 use Rattle.fluent_links.specs.Linked.{with_referring}
 use Rattle.fluent_links.specs.Slots.{slots as slots_of, number}
 use Rattle.fluent_links.specs.Table.{table}
-use Rattle.fluent_links.proofs.Gathered.{has_class, kept, names_kept, no_class, no_items, none_referred, referring, some_items}
+use Rattle.fluent_links.proofs.Gathered.{has_class, kept, names_kept, no_class, no_items, none_linked, none_referred, referring, some_items}
 use Rattle.fluent_links.proofs.linked.Linked.link.Goals as goal
 
 pub returns-clause-linked : goal.returns-clause-linked
@@ -59,3 +59,18 @@ returns-in_err-link_pattern-clause-numbers g c = let begun = c.in_err-link_patte
 
 pub returns-in_err-link_pattern-clause-named : goal.returns-in_err-link_pattern-clause-named
 returns-in_err-link_pattern-clause-named g c = let begun = c.in_err-link_pattern.ensures.err in names_kept (slots_of c.args.slots.now) (slots_of c.link_pattern.new.slots) begun.0 begun.3
+
+pub returns-clause-classless : goal.returns-clause-classless
+returns-clause-classless g c =
+    let items = c.link_pattern.new.links.items in
+    let told : c.is_empty.result ≡ nat_eq (length items) 0 = search (rules, c.is_empty.ensures) in
+    λ none. absurd (some_items items c.is_empty.result told c.if-is_empty.false (none_linked (number (slots_of c.link_pattern.new.slots)) (references (pattern_view c.args.pattern.now)) items none (c.in_ok-link_pattern.ensures.ok.1 [] (sym (ap (map Some) c.new-links.ensures.items)))))
+
+pub returns-in_err-class-clause-succeeds : goal.returns-in_err-class-clause-succeeds
+returns-in_err-class-clause-succeeds g c =
+    let items = c.link_pattern.new.links.items in
+    let told : c.is_empty.result ≡ nat_eq (length items) 0 = search (rules, c.is_empty.ensures) in
+    λ none. absurd (some_items items c.is_empty.result told c.if-is_empty.false (none_linked (number (slots_of c.link_pattern.new.slots)) (references (pattern_view c.args.pattern.now)) items none (c.in_ok-link_pattern.ensures.ok.1 [] (sym (ap (map Some) c.new-links.ensures.items)))))
+
+pub returns-in_err-link_pattern-clause-succeeds : goal.returns-in_err-link_pattern-clause-succeeds
+returns-in_err-link_pattern-clause-succeeds g c = λ none. absurd (omega (arith, ap length none, c.in_err-link_pattern.ensures.refused))

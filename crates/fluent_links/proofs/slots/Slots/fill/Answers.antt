@@ -1,4 +1,4 @@
-use Rattle.std.proofs.Common.{◌∙◌, ap, position, sym, Some}
+use Rattle.std.proofs.Common.{◌∙◌, ap, position, sym}
 use Rattle.std.specs.Cow.{cow_str_bytes}
 use Rattle.std.specs.Option.{option_copied_mut}
 use Rattle.std.specs.Str.{bytes_eq}
