@@ -1,14 +1,17 @@
 -- The lines of a text, and what a text gives after its first line.
-use Rattle.std.specs.Prelude.{◌≡◌, ℕ, ◌+◌, ◌<◌, suc, false, List, [], ◌∷◌, ◌++◌, length, take, drop, Option, Some, None, Result, Ok, Err}
-use Rattle.std.proofs.Common.{sym, refl, ap, ◌∙◌, arith, append_assoc, inl, inr, get_or, get_or-drop, add-zero, length-drop}
-use Rattle.std.proofs.lemmas.List.{append-nil}
+use Rattle.std.specs.Prelude.{◌≡◌, ◌==◌, ℕ, ◌+◌, ◌<◌, suc, false, List, [], ◌∷◌, ◌++◌, length, take, drop, Option, Some, None, Result, Ok, Err}
+use Rattle.std.proofs.Common.{sym, refl, ap, ◌∙◌, arith, append_assoc, inl, inr, get_or, get_or-drop, add-zero, length-drop, length-append}
+use Rattle.std.proofs.lemmas.List.{append-nil, nil_from_length}
 use Rattle.std.proofs.lemmas.Bool.{cases_Bool}
 use Rattle.std.proofs.lemmas.Bool.Decides.{nat_tests}
 use Rattle.fluent_text.specs.Facts.Runs.{run_len-stops}
-use Rattle.fluent_text.specs.Parser.{Text, Read, run_len, run}
+use Rattle.fluent_text.specs.Parser.{Text, Read, and_then, otherwise, pure, run_len, run, run1}
+use Rattle.fluent_text.specs.Lexical.{at_end}
+use Rattle.fluent_intl.specs.declared.rule_texts.stop.Stop.{Stop}
+use Rattle.fluent_intl.specs.declared.rule_texts.stop.Stop.TheVariants.{Absent, Memory}
 use Rattle.fluent_intl.specs.RuleTree.{Rule}
-use Rattle.fluent_intl.specs.RuleGrammar.{is_of_line, is_blank, lines, line, before, with_line, rules_from, rules}
-use Rattle.fluent_intl.specs.RuleReading.{listed}
+use Rattle.fluent_intl.specs.RuleGrammar.{is_of_line, is_blank, is_letter, blanks, word, given, category_named, keyword, rule, lines, line, before, with_line, rules_from, rules}
+use Rattle.fluent_intl.specs.RuleReading.{AsksAtKeyword, AsksForRule, IsRuleless, listed}
 
 -- rules that were read before
 abbrev pub after : List Rule → Result (List Rule) ℕ → Result (List Rule) ℕ
@@ -109,3 +112,54 @@ ends_at s front behind e some =
     let here : get_or (drop k s) 0 0 ≡ get_or s k 0 = rw (get_or-drop k s 0 0, add-zero) refl in
     let within : k < length s = omega (arith, length-drop k s, ap length same) in
     rw (← same, here) (ascii_end (get_or s k 0) (get_or s (suc k) 0) (run_len-stops is_of_line s within))
+
+-- ---- lines without a rule
+
+what_was_read : Read (Option Rule) → Option Rule
+what_was_read None = None
+what_was_read (Some p) = p.0
+
+nothing_behind : (r : Option Rule) (s rest : Text) → and_then (at_end s) (λ _ u. Some (r, u)) ≡ Some (None, rest) → (r ≡ None) × (s ≡ [])
+unfolding what_was_read
+nothing_behind r s rest h =
+    elim (cases_Bool (length s == 0)) [
+      | inl pass ↦ (ap what_was_read (rw pass at h), nil_from_length s (grind (arith, nat_tests)))
+      | inr stop ↦ let none = rw stop at h in absurd cc
+    ]
+
+blank : (r : Read Rule) (s rest : Text)
+    → and_then (otherwise (and_then r (λ x u. Some (Some x, u))) (pure None) s) (λ o u. and_then (blanks u) (λ _ v. and_then (at_end v) (λ _ w. Some (o, w)))) ≡ Some (None, rest)
+    → drop (run_len is_blank s) s ≡ []
+blank None s rest h = (nothing_behind None (drop (run_len is_blank s) s) rest h).1
+blank (Some q) s rest h = absurd (let none : Some q.0 ≡ None = (nothing_behind (Some q.0) (drop (run_len is_blank q.1) q.1) rest h).0 in cc)
+
+no_keyword : (s rest : Text) → line s ≡ Some (None, rest) → keyword s ≡ None
+unfolding line keyword word run1
+no_keyword s rest h = ap (λ t. and_then (run1 is_letter t) (λ w u. given (category_named w) u)) (blank (rule s) s rest h)
+
+-- a line with a keyword has a rule, if it is read
+pub at_keyword : (s : Text) (stop : Stop) → AsksAtKeyword stop s → AsksForRule stop (line s)
+at_keyword s Absent some = tt
+at_keyword s Memory some = λ h. some (no_keyword s h.0 h.1)
+
+no_first : (found more : List Rule) (r : Rule) → ¬ (found ++ r ∷ more ≡ [])
+no_first found more r h = let e = ap length h in absurd (omega (arith, e, length-append found (r ∷ more)))
+
+rules_of : Result (List Rule) ℕ → List Rule
+rules_of (Ok found) = found
+rules_of (Err at) = []
+
+without : (found : List Rule) (o : Option Rule) (others : Result (List Rule) ℕ) → after found (before o others) ≡ Ok [] → o ≡ None
+unfolding rules_of
+without found None others h = refl
+without found (Some r) (Ok more) h = absurd (no_first found more r (ap rules_of h))
+without found (Some r) (Err at) h = absurd cc
+
+first_without : (found : List Rule) (at : ℕ) (front : Text) (r : Read (Option Rule)) (others : Result (List Rule) ℕ) → after found (with_line at front r others) ≡ Ok [] → IsRuleless r
+first_without found at front None others h = absurd cc
+first_without found at front (Some p) others h = (p.1, ap (λ o. Some (o, p.1)) (without found p.0 others h))
+
+-- no line of a text without rules has one
+pub ruleless : (whole : Result (List Rule) ℕ) (found : List Rule) (at : ℕ) (s front behind : Text)
+    → whole ≡ after found (rules_from at (lines s)) → run is_of_line s ≡ Some (front, behind) → whole ≡ Ok [] → IsRuleless (line front)
+ruleless whole found at s front behind w e none = first_without found at front (line front) _ (ap (after found) (sym (first_line at s front behind e)) ∙ sym w ∙ none)

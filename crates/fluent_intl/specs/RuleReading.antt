@@ -16,7 +16,7 @@ use Rattle.fluent_intl.specs.declared.rule_texts.stop.Stop.TheVariants.{Absent, 
 use Rattle.fluent_intl.specs.declared.rule_texts.tree.Relation.{Relation as CodeRelation}
 use Rattle.fluent_intl.specs.declared.rule_texts.tree.Rule.{Rule as CodeRule}
 use Rattle.fluent_intl.specs.RuleTree.{Relation, relation_of, Condition, Rule, rule_of}
-use Rattle.fluent_intl.specs.RuleGrammar.{is_blank, is_letter, is_of_line}
+use Rattle.fluent_intl.specs.RuleGrammar.{is_blank, is_letter, is_of_line, keyword}
 use Rattle.fluent_text.specs.Lexical.{is_digit}
 
 -- the sets of bytes in which the code finds runs
@@ -66,14 +66,28 @@ abbrev pub listed : Option Rule → List Rule
 listed None = []
 listed (Some r) = r ∷ []
 
+-- memory is refused only where a keyword stands
+abbrev pub AsksAtKeyword : Stop → List ℕ → Type 0
+AsksAtKeyword Absent s = Unit {0}
+AsksAtKeyword Memory s = keyword s ≢ None
+
+-- a line is read that has no rule
+abbrev pub IsRuleless : Read (Option Rule) → Type 0
+IsRuleless r = (rest : List ℕ) × (r ≡ Some (None, rest))
+
+-- memory is refused only where a line is more than blanks
+abbrev pub AsksForRule : Stop → Read (Option Rule) → Type 0
+AsksForRule Absent r = Unit {0}
+AsksForRule Memory r = ¬ IsRuleless r
+
 -- the rule of a line was added, if the line has one
 abbrev pub AddsLine : List Rule → List Rule → Result (Unit {0}) Stop → Read (Option Rule) → Type 0
 AddsLine old new (Ok done) r = (p : Option Rule × List ℕ) × (r ≡ Some p) × (new ≡ old ++ listed p.0)
 AddsLine old new (Err Absent) r = r ≡ None
-AddsLine old new (Err Memory) r = Unit {0}
+AddsLine old new (Err Memory) r = ¬ IsRuleless r
 
--- the rules of a text, or where the first that can't be read begins, unless memory ran out
+-- the rules of a text, or where the first that can't be read begins, unless memory ran out, which takes a text that is more than blanks
 abbrev pub GivesRules : PluralRuleType → Result (Vec CodeRule Global) RuleFault → Result (List Rule) ℕ → Type 0
 GivesRules kind (Ok found) r = r ≡ Ok (all rule_view found)
 GivesRules kind (Err (fault.Syntax k at)) r = (k ≡ kind) × (r ≡ Err at)
-GivesRules kind (Err fault.Memory) r = Unit {0}
+GivesRules kind (Err fault.Memory) r = r ≢ Ok []

@@ -1,5 +1,5 @@
 -- What the reading of two rule texts answers.
-use Rattle.std.specs.Prelude.{◌≡◌, ℕ, ◌++◌, codes, Result, Ok, Err, IsOk}
+use Rattle.std.specs.Prelude.{◌≡◌, ℕ, [], ◌++◌, codes, Result, Ok, Err, IsOk}
 use Rattle.std.specs.Fmt.{decimal}
 use Rattle.fluent_text.specs.Parser.{Text}
 use Rattle.fluent_intl.specs.declared.operands.PluralOperands.{PluralOperands}
@@ -17,11 +17,11 @@ abbrev pub IsFault : Text → Text → PluralRuleType → ℕ → Type 0
 IsFault cardinal ordinal CARDINAL at = rules cardinal ≡ Err at
 IsFault cardinal ordinal ORDINAL at = IsOk (rules cardinal) × (rules ordinal ≡ Err at)
 
--- the rules of both texts, where both are in the grammar; else the fault; unless memory ran out
+-- the rules of both texts, where both are in the grammar; else the fault; unless memory ran out, which takes a text that is more than blanks
 abbrev pub IsParse : Text → Text → Result Rules RuleFault → Type 0
 IsParse cardinal ordinal (Ok texts) = (rules cardinal ≡ Ok texts.cardinal) × (rules ordinal ≡ Ok texts.ordinal)
 IsParse cardinal ordinal (Err (Syntax kind at)) = IsFault cardinal ordinal kind at
-IsParse cardinal ordinal (Err Memory) = Unit {0}
+IsParse cardinal ordinal (Err Memory) = ¬ ((rules cardinal ≡ Ok []) × (rules ordinal ≡ Ok []))
 
 -- what a fault says
 abbrev pub fault_text : RuleFault → Text

@@ -45,7 +45,7 @@ impl RuleTexts {
     /// Reads the cardinal and the ordinal rules of a language, each rule on a line or before a semicolon.
     ///
     /// `Syntax` names the first text outside the grammar, of which the cardinal one is read first, and the byte at which its first rule that can't be read begins.
-    /// `Memory` says that there was no memory, and nothing of the texts. Nothing stands after either.
+    /// `Memory` says that there was no memory, and of the texts that one of them is more than blanks. Nothing stands after either.
     pub fn parse(alloc: Global, cardinal: &str, ordinal: &str) -> Result<RuleTexts, RuleFault>
         ensures { IsParse cardinal.now ordinal.now result }
     {

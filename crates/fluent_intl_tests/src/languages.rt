@@ -85,6 +85,18 @@ const LANGUAGES: &[Language] = &[
     ("a comment is no line of a tag", LINES, "#d", None),
     ("nor is a comment with a blank", LINES, "# a", None),
     ("a line with one tab has no rules", LINES, "yy", None),
+    (
+        "nor has a further line of its tag then",
+        Some("xx\tother:\nxx\tone:\tother:"),
+        "xx",
+        None,
+    ),
+    (
+        "the language's line counts then",
+        Some("xx-y\tother:\nxx-y\tone:\tother:\nxx\ttwo:\tother:"),
+        "xx-y",
+        Some(("two:", "other:")),
+    ),
     ("texts may be empty", Some("xx\t\t"), "xx", Some(("", ""))),
     (
         "the second text may hold tabs",
@@ -124,6 +136,8 @@ fn rows_hold()
     ensures comment { let row = codes "#pt" ++ 9 ∷ codes "a" ++ 9 ∷ codes "b" in
         rules_of row (codes "#pt") ≡ None }
     ensures one_tab { rules_of (codes "pt" ++ 9 ∷ codes "a") (codes "pt") ≡ None }
+    ensures first_line { let row = codes "pt" ++ 9 ∷ codes "a" ++ 9 ∷ codes "b" in
+        rules_of (codes "pt" ++ 9 ∷ codes "a" ++ 10 ∷ row) (codes "pt") ≡ None }
     ensures other { rules_of (codes "pt" ++ 9 ∷ codes "a" ++ 9 ∷ codes "b") (codes "p") ≡ None }
 {}
 

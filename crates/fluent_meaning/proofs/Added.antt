@@ -1,12 +1,12 @@
 -- What adding does to a bundle.
-use Rattle.std.proofs.Common.{◌≡◌, ℕ, ◌+◌, ◌≤◌, List, [], ◌∷◌, ◌++◌, Bool, true, false, Option, Some, None, is_some, if◌then◌else◌, refl, sym, ap, ◌∙◌, arith, append_assoc, codes}
+use Rattle.std.proofs.Common.{◌≡◌, ◌+◌, ◌≤◌, List, [], ◌∷◌, ◌++◌, Option, Some, None, if◌then◌else◌, refl, sym, ap, ◌∙◌, arith, append_assoc, codes}
 use Rattle.fluent_tree.specs.Tree as t
 use Rattle.fluent_tree.specs.Tree.{Text, message_entry, term_entry, junk_entry}
 use Rattle.fluent_meaning.specs.Errors.{message_kind, term_kind}
-use Rattle.fluent_meaning.specs.Arguments.{Map, get, set, IsInOrder}
-use Rattle.fluent_meaning.specs.Bundle.{Bundle, Entry, a_message, a_term, a_function, number_builtin, is_message, is_term, is_function, Call, add_resource, add_resource_overriding, add_function, add_builtins, set_use_isolating, set_transform, set_formatter, set_placeable_limit, add_free, added, overridden, error_if_taken, not_added, after, after_all, answered}
+use Rattle.fluent_meaning.specs.Arguments.{Map, get}
+use Rattle.fluent_meaning.specs.Bundle.{Bundle, Entry, a_message, a_term, a_function, number_builtin, is_message, is_term, is_function, Call, add_resource, add_resource_overriding, add_function, add_builtins, set_use_isolating, set_transform, set_formatter, set_placeable_limit, added, overridden, error_if_taken, not_added, after, answered}
 use Rattle.fluent_meaning.specs.Users.{IsAdding, last_entry}
-use Rattle.fluent_meaning.proofs.Maps.{get_set, unless_there, set_in_order}
+use Rattle.fluent_meaning.proofs.Maps.{get_set, unless_there}
 
 module _ {C : Type 0} where
   one_thing : (e : Option (Entry C)) → (if is_message e then 1 else 0) + (if is_term e then 1 else 0) + (if is_function e then 1 else 0) ≤ 1
@@ -70,42 +70,3 @@ module _ {C : Type 0} where
 
   pub cut_overriding : (b : Bundle C) (es fs : List t.Entry) → after (add_resource_overriding (es ++ fs)) b ≡ after (add_resource_overriding fs) (after (add_resource_overriding es) b)
   cut_overriding b es fs = ap (λ m. record b { ids = m }) (overridden_cut es fs b.ids)
-
-  -- ---- each map of ids that calls make is in order
-
-  add_free_in_order : (id : Text) (e : Entry C) (ids : Map (Entry C)) → IsInOrder ids → IsInOrder (add_free id e ids)
-  add_free_in_order id e ids h = by (is_some (get id ids))
-    where
-      by : (b : Bool) → IsInOrder (if b then ids else set id e ids)
-      by true = h
-      by false = set_in_order id e ids h
-
-  added_in_order : (es : List t.Entry) (ids : Map (Entry C)) → IsInOrder ids → IsInOrder (added es ids)
-  added_in_order [] ids h = h
-  added_in_order (message_entry n v as' ∷ es) ids h = added_in_order es _ (add_free_in_order n (a_message v as') ids h)
-  added_in_order (term_entry n p as' ∷ es) ids h = added_in_order es _ (add_free_in_order n (a_term p as') ids h)
-  added_in_order (junk_entry source ∷ es) ids h = added_in_order es ids h
-
-  overridden_in_order : (es : List t.Entry) (ids : Map (Entry C)) → IsInOrder ids → IsInOrder (overridden es ids)
-  overridden_in_order [] ids h = h
-  overridden_in_order (message_entry n v as' ∷ es) ids h = overridden_in_order es _ (set_in_order n (a_message v as') ids h)
-  overridden_in_order (term_entry n p as' ∷ es) ids h = overridden_in_order es _ (set_in_order n (a_term p as') ids h)
-  overridden_in_order (junk_entry source ∷ es) ids h = overridden_in_order es ids h
-
-  limited_in_order : (n : ℕ) (b : Bundle C) (t : Bool) → IsInOrder b.ids → IsInOrder (if t then record b { limit = n } else b).ids
-  limited_in_order n b true h = h
-  limited_in_order n b false h = h
-
-  after_in_order : (c : Call C) (b : Bundle C) → IsInOrder b.ids → IsInOrder (after c b).ids
-  after_in_order (add_resource es) b h = added_in_order es b.ids h
-  after_in_order (add_resource_overriding es) b h = overridden_in_order es b.ids h
-  after_in_order (add_function n f) b h = add_free_in_order n (a_function f) b.ids h
-  after_in_order add_builtins b h = add_free_in_order (codes "NUMBER") number_builtin b.ids h
-  after_in_order (set_use_isolating on) b h = h
-  after_in_order (set_transform f) b h = h
-  after_in_order (set_formatter f) b h = h
-  after_in_order (set_placeable_limit n) b h = limited_in_order n b _ h
-
-  pub calls_in_order : (cs : List (Call C)) (b : Bundle C) → IsInOrder b.ids → IsInOrder (after_all cs b).ids
-  calls_in_order [] b h = h
-  calls_in_order (c ∷ cs) b h = calls_in_order cs (after c b) (after_in_order c b h)

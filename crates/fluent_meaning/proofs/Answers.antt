@@ -1,20 +1,16 @@
--- What a term's arguments, a run's errors and a bundle's answers come to.
+-- What a term's arguments and a run's errors come to.
 use Rattle.std.proofs.Common.{◌≡◌, ℕ, zero, suc, ◌+◌, ◌≤◌, List, [], ◌∷◌, ◌++◌, Bool, false, refl, ap, ◌∙◌, arith}
 use Rattle.std.specs.Bool.{⊤}
 use Rattle.fluent_tree.specs.Tree.{Text, Attribute, Pattern, Inline, string, number, function, message, term, variable, nested, Call, no_call, call, arguments, no_inlines, argument, Nameds, no_nameds, named_argument}
 use Rattle.fluent_meaning.specs.Errors.{Error, ResolverError, resolver_error, lost, missing_default, cyclic, too_many_placeables, overriding, parser_error}
 use Rattle.fluent_meaning.specs.Errors as errors
-use Rattle.fluent_meaning.specs.Value.{Value, Custom, Plurals, same, text_value, number_value, custom_value, no_value, error_value}
+use Rattle.fluent_meaning.specs.Value.{Value, Custom, same, text_value, number_value, custom_value, no_value, error_value}
 use Rattle.fluent_meaning.specs.Arguments.{Map, get, set_all}
-use Rattle.fluent_meaning.specs.Bundle.{Bundle, empty_bundle, after_all, term_target}
-use Rattle.fluent_meaning.specs.Bundle as bundles
+use Rattle.fluent_meaning.specs.Bundle.{Bundle, term_target}
 use Rattle.fluent_meaning.specs.Walk.{Environment, local, inner, has_one, Steps, follow, elements, written, resolved, local_of, named, deep}
 use Rattle.fluent_meaning.specs.Meaning.{Budget, left, struck, Ran, within_budget, opening, unless_struck, ran, run, depth_of}
-use Rattle.fluent_meaning.specs.Result.{written_pattern}
-use Rattle.fluent_meaning.specs.Users.{IsLiteral, AreLiteral, IsClosed, strikes_in, AnswerAlike}
+use Rattle.fluent_meaning.specs.Users.{IsLiteral, AreLiteral, IsClosed, strikes_in}
 use Rattle.fluent_meaning.proofs.Related.{Relation, IsReported, elements_related}
-use Rattle.fluent_meaning.proofs.Maps.{same_maps, empty_in_order}
-use Rattle.fluent_meaning.proofs.Added.{calls_in_order}
 
 -- ---- none and error
 
@@ -143,27 +139,3 @@ module _ {C : Type 0} (b : Bundle C) where
   pub run_once : (env : Environment C) (path : List Pattern) (p : Pattern) (budget : Budget) → strikes_in (run b env path p budget).errors ≤ 1
   unfolding ran
   run_once env path p budget = omega (arith, deep_once (depth_of budget) env path p budget, struck_at_most (run b env path p budget).budget)
-
--- ---- bundles that answer alike
-
-module _ {C : Type 0} where
-  pub equal_bundles : (b c : Bundle C) → b.ids ≡ c.ids → AnswerAlike b c → (args : Map (Value C)) (p : Pattern) → written_pattern b args p ≡ written_pattern c args p
-  unfolding ran elements
-  equal_bundles b c equal alike args p i =
-      written_pattern record {
-        ids = equal i;
-        isolates = alike.isolates i;
-        transform = λ t. alike.transform t i;
-        formatter = λ v. alike.formatter v i;
-        plurals = λ kind o. alike.plurals kind o i;
-        custom = record { text = λ x. alike.text x i; same = b.custom.same };
-        limit = alike.limit i;
-      } args p
-
-  pub alike_same : (plurals plurals' : Plurals) (custom custom' : Custom C) (cs ds : List (bundles.Call C)) (args : Map (Value C)) (p : Pattern) →
-      AnswerAlike (after_all cs (empty_bundle plurals custom)) (after_all ds (empty_bundle plurals' custom')) →
-      written_pattern (after_all cs (empty_bundle plurals custom)) args p ≡ written_pattern (after_all ds (empty_bundle plurals' custom')) args p
-  alike_same plurals plurals' custom custom' cs ds args p alike =
-      let b = after_all cs (empty_bundle plurals custom) in
-      let c = after_all ds (empty_bundle plurals' custom') in
-      equal_bundles b c (same_maps b.ids c.ids (calls_in_order cs (empty_bundle plurals custom) (empty_in_order (bundles.Entry C))) (calls_in_order ds (empty_bundle plurals' custom') (empty_in_order (bundles.Entry C))) alike.ids) alike args p

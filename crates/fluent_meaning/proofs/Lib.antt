@@ -9,6 +9,7 @@ pub mod Beside
 pub mod Maps
 pub mod Added
 pub mod Answers
+pub mod Alike
 pub mod Marked
 pub mod Whole
 pub mod Quiet

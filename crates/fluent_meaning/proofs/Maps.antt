@@ -63,6 +63,3 @@ module _ {A : Type 0} where
 
   pub same_maps : (m n : Map A) → IsInOrder m → IsInOrder n → ((q : Text) → get q m ≡ get q n) → m ≡ n
   same_maps m n h j same = same_entries (slice_cmp nat_cmp) nat_list_cmp_total (slice_cmp-IsAntisymmetric nat_cmp-IsAntisymmetric) m n (given _ h) (given _ j) same
-
-pub empty_in_order : (A : Type 0) → IsInOrder {A = A} []
-empty_in_order A = refl

@@ -1,14 +1,15 @@
 -- Worked examples: references, environments, paths, functions, and the calls of a bundle.
 use Rattle.std.specs.Prelude.{◌≡◌, List, [], ◌∷◌, ◌++◌, map, Bool, true, false, None, codes}
 use Rattle.fluent_tree.specs.Tree as t
-use Rattle.fluent_tree.specs.Tree.{Text, Element, Pattern, nothing, no_attribute, attribute, pattern_of, text, message_entry, term_entry, junk_entry, string, term, nested, inline, no_call}
+use Rattle.fluent_tree.specs.Tree.{Text, Element, Pattern, nothing, no_attribute, attribute, pattern_of, text, inlines_of, nameds_of, message_entry, term_entry, junk_entry, Inline, string, term, nested, inline, no_call, call, arguments}
 use Rattle.fluent_tree.specs.Fallback.{fallback, in_braces}
 use Rattle.fluent_meaning.specs.Value.{custom_value, no_value, error_value}
 use Rattle.fluent_meaning.specs.Arguments.{get}
 use Rattle.fluent_meaning.specs.Errors as errors
 use Rattle.fluent_meaning.specs.Errors.{Error, resolver_error, parser_error, overriding, message_kind, term_kind, function_kind, lost, to_function, to_message, to_term, to_variable, missing_default, too_many_placeables, error_text, reference_of}
-use Rattle.fluent_meaning.specs.Bundle.{Bundle, Function, Call, add_resource, add_resource_overriding, add_function, add_builtins, after, answered, found, without_value, message_target, is_message, is_term, is_function}
+use Rattle.fluent_meaning.specs.Bundle.{Bundle, Function, Call, add_resource, add_resource_overriding, add_function, add_builtins, set_use_isolating, after, answered, found, without_value, message_target, is_message, is_term, is_function}
 use Rattle.fluent_meaning.specs.Examples.{NoCustom, only, say, put, var, str, num, msg, msg_attribute, own, own_with, fun, named, case, case_number, default, choose, entry, private, bundle, source, whole, with, words, answers, text_length, first_argument, F, P, texts, unknown_variable, cyclic, PatternWrites, MessageGives}
+use Rattle.fluent_meaning.specs.Users.{IsAdding, IsLiteral, IsClosed}
 
 abbrev pub error : Text → Text
 error t = codes "Resolver error: " ++ t
@@ -161,6 +162,30 @@ pub record Adding : Type 0 where
   pub junk_answers_nothing : answered (add_resource (junk_entry (codes "foo") ∷ [])) (after foos empty) ≡ []
   pub nothing_named : is_message (get (codes "F") (source []).ids) ≡ false
   pub no_function : is_function (get (codes "F") (source []).ids) ≡ false
+
+abbrev pub with_arguments : List Inline → List (Text × Inline) → t.Call
+with_arguments xs ns = call (arguments (inlines_of xs) (nameds_of ns))
+
+-- the premises of the laws that callers rely on hold of what their names say, and of nothing beside it
+pub record Premises : Type 0 where
+  pub resource_adds : IsAdding {C = NoCustom} (add_resource three)
+  pub function_adds : IsAdding (add_function (codes "F") first_argument)
+  pub builtins_add : IsAdding {C = NoCustom} add_builtins
+  pub overriding_is_another : ¬ IsAdding {C = NoCustom} (add_resource_overriding three)
+  pub setting_is_another : ¬ IsAdding {C = NoCustom} (set_use_isolating true)
+  pub string_literal : IsLiteral (str "a")
+  pub number_literal : IsLiteral (num "1")
+  pub variable_is_none : ¬ IsLiteral (var "x")
+  pub message_is_none : ¬ IsLiteral (msg "m")
+  pub term_is_none : ¬ IsLiteral (own "t")
+  pub function_is_none : ¬ IsLiteral (fun "F" (num "1" ∷ []) [])
+  pub in_braces_is_none : ¬ IsLiteral (nested (inline (str "a")))
+  pub no_call_is_closed : IsClosed no_call
+  pub empty_call_is_closed : IsClosed (with_arguments [] [])
+  pub named_literals_are_closed : IsClosed (with_arguments [] (named "n" (num "1") ∷ named "s" (str "a") ∷ []))
+  pub positional_literal_is_open : ¬ IsClosed (with_arguments (num "1" ∷ []) [])
+  pub first_named_variable_is_open : ¬ IsClosed (with_arguments [] (named "x" (var "x") ∷ named "n" (num "1") ∷ []))
+  pub last_named_variable_is_open : ¬ IsClosed (with_arguments [] (named "n" (num "1") ∷ named "x" (var "x") ∷ []))
 
 -- the texts of errors
 pub record ErrorTexts : Type 0 where

@@ -6,9 +6,9 @@ use Rattle.fluent_intl.specs.Decimal.{Reads}
 use Rattle.fluent_meaning.specs.Number.{is_text, read_number}
 use Rattle.fluent_meaning.specs.Errors.{Error, resolver_error, overriding, parser_error, ResolverError, lost, missing_default, cyclic, too_many_placeables}
 use Rattle.fluent_meaning.specs.Errors as errors
-use Rattle.fluent_meaning.specs.Value.{Value, no_value, error_value, Custom, Plurals, same}
+use Rattle.fluent_meaning.specs.Value.{Value, no_value, error_value, Custom, same}
 use Rattle.fluent_meaning.specs.Arguments.{Map, get, set, set_all, IsInOrder}
-use Rattle.fluent_meaning.specs.Bundle.{Bundle, Entry, a_message, a_term, Function, is_message, is_term, is_function, empty_bundle, add_resource, add_resource_overriding, add_function, add_builtins, after, after_all, answered}
+use Rattle.fluent_meaning.specs.Bundle.{Bundle, Entry, a_message, a_term, Function, is_message, is_term, is_function, add_resource, add_resource_overriding, add_function, add_builtins, after, answered}
 use Rattle.fluent_meaning.specs.Bundle as bundles
 use Rattle.fluent_intl.specs.declared.operands.PluralOperands.{PluralOperands}
 use Rattle.fluent_intl.specs.declared.plurals.PluralRuleType.{PluralRuleType}
@@ -134,11 +134,9 @@ pub record AnswerAlike {C : Type 0} (b c : Bundle C) : Type 0 where
   pub text : (x : C) → b.custom.text x ≡ c.custom.text x
   pub limit : b.limit ≡ c.limit
 
--- Two bundles made by any calls that answer alike give the same text and errors for the same arguments and pattern.
+-- Two bundles that answer alike give the same text and errors for the same arguments and pattern, however each came to be.
 abbrev pub AlikeGiveTheSame : Type 0 → Type 0
-AlikeGiveTheSame C = (plurals plurals' : Plurals) (custom custom' : Custom C) (cs ds : List (bundles.Call C)) (args : Map (Value C)) (p : Pattern) →
-    AnswerAlike (after_all cs (empty_bundle plurals custom)) (after_all ds (empty_bundle plurals' custom')) →
-    written_pattern (after_all cs (empty_bundle plurals custom)) args p ≡ written_pattern (after_all ds (empty_bundle plurals' custom')) args p
+AlikeGiveTheSame C = (b c : Bundle C) (args : Map (Value C)) (p : Pattern) → AnswerAlike b c → written_pattern b args p ≡ written_pattern c args p
 
 -- ---- numbers
 

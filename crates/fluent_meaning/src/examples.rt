@@ -16,13 +16,14 @@ pub fn texts_and_values()
     ensures selects { texts.Selects }
 {}
 
-/// References to messages, terms, functions and attributes, and the calls that add them.
+/// References to messages, terms, functions and attributes, the calls that add them, and what the laws of both speak of.
 pub fn references()
     ensures cycles { references.Cycles }
     ensures terms { references.Terms }
     ensures lost { references.Lost }
     ensures functions { references.Functions }
     ensures adding { references.Adding }
+    ensures premises { references.Premises }
     ensures errors { references.ErrorTexts }
 {}
 

@@ -1,10 +1,10 @@
 //! Rules, each on a line of its own.
-ghost use Rattle.std.specs.Prelude.{◌≡◌, Some};
+ghost use Rattle.std.specs.Prelude.{◌≡◌, Some, IfErr};
 ghost use Rattle.std.specs.Option.{option_map};
 ghost use Rattle.fluent_text.specs.Parser as parser;
 ghost use Rattle.fluent_text.specs.Reading.{found, passed};
 ghost use Rattle.fluent_intl.specs.RuleGrammar as spec;
-ghost use Rattle.fluent_intl.specs.RuleReading.{Gives, condition_view, rule_view};
+ghost use Rattle.fluent_intl.specs.RuleReading.{AsksAtKeyword, AsksForRule, Gives, condition_view, rule_view};
 
 use super::condition::condition;
 use super::lexical::{Class, after_blanks, split_run, symbol, word};
@@ -83,7 +83,8 @@ fn optional_condition<'s>(
 
 #[tactic(auto, unfolding(crate::specs::RuleGrammar::rule))]
 fn rule<'s>(alloc: Global, s: &'s str) -> Result<(Rule, &'s str), Stop>
-    ensures { Gives rule_view result (spec.rule s.now) }
+    ensures read { Gives rule_view result (spec.rule s.now) }
+    ensures memory { IfErr result (λ stop. AsksAtKeyword stop s.now) }
 {
     let (category, rest) = keyword(s).ok_or(Stop::Absent)?;
     let rest = symbol(rest, b':').ok_or(Stop::Absent)?;
@@ -100,7 +101,8 @@ fn rule<'s>(alloc: Global, s: &'s str) -> Result<(Rule, &'s str), Stop>
 
 /// A rule, where one stands here.
 fn optional_rule<'s>(alloc: Global, s: &'s str) -> Result<(Option<Rule>, &'s str), Stop>
-    ensures { Gives (option_map rule_view) result (parser.optional spec.rule s.now) }
+    ensures read { Gives (option_map rule_view) result (parser.optional spec.rule s.now) }
+    ensures memory { IfErr result (λ stop. AsksAtKeyword stop s.now) }
 {
     match rule(alloc, s) {
         Ok((rule, rest)) => Ok((Some(rule), rest)),
@@ -112,7 +114,8 @@ fn optional_rule<'s>(alloc: Global, s: &'s str) -> Result<(Option<Rule>, &'s str
 /// The rule of a line, if it is not blank.
 #[tactic(auto, unfolding(crate::specs::RuleGrammar::line))]
 pub(super) fn line<'s>(alloc: Global, s: &'s str) -> Result<(Option<Rule>, &'s str), Stop>
-    ensures { Gives (option_map rule_view) result (spec.line s.now) }
+    ensures read { Gives (option_map rule_view) result (spec.line s.now) }
+    ensures memory { IfErr result (λ stop. AsksForRule stop (spec.line s.now)) }
 {
     let (rule, rest) = optional_rule(alloc, s)?;
     let rest = after_blanks(rest);

@@ -33,3 +33,25 @@ returns-clause-adding c = record { taken = refl; first_stands = refl; term_wins 
 pub returns-clause-errors : goal.returns-clause-errors
 unfolding elements ran digits pattern_same text_same decimal_text significant_places operands_of e.hex_digit e.hex_number e.numbered e.escape e.part many_from byte run1 encode
 returns-clause-errors c = record { function = refl; message = refl; message_attribute = refl; term = refl; term_attribute = refl; variable = refl; no_value = refl; missing_default = refl; cyclic = refl; too_many = refl; parser = refl; overriding = refl }
+
+pub returns-clause-premises : goal.returns-clause-premises
+returns-clause-premises c = record {
+  resource_adds = tt;
+  function_adds = tt;
+  builtins_add = tt;
+  overriding_is_another = λ h. h;
+  setting_is_another = λ h. h;
+  string_literal = tt;
+  number_literal = tt;
+  variable_is_none = λ h. h;
+  message_is_none = λ h. h;
+  term_is_none = λ h. h;
+  function_is_none = λ h. h;
+  in_braces_is_none = λ h. h;
+  no_call_is_closed = tt;
+  empty_call_is_closed = tt;
+  named_literals_are_closed = (tt, (tt, tt));
+  positional_literal_is_open = λ h. h;
+  first_named_variable_is_open = λ h. h.0;
+  last_named_variable_is_open = λ h. h.1.0;
+}

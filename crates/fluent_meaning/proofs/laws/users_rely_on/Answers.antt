@@ -1,6 +1,7 @@
 use Rattle.fluent_meaning.specs.Meaning.{run, substituted, within_budget, by_substitution}
 use Rattle.fluent_meaning.proofs.Added.{means_one_thing, adding_keeps, last_wins, cut_adding, cut_errors, cut_overriding}
-use Rattle.fluent_meaning.proofs.Answers.{none_left, none_right, error_left, error_right, term_same, run_once, alike_same}
+use Rattle.fluent_meaning.proofs.Answers.{none_left, none_right, error_left, error_right, term_same, run_once}
+use Rattle.fluent_meaning.proofs.Alike.{alike_same}
 use Rattle.fluent_meaning.proofs.laws.users_rely_on.Goals as goal
 use Rattle.std.proofs.Common.{ap}
 

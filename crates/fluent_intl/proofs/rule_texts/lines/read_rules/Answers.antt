@@ -2,7 +2,7 @@ use Rattle.std.proofs.Common.{◌≡◌, ◌<◌, length, length-drop, arith, ru
 use Rattle.std.proofs.lemmas.Bool.Decides.{nat_tests}
 use Rattle.std.proofs.lemmas.List.{nil_from_length}
 use Rattle.fluent_intl.specs.RuleReading.{all, rule_view}
-use Rattle.fluent_intl.proofs.RuleLines.{starts, refused, last, goes_on, ends_at}
+use Rattle.fluent_intl.proofs.RuleLines.{starts, refused, ruleless, last, goes_on, ends_at}
 use Rattle.fluent_intl.proofs.rule_texts.lines.read_rules.Goals as goal
 
 pub lines-init : goal.lines-init
@@ -17,6 +17,9 @@ returns-in-Err-Absent c = (
   refl,
   rw c.run_len.ensures.len (refused _ (all rule_view c.lines.found) _ c.lines.rest.now c.split_run.result.0.now c.split_run.result.1.now c.lines.invariant.read c.split_run.ensures.parts (rw c.in-Err-Absent.field-0-is at c.in-Err-Absent.ensures)),
 )
+
+pub returns-in-Err-Memory : goal.returns-in-Err-Memory
+returns-in-Err-Memory c none = (rw c.in-Err-Memory.field-0-is at c.in-Err-Memory.ensures) (ruleless _ (all rule_view c.lines.found) _ c.lines.rest.now c.split_run.result.0.now c.split_run.result.1.now c.lines.invariant.read c.split_run.ensures.parts none)
 
 pub after_first-rest-requires : goal.after_first-rest-requires
 after_first-rest-requires c =
