@@ -49,7 +49,9 @@ pub struct FluentBundle<'r, 's, M, C, F, G, T = Box<dyn Transform>> {
 
 // Written out, since a derived drop puts the drop of each part of a part into every proof that a bundle goes out of scope
 // in: some twenty steps at each exit of a caller's function, where this is one.
-impl<'r, 's, M: Drop, C, F: Drop, G: Drop, T: Drop> Drop for FluentBundle<'r, 's, M, C, F, G, T> {
+impl<'r, 's: 'r, M: Drop, C, F: Drop, G: Drop, T: Drop> Drop
+    for FluentBundle<'r, 's, M, C, F, G, T>
+{
     fn drop(self) {
         let FluentBundle {
             locales: _,

@@ -24,7 +24,7 @@ pub struct Ids<'r, 's, F> {
 }
 
 // Written out, so that the drop of what ids name is proved here, and is one step of a caller's proof.
-impl<'r, 's, F: Drop> Drop for Ids<'r, 's, F> {
+impl<'r, 's: 'r, F: Drop> Drop for Ids<'r, 's, F> {
     fn drop(self) {
         let Ids {
             known: _,
