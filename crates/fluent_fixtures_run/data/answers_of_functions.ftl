@@ -3,7 +3,7 @@
 #@ function FAULT = error
 #@ function STAR = star
 #@ function ONE = one
-#@ function TEXT = "\\u0041"
+#@ function TEXT = "\u0041"
 nothing = a{ NOTHING() }b
 #= a\u{2068}\u{2069}b
 fault = a{ FAULT() }b

@@ -28,7 +28,7 @@ confirm-modal = Are you sure?
 #= confirm-modal.cancel | No
 #= confirm-modal.tooltip n=22 | Closing the window will lose all unsaved data.
 #= confirm-modal.tooltip | Closing the window will lose all unsaved data.
-#attributes confirm-modal confirm cancel tooltip
+#attributes confirm cancel tooltip
 #===
 #@ cut off
 #===
@@ -174,7 +174,7 @@ confirm-modal = A
 #! Unknown variable: $n
 #= confirm-modal n=22 | A
 #= confirm-modal | A
-#attributes confirm-modal
+#attributes
 #===
 rank = { NUMBER($n, type: "ordinal") ->
  [1] first
@@ -193,7 +193,7 @@ confirm-modal = Are
 #! Unknown variable: $n
 #= confirm-modal n=22 | Are
 #= confirm-modal | Are
-#attributes confirm-modal
+#attributes
 #===
 rank = { NUMBER($n, type: "ordinal") ->
  [1] first
@@ -212,7 +212,7 @@ confirm-modal = Are you sure?
 #! Unknown variable: $n
 #= confirm-modal n=22 | Are you sure?
 #= confirm-modal | Are you sure?
-#attributes confirm-modal
+#attributes
 #===
 rank = { NUMBER($n, type: "ordinal") ->
  [1] first
@@ -232,7 +232,7 @@ confirm-modal = Are you sure?
 #! Unknown variable: $n
 #= confirm-modal n=22 | Are you sure?
 #= confirm-modal | Are you sure?
-#attributes confirm-modal
+#attributes
 #===
 rank = { NUMBER($n, type: "ordinal") ->
  [1] first
@@ -252,7 +252,7 @@ confirm-modal = Are you sure?
 #! Unknown variable: $n
 #= confirm-modal n=22 | Are you sure?
 #= confirm-modal | Are you sure?
-#attributes confirm-modal
+#attributes
 #===
 rank = { NUMBER($n, type: "ordinal") ->
  [1] first
@@ -273,7 +273,7 @@ confirm-modal = Are you sure?
 #! Unknown variable: $n
 #= confirm-modal n=22 | Are you sure?
 #= confirm-modal | Are you sure?
-#attributes confirm-modal
+#attributes
 #===
 rank = { NUMBER($n, type: "ordinal") ->
  [1] first
@@ -294,7 +294,7 @@ confirm-modal = Are you sure?
 #! Unknown variable: $n
 #= confirm-modal n=22 | Are you sure?
 #= confirm-modal | Are you sure?
-#attributes confirm-modal
+#attributes
 #===
 rank = { NUMBER($n, type: "ordinal") ->
  [1] first
@@ -316,7 +316,7 @@ confirm-modal = Are you sure?
 #= confirm-modal | Are you sure?
 #= confirm-modal.confirm n=22 | Ye
 #= confirm-modal.confirm | Ye
-#attributes confirm-modal confirm
+#attributes confirm
 #===
 rank = { NUMBER($n, type: "ordinal") ->
  [1] first
@@ -342,7 +342,7 @@ confirm-modal = Are you sure?
 #= confirm-modal.confirm | Yes
 #= confirm-modal.cancel n=22 | No
 #= confirm-modal.cancel | No
-#attributes confirm-modal confirm cancel
+#attributes confirm cancel
 #===
 rank = { NUMBER($n, type: "ordinal") ->
  [1] first
@@ -369,7 +369,7 @@ confirm-modal = Are you sure?
 #= confirm-modal.confirm | Yes
 #= confirm-modal.cancel n=22 | No
 #= confirm-modal.cancel | No
-#attributes confirm-modal confirm cancel
+#attributes confirm cancel
 #===
 rank = { NUMBER($n, type: "ordinal") ->
  [1] first
@@ -397,4 +397,4 @@ confirm-modal = Are you sure?
 #= confirm-modal.cancel | No
 #= confirm-modal.tooltip n=22 | Closing
 #= confirm-modal.tooltip | Closing
-#attributes confirm-modal confirm cancel tooltip
+#attributes confirm cancel tooltip

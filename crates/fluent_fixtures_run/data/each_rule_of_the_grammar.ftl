@@ -1,8 +1,7 @@
-## A source of two kilobytes that uses each rule of the grammar, with Junk in between; whole, cut and damaged at each place.
+## A source of two kilobytes that uses each rule of the grammar, with Junk in between; whole, and cut at each place.
 #@ function FIRST = first
 #@ function NAMED = named
 #@ cut
-#@ replace
 #===
 ### Each rule of the grammar.
 ## A group

@@ -14,7 +14,7 @@ a = 1
 #end
 #junk 6..14
 #= a | 1
-#attributes a
+#attributes
 #===
 a = { "x" }}
 #end
