@@ -1,6 +1,5 @@
 //! What a fixture says.
-use crate::objects::Answer;
-use crate::settings::Settings;
+use crate::settings::{Answer, Settings};
 use std::alloc::{AllocError, Global};
 
 /// A bundle of a fixture.

@@ -182,6 +182,9 @@ impl<'s> Reader<'s> {
         let Some(setting) = setting_of(words) else {
             return Ok(false);
         };
+        if self.has_begun {
+            return Ok(false);
+        }
         if let Setting::Function(id, answer) = setting {
             self.fixture.functions.push((id, answer))?;
         }
@@ -189,7 +192,7 @@ impl<'s> Reader<'s> {
         if let Some(bundle) = self.fixture.bundles.last_mut() {
             bundle.settings = self.settings;
         }
-        Ok(!self.has_begun)
+        Ok(true)
     }
 
     // ---- rows

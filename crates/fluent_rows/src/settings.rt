@@ -1,5 +1,47 @@
 //! What is set for bundles.
-use crate::objects::{ANSWERS, Answer, Shows, Upper};
+
+// ---- what an application hands over
+
+/// A function by what it answers, whatever it is asked or of what it is asked.
+#[derive(Clone, Copy, Drop)]
+pub enum Answer<'t> {
+    Nothing,
+    Fault,
+    /// A custom value.
+    Star,
+    One,
+    Text(&'t str),
+    /// The first positional value, or an error where there is none.
+    First,
+    /// The second one.
+    Second,
+    /// The named argument `x`, or an error where there is none.
+    Named,
+    /// The length of its one text in bytes, or an error where it is asked anything else.
+    Length,
+}
+
+const ANSWERS: &[(&str, Answer<'static>)] = &[
+    ("none", Answer::Nothing),
+    ("error", Answer::Fault),
+    ("star", Answer::Star),
+    ("one", Answer::One),
+    ("first", Answer::First),
+    ("second", Answer::Second),
+    ("named", Answer::Named),
+    ("length", Answer::Length),
+];
+
+/// A formatter.
+#[derive(Clone, Copy, Drop)]
+pub enum Shows {
+    /// Each value by its kind.
+    Kinds,
+    /// Each text between brackets.
+    Brackets,
+}
+
+// ---- settings
 
 /// Plural rules by their name or their texts.
 #[derive(Clone, Copy, Drop)]
@@ -17,7 +59,7 @@ pub enum Setting<'s> {
     Default,
     Isolating(bool),
     Builtins(bool),
-    Transform(Option<Upper>),
+    Upper(bool),
     Formatter(Option<Shows>),
     Limit(usize),
     English,
@@ -36,8 +78,8 @@ const WORDS: &[(&str, Setting<'static>)] = &[
     ("isolating off", Setting::Isolating(false)),
     ("builtins on", Setting::Builtins(true)),
     ("builtins off", Setting::Builtins(false)),
-    ("transform upper", Setting::Transform(Some(Upper))),
-    ("transform none", Setting::Transform(None)),
+    ("transform upper", Setting::Upper(true)),
+    ("transform none", Setting::Upper(false)),
     ("formatter kinds", Setting::Formatter(Some(Shows::Kinds))),
     ("formatter brackets", Setting::Formatter(Some(Shows::Brackets))),
     ("formatter none", Setting::Formatter(None)),
@@ -91,7 +133,8 @@ pub fn setting_of(words: &str) -> Option<Setting<'_>> {
 pub struct Settings<'s> {
     pub is_isolating: bool,
     pub has_builtins: bool,
-    pub transform: Option<Upper>,
+    /// Whether letters are made upper case.
+    pub is_upper: bool,
     pub formatter: Option<Shows>,
     pub limit: Option<usize>,
     pub rules: Rules<'s>,
@@ -123,7 +166,7 @@ impl<'s> Settings<'s> {
         Settings {
             is_isolating: true,
             has_builtins: true,
-            transform: None,
+            is_upper: false,
             formatter: None,
             limit: None,
             rules: Rules::English,
@@ -140,7 +183,7 @@ impl<'s> Settings<'s> {
             Setting::Default => after = Settings::unset(functions),
             Setting::Isolating(is_on) => after.is_isolating = is_on,
             Setting::Builtins(is_on) => after.has_builtins = is_on,
-            Setting::Transform(transform) => after.transform = transform,
+            Setting::Upper(is_on) => after.is_upper = is_on,
             Setting::Formatter(formatter) => after.formatter = formatter,
             Setting::Limit(limit) => after.limit = Some(limit),
             Setting::English => after.rules = Rules::English,

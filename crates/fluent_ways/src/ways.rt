@@ -1,11 +1,11 @@
 //! The ways in which a call is tried.
 use crate::bundles::Bundle;
-use crate::fixture::Told;
-use crate::report::Report;
 use crate::values::Args;
 use crate::writers::{End, How, Narrow, end_of, narrow};
 use fluent_bundle::ast::Pattern;
 use fluent_bundle::{Counting, FluentError};
+use fluent_rows::fixture::Told;
+use fluent_rows::report::Report;
 use std::alloc::{AllocError, Global};
 use std::borrow::CowStr;
 

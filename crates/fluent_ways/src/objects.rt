@@ -1,13 +1,14 @@
 //! What the fixtures' application hands to its bundles.
 ghost use Rattle.std.specs.Prelude.{◌≡◌};
 ghost use Rattle.fluent_values.specs.View.{value_view};
-ghost use Rattle.fluent_rows.specs.Objects.{kind_word};
+ghost use Rattle.fluent_ways.specs.Objects.{kind_word};
 
 use fluent_bundle::{
     FluentArgs, FluentFormatter, FluentFunction, FluentType, FluentValue, MemoizerKind,
     PluralCategory, PluralOperands, PluralRuleType, Transform,
 };
 use fluent_intl::{EnglishPlurals, RuleTexts};
+use fluent_rows::settings::{Answer, Shows};
 use std::alloc::{AllocError, Global};
 use std::borrow::CowStr;
 
@@ -41,46 +42,20 @@ impl FluentType for Star {
 
 // ---- functions
 
-/// A function by what it answers, whatever it is asked or of what it is asked.
+/// A function of a fixture.
 #[derive(Clone, Copy, Drop)]
-pub enum Answer<'t> {
-    Nothing,
-    Fault,
-    Star,
-    One,
-    Text(&'t str),
-    /// The first positional value, or an error where there is none.
-    First,
-    /// The second one.
-    Second,
-    /// The named argument `x`, or an error where there is none.
-    Named,
-    /// The length of its one text in bytes, or an error where it is asked anything else.
-    Length,
-}
+pub struct Function<'t>(pub Answer<'t>);
 
-/// The functions that a fixture calls by a word.
-pub const ANSWERS: &[(&str, Answer<'static>)] = &[
-    ("none", Answer::Nothing),
-    ("error", Answer::Fault),
-    ("star", Answer::Star),
-    ("one", Answer::One),
-    ("first", Answer::First),
-    ("second", Answer::Second),
-    ("named", Answer::Named),
-    ("length", Answer::Length),
-];
-
-impl<'t> FluentFunction<Star> for Answer<'t> {
+impl<'t> FluentFunction<Star> for Function<'t> {
     ghost use Rattle.std.specs.Prelude.{[], None, codes, pos, slice_get, unwrap_or};
     ghost use Rattle.fluent_intl.specs.Decimal.{whole};
     ghost use Rattle.fluent_intl.specs.Number.{number_with};
     ghost use Rattle.fluent_meaning.specs.Arguments.{get};
     ghost use Rattle.fluent_meaning.specs.Value.{text_value, number_value, custom_value, no_value, error_value};
-    ghost use Rattle.fluent_rows.specs.Objects.{length_of};
-    ghost use Rattle.fluent_rows.specs.declared.objects.Answer.TheVariants as own;
+    ghost use Rattle.fluent_ways.specs.Objects.{length_of};
+    ghost use Rattle.fluent_rows.specs.declared.settings.Answer.TheVariants as own;
 
-    ghost answer = { λ f positional named. elim f [
+    ghost answer = { λ f positional named. elim f.0 [
       | own.Nothing ↦ no_value
       | own.Fault ↦ error_value
       | own.Star ↦ custom_value []
@@ -98,7 +73,7 @@ impl<'t> FluentFunction<Star> for Answer<'t> {
         positional: &[FluentValue<'a, Star>],
         arguments: &FluentArgs<'a, Star>,
     ) -> Result<FluentValue<'a, Star>, AllocError> {
-        match self {
+        match &self.0 {
             Answer::Nothing => Ok(FluentValue::None),
             Answer::Fault => Ok(FluentValue::Error),
             Answer::Star => Ok(FluentValue::Custom(Star)),
@@ -131,14 +106,9 @@ impl<'t> FluentFunction<Star> for Answer<'t> {
 
 // ---- formatters
 
-/// A formatter.
+/// A formatter of a fixture.
 #[derive(Clone, Copy, Drop)]
-pub enum Shows {
-    /// Each value by its kind.
-    Kinds,
-    /// Each text between brackets.
-    Brackets,
-}
+pub struct Formatter(pub Shows);
 
 /// The word for the kind of a value.
 fn kind_of(value: &FluentValue<'_, Star>) -> &'static str
@@ -153,12 +123,12 @@ fn kind_of(value: &FluentValue<'_, Star>) -> &'static str
     }
 }
 
-impl FluentFormatter<Star, Plurals> for Shows {
+impl FluentFormatter<Star, Plurals> for Formatter {
     ghost use Rattle.std.specs.Prelude.{Some};
-    ghost use Rattle.fluent_rows.specs.Objects.{kind_word, in_brackets};
-    ghost use Rattle.fluent_rows.specs.declared.objects.Shows.TheVariants as own;
+    ghost use Rattle.fluent_ways.specs.Objects.{kind_word, in_brackets};
+    ghost use Rattle.fluent_rows.specs.declared.settings.Shows.TheVariants as own;
 
-    ghost formatted = { λ f v _. elim f [
+    ghost formatted = { λ f v _. elim f.0 [
       | own.Kinds ↦ Some (kind_word v)
       | own.Brackets ↦ in_brackets v
     ] };
@@ -169,7 +139,7 @@ impl FluentFormatter<Star, Plurals> for Shows {
         value: &FluentValue<'a, Star>,
         _intls: &Plurals,
     ) -> Result<Option<String>, AllocError> {
-        match self {
+        match &self.0 {
             Shows::Kinds => Ok(Some(String::from_str(alloc, kind_of(value))?)),
             Shows::Brackets => match value {
                 FluentValue::String(text) => {
@@ -212,7 +182,7 @@ pub enum Plurals {
 impl MemoizerKind for Plurals {
     ghost use Rattle.fluent_intl.specs.Plurals.{english};
     ghost use Rattle.fluent_intl.specs.RuleTexts.{category_of};
-    ghost use Rattle.fluent_rows.specs.declared.objects.Plurals.TheVariants as own;
+    ghost use Rattle.fluent_ways.specs.declared.objects.Plurals.TheVariants as own;
 
     ghost category = { λ p. elim p [ own.English ↦ λ _. english | own.Rules texts ↦ category_of texts ] };
 

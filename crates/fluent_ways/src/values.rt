@@ -1,7 +1,7 @@
 //! The arguments of a call.
 use crate::objects::Star;
-use crate::texts::{first_word, unescaped};
 use fluent_bundle::{FluentArgs, FluentValue, MergeArgs};
+use fluent_rows::texts::{first_word, unescaped};
 use std::alloc::{AllocError, Global};
 use std::borrow::CowStr;
 

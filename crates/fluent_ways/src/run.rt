@@ -1,18 +1,18 @@
 //! The report on a fixture.
 use crate::bundles::{Bundle, all, pattern_in, read_all};
 use crate::damaged;
-use crate::fixture::{Fixture, Row, Told, Wanted};
-use crate::objects::{Answer, Plurals, Shows, Star, Upper};
-use crate::reader::read;
-use crate::report::Report;
+use crate::objects::{Formatter, Function, Plurals, Star, Upper};
 use crate::values::{Args, arguments};
 use crate::ways::{Asked, are_told, hold};
 use fluent_bundle::ast::Pattern;
 use fluent_chain::{Chain, Link};
+use fluent_rows::fixture::{Fixture, Row, Told, Wanted};
+use fluent_rows::reader::read;
+use fluent_rows::report::Report;
 use std::alloc::{AllocError, Global};
 
 /// A bundle of a chain.
-type Linked<'b, 'r, 's> = Link<'b, 'r, 's, Plurals, Star, Answer<'s>, Shows, Upper>;
+type Linked<'b, 'r, 's> = Link<'b, 'r, 's, Plurals, Star, Function<'s>, Formatter, Upper>;
 
 /// The first of these bundles that has the value or the attribute of a row, and its pattern there.
 fn first_with<'b, 'r, 's>(

@@ -1,10 +1,10 @@
 //! Sources that are cut, or have a sign in place of one of their characters: each call of their bundle answers, and
 //! alike in each way.
 use crate::bundles::{Bundle, pattern_in, read, set, settled};
-use crate::fixture::{Described, Fixture, Part, Row, Wanted};
-use crate::report::Report;
 use crate::values::arguments;
 use crate::ways::{Asked, Written, format, lines, written};
+use fluent_rows::fixture::{Described, Fixture, Part, Row, Wanted};
+use fluent_rows::report::Report;
 use std::alloc::{AllocError, Global};
 
 /// The signs that the grammar gives a meaning.

@@ -1,18 +1,18 @@
 //! The bundles of a fixture.
-use crate::fixture::{Described, Fixture, Part};
-use crate::objects::{Answer, Plurals, Shows, Star, Upper};
-use crate::report::Report;
-use crate::settings::{Rules, Settings};
+use crate::objects::{Formatter, Function, Plurals, Star, Upper};
 use fluent_bundle::ast::Pattern;
 use fluent_bundle::bundle::AddFault;
 use fluent_bundle::{
     FluentBundle, FluentError, FluentResource, ParserError, TryNewFault,
 };
 use fluent_intl::{RuleFault, RuleTexts, cldr_plurals, rules_for};
+use fluent_rows::fixture::{Described, Fixture, Part};
+use fluent_rows::report::Report;
+use fluent_rows::settings::{Answer, Rules, Settings};
 use std::alloc::{AllocError, Global};
 
 /// A bundle with the objects of fixtures.
-pub type Bundle<'r, 's> = FluentBundle<'r, 's, Plurals, Star, Answer<'s>, Shows, Upper>;
+pub type Bundle<'r, 's> = FluentBundle<'r, 's, Plurals, Star, Function<'s>, Formatter, Upper>;
 
 // ---- resources
 
@@ -106,8 +106,8 @@ fn plurals_or_english(
 /// Sets what takes no memory. Whether the limit is one.
 pub fn set<'r, 's>(bundle: &mut Bundle<'r, 's>, settings: &Settings<'s>) -> bool {
     bundle.set_use_isolating(settings.is_isolating);
-    bundle.set_transform(settings.transform);
-    bundle.set_formatter(settings.formatter);
+    bundle.set_transform(if settings.is_upper { Some(Upper) } else { None });
+    bundle.set_formatter(settings.formatter.map(Formatter));
     match settings.limit {
         Some(limit) => bundle.set_placeable_limit(limit),
         None => true,
@@ -126,7 +126,7 @@ fn add_functions<'r, 's>(
     }
     for index in settings.functions.0..settings.functions.1 {
         if let Some((id, answer)) = functions.get(index) {
-            put_left(left, bundle.add_function(*id, *answer))?;
+            put_left(left, bundle.add_function(*id, Function(*answer)))?;
         }
     }
     Ok(())
@@ -165,6 +165,7 @@ fn add<'r, 's>(
     report.at(part.line);
     let junk = junk_lines(alloc, source.errors.as_slice())?;
     report.same(part.junk.as_str(), junk.as_str(), "junk of the resource")?;
+    report.at(part.line);
     report.same(part.left.as_str(), left.as_str(), "left of the resource")
 }
 
