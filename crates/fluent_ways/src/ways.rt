@@ -1,0 +1,197 @@
+//! The ways in which a call is tried.
+use crate::bundles::Bundle;
+use crate::values::Args;
+use crate::writers::{End, How, Narrow, end_of, narrow};
+use fluent_bundle::ast::Pattern;
+use fluent_bundle::{Counting, FluentError};
+use fluent_rows::fixture::Told;
+use fluent_rows::report::Report;
+use std::alloc::{AllocError, Global};
+use std::borrow::CowStr;
+
+/// What a call is made for: a bundle, a pattern, and arguments if there are some.
+#[derive(Clone, Copy, Drop)]
+pub struct Asked<'x, 'r, 's> {
+    pub bundle: &'x Bundle<'r, 's>,
+    pub pattern: &'x Pattern<'s>,
+    pub args: Option<&'x Args<'s>>,
+}
+
+/// Formats a pattern.
+pub fn format<'s>(
+    asked: &Asked<'_, '_, 's>,
+    errors: &mut Vec<FluentError>,
+) -> Result<CowStr<'s>, AllocError> {
+    asked
+        .bundle
+        .format_pattern(asked.pattern, asked.args, errors)
+}
+
+/// Writes a pattern.
+fn write(
+    asked: &Asked<'_, '_, '_>,
+    w: &mut Counting<Narrow>,
+    errors: &mut Vec<FluentError>,
+) -> End {
+    end_of(
+        asked
+            .bundle
+            .write_pattern(w, asked.pattern, asked.args, errors),
+    )
+}
+
+// ---- errors
+
+/// The texts of errors, as a fixture has them.
+pub fn lines(alloc: Global, errors: &[FluentError]) -> Result<String, AllocError> {
+    let mut out = String::new(alloc);
+    for error in errors {
+        match error {
+            FluentError::ResolverError(error) => write!(out, "{error}\n")?,
+            _ => write!(out, "{error}\n")?,
+        }
+    }
+    Ok(out)
+}
+
+/// That errors are those that are wanted.
+pub fn are_told(
+    alloc: Global,
+    errors: &[FluentError],
+    told: &Told,
+    way: &str,
+    report: &mut Report<'_>,
+) -> Result<(), AllocError> {
+    let found = lines(alloc, errors)?;
+    report.same(told.errors.as_str(), found.as_str(), way)
+}
+
+// ---- whole calls
+
+/// Formats a pattern.
+fn formats(
+    alloc: Global,
+    asked: &Asked<'_, '_, '_>,
+    told: &Told,
+    report: &mut Report<'_>,
+) -> Result<(), AllocError> {
+    let mut errors = Vec::new(alloc);
+    let text = format(asked, &mut errors)?;
+    report.same(told.formatted(), text.as_str(), "format_pattern")?;
+    are_told(alloc, errors.as_slice(), told, "errors of format_pattern", report)
+}
+
+/// What a call wrote: its text and the lines of its errors.
+pub type Written = (Vec<u8>, String);
+
+/// Writes a pattern to a writer that takes so many bytes at once, and has room for all; `None` where it fails.
+pub fn written(
+    alloc: Global,
+    asked: &Asked<'_, '_, '_>,
+    at_once: usize,
+) -> Result<Option<Written>, AllocError> {
+    let how = How {
+        at_once,
+        in_all: usize::MAX,
+        fails: true,
+    };
+    let mut errors = Vec::new(alloc);
+    let mut w = narrow(alloc, how);
+    let end = write(asked, &mut w, &mut errors);
+    if end == End::Memory {
+        return Err(AllocError);
+    }
+    if end != End::Whole || w.failed() != 0 || w.empty() != 0 {
+        return Ok(None);
+    }
+    let errors = lines(alloc, errors.as_slice())?;
+    Ok(Some((w.into_inner().taken, errors)))
+}
+
+/// Writes a pattern so.
+fn writes(
+    alloc: Global,
+    asked: &Asked<'_, '_, '_>,
+    told: &Told,
+    at_once: usize,
+    report: &mut Report<'_>,
+) -> Result<(), AllocError> {
+    let Some((taken, errors)) = written(alloc, asked, at_once)? else {
+        return report.holds_at(false, "write_pattern failed where a writer takes at once", at_once);
+    };
+    let text = str::from_utf8(taken.as_slice()).unwrap_or("no text");
+    report.same(told.text.as_str(), text, "write_pattern")?;
+    report.same(told.errors.as_str(), errors.as_str(), "errors of write_pattern")
+}
+
+// ---- calls that stop
+
+/// That a call on a full writer ended so, after one write that failed or took nothing, and none after it.
+fn is_one_fault(how: How, end: End, failed: u64, empty: u64) -> bool {
+    if how.fails {
+        end == End::Writer && (failed, empty) == (1, 0)
+    } else {
+        end == End::Zero && (failed, empty) == (0, 1)
+    }
+}
+
+/// That a full writer has taken the front of a text, as much as it may.
+fn is_front(taken: &[u8], how: How, text: &str) -> bool {
+    taken.len() == how.in_all && text.as_bytes().starts_with(taken)
+}
+
+/// Writes a pattern to a writer that takes less than its text: what it took begins the text, and the errors that were
+/// added begin those of the row.
+fn stops(
+    alloc: Global,
+    asked: &Asked<'_, '_, '_>,
+    told: &Told,
+    how: How,
+    report: &mut Report<'_>,
+) -> Result<(), AllocError> {
+    let mut errors = Vec::new(alloc);
+    let mut w = narrow(alloc, how);
+    let end = write(asked, &mut w, &mut errors);
+    if end == End::Memory {
+        return Err(AllocError);
+    }
+    let is_one = is_one_fault(how, end, w.failed(), w.empty());
+    let is_front = is_front(w.into_inner().taken.as_slice(), how, told.text.as_str());
+    report.holds_at(is_one && is_front, "write_pattern to a writer that is full", how.in_all)?;
+    let found = lines(alloc, errors.as_slice())?;
+    let begin = told.errors.as_str().starts_with(found.as_str());
+    report.holds_at(begin, "errors where a writer is full", how.in_all)
+}
+
+/// Each place where a writer may stop, by a fault or by taking nothing.
+fn stops_everywhere(
+    alloc: Global,
+    asked: &Asked<'_, '_, '_>,
+    told: &Told,
+    report: &mut Report<'_>,
+) -> Result<(), AllocError> {
+    for in_all in 0..told.text.len() {
+        for fails in [true, false] {
+            let how = How {
+                at_once: usize::MAX,
+                in_all,
+                fails,
+            };
+            stops(alloc, asked, told, how, report)?;
+        }
+    }
+    Ok(())
+}
+
+/// Each way of a bundle.
+pub fn hold(
+    alloc: Global,
+    asked: &Asked<'_, '_, '_>,
+    told: &Told,
+    report: &mut Report<'_>,
+) -> Result<(), AllocError> {
+    formats(alloc, asked, told, report)?;
+    writes(alloc, asked, told, usize::MAX, report)?;
+    writes(alloc, asked, told, 1, report)?;
+    stops_everywhere(alloc, asked, told, report)
+}
