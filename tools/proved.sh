@@ -1,3 +1,4 @@
+# shellcheck shell=bash
 # What ./fluent_show, ./build and ./check share, for a shell to read: which crates one stands on, and whether the program in
 # its out/ is the proved one of these sources. Each takes the folder of a repository, and the name of one of its crates.
 
@@ -59,7 +60,7 @@ copy_crates() {
     shift 2
     mkdir -p "$to/.git" && cp "$top/HANDLES" "$to/" || return 1
     for crate in "$@"; do
-        mkdir -p "$to/crates/$crate" && grep -E "^$crate[ :]" "$top/crates.txt" >> "$to/crates.txt" || return 1
+        mkdir -p "$to/crates/$crate" && grep -E "^${crate}[ :]" "$top/crates.txt" >> "$to/crates.txt" || return 1
         for part in "$top/crates/$crate"/*; do
             case ${part##*/} in
                 out | must-fail | wrong-bodies) ;;
