@@ -1,0 +1,71 @@
+# shellcheck shell=bash
+# What ./fluent_show, ./build and ./check share, for a shell to read: which crates one stands on, and whether the program in
+# its out/ is the proved one of these sources. Each takes the folder of a repository, and the name of one of its crates.
+
+# The lines of crates.txt of the crate, or of several, and of those that they stand on, directly or not.
+lines_for() {
+    awk -F: -v wanted="${*:2}" '
+        { sub(/#.*/, "") }
+        NF == 2 { split($1, word, " "); name = word[1]; order[++count] = name; line[name] = $0; below[name] = $2 }
+        function need(name,    part, size, i) {
+            if (name in needed || !(name in line)) return
+            needed[name]
+            size = split(below[name], part, " ")
+            for (i = 1; i <= size; i++) need(part[i])
+        }
+        END {
+            size = split(wanted, name_of, " ")
+            for (i = 1; i <= size; i++) need(name_of[i])
+            for (i = 1; i <= count; i++) if (order[i] in needed) print line[order[i]]
+        }' "$1/crates.txt"
+}
+
+# The names of the same crates.
+crates_for() {
+    lines_for "$@" | sed 's/[: ].*//'
+}
+
+# A sum of all that the crate is proved from: its line of crates.txt and its files, and those of the crates that it stands on.
+sum_of_sources() {
+    (
+        cd "$1" || exit 1
+        lines_for . "$2"
+        for crate in $(crates_for . "$2"); do
+            find "crates/$crate"/{src,specs,proofs} -type f -exec sha256sum {} + 2> /dev/null
+        done
+    ) | LC_ALL=C sort | sha256sum
+}
+
+# What note_proved writes beside the program: the sum of the sources, and the program's own.
+mark_of() {
+    printf '%s\n' "$3"
+    sha256sum < "$1/crates/$2/out/$2"
+}
+
+# Notes that the program in the crate's out/ is the proved one of the sources with the sum $3.
+note_proved() {
+    mark_of "$@" > "$1/crates/$2/out/$2.proved"
+}
+
+# Whether the program in the crate's out/ is the proved one of these sources.
+is_proved() {
+    local mark=$1/crates/$2/out/$2.proved
+    [ -x "$1/crates/$2/out/$2" ] && [ -r "$mark" ] && [ "$(cat "$mark")" = "$(mark_of "$@" "$(sum_of_sources "$@")")" ]
+}
+
+# Copies the crates that are named behind the folder $2, but for what was made of them and their wrong bodies, from the
+# repository $1 to that folder, which is then a repository of its own.
+copy_crates() {
+    local top=$1 to=$2 crate part
+    shift 2
+    mkdir -p "$to/.git" && cp "$top/HANDLES" "$to/" || return 1
+    for crate in "$@"; do
+        mkdir -p "$to/crates/$crate" && grep -E "^${crate}[ :]" "$top/crates.txt" >> "$to/crates.txt" || return 1
+        for part in "$top/crates/$crate"/*; do
+            case ${part##*/} in
+                out | must-fail | wrong-bodies) ;;
+                *) cp -R "$part" "$to/crates/$crate/" || return 1 ;;
+            esac
+        done
+    done
+}
