@@ -3,7 +3,7 @@ use Rattle.std.proofs.Common.{◌≡◌, ◌≢◌, ℕ, zero, suc, ◌-◌, ◌
 use Rattle.std.specs.Io.KnownBytes.{Appends}
 use Rattle.std.proofs.lemmas.Bool.Decides.{nat_tests}
 use Rattle.fluent_text.specs.Parser.{Text}
-use Rattle.fluent_text.specs.Taken.{TookFront}
+use Rattle.fluent_text.specs.Taken.{LeftSome, TookFront}
 use Rattle.fluent_text.specs.Lexical.{is_plain}
 use Rattle.fluent_text.specs.Parser.{Read, Parser, many_from, turn, go_on, run, run1, run_len, byte}
 use Rattle.fluent_text.specs.Escapes.{value_of, part, unescaped}
@@ -41,6 +41,18 @@ began whole front piece k s rest old mid new e a t =
       e ∙ (g.1 ∙ (ap (λ w. (front ++ w) ++ g.0) t.2 ∙ (ap (λ w. w ++ g.0) (sym (append_assoc front t.0 t.1)) ∙ append_assoc (front ++ t.0) t.1 g.0))),
       appends_twice old mid new front t.0 a t.3,
     )
+
+some_more : (xs ys : List ℕ) → xs ≢ [] → xs ++ ys ≢ []
+some_more [] ys some = absurd (some refl)
+some_more (x ∷ xs) ys some = λ none. absurd cc
+
+-- and what is left of the part is left of the whole
+pub left_of : (whole front piece : Text) (k : ℕ) (s rest : List ℕ) (old mid new : Option (List ℕ)) → whole ≡ value_of (many_from ◌++◌ part k (front ++ piece) rest)
+    → Appends old mid front → LeftSome mid new piece → LeftSome old new whole
+unfolding began
+left_of whole front piece k s rest old mid new e a t =
+    let b = began whole front piece k s rest old mid new e a (t.0, t.1, t.3, t.4) in
+    (b.0, b.1, some_more t.1 (grows part k (front ++ piece) rest).0 t.2, b.2, b.3)
 
 pub on_err : {T E : Type 0} (r : Result T E) (P : Type 0) → P → OnErr r P
 on_err (Ok x) P p = tt

@@ -1,5 +1,5 @@
 -- What a writer took, and how a count rises.
-use Rattle.std.specs.Prelude.{◌≡◌, ℕ, ◌+◌, ◌-◌, ◌^◌, min, List, [], ◌∷◌, ◌++◌, Bool, true, false, suc, zero, Option, Result, Ok, Err}
+use Rattle.std.specs.Prelude.{◌≡◌, ◌≢◌, ℕ, ◌+◌, ◌-◌, ◌^◌, min, List, [], ◌∷◌, ◌++◌, Bool, true, false, suc, zero, Option, Result, Ok, Err}
 use Rattle.std.specs.Io.KnownBytes.{Appends}
 use Rattle.fluent_text.specs.declared.counting.WriteFault.{WriteFault}
 use Rattle.fluent_text.specs.declared.counting.WriteFault.TheVariants.{Memory, Writer, Zero}
@@ -18,6 +18,10 @@ took_nothing (Err e) piece = false
 -- of a piece some front was taken
 abbrev pub TookFront : Option (List ℕ) → Option (List ℕ) → List ℕ → Type 0
 TookFront old new piece = (front : List ℕ) × (rest : List ℕ) × (piece ≡ front ++ rest) × Appends old new front
+
+-- of a piece some was left, behind a front that was taken
+abbrev pub LeftSome : Option (List ℕ) → Option (List ℕ) → List ℕ → Type 0
+LeftSome old new piece = (front : List ℕ) × (rest : List ℕ) × (rest ≢ []) × (piece ≡ front ++ rest) × Appends old new front
 
 -- which count a fault raised, from the counts before and after
 abbrev pub Faulted : {T : Type 0} → ℕ → ℕ → ℕ → ℕ → Result T WriteFault → Type 0

@@ -7,7 +7,7 @@ ghost use Rattle.std.specs.List.{All};
 ghost use Rattle.fluent_text.specs.Escapes as spec;
 ghost use Rattle.fluent_text.specs.Unescaped.{bytes_of, Lends};
 ghost use Rattle.fluent_text.specs.Reading.{found};
-ghost use Rattle.fluent_text.specs.Taken.{TookFront, ByWriter};
+ghost use Rattle.fluent_text.specs.Taken.{LeftSome, TookFront, ByWriter};
 ghost use Rattle.fluent_text.specs.Writer.{writer_in, CountsFault};
 
 use crate::bytes::{byte_at, eat, split_plain};
@@ -30,11 +30,13 @@ enum Unescaped<'s> {
 /// gives U+FFFD, and what stands behind it is text.
 ///
 /// The one error is a fault of the writer: `Writer` with its error, or `Zero` where a write took no byte.
-/// After it the writer has taken a beginning of that text, and nothing is written any more.
+/// After it the writer has taken a beginning of that text, but not the whole, and nothing is written any more.
 pub fn unescape_unicode<W: Write>(w: &mut Counting<W>, text: &str) -> Result<(), WriteFault>
     ensures whole { OnOk result (Appends (W.contents (writer_in w.old)) (W.contents (writer_in w.new))
         (spec.unescaped text.now)) }
     ensures front { OnErr result (TookFront (W.contents (writer_in w.old)) (W.contents (writer_in w.new))
+        (spec.unescaped text.now)) }
+    ensures left { OnErr result (LeftSome (W.contents (writer_in w.old)) (W.contents (writer_in w.new))
         (spec.unescaped text.now)) }
     ensures fault { CountsFault w.old w.new result }
     ensures writer { ByWriter result }
@@ -54,6 +56,8 @@ fn put_part<W: Write>(w: &mut Counting<W>, part: Unescaped) -> Result<(), WriteF
     ensures whole { OnOk result (Appends (W.contents (writer_in w.old)) (W.contents (writer_in w.new))
         (bytes_of part.entry)) }
     ensures front { OnErr result (TookFront (W.contents (writer_in w.old)) (W.contents (writer_in w.new))
+        (bytes_of part.entry)) }
+    ensures left { OnErr result (LeftSome (W.contents (writer_in w.old)) (W.contents (writer_in w.new))
         (bytes_of part.entry)) }
     ensures fault { CountsFault w.old w.new result }
     ensures writer { ByWriter result }

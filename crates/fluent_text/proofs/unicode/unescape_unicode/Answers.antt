@@ -5,7 +5,7 @@ use Rattle.fluent_text.specs.Escapes.{part, value_of}
 use Rattle.fluent_text.specs.Unescaped.{bytes_of}
 use Rattle.fluent_text.proofs.Front.{appends_twice}
 use Rattle.fluent_text.specs.Facts.Turns.{none, done, next, more}
-use Rattle.fluent_text.proofs.Unescapes.{began, on_err}
+use Rattle.fluent_text.proofs.Unescapes.{began, left_of, on_err}
 use Rattle.fluent_text.proofs.unicode.unescape_unicode.Goals as goal
 
 pub returns-in_default-clause-whole : goal.returns-in_default-clause-whole
@@ -23,6 +23,12 @@ returns-in_err-put_part-clause-front g c =
     let n = length c.args.text.now in
     let turned = more ◌++◌ part (n - c.parts._turn) (n - (c.parts._turn + 1)) c.parts.invariant.1.0 c.parts.rest.now _ _ (omega arith) (sym c.in-Some.ensures.gives) c.in-Some.ensures.shorter in
     on_err c.from_residual.result _ (began _ c.parts.invariant.1.0 (bytes_of c.in-Some.part) _ c.parts.rest.now _ _ _ _ (ap value_of (c.parts.invariant.1.1 ∙ turned)) c.parts.invariant.1.2 c.in_err-put_part.ensures.front)
+
+pub returns-in_err-put_part-clause-left : goal.returns-in_err-put_part-clause-left
+returns-in_err-put_part-clause-left g c =
+    let n = length c.args.text.now in
+    let turned = more ◌++◌ part (n - c.parts._turn) (n - (c.parts._turn + 1)) c.parts.invariant.1.0 c.parts.rest.now _ _ (omega arith) (sym c.in-Some.ensures.gives) c.in-Some.ensures.shorter in
+    on_err c.from_residual.result _ (left_of _ c.parts.invariant.1.0 (bytes_of c.in-Some.part) _ c.parts.rest.now _ _ _ _ (ap value_of (c.parts.invariant.1.1 ∙ turned)) c.parts.invariant.1.2 c.in_err-put_part.ensures.left)
 
 pub parts-preserved : goal.parts-preserved
 parts-preserved g c =

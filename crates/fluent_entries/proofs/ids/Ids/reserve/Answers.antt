@@ -10,12 +10,12 @@ use Rattle.fluent_entries.proofs.ids.Ids.reserve.Goals as goal
 
 pub returns : goal.returns
 unfolding ids
-returns g c = λ answer. same_named (λ s. entry_of answer s.entry) (slots c.args.self.now.known) (slots c.reserve.new.self) (λ q. ap (named q) c.reserve.ensures)
+returns g c = λ answer. same_named (λ s. entry_of answer s.entry) (slots c.args.self.now.known) (slots c.reserve.new.self) (λ q. ap (named q) c.reserve.ensures.slots)
 
 pub invariant_of-self : goal.invariant_of-self
 invariant_of-self g c =
-    let names : (q : Text) → named q (slots c.reserve.new.self) ≡ named q (slots c.args.self.now.known) = λ q. ap (named q) c.reserve.ensures in
+    let names : (q : Text) → named q (slots c.reserve.new.self) ≡ named q (slots c.args.self.now.known) = λ q. ap (named q) c.reserve.ensures.slots in
     record {
       named = same_own (slots c.args.self.now.known) (slots c.reserve.new.self) names c.args.self.now.named;
-      linked = same_linked (slots c.args.self.now.known) (slots c.reserve.new.self) (contents c.args.self.now.classes) (contents c.args.self.now.classes) (λ q n h. ap (λ ss. number ss q) c.reserve.ensures ∙ h) (λ n p h. h) names c.args.self.now.linked;
+      linked = same_linked (slots c.args.self.now.known) (slots c.reserve.new.self) (contents c.args.self.now.classes) (contents c.args.self.now.classes) (λ q n h. ap (λ ss. number ss q) c.reserve.ensures.slots ∙ h) (λ n p h. h) names c.args.self.now.linked;
     }
