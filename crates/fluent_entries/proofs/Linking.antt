@@ -20,7 +20,9 @@ use Rattle.fluent_links.specs.declared.linked.Linked.{Linked}
 use Rattle.fluent_entries.specs.declared.slot.Slot.{Slot}
 use Rattle.fluent_entries.specs.declared.slot.Kept.{Kept}
 use Rattle.fluent_entries.specs.Linking.{AreKept, AreLinked, AreOf, IsKeptOf, IsLinked, IsValueKept, Keeps, RefersToNothing, attributes_in, attributes_kept, is_bare, is_value_bare, patterns, value_in}
+use Rattle.fluent_entries.specs.Numbered.{Grown, numbers, table}
 use Rattle.fluent_entries.specs.Texts.{is_text}
+use Rattle.fluent_entries.specs.declared.ids.Ids.{Ids}
 
 some_is : {A : Type 0} (x y : A) → Some x ≡ Some y → x ≡ y
 some_is x y h = ap (λ o. unwrap_or o x) h
@@ -63,6 +65,15 @@ keeps_twice a b c h k = λ id n at. k id n (h id n at)
 
 pub grows_twice : (a b c : List Pattern) → Grows a b → Grows b c → Grows a c
 grows_twice a b c h k = λ n p at. k n p (h n p at)
+
+pub grown_itself : {F : Type 0} (m : Ids F) → Grown m m
+grown_itself m = (λ id n at. at, λ n p at. at)
+
+pub grown_by : {F : Type 0} (a b : Ids F) → ((id : Text) → numbers b id ≡ numbers a id) → table b ≡ table a → Grown a b
+grown_by a b same t = (kept_by (numbers a) (numbers b) same, grows_by (table a) (table b) t)
+
+pub grown_twice : {F : Type 0} (a b c : Ids F) → Grown a b → Grown b c → Grown a c
+grown_twice a b c h k = (keeps_twice (numbers a) (numbers b) (numbers c) h.0 k.0, grows_twice (table a) (table b) (table c) h.1 k.1)
 
 module _ (n n' : Text → Option ℕ) (t t' : List Pattern) (kept : KeepsNumbers n n') (grows : Grows t t') where
   still_kept : (ps : List Pattern) (ls : List Linked) → AreKept n t ps ls → AreKept n' t' ps ls

@@ -154,6 +154,7 @@ fn make_ready<'r, 's, F: Drop>(
         ≡ given_by es waiting.old.list.items ++ given_at es place) }
     ensures number { OnOk result ((n : ℕ) → has_number waiting.new.list.items n
         ≡ (has_number waiting.old.list.items n || nat_eq number n)) }
+    ensures grown { Grown known.old known.new }
     ensures same { (answer : F → Function Text) → ids answer known.new ≡ ids answer known.old }
 {
     let kept = kept_of(alloc, known, parts.value, parts.attributes)?;
@@ -176,6 +177,7 @@ fn override_entry<'r, 's, F: Drop>(
         waiting.new.list.items waiting.new.kept.items) }
     ensures given { OnOk result (given_by {C = Text} entries.now waiting.new.list.items
         ≡ given_by entries.now waiting.old.list.items ++ given_at entries.now place) }
+    ensures grown { Grown known.old known.new }
     ensures same { (answer : F → Function Text) → ids answer known.new ≡ ids answer known.old }
 {
     let Some(parts) = parts_of(&entries[place as usize]) else {
@@ -195,6 +197,7 @@ fn override_all<'r, 's, F: Drop>(
         w.list.items w.kept.items) }
     ensures given { IfOk result (λ w.
         given_by {C = Text} entries.now w.list.items ≡ given (map entry_view entries.now)) }
+    ensures grown { Grown known.old known.new }
     ensures same { (answer : F → Function Text) → ids answer known.new ≡ ids answer known.old }
 {
     let mut waiting = Waiting::with_capacity(alloc, entries.len())?;
@@ -236,6 +239,7 @@ fn add_entry<'r, 's, F: Drop>(
     ensures told { OnOk result ((answer : F → Function Text) → map error_view errors.new.items
         ≡ map error_view errors.old.items ++ not_added (at_place entries.now place)
         (set_all (given_by entries.now waiting.old.list.items) (ids answer known.old))) }
+    ensures grown { Grown known.old known.new }
     ensures same { (answer : F → Function Text) → ids answer known.new ≡ ids answer known.old }
 {
     let Some(parts) = parts_of(&entries[place as usize]) else {
@@ -265,6 +269,7 @@ fn add_all<'r, 's, F: Drop>(
     ensures told { OnOk result ((answer : F → Function Text) → map error_view errors.new.items
         ≡ map error_view errors.old.items
         ++ not_added (map entry_view entries.now) (ids answer known.old)) }
+    ensures grown { Grown known.old known.new }
     ensures same { (answer : F → Function Text) → ids answer known.new ≡ ids answer known.old }
 {
     let mut waiting = Waiting::with_capacity(alloc, entries.len())?;
@@ -327,7 +332,8 @@ fn put_all<'r, 's, F: Drop>(
     waiting: Waiting,
 )
     requires { AreReady (numbers known.old) (table known.old) entries.now waiting.list.items waiting.kept.items }
-    ensures { (answer : F → Function Text) → ids answer known.new
+    ensures grown { Grown known.old known.new }
+    ensures after { (answer : F → Function Text) → ids answer known.new
         ≡ set_all (given_by entries.now waiting.list.items) (ids answer known.old) }
 {
     let Waiting { list, kept } = waiting;
@@ -365,6 +371,7 @@ fn add_where_free<'r, 's, F: Drop>(
     requires own { IsTrue (is_named (cow_str_bytes id) function) }
     requires value { value_in function ≡ None }
     requires attributes { attributes_in function ≡ [] }
+    ensures grown { Grown known.old known.new }
     ensures after { OnOk result ((answer : F → Function Text) →
         ids answer known.new ≡ add_free (cow_str_bytes id.entry) (entry_of answer function.entry)
         (ids answer known.old)) }
@@ -396,6 +403,7 @@ impl<'r, 's, F: Drop> Ids<'r, 's, F> {
         alloc: Global,
         entries: &'r [ast::Entry<'s>],
     ) -> Result<Vec<FluentError>, AllocError>
+        ensures grown { Grown self.old self.new }
         ensures after { OnOk result ((answer : F → Function Text) →
             ids answer self.new ≡ added (map entry_view entries.now) (ids answer self.old)) }
         ensures errors { IfOk result (λ errors. (answer : F → Function Text) →
@@ -421,6 +429,7 @@ impl<'r, 's, F: Drop> Ids<'r, 's, F> {
         alloc: Global,
         entries: &'r [ast::Entry<'s>],
     ) -> Result<(), AllocError>
+        ensures grown { Grown self.old self.new }
         ensures after { OnOk result ((answer : F → Function Text) →
             ids answer self.new ≡ overridden (map entry_view entries.now) (ids answer self.old)) }
         ensures err { OnErr result ((answer : F → Function Text) →
@@ -443,6 +452,7 @@ impl<'r, 's, F: Drop> Ids<'r, 's, F> {
         id: CowStr<'s>,
         function: F,
     ) -> Result<Vec<FluentError>, AllocError>
+        ensures grown { Grown self.old self.new }
         ensures after { OnOk result ((answer : F → Function Text) →
             ids answer self.new ≡ add_free (cow_str_bytes id.entry) (a_function (answer function))
             (ids answer self.old)) }
@@ -465,6 +475,7 @@ impl<'r, 's, F: Drop> Ids<'r, 's, F> {
         alloc: Global,
         id: CowStr<'s>,
     ) -> Result<Vec<FluentError>, AllocError>
+        ensures grown { Grown self.old self.new }
         ensures after { OnOk result ((answer : F → Function Text) →
             ids answer self.new ≡ add_free (cow_str_bytes id.entry) number_builtin
             (ids answer self.old)) }

@@ -117,7 +117,8 @@ impl<'r, 's, F: Drop> Ids<'r, 's, F> {
     ///
     /// Memory was refused.
     pub(crate) fn reserve(&mut self, more: usize) -> Result<(), AllocError>
-        ensures { (answer : F → Function Text) → ids answer self.new ≡ ids answer self.old }
+        ensures grown { Grown self.old self.new }
+        ensures same { (answer : F → Function Text) → ids answer self.new ≡ ids answer self.old }
     {
         self.known.reserve(more)
     }

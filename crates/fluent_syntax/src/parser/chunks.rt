@@ -1,5 +1,5 @@
 //! A source as chunks: entries, comment lines, blank lines and Junk.
-ghost use Rattle.std.specs.Prelude.{◌≡◌, ◌+◌, ◌^◌, ◌<◌, ◌++◌, Some, length, OnOk, IfOk};
+ghost use Rattle.std.specs.Prelude.{◌≡◌, ◌+◌, ◌^◌, ◌<◌, ◌++◌, [], Some, length, OnOk, IfOk, IsOk};
 ghost use Rattle.fluent_syntax.specs.Chunks as spec;
 ghost use Rattle.fluent_syntax.specs.Chunks.{entries, junk_ranges};
 ghost use Rattle.fluent_syntax.specs.Parsed.{HoldsEntries, HoldsErrors, HasSome, error_range};
@@ -66,11 +66,12 @@ impl<'s> Found<'s> {
 ///
 /// What can't be read is kept as Junk, and reading goes on behind it. Where there is none, the answer is the tree;
 /// where there is some, it is `Parser` with the whole tree and the byte offsets of each Junk.
-/// `Memory` says that there was no memory, and nothing stands then.
+/// `Memory` says that there was no memory, and nothing stands then. An empty source takes none.
 pub fn parse_runtime<'s>(alloc: Global, source: &'s str) -> Result<Resource<'s>, ParseFault<'s>>
     ensures entries { HoldsEntries result (entries source.now) }
     ensures errors { HoldsErrors result (junk_ranges source.now) }
     ensures some { HasSome result (junk_ranges source.now) }
+    ensures empty { source.now ≡ [] → IsOk result }
 {
     let Found { body, errors } = read_chunks(alloc, source)?;
     let resource = Resource { body };
@@ -84,6 +85,7 @@ pub fn parse_runtime<'s>(alloc: Global, source: &'s str) -> Result<Resource<'s>,
 fn read_chunks<'s>(alloc: Global, source: &'s str) -> Result<Found<'s>, AllocError>
     ensures entries { IfOk result (λ found. all entry_view found.body ≡ entries source.now) }
     ensures errors { IfOk result (λ found. all error_range found.errors ≡ junk_ranges source.now) }
+    ensures empty { source.now ≡ [] → IsOk result }
 {
     let mut found = Found {
         body: Vec::new(alloc),

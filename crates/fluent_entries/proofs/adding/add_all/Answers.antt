@@ -6,6 +6,7 @@ use Rattle.fluent_entries.specs.Adding.{at_place, given_by}
 use Rattle.fluent_entries.specs.EntryView.{ids}
 use Rattle.fluent_entries.specs.ErrorView.{error_view}
 use Rattle.fluent_entries.proofs.Added.{added_append, not_added_append}
+use Rattle.fluent_entries.proofs.Linking.{grown_twice}
 use Rattle.fluent_entries.proofs.Waiting.{one_more}
 use Rattle.fluent_entries.proofs.adding.add_all.Goals as goal
 
@@ -38,5 +39,6 @@ entries-preserved g c =
           ∙ (append_assoc first (not_added far now) (not_added (at_place es i) (added far now))
           ∙ (sym (ap (λ l. first ++ l) (not_added_append far (at_place es i) now))
           ∙ ap (λ p. first ++ not_added p now) (sym (one_more es i)))))));
+      grown = grown_twice c.args.known.now c.entries.known c.add_entry.new.known c.entries.invariant.grown c.in_ok-add_entry.ensures.grown;
       same = λ answer. c.in_ok-add_entry.ensures.same answer ∙ c.entries.invariant.same answer;
     }

@@ -4,7 +4,7 @@ use Rattle.fluent_meaning.specs.Arguments.{set_all}
 use Rattle.fluent_entries.specs.EntryView.{ids}
 use Rattle.fluent_entries.specs.Numbered.{numbers, table}
 use Rattle.fluent_entries.specs.Adding.{AreReady, given_at, given_by}
-use Rattle.fluent_entries.proofs.Linking.{grows_by, kept_by}
+use Rattle.fluent_entries.proofs.Linking.{grown_by, grown_twice, grows_by, kept_by}
 use Rattle.fluent_entries.proofs.Waiting.{ready_still, set_more}
 use Rattle.fluent_entries.proofs.adding.put_all.Goals as goal
 
@@ -23,6 +23,7 @@ loop-ready-preserved g c =
       whole = c.loop-ready.invariant.whole ∙ ap (λ xs. c.loop-ready.yielded ++ xs) c.in-Some.ensures.steps.0 ∙ sym (append_assoc c.loop-ready.yielded (r ∷ []) _);
       full = c.next_kept-kept.ensures.full;
       ready = subst (AreReady (numbers m') (table m') es rest) (sym took.1) (ready_still n (numbers m') t (table m') (kept_by n (numbers m') c.put_one.ensures.numbers) (grows_by t (table m') c.put_one.ensures.table) es rest all.1 all.4);
+      grown = grown_twice c.args.known.now m m' c.loop-ready.invariant.grown (grown_by m m' c.put_one.ensures.numbers c.put_one.ensures.table);
       same = λ answer.
           ap (set_all (given_by es rest)) (c.put_one.ensures.after answer)
           ∙ (sym (set_more (given_at es r.place) (given_by es rest) (ids answer m))

@@ -4,7 +4,7 @@ use Rattle.fluent_tree.specs.Tree.{Text}
 use Rattle.fluent_meaning.specs.Arguments.{set_all}
 use Rattle.fluent_meaning.specs.Bundle.{Function}
 use Rattle.fluent_entries.specs.EntryView.{ids}
-use Rattle.fluent_entries.specs.Numbered.{numbers, table}
+use Rattle.fluent_entries.specs.Numbered.{Grown, numbers, table}
 use Rattle.fluent_entries.specs.Adding.{AreReady, given_by}
 use Rattle.fluent_entries.proofs.adding.put_all.Given as goal
 
@@ -14,5 +14,6 @@ invariant-loop-ready g l = record {
   whole : l.fn.waiting.list.items ≡ l.yielded ++ into_iter_items l.ready-iterator;
   full : into_iter_len l.kept ≡ length (into_iter_items l.kept);
   ready : AreReady (numbers l.known) (table l.known) l.entries (into_iter_items l.ready-iterator) (into_iter_items l.kept);
+  grown : Grown l.fn.known l.known;
   same : (answer : _ → Function Text) → set_all (given_by l.entries (into_iter_items l.ready-iterator)) (ids answer l.known) ≡ set_all (given_by l.entries l.fn.waiting.list.items) (ids answer l.fn.known);
 }

@@ -8,7 +8,7 @@ use Rattle.fluent_entries.proofs.ids.Ids.override_entries.Goals as goal
 
 pub returns-clause-after : goal.returns-clause-after
 returns-clause-after g c = λ answer.
-    c.put_all.ensures answer
+    c.put_all.ensures.after answer
     ∙ (ap (λ ws. set_all ws (ids answer c.override_all.new.known)) c.in_ok-waiting.ensures.given
-    ∙ (ap (set_all (given (map entry_view c.args.entries.now))) (c.in_ok-waiting.ensures.same answer ∙ c.reserve.ensures answer)
+    ∙ (ap (set_all (given (map entry_view c.args.entries.now))) (c.in_ok-waiting.ensures.same answer ∙ c.reserve.ensures.same answer)
     ∙ overridden_given (map entry_view c.args.entries.now) (ids answer c.args.self.now)))

@@ -3,14 +3,19 @@ use Rattle.fluent_tree.specs.Tree.{Text}
 use Rattle.fluent_links.specs.Slots.{slots, named, number}
 use Rattle.fluent_links.specs.Table.{table as contents}
 use Rattle.fluent_entries.specs.EntryView.{ids, entry_of}
+use Rattle.fluent_entries.specs.Numbered.{numbers, table}
 use Rattle.fluent_entries.proofs.Own.{same_own}
 use Rattle.fluent_entries.proofs.ByName.{same_named}
 use Rattle.fluent_entries.proofs.Linking.{same_linked}
 use Rattle.fluent_entries.proofs.ids.Ids.reserve.Goals as goal
 
-pub returns : goal.returns
+pub returns-clause-grown : goal.returns-clause-grown
+unfolding numbers table
+returns-clause-grown g c = (λ q n h. ap (λ ss. number ss q) c.reserve.ensures.slots ∙ h, λ n p h. h)
+
+pub returns-clause-same : goal.returns-clause-same
 unfolding ids
-returns g c = λ answer. same_named (λ s. entry_of answer s.entry) (slots c.args.self.now.known) (slots c.reserve.new.self) (λ q. ap (named q) c.reserve.ensures.slots)
+returns-clause-same g c = λ answer. same_named (λ s. entry_of answer s.entry) (slots c.args.self.now.known) (slots c.reserve.new.self) (λ q. ap (named q) c.reserve.ensures.slots)
 
 pub invariant_of-self : goal.invariant_of-self
 invariant_of-self g c =
