@@ -9,3 +9,4 @@ pub mod Formatting
 pub mod Limits
 pub mod Adding
 pub mod Calls
+pub mod CallRows

@@ -3,6 +3,7 @@
 
 pub mod bundle;
 mod calls;
+pub mod examples;
 mod formatting;
 pub mod laws;
 pub mod resolver;
