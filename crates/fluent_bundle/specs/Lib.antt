@@ -10,3 +10,4 @@ pub mod Limits
 pub mod Adding
 pub mod Calls
 pub mod CallRows
+pub mod Messages
