@@ -2,3 +2,4 @@ pub mod Soles
 pub mod Formats
 pub mod Givings
 pub mod Running
+pub mod Parts

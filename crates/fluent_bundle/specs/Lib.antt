@@ -9,3 +9,5 @@ pub mod Formatting
 pub mod Limits
 pub mod Adding
 pub mod Calls
+pub mod CallRows
+pub mod Messages

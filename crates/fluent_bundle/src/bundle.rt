@@ -50,8 +50,7 @@ pub struct FluentBundle<'r, 's, M, C, F, G, T = Box<dyn Transform>> {
 // Written out, since a derived drop puts the drop of each part of a part into every proof that a bundle goes out of scope
 // in: some twenty steps at each exit of a caller's function, where this is one.
 impl<'r, 's: 'r, M: Drop, C, F: Drop, G: Drop, T: Drop> Drop
-    for FluentBundle<'r, 's, M, C, F, G, T>
-{
+    for FluentBundle<'r, 's, M, C, F, G, T> {
     fn drop(self) {
         let FluentBundle {
             locales: _,
@@ -318,8 +317,10 @@ impl<
     G: FluentFormatter<C, M>,
     T: Transform,
 > GetEntry<'s, F> for FluentBundle<'r, 's, M, C, F, G, T> {
+    ghost use Rattle.std.specs.Prelude.{Some};
     ghost use Rattle.fluent_meaning.specs.Arguments.{get};
-    ghost use Rattle.fluent_values.specs.EntryView.{ids};
+    ghost use Rattle.fluent_meaning.specs.Bundle.{function_found, number_builtin};
+    ghost use Rattle.fluent_values.specs.EntryView.{function_of, ids};
 
     // The ids of what the bundle means.
     ghost named = { λ b id. get id (ids F.answer (entries_in b)) };
@@ -340,7 +341,13 @@ impl<
         }
     }
 
-    fn get_entry_function(&self, id: &str) -> Option<FunctionRef<'_, F>> {
+    fn get_entry_function(&self, id: &str) -> Option<FunctionRef<'_, F>>
+        ensures answer { let of = ⟦<Self as Context<C>>⟧.meant in
+            option_map (function_of F.answer) result
+            ≡ function_found (get id.now (of self.now).ids) }
+        ensures builtin { let of = ⟦<Self as Context<C>>⟧.meant in
+            (result ≡ Some FunctionRef.Number) ↔ (get id.now (of self.now).ids ≡ Some number_builtin) }
+    {
         match self.entries.named(id) {
             Some(Entry::Function(function)) => Some(FunctionRef::Own(function)),
             Some(Entry::Number) => Some(FunctionRef::Number),

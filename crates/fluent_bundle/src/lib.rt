@@ -3,8 +3,10 @@
 
 pub mod bundle;
 mod calls;
+pub mod examples;
 mod formatting;
 pub mod laws;
+mod messages;
 pub mod resolver;
 mod resource;
 
@@ -22,5 +24,6 @@ pub use fluent_values::{
     MergeArgs, NoCustom, NoFormatter, NoFunction, NoTransform, ReferenceKind, Transform, builtins,
     memoizer, types,
 };
+pub use messages::{FormattedAttribute, FormattedMessage};
 pub use resolver::{Context, ResolverError, Scope};
 pub use resource::{Entries, FluentResource, TryNewFault};

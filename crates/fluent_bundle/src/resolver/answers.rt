@@ -1,7 +1,7 @@
 //! What a bundle answers to the resolver.
 #![tactic(auto, unfolding(crate::specs::BundleView::bundle_parts))]
 
-ghost use Rattle.std.specs.Prelude.{◌≡◌, IfOk, string_bytes};
+ghost use Rattle.std.specs.Prelude.{◌≡◌, None, IfOk, IsOk, string_bytes};
 ghost use Rattle.std.specs.Option.{option_map};
 ghost use Rattle.fluent_intl.specs.Number.{number_of};
 ghost use Rattle.fluent_meaning.specs.Bundle.{formatter_of};
@@ -26,7 +26,7 @@ impl<
     G: FluentFormatter<C, M>,
     T: Transform,
 > Context<C> for FluentBundle<'r, 's, M, C, F, G, T> {
-    ghost use Rattle.fluent_bundle.specs.BundleView.{alloc_in, meant, is_plain};
+    ghost use Rattle.fluent_bundle.specs.BundleView.{alloc_in, formatter_in, meant, is_plain};
 
     ghost meant = { λ b. meant M.category C.shown C.alike F.answer G.formatted T.changed b };
 
@@ -53,7 +53,14 @@ impl<
         }
     }
 
-    fn formatted(&self, value: &FluentValue<'_, C>) -> Result<Option<String>, AllocError> {
+    fn formatted(&self, value: &FluentValue<'_, C>) -> Result<Option<String>, AllocError>
+        ensures answer { let of = meant M.category C.shown C.alike F.answer G.formatted T.changed in
+            IfOk result (λ text. option_map string_bytes text
+            ≡ (of self.now).formatter (value_view C.content value.now)) }
+        ensures custom { let of = meant M.category C.shown C.alike F.answer G.formatted T.changed in
+            (of self.now).custom ≡ record { text = C.shown; same = C.alike } }
+        ensures succeeds { formatter_in self.now ≡ None → IsOk result }
+    {
         formatted(self.alloc, &self.formatter, value, &self.intls)
     }
 
@@ -62,16 +69,17 @@ impl<
     }
 }
 
-/// The formatter's answer for a value.
+/// The formatter's answer for a value. Where there is none, no memory is asked for.
 pub(crate) fn formatted<M, C: FluentType, G: FluentFormatter<C, M>>(
     alloc: Global,
     formatter: &Option<G>,
     value: &FluentValue<'_, C>,
     intls: &M,
 ) -> Result<Option<String>, AllocError>
-    ensures { IfOk result (λ text. option_map string_bytes text
+    ensures answer { IfOk result (λ text. option_map string_bytes text
         ≡ formatter_of (option_map (λ g v. G.formatted g v intls.now) formatter.now)
         (value_view C.content value.now)) }
+    ensures succeeds { formatter.now ≡ None → IsOk result }
 {
     match formatter {
         Some(formatter) => formatter.format(alloc, value, intls),
