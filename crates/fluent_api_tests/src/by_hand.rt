@@ -126,13 +126,6 @@ fn literals_give(
     Ok(())
 }
 
-#[test]
-fn literals_of_any_source_are_written(rt: HostRuntime) -> Result<(), AllocError> {
-    let resource = read(rt.alloc(), SOURCE)?;
-    let bundle = bundle_of(rt.alloc(), SETTINGS, &resource)?;
-    literals_give(&rt, rt.alloc(), &bundle)
-}
-
 // ---- patterns
 
 const PATTERNS: &[Row] = &[
@@ -162,20 +155,6 @@ const PATTERNS: &[Row] = &[
         errors: CYCLIC,
     },
 ];
-
-#[test]
-fn patterns_of_any_elements_are_written(rt: HostRuntime) -> Result<(), AllocError> {
-    hold(&rt, rt.alloc(), SETTINGS, PATTERNS)
-}
-
-/// The formatter is asked about the empty text too.
-#[test]
-fn an_empty_pattern_is_formatted(rt: HostRuntime) -> Result<(), AllocError> {
-    let resource = read(rt.alloc(), SOURCE)?;
-    let bundle = bundle_of(rt.alloc(), &[Setting::Brackets], &resource)?;
-    let made = pattern(rt.alloc(), Tree::Texts(&[]))?;
-    gives_both(&rt, rt.alloc(), &bundle, &made, None, ("", "[]", ""))
-}
 
 /// Another source, and what its first message gives.
 #[derive(Clone, Copy, Drop)]
@@ -211,12 +190,9 @@ fn other_gives<'s>(
 }
 
 /// A pattern of another source goes by its content, and not by the id that it has there.
-#[test]
-fn patterns_of_other_sources_are_written(rt: HostRuntime) -> Result<(), Fail> {
-    let resource = read(rt.alloc(), SOURCE)?;
-    let bundle = bundle_of(rt.alloc(), SETTINGS, &resource)?;
+fn others_give(rt: &impl Abort, alloc: Global, bundle: &Bundle<'_, '_>) -> Result<(), Fail> {
     for other in OTHERS {
-        other_gives(&rt, rt.alloc(), &bundle, other)?;
+        other_gives(rt, alloc, bundle, other)?;
     }
     Ok(())
 }
@@ -353,11 +329,6 @@ const REFERENCES: &[Row] = &[
     },
 ];
 
-#[test]
-fn references_with_any_arguments_are_resolved(rt: HostRuntime) -> Result<(), AllocError> {
-    hold(&rt, rt.alloc(), SETTINGS, REFERENCES)
-}
-
 // ---- selects
 
 const NO_DEFAULT: &str = "Resolver error: No default\n";
@@ -462,11 +433,6 @@ const SELECTS: &[Row] = &[
     },
 ];
 
-#[test]
-fn selects_of_any_parts_choose(rt: HostRuntime) -> Result<(), AllocError> {
-    hold(&rt, rt.alloc(), SETTINGS, SELECTS)
-}
-
 // ---- the limit
 
 const TOO_MANY: &str = "Resolver error: Too many placeables\n";
@@ -498,7 +464,36 @@ const STRIKING: &[Row] = &[
 
 const LIMITED: &[Setting] = &[Setting::Function("FIRST", Own::First), Setting::Limit(1)];
 
+// ---- tests
+
+const TABLES: &[(&[Setting], &[Row])] = &[
+    (SETTINGS, PATTERNS),
+    (SETTINGS, REFERENCES),
+    (SETTINGS, SELECTS),
+    (LIMITED, STRIKING),
+];
+
 #[test]
-fn trees_made_by_hand_strike_the_limit(rt: HostRuntime) -> Result<(), AllocError> {
-    hold(&rt, rt.alloc(), LIMITED, STRIKING)
+fn trees_of_any_parts_are_resolved(rt: HostRuntime) -> Result<(), AllocError> {
+    for (settings, rows) in TABLES {
+        hold(&rt, rt.alloc(), *settings, *rows)?;
+    }
+    Ok(())
+}
+
+#[test]
+fn literals_and_other_sources_are_written(rt: HostRuntime) -> Result<(), Fail> {
+    let resource = read(rt.alloc(), SOURCE)?;
+    let bundle = bundle_of(rt.alloc(), SETTINGS, &resource)?;
+    literals_give(&rt, rt.alloc(), &bundle)?;
+    others_give(&rt, rt.alloc(), &bundle)
+}
+
+/// The formatter is asked about the empty text too.
+#[test]
+fn an_empty_pattern_is_formatted(rt: HostRuntime) -> Result<(), AllocError> {
+    let resource = read(rt.alloc(), SOURCE)?;
+    let bundle = bundle_of(rt.alloc(), &[Setting::Brackets], &resource)?;
+    let made = pattern(rt.alloc(), Tree::Texts(&[]))?;
+    gives_both(&rt, rt.alloc(), &bundle, &made, None, ("", "[]", ""))
 }

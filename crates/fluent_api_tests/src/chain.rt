@@ -25,7 +25,12 @@ type Bundles<'c, 'b, 'r, 's> = Chain<
 >;
 
 /// An id, the name of an attribute or none, the text, and the lines of its errors.
-type Row = (&'static str, Option<&'static str>, &'static str, &'static str);
+type Row = (
+    &'static str,
+    Option<&'static str>,
+    &'static str,
+    &'static str,
+);
 
 fn format<'r, 's: 'r>(
     chain: &Bundles<'_, '_, 'r, 's>,

@@ -162,7 +162,9 @@ const FUNCTIONS: &[Setting] = &[
     Setting::Function("NAMED", Own::Named),
 ];
 
-const SOURCE: &str = "-t = { $x }\n";
+/// A term, and a message of a hundred placeables.
+const SOURCE: &str =
+    "-t = { $x }\nm = { \"a\" }{ \"a\" }{ \"a\" }{ \"a\" }{ \"a\" }{ \"a\" }{ \"a\" }{ \"a\" }{ \"a\" }{ \"a\" }{ \"a\" }{ \"a\" }{ \"a\" }{ \"a\" }{ \"a\" }{ \"a\" }{ \"a\" }{ \"a\" }{ \"a\" }{ \"a\" }{ \"a\" }{ \"a\" }{ \"a\" }{ \"a\" }{ \"a\" }{ \"a\" }{ \"a\" }{ \"a\" }{ \"a\" }{ \"a\" }{ \"a\" }{ \"a\" }{ \"a\" }{ \"a\" }{ \"a\" }{ \"a\" }{ \"a\" }{ \"a\" }{ \"a\" }{ \"a\" }{ \"a\" }{ \"a\" }{ \"a\" }{ \"a\" }{ \"a\" }{ \"a\" }{ \"a\" }{ \"a\" }{ \"a\" }{ \"a\" }{ \"a\" }{ \"a\" }{ \"a\" }{ \"a\" }{ \"a\" }{ \"a\" }{ \"a\" }{ \"a\" }{ \"a\" }{ \"a\" }{ \"a\" }{ \"a\" }{ \"a\" }{ \"a\" }{ \"a\" }{ \"a\" }{ \"a\" }{ \"a\" }{ \"a\" }{ \"a\" }{ \"a\" }{ \"a\" }{ \"a\" }{ \"a\" }{ \"a\" }{ \"a\" }{ \"a\" }{ \"a\" }{ \"a\" }{ \"a\" }{ \"a\" }{ \"a\" }{ \"a\" }{ \"a\" }{ \"a\" }{ \"a\" }{ \"a\" }{ \"a\" }{ \"a\" }{ \"a\" }{ \"a\" }{ \"a\" }{ \"a\" }{ \"a\" }{ \"a\" }{ \"a\" }{ \"a\" }{ \"a\" }{ \"a\" }{ \"a\" }\n";
 
 const STRUCK: &str = "Resolver error: Too many placeables\n";
 
@@ -199,16 +201,16 @@ fn are_chosen<'s>(
 }
 
 /// Placeables in arguments are not counted; the one in a term is, so that of the hundredth term is one too many.
-#[test]
-fn a_hundred_selects_in_arguments_are_chosen(rt: HostRuntime) -> Result<(), AllocError> {
-    let alloc = rt.alloc();
-    let resource = read(alloc, SOURCE)?;
-    let bundle = bundle_of(alloc, FUNCTIONS, &resource)?;
-    are_chosen(&rt, alloc, &bundle, LEVELS, In::Positional)?;
-    are_chosen(&rt, alloc, &bundle, LEVELS, In::Named)?;
-    are_chosen(&rt, alloc, &bundle, 99, In::Term)?;
+fn arguments_are_chosen<'s>(
+    rt: &impl Abort,
+    alloc: Global,
+    bundle: &Bundle<'_, 's>,
+) -> Result<(), AllocError> {
+    are_chosen(rt, alloc, bundle, LEVELS, In::Positional)?;
+    are_chosen(rt, alloc, bundle, LEVELS, In::Named)?;
+    are_chosen(rt, alloc, bundle, 99, In::Term)?;
     let struck = levels(alloc, string(marks(1)), LEVELS, In::Term)?;
-    row(&rt, alloc, &bundle, struck, ("{-t}", STRUCK))
+    row(rt, alloc, bundle, struck, ("{-t}", STRUCK))
 }
 
 /// So many selects, each the selector of the one outside.
@@ -224,27 +226,17 @@ fn selectors<'s>(
     Ok(tree)
 }
 
-fn repeated(alloc: Global, part: &str, count: usize) -> Result<String, AllocError> {
-    let mut out = String::new(alloc);
-    for _ in 0..count {
-        out.push_str(part)?;
-    }
-    Ok(out)
-}
-
 /// A hundred placeables in a message, which is the innermost selector, and one outside: the fallback of the whole is
 /// that of the innermost.
-#[test]
-fn the_fallback_of_a_hundred_selectors_is_the_innermost(rt: HostRuntime) -> Result<(), AllocError> {
-    let alloc = rt.alloc();
-    let mut source = String::from_str(alloc, "m = ")?;
-    source.push_str(repeated(alloc, "{ \"a\" }", 100)?.as_str())?;
-    let resource = read(alloc, source.as_str())?;
-    let bundle = bundle_of(alloc, FUNCTIONS, &resource)?;
+fn selectors_are_chosen<'s>(
+    rt: &impl Abort,
+    alloc: Global,
+    bundle: &Bundle<'_, 's>,
+) -> Result<(), AllocError> {
     let whole = selectors(alloc, string(marks(1)), LEVELS)?;
-    row(&rt, alloc, &bundle, whole, (marks(101), ""))?;
+    row(rt, alloc, bundle, whole, (marks(101), ""))?;
     let struck = selectors(alloc, message("m"), LEVELS)?;
-    row(&rt, alloc, &bundle, struck, ("{m}", STRUCK))
+    row(rt, alloc, bundle, struck, ("{m}", STRUCK))
 }
 
 /// A pattern of one select on `$v` with one variant.
@@ -274,25 +266,31 @@ fn variants<'s>(alloc: Global, count: usize) -> Result<Pattern<'s>, AllocError> 
     Ok(tree)
 }
 
-/// Placeables of variants are counted; where one is too many, each of the others ends with its fallback.
-#[test]
-fn a_hundred_selects_in_variants_are_opened(rt: HostRuntime) -> Result<(), AllocError> {
-    let alloc = rt.alloc();
-    let resource = read(alloc, SOURCE)?;
-    let bundle = bundle_of(alloc, FUNCTIONS, &resource)?;
+/// A hundred times `{$v}`.
+const FALLBACKS: &str =
+    "{$v}{$v}{$v}{$v}{$v}{$v}{$v}{$v}{$v}{$v}{$v}{$v}{$v}{$v}{$v}{$v}{$v}{$v}{$v}{$v}{$v}{$v}{$v}{$v}{$v}{$v}{$v}{$v}{$v}{$v}{$v}{$v}{$v}{$v}{$v}{$v}{$v}{$v}{$v}{$v}{$v}{$v}{$v}{$v}{$v}{$v}{$v}{$v}{$v}{$v}{$v}{$v}{$v}{$v}{$v}{$v}{$v}{$v}{$v}{$v}{$v}{$v}{$v}{$v}{$v}{$v}{$v}{$v}{$v}{$v}{$v}{$v}{$v}{$v}{$v}{$v}{$v}{$v}{$v}{$v}{$v}{$v}{$v}{$v}{$v}{$v}{$v}{$v}{$v}{$v}{$v}{$v}{$v}{$v}{$v}{$v}{$v}{$v}{$v}{$v}";
+
+/// What nested variants give where `v` is their key.
+fn variants_give<'s>(
+    rt: &impl Abort,
+    alloc: Global,
+    bundle: &Bundle<'_, 's>,
+    count: usize,
+    wanted: (&str, &str),
+) -> Result<(), AllocError> {
+    let pattern: Pattern<'s> = variants(alloc, count)?;
     let args = arguments(alloc, &[("v", "w")])?;
-    let whole = variants(alloc, LEVELS)?;
-    gives(&rt, alloc, &bundle, &whole, Some(&args), ("x", ""))?;
-    let struck = variants(alloc, LEVELS.saturating_add(1))?;
-    let text = repeated(alloc, "{$v}", LEVELS)?;
-    gives(
-        &rt,
-        alloc,
-        &bundle,
-        &struck,
-        Some(&args),
-        (text.as_str(), STRUCK),
-    )
+    gives(rt, alloc, bundle, &pattern, Some(&args), wanted)
+}
+
+/// Placeables of variants are counted; where one is too many, each of the others ends with its fallback.
+fn variants_are_opened<'s>(
+    rt: &impl Abort,
+    alloc: Global,
+    bundle: &Bundle<'_, 's>,
+) -> Result<(), AllocError> {
+    variants_give(rt, alloc, bundle, LEVELS, ("x", ""))?;
+    variants_give(rt, alloc, bundle, 101, (FALLBACKS, STRUCK))
 }
 
 /// Whether two trees with these innermost parts are one.
@@ -300,6 +298,15 @@ fn are_one(alloc: Global, one: &str, other: &str) -> Result<bool, AllocError> {
     let one = levels(alloc, string(one), LEVELS, In::Positional)?;
     let other = levels(alloc, string(other), LEVELS, In::Positional)?;
     Ok(one == other)
+}
+
+#[test]
+fn a_hundred_levels_are_resolved(rt: HostRuntime) -> Result<(), AllocError> {
+    let resource = read(rt.alloc(), SOURCE)?;
+    let bundle = bundle_of(rt.alloc(), FUNCTIONS, &resource)?;
+    arguments_are_chosen(&rt, rt.alloc(), &bundle)?;
+    selectors_are_chosen(&rt, rt.alloc(), &bundle)?;
+    variants_are_opened(&rt, rt.alloc(), &bundle)
 }
 
 #[test]

@@ -190,8 +190,16 @@ fn gives(
 ) -> Result<(), AllocError> {
     let mut errors = Vec::new(alloc);
     let mut w = Counting::new(Vec::new(alloc));
-    check(rt, take_all(bundle, args, &mut w, &mut errors, row), row.text);
-    check(rt, w.into_inner().as_slice() == row.text.as_bytes(), row.text);
+    check(
+        rt,
+        take_all(bundle, args, &mut w, &mut errors, row),
+        row.text,
+    );
+    check(
+        rt,
+        w.into_inner().as_slice() == row.text.as_bytes(),
+        row.text,
+    );
     are(rt, alloc, errors.as_slice(), row.errors)
 }
 
@@ -353,6 +361,20 @@ const ROWS: &[Row] = &[
         errors: CYCLIC_TWICE,
         after: After::Counts(false, 1, 1, 2),
     },
+    // Once the limit is struck, patterns give nothing, and the fallback follows what is not a pattern.
+    Row {
+        settings: &[Setting::Limit(2)],
+        steps: &[
+            Step::Track("m", "n"),
+            Step::Track("a", "n"),
+            Step::MaybeTrack("n", "n"),
+            Step::MaybeTrack("v", "v"),
+            Step::MaybeTrack("a", "a"),
+        ],
+        text: "ab{m}{$n}9{$n}",
+        errors: TOO_MANY,
+        after: After::Struck(2),
+    },
 ];
 
 #[test]
@@ -361,24 +383,4 @@ fn parts_are_resolved_in_a_scope(rt: HostRuntime) -> Result<(), AllocError> {
         holds(&rt, rt.alloc(), row)?;
     }
     Ok(())
-}
-
-const STRUCK: Row = Row {
-    settings: &[Setting::Limit(2)],
-    steps: &[
-        Step::Track("m", "n"),
-        Step::Track("a", "n"),
-        Step::MaybeTrack("n", "n"),
-        Step::MaybeTrack("v", "v"),
-        Step::MaybeTrack("a", "a"),
-    ],
-    text: "ab{m}{$n}9{$n}",
-    errors: TOO_MANY,
-    after: After::Struck(2),
-};
-
-/// Once the limit is struck, patterns give nothing, and the fallback follows what is not a pattern.
-#[test]
-fn a_dirty_scope_writes_no_pattern(rt: HostRuntime) -> Result<(), AllocError> {
-    holds(&rt, rt.alloc(), &STRUCK)
 }

@@ -25,10 +25,7 @@ fn is_held(bundle: &Bundle<'_, '_>, held: &Held) -> bool {
             bundle.get_entry_function(held.0),
             Some(FunctionRef::Own(Own::Nothing))
         ),
-        Kind::Number => matches!(
-            bundle.get_entry_function(held.0),
-            Some(FunctionRef::Number)
-        ),
+        Kind::Number => matches!(bundle.get_entry_function(held.0), Some(FunctionRef::Number)),
     }
 }
 
@@ -149,13 +146,7 @@ fn makes_calls<'r, 's>(
     makes_first(rt, alloc, &mut bundle, first, second)?;
     has(rt, alloc, &bundle, FIRST, ("one", "x{$y}"))?;
     make_last(alloc, &mut bundle, second)?;
-    has(
-        rt,
-        alloc,
-        &bundle,
-        FIRST,
-        ("two", "x\u{2068}{$y}\u{2069}"),
-    )
+    has(rt, alloc, &bundle, FIRST, ("two", "x\u{2068}{$y}\u{2069}"))
 }
 
 /// Run with each allocation failing in turn.
