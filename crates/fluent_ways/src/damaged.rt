@@ -1,9 +1,12 @@
-//! Sources that are cut, or have a sign in place of one of their characters: each call of their bundle answers, and
-//! alike in each way.
-use crate::bundles::{Bundle, pattern_in, read, set, settled};
-use crate::values::arguments;
-use crate::ways::{Asked, Written, format, lines, written};
-use fluent_rows::fixture::{Described, Fixture, Part, Row, Wanted};
+//! Sources that are cut, or have a sign in place of one of their characters: Junk and entries make them up, and every
+//! message of them gives a text, alike in each way, with marks in balance and at most one report of the limit.
+use crate::bundles::{Bundle, Source, read, set, settled};
+use crate::chunks::make_up;
+use crate::values::{Args, arguments};
+use crate::ways::{Asked, Written, format, lines, write_whole};
+use fluent_bundle::FluentMessage;
+use fluent_bundle::ast::{Entry, Pattern};
+use fluent_rows::fixture::{Described, Fixture, Part};
 use fluent_rows::report::Report;
 use std::alloc::{AllocError, Global};
 
@@ -33,34 +36,99 @@ fn answers(
     asked: &Asked<'_, '_, '_>,
     has_formatter: bool,
 ) -> Result<bool, AllocError> {
-    match written(alloc, asked, usize::MAX)? {
-        Some(written) => is_alike(alloc, asked, &written, has_formatter),
+    match write_whole(alloc, asked, usize::MAX)? {
+        Some(written) => Ok(is_well(&written) && is_alike(alloc, asked, &written, has_formatter)?),
         None => Ok(false),
     }
 }
 
-/// Whether a row's call answers, if its bundle has the value still.
-fn row_answers<'s>(
+/// How often a part stands in a text.
+fn count(text: &[u8], part: &[u8]) -> usize {
+    let mut found = 0usize;
+    for place in 0..text.len() {
+        if text[place..].starts_with(part) {
+            found = found.saturating_add(1);
+        }
+    }
+    found
+}
+
+/// Whether each U+2068 of a text has its U+2069, and the limit is reported once at most.
+fn is_well(written: &Written) -> bool {
+    let text = written.0.as_slice();
+    let strikes = count(written.1.as_str().as_bytes(), b"Too many placeables");
+    count(text, &[0xe2, 0x81, 0xa8]) == count(text, &[0xe2, 0x81, 0xa9]) && strikes <= 1
+}
+
+/// Whether a pattern gives a text, with arguments and without.
+fn pattern_answers<'s>(
     alloc: Global,
     bundle: &Bundle<'_, 's>,
-    row: &Row<'s>,
+    pattern: &Pattern<'s>,
+    given: &Args<'s>,
     has_formatter: bool,
 ) -> Result<bool, AllocError> {
-    if !matches!(row.wanted, Wanted::Told(_)) {
-        return Ok(true);
+    for args in [None, Some(given)] {
+        let asked = Asked {
+            bundle,
+            pattern,
+            args,
+        };
+        if !answers(alloc, &asked, has_formatter)? {
+            return Ok(false);
+        }
     }
-    let Some(pattern) = pattern_in(bundle, row.id, row.attribute) else {
-        return Ok(true);
-    };
-    let Some(args) = arguments(alloc, row.arguments)? else {
+    Ok(true)
+}
+
+/// Whether the value of a message and its attributes do.
+fn message_answers<'s>(
+    alloc: Global,
+    bundle: &Bundle<'_, 's>,
+    message: FluentMessage<'_, 's>,
+    given: &Args<'s>,
+    has_formatter: bool,
+) -> Result<bool, AllocError> {
+    if let Some(value) = message.value()
+        && !pattern_answers(alloc, bundle, value, given, has_formatter)?
+    {
         return Ok(false);
-    };
-    let asked = Asked {
-        bundle,
-        pattern,
-        args: Some(&args),
-    };
-    answers(alloc, &asked, has_formatter)
+    }
+    for attribute in message.attributes() {
+        if !pattern_answers(alloc, bundle, attribute.value(), given, has_formatter)? {
+            return Ok(false);
+        }
+    }
+    Ok(true)
+}
+
+/// Whether every message of a source does.
+fn messages_answer<'s>(
+    alloc: Global,
+    bundle: &Bundle<'_, 's>,
+    source: &Source<'s>,
+    given: &Args<'s>,
+    has_formatter: bool,
+) -> Result<bool, AllocError> {
+    for entry in source.resource.entries() {
+        if let Entry::Message(message) = entry {
+            let message = FluentMessage::from(message);
+            if !message_answers(alloc, bundle, message, given, has_formatter)? {
+                return Ok(false);
+            }
+        }
+    }
+    Ok(true)
+}
+
+/// The arguments of the first row of a bundle that has some.
+fn first_arguments<'s>(fixture: &Fixture<'s>, number: usize) -> &'s str {
+    for row in &fixture.rows {
+        if row.bundle == number && !row.arguments.is_empty() {
+            return row.arguments;
+        }
+    }
+    ""
 }
 
 /// The bundle of a fixture whose resource is damaged, and its number.
@@ -72,7 +140,7 @@ struct Damaged<'x, 's> {
     part: &'x Part<'s>,
 }
 
-/// That the calls of a bundle answer whose source is this one.
+/// Whether the calls of a bundle answer whose source is this one.
 fn answer_in<'s>(
     alloc: Global,
     damaged: &Damaged<'_, 's>,
@@ -81,19 +149,18 @@ fn answer_in<'s>(
 ) -> Result<bool, AllocError> {
     let settings = &damaged.described.settings;
     let source = read(alloc, source)?;
+    if !make_up(alloc, &source)? {
+        return Ok(false);
+    }
     let mut left = String::new(alloc);
     let functions = damaged.fixture.functions.as_slice();
     let mut bundle = settled(alloc, functions, settings, &mut left, report)?;
     let _ = set(&mut bundle, settings);
     bundle.add_resource_overriding(&source.resource)?;
-    for row in &damaged.fixture.rows {
-        if row.bundle == damaged.number
-            && !row_answers(alloc, &bundle, row, settings.formatter.is_some())?
-        {
-            return Ok(false);
-        }
-    }
-    Ok(true)
+    let Some(args) = arguments(alloc, first_arguments(damaged.fixture, damaged.number))? else {
+        return Ok(false);
+    };
+    messages_answer(alloc, &bundle, &source, &args, settings.formatter.is_some())
 }
 
 /// Each cut of the source.

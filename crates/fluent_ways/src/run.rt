@@ -3,7 +3,7 @@ use crate::bundles::{Bundle, all, pattern_in, read_all};
 use crate::damaged;
 use crate::objects::{Formatter, Function, Plurals, Star, Upper};
 use crate::values::{Args, arguments};
-use crate::ways::{Asked, are_told, hold};
+use crate::ways::{Asked, are_told, hold, stops_behind};
 use fluent_bundle::ast::Pattern;
 use fluent_chain::{Chain, Link};
 use fluent_rows::fixture::{Fixture, Row, Told, Wanted};
@@ -74,6 +74,9 @@ fn gives<'s>(
         pattern,
         args,
     };
+    if told.is_full {
+        return stops_behind(alloc, &asked, told, report);
+    }
     hold(alloc, &asked, told, report)?;
     report.holds(has(links, row), "a chain has no such value")?;
     chained(alloc, links, row, told, args, report)
@@ -111,6 +114,7 @@ fn is_nothing<'s>(
         text: String::from_str(alloc, row.id)?,
         formatted: None,
         errors: String::new(alloc),
+        is_full: false,
     };
     chained(alloc, links, row, &told, None, report)
 }
