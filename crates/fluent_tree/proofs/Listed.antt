@@ -1,10 +1,9 @@
 -- Lists of references, one behind the other.
-use Rattle.std.proofs.Common.{◌≡◌, ℕ, ◌+◌, ◌<◌, ◌≤◌, List, [], ◌∷◌, ◌++◌, length, get_or, drop, map, Vec, refl, sym, ap, ◌∙◌, arith, rules}
+use Rattle.std.proofs.Common.{◌≡◌, ℕ, ◌+◌, ◌<◌, ◌≤◌, List, [], ◌∷◌, ◌++◌, length, get_or, drop, map, refl, sym, ap, ◌∙◌, arith, rules}
 use Rattle.std.proofs.lemmas.List.{append_assoc, append-nil, length-append, map-append, at_drop_more, at_drop_all}
-use Rattle.std.specs.declared.alloc.Global.{Global}
 use Rattle.fluent_tree.specs.Tree.{pattern_of}
 use Rattle.fluent_tree.specs.View.{element_view, inline_view, pattern_view}
-use Rattle.fluent_tree.specs.References.{Reference, in_element, in_inline, in_named, in_positional, in_variants, inlines_view, nameds_view, reference_view, references, references_view, variants_view}
+use Rattle.fluent_tree.specs.References.{Reference, in_element, in_inline, in_named, in_positional, in_variants, inlines_view, nameds_view, reference_view, references, variants_view}
 use Rattle.fluent_tree.specs.declared.listing.Reference as code
 use Rattle.fluent_tree.specs.declared.ast.Expression.{the_lemmas}
 use Rattle.fluent_tree.specs.declared.ast.InlineExpression.{InlineExpression}
