@@ -1,5 +1,6 @@
 -- What bundles in a chain answer: the first that has a pattern formats it.
-use Rattle.std.specs.Prelude.{◌≤◌, List, [], ◌∷◌, Option, Some, None, ⊤}
+use Rattle.std.specs.Prelude.{ℕ, ◌≤◌, List, [], ◌∷◌, Option, Some, None, is_some, ⊤}
+use Rattle.std.specs.List.{position_from}
 use Rattle.std.specs.Option.{option_map, option_and_then}
 use Rattle.fluent_tree.specs.Tree.{Text, Pattern}
 use Rattle.fluent_meaning.specs.Value.{Value}
@@ -35,6 +36,10 @@ abbrev pub first_with : {B : Type 0} → (B → Option Pattern) → List B → O
 first_with has [] = None
 first_with has (b ∷ bs) = or_others b (has b) (first_with has bs)
 
+-- its place among them, from 0 on
+abbrev pub place_with : {B : Type 0} → (B → Option Pattern) → List B → Option ℕ
+place_with has bundles = position_from (λ b. is_some (has b)) 0 bundles
+
 -- ---- what it answers
 
 -- a text, and what went wrong in it
@@ -56,6 +61,21 @@ substituted_of id args None = record { text = id; errors = [] }
 substituted_of id args (Some found) =
     let means = substituted_pattern found.0 args found.1 in
     record { text = formatted found.0 means.value; errors = means.errors }
+
+-- What is written: the same text, of which the formatter isn't asked as a whole.
+abbrev pub written_of : {C : Type 0} → Text → Map (Value C) → Option (Bundle C × Pattern) → Shown
+written_of id args None = record { text = id; errors = [] }
+written_of id args (Some found) =
+    let means = written_pattern found.0 args found.1 in
+    record { text = means.value; errors = means.errors }
+
+-- and by substitution
+abbrev pub written_by_substitution : {C : Type 0} → Text → Map (Value C)
+    → Option (Bundle C × Pattern) → Shown
+written_by_substitution id args None = record { text = id; errors = [] }
+written_by_substitution id args (Some found) =
+    let means = substituted_pattern found.0 args found.1 in
+    record { text = means.value; errors = means.errors }
 
 -- which opens no more placeables than the limit of that bundle
 abbrev pub IsWithin : {C : Type 0} → Map (Value C) → Option (Bundle C × Pattern) → Type 0

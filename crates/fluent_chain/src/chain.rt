@@ -1,40 +1,54 @@
 //! Bundles that are asked in turn.
-ghost use Rattle.std.specs.Prelude.{◌≡◌, map, is_some};
+ghost use Rattle.std.specs.Prelude.{◌≡◌, ◌≢◌, map, is_some, Err};
 ghost use Rattle.std.specs.List.{list_any};
 ghost use Rattle.std.specs.Option.{option_map};
+ghost use Rattle.fluent_text.specs.Writer.{writer_in, CountsFault};
 ghost use Rattle.fluent_tree.specs.View.{pattern_view};
 ghost use Rattle.fluent_values.specs.Status.{arguments_view};
 ghost use Rattle.fluent_bundle.specs.BundleView.{meant};
-ghost use Rattle.fluent_bundle.specs.Formatted.{AddsFront};
-ghost use Rattle.fluent_chain.specs.Chain.{value_at, attribute_at, first_with, shown_of};
+ghost use Rattle.fluent_bundle.specs.Formatted.{AddsFront, WritesFront};
+ghost use Rattle.fluent_chain.specs.Chain.{value_at, attribute_at, first_with, place_with, shown_of, written_of};
 ghost use Rattle.fluent_chain.specs.ChainView.{bundles_of, AnswersWithin, AnswersWhole, LendsFound};
-ghost use Rattle.fluent_chain.specs.Inside.Found.{bundle_found, pattern_at};
+ghost use Rattle.fluent_chain.specs.ChainView.{OwnsWithin, OwnsWhole, PutsWithin, PutsWhole, NeedsNoMemory};
+ghost use Rattle.fluent_chain.specs.Inside.Found.{bundle_found, pattern_at, place_found};
 
 use fluent_bundle::{
-    FluentArgs, FluentBundle, FluentError, FluentFormatter, FluentFunction, FluentType,
-    MemoizerKind, Transform, ast,
+    Counting, FluentArgs, FluentBundle, FluentError, FluentFormatter, FluentFunction, FluentType,
+    MemoizerKind, Transform, WriteFault, ast,
 };
-use std::alloc::AllocError;
+use fluent_text::put;
+use std::alloc::{AllocError, Global};
 use std::borrow::CowStr;
+use std::io::Write;
 
 /// A bundle of a chain, which is lent.
-#[derive(Drop)]
+#[derive(Clone, Copy, Drop)]
 pub struct Link<'b, 'r, 's, M, C, F, G, T = Box<dyn Transform>>(
     pub &'b FluentBundle<'r, 's, M, C, F, G, T>,
 );
 
+/// The bundles of a chain.
+#[derive(Drop)]
+enum Bundles<'c, 'b, 'r, 's, M, C, F, G, T> {
+    /// Each at a place of its own.
+    Links(&'c [Link<'b, 'r, 's, M, C, F, G, T>]),
+    /// In a list.
+    List(&'c [FluentBundle<'r, 's, M, C, F, G, T>]),
+}
+
 /// Bundles in the order in which they are asked, such as one for each language that somebody reads, the one that is
-/// read best first: `Chain::new(&[Link(&polish), Link(&english)])`.
+/// read best first: `Chain::of(&bundles)` of a list, or `Chain::new(&[Link(&polish), Link(&english)])`.
 ///
 /// They have one type, and may have different plural rules of that type, transforms, formatters, functions and
 /// limits: the bundle that answers answers by its own, and looks up references in itself alone.
 #[derive(Drop)]
 pub struct Chain<'c, 'b, 'r, 's, M, C, F, G, T = Box<dyn Transform>> {
-    pub bundles: &'c [Link<'b, 'r, 's, M, C, F, G, T>],
+    bundles: Bundles<'c, 'b, 'r, 's, M, C, F, G, T>,
 }
 
-/// A bundle, with a pattern that it has.
+/// The place of a bundle in a chain, the bundle, and a pattern that it has.
 type Found<'b, 'r, 's, M, C, F, G, T> = (
+    usize,
     &'b FluentBundle<'r, 's, M, C, F, G, T>,
     &'r ast::Pattern<'s>,
 );
@@ -52,9 +66,20 @@ impl<
 > Chain<'c, 'b, 'r, 's, M, C, F, G, T> {
     /// A chain of these bundles, of which the first is asked first.
     pub fn new(bundles: &'c [Link<'b, 'r, 's, M, C, F, G, T>]) -> Self
-        ensures { result.bundles.now ≡ bundles.now }
+        ensures { bundles_of result ≡ map (λ link. link.0.now) bundles.now }
     {
-        Chain { bundles }
+        Chain {
+            bundles: Bundles::Links(bundles),
+        }
+    }
+
+    /// A chain of the bundles of a list, of which the first is asked first.
+    pub fn of(bundles: &'c [FluentBundle<'r, 's, M, C, F, G, T>]) -> Self
+        ensures { bundles_of result ≡ bundles.now }
+    {
+        Chain {
+            bundles: Bundles::List(bundles),
+        }
     }
 
     /// Whether one of the bundles has a message of this id with a value. Where none has, the id stands for the text.
@@ -62,7 +87,7 @@ impl<
         ensures { let of = meant M.category C.shown C.alike F.answer G.formatted T.changed in
             result ≡ list_any (λ b. is_some (value_at id.now (of b))) (bundles_of self.now) }
     {
-        self.find(id, None).is_some()
+        self.found(id, None).is_some()
     }
 
     /// Whether one of the bundles has a message of this id with an attribute of this name. Where none has, the id
@@ -72,7 +97,30 @@ impl<
             result ≡ list_any (λ b. is_some (attribute_at id.now name.now (of b)))
             (bundles_of self.now) }
     {
-        self.find(id, Some(name)).is_some()
+        self.found(id, Some(name)).is_some()
+    }
+
+    /// Which bundle answers for the value of a message: its place among the bundles, from 0 on. `None` where none has
+    /// a value for it, and the id stands for the text.
+    pub fn find_value(&self, id: &str) -> Option<usize>
+        ensures { let of = meant M.category C.shown C.alike F.answer G.formatted T.changed in
+            result ≡ place_with (λ b. value_at id.now (of b)) (bundles_of self.now) }
+    {
+        match self.found(id, None) {
+            Some((place, _, _)) => Some(place),
+            None => None,
+        }
+    }
+
+    /// Which bundle answers for an attribute of a message, by the rule of [`Chain::find_value`].
+    pub fn find_attribute(&self, id: &str, name: &str) -> Option<usize>
+        ensures { let of = meant M.category C.shown C.alike F.answer G.formatted T.changed in
+            result ≡ place_with (λ b. attribute_at id.now name.now (of b)) (bundles_of self.now) }
+    {
+        match self.found(id, Some(name)) {
+            Some((place, _, _)) => Some(place),
+            None => None,
+        }
     }
 
     /// The value of the message in the first bundle where it has one, as [`FluentBundle::format_pattern`] gives it
@@ -144,6 +192,145 @@ impl<
         self.format(id, Some(name), args, errors)
     }
 
+    /// The text that [`Chain::format_value`] gives, in memory of its own, so that it is lent from nothing.
+    ///
+    /// # Errors
+    ///
+    /// Memory was refused: what was added begins the errors.
+    pub fn format_value_owned(
+        &self,
+        alloc: Global,
+        id: &str,
+        args: Option<&FluentArgs<'_, C>>,
+        errors: &mut Vec<FluentError>,
+    ) -> Result<String, AllocError>
+        ensures within { let of = meant M.category C.shown C.alike F.answer G.formatted T.changed in
+            let args = arguments_view C.content args.entry in
+            let found = first_with (value_at id.now) (map of (bundles_of self.now)) in
+            OwnsWithin id.now args found result errors.old.items errors.new.items }
+        ensures whole { let of = meant M.category C.shown C.alike F.answer G.formatted T.changed in
+            let args = arguments_view C.content args.entry in
+            let found = first_with (value_at id.now) (map of (bundles_of self.now)) in
+            OwnsWhole id.now args found result errors.old.items errors.new.items }
+        ensures front { let of = meant M.category C.shown C.alike F.answer G.formatted T.changed in
+            let args = arguments_view C.content args.entry in
+            let found = first_with (value_at id.now) (map of (bundles_of self.now)) in
+            AddsFront (shown_of id.now args found).errors errors.old.items errors.new.items }
+    {
+        match self.format_value(id, args, errors) {
+            Ok(text) => text.into_owned(alloc),
+            Err(AllocError) => Err(AllocError),
+        }
+    }
+
+    /// The text that [`Chain::format_attribute`] gives, in memory of its own.
+    ///
+    /// # Errors
+    ///
+    /// Memory was refused: what was added begins the errors.
+    pub fn format_attribute_owned(
+        &self,
+        alloc: Global,
+        id: &str,
+        name: &str,
+        args: Option<&FluentArgs<'_, C>>,
+        errors: &mut Vec<FluentError>,
+    ) -> Result<String, AllocError>
+        ensures within { let of = meant M.category C.shown C.alike F.answer G.formatted T.changed in
+            let args = arguments_view C.content args.entry in
+            let found = first_with (attribute_at id.now name.now) (map of (bundles_of self.now)) in
+            OwnsWithin id.now args found result errors.old.items errors.new.items }
+        ensures whole { let of = meant M.category C.shown C.alike F.answer G.formatted T.changed in
+            let args = arguments_view C.content args.entry in
+            let found = first_with (attribute_at id.now name.now) (map of (bundles_of self.now)) in
+            OwnsWhole id.now args found result errors.old.items errors.new.items }
+        ensures front { let of = meant M.category C.shown C.alike F.answer G.formatted T.changed in
+            let args = arguments_view C.content args.entry in
+            let found = first_with (attribute_at id.now name.now) (map of (bundles_of self.now)) in
+            AddsFront (shown_of id.now args found).errors errors.old.items errors.new.items }
+    {
+        match self.format_attribute(id, name, args, errors) {
+            Ok(text) => text.into_owned(alloc),
+            Err(AllocError) => Err(AllocError),
+        }
+    }
+
+    /// Writes the value of the message in the first bundle where it has one, as [`FluentBundle::write_pattern`] writes
+    /// it there: the formatter isn't asked about the whole text. Where no bundle has a value for it, the id is
+    /// written, and nothing is added.
+    ///
+    /// # Errors
+    ///
+    /// As of [`FluentBundle::write_pattern`]. The id, and texts alone of a bundle without transform, take no memory.
+    pub fn write_value<W: Write>(
+        &self,
+        w: &mut Counting<W>,
+        id: &str,
+        args: Option<&FluentArgs<'_, C>>,
+        errors: &mut Vec<FluentError>,
+    ) -> Result<(), WriteFault>
+        ensures within { let of = meant M.category C.shown C.alike F.answer G.formatted T.changed in
+            let args = arguments_view C.content args.entry in
+            let found = first_with (value_at id.now) (map of (bundles_of self.now)) in
+            PutsWithin id.now args found result (W.contents (writer_in w.old))
+            (W.contents (writer_in w.new)) errors.old.items errors.new.items }
+        ensures whole { let of = meant M.category C.shown C.alike F.answer G.formatted T.changed in
+            let args = arguments_view C.content args.entry in
+            let found = first_with (value_at id.now) (map of (bundles_of self.now)) in
+            PutsWhole id.now args found result (W.contents (writer_in w.old))
+            (W.contents (writer_in w.new)) errors.old.items errors.new.items }
+        ensures front { let of = meant M.category C.shown C.alike F.answer G.formatted T.changed in
+            let args = arguments_view C.content args.entry in
+            let found = first_with (value_at id.now) (map of (bundles_of self.now)) in
+            let means = written_of id.now args found in
+            WritesFront means.text means.errors (W.contents (writer_in w.old))
+            (W.contents (writer_in w.new)) errors.old.items errors.new.items }
+        ensures fault { CountsFault w.old w.new result }
+        ensures memory { let of = meant M.category C.shown C.alike F.answer G.formatted T.changed in
+            let found = first_with (λ b. value_at id.now (of b)) (bundles_of self.now) in
+            NeedsNoMemory found → result ≢ Err WriteFault.Memory }
+    {
+        self.write(w, id, None, args, errors)
+    }
+
+    /// Writes the first attribute of the name in the first bundle where the message has one, by the rule of
+    /// [`Chain::write_value`].
+    ///
+    /// # Errors
+    ///
+    /// As of [`Chain::write_value`].
+    pub fn write_attribute<W: Write>(
+        &self,
+        w: &mut Counting<W>,
+        id: &str,
+        name: &str,
+        args: Option<&FluentArgs<'_, C>>,
+        errors: &mut Vec<FluentError>,
+    ) -> Result<(), WriteFault>
+        ensures within { let of = meant M.category C.shown C.alike F.answer G.formatted T.changed in
+            let args = arguments_view C.content args.entry in
+            let found = first_with (attribute_at id.now name.now) (map of (bundles_of self.now)) in
+            PutsWithin id.now args found result (W.contents (writer_in w.old))
+            (W.contents (writer_in w.new)) errors.old.items errors.new.items }
+        ensures whole { let of = meant M.category C.shown C.alike F.answer G.formatted T.changed in
+            let args = arguments_view C.content args.entry in
+            let found = first_with (attribute_at id.now name.now) (map of (bundles_of self.now)) in
+            PutsWhole id.now args found result (W.contents (writer_in w.old))
+            (W.contents (writer_in w.new)) errors.old.items errors.new.items }
+        ensures front { let of = meant M.category C.shown C.alike F.answer G.formatted T.changed in
+            let args = arguments_view C.content args.entry in
+            let found = first_with (attribute_at id.now name.now) (map of (bundles_of self.now)) in
+            let means = written_of id.now args found in
+            WritesFront means.text means.errors (W.contents (writer_in w.old))
+            (W.contents (writer_in w.new)) errors.old.items errors.new.items }
+        ensures fault { CountsFault w.old w.new result }
+        ensures memory { let of = meant M.category C.shown C.alike F.answer G.formatted T.changed in
+            let found = first_with (λ b. attribute_at id.now name.now (of b)) (bundles_of self.now) in
+            NeedsNoMemory found → result ≢ Err WriteFault.Memory }
+    {
+        self.write(w, id, Some(name), args, errors)
+    }
+
     /// The value of the message, or its attribute where a name is given, in the first bundle that has it, or the id.
     fn format<'t>(
         &self,
@@ -174,22 +361,109 @@ impl<
             let found = first_with (λ b. pattern_at id.now name (of b)) (bundles_of self.now) in
             LendsFound id.now found result }
     {
-        match self.find(id, attribute) {
-            Some((bundle, pattern)) => bundle.format_pattern(pattern, args, errors),
+        match self.found(id, attribute) {
+            Some((_, bundle, pattern)) => bundle.format_pattern(pattern, args, errors),
             None => Ok(CowStr::Borrowed(id)),
         }
     }
 
-    /// The first bundle that has the value of the message, or its attribute where a name is given, with that pattern.
-    fn find(&self, id: &str, attribute: Option<&str>) -> Option<Found<'b, 'r, 's, M, C, F, G, T>>
-        ensures { let of = meant M.category C.shown C.alike F.answer G.formatted T.changed in
+    /// Writes the value of the message, or its attribute where a name is given, in the first bundle that has it, or the id.
+    fn write<W: Write>(
+        &self,
+        w: &mut Counting<W>,
+        id: &str,
+        attribute: Option<&str>,
+        args: Option<&FluentArgs<'_, C>>,
+        errors: &mut Vec<FluentError>,
+    ) -> Result<(), WriteFault>
+        ensures within { let of = meant M.category C.shown C.alike F.answer G.formatted T.changed in
+            let args = arguments_view C.content args.entry in
+            let name = option_map (λ n. n.now) attribute.entry in
+            let found = first_with (pattern_at id.now name) (map of (bundles_of self.now)) in
+            PutsWithin id.now args found result (W.contents (writer_in w.old))
+            (W.contents (writer_in w.new)) errors.old.items errors.new.items }
+        ensures whole { let of = meant M.category C.shown C.alike F.answer G.formatted T.changed in
+            let args = arguments_view C.content args.entry in
+            let name = option_map (λ n. n.now) attribute.entry in
+            let found = first_with (pattern_at id.now name) (map of (bundles_of self.now)) in
+            PutsWhole id.now args found result (W.contents (writer_in w.old))
+            (W.contents (writer_in w.new)) errors.old.items errors.new.items }
+        ensures front { let of = meant M.category C.shown C.alike F.answer G.formatted T.changed in
+            let args = arguments_view C.content args.entry in
+            let name = option_map (λ n. n.now) attribute.entry in
+            let found = first_with (pattern_at id.now name) (map of (bundles_of self.now)) in
+            let means = written_of id.now args found in
+            WritesFront means.text means.errors (W.contents (writer_in w.old))
+            (W.contents (writer_in w.new)) errors.old.items errors.new.items }
+        ensures fault { CountsFault w.old w.new result }
+        ensures memory { let of = meant M.category C.shown C.alike F.answer G.formatted T.changed in
+            let name = option_map (λ n. n.now) attribute.entry in
+            let found = first_with (λ b. pattern_at id.now name (of b)) (bundles_of self.now) in
+            NeedsNoMemory found → result ≢ Err WriteFault.Memory }
+    {
+        match self.found(id, attribute) {
+            Some((_, bundle, pattern)) => bundle.write_pattern(w, pattern, args, errors),
+            None => put(w, id.as_bytes()),
+        }
+    }
+
+    /// The first bundle that has the value of the message, or its attribute where a name is given, with its place and
+    /// that pattern.
+    fn found(&self, id: &str, attribute: Option<&str>) -> Option<Found<'c, 'r, 's, M, C, F, G, T>>
+        ensures found { let of = meant M.category C.shown C.alike F.answer G.formatted T.changed in
             let name = option_map (λ n. n.now) attribute.entry in
             option_map bundle_found result
             ≡ first_with (λ b. pattern_at id.now name (of b)) (bundles_of self.now) }
+        ensures place { let of = meant M.category C.shown C.alike F.answer G.formatted T.changed in
+            let name = option_map (λ n. n.now) attribute.entry in
+            option_map place_found result
+            ≡ place_with (λ b. pattern_at id.now name (of b)) (bundles_of self.now) }
     {
-        for link in self.bundles {
+        match self.bundles {
+            Bundles::Links(links) => Self::found_linked(links, id, attribute),
+            Bundles::List(bundles) => Self::found_listed(bundles, id, attribute),
+        }
+    }
+
+    fn found_linked(
+        links: &'c [Link<'b, 'r, 's, M, C, F, G, T>],
+        id: &str,
+        attribute: Option<&str>,
+    ) -> Option<Found<'c, 'r, 's, M, C, F, G, T>>
+        ensures found { let of = meant M.category C.shown C.alike F.answer G.formatted T.changed in
+            let name = option_map (λ n. n.now) attribute.entry in
+            option_map bundle_found result
+            ≡ first_with (λ b. pattern_at id.now name (of b)) (map (λ link. link.0.now) links.now) }
+        ensures place { let of = meant M.category C.shown C.alike F.answer G.formatted T.changed in
+            let name = option_map (λ n. n.now) attribute.entry in
+            option_map place_found result
+            ≡ place_with (λ b. pattern_at id.now name (of b)) (map (λ link. link.0.now) links.now) }
+    {
+        for (place, link) in links.iter().enumerate() {
             if let Some(pattern) = Self::pattern_in(link.0, id, attribute) {
-                return Some((link.0, pattern));
+                return Some((place, link.0, pattern));
+            }
+        }
+        None
+    }
+
+    fn found_listed(
+        bundles: &'c [FluentBundle<'r, 's, M, C, F, G, T>],
+        id: &str,
+        attribute: Option<&str>,
+    ) -> Option<Found<'c, 'r, 's, M, C, F, G, T>>
+        ensures found { let of = meant M.category C.shown C.alike F.answer G.formatted T.changed in
+            let name = option_map (λ n. n.now) attribute.entry in
+            option_map bundle_found result
+            ≡ first_with (λ b. pattern_at id.now name (of b)) (bundles.now) }
+        ensures place { let of = meant M.category C.shown C.alike F.answer G.formatted T.changed in
+            let name = option_map (λ n. n.now) attribute.entry in
+            option_map place_found result
+            ≡ place_with (λ b. pattern_at id.now name (of b)) (bundles.now) }
+    {
+        for (place, bundle) in bundles.iter().enumerate() {
+            if let Some(pattern) = Self::pattern_in(bundle, id, attribute) {
+                return Some((place, bundle, pattern));
             }
         }
         None

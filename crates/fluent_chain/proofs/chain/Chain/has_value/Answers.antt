@@ -9,5 +9,5 @@ use Rattle.fluent_chain.proofs.chain.Chain.has_value.Goals as goal
 pub returns : goal.returns
 returns g c =
     let of = meant g.M.MemoizerKind.category g.C.FluentType.shown g.C.FluentType.alike g.F.FluentFunction.answer g.G.FluentFormatter.formatted g.T.Transform.changed in
-    let found : c.is_some.result ≡ is_some c.find.result = search rules in
-    found ∙ sym (is_some-option_map bundle_found c.find.result) ∙ ap is_some c.find.ensures ∙ is_some-first_with (λ b. value_at c.args.id.now (of b)) (bundles_of c.args.self.now)
+    let found : c.is_some.result ≡ is_some c.found.result = search rules in
+    found ∙ sym (is_some-option_map bundle_found c.found.result) ∙ ap is_some c.found.ensures.found ∙ is_some-first_with (λ b. value_at c.args.id.now (of b)) (bundles_of c.args.self.now)
