@@ -22,7 +22,7 @@ use Rattle.fluent_intl.specs.declared.rule_texts.fault.RuleFault.TheVariants as 
 use Rattle.fluent_chain.specs.Chain.{value_at}
 use Rattle.fluent_command.specs.Words.{Asked, asked_by}
 use Rattle.fluent_command.specs.Plurals.{plurals_asked, HasBadRule}
-use Rattle.fluent_command.specs.Ending.{Ending, exit_status, shown, no_message, bad_usage, bad_rule, not_utf8, out_of_memory, reading_failed, writing_failed}
+use Rattle.fluent_command.specs.Ending.{Ending, exit_status, shown, bad_usage, bad_rule, not_utf8, out_of_memory, reading_failed}
 use Rattle.fluent_command.specs.EndingView.{ending_of, ending_of_rules}
 use Rattle.fluent_command.specs.Input.{Inlet, ReadFor}
 use Rattle.fluent_command.specs.Program.{Run, First, only, bundle_of, run_value, run_sources, run_source, run_input, run_by, run_asked, run_of, first_of_source, first_by, first_asked}
@@ -81,11 +81,6 @@ module _ {T : Type 0} (run : Run) (first : First) (out out' : Outlet) (old new :
             ends_behind r fault ending was ends took begun is (others, added_to_none old new (first.errors ++ others) none adds) part fault'
       ]
 
--- what the reads showed
-pub ends_read : (run : Run) (first : First) (state : InputState) (out out' : Outlet) (ending : Ending) (errors : List Error) → state ≡ AtEnd
-    → EndsRun run first AtEnd out out' ending errors → EndsRun run first state out out' ending errors
-ends_read run first state out out' ending errors is h = subst (λ s. EndsRun run first s out out' ending errors) (sym is) h
-
 -- ---- of no text, or none that was read
 
 module _ (run : Run) (first : First) (state : InputState) (out : Outlet) (errors : List FluentError) (none : errors ≡ []) where
@@ -123,17 +118,6 @@ of_no_text asked plurals bytes not_text = cases (is_utf8 bytes) refl
 pub some_left : (known : Option (List ℕ)) → (bytes : List ℕ) × AreLeft known bytes
 some_left None = ([], tt)
 some_left (Some bytes) = (bytes, refl)
-
--- an input that was read to its end fits every ending but one
-pub read_for : (ending : Ending) (old new : Inlet) → ending ≢ reading_failed → new.state ≡ AtEnd → ReadFor ending old new
-read_for shown old new not is = is
-read_for (no_message id) old new not is = is
-read_for bad_usage old new not is = tt
-read_for bad_rule old new not is = tt
-read_for not_utf8 old new not is = is
-read_for out_of_memory old new not is = λ failed. cc
-read_for reading_failed old new not is = absurd (not refl)
-read_for writing_failed old new not is = is
 
 -- ---- which run reads nothing
 

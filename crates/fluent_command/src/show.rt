@@ -358,8 +358,9 @@ fn show_fallback<'w, W: Write>(
 ///
 /// # Errors
 ///
-/// What was written and added so far begins what should have been. Before a write can fail, all that is wrong with
-/// the sources themselves was added.
+/// What was written and added so far begins what should have been. Before anything is written, all that is wrong with
+/// the sources themselves was added, and with a fallback all errors. Where memory was refused, not all was written,
+/// and with a fallback nothing.
 pub fn show<'w, W: Write>(
     alloc: Global,
     request: Request<'w>,

@@ -1,4 +1,4 @@
-use Rattle.std.proofs.Common.{ap, refl, subst, sym, Some, ◌≡◌, ◌∙◌}
+use Rattle.std.proofs.Common.{ap, refl, sym, Some, ◌≡◌, ◌∙◌}
 use Rattle.fluent_command.specs.Input.{reader_in}
 use Rattle.fluent_command.specs.Plurals.{plurals_asked}
 use Rattle.fluent_command.specs.Inside.PluralsView.{plurals_view}

@@ -1,4 +1,4 @@
-use Rattle.std.proofs.Common.{rules, ◌≡◌, ◌∙◌, sym, ap, refl, false, is_ok, map, string_bytes, ◌∷◌, []}
+use Rattle.std.proofs.Common.{rules, ◌≡◌, refl, false, is_ok, ◌∷◌, []}
 use Rattle.fluent_chain.specs.Chain.{chain_value}
 use Rattle.fluent_command.specs.Inside.BundleView.{args_view, bundle_view}
 use Rattle.fluent_command.proofs.Adding.{added_by}
