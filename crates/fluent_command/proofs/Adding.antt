@@ -4,15 +4,12 @@ use Rattle.std.specs.Result.{OnOk}
 use Rattle.std.proofs.Math.Seq.{take-suc}
 use Rattle.std.proofs.lemmas.List.{take-append-drop, map-append}
 use Rattle.std.proofs.lemmas.Result.{on_ok_weaker}
-use Rattle.fluent_text.specs.Taken.{ByWriter}
-use Rattle.fluent_text.specs.declared.counting.WriteFault.{WriteFault}
-use Rattle.fluent_text.specs.declared.counting.WriteFault.TheVariants.{Memory}
 use Rattle.fluent_meaning.specs.Errors.{Error}
 use Rattle.fluent_values.specs.Status.{reported}
 use Rattle.fluent_values.specs.View.{error_view}
 use Rattle.fluent_entries.specs.declared.errors.FluentError.{FluentError}
 use Rattle.fluent_bundle.specs.Formatted.{AddsAll, AddsFront}
-use Rattle.fluent_command.specs.Inside.Far.{Added, AddedFirst}
+use Rattle.fluent_command.specs.Inside.Far.{Added}
 
 pub always : {T E P : Type 0} (r : Result T E) → P → OnOk r P
 always (Ok x) p = p
@@ -29,7 +26,7 @@ ok_alike P (Err e) (Ok y) same p = cc
 ok_alike P r (Err e) same p = tt
 
 -- errors behind all of others
-adds_then : (xs ys : List Error) (old mid new : List FluentError) → AddsAll xs old mid → AddsAll ys mid new → AddsAll (xs ++ ys) old new
+pub adds_then : (xs ys : List Error) (old mid new : List FluentError) → AddsAll xs old mid → AddsAll ys mid new → AddsAll (xs ++ ys) old new
 adds_then xs ys old mid new first second = record { added = second.added ∙ ap (λ w. w ++ ys) first.added ∙ append_assoc (reported old) xs ys }
 
 -- all of them, whatever is answered
@@ -84,7 +81,7 @@ recast r r' errors errors' old new same e h = record {
 }
 
 -- a call that was Ok added all of its own
-whole_added : {T E : Type 0} (r : Result T E) (x : T) (xs : List Error) (old new : List FluentError) → r ≡ Ok x → Added r xs old new → AddsAll xs old new
+pub whole_added : {T E : Type 0} (r : Result T E) (x : T) (xs : List Error) (old new : List FluentError) → r ≡ Ok x → Added r xs old new → AddsAll xs old new
 whole_added r x xs old new was h = subst (λ w. OnOk w (AddsAll xs old new)) was h.all
 
 -- errors added after all of others
@@ -120,22 +117,3 @@ added_short r (Err e) xs ys old new faulted h = record {
 pub added_kept : {T E T' E' : Type 0} (r : Result T E) (r' : Result T' E') (x : T) (errors : List Error) (old new : List FluentError) → r ≡ Ok x
     → Added r errors old new → Added r' errors old new
 added_kept r r' x errors old new was h = record { all = always r' (whole_added r x errors old new was h); front = h.front }
-
--- ---- what was added before a writer faulted
-
--- nothing is said where memory was refused
-pub first_of_none : {T : Type 0} (r : Result T WriteFault) (errors : List Error) (old new : List FluentError) → r ≡ Err Memory → AddedFirst r errors old new
-first_of_none r errors old new refused by = absurd (subst (λ w. ByWriter w) refused by)
-
--- those of a call that was Ok
-pub first_of_ok : {T E T' : Type 0} (r : Result T E) (r' : Result T' WriteFault) (x : T) (xs ys : List Error) (old mid new : List FluentError) → r ≡ Ok x
-    → Added r xs old mid → Added r' ys mid new → AddedFirst r' xs old new
-first_of_ok r r' x xs ys old mid new was first second by =
-    (second.front.front, adds_then xs second.front.front old mid new (whole_added r x xs old mid was first) second.front.adds)
-
--- those, and the first ones of the next call
-pub first_of_both : {T E T' : Type 0} (r : Result T E) (r' : Result T' WriteFault) (x : T) (xs ys : List Error) (old mid new : List FluentError) → r ≡ Ok x
-    → Added r xs old mid → AddedFirst r' ys mid new → AddedFirst r' (xs ++ ys) old new
-first_of_both r r' x xs ys old mid new was first second by =
-    let later = second by in
-    (later.0, subst (λ es. AddsAll es old new) (sym (append_assoc xs ys later.0)) (adds_then xs (ys ++ later.0) old mid new (whole_added r x xs old mid was first) later.1))

@@ -1,14 +1,16 @@
 -- What standard error took of a report.
-use Rattle.std.proofs.Common.{◌≡◌, ◌∙◌, ap, subst, refl, ℕ, List, inl, inr, Option, Result, Ok, Err}
+use Rattle.std.proofs.Common.{◌≡◌, ◌≢◌, ◌∙◌, sym, ap, subst, refl, ℕ, List, inl, inr, Option, Result, Ok, Err}
 use Rattle.std.specs.Io.KnownBytes.{Appends}
 use Rattle.fluent_tree.specs.Tree.{Text}
 use Rattle.fluent_text.specs.Taken.{Faulted, TookFront}
 use Rattle.fluent_text.specs.declared.counting.WriteFault.{WriteFault}
 use Rattle.fluent_text.specs.declared.counting.WriteFault.TheVariants.{Memory, Writer, Zero}
 use Rattle.fluent_meaning.specs.Errors.{Error}
-use Rattle.fluent_command.specs.Ending.{Ending, exit_status, out_of_memory, ending_line, error_lines}
-use Rattle.fluent_command.specs.Outcome.{Precedes, ReportsRun, whole, short, whole_begun, short_begun}
-use Rattle.fluent_command.specs.Outlet.{Outlet, Rose}
+use Rattle.fluent_command.specs.Ending.{Ending, exit_status, out_of_memory, ending_line, error_lines, said}
+use Rattle.fluent_command.specs.Outcome.{as_defined, by_reading, by_writing, by_memory, by_memory_read, by_memory_shown, ReportsRun, whole, short, whole_begun, short_begun, RanTo, IsStopped, unread, unwritten, unsaid, refused}
+use Rattle.fluent_command.specs.Input.{Inlet, ReadFor}
+use Rattle.fluent_command.specs.Outlet.{Outlet, Precedes, Rose, TakesAll}
+use Rattle.fluent_command.specs.Program.{Run, First}
 use Rattle.fluent_command.specs.Inside.Said.{Says, BeganToSay, TookErrors}
 use Rattle.fluent_command.proofs.Taking.{front_short, front_then}
 
@@ -61,3 +63,22 @@ reports_begun r errors ending (Writer e) err err' was not began fault =
     begun_by errors ending err err' (inl (subst (λ w. Faulted err.failed err.empty err'.failed err'.empty w) was fault)) began
 reports_begun r errors ending Zero err err' was not began fault =
     begun_by errors ending err err' (inr (subst (λ w. Faulted err.failed err.empty err'.failed err'.empty w) was fault)) began
+
+-- a run that ends with status 3 was stopped
+pub stopped : (run : Run) (first : First) (errors : List Error) (input input' : Inlet) (out out' err err' : Outlet) (result : ℕ) → exit_status run.ending ≢ 3
+    → RanTo run first errors input input' out out' err err' result → result ≡ 3 → IsStopped input input' out out' err err'
+stopped run first errors input input' out out' err err' result never ran three = elim ran.reports [
+  | short is front precedes takes ↦ refused front takes
+  | whole_begun is faults ↦ unsaid faults.rose
+  | short_begun is front precedes faults ↦ unsaid faults.rose
+  | whole is takes ↦
+      let says : (e : Ending) → ran.ending ≡ e → TakesAll (said errors e) err err' = λ e same. subst (λ w. TakesAll (said errors w) err err') same takes in
+      elim ran.ends [
+        | as_defined same all written ↦ absurd (never (sym (ap exit_status same) ∙ sym is ∙ three))
+        | by_reading same none left ↦ unread (subst (λ e. ReadFor e input input') same ran.reads)
+        | by_writing same is_shown found begun faults ↦ unwritten faults.rose
+        | by_memory same unshown none left ↦ refused errors (says out_of_memory same)
+        | by_memory_read same at_end is_text begun left ↦ refused errors (says out_of_memory same)
+        | by_memory_shown same at_end is_shown pieces found begun part ↦ refused errors (says out_of_memory same)
+      ]
+]

@@ -1,6 +1,6 @@
 -- How a run ends, from what its calls answered.
-use Rattle.std.proofs.Common.{if◌then◌else◌, ◌≡◌, ◌≢◌, ◌∙◌, sym, ap, subst, refl, ℕ, Bool, true, false, List, [], ◌++◌, ◌⊎◌, inl, inr, Option, Some, None, Result, Ok, Err}
-use Rattle.std.specs.Result.{OnOk}
+use Rattle.std.proofs.Common.{arith, if◌then◌else◌, ◌≡◌, ◌≢◌, ◌∙◌, sym, ap, subst, refl, ℕ, Bool, true, false, List, [], ◌++◌, ◌⊎◌, inl, inr, Option, Some, None, Result, Ok, Err}
+use Rattle.std.specs.Result.{OnOk, IfErr}
 use Rattle.std.specs.Str.{IsUtf8, is_utf8}
 use Rattle.std.specs.Io.KnownBytes.{Appends}
 use Rattle.std.proofs.KnownBytes.{Appends-nil}
@@ -22,15 +22,15 @@ use Rattle.fluent_intl.specs.declared.rule_texts.fault.RuleFault.TheVariants as 
 use Rattle.fluent_chain.specs.Chain.{value_at}
 use Rattle.fluent_command.specs.Words.{Asked, asked_by}
 use Rattle.fluent_command.specs.Plurals.{plurals_asked, HasBadRule}
-use Rattle.fluent_command.specs.Ending.{Ending, shown, no_message, bad_usage, bad_rule, not_utf8, out_of_memory, reading_failed, writing_failed}
+use Rattle.fluent_command.specs.Ending.{Ending, exit_status, shown, bad_usage, bad_rule, not_utf8, out_of_memory, reading_failed}
 use Rattle.fluent_command.specs.EndingView.{ending_of, ending_of_rules}
-use Rattle.fluent_command.specs.Input.{ReadFor, state_in}
-use Rattle.fluent_command.specs.Program.{Run, only, bundle_of, run_value, run_sources, run_source, run_input, run_by, run_asked, run_of, source_errors, errors_by, errors_asked}
-use Rattle.fluent_command.specs.Inside.Far.{Added, AddedFirst, Took}
+use Rattle.fluent_command.specs.Input.{Inlet, ReadFor}
+use Rattle.fluent_command.specs.Program.{Run, First, only, bundle_of, run_value, run_sources, run_source, run_input, run_by, run_asked, run_of, first_of_source, first_by, first_asked}
+use Rattle.fluent_command.specs.Inside.Far.{Added, Stops, before, behind, Took, TookPart}
 use Rattle.fluent_command.specs.Outlet.{Outlet, TakesAll}
-use Rattle.fluent_command.specs.Outcome.{AreLeft, EndsRun, as_defined, by_reading, by_writing, by_memory}
+use Rattle.fluent_command.specs.Outcome.{AreLeft, EndsRun, as_defined, by_reading, by_writing, by_memory, by_memory_read, by_memory_shown}
+use Rattle.fluent_command.specs.declared.input.InputState.{InputState}
 use Rattle.fluent_command.specs.declared.input.InputState.TheVariants.{Open, AtEnd}
-use Rattle.fluent_command.specs.declared.input.Reads.{Reads}
 
 -- a writer that was left alone
 pub takes_none : (w : Outlet) → TakesAll [] w w
@@ -43,50 +43,66 @@ added_to_none old new errors none adds = adds.added ∙ ap (λ es. reported es +
 began_at_none : (old new : List FluentError) (errors : List Error) → old ≡ [] → AddsFront errors old new → Begins (reported new) errors
 began_at_none old new errors none adds = (adds.rest, sym adds.whole ∙ ap (λ w. w ++ adds.rest) (sym (added_to_none old new adds.front none adds.adds)))
 
-module _ {T : Type 0} (run : Run) (first : List Error) (out out' : Outlet) (old new : List FluentError) (none : old ≡ []) where
+-- ---- of a text that was read to its end
+
+module _ {T : Type 0} (run : Run) (first : First) (out out' : Outlet) (old new : List FluentError) (none : old ≡ []) where
   -- a call that did all
   pub ends_whole : (r : Result T WriteFault) (x : T) (ending : Ending) → r ≡ Ok x → ending ≡ run.ending → Took r run.output out.held out'.held → Added r run.errors old new
-      → Faulted out.failed out.empty out'.failed out'.empty r → EndsRun run first out out' ending (reported new)
+      → Faulted out.failed out.empty out'.failed out'.empty r → EndsRun run first AtEnd out out' ending (reported new)
   ends_whole r x ending was ends took added fault =
       let text = subst (λ w. OnOk w (Appends out.held out'.held run.output)) was took.all in
       let errors = subst (λ w. OnOk w (AddsAll run.errors old new)) was added.all in
       let stood = subst (λ w. Faulted out.failed out.empty out'.failed out'.empty w) was fault in
       as_defined ends (added_to_none old new run.errors none errors) (record { taken = text; failed = stood.0; empty = stood.1 })
 
-  -- a call that faulted
-  pub ends_fault : (r : Result T WriteFault) (fault : WriteFault) (ending : Ending) → r ≡ Err fault → ending ≡ ending_of fault → Took r run.output out.held out'.held → Added r run.errors old new
-      → AddedFirst r first old new → Faulted out.failed out.empty out'.failed out'.empty r → EndsRun run first out out' ending (reported new)
-  ends_fault r Memory ending was ends took added before fault =
+  -- a call that was stopped with the first errors behind it
+  ends_behind : (r : Result T WriteFault) (fault : WriteFault) (ending : Ending) → r ≡ Err fault → ending ≡ ending_of fault → Took r run.output out.held out'.held → Begins (reported new) run.errors
+      → run.ending ≡ shown → Begins first.errors (reported new) → (fault ≡ Memory → (first.whole ≡ false) × TookPart run.output out.held out'.held)
+      → Faulted out.failed out.empty out'.failed out'.empty r → EndsRun run first AtEnd out out' ending (reported new)
+  ends_behind r Memory ending was ends took begun is firsts part fault =
       let stood = subst (λ w. Faulted out.failed out.empty out'.failed out'.empty w) was fault in
-      by_memory ends (began_at_none old new run.errors none added.front)
-      (took.front.0, (took.front.1, took.front.2), record { taken = took.front.3; failed = stood.0; empty = stood.1 })
-  ends_fault r (Writer e) ending was ends took added before fault =
-      let others = subst (λ w. AddedFirst w first old new) was before tt in
-      by_writing ends (others.0, added_to_none old new (first ++ others.0) none others.1) (began_at_none old new run.errors none added.front)
-      (record { taken = took.front; rose = inl (subst (λ w. Faulted out.failed out.empty out'.failed out'.empty w) was fault) })
-  ends_fault r Zero ending was ends took added before fault =
-      let others = subst (λ w. AddedFirst w first old new) was before tt in
-      by_writing ends (others.0, added_to_none old new (first ++ others.0) none others.1) (began_at_none old new run.errors none added.front)
-      (record { taken = took.front; rose = inr (subst (λ w. Faulted out.failed out.empty out'.failed out'.empty w) was fault) })
+      let some = part refl in
+      by_memory_shown ends refl is some.0 firsts begun (some.1.0, some.1.1, record { taken = some.1.2; failed = stood.0; empty = stood.1 })
+  ends_behind r (Writer e) ending was ends took begun is firsts part fault =
+      by_writing ends is firsts begun (record { taken = took.front; rose = inl (subst (λ w. Faulted out.failed out.empty out'.failed out'.empty w) was fault) })
+  ends_behind r Zero ending was ends took begun is firsts part fault =
+      by_writing ends is firsts begun (record { taken = took.front; rose = inr (subst (λ w. Faulted out.failed out.empty out'.failed out'.empty w) was fault) })
 
--- a run that shows and reports nothing
-pub ends_only : (ending : Ending) (run : Run) (first : List Error) (out : Outlet) (errors : List FluentError) → errors ≡ [] → run ≡ only ending → EndsRun run first out out ending (reported errors)
-ends_only ending run first out errors none is =
-    as_defined (sym (ap (λ r. r.ending) is)) (ap reported none ∙ sym (ap (λ r. r.errors) is)) (subst (λ t. TakesAll t out out) (sym (ap (λ r. r.output) is)) (takes_none out))
+  -- a call that was stopped
+  pub ends_fault : (r : Result T WriteFault) (fault : WriteFault) (ending : Ending) → r ≡ Err fault → ending ≡ ending_of fault → run.ending ≢ not_utf8
+      → Took r run.output out.held out'.held → Added r run.errors old new → IfErr r (Stops run first old new out out')
+      → Faulted out.failed out.empty out'.failed out'.empty r → EndsRun run first AtEnd out out' ending (reported new)
+  ends_fault r fault ending was ends is_text took added stops fault' =
+      let begun = began_at_none old new run.errors none added.front in
+      let stopped : Stops run first old new out out' fault = subst (λ w. IfErr w (Stops run first old new out out')) was stops in
+      elim stopped [
+        | before m same ↦ by_memory_read (ends ∙ ap ending_of m) refl is_text begun same
+        | behind is others adds part ↦
+            ends_behind r fault ending was ends took begun is (others, added_to_none old new (first.errors ++ others) none adds) part fault'
+      ]
 
--- a run whose input was not read to its end
-pub ends_unread : (run : Run) (first : List Error) (out : Outlet) (errors : List FluentError) → errors ≡ [] → EndsRun run first out out reading_failed (reported errors)
-ends_unread run first out errors none = by_reading refl (ap reported none) (takes_none out)
+-- ---- of no text, or none that was read
 
--- a run that got no memory to read into
-pub ends_no_memory : (run : Run) (first : List Error) (out : Outlet) (errors : List FluentError) → errors ≡ [] → EndsRun run first out out out_of_memory (reported errors)
-ends_no_memory run first out errors none = by_memory refl (run.errors, ap (λ es. es ++ run.errors) (sym (ap reported none))) ([], (run.output, refl), takes_none out)
+module _ (run : Run) (first : First) (state : InputState) (out : Outlet) (errors : List FluentError) (none : errors ≡ []) where
+  -- a run that shows and reports nothing
+  pub ends_only : (ending : Ending) → run ≡ only ending → EndsRun run first state out out ending (reported errors)
+  ends_only ending is =
+      as_defined (sym (ap (λ r. r.ending) is)) (ap reported none ∙ sym (ap (λ r. r.errors) is)) (subst (λ t. TakesAll t out out) (sym (ap (λ r. r.output) is)) (takes_none out))
+
+  -- a run whose input was not read to its end
+  pub ends_unread : EndsRun run first state out out reading_failed (reported errors)
+  ends_unread = by_reading refl (ap reported none) refl
+
+  -- a run that got no memory to read into
+  pub ends_no_memory : state ≡ Open → EndsRun run first state out out out_of_memory (reported errors)
+  ends_no_memory unread = by_memory refl unread (ap reported none) refl
 
 -- ---- which run it is
 
-pub ends_of : (run run' : Run) (first first' : List Error) (out out' : Outlet) (ending : Ending) (errors : List Error) → run ≡ run' → first ≡ first'
-    → EndsRun run first out out' ending errors → EndsRun run' first' out out' ending errors
-ends_of run run' first first' out out' ending errors is same h = subst (λ r. EndsRun r first' out out' ending errors) is (subst (λ es. EndsRun run es out out' ending errors) same h)
+pub ends_of : (run run' : Run) (first first' : First) (state : InputState) (out out' : Outlet) (ending : Ending) (errors : List Error) → run ≡ run' → first ≡ first'
+    → EndsRun run first state out out' ending errors → EndsRun run' first' state out out' ending errors
+ends_of run run' first first' state out out' ending errors is same h =
+    subst (λ r. EndsRun r first' state out out' ending errors) is (subst (λ f. EndsRun run f state out out' ending errors) same h)
 
 pub of_text : (asked : Asked) (plurals : Plurals) (bytes source : List ℕ) → IsUtf8 bytes → source ≡ bytes → run_source asked plurals source ≡ run_input asked plurals bytes
 of_text asked plurals bytes source utf8 same = rw (is_utf8-from_IsUtf8 bytes utf8) (ap (run_source asked plurals) same)
@@ -103,39 +119,50 @@ pub some_left : (known : Option (List ℕ)) → (bytes : List ℕ) × AreLeft kn
 some_left None = ([], tt)
 some_left (Some bytes) = (bytes, refl)
 
--- an input that was read to its end fits every ending but one
-pub read_for : {R : Type 0} (ending : Ending) (input : Reads R) → ending ≢ reading_failed → state_in input ≡ AtEnd → ReadFor ending input
-read_for shown input not is = is
-read_for (no_message id) input not is = is
-read_for bad_usage input not is = tt
-read_for bad_rule input not is = tt
-read_for not_utf8 input not is = is
-read_for out_of_memory input not is = λ failed. cc
-read_for reading_failed input not is = absurd (not refl)
-read_for writing_failed input not is = is
-
 -- ---- which run reads nothing
 
 -- any that ends otherwise
 abbrev IsOfInput : Ending → Type 0
-IsOfInput ending = (ending ≢ bad_usage) × (ending ≢ bad_rule)
+IsOfInput ending = (ending ≢ bad_usage) × (ending ≢ bad_rule) × (exit_status ending ≢ 3)
 
-of_value : (asked : Asked) (bundle : Bundle Text) (value : Option Pattern) → IsOfInput (run_value asked bundle value).ending
-of_value asked bundle None = (λ e. cc, λ e. cc)
-of_value asked bundle (Some pattern) = (λ e. cc, λ e. cc)
+-- and one of a text
+abbrev IsOfText : Ending → Type 0
+IsOfText ending = IsOfInput ending × (ending ≢ not_utf8)
 
-of_sources : (asked : Asked) (plurals : Plurals) (source : Text) (fallback : Option Text) → IsOfInput (run_sources asked plurals source fallback).ending
+of_shown : IsOfText shown
+of_shown = ((λ e. cc, λ e. cc, λ e. omega arith), λ e. cc)
+
+of_value : (asked : Asked) (bundle : Bundle Text) (value : Option Pattern) → IsOfText (run_value asked bundle value).ending
+of_value asked bundle None = ((λ e. cc, λ e. cc, λ e. omega arith), λ e. cc)
+of_value asked bundle (Some pattern) = of_shown
+
+of_sources : (asked : Asked) (plurals : Plurals) (source : Text) (fallback : Option Text) → IsOfText (run_sources asked plurals source fallback).ending
 of_sources asked plurals source None =
     let bundle = bundle_of plurals asked.options.isolate (entries source) in
     of_value asked bundle (value_at asked.id bundle)
-of_sources asked plurals source (Some fallback) = (λ e. cc, λ e. cc)
+of_sources asked plurals source (Some fallback) = of_shown
+
+pub is_of_text : (asked : Asked) (plurals : Plurals) (source : Text) → (run_source asked plurals source).ending ≢ not_utf8
+is_of_text asked plurals source = (of_sources asked plurals source asked.options.fallback).1
 
 of_input : (asked : Asked) (plurals : Plurals) (bytes : List ℕ) → IsOfInput (run_input asked plurals bytes).ending
 of_input asked plurals bytes = cases (is_utf8 bytes)
   where
     cases : (b : Bool) → IsOfInput (if b then run_source asked plurals bytes else only not_utf8).ending
-    cases true = of_sources asked plurals bytes asked.options.fallback
-    cases false = (λ e. cc, λ e. cc)
+    cases true = (of_sources asked plurals bytes asked.options.fallback).0
+    cases false = (λ e. cc, λ e. cc, λ e. omega arith)
+
+-- no run of the program ends with status 3 by itself
+pub never_stopped : (words : List Text) (bytes : List ℕ) → exit_status (run_of words bytes).ending ≢ 3
+never_stopped words bytes = cases (asked_by words)
+  where
+    by : (asked : Asked) (plurals : Option Plurals) → exit_status (run_by asked plurals bytes).ending ≢ 3
+    by asked None = λ e. omega arith
+    by asked (Some plurals) = (of_input asked plurals bytes).2
+
+    cases : (a : Option Asked) → exit_status (run_asked a bytes).ending ≢ 3
+    cases None = λ e. omega arith
+    cases (Some asked) = by asked (plurals_asked asked.options)
 
 pub none_asked : (words : List Text) (bytes : List ℕ) → (run_of words bytes).ending ≡ bad_usage → asked_by words ≡ None
 none_asked words bytes = cases (asked_by words)
@@ -168,18 +195,19 @@ by_asked words a bytes is = ap (λ x. run_asked x bytes) is
 pub by_rules : (asked : Asked) (plurals : Plurals) (bytes : List ℕ) → plurals_asked asked.options ≡ Some plurals → run_input asked plurals bytes ≡ run_asked (Some asked) bytes
 by_rules asked plurals bytes read = sym (ap (λ p. run_by asked p bytes) read)
 
-pub errors_by_rules : (asked : Asked) (plurals : Plurals) (bytes : List ℕ) → plurals_asked asked.options ≡ Some plurals → source_errors asked plurals bytes ≡ errors_asked (Some asked) bytes
-errors_by_rules asked plurals bytes read = sym (ap (λ p. errors_by asked p bytes) read)
+pub first_by_rules : (asked : Asked) (plurals : Plurals) (bytes : List ℕ) → plurals_asked asked.options ≡ Some plurals → first_of_source asked plurals bytes ≡ first_asked (Some asked) bytes
+first_by_rules asked plurals bytes read = sym (ap (λ p. first_by asked p bytes) read)
 
 -- and such that were not, where memory was refused, or one is none
-pub ends_unruled : (asked : Asked) (fault : RuleFault) (first : List Error) (bytes : List ℕ) (ending : Ending) (out : Outlet) (errors : List FluentError) → errors ≡ []
-    → ending ≡ ending_of_rules fault → (fault ≢ rule_fault.Memory → plurals_asked asked.options ≡ None) → EndsRun (run_asked (Some asked) bytes) first out out ending (reported errors)
-ends_unruled asked (rule_fault.Syntax kind at) first bytes ending out errors none is bad =
-    subst (λ e. EndsRun (run_asked (Some asked) bytes) first out out e (reported errors)) (sym is)
-    (ends_only bad_rule (run_asked (Some asked) bytes) first out errors none (ap (λ p. run_by asked p bytes) (bad (λ e. cc))))
-ends_unruled asked rule_fault.Memory first bytes ending out errors none is bad =
-    subst (λ e. EndsRun (run_asked (Some asked) bytes) first out out e (reported errors)) (sym is)
-    (ends_no_memory (run_asked (Some asked) bytes) first out errors none)
+pub ends_unruled : (asked : Asked) (fault : RuleFault) (first : First) (state : InputState) (bytes : List ℕ) (ending : Ending) (out : Outlet) (errors : List FluentError) → errors ≡ []
+    → ending ≡ ending_of_rules fault → state ≡ Open → (fault ≢ rule_fault.Memory → plurals_asked asked.options ≡ None)
+    → EndsRun (run_asked (Some asked) bytes) first state out out ending (reported errors)
+ends_unruled asked (rule_fault.Syntax kind at) first state bytes ending out errors none is unread bad =
+    subst (λ e. EndsRun (run_asked (Some asked) bytes) first state out out e (reported errors)) (sym is)
+    (ends_only (run_asked (Some asked) bytes) first state out errors none bad_rule (ap (λ p. run_by asked p bytes) (bad (λ e. cc))))
+ends_unruled asked rule_fault.Memory first state bytes ending out errors none is unread bad =
+    subst (λ e. EndsRun (run_asked (Some asked) bytes) first state out out e (reported errors)) (sym is)
+    (ends_no_memory (run_asked (Some asked) bytes) first state out errors none unread)
 
 -- rules that were read are none that can't be
 pub never_bad : (asked : Asked) (a : Option Asked) (plurals : Plurals) → Some asked ≡ a → plurals_asked asked.options ≡ Some plurals → ¬ (HasBadRule a)
@@ -188,9 +216,9 @@ never_bad asked a plurals is read bad =
     cc
 
 -- an input of which nothing was read fits them
-pub read_for_rules : {R : Type 0} (fault : RuleFault) (ending : Ending) (input : Reads R) → ending ≡ ending_of_rules fault → state_in input ≡ Open → ReadFor ending input
-read_for_rules (rule_fault.Syntax kind at) ending input is unread = subst (λ e. ReadFor e input) (sym is) tt
-read_for_rules rule_fault.Memory ending input is unread = subst (λ e. ReadFor e input) (sym is) (λ failed. cc)
+pub read_for_rules : (fault : RuleFault) (ending : Ending) (old new : Inlet) → ending ≡ ending_of_rules fault → new.state ≡ Open → ReadFor ending old new
+read_for_rules (rule_fault.Syntax kind at) ending old new is unread = subst (λ e. ReadFor e old new) (sym is) tt
+read_for_rules rule_fault.Memory ending old new is unread = subst (λ e. ReadFor e old new) (sym is) (λ failed. cc)
 
 -- one of the two endings
 pub rule_or_memory : (fault : RuleFault) (ending : Ending) → ending ≡ ending_of_rules fault → (ending ≡ bad_rule) ⊎ (ending ≡ out_of_memory)

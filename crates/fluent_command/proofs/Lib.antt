@@ -1,5 +1,6 @@
 pub mod Lines
 pub mod Adding
 pub mod Taking
+pub mod Stopping
 pub mod Coming
 pub mod Began

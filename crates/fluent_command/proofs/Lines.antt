@@ -7,7 +7,7 @@ use Rattle.fluent_values.specs.Status.{reported}
 use Rattle.fluent_values.specs.View.{error_view}
 use Rattle.fluent_entries.specs.declared.errors.FluentError.{FluentError}
 use Rattle.fluent_command.specs.Ending.{line, error_lines}
-use Rattle.fluent_command.specs.Outcome.{Precedes}
+use Rattle.fluent_command.specs.Outlet.{Precedes}
 
 error_lines-append : (xs ys : List Error) → error_lines (xs ++ ys) ≡ error_lines xs ++ error_lines ys
 error_lines-append [] ys = refl

@@ -1,20 +1,17 @@
 -- What a run of the program came to.
-use Rattle.std.specs.Prelude.{◌≡◌, ℕ, ◌⊎◌, List, [], ◌∷◌, ◌++◌, Option, IfSome}
+use Rattle.std.specs.Prelude.{◌≡◌, ◌≢◌, ℕ, ◌⊎◌, List, [], false, Option, IfSome}
 use Rattle.fluent_meaning.specs.Errors.{Error}
 use Rattle.fluent_meaning.specs.Laws.{Begins}
-use Rattle.fluent_command.specs.Ending.{Ending, said, exit_status, bad_usage, bad_rule, out_of_memory, reading_failed, writing_failed}
-use Rattle.fluent_command.specs.Input.{ReadFor}
-use Rattle.fluent_command.specs.Outlet.{Outlet, TakesAll, TakesFront, Faults}
-use Rattle.fluent_command.specs.Program.{Run, Answer}
-use Rattle.fluent_command.specs.declared.input.Reads.{Reads}
+use Rattle.fluent_command.specs.Ending.{Ending, said, exit_status, shown, bad_usage, bad_rule, not_utf8, out_of_memory, reading_failed, writing_failed}
+use Rattle.fluent_command.specs.Input.{Inlet, IsUnread, ReadFor}
+use Rattle.fluent_command.specs.Outlet.{Outlet, Precedes, Rose, TakesAll, TakesPart, Faults}
+use Rattle.fluent_command.specs.Program.{Run, First, Answer}
+use Rattle.fluent_command.specs.declared.input.InputState.{InputState}
+use Rattle.fluent_command.specs.declared.input.InputState.TheVariants.{Open, AtEnd}
 
 -- these are the bytes that a reader has left, where they are known
 abbrev pub AreLeft : Option (List ℕ) → List ℕ → Type 0
 AreLeft known bytes = IfSome known (λ left. bytes ≡ left)
-
--- these are the errors before one of the others: they begin them, and so they do with that one
-abbrev pub Precedes : List Error → List Error → Type 0
-Precedes front all = (e : Error) × Begins (front ++ e ∷ []) all
 
 -- A run that was not stopped: status, output and error text are those of the program.
 pub record AnswersAs (answer : Answer) (result : ℕ) (out out' err err' : Outlet) : Type 0 where
@@ -22,22 +19,30 @@ pub record AnswersAs (answer : Answer) (result : ℕ) (out out' err err' : Outle
   pub output : TakesAll answer.output out out'
   pub errors : TakesAll answer.errors err err'
 
--- How a run ends before it reports, and the errors that it has then.
--- The first errors are those that it finds before it writes.
-pub data EndsRun (run : Run) (first : List Error) (out out' : Outlet)
+-- How a run ends before it reports, and the errors that it has then, by what its reads showed.
+-- The first things are those that it has before it writes.
+pub data EndsRun (run : Run) (first : First) (state : InputState) (out out' : Outlet)
     (ending : Ending) (errors : List Error) : Type 0 where
   -- as it should
   as_defined : ending ≡ run.ending → errors ≡ run.errors → TakesAll run.output out out'
-      → EndsRun run first out out' ending errors
+      → EndsRun run first state out out' ending errors
   -- a read failed, or none of all showed the end: nothing was found and written
-  by_reading : ending ≡ reading_failed → errors ≡ [] → TakesAll [] out out'
-      → EndsRun run first out out' ending errors
-  -- a write failed or took nothing: the first errors had been found
-  by_writing : ending ≡ writing_failed → Begins first errors → Begins errors run.errors
-      → Faults run.output out out' → EndsRun run first out out' ending errors
-  -- memory was refused, or so it is said
-  by_memory : ending ≡ out_of_memory → Begins errors run.errors → TakesFront run.output out out'
-      → EndsRun run first out out' ending errors
+  by_reading : ending ≡ reading_failed → errors ≡ [] → out' ≡ out
+      → EndsRun run first state out out' ending errors
+  -- a write failed or took nothing: there was a text to show, and the first errors had been found
+  by_writing : ending ≡ writing_failed → run.ending ≡ shown → Begins first.errors errors
+      → Begins errors run.errors → Faults run.output out out'
+      → EndsRun run first state out out' ending errors
+  -- memory was refused, or so it is said, before a read showed the end: nothing was found and written
+  by_memory : ending ≡ out_of_memory → state ≡ Open → errors ≡ [] → out' ≡ out
+      → EndsRun run first state out out' ending errors
+  -- or behind that, where the input is a text: nothing was written
+  by_memory_read : ending ≡ out_of_memory → state ≡ AtEnd → run.ending ≢ not_utf8
+      → Begins errors run.errors → out' ≡ out → EndsRun run first state out out' ending errors
+  -- or while a text was written in pieces, and before the last: the first errors had been found
+  by_memory_shown : ending ≡ out_of_memory → state ≡ AtEnd → run.ending ≡ shown
+      → first.whole ≡ false → Begins first.errors errors → Begins errors run.errors
+      → TakesPart run.output out out' → EndsRun run first state out out' ending errors
 
 -- What is said of these errors and this ending, and the status.
 pub data ReportsRun (errors : List Error) (ending : Ending)
@@ -57,11 +62,25 @@ pub data ReportsRun (errors : List Error) (ending : Ending)
 -- A run that comes to these errors: how it ends, what its reads showed for that, and what is said of it.
 -- Where the words are not of the form, nothing else can stop it, and where a plural rule can't be read,
 -- nothing but want of memory.
-pub record RanTo {R : Type 0} (run : Run) (first errors : List Error) (input : Reads R)
+pub record RanTo (run : Run) (first : First) (errors : List Error) (input input' : Inlet)
     (out out' err err' : Outlet) (result : ℕ) : Type 0 where
   pub ending : Ending
-  pub ends : EndsRun run first out out' ending errors
+  pub ends : EndsRun run first input'.state out out' ending errors
   pub usage : run.ending ≡ bad_usage → ending ≡ bad_usage
   pub rule : run.ending ≡ bad_rule → (ending ≡ bad_rule) ⊎ (ending ≡ out_of_memory)
-  pub reads : ReadFor ending input
+  pub reads : ReadFor ending input input'
   pub reports : ReportsRun errors ending err err' result
+
+-- Why a run ends with status 3.
+pub data IsStopped (input input' : Inlet) (out out' err err' : Outlet) : Type 0 where
+  -- its input was not read to its end
+  unread : IsUnread input input' → IsStopped input input' out out' err err'
+  -- a write on its output failed or took nothing
+  unwritten : Rose out.failed out.empty out'.failed out'.empty
+      → IsStopped input input' out out' err err'
+  -- or on standard error
+  unsaid : Rose err.failed err.empty err'.failed err'.empty
+      → IsStopped input input' out out' err err'
+  -- memory was refused, as standard error says behind the lines of some errors
+  refused : (errors : List Error) → TakesAll (said errors out_of_memory) err err'
+      → IsStopped input input' out out' err err'

@@ -1,5 +1,5 @@
 -- A writer that counts its faults, as the contracts of a run see it.
-use Rattle.std.specs.Prelude.{◌≡◌, ℕ, ◌⊎◌, Option}
+use Rattle.std.specs.Prelude.{◌≡◌, ℕ, ◌⊎◌, List, [], ◌∷◌, ◌++◌, Option}
 use Rattle.std.specs.Io.KnownBytes.{Appends}
 use Rattle.fluent_tree.specs.Tree.{Text}
 use Rattle.fluent_text.specs.Taken.{raised, TookFront}
@@ -16,6 +16,10 @@ pub record Outlet : Type 0 where
 abbrev pub outlet : {W : Type 0} → (W → Option Text) → Counting W → Outlet
 outlet contents w = record { held = contents (writer_in w); failed = failed_in w; empty = empty_in w }
 
+-- these stand before one of the others: they begin them, and so they do with that one
+abbrev pub Precedes : {A : Type 0} → List A → List A → Type 0
+Precedes {A = A} front all = (x : A) × Begins (front ++ x ∷ []) all
+
 -- one of two counts went up: that of the writes that failed, or that of those that took nothing
 abbrev pub Rose : ℕ → ℕ → ℕ → ℕ → Type 0
 Rose failed empty failed' empty' =
@@ -27,9 +31,9 @@ pub record TakesAll (text : Text) (old new : Outlet) : Type 0 where
   pub failed : new.failed ≡ old.failed
   pub empty : new.empty ≡ old.empty
 
--- the same of a beginning of the text
-abbrev pub TakesFront : Text → Outlet → Outlet → Type 0
-TakesFront text old new = (front : Text) × Begins front text × TakesAll front old new
+-- the same of a beginning of the text that is not all of it
+abbrev pub TakesPart : Text → Outlet → Outlet → Type 0
+TakesPart text old new = (front : Text) × Precedes front text × TakesAll front old new
 
 -- a write failed or took nothing, and it took a beginning of the text
 pub record Faults (text : Text) (old new : Outlet) : Type 0 where

@@ -1,5 +1,5 @@
 -- What the program shows and says, as a function of its words and the bytes of its input.
-use Rattle.std.specs.Prelude.{ℕ, Bool, true, List, [], ◌∷◌, ◌++◌, map, Option, Some, None, if◌then◌else◌}
+use Rattle.std.specs.Prelude.{ℕ, Bool, true, false, List, [], ◌∷◌, ◌++◌, map, Option, Some, None, if◌then◌else◌}
 use Rattle.std.specs.Str.{is_utf8}
 use Rattle.fluent_tree.specs.Tree.{Text, Pattern, Entry}
 use Rattle.fluent_syntax.specs.Chunks.{entries, junk_ranges}
@@ -143,28 +143,49 @@ run_asked (Some asked) bytes = run_by asked (plurals_asked asked.options) bytes
 abbrev pub run_of : List Text → List ℕ → Run
 run_of words bytes = run_asked (asked_by words) bytes
 
--- ---- what is wrong with the sources themselves, which a run finds before it writes
+-- ---- what a run has before it writes
 
-abbrev pub errors_of_sources : Asked → Plurals → Text → Option Text → List Error
-errors_of_sources asked plurals source None =
-    junk_errors source ++ adding_errors plurals asked.options.isolate (entries source)
-errors_of_sources asked plurals source (Some fallback) =
-    both_junk_errors source fallback
-    ++ both_adding_errors plurals asked.options.isolate (entries source) (entries fallback)
+-- the errors that it found, and whether its text is whole by then
+pub record First : Type 0 where
+  pub errors : List Error
+  pub whole : Bool
 
-abbrev pub source_errors : Asked → Plurals → Text → List Error
-source_errors asked plurals source = errors_of_sources asked plurals source asked.options.fallback
+-- Of the input alone it is what is wrong with the source: the text is written in pieces, as it is made.
+abbrev pub in_pieces : List Error → First
+in_pieces errors = record { errors = errors; whole = false }
 
-abbrev pub errors_by : Asked → Option Plurals → List ℕ → List Error
-errors_by asked None bytes = []
-errors_by asked (Some plurals) bytes = source_errors asked plurals bytes
+abbrev pub first_of_entries : Asked → Plurals → List Entry → First
+first_of_entries asked plurals entries =
+    in_pieces (adding_errors plurals asked.options.isolate entries)
 
-abbrev pub errors_asked : Option Asked → List ℕ → List Error
-errors_asked None bytes = []
-errors_asked (Some asked) bytes = errors_by asked (plurals_asked asked.options) bytes
+abbrev pub first_alone : Asked → Plurals → Text → First
+first_alone asked plurals source =
+    in_pieces (junk_errors source ++ adding_errors plurals asked.options.isolate (entries source))
 
-abbrev pub first_errors : List Text → List ℕ → List Error
-first_errors words bytes = errors_asked (asked_by words) bytes
+-- With a fallback it is all: the text is made first.
+abbrev pub all_first : Run → First
+all_first run = record { errors = run.errors; whole = true }
+
+abbrev pub first_of_sources : Asked → Plurals → Text → Option Text → First
+first_of_sources asked plurals source None = first_alone asked plurals source
+first_of_sources asked plurals source (Some fallback) =
+    all_first (run_fallback asked plurals source fallback)
+
+abbrev pub first_of_source : Asked → Plurals → Text → First
+first_of_source asked plurals source =
+    first_of_sources asked plurals source asked.options.fallback
+
+-- So it is where nothing is written.
+abbrev pub first_by : Asked → Option Plurals → List ℕ → First
+first_by asked None bytes = all_first (only bad_rule)
+first_by asked (Some plurals) bytes = first_of_source asked plurals bytes
+
+abbrev pub first_asked : Option Asked → List ℕ → First
+first_asked None bytes = all_first (only bad_usage)
+first_asked (Some asked) bytes = first_by asked (plurals_asked asked.options) bytes
+
+abbrev pub first_of : List Text → List ℕ → First
+first_of words bytes = first_asked (asked_by words) bytes
 
 -- ---- what a caller sees
 

@@ -3,7 +3,7 @@
 
 ghost use Rattle.std.specs.Prelude.{◌≡◌, ◌+◌, ◌≤◌, ◌<◌, IfOk, IfErr, OnOk};
 ghost use Rattle.std.specs.Io.KnownBytes.{Consumes, IsAtEnd, ReadConsumes};
-ghost use Rattle.fluent_command.specs.Input.{ReadsAreBounded, IsUnread, reader_in, room_in, made_in, state_in};
+ghost use Rattle.fluent_command.specs.Input.{ReadsAreBounded, IsUnread, inlet, reader_in, room_in, made_in, state_in};
 ghost use Rattle.fluent_command.specs.Inside.OneRead.{state_after};
 ghost use Rattle.fluent_command.specs.Limits.{most_reads};
 
@@ -129,7 +129,8 @@ pub(crate) fn read_all<R: Read>(alloc: Global, input: &mut Reads<R>) -> Result<V
     ensures end { OnOk result (IsAtEnd (R.remaining (reader_in input.new))) }
     ensures bounded { ReadsAreBounded input.new }
     ensures shown { OnOk result (state_in input.new ≡ InputState.AtEnd) }
-    ensures unread { IfErr result (λ fault. fault ≡ ReadFault.Reading → IsUnread input.new) }
+    ensures unread { IfErr result (λ fault. fault ≡ ReadFault.Reading →
+        IsUnread (inlet R.remaining input.old) (inlet R.remaining input.new)) }
     ensures memory { IfErr result (λ fault.
         fault ≡ ReadFault.Memory → state_in input.new ≡ InputState.Open) }
 {

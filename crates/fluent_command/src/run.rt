@@ -9,10 +9,11 @@ ghost use Rattle.fluent_command.specs.Plurals.{HasBadRule};
 ghost use Rattle.fluent_command.specs.Inside.PluralsView.{plurals_view};
 ghost use Rattle.fluent_command.specs.Ending.{bad_usage, bad_rule, out_of_memory, reading_failed};
 ghost use Rattle.fluent_command.specs.EndingView.{ending_view};
-ghost use Rattle.fluent_command.specs.Program.{run_input, run_of, first_errors, source_errors, program};
-ghost use Rattle.fluent_command.specs.Input.{ReadsAreBounded, ReadFor, reader_in, made_in};
+ghost use Rattle.fluent_command.specs.Program.{run_input, run_of, first_of, first_of_source, program};
+ghost use Rattle.fluent_command.specs.Input.{ReadsAreBounded, ReadFor, inlet, reader_in, made_in, state_in};
+ghost use Rattle.fluent_command.specs.declared.input.InputState.TheVariants.{Open, AtEnd};
 ghost use Rattle.fluent_command.specs.Outlet.{outlet};
-ghost use Rattle.fluent_command.specs.Outcome.{AreLeft, EndsRun, AnswersAs, RanTo};
+ghost use Rattle.fluent_command.specs.Outcome.{AreLeft, EndsRun, AnswersAs, IsStopped, RanTo};
 
 use crate::input::{ReadFault, Reads, read_all};
 use crate::plurals::{Plurals, read_rules};
@@ -36,8 +37,8 @@ fn show_bytes<'w, W: Write>(
     requires { errors.old.items ≡ [] }
     ensures ends { let asked = asked_view request.entry in
         let plurals = plurals_view plurals.entry in
-        EndsRun (run_input asked plurals bytes.now) (source_errors asked plurals bytes.now)
-        (outlet W.contents out.old) (outlet W.contents out.new)
+        EndsRun (run_input asked plurals bytes.now) (first_of_source asked plurals bytes.now)
+        AtEnd (outlet W.contents out.old) (outlet W.contents out.new)
         (ending_view result) (reported errors.new.items) }
     ensures read { ending_view result ≢ reading_failed }
 {
@@ -63,10 +64,11 @@ fn show_input<'w, R: Read, W: Write>(
     ensures ends { let asked = asked_view request.entry in
         let plurals = plurals_view plurals.entry in
         (bytes : List ℕ) × AreLeft (R.remaining (reader_in input.old)) bytes
-        × EndsRun (run_input asked plurals bytes) (source_errors asked plurals bytes)
-        (outlet W.contents out.old) (outlet W.contents out.new)
+        × EndsRun (run_input asked plurals bytes) (first_of_source asked plurals bytes)
+        (state_in input.new) (outlet W.contents out.old) (outlet W.contents out.new)
         (ending_view result) (reported errors.new.items) }
-    ensures reads { ReadFor (ending_view result) input.new }
+    ensures reads { ReadFor (ending_view result)
+        (inlet R.remaining input.old) (inlet R.remaining input.new) }
     ensures bounded { ReadsAreBounded input.new }
 {
     match read_all(alloc, input) {
@@ -87,16 +89,18 @@ fn attempt<'w, R: Read, W: Write>(
     requires { errors.old.items ≡ [] }
     ensures ends { let asked = map string_bytes words.now in
         (bytes : List ℕ) × AreLeft (R.remaining (reader_in input.old)) bytes
-        × EndsRun (run_of asked bytes) (first_errors asked bytes)
-        (outlet W.contents out.old) (outlet W.contents out.new)
+        × EndsRun (run_of asked bytes) (first_of asked bytes)
+        (state_in input.new) (outlet W.contents out.old) (outlet W.contents out.new)
         (ending_view result) (reported errors.new.items) }
     ensures usage { asked_by (map string_bytes words.now) ≡ None → ending_view result ≡ bad_usage }
     ensures rule { HasBadRule (asked_by (map string_bytes words.now)) →
         (ending_view result ≡ bad_rule) ⊎ (ending_view result ≡ out_of_memory) }
-    ensures reads { ReadFor (ending_view result) input.new }
+    ensures reads { ReadFor (ending_view result)
+        (inlet R.remaining input.old) (inlet R.remaining input.new) }
     ensures unread { asked_by (map string_bytes words.now) ≡ None → input.new ≡ input.old }
     ensures untouched { HasBadRule (asked_by (map string_bytes words.now)) →
-        (reader_in input.new ≡ reader_in input.old) × (made_in input.new ≡ 0) }
+        (reader_in input.new ≡ reader_in input.old) × (made_in input.new ≡ 0)
+        × (state_in input.new ≡ Open) }
     ensures bounded { asked_by (map string_bytes words.now) ≢ None → ReadsAreBounded input.new }
 {
     let Some(request) = Request::of(words) else {
@@ -124,12 +128,14 @@ fn run_with<R: Read, W: Write, E: Write>(
     requires { errors.old.items ≡ [] }
     ensures ran { let asked = map string_bytes words.now in
         (bytes : List ℕ) × AreLeft (R.remaining (reader_in input.old)) bytes
-        × RanTo (run_of asked bytes) (first_errors asked bytes) (reported errors.new.items) input.new
+        × RanTo (run_of asked bytes) (first_of asked bytes) (reported errors.new.items)
+        (inlet R.remaining input.old) (inlet R.remaining input.new)
         (outlet W.contents out.old) (outlet W.contents out.new)
         (outlet E.contents err.old) (outlet E.contents err.new) result }
     ensures unread { asked_by (map string_bytes words.now) ≡ None → input.new ≡ input.old }
     ensures untouched { HasBadRule (asked_by (map string_bytes words.now)) →
-        (reader_in input.new ≡ reader_in input.old) × (made_in input.new ≡ 0) }
+        (reader_in input.new ≡ reader_in input.old) × (made_in input.new ≡ 0)
+        × (state_in input.new ≡ Open) }
     ensures bounded { asked_by (map string_bytes words.now) ≢ None → ReadsAreBounded input.new }
 {
     let ending = attempt(alloc, words, input, out, errors);
@@ -143,11 +149,13 @@ fn run_with<R: Read, W: Write, E: Write>(
 /// every reader, also one that never ends, and for all writers.
 ///
 /// Where the status is not 3, status, output and error text are those that `program` defines for the words and
-/// the bytes of the input. Where it is 3, a read failed or none of all showed the end, a write failed or took
-/// nothing, or the error text says that memory was refused. The output then holds a beginning of what it should,
-/// and the error text is the lines of the first errors and one that names the cause or, where it was standard error
+/// the bytes of the input. Where it is 3, a read failed or all were made and each gave bytes, a write failed or took
+/// nothing, or the error text says that memory was refused. The output then holds a beginning of what it should; with a
+/// fallback it holds all or nothing unless a write failed, since its text is made before it is written.
+/// The error text is the lines of the first errors and one that names the cause or, where it was standard error
 /// that failed, a beginning of such lines. Faults of usage are found first, then plural rules that can't be read, and
-/// both before anything is read.
+/// both before anything is read; all errors of the sources are found before anything is written, and with a fallback
+/// all errors.
 pub fn run<R: Read, W: Write, E: Write>(
     alloc: Global,
     words: &[String],
@@ -160,14 +168,20 @@ pub fn run<R: Read, W: Write, E: Write>(
         × AnswersAs (program asked bytes) result
         (outlet W.contents out.old) (outlet W.contents out.new)
         (outlet E.contents err.old) (outlet E.contents err.new) }
+    ensures stopped { result ≡ 3 →
+        IsStopped (inlet R.remaining input.old) (inlet R.remaining input.new)
+        (outlet W.contents out.old) (outlet W.contents out.new)
+        (outlet E.contents err.old) (outlet E.contents err.new) }
     ensures ran { let asked = map string_bytes words.now in
         (bytes : List ℕ) × AreLeft (R.remaining (reader_in input.old)) bytes × (errors : List Error)
-        × RanTo (run_of asked bytes) (first_errors asked bytes) errors input.new
+        × RanTo (run_of asked bytes) (first_of asked bytes) errors
+        (inlet R.remaining input.old) (inlet R.remaining input.new)
         (outlet W.contents out.old) (outlet W.contents out.new)
         (outlet E.contents err.old) (outlet E.contents err.new) result }
     ensures unread { asked_by (map string_bytes words.now) ≡ None → input.new ≡ input.old }
     ensures untouched { HasBadRule (asked_by (map string_bytes words.now)) →
-        (reader_in input.new ≡ reader_in input.old) × (made_in input.new ≡ 0) }
+        (reader_in input.new ≡ reader_in input.old) × (made_in input.new ≡ 0)
+        × (state_in input.new ≡ Open) }
     ensures bounded { asked_by (map string_bytes words.now) ≢ None → ReadsAreBounded input.new }
     ensures status { result ≤ 3 }
 {

@@ -1,6 +1,6 @@
 //! A message of a source, written with its errors.
 
-ghost use Rattle.std.specs.Prelude.{◌≡◌, ◌++◌, ◌∷◌, [], map, Some, None, IfOk, string_bytes};
+ghost use Rattle.std.specs.Prelude.{◌≡◌, ◌++◌, ◌∷◌, [], map, Err, IfOk, IfErr, string_bytes};
 ghost use Rattle.fluent_syntax.specs.Chunks.{entries};
 ghost use Rattle.fluent_syntax.specs.Parsed.{error_range};
 ghost use Rattle.fluent_text.specs.Writer.{writer_in, CountsFault};
@@ -8,14 +8,16 @@ ghost use Rattle.fluent_tree.specs.View.{pattern_view};
 ghost use Rattle.fluent_meaning.specs.Result.{written_pattern};
 ghost use Rattle.fluent_bundle.specs.BundleView.{entries_of};
 ghost use Rattle.fluent_chain.specs.Chain.{chain_value, value_at};
+ghost use Rattle.fluent_command.specs.Outlet.{outlet};
 ghost use Rattle.fluent_command.specs.Words.{name_and_value};
 ghost use Rattle.fluent_command.specs.Inside.WordsView.{asked_view};
 ghost use Rattle.fluent_command.specs.Inside.PluralsView.{plurals_view};
 ghost use Rattle.fluent_command.specs.EndingView.{ending_view};
 ghost use Rattle.fluent_command.specs.Inside.BundleView.{args_view, bundle_view};
 ghost use Rattle.fluent_command.specs.Program.{arguments_of, error_at, junk_errors, adding_errors, both_adding_errors, start, bundle_of};
-ghost use Rattle.fluent_command.specs.Program.{run_pattern, run_chain, run_value, run_entries, run_alone, run_both, run_fallback, run_source, source_errors, errors_of_sources};
-ghost use Rattle.fluent_command.specs.Inside.Far.{Added, AddedFirst, Took};
+ghost use Rattle.fluent_command.specs.Program.{run_pattern, run_chain, run_value, run_entries, run_alone, run_both, run_fallback, run_source};
+ghost use Rattle.fluent_command.specs.Program.{all_first, in_pieces, first_of_entries, first_alone, first_of_source};
+ghost use Rattle.fluent_command.specs.Inside.Far.{Added, Stops, Took, TookPart};
 
 use crate::plurals::Plurals;
 use crate::report::Ending;
@@ -143,6 +145,11 @@ fn write_value<'p, 'r, 's: 'r, W: Write>(
         let run = run_pattern (written_pattern (bundle_view bundle.now) args
         (pattern_view pattern.now)) in
         Took result run.output (W.contents (writer_in out.old)) (W.contents (writer_in out.new)) }
+    ensures part { let args = arguments_of (map name_and_value (map string_bytes words.now)) in
+        let run = run_pattern (written_pattern (bundle_view bundle.now) args
+        (pattern_view pattern.now)) in
+        result ≡ Err WriteFault.Memory → TookPart run.output
+        (W.contents (writer_in out.old)) (W.contents (writer_in out.new)) }
     ensures errors { let args = arguments_of (map name_and_value (map string_bytes words.now)) in
         let run = run_pattern (written_pattern (bundle_view bundle.now) args
         (pattern_view pattern.now)) in
@@ -168,6 +175,10 @@ fn show_value<'w, 'p, 'r, 's: 'r, W: Write>(
     ensures errors { let value = value_at request.entry.id.now (bundle_view bundle.now) in
         let run = run_value (asked_view request.entry) (bundle_view bundle.now) value in
         Added result run.errors errors.old.items errors.new.items }
+    ensures stops { let value = value_at request.entry.id.now (bundle_view bundle.now) in
+        let run = run_value (asked_view request.entry) (bundle_view bundle.now) value in
+        IfErr result (Stops run (in_pieces []) errors.old.items errors.new.items
+        (outlet W.contents out.old) (outlet W.contents out.new)) }
     ensures ending { let value = value_at request.entry.id.now (bundle_view bundle.now) in
         let run = run_value (asked_view request.entry) (bundle_view bundle.now) value in
         IfOk result (λ ending. ending_view ending ≡ run.ending) }
@@ -198,10 +209,12 @@ fn show_resource<'w, W: Write>(
     ensures errors { let asked = asked_view request.entry in
         let run = run_entries asked (plurals_view plurals.entry) (entries_of resource.now) in
         Added result run.errors errors.old.items errors.new.items }
-    ensures first { let isolate = request.entry.options.isolate in
-        AddedFirst result (adding_errors (plurals_view plurals.entry) isolate
-        (entries_of resource.now))
-        errors.old.items errors.new.items }
+    ensures stops { let asked = asked_view request.entry in
+        let entries = entries_of resource.now in
+        IfErr result (Stops (run_entries asked (plurals_view plurals.entry) entries)
+        (first_of_entries asked (plurals_view plurals.entry) entries)
+        errors.old.items errors.new.items
+        (outlet W.contents out.old) (outlet W.contents out.new)) }
     ensures ending { let asked = asked_view request.entry in
         let run = run_entries asked (plurals_view plurals.entry) (entries_of resource.now) in
         IfOk result (λ ending. ending_view ending ≡ run.ending) }
@@ -226,9 +239,11 @@ fn show_alone<'w, W: Write>(
     ensures errors { let run = run_alone (asked_view request.entry)
         (plurals_view plurals.entry) source.now in
         Added result run.errors errors.old.items errors.new.items }
-    ensures first { let asked = asked_view request.entry in
-        AddedFirst result (errors_of_sources asked (plurals_view plurals.entry) source.now None)
-        errors.old.items errors.new.items }
+    ensures stops { let asked = asked_view request.entry in
+        IfErr result (Stops (run_alone asked (plurals_view plurals.entry) source.now)
+        (first_alone asked (plurals_view plurals.entry) source.now)
+        errors.old.items errors.new.items
+        (outlet W.contents out.old) (outlet W.contents out.new)) }
     ensures ending { let run = run_alone (asked_view request.entry)
         (plurals_view plurals.entry) source.now in
         IfOk result (λ ending. ending_view ending ≡ run.ending) }
@@ -257,6 +272,11 @@ fn write_chain<'p, 'r, 's: 'r, W: Write>(
         let bundles = bundle_view first.now ∷ bundle_view second.now ∷ [] in
         let run = run_chain (chain_value asked.id (arguments_of asked.arguments) bundles) in
         Added result run.errors errors.old.items errors.new.items }
+    ensures stops { let asked = asked_view request.entry in
+        let bundles = bundle_view first.now ∷ bundle_view second.now ∷ [] in
+        let run = run_chain (chain_value asked.id (arguments_of asked.arguments) bundles) in
+        IfErr result (Stops run (all_first run) errors.old.items errors.new.items
+        (outlet W.contents out.old) (outlet W.contents out.new)) }
     ensures fault { CountsFault out.old out.new result }
 {
     let args = arguments(alloc, request.arguments)?;
@@ -284,11 +304,11 @@ fn show_both<'w, 'r, 's, W: Write>(
         let run = run_both asked (plurals_view plurals.entry) (entries_of first.now)
         (entries_of second.now) in
         Added result run.errors errors.old.items errors.new.items }
-    ensures first { let isolate = request.entry.options.isolate in
-        let plurals = plurals_view plurals.entry in
-        AddedFirst result (both_adding_errors plurals isolate (entries_of first.now)
-        (entries_of second.now))
-        errors.old.items errors.new.items }
+    ensures stops { let asked = asked_view request.entry in
+        let run = run_both asked (plurals_view plurals.entry) (entries_of first.now)
+        (entries_of second.now) in
+        IfErr result (Stops run (all_first run) errors.old.items errors.new.items
+        (outlet W.contents out.old) (outlet W.contents out.new)) }
     ensures ending { let asked = asked_view request.entry in
         let run = run_both asked (plurals_view plurals.entry) (entries_of first.now)
         (entries_of second.now) in
@@ -318,10 +338,10 @@ fn show_fallback<'w, W: Write>(
     ensures errors { let asked = asked_view request.entry in
         let run = run_fallback asked (plurals_view plurals.entry) source.now fallback.now in
         Added result run.errors errors.old.items errors.new.items }
-    ensures first { let asked = asked_view request.entry in
-        AddedFirst result (errors_of_sources asked (plurals_view plurals.entry) source.now
-        (Some fallback.now))
-        errors.old.items errors.new.items }
+    ensures stops { let run = run_fallback (asked_view request.entry)
+        (plurals_view plurals.entry) source.now fallback.now in
+        IfErr result (Stops run (all_first run) errors.old.items errors.new.items
+        (outlet W.contents out.old) (outlet W.contents out.new)) }
     ensures ending { let asked = asked_view request.entry in
         let run = run_fallback asked (plurals_view plurals.entry) source.now fallback.now in
         IfOk result (λ ending. ending_view ending ≡ run.ending) }
@@ -338,8 +358,9 @@ fn show_fallback<'w, W: Write>(
 ///
 /// # Errors
 ///
-/// What was written and added so far begins what should have been. Before a write can fail, all that is wrong with
-/// the sources themselves was added.
+/// What was written and added so far begins what should have been. Before anything is written, all that is wrong with
+/// the sources themselves was added, and with a fallback all errors. Where memory was refused, not all was written,
+/// and with a fallback nothing.
 pub fn show<'w, W: Write>(
     alloc: Global,
     request: Request<'w>,
@@ -354,9 +375,11 @@ pub fn show<'w, W: Write>(
     ensures errors { let run = run_source (asked_view request.entry)
         (plurals_view plurals.entry) source.now in
         Added result run.errors errors.old.items errors.new.items }
-    ensures first { let asked = asked_view request.entry in
-        AddedFirst result (source_errors asked (plurals_view plurals.entry) source.now)
-        errors.old.items errors.new.items }
+    ensures stops { let asked = asked_view request.entry in
+        IfErr result (Stops (run_source asked (plurals_view plurals.entry) source.now)
+        (first_of_source asked (plurals_view plurals.entry) source.now)
+        errors.old.items errors.new.items
+        (outlet W.contents out.old) (outlet W.contents out.new)) }
     ensures ending { let run = run_source (asked_view request.entry)
         (plurals_view plurals.entry) source.now in
         IfOk result (λ ending. ending_view ending ≡ run.ending) }

@@ -7,7 +7,7 @@ use Rattle.fluent_text.specs.declared.counting.WriteFault.{WriteFault}
 use Rattle.fluent_text.specs.declared.counting.WriteFault.TheVariants.{Memory, Writer, Zero}
 use Rattle.fluent_meaning.specs.Errors.{Error}
 use Rattle.fluent_command.specs.Ending.{Ending, out_of_memory, error_lines, said}
-use Rattle.fluent_command.specs.Outcome.{Precedes}
+use Rattle.fluent_command.specs.Outlet.{Precedes}
 
 -- The lines of all errors were taken; where memory was refused for the line of one, those before it;
 -- where the writer faulted, a beginning of them all.

@@ -1,4 +1,4 @@
-use Rattle.std.proofs.Common.{◌≡◌, ◌-◌}
+use Rattle.std.proofs.Common.{◌≡◌, ◌-◌, ◌≤◌, length}
 use Rattle.std.specs.Io.KnownBytes.{Consumes}
 use Rattle.fluent_command.specs.Input.{ReadsAreBounded, reader_in, made_in, state_in}
 use Rattle.fluent_command.specs.Limits.{most_reads}
@@ -9,6 +9,7 @@ abbrev pub invariant-loop-input : goal.invariant-loop-input
 invariant-loop-input g l =
     record {
       bytes : Consumes (g.R.Read.remaining (reader_in l.fn.input)) (g.R.Read.remaining (reader_in l.input)) l.bytes.items;
+      given : made_in l.input ≤ length l.bytes.items;
       state : state_in l.input ≡ Open;
       bounded : ReadsAreBounded l.input;
     }

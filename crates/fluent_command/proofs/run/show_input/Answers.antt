@@ -1,3 +1,4 @@
+use Rattle.std.proofs.Common.{rules}
 use Rattle.fluent_command.specs.Input.{reader_in}
 use Rattle.fluent_command.proofs.Coming.{ends_unread, ends_no_memory, some_left}
 use Rattle.fluent_command.proofs.run.show_input.Goals as goal
@@ -5,9 +6,9 @@ use Rattle.fluent_command.proofs.run.show_input.Goals as goal
 pub returns-in-Err-Memory-clause-ends : goal.returns-in-Err-Memory-clause-ends
 returns-in-Err-Memory-clause-ends g c =
     let left = some_left (g.R.Read.remaining (reader_in c.args.input.now)) in
-    (left.0, left.1, ends_no_memory _ _ _ _ c.requires)
+    (left.0, left.1, ends_no_memory _ _ _ _ _ c.requires (search rules))
 
 pub returns-in-Err-Reading-clause-ends : goal.returns-in-Err-Reading-clause-ends
 returns-in-Err-Reading-clause-ends g c =
     let left = some_left (g.R.Read.remaining (reader_in c.args.input.now)) in
-    (left.0, left.1, ends_unread _ _ _ _ c.requires)
+    (left.0, left.1, ends_unread _ _ _ _ _ c.requires)

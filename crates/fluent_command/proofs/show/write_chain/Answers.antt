@@ -1,7 +1,8 @@
-use Rattle.std.proofs.Common.{rules, ◌≡◌, ◌∙◌, sym, ap, false, is_ok, map, string_bytes, ◌∷◌, []}
+use Rattle.std.proofs.Common.{rules, ◌≡◌, refl, false, is_ok, ◌∷◌, []}
 use Rattle.fluent_chain.specs.Chain.{chain_value}
 use Rattle.fluent_command.specs.Inside.BundleView.{args_view, bundle_view}
 use Rattle.fluent_command.proofs.Adding.{added_by}
+use Rattle.fluent_command.proofs.Stopping.{stops_before, stops_whole}
 use Rattle.fluent_command.proofs.Taking.{took_put, took_then, took_short}
 use Rattle.fluent_command.proofs.show.write_chain.Goals as goal
 
@@ -26,3 +27,17 @@ returns-clause-errors g c =
     let bundles = bundle_view c.args.first.now ∷ bundle_view c.args.second.now ∷ [] in
     rw (← c.in_ok-args.ensures)
     (added_by c.put-2.result (chain_value c.args.request.id.now (args_view c.in_ok-args.args) bundles).errors c.args.errors.now.items c.format_value.new.errors.items (search rules))
+
+pub returns-in_err-args-clause-stops : goal.returns-in_err-args-clause-stops
+returns-in_err-args-clause-stops g c = stops_before c.from_residual.result _ _ _ _ _ _ (search rules) refl
+
+pub returns-in_err-text-clause-stops : goal.returns-in_err-text-clause-stops
+returns-in_err-text-clause-stops g c = stops_before c.from_residual-in_err-text.result _ _ _ _ _ _ (search rules) refl
+
+pub returns-in_err-put-clause-stops : goal.returns-in_err-put-clause-stops
+returns-in_err-put-clause-stops g c =
+    rw (← c.in_ok-args.ensures) (stops_whole c.from_residual-in_err-put.result _ _ _ _ _ refl (record { added = search rules }) (search rules))
+
+pub returns-clause-stops : goal.returns-clause-stops
+returns-clause-stops g c =
+    rw (← c.in_ok-args.ensures) (stops_whole c.put-2.result _ _ _ _ _ refl (record { added = search rules }) c.put-2.ensures.memory)

@@ -1,5 +1,7 @@
 use Rattle.std.proofs.Common.{rules, ◌≡◌, ◌∙◌, sym, ap, refl, false, is_ok, ◌∷◌, []}
 use Rattle.fluent_command.proofs.Adding.{recast, added_kept}
+use Rattle.std.proofs.KnownBytes.{Appends-nil}
+use Rattle.fluent_command.proofs.Stopping.{part_of_line, part_written}
 use Rattle.fluent_command.proofs.Taking.{took_put, took_then, took_short, took_written, added_written}
 use Rattle.fluent_command.proofs.show.write_value.Goals as goal
 
@@ -27,3 +29,10 @@ pub returns-clause-errors : goal.returns-clause-errors
 returns-clause-errors g c =
     let w = c.write_pattern.ensures in
     rw (← c.in_ok-args.ensures) (added_kept c.write_pattern.result _ _ _ _ _ c.in_ok-write_pattern.was (added_written c.write_pattern.result _ _ _ _ _ _ w.whole w.front))
+
+pub returns-in_err-write_pattern-clause-part : goal.returns-in_err-write_pattern-clause-part
+returns-in_err-write_pattern-clause-part g c refused =
+    rw (← c.in_ok-args.ensures) (part_written _ _ _ _ _ _ c.write_pattern.ensures.front)
+
+pub returns-in_err-args-clause-part : goal.returns-in_err-args-clause-part
+returns-in_err-args-clause-part g c refused = ([], part_of_line [] _ 10, Appends-nil _)
