@@ -2,7 +2,7 @@
 //! alike in each way.
 use crate::bundles::{Bundle, pattern_in, read, set, settled};
 use crate::values::arguments;
-use crate::ways::{Asked, Written, format, lines, written};
+use crate::ways::{Asked, Written, call_for, format, lines, write_whole};
 use fluent_rows::fixture::{Described, Fixture, Part, Row, Wanted};
 use fluent_rows::report::Report;
 use std::alloc::{AllocError, Global};
@@ -16,7 +16,7 @@ const SIGNS: &[&str] = &[
 /// Whether a pattern is formatted as it is written, where no formatter is set, and with the same errors.
 fn is_alike(
     alloc: Global,
-    asked: &Asked<'_, '_, '_>,
+    asked: &Asked<'_, '_, '_, '_>,
     written: &Written,
     has_formatter: bool,
 ) -> Result<bool, AllocError> {
@@ -30,20 +30,20 @@ fn is_alike(
 /// Whether a call answers alike in each way.
 fn answers(
     alloc: Global,
-    asked: &Asked<'_, '_, '_>,
+    asked: &Asked<'_, '_, '_, '_>,
     has_formatter: bool,
 ) -> Result<bool, AllocError> {
-    match written(alloc, asked, usize::MAX)? {
+    match write_whole(alloc, asked, usize::MAX)? {
         Some(written) => is_alike(alloc, asked, &written, has_formatter),
         None => Ok(false),
     }
 }
 
 /// Whether a row's call answers, if its bundle has the value still.
-fn row_answers<'s>(
+fn row_answers<'s, 'f>(
     alloc: Global,
-    bundle: &Bundle<'_, 's>,
-    row: &Row<'s>,
+    bundle: &Bundle<'_, 's, 'f>,
+    row: &Row<'f>,
     has_formatter: bool,
 ) -> Result<bool, AllocError> {
     if !matches!(row.wanted, Wanted::Told(_)) {
@@ -55,12 +55,7 @@ fn row_answers<'s>(
     let Some(args) = arguments(alloc, row.arguments)? else {
         return Ok(false);
     };
-    let asked = Asked {
-        bundle,
-        pattern,
-        args: Some(&args),
-    };
-    answers(alloc, &asked, has_formatter)
+    answers(alloc, &call_for(bundle, pattern, Some(&args)), has_formatter)
 }
 
 /// The bundle of a fixture whose resource is damaged, and its number.
@@ -73,9 +68,9 @@ struct Damaged<'x, 's> {
 }
 
 /// That the calls of a bundle answer whose source is this one.
-fn answer_in<'s>(
+fn answer_in<'s, 'f: 's>(
     alloc: Global,
-    damaged: &Damaged<'_, 's>,
+    damaged: &Damaged<'_, 'f>,
     source: &'s str,
     report: &mut Report<'_>,
 ) -> Result<bool, AllocError> {

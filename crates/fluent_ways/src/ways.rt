@@ -1,7 +1,7 @@
 //! The ways in which a call is tried.
 use crate::bundles::Bundle;
 use crate::values::Args;
-use crate::writers::{End, How, Narrow, end_of, narrow};
+use crate::writers::{End, How, Narrow, end_of, writer_of};
 use fluent_bundle::ast::Pattern;
 use fluent_bundle::{Counting, FluentError};
 use fluent_rows::fixture::Told;
@@ -11,15 +11,28 @@ use std::borrow::CowStr;
 
 /// What a call is made for: a bundle, a pattern, and arguments if there are some.
 #[derive(Clone, Copy, Drop)]
-pub struct Asked<'x, 'r, 's> {
-    pub bundle: &'x Bundle<'r, 's>,
-    pub pattern: &'x Pattern<'s>,
-    pub args: Option<&'x Args<'s>>,
+pub struct Asked<'x, 'r, 's, 'f> {
+    bundle: &'x Bundle<'r, 's, 'f>,
+    pattern: &'x Pattern<'s>,
+    args: Option<&'x Args<'f>>,
+}
+
+/// What is made with these.
+pub fn call_for<'x, 'r, 's, 'f>(
+    bundle: &'x Bundle<'r, 's, 'f>,
+    pattern: &'x Pattern<'s>,
+    args: Option<&'x Args<'f>>,
+) -> Asked<'x, 'r, 's, 'f> {
+    Asked {
+        bundle,
+        pattern,
+        args,
+    }
 }
 
 /// Formats a pattern.
 pub fn format<'s>(
-    asked: &Asked<'_, '_, 's>,
+    asked: &Asked<'_, '_, 's, '_>,
     errors: &mut Vec<FluentError>,
 ) -> Result<CowStr<'s>, AllocError> {
     asked
@@ -29,7 +42,7 @@ pub fn format<'s>(
 
 /// Writes a pattern.
 fn write(
-    asked: &Asked<'_, '_, '_>,
+    asked: &Asked<'_, '_, '_, '_>,
     w: &mut Counting<Narrow>,
     errors: &mut Vec<FluentError>,
 ) -> End {
@@ -71,7 +84,7 @@ pub fn are_told(
 /// Formats a pattern.
 fn formats(
     alloc: Global,
-    asked: &Asked<'_, '_, '_>,
+    asked: &Asked<'_, '_, '_, '_>,
     told: &Told,
     report: &mut Report<'_>,
 ) -> Result<(), AllocError> {
@@ -85,9 +98,9 @@ fn formats(
 pub type Written = (Vec<u8>, String);
 
 /// Writes a pattern to a writer that takes so many bytes at once, and has room for all; `None` where it fails.
-pub fn written(
+pub fn write_whole(
     alloc: Global,
-    asked: &Asked<'_, '_, '_>,
+    asked: &Asked<'_, '_, '_, '_>,
     at_once: usize,
 ) -> Result<Option<Written>, AllocError> {
     let how = How {
@@ -96,7 +109,7 @@ pub fn written(
         fails: true,
     };
     let mut errors = Vec::new(alloc);
-    let mut w = narrow(alloc, how);
+    let mut w = writer_of(alloc, how);
     let end = write(asked, &mut w, &mut errors);
     if end == End::Memory {
         return Err(AllocError);
@@ -111,12 +124,12 @@ pub fn written(
 /// Writes a pattern so.
 fn writes(
     alloc: Global,
-    asked: &Asked<'_, '_, '_>,
+    asked: &Asked<'_, '_, '_, '_>,
     told: &Told,
     at_once: usize,
     report: &mut Report<'_>,
 ) -> Result<(), AllocError> {
-    let Some((taken, errors)) = written(alloc, asked, at_once)? else {
+    let Some((taken, errors)) = write_whole(alloc, asked, at_once)? else {
         return report.holds_at(false, "write_pattern failed where a writer takes at once", at_once);
     };
     let text = str::from_utf8(taken.as_slice()).unwrap_or("no text");
@@ -144,13 +157,13 @@ fn is_front(taken: &[u8], how: How, text: &str) -> bool {
 /// added begin those of the row.
 fn stops(
     alloc: Global,
-    asked: &Asked<'_, '_, '_>,
+    asked: &Asked<'_, '_, '_, '_>,
     told: &Told,
     how: How,
     report: &mut Report<'_>,
 ) -> Result<(), AllocError> {
     let mut errors = Vec::new(alloc);
-    let mut w = narrow(alloc, how);
+    let mut w = writer_of(alloc, how);
     let end = write(asked, &mut w, &mut errors);
     if end == End::Memory {
         return Err(AllocError);
@@ -166,7 +179,7 @@ fn stops(
 /// Each place where a writer may stop, by a fault or by taking nothing.
 fn stops_everywhere(
     alloc: Global,
-    asked: &Asked<'_, '_, '_>,
+    asked: &Asked<'_, '_, '_, '_>,
     told: &Told,
     report: &mut Report<'_>,
 ) -> Result<(), AllocError> {
@@ -186,7 +199,7 @@ fn stops_everywhere(
 /// Each way of a bundle.
 pub fn hold(
     alloc: Global,
-    asked: &Asked<'_, '_, '_>,
+    asked: &Asked<'_, '_, '_, '_>,
     told: &Told,
     report: &mut Report<'_>,
 ) -> Result<(), AllocError> {

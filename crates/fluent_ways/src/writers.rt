@@ -42,7 +42,7 @@ impl Write for Narrow {
 }
 
 /// Such a writer, which has taken nothing.
-pub fn narrow(alloc: Global, how: How) -> Counting<Narrow> {
+pub fn writer_of(alloc: Global, how: How) -> Counting<Narrow> {
     Counting::new(Narrow {
         taken: Vec::new(alloc),
         room: how.in_all,
