@@ -1,7 +1,7 @@
 //! Each read of a run fails in turn, also between the bytes of a character.
 
 use crate::outcome::{expect_outcome, run_over};
-use fluent_fixtures::stopping::{FAULTS, stops_behind};
+use crate::stopping::{FAULTS, stops_behind};
 use std::alloc::Global;
 use std::io;
 use std::io::{ErrorKind, Read};

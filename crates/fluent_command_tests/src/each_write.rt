@@ -2,7 +2,7 @@
 //! taken.
 
 use crate::outcome::{expect_outcome, run_over};
-use fluent_fixtures::stopping::{FAULTS, Fault, stops_behind};
+use crate::stopping::{FAULTS, Fault, stops_behind};
 use std::alloc::{AllocError, Global};
 use std::process::Abort;
 use std::test::Fail;

@@ -17,3 +17,5 @@ mod outcome;
 mod reads;
 #[cfg(test)]
 mod rows;
+#[cfg(test)]
+mod stopping;

@@ -1,10 +1,10 @@
-//! Calls that add to a bundle while memory is refused: where nothing is there, and where half of what comes is.
+//! Lists of calls that add to a bundle, what each reports, and what the ids name after it; also while memory is refused.
 use crate::check::check;
+use crate::common::{Bundle, empty, first_text, read};
 use crate::found::Noted;
+use crate::own::Own;
 use fluent_bundle::bundle::AddFault;
 use fluent_bundle::{Call, FluentResource, FunctionRef, GetEntry};
-use fluent_fixtures::common::{Bundle, add, empty, first_text, read};
-use fluent_fixtures::own::Own;
 use std::alloc::{AllocError, Global};
 use std::process::Abort;
 use std::test::Fail;
@@ -40,8 +40,16 @@ fn function_at(bundle: &Bundle<'_, '_>, id: &str) -> &'static str {
     }
 }
 
+/// Whether each look-up of messages finds one, or none does.
+fn are_one(bundle: &Bundle<'_, '_>, id: &str) -> bool {
+    let is_there = bundle.has_message(id);
+    bundle.get_message(id).is_some() == is_there
+        && bundle.get_entry_message(id).is_some() == is_there
+}
+
 fn is_held(bundle: &Bundle<'_, '_>, held: &Held) -> bool {
-    message_at(bundle, held.0) == held.1
+    are_one(bundle, held.0)
+        && message_at(bundle, held.0) == held.1
         && term_at(bundle, held.0) == held.2
         && function_at(bundle, held.0) == held.3
 }
@@ -127,32 +135,36 @@ fn makes<'r, 's>(
     Ok(true)
 }
 
-/// The answer of a call that adds all, since nothing is there.
-fn is_added(answer: Result<(), AddFault>) -> Result<(), AllocError> {
-    match answer {
+/// Makes a call that is to add all, since nothing is there.
+fn adds<'r, 's>(
+    bundle: &mut Bundle<'r, 's>,
+    resource: &'r FluentResource<'s>,
+    step: Step,
+) -> Result<(), AllocError> {
+    match take(bundle, resource, step) {
         Ok(()) => Ok(()),
         Err(_) => Err(AllocError),
     }
 }
 
-/// A bundle over a first source, with a function.
+/// A bundle after these calls, over a first source.
 fn started<'r, 's>(
     alloc: Global,
     first: &'r FluentResource<'s>,
-    has_function: bool,
+    given: &[Step],
 ) -> Result<Bundle<'r, 's>, AllocError> {
     let mut bundle: Bundle<'r, 's> = empty(alloc);
-    if has_function {
-        is_added(bundle.add_function("G", Own::Fault))?;
+    for step in given {
+        adds(&mut bundle, first, *step)?;
     }
-    is_added(add(&mut bundle, first))?;
+    adds(&mut bundle, first, Step::Add)?;
     Ok(bundle)
 }
 
-/// The source that is there, whether a function is, the source that comes, what ids name before, and calls.
+/// The calls before, the source that is there, the source that comes, what ids name before, and calls.
 struct Table {
+    given: &'static [Step],
     first: &'static str,
-    has_function: bool,
     second: &'static str,
     before: &'static [Held],
     rows: &'static [Row],
@@ -182,7 +194,7 @@ fn is_made<'r, 's>(
     table: &Table,
     row: &Row,
 ) -> Result<(), Fail> {
-    let mut bundle: Bundle<'r, 's> = started(alloc, sources.0, table.has_function)?;
+    let mut bundle: Bundle<'r, 's> = started(alloc, sources.0, table.given)?;
     are_held(rt, &bundle, table.before);
     makes_twice(rt, alloc, &mut bundle, sources.1, row, table.before)
 }
@@ -213,7 +225,7 @@ const BEFORE: &[Held] = &[
     ("v", "", "", ""),
     ("w", "", "", ""),
     ("x", "", "", ""),
-    ("G", "", "", "fault"),
+    ("G", "", "", "nothing"),
     ("H", "", "", ""),
     ("NUMBER", "", "", ""),
 ];
@@ -227,7 +239,7 @@ const ADDED: &[Held] = &[
     ("v", "", "7", ""),
     ("w", "9", "", ""),
     ("x", "", "11", ""),
-    ("G", "", "", "fault"),
+    ("G", "", "", "nothing"),
 ];
 
 const OVERRIDDEN: &[Held] = &[
@@ -249,8 +261,8 @@ Attempt to override an existing term: \"G\".
 ";
 
 const HALF: Table = Table {
+    given: &[Step::Function("G")],
     first: THERE,
-    has_function: true,
     second: COMING,
     before: BEFORE,
     rows: &[
@@ -288,8 +300,8 @@ const ALONE: &[Held] = &[
 ];
 
 const NONE: Table = Table {
+    given: &[],
     first: "",
-    has_function: false,
     second: COMING,
     before: &[("u", "", "", ""), ("a", "", "", ""), ("NUMBER", "", "", "")],
     rows: &[
@@ -301,8 +313,8 @@ const NONE: Table = Table {
 };
 
 const ALL: Table = Table {
+    given: &[],
     first: "a = 1\nNUMBER = 2\n",
-    has_function: false,
     second: "a = 3\n-NUMBER = 4\n",
     before: &[("a", "1", "", ""), ("NUMBER", "2", "", "")],
     rows: &[
@@ -324,7 +336,99 @@ const ALL: Table = Table {
     ],
 };
 
-const TABLES: &[Table] = &[HALF, NONE, ALL];
+// ---- what is left, and what wins
+
+/// What is left is reported in order.
+const TWICE: Table = Table {
+    given: &[],
+    first: "",
+    second: "a = 1\na = 2\n-a = 3\n",
+    before: &[("a", "", "", "")],
+    rows: &[
+        (
+            Step::Add,
+            "Attempt to override an existing message: \"a\".\nAttempt to override an existing term: \"a\".\n",
+            &[("a", "1", "", ""), ("b", "", "", "")],
+        ),
+        (Step::Override, "", &[("a", "", "3", "")]),
+    ],
+};
+
+/// Overriding wins, also over a function.
+const WINNING: Table = Table {
+    given: &[Step::Function("NUMBER")],
+    first: "foo = a\nbar = b\n",
+    second: "foo = d\n-foo = c\nNUMBER = e\n",
+    before: &[("foo", "a", "", ""), ("NUMBER", "", "", "nothing")],
+    rows: &[(
+        Step::Override,
+        "",
+        &[
+            ("foo", "", "c", ""),
+            ("NUMBER", "e", "", ""),
+            ("bar", "b", "", ""),
+        ],
+    )],
+};
+
+/// Functions share the ids; the built-in one is added once.
+const FUNCTIONS: Table = Table {
+    given: &[Step::Function("F"), Step::Builtins],
+    first: "",
+    second: "F = 1\n-G = 2\njunk\n",
+    before: &[
+        ("F", "", "", "nothing"),
+        ("NUMBER", "", "", "NUMBER"),
+        ("G", "", "", ""),
+    ],
+    rows: &[
+        (
+            Step::Builtins,
+            "Attempt to override an existing function: \"NUMBER\".\n",
+            &[("F", "", "", "nothing"), ("NUMBER", "", "", "NUMBER")],
+        ),
+        (
+            Step::Function("F"),
+            "Attempt to override an existing function: \"F\".\n",
+            &[("F", "", "", "nothing"), ("NUMBER", "", "", "NUMBER")],
+        ),
+        (
+            Step::Add,
+            "Attempt to override an existing message: \"F\".\n",
+            &[
+                ("F", "", "", "nothing"),
+                ("G", "", "2", ""),
+                ("junk", "", "", ""),
+            ],
+        ),
+    ],
+};
+
+/// One source is added after another, or overrides it.
+const SOURCES: Table = Table {
+    given: &[],
+    first: "a = one\n",
+    second: "b = two\na = three\n-a-b = five\nc = four\n",
+    before: &[("a", "one", "", ""), ("b", "", "", ""), ("c", "", "", "")],
+    rows: &[
+        (
+            Step::Add,
+            "Attempt to override an existing message: \"a\".\n",
+            &[
+                ("a", "one", "", ""),
+                ("b", "two", "", ""),
+                ("a-b", "", "five", ""),
+            ],
+        ),
+        (
+            Step::Override,
+            "",
+            &[("a", "three", "", ""), ("c", "four", "", "")],
+        ),
+    ],
+};
+
+const TABLES: &[Table] = &[HALF, NONE, ALL, TWICE, WINNING, FUNCTIONS, SOURCES];
 
 /// Run with each allocation failing in turn, and all from each one on.
 #[test]

@@ -1,16 +1,15 @@
-//! Patterns to be written while memory is refused or a writer fails: a missing variable, a select on an ordinal number, a
+//! Patterns to be written while memory is refused: a missing variable, a select on an ordinal number, a
 //! function in whose argument the limit is struck, and a thousandfold reference.
-use fluent_fixtures::settings::{Given, Named, Setting};
+use crate::common::{Given, Named, Setting};
 
-/// What is set in a bundle, its source, whose message `p` is written, and its arguments; the text, the lines of the
-/// errors, and how many bytes are written before the first of them is added.
+/// What is set in a bundle, its source, whose message `p` is written, and its arguments; the text, and the lines of the
+/// errors.
 pub struct Case {
     pub settings: &'static [Setting],
     pub source: &'static str,
     pub named: &'static [Named],
     pub text: &'static str,
     pub lines: &'static str,
-    pub from: usize,
 }
 
 const TOO_MANY: &str = "Resolver error: Too many placeables\n";
@@ -21,7 +20,6 @@ pub const MISSING: Case = Case {
     named: &[],
     text: "Welcome, \u{2068}{$name}\u{2069}.",
     lines: "Resolver error: Unknown variable: $name\n",
-    from: 12,
 };
 
 /// A select on an ordinal number with seven variants.
@@ -42,7 +40,6 @@ pub const ORDINAL: Case = Case {
     named: &[("n", Given::Read("22"))],
     text: "\u{2068}22\u{2069}nd",
     lines: "",
-    from: 0,
 };
 
 /// A message of 101 placeables in the argument of a function.
@@ -59,7 +56,6 @@ const STRUCK: Case = Case {
     named: &[],
     text: "NUMBER(){NUMBER()}",
     lines: "Resolver error: Too many placeables\nResolver error: Unknown variable: $q\n",
-    from: 0,
 };
 
 /// Ten times ten times ten references.
@@ -75,7 +71,6 @@ p = {c}{c}{c}{c}{c}{c}{c}{c}{c}{c}
     lollollollollollollollollollollollollollollollollollollollollollollollollollollollollollol\
     lollollollollollollollollollollollollollollollollollollollollollollollollollollollollollol{c}",
     lines: TOO_MANY,
-    from: 270,
 };
 
 pub const CASES: &[Case] = &[MISSING, ORDINAL, STRUCK, THOUSAND];

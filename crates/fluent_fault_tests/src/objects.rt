@@ -8,7 +8,7 @@ use fluent_bundle::{
     AnswerRule, Answering, FluentArgs, FluentFormatter, FluentFunction, FluentType, FluentValue,
     FunctionOf, NoCustom, NoFormatter, NoFunction, NoTransform, Transform,
 };
-use fluent_fixtures::own::Upper;
+use crate::own::Upper;
 use fluent_intl::EnglishPlurals;
 use std::alloc::{AllocError, Global};
 use std::test::Fail;

@@ -8,7 +8,7 @@ use fluent_bundle::{
     Counting, EnglishPlurals, FluentArgs, FluentBundle, FluentError, FluentFormatter,
     FluentFunction, FluentResource, FluentType, FluentValue, Transform, WriteFault,
 };
-use fluent_fixtures::common::{read, value_of};
+use crate::common::{read, value_of};
 use std::alloc::{AllocError, Global};
 use std::borrow::CowStr;
 use std::process::Abort;

@@ -7,9 +7,8 @@ use fluent_bundle::ast::{CallArguments, Expression, InlineExpression, Pattern, P
 use fluent_bundle::{
     Counting, FluentArgs, FluentError, FluentValue, ReferenceKind, ResolverError, Scope, WriteFault,
 };
-use fluent_fixtures::common::read;
-use fluent_fixtures::objects::Star;
-use fluent_fixtures::settings::{Bundle, Given, Scoped, Setting, arguments, bundle_of, value_in};
+use crate::common::{Bundle, Given, Scoped, Setting, arguments, bundle_of, read, value_in};
+use crate::own::Star;
 use fluent_values::resolver::output::{Output, with_error};
 use fluent_values::resolver::{Place, write_pattern};
 use std::alloc::{AllocError, Global};

@@ -4,7 +4,7 @@ use fluent_bundle::ast::{Identifier, InlineExpression};
 use fluent_bundle::{
     EntryKind, FluentArgs, FluentError, FluentValue, ReferenceKind, ResolverError, builtins,
 };
-use fluent_fixtures::objects::Star;
+use crate::own::Star;
 use fluent_intl::{Decimal, FluentNumber, FluentNumberOptions};
 use fluent_syntax::unescape_unicode_to_string;
 use std::alloc::{AllocError, Global};

@@ -5,6 +5,8 @@
 pub enum Sign {
     /// `#=`: a call and its text.
     Call,
+    /// `#<`: a call to a writer that is full behind a text.
+    Full,
     /// `#+`: the next line of a text.
     More,
     /// `#:`: what a formatter makes of the text.
@@ -33,6 +35,7 @@ pub enum Sign {
 
 const SIGNS: &[(&str, Sign)] = &[
     ("#=", Sign::Call),
+    ("#<", Sign::Full),
     ("#+", Sign::More),
     ("#:", Sign::Formatted),
     ("#!", Sign::Fault),

@@ -237,7 +237,7 @@ impl<'s> Reader<'s> {
     }
 
     /// A call. Whether it can be read.
-    fn call(&mut self, place: Place, rest: &'s str) -> Result<bool, AllocError> {
+    fn call(&mut self, place: Place, rest: &'s str, is_full: bool) -> Result<bool, AllocError> {
         let (words, text) = around_bar(rest).unwrap_or(("", rest));
         let Some(text) = unescaped(self.alloc, text)? else {
             return Ok(false);
@@ -253,6 +253,7 @@ impl<'s> Reader<'s> {
             text,
             formatted: None,
             errors,
+            is_full,
         };
         self.is_open = self.row(place, target, arguments, Wanted::Told(told))?;
         Ok(self.is_open)
@@ -281,7 +282,8 @@ impl<'s> Reader<'s> {
     /// A directive. Whether it can be read.
     fn directive(&mut self, place: Place, sign: Sign, rest: &'s str) -> Result<bool, AllocError> {
         match sign {
-            Sign::Call => self.call(place, rest),
+            Sign::Call => self.call(place, rest, false),
+            Sign::Full => self.call(place, rest, true),
             Sign::More | Sign::Formatted | Sign::Fault => self.more(sign, rest),
             Sign::Nothing => self.row(place, rest, "", Wanted::Nothing),
             Sign::Absent => self.row(place, rest, "", Wanted::Absent),

@@ -59,6 +59,7 @@ pub enum Setting<'s> {
     Default,
     Isolating(bool),
     Builtins(bool),
+    Last(bool),
     Upper(bool),
     Formatter(Option<Shows>),
     Limit(usize),
@@ -78,6 +79,8 @@ const WORDS: &[(&str, Setting<'static>)] = &[
     ("isolating off", Setting::Isolating(false)),
     ("builtins on", Setting::Builtins(true)),
     ("builtins off", Setting::Builtins(false)),
+    ("objects first", Setting::Last(false)),
+    ("objects last", Setting::Last(true)),
     ("transform upper", Setting::Upper(true)),
     ("transform none", Setting::Upper(false)),
     ("formatter kinds", Setting::Formatter(Some(Shows::Kinds))),
@@ -133,6 +136,8 @@ pub fn setting_of(words: &str) -> Option<Setting<'_>> {
 pub struct Settings<'s> {
     pub is_isolating: bool,
     pub has_builtins: bool,
+    /// Whether functions are added behind the resources.
+    pub are_last: bool,
     /// Whether letters are made upper case.
     pub is_upper: bool,
     pub formatter: Option<Shows>,
@@ -166,6 +171,7 @@ impl<'s> Settings<'s> {
         Settings {
             is_isolating: true,
             has_builtins: true,
+            are_last: false,
             is_upper: false,
             formatter: None,
             limit: None,
@@ -183,6 +189,7 @@ impl<'s> Settings<'s> {
             Setting::Default => after = Settings::unset(functions),
             Setting::Isolating(is_on) => after.is_isolating = is_on,
             Setting::Builtins(is_on) => after.has_builtins = is_on,
+            Setting::Last(are_last) => after.are_last = are_last,
             Setting::Upper(is_on) => after.is_upper = is_on,
             Setting::Formatter(formatter) => after.formatter = formatter,
             Setting::Limit(limit) => after.limit = Some(limit),

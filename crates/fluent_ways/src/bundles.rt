@@ -132,7 +132,7 @@ fn add_functions<'s, 'f: 's>(
     Ok(())
 }
 
-/// A bundle with plural rules and functions, and what is reported of these.
+/// A bundle with plural rules, and with functions where these come first, and what is reported of these.
 pub fn settled<'r, 's, 'f: 's>(
     alloc: Global,
     functions: &[(&'f str, Answer<'f>)],
@@ -142,31 +142,51 @@ pub fn settled<'r, 's, 'f: 's>(
 ) -> Result<Bundle<'r, 's, 'f>, AllocError> {
     let plurals = plurals_or_english(alloc, settings.rules, report)?;
     let mut bundle: Bundle<'r, 's, 'f> = FluentBundle::new(alloc, Vec::new(alloc), plurals);
-    add_functions(&mut bundle, functions, settings, left)?;
+    if !settings.are_last {
+        add_functions(&mut bundle, functions, settings, left)?;
+    }
     Ok(bundle)
 }
 
 // ---- bundles
 
-/// Adds a resource, and compares what is reported.
+/// Adds a resource, and what is reported.
 fn add<'r, 's>(
-    alloc: Global,
     bundle: &mut Bundle<'r, 's, '_>,
     part: &Part<'_>,
     source: &'r Source<'s>,
     left: &mut String,
-    report: &mut Report<'_>,
 ) -> Result<(), AllocError> {
     if part.is_overriding {
-        bundle.add_resource_overriding(&source.resource)?;
-    } else {
-        put_left(left, bundle.add_resource(&source.resource))?;
+        return bundle.add_resource_overriding(&source.resource);
     }
+    put_left(left, bundle.add_resource(&source.resource))
+}
+
+/// Compares what is reported of a resource.
+fn compare(
+    alloc: Global,
+    part: &Part<'_>,
+    source: &Source<'_>,
+    left: &str,
+    report: &mut Report<'_>,
+) -> Result<(), AllocError> {
     report.at(part.line);
     let junk = junk_lines(alloc, source.errors.as_slice())?;
     report.same(part.junk.as_str(), junk.as_str(), "junk of the resource")?;
     report.at(part.line);
-    report.same(part.left.as_str(), left.as_str(), "left of the resource")
+    report.same(part.left.as_str(), left, "left of the resource")
+}
+
+/// The line where the last resource of a bundle begins.
+fn last_line(fixture: &Fixture<'_>, bundle: usize) -> usize {
+    let mut line = 0;
+    for part in &fixture.parts {
+        if part.bundle == bundle {
+            line = part.line;
+        }
+    }
+    line
 }
 
 /// A bundle with its resources.
@@ -182,9 +202,14 @@ fn bundle_of<'r, 's>(
     let functions = fixture.functions.as_slice();
     let mut bundle = settled(alloc, functions, &described.settings, &mut left, report)?;
     report.holds(set(&mut bundle, &described.settings), "no such limit")?;
+    let last = last_line(fixture, described.resources_of);
     for (part, source) in fixture.parts.iter().zip(sources) {
         if part.bundle == described.resources_of {
-            add(alloc, &mut bundle, part, source, &mut left, report)?;
+            add(&mut bundle, part, source, &mut left)?;
+            if described.settings.are_last && part.line == last {
+                add_functions(&mut bundle, functions, &described.settings, &mut left)?;
+            }
+            compare(alloc, part, source, left.as_str(), report)?;
             left = String::new(alloc);
         }
     }

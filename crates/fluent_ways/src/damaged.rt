@@ -1,9 +1,12 @@
-//! Sources that are cut, or have a sign in place of one of their characters: each call of their bundle answers, and
-//! alike in each way.
-use crate::bundles::{Bundle, pattern_in, read, set, settled};
-use crate::values::arguments;
+//! Sources that are cut, or have a sign in place of one of their characters: Junk and entries make them up, and every
+//! message of them gives a text, alike in each way, with marks in balance and at most one report of the limit.
+use crate::bundles::{Bundle, Source, read, set, settled};
+use crate::chunks::make_up;
+use crate::values::{Args, arguments};
 use crate::ways::{Asked, Written, call_for, format, lines, write_whole};
-use fluent_rows::fixture::{Described, Fixture, Part, Row, Wanted};
+use fluent_bundle::FluentMessage;
+use fluent_bundle::ast::{Entry, Pattern};
+use fluent_rows::fixture::{Described, Fixture, Part};
 use fluent_rows::report::Report;
 use std::alloc::{AllocError, Global};
 
@@ -34,28 +37,89 @@ fn answers(
     has_formatter: bool,
 ) -> Result<bool, AllocError> {
     match write_whole(alloc, asked, usize::MAX)? {
-        Some(written) => is_alike(alloc, asked, &written, has_formatter),
+        Some(written) => Ok(is_well(&written) && is_alike(alloc, asked, &written, has_formatter)?),
         None => Ok(false),
     }
 }
 
-/// Whether a row's call answers, if its bundle has the value still.
-fn row_answers<'s, 'f>(
+/// How often a part stands in a text.
+fn count(text: &[u8], part: &[u8]) -> usize {
+    let mut found = 0usize;
+    for place in 0..text.len() {
+        if text[place..].starts_with(part) {
+            found = found.saturating_add(1);
+        }
+    }
+    found
+}
+
+/// Whether each U+2068 of a text has its U+2069, and the limit is reported once at most.
+fn is_well(written: &Written) -> bool {
+    let text = written.0.as_slice();
+    let strikes = count(written.1.as_str().as_bytes(), b"Too many placeables");
+    count(text, &[0xe2, 0x81, 0xa8]) == count(text, &[0xe2, 0x81, 0xa9]) && strikes <= 1
+}
+
+/// Whether a pattern gives a text, with arguments and without.
+fn pattern_answers<'x, 's, 'f>(
     alloc: Global,
-    bundle: &Bundle<'_, 's, 'f>,
-    row: &Row<'f>,
+    bundle: &'x Bundle<'_, 's, 'f>,
+    pattern: &'x Pattern<'s>,
+    given: &'x Args<'f>,
     has_formatter: bool,
 ) -> Result<bool, AllocError> {
-    if !matches!(row.wanted, Wanted::Told(_)) {
-        return Ok(true);
-    }
-    let Some(pattern) = pattern_in(bundle, row.id, row.attribute) else {
-        return Ok(true);
-    };
-    let Some(args) = arguments(alloc, row.arguments)? else {
+    let is_right = answers(alloc, &call_for(bundle, pattern, Some(given)), has_formatter)?;
+    Ok(is_right && answers(alloc, &call_for(bundle, pattern, None), has_formatter)?)
+}
+
+/// Whether the value of a message and its attributes do.
+fn message_answers<'s, 'f>(
+    alloc: Global,
+    bundle: &Bundle<'_, 's, 'f>,
+    message: FluentMessage<'_, 's>,
+    given: &Args<'f>,
+    has_formatter: bool,
+) -> Result<bool, AllocError> {
+    if let Some(value) = message.value()
+        && !pattern_answers(alloc, bundle, value, given, has_formatter)?
+    {
         return Ok(false);
-    };
-    answers(alloc, &call_for(bundle, pattern, Some(&args)), has_formatter)
+    }
+    for attribute in message.attributes() {
+        if !pattern_answers(alloc, bundle, attribute.value(), given, has_formatter)? {
+            return Ok(false);
+        }
+    }
+    Ok(true)
+}
+
+/// Whether every message of a source does.
+fn messages_answer<'s, 'f>(
+    alloc: Global,
+    bundle: &Bundle<'_, 's, 'f>,
+    source: &Source<'s>,
+    given: &Args<'f>,
+    has_formatter: bool,
+) -> Result<bool, AllocError> {
+    for entry in source.resource.entries() {
+        if let Entry::Message(message) = entry {
+            let message = FluentMessage::from(message);
+            if !message_answers(alloc, bundle, message, given, has_formatter)? {
+                return Ok(false);
+            }
+        }
+    }
+    Ok(true)
+}
+
+/// The arguments of the first row of a bundle that has some.
+fn first_arguments<'s>(fixture: &Fixture<'s>, number: usize) -> &'s str {
+    for row in &fixture.rows {
+        if row.bundle == number && !row.arguments.is_empty() {
+            return row.arguments;
+        }
+    }
+    ""
 }
 
 /// The bundle of a fixture whose resource is damaged, and its number.
@@ -67,7 +131,7 @@ struct Damaged<'x, 's> {
     part: &'x Part<'s>,
 }
 
-/// That the calls of a bundle answer whose source is this one.
+/// Whether the calls of a bundle answer whose source is this one.
 fn answer_in<'s, 'f: 's>(
     alloc: Global,
     damaged: &Damaged<'_, 'f>,
@@ -76,19 +140,18 @@ fn answer_in<'s, 'f: 's>(
 ) -> Result<bool, AllocError> {
     let settings = &damaged.described.settings;
     let source = read(alloc, source)?;
+    if !make_up(alloc, &source)? {
+        return Ok(false);
+    }
     let mut left = String::new(alloc);
     let functions = damaged.fixture.functions.as_slice();
     let mut bundle = settled(alloc, functions, settings, &mut left, report)?;
     let _ = set(&mut bundle, settings);
     bundle.add_resource_overriding(&source.resource)?;
-    for row in &damaged.fixture.rows {
-        if row.bundle == damaged.number
-            && !row_answers(alloc, &bundle, row, settings.formatter.is_some())?
-        {
-            return Ok(false);
-        }
-    }
-    Ok(true)
+    let Some(args) = arguments(alloc, first_arguments(damaged.fixture, damaged.number))? else {
+        return Ok(false);
+    };
+    messages_answer(alloc, &bundle, &source, &args, settings.formatter.is_some())
 }
 
 /// Each cut of the source.

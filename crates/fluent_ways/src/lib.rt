@@ -2,6 +2,7 @@
 #![tactic(auto)]
 
 pub mod bundles;
+pub mod chunks;
 pub mod damaged;
 pub mod objects;
 pub mod run;

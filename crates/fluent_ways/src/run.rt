@@ -3,7 +3,7 @@ use crate::bundles::{Bundle, all, pattern_in, read_all};
 use crate::damaged;
 use crate::objects::{Formatter, Function, Plurals, Star, Upper};
 use crate::values::{Args, arguments};
-use crate::ways::{are_told, call_for, hold};
+use crate::ways::{are_told, call_for, hold, stops_behind};
 use fluent_bundle::ast::Pattern;
 use fluent_chain::{Chain, Link};
 use fluent_rows::fixture::{Fixture, Row, Told, Wanted};
@@ -69,7 +69,11 @@ fn gives<'s>(
     let Some((bundle, pattern)) = first_with(links, row) else {
         return report.holds(false, "no such value");
     };
-    hold(alloc, &call_for(bundle, pattern, args), told, report)?;
+    let asked = call_for(bundle, pattern, args);
+    if told.is_full {
+        return stops_behind(alloc, &asked, told, report);
+    }
+    hold(alloc, &asked, told, report)?;
     report.holds(has(links, row), "a chain has no such value")?;
     chained(alloc, links, row, told, args, report)
 }
@@ -106,6 +110,7 @@ fn is_nothing<'s>(
         text: String::from_str(alloc, row.id)?,
         formatted: None,
         errors: String::new(alloc),
+        is_full: false,
     };
     chained(alloc, links, row, &told, None, report)
 }

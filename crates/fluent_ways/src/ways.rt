@@ -153,15 +153,15 @@ fn is_front(taken: &[u8], how: How, text: &str) -> bool {
     taken.len() == how.in_all && text.as_bytes().starts_with(taken)
 }
 
-/// Writes a pattern to a writer that takes less than its text: what it took begins the text, and the errors that were
-/// added begin those of the row.
-fn stops(
+/// Writes a pattern to a writer that takes a front of its text: what it took is that, and the lines of the errors that
+/// were added.
+fn stopped(
     alloc: Global,
     asked: &Asked<'_, '_, '_, '_>,
-    told: &Told,
+    text: &str,
     how: How,
     report: &mut Report<'_>,
-) -> Result<(), AllocError> {
+) -> Result<String, AllocError> {
     let mut errors = Vec::new(alloc);
     let mut w = writer_of(alloc, how);
     let end = write(asked, &mut w, &mut errors);
@@ -169,14 +169,50 @@ fn stops(
         return Err(AllocError);
     }
     let is_one = is_one_fault(how, end, w.failed(), w.empty());
-    let is_front = is_front(w.into_inner().taken.as_slice(), how, told.text.as_str());
+    let is_front = is_front(w.into_inner().taken.as_slice(), how, text);
     report.holds_at(is_one && is_front, "write_pattern to a writer that is full", how.in_all)?;
-    let found = lines(alloc, errors.as_slice())?;
+    lines(alloc, errors.as_slice())
+}
+
+/// Writes a pattern to a writer that takes less than its text, after which the errors begin those of the row.
+fn stops(
+    alloc: Global,
+    asked: &Asked<'_, '_, '_, '_>,
+    told: &Told,
+    how: How,
+    report: &mut Report<'_>,
+) -> Result<(), AllocError> {
+    let found = stopped(alloc, asked, told.text.as_str(), how, report)?;
     let begin = told.errors.as_str().starts_with(found.as_str());
     report.holds_at(begin, "errors where a writer is full", how.in_all)
 }
 
-/// Each place where a writer may stop, by a fault or by taking nothing.
+/// Full behind the text of a row, in each way: the errors are exactly those of the row.
+pub fn stops_behind(
+    alloc: Global,
+    asked: &Asked<'_, '_, '_, '_>,
+    told: &Told,
+    report: &mut Report<'_>,
+) -> Result<(), AllocError> {
+    let text = told.text.as_str();
+    for (at_once, fails) in [(usize::MAX, true), (usize::MAX, false), (1, true), (1, false)] {
+        let how = How {
+            at_once,
+            in_all: text.len(),
+            fails,
+        };
+        let found = stopped(alloc, asked, text, how, report)?;
+        report.same(told.errors.as_str(), found.as_str(), "errors where a writer is full")?;
+    }
+    Ok(())
+}
+
+/// Whether a writer is to stop behind so many bytes: behind each of the first two hundred, and further each sixty-first.
+fn is_tried(bytes: usize) -> bool {
+    bytes < 200 || bytes % 61 == 0
+}
+
+/// Places where a writer may stop, by a fault or by taking nothing.
 fn stops_everywhere(
     alloc: Global,
     asked: &Asked<'_, '_, '_, '_>,
@@ -184,6 +220,9 @@ fn stops_everywhere(
     report: &mut Report<'_>,
 ) -> Result<(), AllocError> {
     for in_all in 0..told.text.len() {
+        if !is_tried(in_all) {
+            continue;
+        }
         for fails in [true, false] {
             let how = How {
                 at_once: usize::MAX,

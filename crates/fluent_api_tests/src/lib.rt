@@ -1,0 +1,38 @@
+//! Tests of bundles and chains by their calls: patterns made by hand, the calls of a scope, closures, look-ups, what is
+//! lent, and what an application composes of them. Rows of texts stand in fixtures.
+#![tactic(auto)]
+
+#[cfg(test)]
+mod by_hand;
+#[cfg(test)]
+mod chain;
+#[cfg(test)]
+mod check;
+#[cfg(test)]
+mod common;
+#[cfg(test)]
+mod composing;
+#[cfg(test)]
+mod deep;
+#[cfg(test)]
+mod errors;
+#[cfg(test)]
+mod first_value;
+#[cfg(test)]
+mod given;
+#[cfg(test)]
+mod headline;
+#[cfg(test)]
+mod in_one_scope;
+#[cfg(test)]
+mod kept;
+#[cfg(test)]
+mod made;
+#[cfg(test)]
+mod messages;
+#[cfg(test)]
+mod own;
+#[cfg(test)]
+mod scope;
+#[cfg(test)]
+mod trees;

@@ -1,0 +1,7 @@
+## Where the limit is struck without isolation.
+#@ limit 1
+#@ isolating off
+m = { $n }
+q = x{ { m } }
+#= n=9 | x{m}
+#! Too many placeables

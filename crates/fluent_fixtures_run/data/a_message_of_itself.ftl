@@ -1,0 +1,4 @@
+## A message that refers to itself.
+foo = { foo }
+#= {foo}
+#! Cyclical dependency detected

@@ -1,0 +1,5 @@
+## Two messages of one source.
+a = one
+#= one
+b = two
+#= two
