@@ -11,8 +11,8 @@ use fluent_rows::report::Report;
 use fluent_rows::settings::{Answer, Rules, Settings};
 use std::alloc::{AllocError, Global};
 
-/// A bundle with the objects of fixtures.
-pub type Bundle<'r, 's> = FluentBundle<'r, 's, Plurals, Star, Function<'s>, Formatter, Upper>;
+/// A bundle with the objects of a fixture, which outlives the bundle's sources.
+pub type Bundle<'r, 's, 'f> = FluentBundle<'r, 's, Plurals, Star, Function<'f>, Formatter, Upper>;
 
 // ---- resources
 
@@ -104,7 +104,7 @@ fn plurals_or_english(
 }
 
 /// Sets what takes no memory. Whether the limit is one.
-pub fn set<'r, 's>(bundle: &mut Bundle<'r, 's>, settings: &Settings<'s>) -> bool {
+pub fn set(bundle: &mut Bundle<'_, '_, '_>, settings: &Settings<'_>) -> bool {
     bundle.set_use_isolating(settings.is_isolating);
     bundle.set_transform(if settings.is_upper { Some(Upper) } else { None });
     bundle.set_formatter(settings.formatter.map(Formatter));
@@ -115,10 +115,10 @@ pub fn set<'r, 's>(bundle: &mut Bundle<'r, 's>, settings: &Settings<'s>) -> bool
 }
 
 /// Adds the functions, and what is reported of them.
-fn add_functions<'r, 's>(
-    bundle: &mut Bundle<'r, 's>,
-    functions: &[(&'s str, Answer<'s>)],
-    settings: &Settings<'s>,
+fn add_functions<'s, 'f: 's>(
+    bundle: &mut Bundle<'_, 's, 'f>,
+    functions: &[(&'f str, Answer<'f>)],
+    settings: &Settings<'_>,
     left: &mut String,
 ) -> Result<(), AllocError> {
     if settings.has_builtins {
@@ -133,15 +133,15 @@ fn add_functions<'r, 's>(
 }
 
 /// A bundle with plural rules, and with functions where these come first, and what is reported of these.
-pub fn settled<'r, 's>(
+pub fn settled<'r, 's, 'f: 's>(
     alloc: Global,
-    functions: &[(&'s str, Answer<'s>)],
-    settings: &Settings<'s>,
+    functions: &[(&'f str, Answer<'f>)],
+    settings: &Settings<'_>,
     left: &mut String,
     report: &mut Report<'_>,
-) -> Result<Bundle<'r, 's>, AllocError> {
+) -> Result<Bundle<'r, 's, 'f>, AllocError> {
     let plurals = plurals_or_english(alloc, settings.rules, report)?;
-    let mut bundle: Bundle<'r, 's> = FluentBundle::new(alloc, Vec::new(alloc), plurals);
+    let mut bundle: Bundle<'r, 's, 'f> = FluentBundle::new(alloc, Vec::new(alloc), plurals);
     if !settings.are_last {
         add_functions(&mut bundle, functions, settings, left)?;
     }
@@ -152,8 +152,8 @@ pub fn settled<'r, 's>(
 
 /// Adds a resource, and what is reported.
 fn add<'r, 's>(
-    bundle: &mut Bundle<'r, 's>,
-    part: &Part<'s>,
+    bundle: &mut Bundle<'r, 's, '_>,
+    part: &Part<'_>,
     source: &'r Source<'s>,
     left: &mut String,
 ) -> Result<(), AllocError> {
@@ -196,7 +196,7 @@ fn bundle_of<'r, 's>(
     described: &Described<'s>,
     sources: &'r [Source<'s>],
     report: &mut Report<'_>,
-) -> Result<Bundle<'r, 's>, AllocError> {
+) -> Result<Bundle<'r, 's, 's>, AllocError> {
     report.at(described.line);
     let mut left = String::new(alloc);
     let functions = fixture.functions.as_slice();
@@ -222,7 +222,7 @@ pub fn all<'r, 's>(
     fixture: &Fixture<'s>,
     sources: &'r [Source<'s>],
     report: &mut Report<'_>,
-) -> Result<Vec<Bundle<'r, 's>>, AllocError> {
+) -> Result<Vec<Bundle<'r, 's, 's>>, AllocError> {
     let mut bundles = Vec::new(alloc);
     for described in &fixture.bundles {
         bundles.push(bundle_of(alloc, fixture, described, sources, report)?)?;
@@ -232,7 +232,7 @@ pub fn all<'r, 's>(
 
 /// The pattern of a message's value, or of the first attribute of a name.
 pub fn pattern_in<'r, 's>(
-    bundle: &Bundle<'r, 's>,
+    bundle: &Bundle<'r, 's, '_>,
     id: &str,
     attribute: Option<&str>,
 ) -> Option<&'r Pattern<'s>> {

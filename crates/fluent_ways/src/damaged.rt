@@ -3,7 +3,7 @@
 use crate::bundles::{Bundle, Source, read, set, settled};
 use crate::chunks::make_up;
 use crate::values::{Args, arguments};
-use crate::ways::{Asked, Written, format, lines, write_whole};
+use crate::ways::{Asked, Written, call_for, format, lines, write_whole};
 use fluent_bundle::FluentMessage;
 use fluent_bundle::ast::{Entry, Pattern};
 use fluent_rows::fixture::{Described, Fixture, Part};
@@ -19,7 +19,7 @@ const SIGNS: &[&str] = &[
 /// Whether a pattern is formatted as it is written, where no formatter is set, and with the same errors.
 fn is_alike(
     alloc: Global,
-    asked: &Asked<'_, '_, '_>,
+    asked: &Asked<'_, '_, '_, '_>,
     written: &Written,
     has_formatter: bool,
 ) -> Result<bool, AllocError> {
@@ -33,7 +33,7 @@ fn is_alike(
 /// Whether a call answers alike in each way.
 fn answers(
     alloc: Global,
-    asked: &Asked<'_, '_, '_>,
+    asked: &Asked<'_, '_, '_, '_>,
     has_formatter: bool,
 ) -> Result<bool, AllocError> {
     match write_whole(alloc, asked, usize::MAX)? {
@@ -61,32 +61,23 @@ fn is_well(written: &Written) -> bool {
 }
 
 /// Whether a pattern gives a text, with arguments and without.
-fn pattern_answers<'s>(
+fn pattern_answers<'x, 's, 'f>(
     alloc: Global,
-    bundle: &Bundle<'_, 's>,
-    pattern: &Pattern<'s>,
-    given: &Args<'s>,
+    bundle: &'x Bundle<'_, 's, 'f>,
+    pattern: &'x Pattern<'s>,
+    given: &'x Args<'f>,
     has_formatter: bool,
 ) -> Result<bool, AllocError> {
-    for args in [None, Some(given)] {
-        let asked = Asked {
-            bundle,
-            pattern,
-            args,
-        };
-        if !answers(alloc, &asked, has_formatter)? {
-            return Ok(false);
-        }
-    }
-    Ok(true)
+    let is_right = answers(alloc, &call_for(bundle, pattern, Some(given)), has_formatter)?;
+    Ok(is_right && answers(alloc, &call_for(bundle, pattern, None), has_formatter)?)
 }
 
 /// Whether the value of a message and its attributes do.
-fn message_answers<'s>(
+fn message_answers<'s, 'f>(
     alloc: Global,
-    bundle: &Bundle<'_, 's>,
+    bundle: &Bundle<'_, 's, 'f>,
     message: FluentMessage<'_, 's>,
-    given: &Args<'s>,
+    given: &Args<'f>,
     has_formatter: bool,
 ) -> Result<bool, AllocError> {
     if let Some(value) = message.value()
@@ -103,11 +94,11 @@ fn message_answers<'s>(
 }
 
 /// Whether every message of a source does.
-fn messages_answer<'s>(
+fn messages_answer<'s, 'f>(
     alloc: Global,
-    bundle: &Bundle<'_, 's>,
+    bundle: &Bundle<'_, 's, 'f>,
     source: &Source<'s>,
-    given: &Args<'s>,
+    given: &Args<'f>,
     has_formatter: bool,
 ) -> Result<bool, AllocError> {
     for entry in source.resource.entries() {
@@ -141,9 +132,9 @@ struct Damaged<'x, 's> {
 }
 
 /// Whether the calls of a bundle answer whose source is this one.
-fn answer_in<'s>(
+fn answer_in<'s, 'f: 's>(
     alloc: Global,
-    damaged: &Damaged<'_, 's>,
+    damaged: &Damaged<'_, 'f>,
     source: &'s str,
     report: &mut Report<'_>,
 ) -> Result<bool, AllocError> {

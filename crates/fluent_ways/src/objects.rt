@@ -112,7 +112,7 @@ pub struct Formatter(pub Shows);
 
 /// The word for the kind of a value.
 fn kind_of(value: &FluentValue<'_, Star>) -> &'static str
-    ensures { result.now ≡ kind_word (value_view Star.content value.now) }
+    ensures { result.now ≡ kind_word (value_view ⟦<Star as FluentType>⟧.content value.now) }
 {
     match value {
         FluentValue::String(_) => "text",
@@ -184,7 +184,7 @@ impl MemoizerKind for Plurals {
     ghost use Rattle.fluent_intl.specs.RuleTexts.{category_of};
     ghost use Rattle.fluent_ways.specs.declared.objects.Plurals.TheVariants as own;
 
-    ghost category = { λ p. elim p [ own.English ↦ λ _. english | own.Rules texts ↦ category_of texts ] };
+    ghost category = { λ p. elim p [ own.English ↦ english | own.Rules texts ↦ category_of texts ] };
 
     fn select(&self, kind: PluralRuleType, operands: &PluralOperands) -> PluralCategory {
         match self {

@@ -3,7 +3,7 @@ use crate::bundles::{Bundle, all, pattern_in, read_all};
 use crate::damaged;
 use crate::objects::{Formatter, Function, Plurals, Star, Upper};
 use crate::values::{Args, arguments};
-use crate::ways::{Asked, are_told, hold, stops_behind};
+use crate::ways::{are_told, call_for, hold, stops_behind};
 use fluent_bundle::ast::Pattern;
 use fluent_chain::{Chain, Link};
 use fluent_rows::fixture::{Fixture, Row, Told, Wanted};
@@ -18,7 +18,7 @@ type Linked<'b, 'r, 's> = Link<'b, 'r, 's, Plurals, Star, Function<'s>, Formatte
 fn first_with<'b, 'r, 's>(
     links: &[Linked<'b, 'r, 's>],
     row: &Row<'s>,
-) -> Option<(&'b Bundle<'r, 's>, &'r Pattern<'s>)> {
+) -> Option<(&'b Bundle<'r, 's, 's>, &'r Pattern<'s>)> {
     for link in links {
         if let Some(pattern) = pattern_in(link.0, row.id, row.attribute) {
             return Some((link.0, pattern));
@@ -69,11 +69,7 @@ fn gives<'s>(
     let Some((bundle, pattern)) = first_with(links, row) else {
         return report.holds(false, "no such value");
     };
-    let asked = Asked {
-        bundle,
-        pattern,
-        args,
-    };
+    let asked = call_for(bundle, pattern, args);
     if told.is_full {
         return stops_behind(alloc, &asked, told, report);
     }
@@ -130,7 +126,7 @@ fn is_absent(links: &[Linked<'_, '_, '_>], id: &str) -> bool {
 }
 
 /// The names of a message's attributes, with blanks between.
-fn names_of(alloc: Global, bundle: &Bundle<'_, '_>, id: &str) -> Result<Option<String>, AllocError> {
+fn names_of(alloc: Global, bundle: &Bundle<'_, '_, '_>, id: &str) -> Result<Option<String>, AllocError> {
     let Some(message) = bundle.get_message(id) else {
         return Ok(None);
     };
@@ -183,7 +179,7 @@ fn holds<'s>(
 fn links_to<'b, 'r, 's>(
     alloc: Global,
     fixture: &Fixture<'s>,
-    bundles: &'b [Bundle<'r, 's>],
+    bundles: &'b [Bundle<'r, 's, 's>],
     last: usize,
 ) -> Result<Vec<Linked<'b, 'r, 's>>, AllocError> {
     let mut links = Vec::new(alloc);
@@ -201,7 +197,7 @@ fn links_to<'b, 'r, 's>(
 fn rows_hold<'r, 's>(
     alloc: Global,
     fixture: &Fixture<'s>,
-    bundles: &[Bundle<'r, 's>],
+    bundles: &[Bundle<'r, 's, 's>],
     report: &mut Report<'_>,
 ) -> Result<(), AllocError> {
     for row in &fixture.rows {

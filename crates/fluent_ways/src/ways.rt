@@ -11,15 +11,28 @@ use std::borrow::CowStr;
 
 /// What a call is made for: a bundle, a pattern, and arguments if there are some.
 #[derive(Clone, Copy, Drop)]
-pub struct Asked<'x, 'r, 's> {
-    pub bundle: &'x Bundle<'r, 's>,
-    pub pattern: &'x Pattern<'s>,
-    pub args: Option<&'x Args<'s>>,
+pub struct Asked<'x, 'r, 's, 'f> {
+    bundle: &'x Bundle<'r, 's, 'f>,
+    pattern: &'x Pattern<'s>,
+    args: Option<&'x Args<'f>>,
+}
+
+/// What is made with these.
+pub fn call_for<'x, 'r, 's, 'f>(
+    bundle: &'x Bundle<'r, 's, 'f>,
+    pattern: &'x Pattern<'s>,
+    args: Option<&'x Args<'f>>,
+) -> Asked<'x, 'r, 's, 'f> {
+    Asked {
+        bundle,
+        pattern,
+        args,
+    }
 }
 
 /// Formats a pattern.
 pub fn format<'s>(
-    asked: &Asked<'_, '_, 's>,
+    asked: &Asked<'_, '_, 's, '_>,
     errors: &mut Vec<FluentError>,
 ) -> Result<CowStr<'s>, AllocError> {
     asked
@@ -29,7 +42,7 @@ pub fn format<'s>(
 
 /// Writes a pattern.
 fn write(
-    asked: &Asked<'_, '_, '_>,
+    asked: &Asked<'_, '_, '_, '_>,
     w: &mut Counting<Narrow>,
     errors: &mut Vec<FluentError>,
 ) -> End {
@@ -71,7 +84,7 @@ pub fn are_told(
 /// Formats a pattern.
 fn formats(
     alloc: Global,
-    asked: &Asked<'_, '_, '_>,
+    asked: &Asked<'_, '_, '_, '_>,
     told: &Told,
     report: &mut Report<'_>,
 ) -> Result<(), AllocError> {
@@ -87,7 +100,7 @@ pub type Written = (Vec<u8>, String);
 /// Writes a pattern to a writer that takes so many bytes at once, and has room for all; `None` where it fails.
 pub fn write_whole(
     alloc: Global,
-    asked: &Asked<'_, '_, '_>,
+    asked: &Asked<'_, '_, '_, '_>,
     at_once: usize,
 ) -> Result<Option<Written>, AllocError> {
     let how = How {
@@ -111,7 +124,7 @@ pub fn write_whole(
 /// Writes a pattern so.
 fn writes(
     alloc: Global,
-    asked: &Asked<'_, '_, '_>,
+    asked: &Asked<'_, '_, '_, '_>,
     told: &Told,
     at_once: usize,
     report: &mut Report<'_>,
@@ -144,7 +157,7 @@ fn is_front(taken: &[u8], how: How, text: &str) -> bool {
 /// were added.
 fn stopped(
     alloc: Global,
-    asked: &Asked<'_, '_, '_>,
+    asked: &Asked<'_, '_, '_, '_>,
     text: &str,
     how: How,
     report: &mut Report<'_>,
@@ -164,7 +177,7 @@ fn stopped(
 /// Writes a pattern to a writer that takes less than its text, after which the errors begin those of the row.
 fn stops(
     alloc: Global,
-    asked: &Asked<'_, '_, '_>,
+    asked: &Asked<'_, '_, '_, '_>,
     told: &Told,
     how: How,
     report: &mut Report<'_>,
@@ -177,7 +190,7 @@ fn stops(
 /// Full behind the text of a row, in each way: the errors are exactly those of the row.
 pub fn stops_behind(
     alloc: Global,
-    asked: &Asked<'_, '_, '_>,
+    asked: &Asked<'_, '_, '_, '_>,
     told: &Told,
     report: &mut Report<'_>,
 ) -> Result<(), AllocError> {
@@ -202,7 +215,7 @@ fn is_tried(bytes: usize) -> bool {
 /// Places where a writer may stop, by a fault or by taking nothing.
 fn stops_everywhere(
     alloc: Global,
-    asked: &Asked<'_, '_, '_>,
+    asked: &Asked<'_, '_, '_, '_>,
     told: &Told,
     report: &mut Report<'_>,
 ) -> Result<(), AllocError> {
@@ -225,7 +238,7 @@ fn stops_everywhere(
 /// Each way of a bundle.
 pub fn hold(
     alloc: Global,
-    asked: &Asked<'_, '_, '_>,
+    asked: &Asked<'_, '_, '_, '_>,
     told: &Told,
     report: &mut Report<'_>,
 ) -> Result<(), AllocError> {
