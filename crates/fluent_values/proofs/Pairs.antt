@@ -1,5 +1,5 @@
 -- Pairs in the order of their names: where a search ends, what is found there, and what a pair put there means.
-use Rattle.std.specs.Prelude.{◌≡◌, ℕ, zero, suc, ◌+◌, ◌<◌, ◌≤◌, List, [], ◌∷◌, ◌++◌, ◌&&◌, false, cond, Some, None, T, Result, Ok, Err, is_ok, if◌then◌else◌, refl}
+use Rattle.std.specs.Prelude.{◌≡◌, ℕ, zero, suc, ◌+◌, ◌<◌, ◌≤◌, List, [], ◌∷◌, ◌++◌, ◌&&◌, Bool, true, false, cond, Some, None, T, Result, Ok, Err, is_ok, if◌then◌else◌, refl}
 use Rattle.std.specs.Ordering.{nat_cmp, is_lt, is_eq, ordering_index, ordering_reverse}
 use Rattle.std.specs.Cow.{cow_str_bytes}
 use Rattle.std.specs.declared.borrow.CowStr.{CowStr}
@@ -14,7 +14,7 @@ use Rattle.std.proofs.Common.{sym, ap, subst, ◌∙◌, arith, length, get_or, 
 use Rattle.std.proofs.lemmas.List.{append-nil, append_assoc}
 use Rattle.std.proofs.lemmas.List.Sorted.{searchable_from_sorted}
 use Rattle.fluent_tree.specs.Tree.{Text}
-use Rattle.fluent_meaning.specs.Arguments.{set_all}
+use Rattle.fluent_meaning.specs.Arguments.{set_all, IsInOrder}
 use Rattle.fluent_values.specs.Names.{NamesRise, IsPlaceOf, to_name}
 use Rattle.fluent_values.proofs.Keyed.{both}
 use Rattle.fluent_values.proofs.Ordered.{front_of, rest_of, less_of}
@@ -94,6 +94,14 @@ module _ {K X Y Z : Type 0} (key : K → Text) (f : X → Y) (g : X → Z) where
 -- names that rise do so whatever the values are seen as
 pub rise_seen : {X Y : Type 0} (f : X → Y) (es : List (CowStr Global × X)) → NamesRise es → T (is_sorted bytes_cmp (both cow_str_bytes f es))
 rise_seen f es h = subst T (same_order cow_str_bytes (λ x. x) f es) h
+
+as_true : (b : Bool) → T b → b ≡ true
+as_true true h = refl
+as_true false h = absurd h
+
+-- the same, as the meaning says it
+pub in_order : {X Y : Type 0} (f : X → Y) (es : List (CowStr Global × X)) → NamesRise es → IsInOrder (both cow_str_bytes f es)
+in_order f es h = as_true _ (rise_seen f es h)
 
 module _ {X : Type 0} where
   abbrev pub as_it_is : List (CowStr Global × X) → List (Text × X)

@@ -1,5 +1,5 @@
 -- Arguments one after another.
-use Rattle.std.specs.Prelude.{map}
+use Rattle.std.specs.Prelude.{map, Option, Some}
 use Rattle.std.specs.Borrow.{Bor}
 use Rattle.std.specs.Cow.{cow_str_bytes}
 use Rattle.std.specs.Slice.Iter.{iter_rest}
@@ -28,3 +28,7 @@ shown_left content s = map (pair_view content) (iter_rest s.inner)
 
 unfoldable pub given_left : {C : Type 0} → (C → Text) → ArgsIntoIter C → Map (Value Text)
 given_left content s = map (pair_view content) (into_iter_items s.inner)
+
+-- an iterator can give something at its first call
+abbrev pub CanGive : {S A : Type 0} → (S → Option A → S → Type 0) → S → Type 0
+CanGive {A = A} steps s = (first : A) × (after : _) × steps s (Some first) after

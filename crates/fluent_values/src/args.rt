@@ -31,7 +31,7 @@ impl<'a, C: FluentType> FluentArgs<'a, C> {
     ghost use Rattle.std.specs.Iterator.{IsFinite, Drains};
     ghost use Rattle.fluent_meaning.specs.Arguments as fin;
     ghost use Rattle.fluent_values.specs.View.{value_view, named};
-    ghost use Rattle.fluent_values.specs.Args.{pair_view, shown_left};
+    ghost use Rattle.fluent_values.specs.Args.{CanGive, pair_view, shown_left};
     ghost use Rattle.fluent_values.specs.Names.{IsPlaceOf};
 
     /// Makes a map with no names in it. It keeps the allocator and takes no memory yet.
@@ -59,15 +59,16 @@ impl<'a, C: FluentType> FluentArgs<'a, C> {
     ///
     /// # Errors
     ///
-    /// Memory was refused.
+    /// Memory was refused, which an iterator that gives nothing can't meet.
     pub fn try_from_iter<I: Iterator<Item = (CowStr<'a>, FluentValue<'a, C>)>>(
         alloc: Global,
         pairs: I,
     ) -> Result<FluentArgs<'a, C>, AllocError>
         requires can { I.can_next pairs }
         requires ends { IsFinite (I.remaining pairs) }
-        ensures { IfOk result (λ args. (given : List _) × Drains I.next_gives pairs given
+        ensures all { IfOk result (λ args. (given : List _) × Drains I.next_gives pairs given
             × (named C.content args ≡ fin.set_all (map (pair_view C.content) given) [])) }
+        ensures some { OnErr result (CanGive I.next_gives pairs) }
     {
         let mut args = FluentArgs::new(alloc);
         for (name, value) in pairs {
@@ -124,7 +125,8 @@ impl<'a, C: FluentType> FluentArgs<'a, C> {
 
     /// The names with their values, each name once, in the order of their bytes. Takes no memory.
     pub fn iter(&self) -> ArgsIter<'_, 'a, C>
-        ensures { shown_left C.content result ≡ named C.content self.now }
+        ensures all { shown_left C.content result ≡ named C.content self.now }
+        ensures rises { fin.IsInOrder (shown_left C.content result) }
     {
         ArgsIter {
             inner: self.pairs.iter(),
@@ -162,11 +164,14 @@ impl<'a, C: FluentType> IntoIterator for FluentArgs<'a, C> {
     type IntoIter = ArgsIntoIter<'a, C>;
 
     ghost use Rattle.std.specs.Prelude.{◌≡◌};
+    ghost use Rattle.fluent_meaning.specs.Arguments.{IsInOrder};
     ghost use Rattle.fluent_values.specs.View.{named};
     ghost use Rattle.fluent_values.specs.Args.{given_left};
 
-    ghost into_iter_gives = { λ args result. given_left C.content result ≡ named C.content args };
+    ghost into_iter_gives = { λ args result. (given_left C.content result
+        ≡ named C.content args) × IsInOrder (given_left C.content result) };
 
+    /// Gives the names with their values away, each name once, in the order of their bytes.
     fn into_iter(self) -> ArgsIntoIter<'a, C> {
         let FluentArgs { pairs } = self;
         ArgsIntoIter {
