@@ -1,5 +1,5 @@
 //! How values are shown, in place of their own text.
-ghost use Rattle.std.specs.Prelude.{◌≡◌, IfOk, Option, None, string_bytes};
+ghost use Rattle.std.specs.Prelude.{◌≡◌, IfOk, IsOk, Option, None, string_bytes};
 ghost use Rattle.std.specs.Option.{option_map};
 ghost use Rattle.fluent_tree.specs.Tree.{Text};
 ghost use Rattle.fluent_meaning.specs.Value.{Value};
@@ -41,7 +41,10 @@ impl<C: FluentType, M> FluentFormatter<C, M> for NoFormatter {
         _alloc: Global,
         _value: &FluentValue<'a, C>,
         _intls: &M,
-    ) -> Result<Option<String>, AllocError> {
+    ) -> Result<Option<String>, AllocError>
+        ensures none { IfOk result (λ text. option_map string_bytes text ≡ None) }
+        ensures succeeds { IsOk result }
+    {
         Ok(None)
     }
 }

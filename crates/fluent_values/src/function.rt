@@ -1,5 +1,5 @@
 //! Functions of the application, which messages call by name.
-ghost use Rattle.std.specs.Prelude.{◌≡◌, List, map, IfOk};
+ghost use Rattle.std.specs.Prelude.{◌≡◌, List, map, IfOk, IsOk};
 ghost use Rattle.fluent_tree.specs.Tree.{Text};
 ghost use Rattle.fluent_meaning.specs.Value.{Value, error_value};
 ghost use Rattle.fluent_meaning.specs.Arguments.{Map};
@@ -45,7 +45,10 @@ impl<C: FluentType> FluentFunction<C> for NoFunction {
         _alloc: Global,
         _positional: &[FluentValue<'a, C>],
         _arguments: &FluentArgs<'a, C>,
-    ) -> Result<FluentValue<'a, C>, AllocError> {
+    ) -> Result<FluentValue<'a, C>, AllocError>
+        ensures error { IfOk result (λ v. value_view C.content v ≡ error_value) }
+        ensures succeeds { IsOk result }
+    {
         Ok(FluentValue::Error)
     }
 }

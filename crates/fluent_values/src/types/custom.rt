@@ -1,5 +1,5 @@
 //! Values of the application's own.
-ghost use Rattle.std.specs.Prelude.{◌≡◌, [], Bool, true, IfOk, string_bytes};
+ghost use Rattle.std.specs.Prelude.{◌≡◌, [], Bool, true, IfOk, IsOk, string_bytes};
 ghost use Rattle.fluent_tree.specs.Tree.{Text};
 
 use std::alloc::{AllocError, Global};
@@ -43,7 +43,10 @@ impl FluentType for NoCustom {
 
     ghost alike = { λ _ _. true };
 
-    fn duplicate(&self, _alloc: Global) -> Result<NoCustom, AllocError> {
+    fn duplicate(&self, _alloc: Global) -> Result<NoCustom, AllocError>
+        ensures same { IfOk result (λ copy. copy ≡ self.now) }
+        ensures succeeds { IsOk result }
+    {
         Ok(NoCustom)
     }
 
@@ -51,7 +54,10 @@ impl FluentType for NoCustom {
         true
     }
 
-    fn as_string(&self, alloc: Global) -> Result<String, AllocError> {
+    fn as_string(&self, alloc: Global) -> Result<String, AllocError>
+        ensures empty { IfOk result (λ text. string_bytes text ≡ []) }
+        ensures succeeds { IsOk result }
+    {
         Ok(String::new(alloc))
     }
 }
