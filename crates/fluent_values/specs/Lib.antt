@@ -20,3 +20,4 @@ pub mod Choice
 pub mod ChosenView
 pub mod Written
 pub mod Free
+pub mod FreeRows

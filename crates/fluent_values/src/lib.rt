@@ -5,6 +5,7 @@ mod args;
 pub mod builtins;
 mod formatter;
 mod function;
+pub mod laws;
 pub mod memoizer;
 pub mod resolver;
 mod transform;
