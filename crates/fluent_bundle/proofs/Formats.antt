@@ -31,7 +31,7 @@ abbrev pub pattern_walk : Pattern → Walk Text
 pattern_walk p = λ b below env path. whole with_work b below env path p
 
 -- the same, from the state in which a call begins
-pub fresh : CallsByThemselves Text → (a : Status) (b : Bundle Text) (args : Map (Value Text)) (p : Pattern) → a.bundle ≡ b → a.environment ≡ application args → a.path ≡ [] → a.budget ≡ left b.limit
+pub fresh : {K : Type 0} → CallsByThemselves Text → (a : Status K) (b : Bundle Text) (args : Map (Value Text)) (p : Pattern) → a.bundle ≡ b → a.environment ≡ application args → a.path ≡ [] → a.budget ≡ left b.limit
     → (from_here a (pattern_walk p)).ran ≡ written_pattern b args p
 fresh law a b args p h j k l =
     ap (λ c. (whole with_work c (work c) a.environment (on_path a.path) p a.budget).ran) h
@@ -41,11 +41,11 @@ fresh law a b args p h j k l =
     ∙ sym (law.pattern b args p)
 
 -- what stands in a list after these were added
-listed : (list list' : List FluentError) (added : List Error) (s s' : Status) → s'.errors ≡ with_errors s.errors added → s.errors ≡ Some (reported list) → s'.errors ≡ Some (reported list') → reported list' ≡ reported list ++ added
+listed : {K : Type 0} (list list' : List FluentError) (added : List Error) (s s' : Status K) → s'.errors ≡ with_errors s.errors added → s.errors ≡ Some (reported list) → s'.errors ≡ Some (reported list') → reported list' ≡ reported list ++ added
 listed list list' added s s' h before after' = cc (sym after' ∙ h ∙ ap (λ l. with_errors l added) before)
 
 -- what a walk wrote and added
-pub writes_of : {T : Type 0} {r : Result T Halt} {walk : Walk Text} {w w' : Sink} {a b : Status} {all : Ran Text} {list list' : List FluentError}
+pub writes_of : {T K : Type 0} {r : Result T Halt} {walk : Walk Text} {w w' : Sink} {a b : Status K} {all : Ran Text} {list list' : List FluentError}
     → Wrote r walk w w' a b → (from_here a walk).ran ≡ all → a.errors ≡ Some (reported list) → b.errors ≡ Some (reported list') → Writes r all w w' list list'
 writes_of {r = r} {w = w} {w' = w'} {a = a} {b = b} {all = all} {list = list} {list' = list'} h e before after' =
     let way = h.went.along in

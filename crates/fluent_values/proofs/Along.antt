@@ -23,7 +23,7 @@ at_value P h k = subst (λ r. IfOk r P) h k
 
 -- STEPS
 
-pub starts : {T : Type 0} {x : T} (a : Status) (w : Sink) (all : Worked Text) → Along (Ok x) all all w w a a
+pub starts : {T K : Type 0} {x : T} (a : Status K) (w : Sink) (all : Worked Text) → Along (Ok x) all all w w a a
 starts a w all = record {
   taken = [];
   held = appends_none w.held;
@@ -35,11 +35,11 @@ starts a w all = record {
 }
 
 -- what is to come, said otherwise
-pub turns : {T : Type 0} {r : Result T Halt} {all rest rest' : Worked Text} {w w' : Sink} {a b : Status} → rest ≡ rest' → Along r all rest w w' a b → Along r all rest' w w' a b
+pub turns : {T K : Type 0} {r : Result T Halt} {all rest rest' : Worked Text} {w w' : Sink} {a b : Status K} → rest ≡ rest' → Along r all rest w w' a b → Along r all rest' w w' a b
 turns {r = r} {all = all} {w = w} {w' = w'} {a = a} {b = b} h k = subst (λ rest. Along r all rest w w' a b) h k
 
 -- a change of the scope, of what was reported and counted
-pub passes : {T : Type 0} {r : Result T Halt} {all rest rest' : Worked Text} {w w' : Sink} {a b c : Status} → rest'.ran.value ≡ rest.ran.value → (Passed (trace all) (trace rest) a b → Passed (trace all) (trace rest') a c) → Along r all rest w w' a b → Along r all rest' w w' a c
+pub passes : {T K : Type 0} {r : Result T Halt} {all rest rest' : Worked Text} {w w' : Sink} {a b c : Status K} → rest'.ran.value ≡ rest.ran.value → (Passed (trace all) (trace rest) a b → Passed (trace all) (trace rest') a c) → Along r all rest w w' a b → Along r all rest' w w' a c
 passes h f x = record {
   taken = x.taken;
   held = x.held;
@@ -51,7 +51,7 @@ passes h f x = record {
 }
 
 -- a text is written
-pub put : {T : Type 0} {r : Result T Halt} {x : T} {all : Worked Text} {t : Text} {w w1 w2 : Sink} {a b : Status} (rest : Worked Text) → SinkTook r t w1 w2 → Along (Ok x) all (prepend t rest) w w1 a b → Went r all rest w w2 a b
+pub put : {T K : Type 0} {r : Result T Halt} {x : T} {all : Worked Text} {t : Text} {w w1 w2 : Sink} {a b : Status K} (rest : Worked Text) → SinkTook r t w1 w2 → Along (Ok x) all (prepend t rest) w w1 a b → Went r all rest w w2 a b
 put {r = r} {x = x} {t = t} {w = w} {w1 = w1} {w2 = w2} rest k h = record {
   left = prepend k.left rest;
   along = record {
@@ -67,11 +67,11 @@ put {r = r} {x = x} {t = t} {w = w} {w1 = w1} {w2 = w2} rest k h = record {
 }
 
 -- errors are added
-pub adds : {S E T : Type 0} {q : Result S E} {y : S} {x : T} {all : Worked Text} {es : List Error} {w w1 : Sink} {a b c : Status} (rest : Worked Text) → q ≡ Ok y → ReportsIfOk q es b c → Along (Ok x) all (tells es rest) w w1 a b → Along (Ok x) all rest w w1 a c
+pub adds : {S E T K : Type 0} {q : Result S E} {y : S} {x : T} {all : Worked Text} {es : List Error} {w w1 : Sink} {a b c : Status K} (rest : Worked Text) → q ≡ Ok y → ReportsIfOk q es b c → Along (Ok x) all (tells es rest) w w1 a b → Along (Ok x) all rest w w1 a c
 adds rest is k h = passes refl (passed_adds (trace rest) is k) h
 
 -- they could not be added, for want of memory
-pub refused : {S E T : Type 0} {q : Result S E} {y : E} {x : T} {r : Result T Halt} {all rest : Worked Text} {es : List Error} {w w1 : Sink} {a b c : Status} → q ≡ Err y → r ≡ Err Memory → ReportsIfOk q es b c → Along (Ok x) all rest w w1 a b → Along r all rest w w1 a c
+pub refused : {S E T K : Type 0} {q : Result S E} {y : E} {x : T} {r : Result T Halt} {all rest : Worked Text} {es : List Error} {w w1 : Sink} {a b c : Status K} → q ≡ Err y → r ≡ Err Memory → ReportsIfOk q es b c → Along (Ok x) all rest w w1 a b → Along r all rest w w1 a c
 refused {w = w} {w1 = w1} was is k h = record {
   taken = h.taken;
   held = h.held;
@@ -83,7 +83,7 @@ refused {w = w} {w1 = w1} was is k h = record {
 }
 
 -- a walk, and more after it
-pub calls : {T : Type 0} {r : Result T Halt} {x : T} {all : Worked Text} {w w1 w2 : Sink} {a b c : Status} {walk : Walk Text} (k : Budget → Worked Text) → Wrote r walk w1 w2 b c → Along (Ok x) all (sequence (walked a walk b.budget) k) w w1 a b → Went r all (k c.budget) w w2 a c
+pub calls : {T K : Type 0} {r : Result T Halt} {x : T} {all : Worked Text} {w w1 w2 : Sink} {a b c : Status K} {walk : Walk Text} (k : Budget → Worked Text) → Wrote r walk w1 w2 b c → Along (Ok x) all (sequence (walked a walk b.budget) k) w w1 a b → Went r all (k c.budget) w w2 a c
 calls {r = r} {x = x} {all = all} {w = w} {w1 = w1} {w2 = w2} {a = a} {b = b} {c = c} {walk = walk} k h j =
     let l = h.went.left in
     let way = h.went.along in
@@ -109,7 +109,7 @@ calls {r = r} {x = x} {all = all} {w = w} {w1 = w1} {w2 = w2} {a = a} {b = b} {c
     }
 
 -- a walk that is the whole rest, from a scope that was changed for it, and put back
-pub lends : {T : Type 0} {r : Result T Halt} {x : T} {all rest : Worked Text} {w w1 w2 : Sink} {a b c d e : Status} {walk : Walk Text} → c.errors ≡ b.errors → e.errors ≡ d.errors → adding c.tally (trace (from_here c walk)) ≡ adding b.tally (trace rest) → (from_here c walk).ran ≡ rest.ran → e.tally ≡ d.tally → e.budget ≡ d.budget → Keeps a e → Wrote r walk w1 w2 c d → Along (Ok x) all rest w w1 a b → Went r all (given [] e.budget) w w2 a e
+pub lends : {T K : Type 0} {r : Result T Halt} {x : T} {all rest : Worked Text} {w w1 w2 : Sink} {a b c d e : Status K} {walk : Walk Text} → c.errors ≡ b.errors → e.errors ≡ d.errors → adding c.tally (trace (from_here c walk)) ≡ adding b.tally (trace rest) → (from_here c walk).ran ≡ rest.ran → e.tally ≡ d.tally → e.budget ≡ d.budget → Keeps a e → Wrote r walk w1 w2 c d → Along (Ok x) all rest w w1 a b → Went r all (given [] e.budget) w w2 a e
 lends {r = r} {x = x} {w = w} {w1 = w1} {w2 = w2} {walk = walk} before after counts same tally budget kept h j =
     let way = h.went.along in
     record {
@@ -127,13 +127,13 @@ lends {r = r} {x = x} {w = w} {w1 = w1} {w2 = w2} {walk = walk} before after cou
     }
 
 -- a walk that is the whole rest
-pub tail : {T : Type 0} {r : Result T Halt} {x : T} {all : Worked Text} {w w1 w2 : Sink} {a b c : Status} {walk : Walk Text} → Wrote r walk w1 w2 b c → Along (Ok x) all (walked a walk b.budget) w w1 a b → Went r all (given [] c.budget) w w2 a c
+pub tail : {T K : Type 0} {r : Result T Halt} {x : T} {all : Worked Text} {w w1 w2 : Sink} {a b c : Status K} {walk : Walk Text} → Wrote r walk w1 w2 b c → Along (Ok x) all (walked a walk b.budget) w w1 a b → Went r all (given [] c.budget) w w2 a c
 tail {a = a} {b = b} {walk = walk} h j = lends refl refl refl refl refl refl (keeps_on j.passed.keeps h.went.along.passed.keeps) h (turns (sym (moved walk j.passed.keeps)) j)
 
 -- VALUES
 
 -- a value is resolved, and more after it
-pub asked : {A S T : Type 0} {q : Result S Halt} {r : Result T Halt} {x : T} {see : S → A} {all : Worked Text} {w w1 w2 : Sink} {a b c : Status} {walk : Walk A} (k : A → Budget → Worked Text) (g : Gave q see walk w1 w2 b c) → CountsTell w1.failed w1.empty w2.failed w2.empty r → Along (Ok x) all (and_then (walked a walk b.budget) k) w w1 a b → Along r all (and_then g.got.left k) w w2 a c
+pub asked : {A S T K : Type 0} {q : Result S Halt} {r : Result T Halt} {x : T} {see : S → A} {all : Worked Text} {w w1 w2 : Sink} {a b c : Status K} {walk : Walk A} (k : A → Budget → Worked Text) (g : Gave q see walk w1 w2 b c) → CountsTell w1.failed w1.empty w2.failed w2.empty r → Along (Ok x) all (and_then (walked a walk b.budget) k) w w1 a b → Along r all (and_then g.got.left k) w w2 a c
 asked {r = r} {x = x} {all = all} {w = w} {w1 = w1} {w2 = w2} {a = a} {b = b} {c = c} {walk = walk} k g fault j =
     let l = g.got.left in
     let way = g.got.toward in
@@ -156,31 +156,31 @@ asked {r = r} {x = x} {all = all} {w = w} {w1 = w1} {w2 = w2} {a = a} {b = b} {c
 -- ENDS
 
 -- the call answered Ok: what is to come is the rest
-pub goes_on : {T : Type 0} {r : Result T Halt} {x : T} {all rest : Worked Text} {w w' : Sink} {a b : Status} → r ≡ Ok x → Went r all rest w w' a b → Along (Ok x) all rest w w' a b
+pub goes_on : {T K : Type 0} {r : Result T Halt} {x : T} {all rest : Worked Text} {w w' : Sink} {a b : Status K} → r ≡ Ok x → Went r all rest w w' a b → Along (Ok x) all rest w w' a b
 goes_on {all = all} {w = w} {w' = w'} {a = a} {b = b} is h = turns (at_ok is h.done) (subst (λ r. Along r all h.left w w' a b) is h.along)
 
-pub wrote : {T : Type 0} {r : Result T Halt} {walk : Walk Text} {w w' : Sink} {a b : Status} → Went r (from_here a walk) (given [] b.budget) w w' a b → Wrote r walk w w' a b
+pub wrote : {T K : Type 0} {r : Result T Halt} {walk : Walk Text} {w w' : Sink} {a b : Status K} → Went r (from_here a walk) (given [] b.budget) w w' a b → Wrote r walk w w' a b
 wrote h = record { went = h }
 
-pub ends : {T : Type 0} {x : T} {walk : Walk Text} {w w' : Sink} {a b : Status} → Along (Ok x) (from_here a walk) (given [] b.budget) w w' a b → Wrote (Ok x) walk w w' a b
+pub ends : {T K : Type 0} {x : T} {walk : Walk Text} {w w' : Sink} {a b : Status K} → Along (Ok x) (from_here a walk) (given [] b.budget) w w' a b → Wrote (Ok x) walk w w' a b
 ends h = record { went = record { left = _; along = h; done = refl } }
 
-pub halts : {T : Type 0} {r : Result T Halt} {e : Halt} {walk : Walk Text} {any : Worked Text} {w w' : Sink} {a b : Status} → r ≡ Err e → Along r (from_here a walk) any w w' a b → Wrote r walk w w' a b
+pub halts : {T K : Type 0} {r : Result T Halt} {e : Halt} {walk : Walk Text} {any : Worked Text} {w w' : Sink} {a b : Status K} → r ≡ Err e → Along r (from_here a walk) any w w' a b → Wrote r walk w w' a b
 halts is h = record { went = record { left = _; along = h; done = never _ is } }
 
-pub stops : {T : Type 0} {r r' : Result T Halt} {e : Halt} {walk : Walk Text} {rest : Worked Text} {w w' : Sink} {a b : Status} → r ≡ Err e → r' ≡ Err e → Went r (from_here a walk) rest w w' a b → Wrote r' walk w w' a b
+pub stops : {T K : Type 0} {r r' : Result T Halt} {e : Halt} {walk : Walk Text} {rest : Worked Text} {w w' : Sink} {a b : Status K} → r ≡ Err e → r' ≡ Err e → Went r (from_here a walk) rest w w' a b → Wrote r' walk w w' a b
 stops {walk = walk} {w = w} {w' = w'} {a = a} {b = b} was is h = halts is (subst (λ r. Along r (from_here a walk) h.left w w' a b) (was ∙ sym is) h.along)
 
 -- the last text
-pub puts_last : {T : Type 0} {r : Result T Halt} {x : T} {all : Worked Text} {t : Text} {w w1 w2 : Sink} {a b : Status} → SinkTook r t w1 w2 → Along (Ok x) all (given t b.budget) w w1 a b → Went r all (given [] b.budget) w w2 a b
+pub puts_last : {T K : Type 0} {r : Result T Halt} {x : T} {all : Worked Text} {t : Text} {w w1 w2 : Sink} {a b : Status K} → SinkTook r t w1 w2 → Along (Ok x) all (given t b.budget) w w1 a b → Went r all (given [] b.budget) w w2 a b
 puts_last {t = t} {b = b} k h = put (given [] b.budget) k (turns (ap (λ x. given x b.budget) (sym (append-nil t))) h)
 
 -- an error could not be added for want of memory, and nothing more
-pub refuses : {S E T : Type 0} {q : Result S E} {y : E} {x : T} {r : Result T Halt} {walk : Walk Text} {rest : Worked Text} {es : List Error} {w w1 : Sink} {a b c : Status} → q ≡ Err y → r ≡ Err Memory → ReportsIfOk q es b c → Along (Ok x) (from_here a walk) rest w w1 a b → Wrote r walk w w1 a c
+pub refuses : {S E T K : Type 0} {q : Result S E} {y : E} {x : T} {r : Result T Halt} {walk : Walk Text} {rest : Worked Text} {es : List Error} {w w1 : Sink} {a b c : Status K} → q ≡ Err y → r ≡ Err Memory → ReportsIfOk q es b c → Along (Ok x) (from_here a walk) rest w w1 a b → Wrote r walk w w1 a c
 refuses was is k h = halts is (refused was is k h)
 
 -- memory was refused before anything was written
-pub memory_halts : {T : Type 0} {r : Result T Halt} {x : T} {walk : Walk Text} {rest : Worked Text} {w w' : Sink} {a b : Status} → r ≡ Err Memory → Along (Ok x) (from_here a walk) rest w w' a b → Wrote r walk w w' a b
+pub memory_halts : {T K : Type 0} {r : Result T Halt} {x : T} {walk : Walk Text} {rest : Worked Text} {w w' : Sink} {a b : Status K} → r ≡ Err Memory → Along (Ok x) (from_here a walk) rest w w' a b → Wrote r walk w w' a b
 memory_halts {w = w} {w' = w'} is h = halts is (record {
   taken = h.taken;
   held = h.held;

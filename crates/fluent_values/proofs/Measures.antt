@@ -31,7 +31,7 @@ pub less_weight : (a b : Bundle Text) (x y m n : ℕ) → b ≡ a → x < y → 
 less_weight a b x y m n h small few = subst (λ c. weight (2 + bound c) x m < weight (2 + bound a) y n) (sym h) (weight_less (2 + bound a) x y m n small few)
 
 -- a smaller tree, in the same scope
-pub same_weight : (a : Status) (x y : ℕ) → x < y → weight (2 + bound a.bundle) x (1 + at_most a.budget) < weight (2 + bound a.bundle) y (1 + at_most a.budget)
+pub same_weight : {K : Type 0} (a : Status K) (x y : ℕ) → x < y → weight (2 + bound a.bundle) x (1 + at_most a.budget) < weight (2 + bound a.bundle) y (1 + at_most a.budget)
 same_weight a x y small = less_weight a.bundle a.bundle x y (1 + at_most a.budget) (1 + at_most a.budget) refl small (omega arith)
 
 -- a tree of any size below k, with less budget
@@ -42,17 +42,17 @@ weight_falls k a m n h j = omega (arith, times_less m n k j)
     times_less m n k h = grind arith
 
 -- a smaller tree, where a scope was kept
-pub kept_weight : {a b : Status} (x y : ℕ) → Keeps a b → x < y → weight (2 + bound b.bundle) x (1 + at_most b.budget) < weight (2 + bound a.bundle) y (1 + at_most a.budget)
+pub kept_weight : {K : Type 0} {a b : Status K} (x y : ℕ) → Keeps a b → x < y → weight (2 + bound b.bundle) x (1 + at_most b.budget) < weight (2 + bound a.bundle) y (1 + at_most a.budget)
 kept_weight {a = a} {b = b} x y kept small = less_weight a.bundle b.bundle x y (1 + at_most b.budget) (1 + at_most a.budget) kept.bundle small (omega (arith, kept.less))
 
 -- a smaller tree, after a placeable was opened
-pub taken_weight : {r : Bool} {a b : Status} (x y : ℕ) → r ≡ true → TakesOne r a b → x < y → weight (2 + bound b.bundle) x (1 + at_most b.budget) < weight (2 + bound a.bundle) y (at_most a.budget)
+pub taken_weight : {K : Type 0} {r : Bool} {a b : Status K} (x y : ℕ) → r ≡ true → TakesOne r a b → x < y → weight (2 + bound b.bundle) x (1 + at_most b.budget) < weight (2 + bound a.bundle) y (at_most a.budget)
 taken_weight {a = a} {b = b} x y is takes small =
     let fewer : 1 + at_most b.budget ≡ at_most a.budget = at_true is takes.fewer in
     less_weight a.bundle b.bundle x y (1 + at_most b.budget) (at_most a.budget) takes.keeps.bundle small (omega (arith, fewer))
 
 -- a smaller tree, where all but the path is as it was
-pub still_weight : {a b : Status} (x y : ℕ) → Elsewhere a b → x < y → weight (2 + bound b.bundle) x (at_most b.budget) < weight (2 + bound a.bundle) y (at_most a.budget)
+pub still_weight : {K : Type 0} {a b : Status K} (x y : ℕ) → Elsewhere a b → x < y → weight (2 + bound b.bundle) x (at_most b.budget) < weight (2 + bound a.bundle) y (at_most a.budget)
 still_weight {a = a} {b = b} x y same small =
     let few : at_most b.budget ≡ at_most a.budget = ap at_most same.budget in
     less_weight a.bundle b.bundle x y (at_most b.budget) (at_most a.budget) same.bundle small (omega (arith, few))

@@ -4,28 +4,49 @@ use Rattle.std.specs.Bool.{OnTrue, OnFalse}
 use Rattle.fluent_meaning.specs.Errors.{Error}
 use Rattle.fluent_meaning.specs.Meaning.{Budget, at_most}
 use Rattle.fluent_meaning.specs.Work.{work}
-use Rattle.fluent_values.specs.Status.{Status, Tally, counted, with_errors, Keeps}
+use Rattle.fluent_values.specs.Status.{Status, Tally, counted, with_errors, Keeps, Spends}
 use Rattle.fluent_values.specs.Trail.{on_path}
 use Rattle.fluent_values.specs.Along.{Walk, walked, from_here, Trace, follows, adding, Reports, Passed, Elsewhere, ReportsIfOk, TakesOne}
 
 -- SCOPES
 
-pub keeps_same : (a : Status) → Keeps a a
-keeps_same a = record { bundle = refl; environment = refl; path = refl; list = refl; stored = refl; is_plain = refl; less = omega arith }
+-- with the budget and the counts as they were
+spends_none : {K : Type 0} {a b : Status K} → b.tally ≡ a.tally → b.budget ≡ a.budget → Spends a b
+spends_none {a = a} {b = b} t n = record {
+  together = ap (λ c. counted (c.opened + at_most b.budget)) t ∙ ap (λ x. counted (a.tally.opened + at_most x)) n;
+  stays_struck = λ h. n ∙ h;
+  opened = subst (λ c. a.tally.opened ≤ c.opened) (sym t) (omega arith);
+  longest = subst (λ c. a.tally.longest ≤ c.longest) (sym t) (omega arith);
+  entered = subst (λ c. a.tally.entered ≤ c.entered) (sym t) (omega arith);
+}
 
-pub keeps_on : {a b c : Status} → Keeps a b → Keeps b c → Keeps a c
+spends_on : {K : Type 0} {a b c : Status K} → Spends a b → Spends b c → Spends a c
+spends_on h j = record {
+  together = j.together ∙ h.together;
+  stays_struck = λ e. j.stays_struck (h.stays_struck e);
+  opened = omega (arith, h.opened, j.opened);
+  longest = omega (arith, h.longest, j.longest);
+  entered = omega (arith, h.entered, j.entered);
+}
+
+pub keeps_same : {K : Type 0} (a : Status K) → Keeps a a
+keeps_same a = record { bundle = refl; borrow = refl; environment = refl; path = refl; list = refl; stored = refl; is_plain = refl; less = omega arith; spends = spends_none refl refl }
+
+pub keeps_on : {K : Type 0} {a b c : Status K} → Keeps a b → Keeps b c → Keeps a c
 keeps_on h j = record {
   bundle = j.bundle ∙ h.bundle;
+  borrow = j.borrow ∙ h.borrow;
   environment = j.environment ∙ h.environment;
   path = j.path ∙ h.path;
   list = j.list ∙ h.list;
   stored = j.stored ∙ h.stored;
   is_plain = j.is_plain ∙ h.is_plain;
   less = omega (arith, h.less, j.less);
+  spends = spends_on h.spends j.spends;
 }
 
 -- a walk from a scope that kept another's rest is one from that other, with its own budget
-pub moved : {A : Type 0} {a b : Status} (walk : Walk A) → Keeps a b → from_here b walk ≡ walked a walk b.budget
+pub moved : {A K : Type 0} {a b : Status K} (walk : Walk A) → Keeps a b → from_here b walk ≡ walked a walk b.budget
 moved {a = a} {b = b} walk h =
     ap (λ s. walk s (work s) b.environment (on_path b.path) b.budget) h.bundle
     ∙ ap (λ e. walk a.bundle (work a.bundle) e (on_path b.path) b.budget) h.environment
@@ -41,10 +62,10 @@ pub with_more : (o : Option (List Error)) (xs ys : List Error) → with_errors (
 with_more None xs ys = refl
 with_more (Some l) xs ys = ap (λ es. Some es) (append_assoc l xs ys)
 
-pub adds_none : (a : Status) → Reports a a []
+pub adds_none : {K : Type 0} (a : Status K) → Reports a a []
 adds_none a = sym (with_none a.errors)
 
-pub adds_on : (a b c : Status) (xs ys : List Error) → Reports a b xs → Reports b c ys → Reports a c (xs ++ ys)
+pub adds_on : {K : Type 0} (a b c : Status K) (xs ys : List Error) → Reports a b xs → Reports b c ys → Reports a c (xs ++ ys)
 adds_on a b c xs ys h k = k ∙ ap (λ o. with_errors o ys) h ∙ with_more a.errors xs ys
 
 -- COUNTS
@@ -74,19 +95,19 @@ silent b = record { errors = []; budget = b; opened = 0; longest = 0; entered = 
 abbrev pub telling : List Error → Trace → Trace
 telling es t = record { errors = es ++ t.errors; budget = t.budget; opened = t.opened; longest = t.longest; entered = t.entered }
 
-pub passed_none : (a : Status) (all : Trace) → Passed all all a a
+pub passed_none : {K : Type 0} (a : Status K) (all : Trace) → Passed all all a a
 passed_none a all = record { added = []; list = adds_none a; errors = refl; budget = refl; tally = refl; keeps = keeps_same a }
 
 -- a change of the scope that reports and counts nothing
-pub passed_still : {all rest : Trace} {a b c : Status} → c.errors ≡ b.errors → c.tally ≡ b.tally → Keeps a c → Passed all rest a b → Passed all rest a c
+pub passed_still : {K : Type 0} {all rest : Trace} {a b c : Status K} → c.errors ≡ b.errors → c.tally ≡ b.tally → Keeps a c → Passed all rest a b → Passed all rest a c
 passed_still {rest = rest} h t k x = record { added = x.added; list = h ∙ x.list; errors = x.errors; budget = x.budget; tally = ap (λ c. adding c rest) t ∙ x.tally; keeps = k }
 
 -- a change of the scope that counts
-pub passed_counts : {all rest rest' : Trace} {a b c : Status} → c.errors ≡ b.errors → rest'.errors ≡ rest.errors → rest'.budget ≡ rest.budget → adding c.tally rest' ≡ adding b.tally rest → Keeps a c → Passed all rest a b → Passed all rest' a c
+pub passed_counts : {K : Type 0} {all rest rest' : Trace} {a b c : Status K} → c.errors ≡ b.errors → rest'.errors ≡ rest.errors → rest'.budget ≡ rest.budget → adding c.tally rest' ≡ adding b.tally rest → Keeps a c → Passed all rest a b → Passed all rest' a c
 passed_counts h e n t k x = record { added = x.added; list = h ∙ x.list; errors = ap (λ es. x.added ++ es) e ∙ x.errors; budget = n ∙ x.budget; tally = t ∙ x.tally; keeps = k }
 
 -- errors are added
-pub passed_adds : {E T : Type 0} {q : Result T E} {y : T} {all : Trace} {es : List Error} {a b c : Status} (rest : Trace) → q ≡ Ok y → ReportsIfOk q es b c → Passed all (telling es rest) a b → Passed all rest a c
+pub passed_adds : {E T K : Type 0} {q : Result T E} {y : T} {all : Trace} {es : List Error} {a b c : Status K} (rest : Trace) → q ≡ Ok y → ReportsIfOk q es b c → Passed all (telling es rest) a b → Passed all rest a c
 passed_adds {q = q} {y = y} {es = es} {a = a} {b = b} {c = c} rest is k h = record {
   added = h.added ++ es;
   list = adds_on a b c h.added es h.list (subst (λ r. OnOk r (Reports b c es)) is k.added);
@@ -97,7 +118,7 @@ passed_adds {q = q} {y = y} {es = es} {a = a} {b = b} {c = c} rest is k h = reco
 }
 
 -- or they could not be added
-pub passed_refused : {E T : Type 0} {q : Result T E} {y : E} {all rest : Trace} {es : List Error} {a b c : Status} → q ≡ Err y → ReportsIfOk q es b c → Passed all rest a b → Passed all rest a c
+pub passed_refused : {E T K : Type 0} {q : Result T E} {y : E} {all rest : Trace} {es : List Error} {a b c : Status K} → q ≡ Err y → ReportsIfOk q es b c → Passed all rest a b → Passed all rest a c
 passed_refused {q = q} {y = y} {rest = rest} {a = a} {b = b} {c = c} is k h = record {
   added = h.added;
   list = subst (Reports a c) (append-nil h.added) (adds_on a b c h.added [] h.list (subst (λ r. OnErr r (Reports b c [])) is k.refused));
@@ -108,7 +129,7 @@ passed_refused {q = q} {y = y} {rest = rest} {a = a} {b = b} {c = c} is k h = re
 }
 
 -- a part, and more after it
-pub passed_on : {all part l : Trace} {a b c : Status} (k : Trace) → Passed all (follows part k) a b → Passed part l b c → Passed all (follows l k) a c
+pub passed_on : {K : Type 0} {all part l : Trace} {a b c : Status K} (k : Trace) → Passed all (follows part k) a b → Passed part l b c → Passed all (follows l k) a c
 passed_on {all = all} {part = part} {l = l} {a = a} {b = b} {c = c} k h way = record {
   added = h.added ++ way.added;
   list = adds_on a b c h.added way.added h.list way.list;
@@ -122,7 +143,7 @@ passed_on {all = all} {part = part} {l = l} {a = a} {b = b} {c = c} k h way = re
 }
 
 -- a part that is all the rest, from a scope that was changed for it, and put back
-pub passed_lent : {all rest : Trace} {a b c d e : Status} {mid : Trace} → c.errors ≡ b.errors → e.errors ≡ d.errors → adding c.tally mid ≡ adding b.tally rest → mid.errors ≡ rest.errors → mid.budget ≡ rest.budget → e.tally ≡ d.tally → {left : Trace} → Keeps a e → Passed mid left c d → Passed all rest a b → Passed all left a e
+pub passed_lent : {K : Type 0} {all rest : Trace} {a b c d e : Status K} {mid : Trace} → c.errors ≡ b.errors → e.errors ≡ d.errors → adding c.tally mid ≡ adding b.tally rest → mid.errors ≡ rest.errors → mid.budget ≡ rest.budget → e.tally ≡ d.tally → {left : Trace} → Keeps a e → Passed mid left c d → Passed all rest a b → Passed all left a e
 passed_lent {all = all} {rest = rest} {a = a} {b = b} {c = c} {d = d} {e = e} {mid = mid} before after counts errors budget tally {left = left} kept way h = record {
   added = h.added ++ way.added;
   list = adds_on a b e h.added way.added h.list (after ∙ way.list ∙ ap (λ o. with_errors o way.added) before);
@@ -134,35 +155,38 @@ passed_lent {all = all} {rest = rest} {a = a} {b = b} {c = c} {d = d} {e = e} {m
 
 -- CHANGES OF A SCOPE
 
-pub keeps_elsewhere : {a b : Status} → Elsewhere a b → b.path ≡ a.path → Keeps a b
-keeps_elsewhere {a = a} h p = record { bundle = h.bundle; environment = h.environment; path = p; list = h.list; stored = h.stored; is_plain = h.is_plain; less = subst (λ n. at_most n ≤ at_most a.budget) (sym h.budget) (omega arith) }
+pub keeps_elsewhere : {K : Type 0} {a b : Status K} → Elsewhere a b → b.path ≡ a.path → Keeps a b
+keeps_elsewhere {a = a} h p = record { bundle = h.bundle; borrow = h.borrow; environment = h.environment; path = p; list = h.list; stored = h.stored; is_plain = h.is_plain; less = subst (λ n. at_most n ≤ at_most a.budget) (sym h.budget) (omega arith); spends = h.spends }
 
 -- changed, walked and changed back
-pub keeps_around : {a b d e : Status} → Elsewhere a b → Keeps b d → Elsewhere d e → e.path ≡ a.path → Keeps a e
+pub keeps_around : {K : Type 0} {a b d e : Status K} → Elsewhere a b → Keeps b d → Elsewhere d e → e.path ≡ a.path → Keeps a e
 keeps_around {a = a} {d = d} h k j p = record {
   bundle = j.bundle ∙ k.bundle ∙ h.bundle;
+  borrow = j.borrow ∙ k.borrow ∙ h.borrow;
   environment = j.environment ∙ k.environment ∙ h.environment;
   path = p;
   list = j.list ∙ k.list ∙ h.list;
   stored = j.stored ∙ k.stored ∙ h.stored;
   is_plain = j.is_plain ∙ k.is_plain ∙ h.is_plain;
   less = subst (λ n. at_most n ≤ at_most a.budget) (sym j.budget) (subst (λ n. at_most d.budget ≤ at_most n) h.budget k.less);
+  spends = spends_on h.spends (spends_on k.spends j.spends);
 }
 
 -- another environment for a walk, and the old one again
-pub keeps_back : {a b c d e : Status} → Keeps a b → Keeps c d → c.bundle ≡ b.bundle → c.path ≡ b.path → c.list ≡ b.list → c.stored ≡ b.stored → c.is_plain ≡ b.is_plain → c.budget ≡ b.budget
-    → e.bundle ≡ d.bundle → e.path ≡ d.path → e.list ≡ d.list → e.stored ≡ d.stored → e.is_plain ≡ d.is_plain → e.budget ≡ d.budget → e.environment ≡ b.environment → Keeps a e
-keeps_back {a = a} {c = c} {d = d} k w cb cp cl cs ci cn eb ep el es ei en ee = record {
-  bundle = eb ∙ w.bundle ∙ cb ∙ k.bundle;
-  environment = ee ∙ k.environment;
-  path = ep ∙ w.path ∙ cp ∙ k.path;
-  list = el ∙ w.list ∙ cl ∙ k.list;
-  stored = es ∙ w.stored ∙ cs ∙ k.stored;
-  is_plain = ei ∙ w.is_plain ∙ ci ∙ k.is_plain;
+pub keeps_back : {K : Type 0} {a b c d e : Status K} → Keeps a b → Keeps c d → c ≡ record b { environment = c.environment } → e ≡ record d { environment = e.environment } → e.environment ≡ b.environment → Keeps a e
+keeps_back {a = a} {b = b} {c = c} {d = d} {e = e} k w to from back = record {
+  bundle = ap (λ s. s.bundle) from ∙ w.bundle ∙ ap (λ s. s.bundle) to ∙ k.bundle;
+  borrow = ap (λ s. s.borrow) from ∙ w.borrow ∙ ap (λ s. s.borrow) to ∙ k.borrow;
+  environment = back ∙ k.environment;
+  path = ap (λ s. s.path) from ∙ w.path ∙ ap (λ s. s.path) to ∙ k.path;
+  list = ap (λ s. s.list) from ∙ w.list ∙ ap (λ s. s.list) to ∙ k.list;
+  stored = ap (λ s. s.stored) from ∙ w.stored ∙ ap (λ s. s.stored) to ∙ k.stored;
+  is_plain = ap (λ s. s.is_plain) from ∙ w.is_plain ∙ ap (λ s. s.is_plain) to ∙ k.is_plain;
   less =
-      let first : at_most c.budget ≤ at_most a.budget = subst (λ n. at_most n ≤ at_most a.budget) (sym cn) k.less in
+      let first : at_most c.budget ≤ at_most a.budget = subst (λ n. at_most n ≤ at_most a.budget) (sym (ap (λ s. s.budget) to)) k.less in
       let all : at_most d.budget ≤ at_most a.budget = omega (arith, first, w.less) in
-      subst (λ n. at_most n ≤ at_most a.budget) (sym en) all;
+      subst (λ n. at_most n ≤ at_most a.budget) (sym (ap (λ s. s.budget) from)) all;
+  spends = spends_on k.spends (spends_on (spends_none (ap (λ s. s.tally) to) (ap (λ s. s.budget) to)) (spends_on w.spends (spends_none (ap (λ s. s.tally) from) (ap (λ s. s.budget) from))));
 }
 
 -- one more placeable
@@ -186,9 +210,9 @@ at_false : {P : Type 0} {r : Bool} → r ≡ false → OnFalse r P → P
 at_false {P = P} h k = subst (λ r. OnFalse r P) h k
 
 -- one was taken from the budget, and so one more placeable is counted
-pub opened_on : {r : Bool} {a c : Status} (t : Trace) → r ≡ true → TakesOne r a c → adding c.tally t ≡ adding a.tally (record { errors = t.errors; budget = t.budget; opened = t.opened + 1; longest = t.longest; entered = t.entered })
+pub opened_on : {K : Type 0} {r : Bool} {a c : Status K} (t : Trace) → r ≡ true → TakesOne r a c → adding c.tally t ≡ adding a.tally (record { errors = t.errors; budget = t.budget; opened = t.opened + 1; longest = t.longest; entered = t.entered })
 opened_on {a = a} t is k = ap (λ n. adding n t) (at_true is k.opened) ∙ opened_counts a.tally t
 
 -- none was left to take
-pub struck_same : {r : Bool} {a c : Status} → r ≡ false → TakesOne r a c → c.tally ≡ a.tally
+pub struck_same : {K : Type 0} {r : Bool} {a c : Status K} → r ≡ false → TakesOne r a c → c.tally ≡ a.tally
 struck_same is k = at_false is k.same

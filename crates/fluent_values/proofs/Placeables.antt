@@ -21,22 +21,22 @@ abbrev pub placing_one : Bool → Expression → Walk Text
 placing_one one e s f env path = part with_work s f env path one (placeable e)
 
 -- what is to come behind its first mark
-abbrev pub unmarked_at : Status → Bool → Expression → Budget → Worked Text
+abbrev pub unmarked_at : {K : Type 0} → Status K → Bool → Expression → Budget → Worked Text
 unmarked_at a one e = unmarked a.bundle (work a.bundle) a.environment (on_path a.path) one e
 
 -- whether it is marked is the same in a scope that kept the bundle
-pub marked_as : {m : Bool} {a b : Status} (one : Bool) (e : Expression) → Keeps a b → m ≡ is_marked b.bundle.isolates one e → m ≡ is_marked a.bundle.isolates one e
+pub marked_as : {K : Type 0} {m : Bool} {a b : Status K} (one : Bool) (e : Expression) → Keeps a b → m ≡ is_marked b.bundle.isolates one e → m ≡ is_marked a.bundle.isolates one e
 marked_as one e keeps is = is ∙ ap (λ s. is_marked s.isolates one e) keeps.bundle
 
 -- none was left to take: nothing is to come but the error
-pub strikes : {T : Type 0} {r : Bool} (x : T) (a b : Status) (one : Bool) (e : Expression) (w : Sink) → (a.budget ≡ struck → ⊥) → r ≡ can_open a.budget → r ≡ false → TakesOne r a b → Along (Ok x) (from_here a (placing_one one e)) (tells (resolver_error too_many_placeables ∷ []) (given [] b.budget)) w w a b
+pub strikes : {T K : Type 0} {r : Bool} (x : T) (a b : Status K) (one : Bool) (e : Expression) (w : Sink) → (a.budget ≡ struck → ⊥) → r ≡ can_open a.budget → r ≡ false → TakesOne r a b → Along (Ok x) (from_here a (placing_one one e)) (tells (resolver_error too_many_placeables ∷ []) (given [] b.budget)) w w a b
 strikes x a b one e w left opens is takes =
     let short = part_strikes a.bundle (work a.bundle) a.environment (on_path a.path) one e a.budget left (sym opens ∙ is)
     ∙ ap (λ n. tells (resolver_error too_many_placeables ∷ []) (given [] n)) (sym takes.budget) in
     passes refl (passed_still takes.errors (struck_same is takes) takes.keeps) (turns short (starts a w _))
 
 -- one was taken, and the first mark was written
-pub marks : {T : Type 0} {q : Result T Halt} {r m : Bool} {w w' : Sink} (x : T) (a b : Status) (one : Bool) (e : Expression) → r ≡ can_open a.budget → r ≡ true → TakesOne r a b → m ≡ is_marked b.bundle.isolates one e → SinkTook q (first_mark m) w w' → Went q (from_here a (placing_one one e)) (unmarked_at a one e b.budget) w w' a b
+pub marks : {T K : Type 0} {q : Result T Halt} {r m : Bool} {w w' : Sink} (x : T) (a b : Status K) (one : Bool) (e : Expression) → r ≡ can_open a.budget → r ≡ true → TakesOne r a b → m ≡ is_marked b.bundle.isolates one e → SinkTook q (first_mark m) w w' → Went q (from_here a (placing_one one e)) (unmarked_at a one e b.budget) w w' a b
 marks {w = w} x a b one e opens is takes marked took =
     let first = first_mark (is_marked a.bundle.isolates one e) in
     let rest = prepend first (unmarked_at a one e b.budget) in

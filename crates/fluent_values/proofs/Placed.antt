@@ -61,7 +61,7 @@ pub placed_as : (number : Text → Option ℕ) (rs rs' : List Reference) (p : Pl
 placed_as number rs rs' p is h = subst (λ rs. IsBefore number rs (seen p)) is h
 
 -- a scope that kept what is stored has the same numbers
-pub placed_still : (a b : Status) (rs : List Reference) (p : Place) → b.stored ≡ a.stored → IsBefore a.stored.numbers rs (seen p) → IsBefore b.stored.numbers rs (seen p)
+pub placed_still : {K : Type 0} (a b : Status K) (rs : List Reference) (p : Place) → b.stored ≡ a.stored → IsBefore a.stored.numbers rs (seen p) → IsBefore b.stored.numbers rs (seen p)
 placed_still a b rs p kept h = subst (λ s. IsBefore s.numbers rs (seen p)) (sym kept) h
 
 -- the first reference, and what stands behind it

@@ -47,33 +47,33 @@ none_left (x ∷ xs) (suc i) h = none_left xs i (omega arith)
 -- ELEMENTS
 
 -- what these elements give
-abbrev pub giving : Status → Bool → List PatternElement → Budget → Worked Text
+abbrev pub giving : {K : Type 0} → Status K → Bool → List PatternElement → Budget → Worked Text
 giving a one es b = walked a (λ s f env path. elements with_work s f env path one (pattern_of (map element_view es))) b
 
-pub giving_all : (a : Status) (one : Bool) (p : of_pattern.Pattern) (b : Budget) → walked a (λ s f env path. elements with_work s f env path one (pattern_view p)) b ≡ giving a one p.elements.items b
+pub giving_all : {K : Type 0} (a : Status K) (one : Bool) (p : of_pattern.Pattern) (b : Budget) → walked a (λ s f env path. elements with_work s f env path one (pattern_view p)) b ≡ giving a one p.elements.items b
 giving_all a one p b = ap (λ q. walked a (λ s f env path. elements with_work s f env path one q) b) (view_pattern p)
 
-giving_next : (a : Status) (one : Bool) (es rest : List PatternElement) (e : PatternElement) (b : Budget) → es ≡ e ∷ rest → (b ≡ struck → ⊥) → giving a one es b ≡ sequence (walked a (λ s f env path. part with_work s f env path one (element_view e)) b) (giving a one rest)
+giving_next : {K : Type 0} (a : Status K) (one : Bool) (es rest : List PatternElement) (e : PatternElement) (b : Budget) → es ≡ e ∷ rest → (b ≡ struck → ⊥) → giving a one es b ≡ sequence (walked a (λ s f env path. part with_work s f env path one (element_view e)) b) (giving a one rest)
 giving_next a one es rest e b h n =
     ap (λ es. giving a one es b) h
     ∙ elements_more a.bundle (work a.bundle) a.environment (on_path a.path) one (element_view e) (pattern_of (map element_view rest)) b n
 
-pub giving_text : (a : Status) (one : Bool) (es rest : List PatternElement) (e : PatternElement) (t : Text) (b : Budget) → es ≡ e ∷ rest → (b ≡ struck → ⊥) → element_view e ≡ text t → giving a one es b ≡ prepend (a.bundle.transform t) (giving a one rest b)
+pub giving_text : {K : Type 0} (a : Status K) (one : Bool) (es rest : List PatternElement) (e : PatternElement) (t : Text) (b : Budget) → es ≡ e ∷ rest → (b ≡ struck → ⊥) → element_view e ≡ text t → giving a one es b ≡ prepend (a.bundle.transform t) (giving a one rest b)
 giving_text a one es rest e t b h n is =
     giving_next a one es rest e b h n
     ∙ ap (λ v. sequence (walked a (λ s f env path. part with_work s f env path one v) b) (giving a one rest)) is
     ∙ ap (λ m. sequence m (giving a one rest)) (part_text a.bundle (work a.bundle) a.environment (on_path a.path) one t b)
     ∙ given_first (a.bundle.transform t) b (giving a one rest)
 
-pub giving_placeable : (a : Status) (one : Bool) (es rest : List PatternElement) (e : PatternElement) (x : Expression) (b : Budget) → es ≡ e ∷ rest → (b ≡ struck → ⊥) → element_view e ≡ placeable x → giving a one es b ≡ sequence (walked a (λ s f env path. part with_work s f env path one (placeable x)) b) (giving a one rest)
+pub giving_placeable : {K : Type 0} (a : Status K) (one : Bool) (es rest : List PatternElement) (e : PatternElement) (x : Expression) (b : Budget) → es ≡ e ∷ rest → (b ≡ struck → ⊥) → element_view e ≡ placeable x → giving a one es b ≡ sequence (walked a (λ s f env path. part with_work s f env path one (placeable x)) b) (giving a one rest)
 giving_placeable a one es rest e x b h n is =
     giving_next a one es rest e b h n
     ∙ ap (λ v. sequence (walked a (λ s f env path. part with_work s f env path one v) b) (giving a one rest)) is
 
-pub giving_end : (a : Status) (one : Bool) (es : List PatternElement) (b : Budget) → es ≡ [] → giving a one es b ≡ given [] b
+pub giving_end : {K : Type 0} (a : Status K) (one : Bool) (es : List PatternElement) (b : Budget) → es ≡ [] → giving a one es b ≡ given [] b
 giving_end a one es b h = ap (λ es. giving a one es b) h ∙ elements_end a.bundle (work a.bundle) a.environment (on_path a.path) one b
 
-pub giving_struck : (a : Status) (one : Bool) (es : List PatternElement) (b : Budget) → b ≡ struck → giving a one es b ≡ given [] b
+pub giving_struck : {K : Type 0} (a : Status K) (one : Bool) (es : List PatternElement) (b : Budget) → b ≡ struck → giving a one es b ≡ given [] b
 giving_struck a one es b h =
     ap (giving a one es) h
     ∙ elements_struck a.bundle (work a.bundle) a.environment (on_path a.path) one (pattern_of (map element_view es))
@@ -90,31 +90,31 @@ label_walk xs s f env path = named with_work s f env path (nameds_of (map named_
 abbrev pub resolving : Inline → Walk (Value Text)
 resolving x s f env path = resolved with_work s f env path x
 
-pub placing_next : (a : Status) (xs rest : List of_inline.InlineExpression) (x : of_inline.InlineExpression) (b : Budget) → xs ≡ x ∷ rest → walked a (place_walk xs) b ≡ and_then (walked a (resolving (inline_view x)) b) (λ v n. mapping (λ vs. v ∷ vs) (walked a (place_walk rest) n))
+pub placing_next : {K : Type 0} (a : Status K) (xs rest : List of_inline.InlineExpression) (x : of_inline.InlineExpression) (b : Budget) → xs ≡ x ∷ rest → walked a (place_walk xs) b ≡ and_then (walked a (resolving (inline_view x)) b) (λ v n. mapping (λ vs. v ∷ vs) (walked a (place_walk rest) n))
 placing_next a xs rest x b h =
     ap (λ xs. walked a (place_walk xs) b) h
     ∙ positional_more a.bundle (work a.bundle) a.environment (on_path a.path) (inline_view x) (inlines_of (map inline_view rest)) b
 
-pub placing_end : (a : Status) (xs : List of_inline.InlineExpression) (b : Budget) → xs ≡ [] → walked a (place_walk xs) b ≡ given [] b
+pub placing_end : {K : Type 0} (a : Status K) (xs : List of_inline.InlineExpression) (b : Budget) → xs ≡ [] → walked a (place_walk xs) b ≡ given [] b
 placing_end a xs b h = ap (λ xs. walked a (place_walk xs) b) h ∙ positional_none a.bundle (work a.bundle) a.environment (on_path a.path) b
 
-pub labelling_next : (a : Status) (xs rest : List of_named.NamedArgument) (x : of_named.NamedArgument) (b : Budget) → xs ≡ x ∷ rest → walked a (label_walk xs) b ≡ and_then (walked a (resolving (inline_view x.value)) b) (λ v n. mapping (λ vs. (x.name.name.now, v) ∷ vs) (walked a (label_walk rest) n))
+pub labelling_next : {K : Type 0} (a : Status K) (xs rest : List of_named.NamedArgument) (x : of_named.NamedArgument) (b : Budget) → xs ≡ x ∷ rest → walked a (label_walk xs) b ≡ and_then (walked a (resolving (inline_view x.value)) b) (λ v n. mapping (λ vs. (x.name.name.now, v) ∷ vs) (walked a (label_walk rest) n))
 labelling_next a xs rest x b h =
     ap (λ xs. walked a (label_walk xs) b) h
     ∙ ap (λ n. walked a (λ s f env path. named with_work s f env path (nameds_of (n ∷ map named_view rest))) b) (view_named x)
     ∙ named_more a.bundle (work a.bundle) a.environment (on_path a.path) x.name.name.now (inline_view x.value) (nameds_of (map named_view rest)) b
 
-pub labelling_end : (a : Status) (xs : List of_named.NamedArgument) (b : Budget) → xs ≡ [] → walked a (label_walk xs) b ≡ given [] b
+pub labelling_end : {K : Type 0} (a : Status K) (xs : List of_named.NamedArgument) (b : Budget) → xs ≡ [] → walked a (label_walk xs) b ≡ given [] b
 labelling_end a xs b h = ap (λ xs. walked a (label_walk xs) b) h ∙ named_none a.bundle (work a.bundle) a.environment (on_path a.path) b
 
 -- what is made of the value of an argument, where these are still to come
-abbrev pub placing_more : Status → List of_inline.InlineExpression → Value Text → Budget → Worked (List (Value Text))
+abbrev pub placing_more : {K : Type 0} → Status K → List of_inline.InlineExpression → Value Text → Budget → Worked (List (Value Text))
 placing_more a rest v b = mapping (λ vs. v ∷ vs) (walked a (place_walk rest) b)
 
 abbrev pub labelled : Text → Value Text → Text × Value Text
 labelled k v = (k, v)
 
-abbrev pub labelling_more : Status → List of_named.NamedArgument → Text → Value Text → Budget → Worked (List (Text × Value Text))
+abbrev pub labelling_more : {K : Type 0} → Status K → List of_named.NamedArgument → Text → Value Text → Budget → Worked (List (Text × Value Text))
 labelling_more a rest k v b = mapping (λ vs. labelled k v ∷ vs) (walked a (label_walk rest) b)
 
 -- the named arguments of a call
@@ -129,14 +129,14 @@ abbrev pub pairing : List (Value Text) → Map (Value Text) → Budget → Worke
 pairing vs m b = given (vs, m) b
 
 -- what is made of the values of positional arguments
-abbrev pub naming_after : Status → List of_named.NamedArgument → List (Value Text) → Budget → Worked (List (Value Text) × Map (Value Text))
+abbrev pub naming_after : {K : Type 0} → Status K → List of_named.NamedArgument → List (Value Text) → Budget → Worked (List (Value Text) × Map (Value Text))
 naming_after a ns vs b = and_then (walked a (naming ns) b) (pairing vs)
 
 -- the values of a call's arguments
 abbrev pub calling : Arguments → Walk (List (Value Text) × Map (Value Text))
 calling x s f env path = called with_work s f env path x
 
-pub calling_at : (a : Status) (x : of_call.CallArguments) (ps : List of_inline.InlineExpression) (ns : List of_named.NamedArgument) (b : Budget) → ps ≡ (of_call.out-CallArguments x).positional.items → ns ≡ named_in x → walked a (calling (arguments_view x)) b ≡ and_then (walked a (place_walk ps) b) (naming_after a ns)
+pub calling_at : {K : Type 0} (a : Status K) (x : of_call.CallArguments) (ps : List of_inline.InlineExpression) (ns : List of_named.NamedArgument) (b : Budget) → ps ≡ (of_call.out-CallArguments x).positional.items → ns ≡ named_in x → walked a (calling (arguments_view x)) b ≡ and_then (walked a (place_walk ps) b) (naming_after a ns)
 calling_at a x ps ns b hp hn =
     ap (λ x. walked a (calling x) b) (view_arguments x)
     ∙ called_is a.bundle (work a.bundle) a.environment (on_path a.path) (inlines_of (map inline_view (of_call.out-CallArguments x).positional.items)) (nameds_of (map named_view (named_in x))) b
@@ -157,21 +157,21 @@ writing x s f env path = written with_work s f env path x
 abbrev pub losing : Inline → Walk Text
 losing x s f env path = loses with_work s f env x
 
-texting : Status → Inline → Text → Budget → Worked Text
+texting : {K : Type 0} → Status K → Inline → Text → Budget → Worked Text
 texting a x id b = variable_text with_work a.bundle (work a.bundle) a.environment x (get id (variables a.environment)) b
 
-variable_written : (a : Status) (x : Inline) (id : Text) (b : Budget) → x ≡ variable id → walked a (writing x) b ≡ texting a x id b
+variable_written : {K : Type 0} (a : Status K) (x : Inline) (id : Text) (b : Budget) → x ≡ variable id → walked a (writing x) b ≡ texting a x id b
 unfolding texting
 variable_written a x id b h = subst (λ x. walked a (writing x) b ≡ texting a x id b) (sym h) (written_variable a.bundle (work a.bundle) a.environment (on_path a.path) id b)
 
-pub variable_found : (a : Status) (x : Inline) (id : Text) (v : Value Text) (b : Budget) → x ≡ variable id → get id (variables a.environment) ≡ Some v → walked a (writing x) b ≡ given (shown a.bundle v) b
+pub variable_found : {K : Type 0} (a : Status K) (x : Inline) (id : Text) (v : Value Text) (b : Budget) → x ≡ variable id → get id (variables a.environment) ≡ Some v → walked a (writing x) b ≡ given (shown a.bundle v) b
 unfolding texting
 variable_found a x id v b h is =
     variable_written a x id b h
     ∙ ap (λ o. variable_text with_work a.bundle (work a.bundle) a.environment x o b) is
     ∙ variable_text_some a.bundle (work a.bundle) a.environment (on_path a.path) x v b
 
-pub variable_lost : (a : Status) (x : Inline) (id : Text) (m : Map (Value Text)) (b : Budget) → x ≡ variable id → a.environment ≡ application m → get id m ≡ None → walked a (writing x) b ≡ walked a (losing x) b
+pub variable_lost : {K : Type 0} (a : Status K) (x : Inline) (id : Text) (m : Map (Value Text)) (b : Budget) → x ≡ variable id → a.environment ≡ application m → get id m ≡ None → walked a (writing x) b ≡ walked a (losing x) b
 unfolding texting
 variable_lost a x id m b h env is =
     variable_written a x id b h
@@ -181,7 +181,7 @@ variable_lost a x id m b h env is =
     ∙ missing_application a.bundle (work a.bundle) a.environment (on_path a.path) m x b
     ∙ sym (loses_is a.bundle (work a.bundle) a.environment (on_path a.path) x b)
 
-pub variable_unseen : (a : Status) (x : Inline) (id : Text) (m : Map (Value Text)) (b : Budget) → x ≡ variable id → a.environment ≡ local m → get id m ≡ None → walked a (writing x) b ≡ given (in_braces (fallback x)) b
+pub variable_unseen : {K : Type 0} (a : Status K) (x : Inline) (id : Text) (m : Map (Value Text)) (b : Budget) → x ≡ variable id → a.environment ≡ local m → get id m ≡ None → walked a (writing x) b ≡ given (in_braces (fallback x)) b
 unfolding texting
 variable_unseen a x id m b h env is =
     variable_written a x id b h
@@ -190,21 +190,21 @@ variable_unseen a x id m b h env is =
     ∙ ap (λ e. missing with_work a.bundle (work a.bundle) a.environment e x b) env
     ∙ missing_local a.bundle (work a.bundle) a.environment (on_path a.path) m x b
 
-valuing : Status → Inline → Text → Budget → Worked (Value Text)
+valuing : {K : Type 0} → Status K → Inline → Text → Budget → Worked (Value Text)
 valuing a x id b = variable_value with_work a.bundle (work a.bundle) a.environment x (get id (variables a.environment)) b
 
-variable_resolved : (a : Status) (x : Inline) (id : Text) (b : Budget) → x ≡ variable id → walked a (resolving x) b ≡ valuing a x id b
+variable_resolved : {K : Type 0} (a : Status K) (x : Inline) (id : Text) (b : Budget) → x ≡ variable id → walked a (resolving x) b ≡ valuing a x id b
 unfolding valuing
 variable_resolved a x id b h = subst (λ x. walked a (resolving x) b ≡ valuing a x id b) (sym h) (resolved_variable a.bundle (work a.bundle) a.environment (on_path a.path) id b)
 
-pub value_found : (a : Status) (x : Inline) (id : Text) (v : Value Text) (b : Budget) → x ≡ variable id → get id (variables a.environment) ≡ Some v → walked a (resolving x) b ≡ given v b
+pub value_found : {K : Type 0} (a : Status K) (x : Inline) (id : Text) (v : Value Text) (b : Budget) → x ≡ variable id → get id (variables a.environment) ≡ Some v → walked a (resolving x) b ≡ given v b
 unfolding valuing
 value_found a x id v b h is =
     variable_resolved a x id b h
     ∙ ap (λ o. variable_value with_work a.bundle (work a.bundle) a.environment x o b) is
     ∙ variable_value_some a.bundle (work a.bundle) a.environment (on_path a.path) x v b
 
-pub value_lost : (a : Status) (x : Inline) (id : Text) (m : Map (Value Text)) (b : Budget) → x ≡ variable id → a.environment ≡ application m → get id m ≡ None → walked a (resolving x) b ≡ tells (lost_of x) (given error_value b)
+pub value_lost : {K : Type 0} (a : Status K) (x : Inline) (id : Text) (m : Map (Value Text)) (b : Budget) → x ≡ variable id → a.environment ≡ application m → get id m ≡ None → walked a (resolving x) b ≡ tells (lost_of x) (given error_value b)
 unfolding valuing
 value_lost a x id m b h env is =
     variable_resolved a x id b h
@@ -213,7 +213,7 @@ value_lost a x id m b h env is =
     ∙ ap (λ e. mapping (λ t. error_value) (missing with_work a.bundle (work a.bundle) a.environment e x b)) env
     ∙ ap (mapping (λ t. error_value)) (missing_application a.bundle (work a.bundle) a.environment (on_path a.path) m x b)
 
-pub value_unseen : (a : Status) (x : Inline) (id : Text) (m : Map (Value Text)) (b : Budget) → x ≡ variable id → a.environment ≡ local m → get id m ≡ None → walked a (resolving x) b ≡ given error_value b
+pub value_unseen : {K : Type 0} (a : Status K) (x : Inline) (id : Text) (m : Map (Value Text)) (b : Budget) → x ≡ variable id → a.environment ≡ local m → get id m ≡ None → walked a (resolving x) b ≡ given error_value b
 unfolding valuing
 value_unseen a x id m b h env is =
     variable_resolved a x id b h
@@ -228,7 +228,7 @@ value_unseen a x id m b h env is =
 abbrev pub answering : Inline → Text → List (Value Text) → Map (Value Text) → Walk Text
 answering x id vs m s f env path = function_text with_work s f env x (function_found (get id s.ids)) vs m
 
-pub answer_lost : (a : Status) (x : Inline) (id : Text) (vs : List (Value Text)) (m : Map (Value Text)) (b : Budget) → None ≡ option_map (λ g. g vs m) (function_found (get id a.bundle.ids)) → walked a (answering x id vs m) b ≡ walked a (losing x) b
+pub answer_lost : {K : Type 0} (a : Status K) (x : Inline) (id : Text) (vs : List (Value Text)) (m : Map (Value Text)) (b : Budget) → None ≡ option_map (λ g. g vs m) (function_found (get id a.bundle.ids)) → walked a (answering x id vs m) b ≡ walked a (losing x) b
 answer_lost a x id vs m b h = by_case (function_found (get id a.bundle.ids)) refl h
   where
     by_case : (o : Option (Function Text)) → function_found (get id a.bundle.ids) ≡ o → None ≡ option_map (λ g. g vs m) o → walked a (answering x id vs m) b ≡ walked a (losing x) b
@@ -238,7 +238,7 @@ answer_lost a x id vs m b h = by_case (function_found (get id a.bundle.ids)) ref
         ∙ sym (loses_is a.bundle (work a.bundle) a.environment (on_path a.path) x b)
     by_case (Some g) is h = cc
 
-pub answer_is : (a : Status) (x : Inline) (id : Text) (vs : List (Value Text)) (m : Map (Value Text)) (v : Value Text) (b : Budget) → Some v ≡ option_map (λ g. g vs m) (function_found (get id a.bundle.ids)) → walked a (answering x id vs m) b ≡ answer_text with_work a.bundle (work a.bundle) a.environment x v b
+pub answer_is : {K : Type 0} (a : Status K) (x : Inline) (id : Text) (vs : List (Value Text)) (m : Map (Value Text)) (v : Value Text) (b : Budget) → Some v ≡ option_map (λ g. g vs m) (function_found (get id a.bundle.ids)) → walked a (answering x id vs m) b ≡ answer_text with_work a.bundle (work a.bundle) a.environment x v b
 answer_is a x id vs m v b h = by_case (function_found (get id a.bundle.ids)) refl h
   where
     by_case : (o : Option (Function Text)) → function_found (get id a.bundle.ids) ≡ o → Some v ≡ option_map (λ g. g vs m) o → walked a (answering x id vs m) b ≡ answer_text with_work a.bundle (work a.bundle) a.environment x v b
@@ -251,7 +251,7 @@ answer_is a x id vs m v b h = by_case (function_found (get id a.bundle.ids)) ref
         same : (v w : Value Text) → Some v ≡ Some w → w ≡ v
         same v w h = cc
 
-pub answer_put : (a : Status) (x : Inline) (v : Value Text) (b : Budget) → answer_text with_work a.bundle (work a.bundle) a.environment x v b ≡ given (shown_answer a.bundle x v) b
+pub answer_put : {K : Type 0} (a : Status K) (x : Inline) (v : Value Text) (b : Budget) → answer_text with_work a.bundle (work a.bundle) a.environment x v b ≡ given (shown_answer a.bundle x v) b
 answer_put a x (text_value t) b = refl
 answer_put a x (number_value n) b = refl
 answer_put a x (custom_value y) b = refl
@@ -270,16 +270,16 @@ no_error content b x values.Error h = absurd (h refl)
 abbrev pub expressing : Expression → Walk Text
 expressing e s f env path = expression with_work s f env path e
 
-pub inline_at : (a : Status) (e : of_expression.Expression) (x : of_inline.InlineExpression) (b : Budget) → e ≡ expressions.Inline x → walked a (expressing (expression_view e)) b ≡ walked a (writing (inline_view x)) b
+pub inline_at : {K : Type 0} (a : Status K) (e : of_expression.Expression) (x : of_inline.InlineExpression) (b : Budget) → e ≡ expressions.Inline x → walked a (expressing (expression_view e)) b ≡ walked a (writing (inline_view x)) b
 inline_at a e x b h =
     ap (λ v. walked a (expressing v) b) (view_in e x h)
     ∙ expression_inline a.bundle (work a.bundle) a.environment (on_path a.path) (inline_view x) b
 
 -- the walk of a variant that was chosen
-abbrev pub chosen_walk : Status → Option Pattern → Budget → Worked Text
+abbrev pub chosen_walk : {K : Type 0} → Status K → Option Pattern → Budget → Worked Text
 chosen_walk a = meant a.bundle (work a.bundle) a.environment (on_path a.path)
 
-pub selecting_at : (a : Status) (x : of_inline.InlineExpression) (vs : List Variant) (b : Budget) → walked a (expressing (select (inline_view x) (variants_of (map variant_view vs)))) b ≡ and_then (walked a (choosing (inline_view x) (variants_of (map variant_view vs))) b) (chosen_walk a)
+pub selecting_at : {K : Type 0} (a : Status K) (x : of_inline.InlineExpression) (vs : List Variant) (b : Budget) → walked a (expressing (select (inline_view x) (variants_of (map variant_view vs)))) b ≡ and_then (walked a (choosing (inline_view x) (variants_of (map variant_view vs))) b) (chosen_walk a)
 selecting_at a x vs b =
     let all = variants_of (map variant_view vs) in
     let goes : Value Text → Option Pattern = λ v. choice (goes_to a.bundle v) (first_default all) all in
@@ -302,10 +302,10 @@ going x p s f env path = go with_work s f env (is_on path p) env path x p
 abbrev pub wholing : Pattern → Walk Text
 wholing p s f env path = whole with_work s f env path p
 
-pub cyclic_at : (a : Status) (x : Inline) (p : Pattern) → is_on (on_path a.path) p ≡ true → from_here a (going x p) ≡ tells (resolver_error cyclic ∷ []) (given (in_braces (fallback x)) a.budget)
+pub cyclic_at : {K : Type 0} (a : Status K) (x : Inline) (p : Pattern) → is_on (on_path a.path) p ≡ true → from_here a (going x p) ≡ tells (resolver_error cyclic ∷ []) (given (in_braces (fallback x)) a.budget)
 cyclic_at a x p h = go_cyclic a.bundle (work a.bundle) a.environment (on_path a.path) a.environment x p a.budget h
 
-pub entered_at : CountsByItself Text → (a b : Status) (x : Inline) (p : Step) → is_on (on_path a.path) (content_at p) ≡ false → b.path ≡ a.path ++ Some p ∷ [] → Elsewhere a b → from_here a (going x (content_at p)) ≡ from_here b (wholing (content_at p))
+pub entered_at : {K : Type 0} → CountsByItself Text → (a b : Status K) (x : Inline) (p : Step) → is_on (on_path a.path) (content_at p) ≡ false → b.path ≡ a.path ++ Some p ∷ [] → Elsewhere a b → from_here a (going x (content_at p)) ≡ from_here b (wholing (content_at p))
 entered_at law a b x p off entered before =
     let q = content_at p in
     go_entered law a.bundle a.environment (on_path a.path) a.environment x q a.budget off
@@ -319,7 +319,7 @@ abbrev pub elementing : Pattern → Walk Text
 elementing p s f env path = elements with_work s f env path (has_one p) p
 
 -- a pattern is its elements, under the path that it begins
-pub begun_at : (a b : Status) (p : Pattern) → on_path b.path ≡ inner (on_path a.path) p → Elsewhere a b → from_here a (wholing p) ≡ entering (length (on_path b.path)) (from_here b (elementing p))
+pub begun_at : {K : Type 0} (a b : Status K) (p : Pattern) → on_path b.path ≡ inner (on_path a.path) p → Elsewhere a b → from_here a (wholing p) ≡ entering (length (on_path b.path)) (from_here b (elementing p))
 begun_at a b p begun before =
     whole_is a.bundle (work a.bundle) a.environment (on_path a.path) p a.budget
     ∙ sym (
@@ -329,18 +329,18 @@ begun_at a b p begun before =
     ∙ ap (λ n. entering (length (inner (on_path a.path) p)) (elements with_work a.bundle (work a.bundle) a.environment (inner (on_path a.path) p) (has_one p) p n)) before.budget)
 
 -- the path is as it was before a pattern began
-pub back : (begun : Bool) (p : Pattern) {a b d e : Status} → StartsPattern begun p a b → d.path ≡ b.path → EndsPattern begun d e → e.path ≡ a.path
+pub back : {K : Type 0} (begun : Bool) (p : Pattern) {a b d e : Status K} → StartsPattern begun p a b → d.path ≡ b.path → EndsPattern begun d e → e.path ≡ a.path
 back true p h k j = j.off ∙ sym h.put
 back false p h k j = j.kept ∙ k ∙ h.kept
 
 -- what a term's pattern gives in the environment that its arguments make
-abbrev pub inside : Status → Inline → Text → Attribute → Map (Value Text) → Budget → Worked Text
+abbrev pub inside : {K : Type 0} → Status K → Inline → Text → Attribute → Map (Value Text) → Budget → Worked Text
 inside a x t at m b = follow with_work a.bundle (work a.bundle) a.environment (local m) (on_path a.path) x t (term_target (get t a.bundle.ids) at) b
 
 abbrev pub locals : Call → Walk (Map (Value Text))
 locals k s f env path = local_of with_work s f env path k
 
-pub term_at : (a : Status) (x : Inline) (t : Text) (at : Attribute) (k : Call) (b : Budget) → x ≡ term t at k → walked a (writing x) b ≡ and_then (walked a (locals k) b) (inside a x t at)
+pub term_at : {K : Type 0} (a : Status K) (x : Inline) (t : Text) (at : Attribute) (k : Call) (b : Budget) → x ≡ term t at k → walked a (writing x) b ≡ and_then (walked a (locals k) b) (inside a x t at)
 term_at a x t at k b h =
     subst (λ x. walked a (writing x) b ≡ and_then (walked a (locals k) b) (inside a x t at)) (sym h)
     (written_term a.bundle (work a.bundle) a.environment (on_path a.path) t at k b)
@@ -358,7 +358,7 @@ follow_in s f env env' other path x id (found p) b = go_in (is_on path p)
     go_in true = refl
     go_in false = refl
 
-pub inside_at : (a c : Status) (x : Inline) (t : Text) (at : Attribute) (m : Map (Value Text)) (g : Target) → c.bundle ≡ a.bundle → c.path ≡ a.path → c.environment ≡ local m → g ≡ term_target (get t a.bundle.ids) at → inside a x t at m c.budget ≡ from_here c (following x t g)
+pub inside_at : {K : Type 0} (a c : Status K) (x : Inline) (t : Text) (at : Attribute) (m : Map (Value Text)) (g : Target) → c.bundle ≡ a.bundle → c.path ≡ a.path → c.environment ≡ local m → g ≡ term_target (get t a.bundle.ids) at → inside a x t at m c.budget ≡ from_here c (following x t g)
 inside_at a c x t at m g hb hp he hg =
     follow_in a.bundle (work a.bundle) a.environment (local m) (local m) (on_path a.path) x t (term_target (get t a.bundle.ids) at) c.budget
     ∙ sym (
@@ -382,17 +382,17 @@ no_placeable (y ∷ es) (suc i) e x t h is p = no_placeable es i e x (rest_text 
     rest_text (placeable z) t = cc
 
 -- what is resolved of a function's answer
-abbrev pub valued : Status → Text → List (Value Text) × Map (Value Text) → Budget → Worked (Value Text)
+abbrev pub valued : {K : Type 0} → Status K → Text → List (Value Text) × Map (Value Text) → Budget → Worked (Value Text)
 valued a id p b = given (function_value with_work a.bundle (work a.bundle) a.environment (function_found (get id a.bundle.ids)) p.0 p.1) b
 
 -- what is written of a function is made of the values of its arguments
-pub function_at : (a : Status) (x : Inline) (id : Text) (k : Arguments) (b : Budget) → x ≡ function id k → walked a (writing x) b ≡ and_then (walked a (calling k) b) (λ p. walked a (answering x id p.0 p.1))
+pub function_at : {K : Type 0} (a : Status K) (x : Inline) (id : Text) (k : Arguments) (b : Budget) → x ≡ function id k → walked a (writing x) b ≡ and_then (walked a (calling k) b) (λ p. walked a (answering x id p.0 p.1))
 function_at a x id k b h =
     subst (λ x. walked a (writing x) b ≡ and_then (walked a (calling k) b) (λ p. walked a (answering x id p.0 p.1))) (sym h)
     (written_function a.bundle (work a.bundle) a.environment (on_path a.path) id k b)
 
 -- the value of a function's answer, an error where there is none
-pub answered_value : {C : Type 0} (content : C → Text) (a : Status) (id : Text) (vs : List (Value Text)) (m : Map (Value Text)) (o : Option (FluentValue C)) → option_map (value_view content) o ≡ option_map (λ g. g vs m) (function_found (get id a.bundle.ids)) → value_view content (unwrap_or o values.Error) ≡ function_value with_work a.bundle (work a.bundle) a.environment (function_found (get id a.bundle.ids)) vs m
+pub answered_value : {C K : Type 0} (content : C → Text) (a : Status K) (id : Text) (vs : List (Value Text)) (m : Map (Value Text)) (o : Option (FluentValue C)) → option_map (value_view content) o ≡ option_map (λ g. g vs m) (function_found (get id a.bundle.ids)) → value_view content (unwrap_or o values.Error) ≡ function_value with_work a.bundle (work a.bundle) a.environment (function_found (get id a.bundle.ids)) vs m
 answered_value content a id vs m o h = by_case o (function_found (get id a.bundle.ids)) h
   where
     by_case : (o : Option (FluentValue _)) (q : Option (Function Text)) → option_map (value_view content) o ≡ option_map (λ g. g vs m) q → value_view content (unwrap_or o values.Error) ≡ function_value with_work a.bundle (work a.bundle) a.environment q vs m

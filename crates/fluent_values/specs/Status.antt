@@ -1,5 +1,5 @@
 -- What a scope is, by content.
-use Rattle.std.specs.Prelude.{◌≡◌, ℕ, ◌-◌, ◌^◌, ◌≤◌, min, List, [], ◌++◌, map, Bool, Option, None, Some}
+use Rattle.std.specs.Prelude.{◌≡◌, ℕ, ◌+◌, ◌-◌, ◌^◌, ◌≤◌, min, List, [], ◌++◌, map, Bool, Option, None, Some}
 use Rattle.std.specs.Option.{option_map}
 use Rattle.std.specs.Borrow.{Bor, MutBor}
 use Rattle.std.specs.declared.vec.Vec.{Vec}
@@ -79,9 +79,10 @@ pub record Stored : Type 0 where
 abbrev pub stored_in : {F : Type 0} → Ids F → Stored
 stored_in m = record { numbers = numbers m; table = table m }
 
--- Its bundle, its environment, its path, what stands in its list of errors and which borrow that is, its budget, and what it counted.
-pub record Status : Type 0 where
+-- Its bundle, and which borrow that is; its environment, its path, what stands in its list of errors and which borrow that is, its budget, and what it counted.
+pub record Status (B : Type 0) : Type 0 where
   pub bundle : Bundle Text
+  pub borrow : Bor B
   pub environment : Environment Text
   pub path : List (Option Step)
   pub errors : Option (List Error)
@@ -126,11 +127,12 @@ ids_in s = (scope_parts s).ids
 abbrev pub counts_in : {C F B : Type 0} → Scope C F B → Counts
 counts_in s = (scope_parts s).counts
 
-abbrev pub status : {C F B : Type 0} → (B → Bundle Text) → (B → Bool) → (F → Function Text) → (C → Text) → Scope C F B → Status
+abbrev pub status : {C F B : Type 0} → (B → Bundle Text) → (B → Bool) → (F → Function Text) → (C → Text) → Scope C F B → Status B
 status meant is_plain answer content s =
     let of = scope_parts s in
     record {
       bundle = with_ids (meant of.bundle.now) (ids answer of.ids);
+      borrow = of.bundle;
       environment = environment_view content of.environment;
       path = of.path;
       errors = option_map (λ e. reported e.now.items) of.errors;
@@ -141,12 +143,22 @@ status meant is_plain answer content s =
       is_plain = is_plain of.bundle.now;
     }
 
--- All but the errors and the counts is as it was, and there is no more budget.
-pub record Keeps (s s' : Status) : Type 0 where
+-- What was opened was taken from the budget: both together are what they were, struck stays struck, and no count falls.
+pub record Spends {B : Type 0} (s s' : Status B) : Type 0 where
+  pub together : counted (s'.tally.opened + at_most s'.budget) ≡ counted (s.tally.opened + at_most s.budget)
+  pub stays_struck : s.budget ≡ struck → s'.budget ≡ struck
+  pub opened : s.tally.opened ≤ s'.tally.opened
+  pub longest : s.tally.longest ≤ s'.tally.longest
+  pub entered : s.tally.entered ≤ s'.tally.entered
+
+-- All but the errors, the budget and the counts is as it was, and what was opened was taken from the budget.
+pub record Keeps {B : Type 0} (s s' : Status B) : Type 0 where
   pub bundle : s'.bundle ≡ s.bundle
+  pub borrow : s'.borrow ≡ s.borrow
   pub environment : s'.environment ≡ s.environment
   pub path : s'.path ≡ s.path
   pub stored : s'.stored ≡ s.stored
   pub list : s'.list ≡ s.list
   pub is_plain : s'.is_plain ≡ s.is_plain
   pub less : at_most s'.budget ≤ at_most s.budget
+  pub spends : Spends s s'

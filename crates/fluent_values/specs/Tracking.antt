@@ -1,6 +1,6 @@
 -- What the calls of a scope do, as walks, and which runs these are.
-use Rattle.std.specs.Prelude.{◌≡◌, List, [], length, false, Option, Some, None}
-use Rattle.fluent_tree.specs.Tree.{Text, Pattern, Expression, Inline, Arguments}
+use Rattle.std.specs.Prelude.{◌≡◌, List, [], length, Bool, true, false, Option, Some, None}
+use Rattle.fluent_tree.specs.Tree.{Text, Pattern, Expression, Inline, Arguments, arguments, no_inlines, no_nameds}
 use Rattle.fluent_tree.specs.Fallback.{fallback, fallback_of, in_braces}
 use Rattle.fluent_meaning.specs.Value.{Value}
 use Rattle.fluent_meaning.specs.Arguments.{Map}
@@ -42,6 +42,12 @@ abbrev pub called_run : Bundle Text → Environment Text → List Pattern → Op
 called_run b env path None n = record { value = ([], []); errors = []; budget = n }
 called_run b env path (Some a) n = arguments_of b env path a n
 
+-- none are given, or two empty lists
+abbrev pub are_none : Option Arguments → Bool
+are_none None = true
+are_none (Some (arguments no_inlines no_nameds)) = true
+are_none _ = false
+
 -- From a scope, a walk is this run beside its counts.
-abbrev pub Runs : {A : Type 0} → Status → Walk A → (Bundle Text → Environment Text → List Pattern → Budget → Ran A) → Type 0
+abbrev pub Runs : {A B : Type 0} → Status B → Walk A → (Bundle Text → Environment Text → List Pattern → Budget → Ran A) → Type 0
 Runs s walk run = (from_here s walk).ran ≡ run s.bundle s.environment (on_path s.path) s.budget

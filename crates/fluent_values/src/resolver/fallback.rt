@@ -1,6 +1,6 @@
 //! Fallbacks: how an expression shows where it can't be resolved.
 
-ghost use Rattle.std.specs.Prelude.{◌≡◌};
+ghost use Rattle.std.specs.Prelude.{◌≡◌, ◌≢◌, Err, false};
 ghost use Rattle.fluent_tree.specs.Fallback.{fallback, dotted, in_braces};
 ghost use Rattle.fluent_tree.specs.View.{inline_view, attribute_of};
 ghost use Rattle.fluent_values.specs.Written.{sink, SinkTook};
@@ -24,8 +24,9 @@ pub(crate) fn put_in_braces<W: Write>(
     out: &mut Output<W>,
     expression: &InlineExpression,
 ) -> Result<(), Halt>
-    ensures { SinkTook result (in_braces (fallback (inline_view expression.now)))
+    ensures took { SinkTook result (in_braces (fallback (inline_view expression.now)))
         (sink W.contents out.old) (sink W.contents out.new) }
+    ensures memory { out.old.is_buffered ≡ false → result ≢ Err Halt.Memory }
 {
     put_text(out, "{")?;
     put_fallback(out, expression)?;
@@ -37,8 +38,9 @@ pub(crate) fn put_fallback<W: Write>(
     out: &mut Output<W>,
     expression: &InlineExpression,
 ) -> Result<(), Halt>
-    ensures { SinkTook result (fallback (inline_view expression.now)) (sink W.contents out.old)
-        (sink W.contents out.new) }
+    ensures took { SinkTook result (fallback (inline_view expression.now))
+        (sink W.contents out.old) (sink W.contents out.new) }
+    ensures memory { out.old.is_buffered ≡ false → result ≢ Err Halt.Memory }
 {
     match expression {
         InlineExpression::StringLiteral { value } => {
@@ -76,8 +78,9 @@ fn put_dotted<W: Write>(
     id: &Identifier,
     attribute: &Option<Identifier>,
 ) -> Result<(), Halt>
-    ensures { SinkTook result (dotted id.now.name.now (attribute_of attribute.now))
+    ensures took { SinkTook result (dotted id.now.name.now (attribute_of attribute.now))
         (sink W.contents out.old) (sink W.contents out.new) }
+    ensures memory { out.old.is_buffered ≡ false → result ≢ Err Halt.Memory }
 {
     put_text(out, id.name)?;
     if let Some(attribute) = attribute {

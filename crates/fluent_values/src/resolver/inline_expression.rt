@@ -1,7 +1,7 @@
 //! Inline expressions.
 #![tactic(auto, unfolding(crate::specs::Status::scope_parts))]
 
-ghost use Rattle.std.specs.Prelude.{◌≡◌, ◌<◌, ◌∷◌, [], map};
+ghost use Rattle.std.specs.Prelude.{◌≡◌, ◌≢◌, ◌<◌, ◌∷◌, [], map, Err, IsOk, None, false};
 ghost use Rattle.fluent_text.specs.Escapes.{unescaped};
 ghost use Rattle.fluent_tree.specs.References.{a_function, in_inline};
 ghost use Rattle.fluent_tree.specs.Tree.{function, variable, term};
@@ -9,7 +9,7 @@ ghost use Rattle.fluent_tree.specs.View.{inline_view, attribute_of, call_view, a
 ghost use Rattle.fluent_meaning.specs.Arguments.{get};
 ghost use Rattle.fluent_meaning.specs.Bundle.{function_found, shown};
 ghost use Rattle.fluent_meaning.specs.Value.{try_number};
-ghost use Rattle.fluent_meaning.specs.Errors.{resolver_error, no_value};
+ghost use Rattle.fluent_meaning.specs.Errors.{resolver_error, no_value, reference_of};
 ghost use Rattle.fluent_meaning.specs.Walk.{written, follow, go, is_on, loses, function_text};
 ghost use Rattle.fluent_meaning.specs.Work.{with_work};
 ghost use Rattle.fluent_values.specs.Along.{Wrote, ReportsIfOk, lost_of, shown_answer};
@@ -298,10 +298,12 @@ pub(crate) fn lose<W: Write, C: FluentType, F: FluentFunction<C>, B: Context<C>>
     out: &mut Output<W>,
     inline: &InlineExpression<'_>,
 ) -> Result<(), Halt>
-    ensures { let at = status B.meant B.is_plain F.answer C.content in
+    ensures wrote { let at = status B.meant B.is_plain F.answer C.content in
         Wrote result
         (λ b below env path. loses with_work b below env (inline_view inline.now))
         (sink W.contents out.old) (sink W.contents out.new) (at scope.old) (at scope.new) }
+    ensures memory { reference_of (inline_view inline.now) ≡ None → out.old.is_buffered ≡ false →
+        result ≢ Err Halt.Memory }
 {
     report_lost(scope, inline)?;
     put_in_braces(out, inline)
@@ -312,8 +314,9 @@ pub(crate) fn report_lost<C: FluentType, F: FluentFunction<C>, B: Context<C>>(
     scope: &mut Scope<'_, '_, '_, '_, '_, C, F, B>,
     inline: &InlineExpression<'_>,
 ) -> Result<(), AllocError>
-    ensures { let at = status B.meant B.is_plain F.answer C.content in
+    ensures reports { let at = status B.meant B.is_plain F.answer C.content in
         ReportsIfOk result (lost_of (inline_view inline.now)) (at scope.old) (at scope.new) }
+    ensures succeeds { reference_of (inline_view inline.now) ≡ None → IsOk result }
 {
     match ResolverError::of(scope.bundle.allocator(), inline)? {
         Some(error) => scope.add_error(error),

@@ -1,13 +1,14 @@
 //! The calls of a scope that resolve a part of a pattern by itself.
 #![tactic(auto, unfolding(crate::specs::Status::scope_parts))]
 
-ghost use Rattle.std.specs.Prelude.{◌≡◌, IsOk, None, map};
+ghost use Rattle.std.specs.Prelude.{◌≡◌, ◌≢◌, Err, IsOk, IsTrue, None, Some, map};
 ghost use Rattle.std.specs.Option.{option_map};
 ghost use Rattle.fluent_tree.specs.View.{arguments_view, expression_view, inline_view, pattern_view};
+ghost use Rattle.fluent_meaning.specs.Errors.{reference_of};
 ghost use Rattle.fluent_meaning.specs.Result.{maybe_tracked, tracked};
 ghost use Rattle.fluent_values.specs.Along.{Got, Wrote};
-ghost use Rattle.fluent_values.specs.Status.{status};
-ghost use Rattle.fluent_values.specs.Tracking.{Runs, called_run, calling, closes, losing, lost_run, maybe_tracks, tracks};
+ghost use Rattle.fluent_values.specs.Status.{bundle_in, status};
+ghost use Rattle.fluent_values.specs.Tracking.{Runs, are_none, called_run, calling, closes, losing, lost_run, maybe_tracks, tracks};
 ghost use Rattle.fluent_values.specs.View.{named, value_view};
 ghost use Rattle.fluent_values.specs.Written.{sink, writer, without_error};
 
@@ -48,8 +49,8 @@ impl<'p, 's, C: FluentType, F: FluentFunction<C>, B: Context<C>> Scope<
     /// # Errors
     ///
     /// `Writer` where a write failed, `Zero` where a write of a nonempty piece took no byte, `Memory` where memory
-    /// was refused. Then what was written begins the text, and what was added begins the errors. Environment and
-    /// path are as before, whatever is answered.
+    /// was refused. Then what was written begins the text, and what was added begins the errors. Bundle, environment
+    /// and path are as before, a limit that was struck stays so, and no count falls, whatever is answered.
     pub fn track<W: Write>(
         &mut self,
         w: &mut Counting<W>,
@@ -64,6 +65,7 @@ impl<'p, 's, C: FluentType, F: FluentFunction<C>, B: Context<C>> Scope<
             let p = pattern_view pattern.now in
             let x = inline_view inline.now in
             Runs (at self.old) (tracks p x) (λ b env path. tracked b env path p x) }
+        ensures bundle { bundle_in self.new ≡ bundle_in self.old }
     {
         calls_pass_through::<LinkedList<u8>>();
         let mut unused = String::new(self.bundle.allocator());
@@ -84,8 +86,8 @@ impl<'p, 's, C: FluentType, F: FluentFunction<C>, B: Context<C>> Scope<
     /// # Errors
     ///
     /// `Writer` where a write failed, `Zero` where a write of a nonempty piece took no byte, `Memory` where memory
-    /// was refused. Then what was written begins the text, and what was added begins the errors. Environment and
-    /// path are as before, whatever is answered.
+    /// was refused. Then what was written begins the text, and what was added begins the errors. Bundle, environment
+    /// and path are as before, a limit that was struck stays so, and no count falls, whatever is answered.
     pub fn maybe_track<W: Write>(
         &mut self,
         w: &mut Counting<W>,
@@ -100,6 +102,7 @@ impl<'p, 's, C: FluentType, F: FluentFunction<C>, B: Context<C>> Scope<
             let p = pattern_view pattern.now in
             let e = expression_view expression.now in
             Runs (at self.old) (maybe_tracks p e) (λ b env path. maybe_tracked b env path p e) }
+        ensures bundle { bundle_in self.new ≡ bundle_in self.old }
     {
         calls_pass_through::<LinkedList<u8>>();
         let mut unused = String::new(self.bundle.allocator());
@@ -119,8 +122,9 @@ impl<'p, 's, C: FluentType, F: FluentFunction<C>, B: Context<C>> Scope<
     /// # Errors
     ///
     /// `Writer` where a write failed, `Zero` where a write of a nonempty piece took no byte, `Memory` where memory
-    /// was refused. Then what was written begins the text, and what was added begins the errors. Environment and
-    /// path are as before, whatever is answered.
+    /// was refused, which only a reference can meet. Then what was written begins the text, and what was added begins
+    /// the errors. Bundle, environment and path are as before, a limit that was struck stays so, and no count falls,
+    /// whatever is answered.
     pub fn write_ref_error<W: Write>(
         &mut self,
         w: &mut Counting<W>,
@@ -132,6 +136,9 @@ impl<'p, 's, C: FluentType, F: FluentFunction<C>, B: Context<C>> Scope<
         ensures runs { let at = status B.meant B.is_plain F.answer C.content in
             let x = inline_view inline.now in
             Runs (at self.old) (losing x) (λ b env path. lost_run x) }
+        ensures bundle { bundle_in self.new ≡ bundle_in self.old }
+        ensures memory { reference_of (inline_view inline.now) ≡ None →
+            result ≢ Err WriteFault.Memory }
     {
         let mut unused = String::new(self.bundle.allocator());
         let mut out = Output {
@@ -145,11 +152,12 @@ impl<'p, 's, C: FluentType, F: FluentFunction<C>, B: Context<C>> Scope<
     }
 
     /// The values of a call's arguments: positional ones in order, then named ones, of which the last of a name
-    /// stands. Where there are no arguments it takes no memory.
+    /// stands. Where there are no arguments, or both lists are empty, it takes no memory.
     ///
     /// # Errors
     ///
-    /// Memory was refused: what was added begins the errors. Environment and path are as before.
+    /// Memory was refused: what was added begins the errors. Bundle, environment and path are as before, a limit that
+    /// was struck stays so, and no count falls, whatever is answered.
     pub fn get_arguments(
         &mut self,
         arguments: Option<&'p CallArguments<'s>>,
@@ -162,19 +170,31 @@ impl<'p, 's, C: FluentType, F: FluentFunction<C>, B: Context<C>> Scope<
         ensures runs { let at = status B.meant B.is_plain F.answer C.content in
             let given = option_map (λ a. arguments_view a.now) arguments.entry in
             Runs (at self.old) (calling given) (λ b env path. called_run b env path given) }
-        ensures succeeds { arguments.entry ≡ None → IsOk result }
+        ensures bundle { bundle_in self.new ≡ bundle_in self.old }
+        ensures succeeds { let given = option_map (λ a. arguments_view a.now) arguments.entry in
+            IsTrue (are_none given) → IsOk result }
     {
         calls_pass_through::<LinkedList<u8>>();
         let alloc = self.bundle.allocator();
         let Some(arguments) = arguments else {
             return Ok((Vec::new(alloc), FluentArgs::new(alloc)));
         };
+        if is_empty(arguments) {
+            return Ok((Vec::new(alloc), FluentArgs::new(alloc)));
+        }
         let mut unused = Counting::new(Vec::new(alloc));
         match resolve_call(self, &mut unused, arguments, Place::by_name()) {
             Ok(values) => Ok(values),
             Err(_) => Err(AllocError),
         }
     }
+}
+
+/// Whether a call has no arguments.
+fn is_empty(arguments: &CallArguments<'_>) -> bool
+    ensures { result ≡ are_none (Some (arguments_view arguments.now)) }
+{
+    arguments.positional.is_empty() && arguments.named.is_empty()
 }
 
 /// Writes a pattern that an expression refers to, unless it is being written.

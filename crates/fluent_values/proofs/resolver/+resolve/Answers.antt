@@ -1,4 +1,4 @@
-use Rattle.std.proofs.Common.{ℕ, Option, ◌≡◌, rules, arith, length, ap, sym, ◌∙◌, refl, Some, map, [], ◌∷◌, ◌++◌, ◌+◌, drop, subst, IsTrue, ◌<◌}
+use Rattle.std.proofs.Common.{ℕ, Option, Result, Err, ◌≡◌, rules, arith, length, ap, sym, ◌∙◌, refl, Some, map, [], ◌∷◌, ◌++◌, ◌+◌, drop, subst, IsTrue, ◌<◌}
 use Rattle.std.specs.Option.{option_map}
 use Rattle.fluent_tree.specs.Fallback.{fallback, in_braces}
 use Rattle.fluent_tree.specs.Tree.{Text, placeable, select, function, call, variants_of, pattern_of, inlines_of, nameds_of}
@@ -9,7 +9,7 @@ use Rattle.fluent_meaning.specs.Bundle.{goes_to, message_target, term_target, fu
 use Rattle.fluent_meaning.specs.Meaning.{last_mark, at_most, struck}
 use Rattle.fluent_meaning.specs.Walk.{has_one, is_marked, part}
 use Rattle.fluent_meaning.specs.Work.{Worked, work, with_work}
-use Rattle.fluent_values.specs.Along.{given, walked, from_here, adding, trace}
+use Rattle.fluent_values.specs.Along.{Gave, Walk, given, walked, from_here, adding, trace}
 use Rattle.fluent_values.specs.FoundView.{IsLed, found_view}
 use Rattle.fluent_tree.specs.References.{a_function, a_term, in_arguments, in_call, in_expression, in_inline, in_variants, references}
 use Rattle.fluent_links.specs.Links.{IsBefore, behind}
@@ -23,7 +23,8 @@ use Rattle.fluent_values.proofs.Placeables.{marked_as, marks, strikes}
 use Rattle.fluent_values.proofs.Placed.{ok_value, placed_as, placed_back, placed_behind, placed_first, placed_front, placed_still, some_value}
 use Rattle.fluent_values.specs.Choice.{choice, first_default}
 use Rattle.fluent_values.specs.Sizes.{size, bound, IsBelow, element_size, expression_size, variants_size, inline_size, call_size, arguments_size, inlines_size, nameds_size}
-use Rattle.fluent_values.specs.Status.{status, environment_view, scope_parts}
+use Rattle.fluent_values.specs.Status.{Status, status, environment_view, scope_parts}
+use Rattle.fluent_values.specs.Written.{Sink}
 use Rattle.fluent_entries.specs.Texts.{IsTextAlone}
 use Rattle.fluent_values.specs.View.{value_view, named}
 use Rattle.fluent_values.proofs.Along.{starts, turns, passes, put, puts_last, tail, wrote, ends, stops, memory_halts, refuses, adds, calls, lends, goes_on, at_value}
@@ -36,6 +37,7 @@ use Rattle.fluent_values.proofs.Took.{took_same}
 use Rattle.fluent_values.proofs.Values.{gave_outward, asks, ask_stops, misses, begins, reads, gets, gets_part, got_if, got_as, got_part_as, misses_as, rests_memory, rests_same, rests_err, rests_ok, rests_on, by_buffer, as_got, beside_rests, got, gathers_none, gathers_as, gathers_same, gathers_one, gathers_part, gathers_all, gathers_stops, gathers_stops_as}
 use Rattle.fluent_values.proofs.Views.{view_pattern, view_text_in, view_placeable_in, view_string_in, view_number_in, view_message_in, view_nested_in, view_function_in, view_in, view_select_in, view_term_in, view_variable_in, view_arguments, view_written}
 use Rattle.fluent_meaning.specs.Value.{text_value}
+use Rattle.fluent_values.specs.declared.resolver.output.Halt.{Halt}
 use Rattle.fluent_values.specs.declared.resolver.output.Halt.TheVariants as fault
 use Rattle.fluent_values.proofs.resolver.+resolve.Goals as goal
 
@@ -113,7 +115,7 @@ inline_expression::go-returns-then-is_on g t c =
     let x = inline_view c.args.inline.now in
     let p = content_at c.args.target.step in
     let begun = turns (cyclic_at a x p (sym c.is_on.ensures ∙ c.if-is_on.true)) (starts a _ _) in
-    wrote (puts_last c.put_in_braces.ensures (turns (ap (given (in_braces (fallback x))) (sym c.add_error.ensures.added.budget)) (adds (given (in_braces (fallback x)) a.budget) c.in_ok-add_error.was c.add_error.ensures.added begun)))
+    wrote (puts_last c.put_in_braces.ensures.took (turns (ap (given (in_braces (fallback x))) (sym c.add_error.ensures.added.budget)) (adds (given (in_braces (fallback x)) a.budget) c.in_ok-add_error.was c.add_error.ensures.added begun)))
 
 pub inline_expression::go-returns-in_err-enter : goal.inline_expression::go-returns-in_err-enter
 unfolding scope_parts
@@ -159,7 +161,7 @@ inline_expression::follow-returns-in-Unknown g t c =
     let a = status g.B.Context.meant g.B.Context.is_plain g.F.FluentFunction.answer g.C.FluentType.content c.args.scope.now in
     let x = inline_view c.args.inline.now in
     let begun = turns (ap (λ f. from_here a (following x c.args.id.now.name.now (found_view f))) c.in-Unknown.is) (starts a _ _) in
-    wrote (tail c.lose.ensures begun)
+    wrote (tail c.lose.ensures.wrote begun)
 
 pub inline_expression::follow-returns-in_err-report_no_value-in-WithoutValue : goal.inline_expression::follow-returns-in_err-report_no_value-in-WithoutValue
 unfolding scope_parts
@@ -808,7 +810,7 @@ inline_expression::write_term-returns g t c =
     let led = c.term-found.ensures.content g.F.FluentFunction.answer ∙ ap (λ s. term_target (get id s.ids) at) kept.bundle in
     let inner = ap (environment_view g.C.FluentType.content) c.replace-outer.ensures.after in
     let outer = ap (environment_view g.C.FluentType.content) c.replace-outer.ensures.value in
-    wrote (lends refl refl refl refl refl refl (keeps_back kept w.went.along.passed.keeps refl refl refl refl refl refl refl refl refl refl refl refl outer) w (turns (inside_at a b x id at m (found_view c.term-found.result) kept.bundle kept.path inner led) asked))
+    wrote (lends refl refl refl refl refl refl (keeps_back kept w.went.along.passed.keeps refl refl outer) w (turns (inside_at a b x id at m (found_view c.term-found.result) kept.bundle kept.path inner led) asked))
 
 pub arguments::write_beside-returns : goal.arguments::write_beside-returns
 unfolding scope_parts
@@ -977,9 +979,13 @@ arguments::resolve_named-returns-in_err-value g t c =
     let here = gathers_as (labelling_next a _ rest x b.budget next) before.gathers in
     record { got = gathers_stops_as (label_walk c.args.arguments.now) (λ m. set_all m []) c.in_err-value.was (search rules) refl (gathers_part (labelling_more a rest k) c.resolve.ensures.got here); rests = rests_on before.rests (rests_err c.in_err-value.was (search rules) c.resolve.ensures.rests) }
 
+-- where memory was refused, which is found first
+by_memory : {A T K : Type 0} {r : Result T Halt} {see : T → A} {walk : Walk A} {w w' : Sink} {a b : Status K} → r ≡ Err fault.Memory → (r ≡ Err fault.Memory → Gave r see walk w w' a b) → Gave r see walk w w' a b
+by_memory is f = f is
+
 pub arguments::resolve_named-returns-in_err-set : goal.arguments::resolve_named-returns-in_err-set
 unfolding scope_parts
-arguments::resolve_named-returns-in_err-set g t c =
+arguments::resolve_named-returns-in_err-set g t c = by_memory (search rules) (λ is.
     let a = status g.B.Context.meant g.B.Context.is_plain g.F.FluentFunction.answer g.C.FluentType.content c.args.scope.now in
     let b = status g.B.Context.meant g.B.Context.is_plain g.F.FluentFunction.answer g.C.FluentType.content c.loop-argument.scope in
     let x = c.argument-item.result in
@@ -989,7 +995,7 @@ arguments::resolve_named-returns-in_err-set g t c =
     let before = c.loop-argument.invariant in
     let here = gathers_as (labelling_next a _ rest x b.budget next) before.gathers in
     let one = gathers_one (labelled k) (λ n. walked a (label_walk rest) n) c.in_ok-value.was c.resolve.ensures.got here in
-    record { got = gathers_stops {e = fault.Memory} (label_walk c.args.arguments.now) (λ m. set_all m []) (search rules) refl one; rests = rests_on (rests_on before.rests (rests_ok {T = Unit {0}} {x = tt} c.in_ok-value.was c.resolve.ensures.rests)) (rests_memory _ (search rules)) }
+    record { got = gathers_stops (label_walk c.args.arguments.now) (λ m. set_all m []) is refl one; rests = rests_on (rests_on before.rests (rests_ok {T = Unit {0}} {x = tt} c.in_ok-value.was c.resolve.ensures.rests)) (rests_memory _ is) })
 
 pub arguments::resolve_named-returns-in_err-args : goal.arguments::resolve_named-returns-in_err-args
 unfolding scope_parts

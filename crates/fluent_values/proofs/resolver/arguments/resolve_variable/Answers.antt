@@ -47,7 +47,7 @@ returns-in_err-report_lost-in-None-argument g c =
     let a = status g.B.Context.meant g.B.Context.is_plain g.F.FluentFunction.answer g.C.FluentType.content c.args.scope.now in
     let x = inline_view c.args.inline.now in
     let id = c.args.id.now.name.now in
-    misses (search rules) (tells_stops c.in_err-report_lost-in-None-argument.was c.report_lost.ensures (reads (value_lost a x id (arguments_view content c.in-Application.args) a.budget c.requires (ap (environment_view content) c.in-Application.is) (sym c.argument.ensures ∙ ap (option_map (λ v. value_view content v.now)) c.in-None-argument.is)) (begins a _)))
+    misses (search rules) (tells_stops c.in_err-report_lost-in-None-argument.was c.report_lost.ensures.reports (reads (value_lost a x id (arguments_view content c.in-Application.args) a.budget c.requires (ap (environment_view content) c.in-Application.is) (sym c.argument.ensures ∙ ap (option_map (λ v. value_view content v.now)) c.in-None-argument.is)) (begins a _)))
 
 pub returns-in_ok-report_lost-in-None-argument : goal.returns-in_ok-report_lost-in-None-argument
 unfolding scope_parts
@@ -56,4 +56,4 @@ returns-in_ok-report_lost-in-None-argument g c =
     let a = status g.B.Context.meant g.B.Context.is_plain g.F.FluentFunction.answer g.C.FluentType.content c.args.scope.now in
     let x = inline_view c.args.inline.now in
     let id = c.args.id.now.name.now in
-    got _ (reads (ap (given error_value) (sym c.report_lost.ensures.budget)) (tells_on (given error_value a.budget) c.in_ok-report_lost-in-None-argument.was c.report_lost.ensures (reads (value_lost a x id (arguments_view content c.in-Application.args) a.budget c.requires (ap (environment_view content) c.in-Application.is) (sym c.argument.ensures ∙ ap (option_map (λ v. value_view content v.now)) c.in-None-argument.is)) (begins a _))))
+    got _ (reads (ap (given error_value) (sym c.report_lost.ensures.reports.budget)) (tells_on (given error_value a.budget) c.in_ok-report_lost-in-None-argument.was c.report_lost.ensures.reports (reads (value_lost a x id (arguments_view content c.in-Application.args) a.budget c.requires (ap (environment_view content) c.in-Application.is) (sym c.argument.ensures ∙ ap (option_map (λ v. value_view content v.now)) c.in-None-argument.is)) (begins a _))))

@@ -9,15 +9,15 @@ use Rattle.fluent_values.proofs.Along.{starts, turns, adds, refuses, puts_last, 
 use Rattle.fluent_values.proofs.Cases.{loses_is}
 use Rattle.fluent_values.proofs.resolver.inline_expression.lose.Goals as goal
 
-pub returns-in_err-report_lost : goal.returns-in_err-report_lost
+pub returns-in_err-report_lost-clause-wrote : goal.returns-in_err-report_lost-clause-wrote
 unfolding scope_parts
-returns-in_err-report_lost g c =
+returns-in_err-report_lost-clause-wrote g c =
     let a = status g.B.Context.meant g.B.Context.is_plain g.F.FluentFunction.answer g.C.FluentType.content c.args.scope.now in
-    refuses c.in_err-report_lost.was (search rules) c.report_lost.ensures (turns (loses_is a.bundle (work a.bundle) a.environment (on_path a.path) (inline_view c.args.inline.now) a.budget) (starts a _ _))
+    refuses c.in_err-report_lost.was (search rules) c.report_lost.ensures.reports (turns (loses_is a.bundle (work a.bundle) a.environment (on_path a.path) (inline_view c.args.inline.now) a.budget) (starts a _ _))
 
-pub returns : goal.returns
+pub returns-clause-wrote : goal.returns-clause-wrote
 unfolding scope_parts
-returns g c =
+returns-clause-wrote g c =
     let a = status g.B.Context.meant g.B.Context.is_plain g.F.FluentFunction.answer g.C.FluentType.content c.args.scope.now in
     let x = inline_view c.args.inline.now in
-    wrote (puts_last c.put_in_braces.ensures (turns (ap (given (in_braces (fallback x))) (sym c.report_lost.ensures.budget)) (adds (given (in_braces (fallback x)) a.budget) c.in_ok-report_lost.was c.report_lost.ensures (turns (loses_is a.bundle (work a.bundle) a.environment (on_path a.path) x a.budget) (starts a _ _)))))
+    wrote (puts_last c.put_in_braces.ensures.took (turns (ap (given (in_braces (fallback x))) (sym c.report_lost.ensures.reports.budget)) (adds (given (in_braces (fallback x)) a.budget) c.in_ok-report_lost.was c.report_lost.ensures.reports (turns (loses_is a.bundle (work a.bundle) a.environment (on_path a.path) x a.budget) (starts a _ _)))))

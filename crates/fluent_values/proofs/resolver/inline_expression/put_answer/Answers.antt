@@ -22,7 +22,7 @@ returns-in-None g c =
     let vs = map (value_view content) c.args.positional.now in
     let m = named content c.args.arguments.now in
     let is = ap (option_map (value_view content)) (sym c.in-None.is) ∙ c.in_ok-answer_of.ensures in
-    wrote (tail c.lose.ensures (turns (answer_lost a x c.args.id.now.name.now vs m a.budget is) (starts a _ _)))
+    wrote (tail c.lose.ensures.wrote (turns (answer_lost a x c.args.id.now.name.now vs m a.budget is) (starts a _ _)))
 
 pub returns-in-Some : goal.returns-in-Some
 unfolding scope_parts

@@ -9,7 +9,7 @@ use Rattle.fluent_values.proofs.resolver.inline_expression.put_shown.Goals as go
 pub returns-in-Error : goal.returns-in-Error
 returns-in-Error g c =
     let b = g.B.Context.meant c.args.bundle.now in
-    took_same (sym (ap (λ v. shown_answer b (inline_view c.args.inline.now) (value_view g.C.FluentType.content v)) c.in-Error.is)) c.put_fallback.ensures
+    took_same (sym (ap (λ v. shown_answer b (inline_view c.args.inline.now) (value_view g.C.FluentType.content v)) c.in-Error.is)) c.put_fallback.ensures.took
 
 pub returns-in_default : goal.returns-in_default
 returns-in_default g c =

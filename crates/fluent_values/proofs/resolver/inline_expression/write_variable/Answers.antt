@@ -26,7 +26,7 @@ returns-in-None g c =
     let a = status g.B.Context.meant g.B.Context.is_plain g.F.FluentFunction.answer g.C.FluentType.content c.args.scope.now in
     let x = inline_view c.args.inline.now in
     let id = c.args.id.now.name.now in
-    wrote (puts_last c.put_in_braces.ensures (turns (variable_unseen a x id (named content c.in-Local.args) a.budget c.requires (ap (environment_view content) c.in-Local.is) (sym c.get.ensures ∙ ap (option_map (λ v. value_view content v.now)) c.in-None.is)) (starts a _ _)))
+    wrote (puts_last c.put_in_braces.ensures.took (turns (variable_unseen a x id (named content c.in-Local.args) a.budget c.requires (ap (environment_view content) c.in-Local.is) (sym c.get.ensures ∙ ap (option_map (λ v. value_view content v.now)) c.in-None.is)) (starts a _ _)))
 
 pub returns-in-Some-argument : goal.returns-in-Some-argument
 unfolding scope_parts
@@ -45,4 +45,4 @@ returns-in-None-argument g c =
     let a = status g.B.Context.meant g.B.Context.is_plain g.F.FluentFunction.answer g.C.FluentType.content c.args.scope.now in
     let x = inline_view c.args.inline.now in
     let id = c.args.id.now.name.now in
-    wrote (tail c.lose.ensures (turns (variable_lost a x id (arguments_view content c.in-Application.args) a.budget c.requires (ap (environment_view content) c.in-Application.is) (sym c.argument.ensures ∙ ap (option_map (λ v. value_view content v.now)) c.in-None-argument.is)) (starts a _ _)))
+    wrote (tail c.lose.ensures.wrote (turns (variable_lost a x id (arguments_view content c.in-Application.args) a.budget c.requires (ap (environment_view content) c.in-Application.is) (sym c.argument.ensures ∙ ap (option_map (λ v. value_view content v.now)) c.in-None-argument.is)) (starts a _ _)))

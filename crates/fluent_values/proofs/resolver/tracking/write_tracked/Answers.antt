@@ -30,7 +30,7 @@ returns-then-is_on g c =
     let is : content_at c.own-step.result ≡ p = ap (λ b. pattern_view b.now) c.own-step.ensures.0 in
     let begun = turns (cyclic_at a x p (subst (λ q. is_on (on_path a.path) q ≡ true) is (sym c.is_on.ensures ∙ c.if-is_on.true))) (starts a _ _) in
     let reported = adds (given shown a.budget) c.in_ok-add_error.was c.add_error.ensures.added begun in
-    wrote (puts_last c.put_in_braces.ensures (turns (ap (given shown) (sym c.add_error.ensures.added.budget)) reported))
+    wrote (puts_last c.put_in_braces.ensures.took (turns (ap (given shown) (sym c.add_error.ensures.added.budget)) reported))
 
 pub returns-in_err-enter : goal.returns-in_err-enter
 unfolding scope_parts

@@ -63,7 +63,7 @@ returns-in_err-report_lost-in-None-argument-clause-chose g c =
     let vs = variants_of (map variant_view c.args.variants.now) in
     let goes : Value Text → Option Pattern = λ v. choice (goes_to a.bundle v) (first_default vs) vs in
     let lost = ap (mapping goes) (value_lost a x id (arguments_view content c.in-Application.args) a.budget c.requires (ap (environment_view content) c.in-Application.is) (sym c.argument.ensures ∙ ap (option_map (λ v. value_view content v.now)) c.in-None-argument.is)) in
-    misses (search rules) (tells_stops c.in_err-report_lost-in-None-argument.was c.report_lost.ensures (reads lost (begins a _)))
+    misses (search rules) (tells_stops c.in_err-report_lost-in-None-argument.was c.report_lost.ensures.reports (reads lost (begins a _)))
 
 pub returns-in_ok-report_lost-in-None-argument-clause-chose : goal.returns-in_ok-report_lost-in-None-argument-clause-chose
 unfolding scope_parts
@@ -75,7 +75,7 @@ returns-in_ok-report_lost-in-None-argument-clause-chose g c =
     let vs = variants_of (map variant_view c.args.variants.now) in
     let goes : Value Text → Option Pattern = λ v. choice (goes_to a.bundle v) (first_default vs) vs in
     let lost = ap (mapping goes) (value_lost a x id (arguments_view content c.in-Application.args) a.budget c.requires (ap (environment_view content) c.in-Application.is) (sym c.argument.ensures ∙ ap (option_map (λ v. value_view content v.now)) c.in-None-argument.is)) in
-    let told = tells_on (given (goes error_value) a.budget) c.in_ok-report_lost-in-None-argument.was c.report_lost.ensures (reads lost (begins a _)) in
+    let told = tells_on (given (goes error_value) a.budget) c.in_ok-report_lost-in-None-argument.was c.report_lost.ensures.reports (reads lost (begins a _)) in
     let b = status g.B.Context.meant g.B.Context.is_plain g.F.FluentFunction.answer g.C.FluentType.content c.report_lost.new.scope in
-    let here = reads (ap (given (goes error_value)) (sym c.report_lost.ensures.budget)) told in
+    let here = reads (ap (given (goes error_value)) (sym c.report_lost.ensures.reports.budget)) told in
     got _ (reads (ap (λ o. given o b.budget) (error_chooses a.bundle (first_default vs) vs ∙ sym c.first_default-in-None-argument.ensures.chose)) here)
