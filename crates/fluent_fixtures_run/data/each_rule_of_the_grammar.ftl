@@ -1,7 +1,6 @@
-## A source of two kilobytes that uses each rule of the grammar, with Junk in between; whole, and cut at each place.
+## A source of two kilobytes that uses each rule of the grammar, with Junk in between.
 #@ function FIRST = first
 #@ function NAMED = named
-#@ cut
 #===
 ### Each rule of the grammar.
 ## A group

@@ -66,7 +66,12 @@ impl<'s> Reader<'s> {
     // ---- resources and bundles
 
     /// Begins a resource.
-    fn begin_part(&mut self, line: usize, start: usize, is_overriding: bool) -> Result<(), AllocError> {
+    fn begin_part(
+        &mut self,
+        line: usize,
+        start: usize,
+        is_overriding: bool,
+    ) -> Result<(), AllocError> {
         let bundle = self.bundle();
         self.fixture.parts.push(Part {
             line,
@@ -83,7 +88,12 @@ impl<'s> Reader<'s> {
     }
 
     /// Begins a bundle.
-    fn begin_bundle(&mut self, line: usize, is_link: bool, resources_of: usize) -> Result<(), AllocError> {
+    fn begin_bundle(
+        &mut self,
+        line: usize,
+        is_link: bool,
+        resources_of: usize,
+    ) -> Result<(), AllocError> {
         self.has_begun = false;
         self.above = "";
         self.fixture.bundles.push(Described {

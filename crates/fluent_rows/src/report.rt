@@ -83,7 +83,12 @@ impl<'n> Report<'n> {
     }
 
     /// The same of something behind so many bytes.
-    pub fn holds_at(&mut self, is_right: bool, wrong: &str, bytes: usize) -> Result<(), AllocError> {
+    pub fn holds_at(
+        &mut self,
+        is_right: bool,
+        wrong: &str,
+        bytes: usize,
+    ) -> Result<(), AllocError> {
         if self.is_news(is_right) {
             let (name, line) = (self.name, self.line);
             write!(self.text, "{name}:{line}: {wrong} ({bytes} bytes)\n")?;
@@ -95,7 +100,10 @@ impl<'n> Report<'n> {
     pub fn same(&mut self, wanted: &str, got: &str, way: &str) -> Result<(), AllocError> {
         if self.is_news(wanted == got) {
             let (name, line) = (self.name, self.line);
-            write!(self.text, "{name}:{line}: {way}\n  wanted: {wanted:?}\n  got:    {got:?}\n")?;
+            write!(
+                self.text,
+                "{name}:{line}: {way}\n  wanted: {wanted:?}\n  got:    {got:?}\n"
+            )?;
         }
         Ok(())
     }

@@ -84,7 +84,10 @@ const WORDS: &[(&str, Setting<'static>)] = &[
     ("transform upper", Setting::Upper(true)),
     ("transform none", Setting::Upper(false)),
     ("formatter kinds", Setting::Formatter(Some(Shows::Kinds))),
-    ("formatter brackets", Setting::Formatter(Some(Shows::Brackets))),
+    (
+        "formatter brackets",
+        Setting::Formatter(Some(Shows::Brackets)),
+    ),
     ("formatter none", Setting::Formatter(None)),
     ("plurals english", Setting::English),
     ("functions none", Setting::NoFunctions),

@@ -2,9 +2,7 @@
 use crate::objects::{Formatter, Function, Plurals, Star, Upper};
 use fluent_bundle::ast::Pattern;
 use fluent_bundle::bundle::AddFault;
-use fluent_bundle::{
-    FluentBundle, FluentError, FluentResource, ParserError, TryNewFault,
-};
+use fluent_bundle::{FluentBundle, FluentError, FluentResource, ParserError, TryNewFault};
 use fluent_intl::{RuleFault, RuleTexts, cldr_plurals, rules_for};
 use fluent_rows::fixture::{Described, Fixture, Part};
 use fluent_rows::report::Report;

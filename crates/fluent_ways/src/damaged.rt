@@ -68,7 +68,11 @@ fn pattern_answers<'x, 's, 'f>(
     given: &'x Args<'f>,
     has_formatter: bool,
 ) -> Result<bool, AllocError> {
-    let is_right = answers(alloc, &call_for(bundle, pattern, Some(given)), has_formatter)?;
+    let is_right = answers(
+        alloc,
+        &call_for(bundle, pattern, Some(given)),
+        has_formatter,
+    )?;
     Ok(is_right && answers(alloc, &call_for(bundle, pattern, None), has_formatter)?)
 }
 

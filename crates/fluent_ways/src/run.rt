@@ -126,7 +126,11 @@ fn is_absent(links: &[Linked<'_, '_, '_>], id: &str) -> bool {
 }
 
 /// The names of a message's attributes, with blanks between.
-fn names_of(alloc: Global, bundle: &Bundle<'_, '_, '_>, id: &str) -> Result<Option<String>, AllocError> {
+fn names_of(
+    alloc: Global,
+    bundle: &Bundle<'_, '_, '_>,
+    id: &str,
+) -> Result<Option<String>, AllocError> {
     let Some(message) = bundle.get_message(id) else {
         return Ok(None);
     };

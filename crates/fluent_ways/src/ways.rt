@@ -91,7 +91,13 @@ fn formats(
     let mut errors = Vec::new(alloc);
     let text = format(asked, &mut errors)?;
     report.same(told.formatted(), text.as_str(), "format_pattern")?;
-    are_told(alloc, errors.as_slice(), told, "errors of format_pattern", report)
+    are_told(
+        alloc,
+        errors.as_slice(),
+        told,
+        "errors of format_pattern",
+        report,
+    )
 }
 
 /// What a call wrote: its text and the lines of its errors.
@@ -130,11 +136,19 @@ fn writes(
     report: &mut Report<'_>,
 ) -> Result<(), AllocError> {
     let Some((taken, errors)) = write_whole(alloc, asked, at_once)? else {
-        return report.holds_at(false, "write_pattern failed where a writer takes at once", at_once);
+        return report.holds_at(
+            false,
+            "write_pattern failed where a writer takes at once",
+            at_once,
+        );
     };
     let text = str::from_utf8(taken.as_slice()).unwrap_or("no text");
     report.same(told.text.as_str(), text, "write_pattern")?;
-    report.same(told.errors.as_str(), errors.as_str(), "errors of write_pattern")
+    report.same(
+        told.errors.as_str(),
+        errors.as_str(),
+        "errors of write_pattern",
+    )
 }
 
 // ---- calls that stop
@@ -170,7 +184,11 @@ fn stopped(
     }
     let is_one = is_one_fault(how, end, w.failed(), w.empty());
     let is_front = is_front(w.into_inner().taken.as_slice(), how, text);
-    report.holds_at(is_one && is_front, "write_pattern to a writer that is full", how.in_all)?;
+    report.holds_at(
+        is_one && is_front,
+        "write_pattern to a writer that is full",
+        how.in_all,
+    )?;
     lines(alloc, errors.as_slice())
 }
 
@@ -195,14 +213,23 @@ pub fn stops_behind(
     report: &mut Report<'_>,
 ) -> Result<(), AllocError> {
     let text = told.text.as_str();
-    for (at_once, fails) in [(usize::MAX, true), (usize::MAX, false), (1, true), (1, false)] {
+    for (at_once, fails) in [
+        (usize::MAX, true),
+        (usize::MAX, false),
+        (1, true),
+        (1, false),
+    ] {
         let how = How {
             at_once,
             in_all: text.len(),
             fails,
         };
         let found = stopped(alloc, asked, text, how, report)?;
-        report.same(told.errors.as_str(), found.as_str(), "errors where a writer is full")?;
+        report.same(
+            told.errors.as_str(),
+            found.as_str(),
+            "errors where a writer is full",
+        )?;
     }
     Ok(())
 }

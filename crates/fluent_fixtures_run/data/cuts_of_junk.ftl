@@ -1,8 +1,7 @@
-## Junk between messages, damaged at each place.
+## Junk between messages, cut at each place.
 #@ function FIRST = first
 #@ function NAMED = named
 #@ cut
-#@ replace
 #===
 junk here
  and there

@@ -1,8 +1,7 @@
-## Literals and calls, damaged at each place.
+## Literals and calls, cut at each place.
 #@ function FIRST = first
 #@ function NAMED = named
 #@ cut
-#@ replace
 #===
 plain = Hello, world!
 -brand = Firefox

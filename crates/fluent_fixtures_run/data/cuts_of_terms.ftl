@@ -1,8 +1,7 @@
-## Terms and references, damaged at each place.
+## Terms and references, cut at each place.
 #@ function FIRST = first
 #@ function NAMED = named
 #@ cut
-#@ replace
 #===
 plain = Hello, world!
 -brand = Firefox

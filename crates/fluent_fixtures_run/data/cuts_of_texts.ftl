@@ -1,8 +1,7 @@
-## Texts, attributes and lines, damaged at each place.
+## Texts, attributes and lines, cut at each place.
 #@ function FIRST = first
 #@ function NAMED = named
 #@ cut
-#@ replace
 #===
 plain = Hello, world!
 accents = é😂 and a	tab

@@ -1,8 +1,7 @@
-## Cycles, a limit that is struck, and nested placeables, damaged at each place.
+## Cycles, a limit that is struck, and nested placeables, cut at each place.
 #@ function FIRST = first
 #@ function NAMED = named
 #@ cut
-#@ replace
 #===
 -brand = Firefox
     .gender = masculine

@@ -1,8 +1,7 @@
-## Selects, damaged at each place.
+## Selects, cut at each place.
 #@ function FIRST = first
 #@ function NAMED = named
 #@ cut
-#@ replace
 #===
 emails = { $n ->
     [0] None
