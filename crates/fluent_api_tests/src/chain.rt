@@ -12,7 +12,7 @@ use std::process::Abort;
 use std::test::Fail;
 
 /// A chain of bundles.
-type Bundles<'c, 'b, 'r, 's> = Chain<
+pub type Bundles<'c, 'b, 'r, 's> = Chain<
     'c,
     'b,
     'r,
@@ -25,7 +25,7 @@ type Bundles<'c, 'b, 'r, 's> = Chain<
 >;
 
 /// An id, the name of an attribute or none, the text, and the lines of its errors.
-type Row = (
+pub type Row = (
     &'static str,
     Option<&'static str>,
     &'static str,
@@ -47,7 +47,7 @@ where
 }
 
 /// Whether a part was shown, as this text.
-fn is_shown(rt: &impl Abort, shown: Result<CowStr<'_>, AllocError>, text: &str) -> bool {
+pub fn is_shown(rt: &impl Abort, shown: Result<CowStr<'_>, AllocError>, text: &str) -> bool {
     match shown {
         Ok(found) => {
             check_same(rt, found.as_str(), text);
@@ -55,6 +55,23 @@ fn is_shown(rt: &impl Abort, shown: Result<CowStr<'_>, AllocError>, text: &str) 
         }
         Err(AllocError) => false,
     }
+}
+
+/// That errors are these lines, or a beginning of them where a call was refused memory.
+pub fn stand(
+    rt: &impl Abort,
+    alloc: Global,
+    errors: &[FluentError],
+    wanted: &str,
+    is_whole: bool,
+) -> Result<(), AllocError> {
+    let found = lines(alloc, errors)?;
+    if is_whole {
+        check_same(rt, found.as_str(), wanted);
+    } else {
+        check(rt, wanted.starts_with(found.as_str()), wanted);
+    }
+    Ok(())
 }
 
 /// That a part is shown as a row says; `false` where memory is refused, which leaves a beginning of the errors.
@@ -66,12 +83,7 @@ fn shows_once(
 ) -> Result<bool, AllocError> {
     let mut errors = Vec::new(alloc);
     let is_whole = is_shown(rt, format(chain, row, &mut errors), row.2);
-    let found = lines(alloc, errors.as_slice())?;
-    if is_whole {
-        check_same(rt, found.as_str(), row.3);
-    } else {
-        check(rt, row.3.starts_with(found.as_str()), row.3);
-    }
+    stand(rt, alloc, errors.as_slice(), row.3, is_whole)?;
     Ok(is_whole)
 }
 
@@ -90,13 +102,13 @@ fn shows(
     Ok(())
 }
 
-const FIRST: &str = "a = 1\nk =\n    .t = x\n";
+pub const FIRST: &str = "a = 1\nk =\n    .t = x\n";
 
-const SECOND: &str = "a = 2\n    .t = { $n }y\nb = { $x }\nk = v\n    .u = { \"w\" }\n";
+pub const SECOND: &str = "a = 2\n    .t = { $n }y\nb = { $x }\nk = v\n    .u = { \"w\" }\n";
 
-const NO_N: &str = "Resolver error: Unknown variable: $n\n";
+pub const NO_N: &str = "Resolver error: Unknown variable: $n\n";
 
-const NO_X: &str = "Resolver error: Unknown variable: $x\n";
+pub const NO_X: &str = "Resolver error: Unknown variable: $x\n";
 
 /// Of the first bundle alone.
 const ONE: &[Row] = &[
@@ -106,7 +118,7 @@ const ONE: &[Row] = &[
     ("k", Some("u"), "k", ""),
 ];
 
-const BOTH: &[Row] = &[
+pub const BOTH: &[Row] = &[
     ("a", None, "1", ""),
     ("b", None, "{$x}", NO_X),
     ("k", None, "v", ""),

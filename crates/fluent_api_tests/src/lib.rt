@@ -19,6 +19,8 @@ mod errors;
 #[cfg(test)]
 mod first_value;
 #[cfg(test)]
+mod formatted;
+#[cfg(test)]
 mod given;
 #[cfg(test)]
 mod headline;
@@ -27,6 +29,8 @@ mod in_one_scope;
 #[cfg(test)]
 mod kept;
 #[cfg(test)]
+mod lists;
+#[cfg(test)]
 mod made;
 #[cfg(test)]
 mod messages;
@@ -34,5 +38,7 @@ mod messages;
 mod own;
 #[cfg(test)]
 mod scope;
+#[cfg(test)]
+mod taken;
 #[cfg(test)]
 mod trees;
