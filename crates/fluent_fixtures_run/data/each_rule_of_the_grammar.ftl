@@ -6,7 +6,7 @@
 ## A group
 # A comment
 #
-#no space
+# nospace
 
 plain = Hello, world!
 accents = é😂 and a	tab
