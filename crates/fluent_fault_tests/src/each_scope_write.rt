@@ -1,14 +1,14 @@
 //! Each write of a scope's calls fails in turn, as it may: what was written and added begins the whole, and environment
 //! and path are as before, so that the same call comes to the whole when it is made again in that scope.
 use crate::check::check;
-use crate::found::{Noted, are, are_behind, begin};
-use crate::scope::listed;
-use fluent_bundle::ast::{Expression, InlineExpression, Pattern, PatternElement};
-use fluent_bundle::{Counting, FluentArgs, Scope, WriteFault};
 use crate::common::{Bundle, Given, Scoped, Setting, arguments, bundle_of, pattern_in, read};
+use crate::found::{Noted, are, are_behind, begin};
 use crate::own::Star;
+use crate::scope::listed;
 use crate::stopped::{ended, writer};
 use crate::stopping::{FAULTS, Fault, Stopping};
+use fluent_bundle::ast::{Expression, InlineExpression, Pattern, PatternElement};
+use fluent_bundle::{Counting, FluentArgs, Scope, WriteFault};
 use std::alloc::Global;
 use std::process::Abort;
 use std::test::Fail;

@@ -1,13 +1,13 @@
 //! Each write of a value fails in turn: with each kind of error, behind a piece that was taken in part, and with no byte
 //! taken.
 use crate::check::check;
-use crate::found::{Noted, are};
-use crate::scope::listed;
-use fluent_bundle::{Counting, FluentArgs, FluentValue, Scope, WriteFault};
 use crate::common::{Bundle, Given, Scoped, Setting, arguments, bundle_of, read};
+use crate::found::{Noted, are};
 use crate::own::Star;
+use crate::scope::listed;
 use crate::stopped::{ended, writer};
 use crate::stopping::{FAULTS, Fault, Stopping};
+use fluent_bundle::{Counting, FluentArgs, FluentValue, Scope, WriteFault};
 use std::alloc::{AllocError, Global};
 use std::process::Abort;
 use std::test::Fail;

@@ -245,7 +245,11 @@ fn are_scopes(rt: &impl Abort, alloc: Global, bundle: &Bundle<'_, '_>) -> Result
 /// Run with each allocation failing in turn, and all from each one on.
 #[test]
 fn a_scope_takes_no_memory(rt: HostRuntime) -> Result<(), Fail> {
-    let mut bundle: Bundle<'_, '_> = FluentBundle::new(rt.alloc(), Vec::new(rt.alloc()), EnglishPlurals);
+    let mut bundle: Bundle<'_, '_> = FluentBundle::new(
+        rt.alloc(),
+        Vec::new(rt.alloc()),
+        EnglishPlurals,
+    );
     check(&rt, bundle.set_placeable_limit(7), "a limit");
     are_scopes(&rt, rt.alloc(), &bundle)?;
     let mut w = Counting::new(Vec::with_capacity(rt.alloc(), 50)?);

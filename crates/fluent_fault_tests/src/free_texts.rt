@@ -1,11 +1,11 @@
 //! Texts that are given and written without memory: each call answers alike whichever request fails, and where none is
 //! met any more, also where its writer stops.
 use crate::check::check;
-use fluent_bundle::ast::{Pattern, PatternElement};
-use fluent_bundle::{Counting, FluentError, WriteFault};
 use crate::common::{Bundle, empty, read, value_of};
 use crate::stopped::{ended, writer};
 use crate::stopping::{FAULTS, Fault, Stopping};
+use fluent_bundle::ast::{Pattern, PatternElement};
+use fluent_bundle::{Counting, FluentError, WriteFault};
 use fluent_syntax::{put, unescape_unicode, unescape_unicode_to_string};
 use fluent_values::resolver::texts::is_text;
 use std::alloc::{AllocError, Global};

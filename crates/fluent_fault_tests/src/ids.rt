@@ -1,10 +1,10 @@
 //! Calls of the map of ids while memory is refused.
 use crate::check::check;
+use crate::common::{first_text, read};
 use crate::found::Noted;
+use crate::own::Own;
 use fluent_bundle::ast::Entry as Read;
 use fluent_bundle::{Entry, FluentError, Ids};
-use crate::common::{first_text, read};
-use crate::own::Own;
 use std::alloc::{AllocError, Global};
 use std::borrow::CowStr;
 use std::process::Abort;

@@ -4,11 +4,11 @@ ghost use Rattle.fluent_meaning.specs.Value.{error_value};
 ghost use Rattle.fluent_values.specs.View.{value_view};
 
 use crate::check::{again, check_at};
+use crate::own::Upper;
 use fluent_bundle::{
     AnswerRule, Answering, FluentArgs, FluentFormatter, FluentFunction, FluentType, FluentValue,
     FunctionOf, NoCustom, NoFormatter, NoFunction, NoTransform, Transform,
 };
-use crate::own::Upper;
 use fluent_intl::EnglishPlurals;
 use std::alloc::{AllocError, Global};
 use std::test::Fail;

@@ -1,6 +1,7 @@
 //! Objects of an application that answer each call by want of memory: so does the formatting call that asked them, and
 //! what was written and added till then stands.
 use crate::check::check;
+use crate::common::{read, value_of};
 use crate::found::Noted;
 use fluent_bundle::ast::Pattern;
 use fluent_bundle::bundle::AddFault;
@@ -8,7 +9,6 @@ use fluent_bundle::{
     Counting, EnglishPlurals, FluentArgs, FluentBundle, FluentError, FluentFormatter,
     FluentFunction, FluentResource, FluentType, FluentValue, Transform, WriteFault,
 };
-use crate::common::{read, value_of};
 use std::alloc::{AllocError, Global};
 use std::borrow::CowStr;
 use std::process::Abort;

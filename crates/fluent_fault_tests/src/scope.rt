@@ -1,14 +1,14 @@
 //! Calls of a scope while memory is refused: it has its environment and path as before, and its budget is not higher, so
 //! that the call comes to the whole when it is made again.
 use crate::check::check;
+use crate::common::{Bundle, Given, Scoped, Setting, arguments, bundle_of, read, value_in};
 use crate::found::{Noted, are, are_behind, begin};
+use crate::own::Star;
 use crate::writing::{is_taken, is_whole};
 use fluent_bundle::ast::{CallArguments, Expression, InlineExpression, Pattern, PatternElement};
 use fluent_bundle::{
     Counting, FluentArgs, FluentError, FluentValue, ReferenceKind, ResolverError, Scope, WriteFault,
 };
-use crate::common::{Bundle, Given, Scoped, Setting, arguments, bundle_of, read, value_in};
-use crate::own::Star;
 use fluent_values::resolver::output::{Output, with_error};
 use fluent_values::resolver::{Place, write_pattern};
 use std::alloc::{AllocError, Global};

@@ -1,10 +1,10 @@
 //! Calls of values, outputs and objects that show a value or change a text, while memory is refused.
 use crate::check::{again, check_at};
+use crate::common::{Bundle, Setting, bundle_of, read, value_of};
+use crate::own::Star;
 use fluent_bundle::ast::Pattern;
 use fluent_bundle::resolver::Context;
 use fluent_bundle::{Counting, FluentValue, Scope, WriteFault};
-use crate::common::{Bundle, Setting, bundle_of, read, value_of};
-use crate::own::Star;
 use fluent_syntax::{put, unescape_unicode};
 use fluent_values::resolver::output::{Output, put_text, with_error};
 use fluent_values::resolver::texts::put_texts;

@@ -1,10 +1,10 @@
 //! Calls that make texts and copies while memory is refused: refused, they can be made again.
 use crate::check::{again, check_at};
+use crate::own::Star;
 use fluent_bundle::ast::{Identifier, InlineExpression};
 use fluent_bundle::{
     EntryKind, FluentArgs, FluentError, FluentValue, ReferenceKind, ResolverError, builtins,
 };
-use crate::own::Star;
 use fluent_intl::{Decimal, FluentNumber, FluentNumberOptions};
 use fluent_syntax::unescape_unicode_to_string;
 use std::alloc::{AllocError, Global};

@@ -1,11 +1,11 @@
 //! Patterns that are written and formatted while memory is refused.
 use crate::cases::{CASES, Case};
 use crate::check::check;
+use crate::common::{Bundle, arguments, bundle_of, pattern_in, read};
 use crate::found::Noted;
+use crate::own::Star;
 use fluent_bundle::ast::Pattern;
 use fluent_bundle::{Counting, FluentArgs, FluentError, WriteFault};
-use crate::common::{Bundle, arguments, bundle_of, pattern_in, read};
-use crate::own::Star;
 use std::alloc::{AllocError, Global};
 use std::borrow::CowStr;
 use std::process::Abort;
