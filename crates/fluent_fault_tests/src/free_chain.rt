@@ -39,6 +39,14 @@ fn has(chain: &Bundles<'_, '_, '_, '_>, row: &Row) -> bool {
     }
 }
 
+/// Whether it is said which bundle has the part.
+fn is_found(chain: &Bundles<'_, '_, '_, '_>, row: &Row) -> bool {
+    match row.1 {
+        None => chain.find_value(row.0).is_some(),
+        Some(name) => chain.find_attribute(row.0, name).is_some(),
+    }
+}
+
 fn format<'r, 's: 'r>(
     chain: &Bundles<'_, '_, 'r, 's>,
     row: &Row,
@@ -80,9 +88,9 @@ fn answer_alike(
 ) {
     let links = [Link(one), Link(two)];
     let chain = Chain::new(&links);
-    check(rt, chain.bundles.len() == 2, "bundles");
     for row in ROWS {
         check(rt, has(&chain, row) == row.2, row.0);
+        check(rt, is_found(&chain, row) == row.2, row.0);
         check(rt, is_given(alloc, &chain, row), row.0);
     }
 }
