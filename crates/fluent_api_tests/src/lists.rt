@@ -1,4 +1,4 @@
-//! Bundles that are kept in lists, in a map and in a struct, and let go; and which of them answers.
+//! Bundles that are kept in lists and in a map, and let go; and which of them answers.
 use crate::chain::{Bundles, FIRST, SECOND};
 use crate::check::check;
 use crate::common::{Bundle, bundle_of, read};
@@ -37,25 +37,6 @@ fn map_of<'r>(
         bundles.insert(*tag, bundle_of(alloc, &[], resource)?)?;
     }
     Ok(bundles)
-}
-
-/// A struct of a program's own.
-#[derive(Drop)]
-struct Shelf<'r> {
-    pair: [Bundle<'r, 'static>; 2],
-}
-
-fn shelf_of<'r>(
-    alloc: Global,
-    first: &'r FluentResource<'static>,
-    second: &'r FluentResource<'static>,
-) -> Result<Shelf<'r>, AllocError> {
-    Ok(Shelf {
-        pair: [
-            bundle_of(alloc, &[], first)?,
-            bundle_of(alloc, &[], second)?,
-        ],
-    })
 }
 
 /// An id, the name of an attribute or none, and the place of the bundle that answers.
@@ -104,14 +85,6 @@ fn a_list_says_which_bundle_answers(rt: HostRuntime) -> Result<(), Fail> {
     answers(&rt, &Chain::of(bundles.as_slice()), OF_ONE);
     bundles.clear();
     answers(&rt, &Chain::of(bundles.as_slice()), &[("a", None, None)]);
-    Ok(())
-}
-
-#[test]
-fn a_struct_keeps_bundles_in_an_array(rt: HostRuntime) -> Result<(), Fail> {
-    let [first, second] = two(rt.alloc())?;
-    let shelf = shelf_of(rt.alloc(), &first, &second)?;
-    answers(&rt, &Chain::of(&shelf.pair), PLACES);
     Ok(())
 }
 

@@ -428,12 +428,56 @@ const SOURCES: Table = Table {
     ],
 };
 
-const TABLES: &[Table] = &[HALF, NONE, ALL, TWICE, WINNING, FUNCTIONS, SOURCES];
+const HALF_ALONE: &[Table] = &[HALF];
+
+const NOTHING_AND_ALL: &[Table] = &[NONE, ALL];
+
+const LEFT_AND_WINNING: &[Table] = &[TWICE, WINNING];
+
+const SHARED_IDS: &[Table] = &[FUNCTIONS];
+
+const TURNS: &[Table] = &[SOURCES];
 
 /// Run with each allocation failing in turn, and all from each one on.
 #[test]
 fn calls_that_are_refused_leave_a_bundle_as_before(rt: HostRuntime) -> Result<(), Fail> {
-    for table in TABLES {
+    for table in HALF_ALONE {
+        holds(&rt, rt.alloc(), table)?;
+    }
+    Ok(())
+}
+
+/// Run with each allocation failing in turn, and all from each one on.
+#[test]
+fn so_they_do_where_nothing_is_there_and_where_all_is(rt: HostRuntime) -> Result<(), Fail> {
+    for table in NOTHING_AND_ALL {
+        holds(&rt, rt.alloc(), table)?;
+    }
+    Ok(())
+}
+
+/// Run with each allocation failing in turn, and all from each one on.
+#[test]
+fn what_is_left_is_reported_and_what_overrides_wins(rt: HostRuntime) -> Result<(), Fail> {
+    for table in LEFT_AND_WINNING {
+        holds(&rt, rt.alloc(), table)?;
+    }
+    Ok(())
+}
+
+/// Run with each allocation failing in turn, and all from each one on.
+#[test]
+fn functions_share_the_ids(rt: HostRuntime) -> Result<(), Fail> {
+    for table in SHARED_IDS {
+        holds(&rt, rt.alloc(), table)?;
+    }
+    Ok(())
+}
+
+/// Run with each allocation failing in turn, and all from each one on.
+#[test]
+fn a_source_is_added_behind_another_or_overrides_it(rt: HostRuntime) -> Result<(), Fail> {
+    for table in TURNS {
         holds(&rt, rt.alloc(), table)?;
     }
     Ok(())
