@@ -7,7 +7,7 @@ use Rattle.fluent_tree.specs.Tree.{Text, Pattern}
 use Rattle.fluent_text.specs.Taken.{Faulted}
 use Rattle.fluent_text.specs.declared.counting.WriteFault.{WriteFault}
 use Rattle.fluent_text.specs.declared.counting.WriteFault.TheVariants as fault
-use Rattle.fluent_values.specs.declared.resolver.output.Halt.{Halt}
+use Rattle.fluent_values.specs.declared.output.Halt.{Halt}
 use Rattle.fluent_meaning.specs.Errors.{Error}
 use Rattle.fluent_meaning.specs.Value.{Value}
 use Rattle.fluent_meaning.specs.Arguments.{Map}
@@ -18,9 +18,9 @@ use Rattle.fluent_meaning.specs.Work.{with_work, work}
 use Rattle.fluent_meaning.specs.Laws.{CallsByThemselves}
 use Rattle.fluent_meaning.specs.Result.{written_pattern, substituted_pattern}
 use Rattle.fluent_bundle.specs.Formatted.{AddsAll, WritesAll, Writes}
-use Rattle.fluent_values.specs.Status.{Status, reported, with_errors}
-use Rattle.fluent_values.specs.Trail.{on_path}
-use Rattle.fluent_values.specs.Along.{Walk, Wrote, from_here, given}
+use Rattle.fluent_resolver.specs.Status.{Status, reported, with_errors}
+use Rattle.fluent_resolver.specs.Trail.{on_path}
+use Rattle.fluent_resolver.specs.Along.{Walk, Wrote, from_here, given}
 use Rattle.fluent_bundle.specs.Limits.{KeepsLimit}
 use Rattle.fluent_values.specs.Written.{Sink, SinkTook, CountsTell, without_error, writer, at}
 use Rattle.fluent_entries.specs.declared.errors.FluentError.{FluentError}

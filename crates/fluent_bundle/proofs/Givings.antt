@@ -11,7 +11,7 @@ use Rattle.fluent_bundle.specs.Formatted.{AddsAll, GivesText}
 use Rattle.fluent_meaning.specs.Walk.{Environment, application, elements, deep, inner, has_one}
 use Rattle.fluent_meaning.specs.Meaning.{Budget, Ran, left, ran, after_text, within_budget}
 use Rattle.fluent_values.specs.Texts.{sole_text, is_text, texts_of}
-use Rattle.fluent_values.specs.Status.{reported}
+use Rattle.fluent_resolver.specs.Status.{reported}
 use Rattle.fluent_bundle.specs.Limits.{KeepsLimit}
 use Rattle.fluent_entries.specs.declared.errors.FluentError.{FluentError}
 

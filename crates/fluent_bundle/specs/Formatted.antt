@@ -7,9 +7,9 @@ use Rattle.std.specs.Io.KnownBytes.{Appends}
 use Rattle.fluent_tree.specs.Tree.{Text}
 use Rattle.fluent_meaning.specs.Errors.{Error}
 use Rattle.fluent_meaning.specs.Meaning.{Ran}
-use Rattle.fluent_values.specs.Status.{reported}
+use Rattle.fluent_resolver.specs.Status.{reported}
 use Rattle.fluent_values.specs.Written.{Sink, CountsTell}
-use Rattle.fluent_values.specs.declared.resolver.output.Halt.{Halt}
+use Rattle.fluent_values.specs.declared.output.Halt.{Halt}
 use Rattle.fluent_entries.specs.declared.errors.FluentError.{FluentError}
 
 -- The list of errors has these after those that stood in it.

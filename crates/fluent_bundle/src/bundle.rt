@@ -13,11 +13,10 @@ ghost use Rattle.fluent_bundle.specs.Adding.{answer_of};
 use crate::resource::FluentResource;
 use fluent_intl::{EnglishPlurals, LanguageIdentifier, MemoizerKind};
 use fluent_syntax::ast;
-use fluent_values::resolver::Context;
 use fluent_values::types::FluentType;
 use fluent_values::{
-    Entry, FluentError, FluentFormatter, FluentFunction, FluentMessage, FunctionRef, GetEntry, Ids,
-    Transform,
+    Context, Entry, FluentError, FluentFormatter, FluentFunction, FluentMessage, FunctionRef,
+    GetEntry, Ids, Transform,
 };
 use std::alloc::{AllocError, Global};
 use std::borrow::CowStr;

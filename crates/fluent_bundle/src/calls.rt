@@ -8,9 +8,8 @@ ghost use Rattle.fluent_bundle.specs.Calls.{asked, BegunBy, Makes, TakesNoMemory
 use crate::bundle::{AddFault, FluentBundle};
 use crate::resource::FluentResource;
 use fluent_intl::MemoizerKind;
-use fluent_values::resolver::Context;
 use fluent_values::types::FluentType;
-use fluent_values::{FluentFormatter, FluentFunction, Transform};
+use fluent_values::{Context, FluentFormatter, FluentFunction, Transform};
 use std::alloc::AllocError;
 
 /// A call that changes a bundle, with what it hands over.

@@ -4,7 +4,7 @@ ghost use Rattle.std.specs.Option.{option_map};
 ghost use Rattle.std.specs.Cow.{cow_str_bytes};
 ghost use Rattle.fluent_tree.specs.View.{attribute_view, pattern_view};
 ghost use Rattle.fluent_values.specs.MessageView.{content_of};
-ghost use Rattle.fluent_values.specs.Status.{arguments_view};
+ghost use Rattle.fluent_resolver.specs.Status.{arguments_view};
 ghost use Rattle.fluent_bundle.specs.BundleView.{message_at};
 ghost use Rattle.fluent_bundle.specs.Formatted.{AddsAll, AddsFront};
 ghost use Rattle.fluent_bundle.specs.Messages.{attribute_errors, attribute_shown, attribute_texts, message_errors, message_shown, message_text, text_of, value_errors};
@@ -12,10 +12,9 @@ ghost use Rattle.fluent_bundle.specs.Messages.{attribute_errors, attribute_shown
 use crate::bundle::FluentBundle;
 use fluent_intl::MemoizerKind;
 use fluent_syntax::ast;
-use fluent_values::resolver::Context;
 use fluent_values::types::FluentType;
 use fluent_values::{
-    FluentArgs, FluentError, FluentFormatter, FluentFunction, GetEntry, Transform,
+    Context, FluentArgs, FluentError, FluentFormatter, FluentFunction, GetEntry, Transform,
 };
 use std::alloc::AllocError;
 use std::borrow::CowStr;

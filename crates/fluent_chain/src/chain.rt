@@ -4,7 +4,7 @@ ghost use Rattle.std.specs.List.{list_any};
 ghost use Rattle.std.specs.Option.{option_map};
 ghost use Rattle.fluent_text.specs.Writer.{writer_in, CountsFault};
 ghost use Rattle.fluent_tree.specs.View.{pattern_view};
-ghost use Rattle.fluent_values.specs.Status.{arguments_view};
+ghost use Rattle.fluent_resolver.specs.Status.{arguments_view};
 ghost use Rattle.fluent_bundle.specs.BundleView.{meant};
 ghost use Rattle.fluent_bundle.specs.Formatted.{AddsFront, WritesFront};
 ghost use Rattle.fluent_chain.specs.Chain.{value_at, attribute_at, first_with, place_with, shown_of, written_of};

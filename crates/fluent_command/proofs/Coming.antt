@@ -12,7 +12,7 @@ use Rattle.fluent_text.specs.Taken.{Faulted}
 use Rattle.fluent_text.specs.declared.counting.WriteFault.{WriteFault}
 use Rattle.fluent_text.specs.declared.counting.WriteFault.TheVariants.{Memory, Writer, Zero}
 use Rattle.fluent_meaning.specs.Errors.{Error}
-use Rattle.fluent_values.specs.Status.{reported}
+use Rattle.fluent_resolver.specs.Status.{reported}
 use Rattle.fluent_entries.specs.declared.errors.FluentError.{FluentError}
 use Rattle.fluent_bundle.specs.Formatted.{AddsAll, AddsFront}
 use Rattle.fluent_meaning.specs.Laws.{Begins}

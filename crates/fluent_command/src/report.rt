@@ -5,7 +5,7 @@ ghost use Rattle.fluent_text.specs.Writer.{writer_in, CountsFault};
 ghost use Rattle.fluent_meaning.specs.Errors.{error_text};
 ghost use Rattle.fluent_values.specs.View.{error_view};
 ghost use Rattle.fluent_command.specs.Ending.{exit_status, line, no_message, ending_line};
-ghost use Rattle.fluent_values.specs.Status.{reported};
+ghost use Rattle.fluent_resolver.specs.Status.{reported};
 ghost use Rattle.fluent_command.specs.EndingView.{ending_view};
 ghost use Rattle.fluent_command.specs.Outcome.{ReportsRun};
 ghost use Rattle.fluent_command.specs.Outlet.{outlet};

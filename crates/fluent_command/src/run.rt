@@ -2,7 +2,7 @@
 
 ghost use Rattle.std.specs.Prelude.{◌≡◌, ◌≢◌, ◌≤◌, ◌⊎◌, ℕ, List, [], map, None, string_bytes};
 ghost use Rattle.fluent_meaning.specs.Errors.{Error};
-ghost use Rattle.fluent_values.specs.Status.{reported};
+ghost use Rattle.fluent_resolver.specs.Status.{reported};
 ghost use Rattle.fluent_command.specs.Words.{asked_by};
 ghost use Rattle.fluent_command.specs.Inside.WordsView.{asked_view};
 ghost use Rattle.fluent_command.specs.Plurals.{HasBadRule};

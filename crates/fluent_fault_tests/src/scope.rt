@@ -9,8 +9,8 @@ use fluent_bundle::ast::{CallArguments, Expression, InlineExpression, Pattern, P
 use fluent_bundle::{
     Counting, FluentArgs, FluentError, FluentValue, ReferenceKind, ResolverError, Scope, WriteFault,
 };
-use fluent_values::resolver::output::{Output, with_error};
-use fluent_values::resolver::{Place, write_pattern};
+use fluent_resolver::{Place, write_pattern};
+use fluent_values::output::{Output, with_error};
 use std::alloc::{AllocError, Global};
 use std::process::Abort;
 use std::test::Fail;

@@ -5,10 +5,10 @@ use crate::own::Star;
 use fluent_bundle::ast::Pattern;
 use fluent_bundle::resolver::Context;
 use fluent_bundle::{Counting, FluentValue, Scope, WriteFault};
+use fluent_resolver::texts::put_texts;
 use fluent_syntax::{put, unescape_unicode};
-use fluent_values::resolver::output::{Output, put_text, with_error};
-use fluent_values::resolver::texts::put_texts;
-use fluent_values::resolver::value::put_value;
+use fluent_values::output::{Output, put_text, put_unescaped, with_error};
+use fluent_values::shown::put_value;
 use std::alloc::{AllocError, Global};
 use std::borrow::CowStr;
 use std::process::Abort;
@@ -32,6 +32,7 @@ enum Shown {
     Change,
     PutText,
     PutTexts,
+    PutUnescaped,
     PutBytes,
     Unescape,
 }
@@ -110,6 +111,23 @@ fn fill_text(w: &mut Counting<Vec<u8>>, buffer: &mut String, text: &str) -> Resu
     with_error(answer, out.error)
 }
 
+/// The same of a text with its escapes resolved.
+fn fill_unescaped(
+    alloc: Global,
+    w: &mut Counting<Vec<u8>>,
+    buffer: &mut String,
+    text: &str,
+) -> Result<(), WriteFault> {
+    let mut out = Output {
+        writer: w,
+        buffer,
+        is_buffered: true,
+        error: None,
+    };
+    let answer = put_unescaped(alloc, &mut out, text);
+    with_error(answer, out.error)
+}
+
 /// The same of the texts of a pattern.
 fn fill_texts(
     w: &mut Counting<Vec<u8>>,
@@ -156,6 +174,13 @@ fn texts_fill(alloc: Global, pattern: &Pattern<'_>) -> Result<bool, AllocError> 
     let mut w = Counting::new(Vec::new(alloc));
     let answer = fill_texts(&mut w, &mut buffer, pattern);
     is_filled(answer, w, buffer.as_str(), "abc")
+}
+
+fn unescaped_fills(alloc: Global) -> Result<bool, AllocError> {
+    let mut buffer = String::new(alloc);
+    let mut w = Counting::new(Vec::new(alloc));
+    let answer = fill_unescaped(alloc, &mut w, &mut buffer, "x\\u0041");
+    is_filled(answer, w, buffer.as_str(), "xA")
 }
 
 /// Bytes that a writer takes.
@@ -212,6 +237,7 @@ fn is_shown(
     match shown {
         Shown::PutText => text_fills(alloc),
         Shown::PutTexts => texts_fill(alloc, pattern),
+        Shown::PutUnescaped => unescaped_fills(alloc),
         Shown::PutBytes => bytes(alloc),
         Shown::Unescape => unescaped(alloc),
         _ => is_asked(alloc, bundle, shown),
@@ -227,6 +253,7 @@ const ALL: &[Shown] = &[
     Shown::Change,
     Shown::PutText,
     Shown::PutTexts,
+    Shown::PutUnescaped,
     Shown::PutBytes,
     Shown::Unescape,
 ];

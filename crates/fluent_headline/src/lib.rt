@@ -7,7 +7,7 @@ ghost use Rattle.fluent_text.specs.Writer.{writer_in, CountsFault};
 ghost use Rattle.fluent_tree.specs.View.{pattern_view};
 ghost use Rattle.fluent_bundle.specs.BundleView.{custom_by, entries_of, meant};
 ghost use Rattle.fluent_bundle.specs.Calls.{asked};
-ghost use Rattle.fluent_values.specs.Status.{arguments_view};
+ghost use Rattle.fluent_resolver.specs.Status.{arguments_view};
 ghost use Rattle.fluent_headline.specs.Headline.{bundle_after, step};
 ghost use Rattle.fluent_headline.specs.Inside.OnTheWay.{source_of, step_over};
 ghost use Rattle.fluent_bundle.specs.Formatting.{WritesWithin, WritesWhole, WritesBeginning};

@@ -3,7 +3,7 @@
 use crate::check::check;
 use fluent_text::WriteFault;
 use fluent_tree::ParserError;
-use fluent_values::resolver::output::{Halt, with_error};
+use fluent_values::output::{Halt, with_error};
 use fluent_values::{EntryKind, FluentError, ReferenceKind, ResolverError};
 use std::alloc::{AllocError, Global};
 use std::io::{self, ErrorKind};

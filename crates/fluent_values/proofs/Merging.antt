@@ -12,7 +12,7 @@ use Rattle.fluent_meaning.specs.Number.{as_count, is_text}
 use Rattle.fluent_meaning.specs.Value.{Value, text_value, number_value, custom_value, no_value, error_value}
 use Rattle.fluent_meaning.specs.Arguments.{Map, merge, merge_one, merge_text, merge_count}
 use Rattle.fluent_values.specs.Merging.{by_text, by_count, with_argument, with_currency, with_kinds, with_digits}
-use Rattle.fluent_values.proofs.Ordered.{bytes_cmp, front_of, rest_of, not_below_itself}
+use Rattle.fluent_values.specs.Facts.Ordered.{bytes_cmp, front_of, rest_of, not_below_itself}
 
 -- ---- one option over all arguments
 

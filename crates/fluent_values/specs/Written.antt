@@ -8,9 +8,9 @@ use Rattle.fluent_text.specs.Writer.{writer_in, failed_in, empty_in}
 use Rattle.fluent_text.specs.declared.counting.Counting.{Counting}
 use Rattle.fluent_text.specs.declared.counting.WriteFault.{WriteFault}
 use Rattle.fluent_text.specs.declared.counting.WriteFault.TheVariants as fault
-use Rattle.fluent_values.specs.declared.resolver.output.Halt.{Halt}
-use Rattle.fluent_values.specs.declared.resolver.output.Halt.TheVariants as halt
-use Rattle.fluent_values.specs.declared.resolver.output.Output.{Output}
+use Rattle.fluent_values.specs.declared.output.Halt.{Halt}
+use Rattle.fluent_values.specs.declared.output.Halt.TheVariants as halt
+use Rattle.fluent_values.specs.declared.output.Output.{Output}
 
 -- an answer without the writer's own error
 abbrev pub halt_of : WriteFault → Halt

@@ -11,9 +11,8 @@ ghost use Rattle.fluent_values.specs.View.{value_view};
 
 use crate::bundle::FluentBundle;
 use fluent_intl::{MemoizerKind, PluralCategory, PluralOperands, PluralRuleType};
-use fluent_values::resolver::Context;
 use fluent_values::types::{FluentNumber, FluentNumberType, FluentType, FluentValue};
-use fluent_values::{FluentFormatter, FluentFunction, Transform};
+use fluent_values::{Context, FluentFormatter, FluentFunction, Transform};
 use std::alloc::{AllocError, Global};
 use std::borrow::CowStr;
 

@@ -2,7 +2,7 @@ use Rattle.std.proofs.Common.{◌≡◌, subst, map, IfOk}
 use Rattle.fluent_tree.specs.View.{pattern_view}
 use Rattle.fluent_bundle.specs.BundleView.{custom_by, meant}
 use Rattle.fluent_bundle.specs.Formatting.{GivesWithin}
-use Rattle.fluent_values.specs.Status.{arguments_view}
+use Rattle.fluent_resolver.specs.Status.{arguments_view}
 use Rattle.fluent_headline.specs.Headline.{bundle_after, step}
 use Rattle.fluent_headline.proofs.Nothing.{none_added}
 use Rattle.fluent_headline.proofs.format_after.Goals as goal

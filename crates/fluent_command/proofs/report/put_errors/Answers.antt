@@ -4,7 +4,7 @@ use Rattle.fluent_text.specs.Writer.{writer_in}
 use Rattle.fluent_text.specs.declared.counting.WriteFault.TheVariants.{Memory}
 use Rattle.fluent_text.specs.Taken.{TookFront}
 use Rattle.fluent_command.specs.Ending.{error_lines}
-use Rattle.fluent_values.specs.Status.{reported}
+use Rattle.fluent_resolver.specs.Status.{reported}
 use Rattle.fluent_command.proofs.Began.{took_fault}
 use Rattle.fluent_command.proofs.Lines.{one_more, first_precede, lines_on}
 use Rattle.fluent_command.proofs.Taking.{front_short, front_then}

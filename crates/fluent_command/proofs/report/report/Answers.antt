@@ -6,7 +6,7 @@ use Rattle.fluent_text.specs.Taken.{TookFront}
 use Rattle.fluent_text.specs.declared.counting.WriteFault.{WriteFault}
 use Rattle.fluent_text.specs.declared.counting.WriteFault.TheVariants.{Memory}
 use Rattle.fluent_command.specs.Ending.{ending_line}
-use Rattle.fluent_values.specs.Status.{reported}
+use Rattle.fluent_resolver.specs.Status.{reported}
 use Rattle.fluent_command.specs.EndingView.{ending_view}
 use Rattle.fluent_command.specs.declared.report.Ending.{Ending}
 use Rattle.fluent_command.specs.Inside.Said.{TookErrors}

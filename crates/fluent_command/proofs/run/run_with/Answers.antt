@@ -1,6 +1,6 @@
 use Rattle.std.proofs.Common.{rules, ◌≡◌, map, string_bytes, subst}
 use Rattle.fluent_text.specs.declared.counting.WriteFault.TheVariants.{Memory}
-use Rattle.fluent_values.specs.Status.{reported}
+use Rattle.fluent_resolver.specs.Status.{reported}
 use Rattle.fluent_command.specs.EndingView.{ending_view}
 use Rattle.fluent_command.specs.Outcome.{ReportsRun}
 use Rattle.fluent_command.specs.Outlet.{outlet}

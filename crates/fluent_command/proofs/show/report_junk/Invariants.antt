@@ -1,6 +1,6 @@
 use Rattle.std.proofs.Common.{◌≡◌, ◌++◌, map, take}
 use Rattle.fluent_syntax.specs.Parsed.{error_range}
-use Rattle.fluent_values.specs.Status.{reported}
+use Rattle.fluent_resolver.specs.Status.{reported}
 use Rattle.fluent_command.specs.Program.{error_at}
 use Rattle.fluent_command.proofs.show.report_junk.Given as goal
 

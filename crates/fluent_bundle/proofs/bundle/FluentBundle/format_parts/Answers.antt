@@ -3,7 +3,7 @@ use Rattle.std.specs.Option.{option_map}
 use Rattle.fluent_tree.specs.View.{pattern_view}
 use Rattle.fluent_bundle.specs.BundleView.{meant}
 use Rattle.fluent_bundle.specs.Messages.{value_errors}
-use Rattle.fluent_values.specs.Status.{arguments_view}
+use Rattle.fluent_resolver.specs.Status.{arguments_view}
 use Rattle.fluent_bundle.proofs.Parts.{front_first, front_of_all, parts_all, parts_front}
 use Rattle.fluent_bundle.proofs.bundle.FluentBundle.format_parts.Goals as goal
 

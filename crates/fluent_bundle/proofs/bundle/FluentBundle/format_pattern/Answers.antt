@@ -3,7 +3,7 @@ use Rattle.std.specs.Option.{option_map, unwrap_or}
 use Rattle.fluent_tree.specs.View.{pattern_view}
 use Rattle.fluent_meaning.specs.Bundle.{transform_of, formatter_of}
 use Rattle.fluent_bundle.specs.BundleView.{formatter_in, intls_in, meant, transform_in}
-use Rattle.fluent_values.specs.Status.{arguments_view}
+use Rattle.fluent_resolver.specs.Status.{arguments_view}
 use Rattle.fluent_bundle.proofs.Givings.{gives_within, lent_where, sole_formatted, sole_known, none_added}
 use Rattle.fluent_bundle.proofs.bundle.FluentBundle.format_pattern.Goals as goal
 

@@ -1,5 +1,5 @@
 use Rattle.std.proofs.Common.{refl, sym, [], append-nil}
-use Rattle.fluent_values.specs.Status.{reported}
+use Rattle.fluent_resolver.specs.Status.{reported}
 use Rattle.fluent_bundle.proofs.bundle.FluentBundle.gather.Goals as goal
 
 pub returns-in_err-text-clause-front : goal.returns-in_err-text-clause-front

@@ -1,7 +1,7 @@
 use Rattle.std.proofs.Common.{rules, refl, sym, ap, ◌∙◌}
 use Rattle.fluent_tree.specs.View.{pattern_view}
 use Rattle.fluent_bundle.specs.BundleView.{meant}
-use Rattle.fluent_values.specs.Status.{arguments_view}
+use Rattle.fluent_resolver.specs.Status.{arguments_view}
 use Rattle.fluent_values.specs.Written.{without_error}
 use Rattle.fluent_bundle.proofs.Formats.{substituted_of, written_by, ok_as, faulted_as}
 use Rattle.fluent_bundle.proofs.bundle.FluentBundle.write_pattern.Goals as goal

@@ -1,7 +1,7 @@
 use Rattle.std.proofs.Common.{rules}
 use Rattle.std.proofs.lemmas.Fn.{always_returns_same}
 use Rattle.fluent_values.specs.Names.{to_name}
-use Rattle.fluent_values.proofs.Pairs.{searched}
+use Rattle.fluent_values.specs.Facts.Pairs.{searched}
 use Rattle.fluent_values.proofs.args.FluentArgs.place_of.Goals as goal
 
 -- the closure compares a pair's name, and the slice is the pairs

@@ -3,8 +3,8 @@ use Rattle.std.specs.Cow.{cow_str_bytes}
 use Rattle.fluent_meaning.specs.Arguments as fin
 use Rattle.fluent_values.specs.Names.{IsPlaceOf}
 use Rattle.fluent_values.specs.View.{value_view, named}
-use Rattle.fluent_values.proofs.Keyed.{both}
-use Rattle.fluent_values.proofs.Pairs.{put_there, put_in_gap, rise_there, rise_after, find_in_gap, rise_seen}
+use Rattle.fluent_values.specs.Facts.Keyed.{both}
+use Rattle.fluent_values.specs.Facts.Pairs.{put_there, put_in_gap, rise_there, rise_after, find_in_gap, rise_seen}
 use Rattle.fluent_values.proofs.args.FluentArgs.set.Goals as goal
 
 pub invariant_of-self : goal.invariant_of-self

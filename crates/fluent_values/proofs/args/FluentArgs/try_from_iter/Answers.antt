@@ -3,7 +3,7 @@ use Rattle.std.specs.Cow.{cow_str_bytes}
 use Rattle.fluent_meaning.specs.Arguments.{set}
 use Rattle.fluent_values.specs.View.{value_view}
 use Rattle.fluent_values.specs.Args.{CanGive, pair_view}
-use Rattle.fluent_values.proofs.Setting.{first_given, on_err, set_all_more}
+use Rattle.fluent_values.specs.Facts.Setting.{first_given, on_err, set_all_more}
 use Rattle.fluent_values.proofs.args.FluentArgs.try_from_iter.Goals as goal
 
 pub loop-name-preserved : goal.loop-name-preserved

@@ -2,7 +2,7 @@ use Rattle.std.proofs.Common.{◌∙◌, ap}
 use Rattle.fluent_values.specs.View.{value_view, named}
 use Rattle.fluent_values.specs.Merging.{with_kinds, with_digits}
 use Rattle.fluent_values.proofs.Merging.{merged_by_names}
-use Rattle.fluent_values.proofs.Pairs.{rise_seen}
+use Rattle.fluent_values.specs.Facts.Pairs.{rise_seen}
 use Rattle.fluent_values.proofs.types.merge.FluentNumberOptionsMergeArgs.merge.Goals as goal
 
 pub returns-clause-ok : goal.returns-clause-ok

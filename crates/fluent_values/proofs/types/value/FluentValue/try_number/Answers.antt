@@ -1,4 +1,4 @@
-use Rattle.fluent_values.proofs.Reading.{number_read, text_kept}
+use Rattle.fluent_values.specs.Facts.Reading.{number_read, text_kept}
 use Rattle.fluent_values.proofs.types.value.FluentValue.try_number.Goals as goal
 
 pub returns-in-Ok : goal.returns-in-Ok

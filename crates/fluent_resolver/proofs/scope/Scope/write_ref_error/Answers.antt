@@ -1,0 +1,20 @@
+use Rattle.std.proofs.Common.{ap, refl, sym, ◌∙◌}
+use Rattle.fluent_tree.specs.View.{inline_view}
+use Rattle.fluent_resolver.specs.Status.{status, scope_parts}
+use Rattle.fluent_values.specs.Written.{without_error}
+use Rattle.fluent_resolver.proofs.ScopeCalls.{losing_runs}
+use Rattle.fluent_resolver.proofs.scope.Scope.write_ref_error.Goals as goal
+
+pub returns-clause-runs : goal.returns-clause-runs
+unfolding scope_parts
+returns-clause-runs g c =
+    let a = status g.B.Context.meant g.B.Context.is_plain g.F.FluentFunction.answer g.C.FluentType.content c.args.self.now in
+    losing_runs a (inline_view c.args.inline.now)
+
+pub returns-clause-bundle : goal.returns-clause-bundle
+unfolding scope_parts
+returns-clause-bundle g c = c.lose-written.ensures.wrote.went.along.passed.keeps.borrow
+
+pub returns-clause-memory : goal.returns-clause-memory
+unfolding scope_parts
+returns-clause-memory g c = λ none is. c.lose-written.ensures.memory none refl (sym c.with_error.ensures ∙ ap without_error is)

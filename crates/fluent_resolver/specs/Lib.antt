@@ -1,0 +1,9 @@
+pub mod Gathered
+pub mod FoundView
+pub mod Trail
+pub mod Status
+pub mod Along
+pub mod Tracking
+pub mod Sizes
+pub mod Choice
+pub mod ChosenView

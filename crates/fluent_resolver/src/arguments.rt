@@ -1,0 +1,283 @@
+//! Values: of arguments and of selectors.
+#![tactic(auto, unfolding(crate::specs::Status::scope_parts))]
+
+ghost use Rattle.std.specs.Prelude.{◌≡◌, [], ◌∷◌, ◌++◌, map, IfOk, OnOk};
+ghost use Rattle.std.specs.Option.{option_map};
+ghost use Rattle.fluent_tree.specs.References.{in_arguments, in_call, in_inline, in_named, in_positional};
+ghost use Rattle.fluent_tree.specs.Tree.{function, variable, inlines_of, nameds_of};
+ghost use Rattle.fluent_tree.specs.View.{inline_view, arguments_view, call_view, named_view};
+ghost use Rattle.fluent_meaning.specs.Arguments.{get, set_all};
+ghost use Rattle.fluent_meaning.specs.Walk.{written, resolved, called, local_of, positional, named as named_arguments};
+ghost use Rattle.fluent_meaning.specs.Work.{with_work};
+ghost use Rattle.fluent_resolver.specs.Along.{Gave, Got, Wrote, mapping};
+ghost use Rattle.fluent_entries.specs.Numbered.{IsPlaced};
+ghost use Rattle.fluent_resolver.specs.Status.{status, arguments_view as given_arguments};
+ghost use Rattle.fluent_values.specs.View.{value_view, named};
+ghost use Rattle.fluent_values.specs.Written.{writer, beside};
+
+use crate::environment::Environment;
+use crate::found::answer_of;
+use crate::gathered::Gathered;
+use crate::inline_expression::{report_lost, write_inline};
+use crate::scope::Scope;
+use fluent_links::Place;
+use fluent_text::{Counting, unescape_unicode_to_string};
+use fluent_tree::ast::{CallArguments, Identifier, InlineExpression, NamedArgument};
+use fluent_values::output::{Halt, Output};
+use fluent_values::{Context, FluentArgs, FluentFunction, FluentType, FluentValue};
+use std::alloc::{AllocError, Global};
+use std::borrow::CowStr;
+use std::io::Write;
+
+/// The value of a selector or an argument. What refers to a pattern, and a nested placeable, is the text that it
+/// gives.
+#[cycle(resolve)]
+pub(crate) fn resolve<'p, 's, W: Write, C: FluentType, F: FluentFunction<C>, B: Context<C>>(
+    scope: &mut Scope<'_, 'p, '_, 's, '_, C, F, B>,
+    w: &mut Counting<W>,
+    inline: &'p InlineExpression<'s>,
+    place: Place<'p>,
+) -> Result<FluentValue<'p, C>, Halt>
+    requires { IsPlaced scope.old.ids.now (in_inline (inline_view inline.now)) place }
+    ensures { let at = status B.meant B.is_plain F.answer C.content in
+        Gave result (value_view C.content)
+        (λ b below env path. resolved with_work b below env path (inline_view inline.now))
+        (writer W.contents w.old) (writer W.contents w.new) (at scope.old) (at scope.new) }
+{
+    match inline {
+        InlineExpression::StringLiteral { value } => {
+            let text = unescape_unicode_to_string(scope.bundle.allocator(), value)?;
+            Ok(FluentValue::String(text))
+        }
+        InlineExpression::NumberLiteral { value } => Ok(FluentValue::try_number(value)),
+        InlineExpression::FunctionReference { id, arguments } => {
+            resolve_function(scope, w, inline, id, arguments, place)
+        }
+        InlineExpression::VariableReference { id } => Ok(resolve_variable(scope, inline, id)?),
+        _ => {
+            let mut text = String::new(scope.bundle.allocator());
+            write_beside(scope, w, &mut text, inline, place)?;
+            Ok(FluentValue::String(CowStr::Owned(text)))
+        }
+    }
+}
+
+/// A function's answer to its arguments; an error value where there is no such function. It stands by itself, as what
+/// a call may hold costs at its entry.
+#[cycle(resolve)]
+fn resolve_function<'p, 's, W: Write, C: FluentType, F: FluentFunction<C>, B: Context<C>>(
+    scope: &mut Scope<'_, 'p, '_, 's, '_, C, F, B>,
+    w: &mut Counting<W>,
+    inline: &InlineExpression<'_>,
+    id: &Identifier<'_>,
+    arguments: &'p CallArguments<'s>,
+    place: Place<'p>,
+) -> Result<FluentValue<'p, C>, Halt>
+    requires view { inline_view inline.now
+        ≡ function id.now.name.now (arguments_view arguments.now) }
+    requires placed { IsPlaced scope.old.ids.now (in_inline (inline_view inline.now)) place }
+    ensures { let at = status B.meant B.is_plain F.answer C.content in
+        Gave result (value_view C.content)
+        (λ b below env path. resolved with_work b below env path (inline_view inline.now))
+        (writer W.contents w.old) (writer W.contents w.new) (at scope.old) (at scope.new) }
+{
+    let (positional, named) = resolve_call(scope, w, arguments, place.after_one())?;
+    let alloc = scope.bundle.allocator();
+    let answer = answer_of(scope.ids, alloc, id.name, &positional, &named, place)?;
+    Ok(answer.unwrap_or(FluentValue::Error))
+}
+
+/// Writes what an inline expression gives to a text, and leaves the writer alone.
+#[cycle(resolve)]
+fn write_beside<'p, 's, W: Write, C: FluentType, F: FluentFunction<C>, B: Context<C>>(
+    scope: &mut Scope<'_, 'p, '_, 's, '_, C, F, B>,
+    w: &mut Counting<W>,
+    text: &mut String,
+    inline: &'p InlineExpression<'s>,
+    place: Place<'p>,
+) -> Result<(), Halt>
+    requires { IsPlaced scope.old.ids.now (in_inline (inline_view inline.now)) place }
+    ensures { let at = status B.meant B.is_plain F.answer C.content in
+        Wrote result
+        (λ b below env path. written with_work b below env path (inline_view inline.now))
+        (beside W.contents w.old text.old) (beside W.contents w.new text.new)
+        (at scope.old) (at scope.new) }
+{
+    let mut out = Output {
+        writer: w,
+        buffer: text,
+        is_buffered: true,
+        error: None,
+    };
+    write_inline(scope, &mut out, inline, place)
+}
+
+/// A copy of a variable's value. One that is missing is an error value, with the error that it has where it is
+/// written.
+fn resolve_variable<'p, C: FluentType, F: FluentFunction<C>, B: Context<C>>(
+    scope: &mut Scope<'_, 'p, '_, '_, '_, C, F, B>,
+    inline: &InlineExpression<'_>,
+    id: &Identifier<'_>,
+) -> Result<FluentValue<'p, C>, AllocError>
+    requires { inline_view inline.now ≡ variable id.now.name.now }
+    ensures { let at = status B.meant B.is_plain F.answer C.content in
+        Got result (value_view C.content)
+        (λ b below env path. resolved with_work b below env path (inline_view inline.now))
+        (at scope.old) (at scope.new) }
+{
+    let alloc = scope.bundle.allocator();
+    match &scope.environment {
+        Environment::Local(args) => match args.get(id.name) {
+            Some(value) => value.try_clone(alloc),
+            None => Ok(FluentValue::Error),
+        },
+        Environment::Application(args) => match argument(*args, id.name) {
+            Some(value) => lent(alloc, value),
+            None => {
+                report_lost(scope, inline)?;
+                Ok(FluentValue::Error)
+            }
+        },
+    }
+}
+
+/// The value of a variable among arguments, if there are any.
+pub(crate) fn argument<'p, 'args, C: FluentType>(
+    args: Option<&'p FluentArgs<'args, C>>,
+    name: &str,
+) -> Option<&'p FluentValue<'args, C>>
+    ensures { option_map (λ v. value_view C.content v.now) result
+        ≡ get name.now (given_arguments C.content args.entry) }
+{
+    match args {
+        Some(args) => args.get(name),
+        None => None,
+    }
+}
+
+/// A copy of a value that borrows its text.
+fn lent<'v, C: FluentType>(
+    alloc: Global,
+    value: &'v FluentValue<'_, C>,
+) -> Result<FluentValue<'v, C>, AllocError>
+    ensures { IfOk result (λ copy. value_view C.content copy ≡ value_view C.content value.now) }
+{
+    match value {
+        FluentValue::String(text) => Ok(FluentValue::String(CowStr::Borrowed(text.as_str()))),
+        _ => value.into_owned(alloc),
+    }
+}
+
+/// The environment that a term's arguments make: its named ones. The positional ones are resolved and thrown away.
+#[cycle(resolve)]
+#[inline(always)]
+pub(crate) fn resolve_local<'p, 's, W: Write, C: FluentType, F: FluentFunction<C>, B: Context<C>>(
+    scope: &mut Scope<'_, 'p, '_, 's, '_, C, F, B>,
+    w: &mut Counting<W>,
+    arguments: &'p Option<Box<CallArguments<'s>>>,
+    place: Place<'p>,
+) -> Result<FluentArgs<'p, C>, Halt>
+    requires { let call = call_view arguments.now in
+        IsPlaced scope.old.ids.now (in_call call) place }
+    ensures { let at = status B.meant B.is_plain F.answer C.content in
+        Gave result (named C.content)
+        (λ b below env path. local_of with_work b below env path (call_view arguments.now))
+        (writer W.contents w.old) (writer W.contents w.new) (at scope.old) (at scope.new) }
+{
+    match arguments {
+        None => Ok(FluentArgs::new(scope.bundle.allocator())),
+        Some(arguments) => {
+            let (_positional, named) = resolve_call(scope, w, arguments, place)?;
+            Ok(named)
+        }
+    }
+}
+
+/// The values of arguments: positional ones, then named ones, of which the last of a name stands.
+#[cycle(resolve)]
+#[inline(always)]
+pub(crate) fn resolve_call<'p, 's, W: Write, C: FluentType, F: FluentFunction<C>, B: Context<C>>(
+    scope: &mut Scope<'_, 'p, '_, 's, '_, C, F, B>,
+    w: &mut Counting<W>,
+    arguments: &'p CallArguments<'s>,
+    place: Place<'p>,
+) -> Result<(Vec<FluentValue<'p, C>>, FluentArgs<'p, C>), Halt>
+    requires { IsPlaced scope.old.ids.now (in_arguments (arguments_view arguments.now)) place }
+    ensures { let at = status B.meant B.is_plain F.answer C.content in
+        Gave result (λ v. (map (value_view C.content) v.0.items, named C.content v.1))
+        (λ b below env path. called with_work b below env path (arguments_view arguments.now))
+        (writer W.contents w.old) (writer W.contents w.new) (at scope.old) (at scope.new) }
+{
+    let positional = resolve_positional(scope, w, &arguments.positional, place)?;
+    let behind = place.behind_positional(&arguments.positional);
+    let named = resolve_named(scope, w, &arguments.named, behind)?;
+    Ok((positional, named))
+}
+
+/// The values of positional arguments, in order.
+#[cycle(resolve)]
+#[inline(always)]
+fn resolve_positional<'p, 's, W: Write, C: FluentType, F: FluentFunction<C>, B: Context<C>>(
+    scope: &mut Scope<'_, 'p, '_, 's, '_, C, F, B>,
+    w: &mut Counting<W>,
+    arguments: &'p [InlineExpression<'s>],
+    place: Place<'p>,
+) -> Result<Vec<FluentValue<'p, C>>, Halt>
+    requires { IsPlaced scope.old.ids.now
+        (in_positional (inlines_of (map inline_view arguments.now))) place }
+    ensures { let at = status B.meant B.is_plain F.answer C.content in
+        Gave result (λ v. map (value_view C.content) v.items)
+        (λ b below env path. positional with_work b below env path
+        (inlines_of (map inline_view arguments.now)))
+        (writer W.contents w.old) (writer W.contents w.new) (at scope.old) (at scope.new) }
+{
+    let mut values = Vec::new(scope.bundle.allocator());
+    let mut place = place;
+    for argument in arguments {
+        let value = resolve(scope, w, argument, place)?;
+        push_value(&mut values, value)?;
+        place = place.behind_inline(argument);
+    }
+    Ok(values)
+}
+
+/// Adds a value at the end.
+fn push_value<'p, C: FluentType>(
+    values: &mut Vec<FluentValue<'p, C>>,
+    value: FluentValue<'p, C>,
+) -> Result<(), AllocError>
+    ensures { OnOk result
+        (map (value_view C.content) values.new.items
+        ≡ map (value_view C.content) values.old.items ++ value_view C.content value.entry ∷ []) }
+{
+    values.push(value)?;
+    Ok(())
+}
+
+/// The values of named arguments, in order; the last of a name stands.
+#[cycle(resolve)]
+#[inline(always)]
+fn resolve_named<'p, 's, W: Write, C: FluentType, F: FluentFunction<C>, B: Context<C>>(
+    scope: &mut Scope<'_, 'p, '_, 's, '_, C, F, B>,
+    w: &mut Counting<W>,
+    arguments: &'p [NamedArgument<'s>],
+    place: Place<'p>,
+) -> Result<FluentArgs<'p, C>, Halt>
+    requires { IsPlaced scope.old.ids.now (in_named (nameds_of (map named_view arguments.now)))
+        place }
+    ensures { let at = status B.meant B.is_plain F.answer C.content in
+        Gave result (named C.content)
+        (λ b below env path n. mapping (λ m. set_all m [])
+        (named_arguments with_work b below env path (nameds_of (map named_view arguments.now)) n))
+        (writer W.contents w.old) (writer W.contents w.new) (at scope.old) (at scope.new) }
+{
+    let mut values = Gathered::new(scope.bundle.allocator(), arguments.len());
+    let mut place = place;
+    for argument in arguments {
+        let value = resolve(scope, w, &argument.value, place)?;
+        values.set(CowStr::Borrowed(argument.name.name), value)?;
+        place = place.behind_inline(&argument.value);
+    }
+    let args = values.finish(scope.bundle.allocator())?;
+    Ok(args)
+}

@@ -1,0 +1,10 @@
+//! Where variables are looked up.
+
+use fluent_values::FluentArgs;
+
+/// The arguments of the application, if it gave any, or those of a term reference alone.
+#[derive(Drop)]
+pub enum Environment<'p, 'args, C> {
+    Application(Option<&'p FluentArgs<'args, C>>),
+    Local(FluentArgs<'p, C>),
+}

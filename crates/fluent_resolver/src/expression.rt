@@ -1,0 +1,106 @@
+//! Expressions.
+#![tactic(auto, unfolding(crate::specs::Status::scope_parts))]
+
+ghost use Rattle.std.specs.Prelude.{◌≡◌, map};
+ghost use Rattle.fluent_tree.specs.Fallback.{fallback, fallback_of};
+ghost use Rattle.fluent_tree.specs.References.{in_expression};
+ghost use Rattle.fluent_tree.specs.Tree.{select, variants_of};
+ghost use Rattle.fluent_tree.specs.View.{expression_view, inline_view, variant_view};
+ghost use Rattle.fluent_meaning.specs.Walk as walk;
+ghost use Rattle.fluent_meaning.specs.Walk.{is_bare};
+ghost use Rattle.fluent_meaning.specs.Work.{with_work};
+ghost use Rattle.fluent_resolver.specs.Along.{Wrote};
+ghost use Rattle.fluent_entries.specs.Numbered.{IsPlaced};
+ghost use Rattle.fluent_resolver.specs.Status.{status};
+ghost use Rattle.fluent_values.specs.Written.{sink};
+
+use crate::inline_expression::write_inline;
+use crate::pattern::write_pattern;
+use crate::scope::Scope;
+use crate::variants::choose_variant;
+use fluent_links::Place;
+use fluent_tree::ast::{Expression, InlineExpression, Variant};
+use fluent_values::output::{Halt, Output};
+use fluent_values::{Context, FluentFunction, FluentType, ResolverError};
+use std::io::Write;
+
+/// Writes what an expression gives.
+#[cycle(resolve)]
+pub(crate) fn write_expression<
+    'p,
+    's,
+    W: Write,
+    C: FluentType,
+    F: FluentFunction<C>,
+    B: Context<C>,
+>(
+    scope: &mut Scope<'_, 'p, '_, 's, '_, C, F, B>,
+    out: &mut Output<W>,
+    expression: &'p Expression<'s>,
+    place: Place<'p>,
+) -> Result<(), Halt>
+    requires { IsPlaced scope.old.ids.now (in_expression (expression_view expression.now)) place }
+    ensures { let at = status B.meant B.is_plain F.answer C.content in
+        Wrote result
+        (λ b below env path. walk.expression with_work b below env path
+        (expression_view expression.now))
+        (sink W.contents out.old) (sink W.contents out.new) (at scope.old) (at scope.new) }
+{
+    match expression {
+        Expression::Inline(inline) => write_inline(scope, out, inline, place),
+        Expression::Select { selector, variants } => {
+            write_select(scope, out, selector, variants, place)
+        }
+    }
+}
+
+/// Writes the variant that a selector's value goes to. It stands by itself, as what a call may hold costs at its entry.
+#[cycle(resolve)]
+fn write_select<'p, 's, W: Write, C: FluentType, F: FluentFunction<C>, B: Context<C>>(
+    scope: &mut Scope<'_, 'p, '_, 's, '_, C, F, B>,
+    out: &mut Output<W>,
+    selector: &'p InlineExpression<'s>,
+    variants: &'p [Variant<'s>],
+    place: Place<'p>,
+) -> Result<(), Halt>
+    requires { let vs = variants_of (map variant_view variants.now) in
+        IsPlaced scope.old.ids.now (in_expression (select (inline_view selector.now) vs)) place }
+    ensures { let at = status B.meant B.is_plain F.answer C.content in
+        let e = select (inline_view selector.now) (variants_of (map variant_view variants.now)) in
+        Wrote result (λ b below env path. walk.expression with_work b below env path e)
+        (sink W.contents out.old) (sink W.contents out.new) (at scope.old) (at scope.new) }
+{
+    match choose_variant(scope, out.writer, selector, variants, place)? {
+        Some(chosen) => write_pattern(scope, out, chosen.pattern, chosen.place),
+        None => {
+            scope.add_error(ResolverError::MissingDefault)?;
+            Ok(())
+        }
+    }
+}
+
+/// Whether it is directly a message reference, a term reference or a string literal.
+pub(crate) fn is_bare(expression: &Expression) -> bool
+    ensures { result ≡ is_bare (expression_view expression.now) }
+{
+    matches!(
+        expression,
+        Expression::Inline(
+            InlineExpression::MessageReference { .. }
+                | InlineExpression::TermReference { .. }
+                | InlineExpression::StringLiteral { .. }
+        )
+    )
+}
+
+/// The part of an expression that its fallback shows: of a select the selector.
+pub(crate) fn shown_part<'tree, 's>(
+    expression: &'tree Expression<'s>,
+) -> &'tree InlineExpression<'s>
+    ensures { fallback (inline_view result.now) ≡ fallback_of (expression_view expression.now) }
+{
+    match expression {
+        Expression::Inline(inline) => inline,
+        Expression::Select { selector, .. } => selector,
+    }
+}

@@ -1,0 +1,248 @@
+//! The calls of a scope that resolve a part of a pattern by itself.
+#![tactic(auto, unfolding(crate::specs::Status::scope_parts))]
+
+ghost use Rattle.std.specs.Prelude.{◌≡◌, ◌≢◌, Err, IsOk, IsTrue, None, Some, map};
+ghost use Rattle.std.specs.Option.{option_map};
+ghost use Rattle.fluent_tree.specs.View.{arguments_view, expression_view, inline_view, pattern_view};
+ghost use Rattle.fluent_meaning.specs.Errors.{reference_of};
+ghost use Rattle.fluent_meaning.specs.Result.{maybe_tracked, tracked};
+ghost use Rattle.fluent_resolver.specs.Along.{Got, Wrote};
+ghost use Rattle.fluent_resolver.specs.Status.{bundle_in, status};
+ghost use Rattle.fluent_resolver.specs.Tracking.{Runs, are_none, called_run, calling, closes, losing, lost_run, maybe_tracks, tracks};
+ghost use Rattle.fluent_values.specs.View.{named, value_view};
+ghost use Rattle.fluent_values.specs.Written.{sink, writer, without_error};
+
+use crate::arguments::resolve_call;
+use crate::expression::write_expression;
+use crate::fallback::put_in_braces;
+use crate::inline_expression::lose;
+use crate::path::Step;
+use crate::pattern::{put_ending, write_pattern};
+use crate::scope::Scope;
+use fluent_links::Place;
+use fluent_meaning::laws::{budgets_pass_through, calls_pass_through};
+use fluent_text::{Counting, WriteFault};
+use fluent_tree::ast::{CallArguments, Expression, InlineExpression, Pattern};
+use fluent_values::output::{Halt, Output, with_error};
+use fluent_values::{Context, FluentArgs, FluentFunction, FluentType, FluentValue, ResolverError};
+use std::alloc::AllocError;
+use std::collections::LinkedList;
+use std::io::Write;
+
+impl<'p, 's, C: FluentType, F: FluentFunction<C>, B: Context<C>> Scope<
+    '_,
+    'p,
+    '_,
+    's,
+    '_,
+    C,
+    F,
+    B,
+> {
+    /// Writes a pattern that an expression refers to, with itself on the path. If its content is on the path
+    /// already, that is an error, and the expression's fallback is written in braces.
+    ///
+    /// # Errors
+    ///
+    /// `Writer` where a write failed, `Zero` where a write of a nonempty piece took no byte, `Memory` where memory
+    /// was refused. Then what was written begins the text, and what was added begins the errors. Bundle, environment
+    /// and path are as before, a limit that was struck stays so, and no count falls, whatever is answered.
+    pub fn track<W: Write>(
+        &mut self,
+        w: &mut Counting<W>,
+        pattern: &'p Pattern<'s>,
+        inline: &InlineExpression<'_>,
+    ) -> Result<(), WriteFault>
+        ensures wrote { let at = status B.meant B.is_plain F.answer C.content in
+            Wrote (without_error result) (tracks (pattern_view pattern.now)
+            (inline_view inline.now))
+            (writer W.contents w.old) (writer W.contents w.new) (at self.old) (at self.new) }
+        ensures runs { let at = status B.meant B.is_plain F.answer C.content in
+            let p = pattern_view pattern.now in
+            let x = inline_view inline.now in
+            Runs (at self.old) (tracks p x) (λ b env path. tracked b env path p x) }
+        ensures bundle { bundle_in self.new ≡ bundle_in self.old }
+    {
+        calls_pass_through::<LinkedList<u8>>();
+        let mut unused = String::new(self.bundle.allocator());
+        let mut out = Output {
+            writer: w,
+            buffer: &mut unused,
+            is_buffered: false,
+            error: None,
+        };
+        let written = write_tracked(self, &mut out, pattern, inline);
+        with_error(written, out.error)
+    }
+
+    /// Writes the expression of a placeable of a pattern, which stands on the path for it where that is empty, and
+    /// the expression's fallback in braces where the limit on placeables was struck. It writes no marks, and by
+    /// itself takes nothing from the budget; the pattern counts as one that was entered.
+    ///
+    /// # Errors
+    ///
+    /// `Writer` where a write failed, `Zero` where a write of a nonempty piece took no byte, `Memory` where memory
+    /// was refused. Then what was written begins the text, and what was added begins the errors. Bundle, environment
+    /// and path are as before, a limit that was struck stays so, and no count falls, whatever is answered.
+    pub fn maybe_track<W: Write>(
+        &mut self,
+        w: &mut Counting<W>,
+        pattern: &'p Pattern<'s>,
+        expression: &'p Expression<'s>,
+    ) -> Result<(), WriteFault>
+        ensures wrote { let at = status B.meant B.is_plain F.answer C.content in
+            Wrote (without_error result) (maybe_tracks (pattern_view pattern.now)
+            (expression_view expression.now))
+            (writer W.contents w.old) (writer W.contents w.new) (at self.old) (at self.new) }
+        ensures runs { let at = status B.meant B.is_plain F.answer C.content in
+            let p = pattern_view pattern.now in
+            let e = expression_view expression.now in
+            Runs (at self.old) (maybe_tracks p e) (λ b env path. maybe_tracked b env path p e) }
+        ensures bundle { bundle_in self.new ≡ bundle_in self.old }
+    {
+        calls_pass_through::<LinkedList<u8>>();
+        let mut unused = String::new(self.bundle.allocator());
+        let mut out = Output {
+            writer: w,
+            buffer: &mut unused,
+            is_buffered: false,
+            error: None,
+        };
+        let written = write_maybe_tracked(self, &mut out, pattern, expression);
+        with_error(written, out.error)
+    }
+
+    /// Reports an expression as a reference that can't be found, and then writes its fallback in braces. What is no
+    /// reference is no error.
+    ///
+    /// # Errors
+    ///
+    /// `Writer` where a write failed, `Zero` where a write of a nonempty piece took no byte, `Memory` where memory
+    /// was refused, which only a reference can meet. Then what was written begins the text, and what was added begins
+    /// the errors. Bundle, environment and path are as before, a limit that was struck stays so, and no count falls,
+    /// whatever is answered.
+    pub fn write_ref_error<W: Write>(
+        &mut self,
+        w: &mut Counting<W>,
+        inline: &InlineExpression<'_>,
+    ) -> Result<(), WriteFault>
+        ensures wrote { let at = status B.meant B.is_plain F.answer C.content in
+            Wrote (without_error result) (losing (inline_view inline.now))
+            (writer W.contents w.old) (writer W.contents w.new) (at self.old) (at self.new) }
+        ensures runs { let at = status B.meant B.is_plain F.answer C.content in
+            let x = inline_view inline.now in
+            Runs (at self.old) (losing x) (λ b env path. lost_run x) }
+        ensures bundle { bundle_in self.new ≡ bundle_in self.old }
+        ensures memory { reference_of (inline_view inline.now) ≡ None →
+            result ≢ Err WriteFault.Memory }
+    {
+        let mut unused = String::new(self.bundle.allocator());
+        let mut out = Output {
+            writer: w,
+            buffer: &mut unused,
+            is_buffered: false,
+            error: None,
+        };
+        let written = lose(self, &mut out, inline);
+        with_error(written, out.error)
+    }
+
+    /// The values of a call's arguments: positional ones in order, then named ones, of which the last of a name
+    /// stands. Where there are no arguments, or both lists are empty, it takes no memory.
+    ///
+    /// # Errors
+    ///
+    /// Memory was refused: what was added begins the errors. Bundle, environment and path are as before, a limit that
+    /// was struck stays so, and no count falls, whatever is answered.
+    pub fn get_arguments(
+        &mut self,
+        arguments: Option<&'p CallArguments<'s>>,
+    ) -> Result<(Vec<FluentValue<'p, C>>, FluentArgs<'p, C>), AllocError>
+        ensures got { let at = status B.meant B.is_plain F.answer C.content in
+            let given = option_map (λ a. arguments_view a.now) arguments.entry in
+            Got result (λ v. (map (value_view C.content) v.0.items, named C.content v.1))
+            (calling given)
+            (at self.old) (at self.new) }
+        ensures runs { let at = status B.meant B.is_plain F.answer C.content in
+            let given = option_map (λ a. arguments_view a.now) arguments.entry in
+            Runs (at self.old) (calling given) (λ b env path. called_run b env path given) }
+        ensures bundle { bundle_in self.new ≡ bundle_in self.old }
+        ensures succeeds { let given = option_map (λ a. arguments_view a.now) arguments.entry in
+            IsTrue (are_none given) → IsOk result }
+    {
+        calls_pass_through::<LinkedList<u8>>();
+        let alloc = self.bundle.allocator();
+        let Some(arguments) = arguments else {
+            return Ok((Vec::new(alloc), FluentArgs::new(alloc)));
+        };
+        if is_empty(arguments) {
+            return Ok((Vec::new(alloc), FluentArgs::new(alloc)));
+        }
+        let mut unused = Counting::new(Vec::new(alloc));
+        match resolve_call(self, &mut unused, arguments, Place::by_name()) {
+            Ok(values) => Ok(values),
+            Err(_) => Err(AllocError),
+        }
+    }
+}
+
+/// Whether a call has no arguments.
+fn is_empty(arguments: &CallArguments<'_>) -> bool
+    ensures { result ≡ are_none (Some (arguments_view arguments.now)) }
+{
+    arguments.positional.is_empty() && arguments.named.is_empty()
+}
+
+/// Writes a pattern that an expression refers to, unless it is being written.
+fn write_tracked<'p, 's, W: Write, C: FluentType, F: FluentFunction<C>, B: Context<C>>(
+    scope: &mut Scope<'_, 'p, '_, 's, '_, C, F, B>,
+    out: &mut Output<W>,
+    pattern: &'p Pattern<'s>,
+    inline: &InlineExpression<'_>,
+) -> Result<(), Halt>
+    ensures { let at = status B.meant B.is_plain F.answer C.content in
+        Wrote result (tracks (pattern_view pattern.now) (inline_view inline.now))
+        (sink W.contents out.old) (sink W.contents out.new) (at scope.old) (at scope.new) }
+{
+    let step = Step::own(pattern);
+    if scope.is_on(&step) {
+        scope.add_error(ResolverError::Cyclic)?;
+        return put_in_braces(out, inline);
+    }
+    budgets_pass_through::<LinkedList<u8>>();
+    scope.enter(step)?;
+    let written = write_pattern(scope, out, pattern, Place::by_name());
+    scope.leave();
+    written
+}
+
+/// Writes a placeable's expression, with the pattern on the path where that is empty.
+fn write_maybe_tracked<'p, 's, W: Write, C: FluentType, F: FluentFunction<C>, B: Context<C>>(
+    scope: &mut Scope<'_, 'p, '_, 's, '_, C, F, B>,
+    out: &mut Output<W>,
+    pattern: &'p Pattern<'s>,
+    expression: &'p Expression<'s>,
+) -> Result<(), Halt>
+    ensures { let at = status B.meant B.is_plain F.answer C.content in
+        Wrote result (maybe_tracks (pattern_view pattern.now) (expression_view expression.now))
+        (sink W.contents out.old) (sink W.contents out.new) (at scope.old) (at scope.new) }
+{
+    let begun = scope.begin(pattern);
+    let written = write_closed(scope, out, expression);
+    scope.end(begun);
+    written
+}
+
+/// Writes an expression, and its fallback in braces where it leaves the budget struck.
+fn write_closed<'p, 's, W: Write, C: FluentType, F: FluentFunction<C>, B: Context<C>>(
+    scope: &mut Scope<'_, 'p, '_, 's, '_, C, F, B>,
+    out: &mut Output<W>,
+    expression: &'p Expression<'s>,
+) -> Result<(), Halt>
+    ensures { let at = status B.meant B.is_plain F.answer C.content in
+        Wrote result (closes (expression_view expression.now))
+        (sink W.contents out.old) (sink W.contents out.new) (at scope.old) (at scope.new) }
+{
+    write_expression(scope, out, expression, Place::by_name())?;
+    put_ending(out, expression, scope.budget)
+}

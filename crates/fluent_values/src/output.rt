@@ -1,0 +1,122 @@
+//! Where the text of a formatting call goes, and why it may stop.
+ghost use Rattle.std.specs.Prelude.{◌≡◌, ◌≢◌, Err, false};
+ghost use Rattle.fluent_text.specs.Escapes.{unescaped};
+ghost use Rattle.fluent_values.specs.Written.{halt_of, sink, without_error, SinkTook};
+
+use fluent_text::{Counting, WriteFault, put, unescape_unicode, unescape_unicode_to_string};
+use std::alloc::{AllocError, Global};
+use std::io;
+use std::io::Write;
+
+/// Why a text was not written whole: a [`WriteFault`] without the writer's own error, which the output keeps. Each
+/// call of the resolver hands its answer up, and a call pays for the size of what it may hold: with this an answer
+/// is one byte, with the error it is some ninety.
+#[derive(Clone, Copy, Drop)]
+pub enum Halt {
+    /// There was no memory.
+    Memory,
+    /// A single write failed.
+    Writer,
+    /// A single write of a nonempty piece took no byte.
+    Zero,
+}
+
+impl From<AllocError> for Halt {
+    ghost use Rattle.fluent_values.specs.declared.output.Halt.TheVariants.{Memory};
+
+    ghost from_gives = { λ _ halt. halt ≡ Memory };
+
+    fn from(_: AllocError) -> Halt {
+        Halt::Memory
+    }
+}
+
+/// A writer, and a buffer beside it, which takes the text in its place where that is wanted.
+pub struct Output<'w, 'buffer, W> {
+    pub writer: &'w mut Counting<W>,
+    pub buffer: &'buffer mut String,
+    pub is_buffered: bool,
+    /// The error of the write that failed, where one did.
+    pub error: Option<io::Error>,
+}
+
+impl<W> Drop for Output<'_, '_, W> {
+    // By hand, so that it says that both keep what they took.
+    fn drop(self)
+        ensures writer { self.exit.0.now ≡ self.entry.writer.now }
+        ensures buffer { self.exit.1.0.now ≡ self.entry.buffer.now }
+    {
+        let Output {
+            writer: _,
+            buffer: _,
+            is_buffered: _,
+            error: _,
+        } = self;
+    }
+}
+
+/// Writes a text.
+pub fn put_text<W: Write>(out: &mut Output<W>, text: &str) -> Result<(), Halt>
+    ensures took { SinkTook result text.now (sink W.contents out.old) (sink W.contents out.new) }
+    ensures memory { out.old.is_buffered ≡ false → result ≢ Err Halt.Memory }
+{
+    if out.is_buffered {
+        out.buffer.push_str(text)?;
+        Ok(())
+    } else {
+        let answer = put(out.writer, text.as_bytes());
+        set_aside(answer, &mut out.error)
+    }
+}
+
+/// Writes the text of a string literal, with its escapes resolved.
+pub fn put_unescaped<W: Write>(alloc: Global, out: &mut Output<W>, value: &str) -> Result<(), Halt>
+    ensures { SinkTook result (unescaped value.now) (sink W.contents out.old)
+        (sink W.contents out.new) }
+{
+    if out.is_buffered {
+        let text = unescape_unicode_to_string(alloc, value)?;
+        put_text(out, &text)
+    } else {
+        let answer = unescape_unicode(out.writer, value);
+        set_aside(answer, &mut out.error)
+    }
+}
+
+/// An answer without the writer's own error, which is kept.
+fn set_aside(answer: Result<(), WriteFault>, error: &mut Option<io::Error>) -> Result<(), Halt>
+    ensures { result ≡ without_error answer }
+{
+    match answer {
+        Ok(()) => Ok(()),
+        Err(fault) => Err(halt_of(fault, error)),
+    }
+}
+
+/// The halt that a fault is, of which the writer's own error is kept.
+fn halt_of(fault: WriteFault, error: &mut Option<io::Error>) -> Halt
+    ensures { result ≡ halt_of fault }
+{
+    match fault {
+        WriteFault::Memory => Halt::Memory,
+        WriteFault::Zero => Halt::Zero,
+        WriteFault::Writer(cause) => {
+            *error = Some(cause);
+            Halt::Writer
+        }
+    }
+}
+
+/// An answer with the writer's own error, where a write failed.
+pub fn with_error(answer: Result<(), Halt>, error: Option<io::Error>) -> Result<(), WriteFault>
+    ensures { without_error result ≡ answer }
+{
+    match answer {
+        Ok(()) => Ok(()),
+        Err(Halt::Memory) => Err(WriteFault::Memory),
+        Err(Halt::Zero) => Err(WriteFault::Zero),
+        Err(Halt::Writer) => Err(WriteFault::Writer(error.unwrap_or(io::Error::from(
+            io::ErrorKind::Other,
+        )))),
+    }
+}

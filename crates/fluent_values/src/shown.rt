@@ -1,0 +1,134 @@
+//! How values are shown, and which they match.
+ghost use Rattle.std.specs.Prelude.{◌≡◌, IfOk, string_bytes};
+ghost use Rattle.std.specs.Cow.{cow_str_bytes};
+ghost use Rattle.fluent_meaning.specs.Bundle.{shown};
+ghost use Rattle.fluent_meaning.specs.Value.{matches, value_text};
+ghost use Rattle.fluent_values.specs.View.{value_view};
+ghost use Rattle.fluent_values.specs.Written.{sink, writer, without_error, SinkTook};
+
+use crate::context::{Context, HasBundle};
+use crate::output::{Halt, Output, put_text, with_error};
+use crate::types::{FluentType, FluentValue};
+use fluent_text::{Counting, WriteFault};
+use std::alloc::{AllocError, Global};
+use std::borrow::CowStr;
+use std::io::Write;
+
+/// Writes what a value is shown as.
+pub fn put_value<W: Write, C: FluentType, B: Context<C>>(
+    bundle: &B,
+    out: &mut Output<W>,
+    value: &FluentValue<'_, C>,
+) -> Result<(), Halt>
+    ensures { SinkTook result (shown (B.meant bundle.now) (value_view C.content value.now))
+        (sink W.contents out.old) (sink W.contents out.new) }
+{
+    match bundle.formatted(value)? {
+        Some(text) => put_text(out, text.as_str()),
+        None => put_own(bundle.allocator(), out, value),
+    }
+}
+
+/// Writes a value's own text; a number's takes no memory.
+fn put_own<W: Write, C: FluentType>(
+    alloc: Global,
+    out: &mut Output<W>,
+    value: &FluentValue<'_, C>,
+) -> Result<(), Halt>
+    ensures { SinkTook result (value_text (record { text = C.shown; same = C.alike })
+        (value_view C.content value.now)) (sink W.contents out.old) (sink W.contents out.new) }
+{
+    match value {
+        FluentValue::String(text) => put_text(out, text.as_str()),
+        FluentValue::Number(number) => put_text(out, number.text().as_str()),
+        FluentValue::Custom(custom) => put_text(out, custom.as_string(alloc)?.as_str()),
+        FluentValue::None | FluentValue::Error => Ok(()),
+    }
+}
+
+/// A value's own text.
+fn own_text<C: FluentType>(alloc: Global, value: &FluentValue<'_, C>) -> Result<String, AllocError>
+    ensures { IfOk result (λ text. string_bytes text
+        ≡ value_text (record { text = C.shown; same = C.alike }) (value_view C.content value.now)) }
+{
+    match value {
+        FluentValue::String(text) => String::from_str(alloc, text.as_str()),
+        FluentValue::Number(number) => String::from_str(alloc, number.text().as_str()),
+        FluentValue::Custom(custom) => custom.as_string(alloc),
+        FluentValue::None | FluentValue::Error => Ok(String::new(alloc)),
+    }
+}
+
+impl<'v, C: FluentType> FluentValue<'v, C> {
+    /// Whether the value matches another, as the key of a variant a selector: equal texts, equal numbers, or the
+    /// word of a plural category and a number of that category. Takes no memory.
+    pub fn matches<S: HasBundle<C>>(&self, other: &FluentValue<'_, C>, scope: &S) -> bool
+        ensures { result ≡ matches (S.Bundle.meant (S.bundle_of scope.now)).plurals
+            (value_view C.content self.now) (value_view C.content other.now) }
+    {
+        match (self, other) {
+            (FluentValue::String(one), FluentValue::String(two)) => one.as_str() == two.as_str(),
+            (FluentValue::Number(one), FluentValue::Number(two)) => one == two,
+            (FluentValue::String(word), FluentValue::Number(number)) => {
+                word.as_str() == scope.bundle().category_word(number)
+            }
+            _ => false,
+        }
+    }
+
+    /// Writes what the value is shown as: the formatter's answer, where there is one, else its own text.
+    ///
+    /// # Errors
+    ///
+    /// `Writer` where a write failed, `Zero` where a write of a nonempty piece took no byte, `Memory` where memory
+    /// was refused. Then what was written begins the text.
+    pub fn write<W: Write, S: HasBundle<C>>(
+        &self,
+        w: &mut Counting<W>,
+        scope: &S,
+    ) -> Result<(), WriteFault>
+        ensures { SinkTook (without_error result) (shown (S.Bundle.meant (S.bundle_of scope.now))
+            (value_view C.content self.now))
+            (writer W.contents w.old) (writer W.contents w.new) }
+    {
+        let bundle = scope.bundle();
+        let mut unused = String::new(bundle.allocator());
+        let mut out = Output {
+            writer: w,
+            buffer: &mut unused,
+            is_buffered: false,
+            error: None,
+        };
+        let written = put_value(bundle, &mut out, self);
+        with_error(written, out.error)
+    }
+
+    /// What the value is shown as: the formatter's answer, where there is one, else its own text.
+    ///
+    /// # Errors
+    ///
+    /// Memory was refused.
+    pub fn as_string<S: HasBundle<C>>(&self, scope: &S) -> Result<CowStr<'v>, AllocError>
+        ensures { IfOk result (λ text. cow_str_bytes text
+            ≡ shown (S.Bundle.meant (S.bundle_of scope.now)) (value_view C.content self.now)) }
+    {
+        let bundle = scope.bundle();
+        let text = match bundle.formatted(self)? {
+            Some(text) => text,
+            None => own_text(bundle.allocator(), self)?,
+        };
+        Ok(CowStr::Owned(text))
+    }
+
+    /// The same, of a value that is not wanted any more.
+    ///
+    /// # Errors
+    ///
+    /// Memory was refused.
+    pub fn into_string<S: HasBundle<C>>(self, scope: &S) -> Result<CowStr<'v>, AllocError>
+        ensures { IfOk result (λ text. cow_str_bytes text
+            ≡ shown (S.Bundle.meant (S.bundle_of scope.now)) (value_view C.content self.entry)) }
+    {
+        self.as_string(scope)
+    }
+}
