@@ -7,11 +7,6 @@ pub fn check(rt: &impl Abort, holds: bool, what: &str) {
     assert!(rt; holds, "{what}");
 }
 
-/// The same at a place.
-pub fn check_at(rt: &impl Abort, holds: bool, what: &str, at: usize) {
-    assert!(rt; holds, "{what} at {at}");
-}
-
 /// Asserts that a text is found.
 pub fn check_same(rt: &impl Abort, found: &str, wanted: &str) {
     assert!(rt; found == wanted, "{wanted}: {found}");

@@ -13,19 +13,12 @@ use std::test::Fail;
 
 // ---- sources
 
-fn read_once<'s>(alloc: Global, source: &'s str) -> Result<FluentResource<'s>, AllocError> {
+/// A source as it is read, with Junk or without.
+pub fn read<'s>(alloc: Global, source: &'s str) -> Result<FluentResource<'s>, AllocError> {
     match FluentResource::try_new(alloc, source) {
         Ok(resource) => Ok(resource),
         Err(TryNewFault::Parser(resource, _)) => Ok(resource),
         Err(TryNewFault::Memory) => Err(AllocError),
-    }
-}
-
-/// A source as it is read, with Junk or without, a second time where memory is refused at the first.
-pub fn read<'s>(alloc: Global, source: &'s str) -> Result<FluentResource<'s>, AllocError> {
-    match read_once(alloc, source) {
-        Ok(resource) => Ok(resource),
-        Err(AllocError) => read_once(alloc, source),
     }
 }
 

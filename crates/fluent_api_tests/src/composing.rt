@@ -9,6 +9,7 @@ ghost use Rattle.fluent_values.specs.Texts.{sole_text};
 use crate::check::check;
 use crate::common::{Bundle, read, value_of};
 use crate::given::formats;
+use crate::lists::Bundles;
 use crate::own::{Bracketed, Own, Upper};
 use fluent_bundle::ast::Pattern;
 use fluent_bundle::bundle::AddFault;
@@ -16,6 +17,7 @@ use fluent_bundle::{
     FluentBundle, FluentFormatter, FluentFunction, FluentResource, FluentType, GetEntry,
     MemoizerKind, Transform,
 };
+use fluent_chain::Chain;
 use fluent_intl::EnglishPlurals;
 use std::alloc::Global;
 use std::test::Fail;
@@ -113,13 +115,23 @@ fn is_formatted(alloc: Global, pattern: &Pattern<'_>) -> bool
     made.format_pattern(pattern, None, &mut errors).is_ok()
 }
 
+/// An id that no bundle has is the text of a chain, even where no memory is left.
+fn is_the_id(alloc: Global, id: &str) -> bool
+    ensures { IsTrue result }
+{
+    let chain: Bundles<'_, '_, '_, '_> = Chain::new(&[]);
+    let mut errors = Vec::new(alloc);
+    chain.format_value(id, None, &mut errors).is_ok()
+}
+
 #[test]
-fn a_text_is_formatted_by_a_new_bundle(rt: HostRuntime) -> Result<(), Fail> {
+fn texts_and_ids_take_no_memory(rt: HostRuntime) -> Result<(), Fail> {
     let resource = read(rt.alloc(), "m = Hello")?;
     check(
         &rt,
         is_formatted(rt.alloc(), value_of(&resource)?),
         "a text",
     );
+    check(&rt, is_the_id(rt.alloc(), "a"), "an id");
     Ok(())
 }

@@ -42,6 +42,7 @@ const LOST: &[(&str, &str)] = &[
     ("a = { { $b } }", ""),
 ];
 
+/// Run with each allocation failing in turn.
 #[test]
 fn references_have_their_errors(rt: HostRuntime) -> Result<(), Fail> {
     for (source, expected) in LOST {

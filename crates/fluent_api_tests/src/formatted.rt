@@ -1,8 +1,8 @@
-//! Messages that are formatted whole: the value, then the attributes in order, where memory is refused too.
-use crate::chain::stand;
+//! Messages that are formatted whole: the value, then the attributes in order.
 use crate::check::check;
 use crate::common::{Args, Bundle, arguments, bundle_of, read};
-use fluent_bundle::{FluentResource, FormattedAttribute, FormattedMessage};
+use crate::given::are;
+use fluent_bundle::{FormattedAttribute, FormattedMessage};
 use std::alloc::{AllocError, Global};
 use std::borrow::CowStr;
 use std::process::Abort;
@@ -82,55 +82,27 @@ fn is_message(message: &Option<FormattedMessage<'_>>, wanted: &Option<Parts>) ->
     }
 }
 
-/// Whether a message was formatted, as a row says.
-fn is_formatted(
-    rt: &impl Abort,
-    formatted: Result<Option<FormattedMessage<'_>>, AllocError>,
-    row: &Row,
-) -> bool {
-    match formatted {
-        Ok(message) => {
-            check(rt, is_message(&message, &row.1), row.0);
-            true
-        }
-        Err(AllocError) => false,
-    }
-}
-
-/// `false` where memory is refused, which leaves a beginning of the errors.
-fn formats_once(
+fn formats(
     rt: &impl Abort,
     alloc: Global,
     bundle: &Bundle<'_, 'static>,
     row: &Row,
     args: &Args<'_>,
-) -> Result<bool, AllocError> {
-    let mut errors = Vec::new(alloc);
-    let formatted = bundle.format_message(row.0, Some(args), &mut errors);
-    let is_whole = is_formatted(rt, formatted, row);
-    stand(rt, alloc, errors.as_slice(), row.2, is_whole)?;
-    Ok(is_whole)
-}
-
-fn formats(
-    rt: &impl Abort,
-    alloc: Global,
-    resource: &FluentResource<'static>,
 ) -> Result<(), AllocError> {
-    let bundle = bundle_of(alloc, &[], resource)?;
-    let args = arguments(alloc, &[("n", "5")])?;
-    for row in ROWS {
-        if !formats_once(rt, alloc, &bundle, row, &args)? {
-            check(rt, formats_once(rt, alloc, &bundle, row, &args)?, row.0);
-        }
-    }
-    Ok(())
+    let mut errors = Vec::new(alloc);
+    let message = bundle.format_message(row.0, Some(args), &mut errors)?;
+    check(rt, is_message(&message, &row.1), row.0);
+    are(rt, alloc, errors.as_slice(), row.2)
 }
 
 /// Run with each allocation failing in turn.
 #[test]
 fn a_message_is_formatted_whole(rt: HostRuntime) -> Result<(), Fail> {
     let resource = read(rt.alloc(), SOURCE)?;
-    formats(&rt, rt.alloc(), &resource)?;
+    let bundle = bundle_of(rt.alloc(), &[], &resource)?;
+    let args = arguments(rt.alloc(), &[("n", "5")])?;
+    for row in ROWS {
+        formats(&rt, rt.alloc(), &bundle, row, &args)?;
+    }
     Ok(())
 }

@@ -1,386 +1,300 @@
-//! Calls of one scope that write: what they leave, how many placeables they opened and patterns they entered, and how
-//! long the path was.
+//! Calls of one scope: what they write, report and open; and where memory is refused, that environment and path are as
+//! before, so that the same call comes to the whole when it is made again.
 use crate::check::check;
-use crate::common::{Args, Bundle, Given, Scoped, Setting, arguments, bundle_of, read, value_in};
+use crate::common::{Args, Bundle, Scoped, Setting, arguments, bundle_of, lines, read, value_in};
 use crate::given::are;
-use fluent_bundle::ast::{Expression, InlineExpression, Pattern, PatternElement};
-use fluent_bundle::{Counting, FluentError, Scope, WriteFault};
+use fluent_bundle::ast::{CallArguments, Expression, InlineExpression, Pattern, PatternElement};
+use fluent_bundle::{
+    Counting, FluentArgs, FluentError, FluentValue, NoCustom, ReferenceKind, ResolverError, Scope,
+    WriteFault,
+};
 use std::alloc::{AllocError, Global};
 use std::process::Abort;
+use std::test::Fail;
 
-// ---- parts of the source
-
-const SOURCE: &str = "
-a = x{ $n }
-foo = { foo }
-m = { \"a\" }{ \"b\" }{ \"c\" }
-n = { m }
-v = { $n ->
-    [9] y{ $n }
-   *[o] o
-}
-none = { no-message }
-term = { -no-term }
-string = { \"\\u0041\" }
-number = { 5 }
-nested = { { $q } }
-function = { F($q) }
-missing = { $q }
-lost = x{ $q }
-self = x{ self }
-four = x{ fours }
-fours = { \"a\" }{ \"a\" }{ \"a\" }{ \"a\" }
+/// References to terms with arguments of their own, to messages, and cycles.
+const SOURCE: &str = "-t = t{ $n }{ -u(n: 2) }{ $n }
+-u = u{ $n }
+m = y{ m }{ $q }
+a = x{ -t(n: 1) }{ m }{ a }{ $n }{ F($q) }
+c = { F($q, -t(n: 1), m, $n, x: 3) }
 ";
 
-/// The expression of the last placeable of a pattern.
-fn expression_of<'x, 's>(pattern: &'x Pattern<'s>) -> Option<&'x Expression<'s>> {
-    match pattern.elements.last() {
-        Some(PatternElement::Placeable { expression }) => Some(expression),
+// ---- calls
+
+/// A call of a scope, for the message `a` and the reference in `c`.
+#[derive(Clone, Copy)]
+enum Asked {
+    Track,
+    MaybeTrack,
+    RefError,
+    Arguments,
+    AddError,
+}
+
+/// The parts that the calls are made for.
+#[derive(Clone, Copy)]
+struct Parts<'p, 's> {
+    pattern: &'p Pattern<'s>,
+    expression: &'p Expression<'s>,
+    inline: &'p InlineExpression<'s>,
+    arguments: &'p CallArguments<'s>,
+}
+
+fn parts_of<'p, 's>(bundle: &'p Bundle<'_, 's>) -> Option<Parts<'p, 's>> {
+    match value_in(bundle, "c")?.elements.first() {
+        Some(PatternElement::Placeable { expression }) => match expression {
+            Expression::Inline(inline) => match inline {
+                InlineExpression::FunctionReference { arguments, .. } => Some(Parts {
+                    pattern: value_in(bundle, "a")?,
+                    expression,
+                    inline,
+                    arguments,
+                }),
+                _ => None,
+            },
+            _ => None,
+        },
         _ => None,
     }
 }
 
-fn inline_of<'x, 's>(pattern: &'x Pattern<'s>) -> Option<&'x InlineExpression<'s>> {
-    match expression_of(pattern) {
-        Some(Expression::Inline(inline)) => Some(inline),
-        _ => None,
+/// Whether a value is the one that a text is.
+fn is_read(value: Option<&FluentValue<'_, NoCustom>>, text: &'static str) -> bool {
+    match value {
+        Some(value) => value.same(&FluentValue::try_number(text)),
+        None => false,
     }
 }
 
-/// The same of the value of a message.
-fn expression_at<'p, 's>(bundle: &'p Bundle<'_, 's>, at: &str) -> Option<&'p Expression<'s>> {
-    expression_of(value_in(bundle, at)?)
+/// Whether the values of the arguments are right.
+fn are_right(positional: &[FluentValue<'_, NoCustom>], named: &FluentArgs<'_, NoCustom>) -> bool {
+    positional.len() == 4
+        && matches!(positional.first(), Some(FluentValue::Error))
+        && is_read(positional.get(1), TERM)
+        && is_read(positional.get(2), MESSAGE)
+        && is_read(positional.get(3), "9")
+        && is_read(named.get("x"), "3")
 }
 
-fn inline_at<'p, 's>(bundle: &'p Bundle<'_, 's>, at: &str) -> Option<&'p InlineExpression<'s>> {
-    inline_of(value_in(bundle, at)?)
+/// Asks for the values of the arguments, which are to be right.
+fn get<'p, 's>(
+    scope: &mut Scoped<'_, 'p, '_, 's>,
+    parts: Parts<'p, 's>,
+) -> Result<bool, AllocError> {
+    let (positional, named) = scope.get_arguments(Some(parts.arguments))?;
+    Ok(are_right(positional.as_slice(), &named))
 }
 
-// ---- calls that write
-
-const NINE: &[Given] = &[("n", "9")];
-
-/// A call of a scope, by the ids of the messages whose value is the pattern, and in whose value the expression stands
-/// last.
-#[derive(Clone, Copy, Drop)]
-enum Step {
-    Track(&'static str, &'static str),
-    MaybeTrack(&'static str, &'static str),
-    RefError(&'static str),
-}
-
-/// What a scope is after its calls.
-#[derive(Clone, Copy, Drop)]
-enum After {
-    /// Whether it is dirty, how many placeables were opened, how long the path was, and how many patterns were entered.
-    Counts(bool, u64, u64, u64),
-    /// It is dirty, and so many placeables were opened.
-    Struck(u64),
-}
-
-/// What is set in a bundle, calls of one scope where `n` is 9, their texts, the lines of their errors, and the scope
-/// after them.
-#[derive(Clone, Copy, Drop)]
-struct Row {
-    settings: &'static [Setting],
-    steps: &'static [Step],
-    text: &'static str,
-    errors: &'static str,
-    after: After,
-}
-
-fn track<'p, 'r, 's>(
-    scope: &mut Scoped<'_, 'p, 'r, 's>,
-    w: &mut Counting<Vec<u8>>,
-    pattern: Option<&'p Pattern<'s>>,
-    inline: Option<&'p InlineExpression<'s>>,
-) -> Result<(), WriteFault> {
-    match (pattern, inline) {
-        (Some(pattern), Some(inline)) => scope.track(w, pattern, inline),
-        _ => Err(WriteFault::Zero),
+/// The answer of a call that writes nothing.
+fn unwritten(answer: Result<bool, AllocError>) -> Result<(), WriteFault> {
+    match answer {
+        Ok(true) => Ok(()),
+        Ok(false) => Err(WriteFault::Zero),
+        Err(AllocError) => Err(WriteFault::Memory),
     }
 }
 
-fn maybe_track<'p, 'r, 's>(
-    scope: &mut Scoped<'_, 'p, 'r, 's>,
-    w: &mut Counting<Vec<u8>>,
-    pattern: Option<&'p Pattern<'s>>,
-    expression: Option<&'p Expression<'s>>,
-) -> Result<(), WriteFault> {
-    match (pattern, expression) {
-        (Some(pattern), Some(expression)) => scope.maybe_track(w, pattern, expression),
-        _ => Err(WriteFault::Zero),
-    }
+/// Adds an error that holds a text.
+fn report(alloc: Global, scope: &mut Scoped<'_, '_, '_, '_>) -> Result<bool, AllocError> {
+    let id = String::from_str(alloc, "z")?;
+    scope.add_error(ResolverError::Reference(ReferenceKind::Variable { id }))?;
+    Ok(true)
 }
 
-fn ref_error<'p, 'r, 's>(
-    scope: &mut Scoped<'_, 'p, 'r, 's>,
-    w: &mut Counting<Vec<u8>>,
-    inline: Option<&'p InlineExpression<'s>>,
-) -> Result<(), WriteFault> {
-    match inline {
-        Some(inline) => scope.write_ref_error(w, inline),
-        None => Err(WriteFault::Zero),
-    }
-}
-
-fn take<'p, 'r, 's>(
-    scope: &mut Scoped<'_, 'p, 'r, 's>,
-    bundle: &'p Bundle<'r, 's>,
-    w: &mut Counting<Vec<u8>>,
-    step: Step,
-) -> Result<(), WriteFault> {
-    match step {
-        Step::Track(id, at) => track(scope, w, value_in(bundle, id), inline_at(bundle, at)),
-        Step::MaybeTrack(id, at) => {
-            maybe_track(scope, w, value_in(bundle, id), expression_at(bundle, at))
-        }
-        Step::RefError(at) => ref_error(scope, w, inline_at(bundle, at)),
-    }
-}
-
-/// Makes the calls in a scope.
-fn take_each<'p, 'r, 's>(
-    scope: &mut Scoped<'_, 'p, 'r, 's>,
-    bundle: &'p Bundle<'r, 's>,
-    w: &mut Counting<Vec<u8>>,
-    steps: &[Step],
-) -> Result<(), WriteFault> {
-    for step in steps {
-        take(scope, bundle, w, *step)?;
-    }
-    Ok(())
-}
-
-fn is_after(scope: &Scoped<'_, '_, '_, '_>, after: After) -> bool {
-    let found = scope.counts();
-    match after {
-        After::Counts(is_dirty, opened, longest, entered) => {
-            scope.dirty() == is_dirty
-                && (found.opened, found.longest, found.entered) == (opened, longest, entered)
-        }
-        After::Struck(opened) => scope.dirty() && found.opened == opened,
-    }
-}
-
-/// Makes the calls of a row in one scope: whether they succeed, and the scope is then as it should be.
-fn take_all<'p, 'r, 's>(
-    bundle: &'p Bundle<'r, 's>,
-    args: &'p Args<'static>,
-    w: &mut Counting<Vec<u8>>,
-    errors: &mut Vec<FluentError>,
-    row: &Row,
-) -> bool {
-    let mut scope = Scope::new(bundle, bundle.ids(), Some(args), Some(errors));
-    let taken = take_each(&mut scope, bundle, w, row.steps);
-    is_whole(taken) && is_after(&scope, row.after)
-}
-
-fn is_whole(taken: Result<(), WriteFault>) -> bool {
-    taken.is_ok()
-}
-
-/// Makes the calls of a row.
-fn gives(
-    rt: &impl Abort,
+fn ask<'p, 's>(
     alloc: Global,
-    bundle: &Bundle<'_, '_>,
-    args: &Args<'static>,
-    row: &Row,
-) -> Result<(), AllocError> {
-    let mut errors = Vec::new(alloc);
-    let mut w = Counting::new(Vec::new(alloc));
-    check(
-        rt,
-        take_all(bundle, args, &mut w, &mut errors, row),
-        row.text,
-    );
-    check(
-        rt,
-        w.into_inner().as_slice() == row.text.as_bytes(),
-        row.text,
-    );
-    are(rt, alloc, errors.as_slice(), row.errors)
+    scope: &mut Scoped<'_, 'p, '_, 's>,
+    w: &mut Counting<Vec<u8>>,
+    asked: Asked,
+    parts: Parts<'p, 's>,
+) -> Result<(), WriteFault> {
+    match asked {
+        Asked::Track => scope.track(w, parts.pattern, parts.inline),
+        Asked::MaybeTrack => scope.maybe_track(w, parts.pattern, parts.expression),
+        Asked::RefError => scope.write_ref_error(w, parts.inline),
+        Asked::Arguments => unwritten(get(scope, parts)),
+        Asked::AddError => unwritten(report(alloc, scope)),
+    }
 }
 
-fn holds(rt: &impl Abort, alloc: Global, row: &Row) -> Result<(), AllocError> {
-    let resource = read(alloc, SOURCE)?;
-    let bundle = bundle_of(alloc, row.settings, &resource)?;
-    let args = arguments(alloc, NINE)?;
-    gives(rt, alloc, &bundle, &args, row)
-}
+// ---- rows
 
-const CYCLIC: &str = "Resolver error: Cyclical dependency detected\n";
+const TERM: &str = "t\u{2068}1\u{2069}u\u{2068}2\u{2069}\u{2068}1\u{2069}";
 
-const CYCLIC_TWICE: &str =
-    "Resolver error: Cyclical dependency detected\nResolver error: Cyclical dependency detected\n";
+const MESSAGE: &str = "y{m}\u{2068}{$q}\u{2069}";
 
-const UNKNOWN: &str = "Resolver error: Unknown variable: $q\n";
+const A: &str =
+    "xt\u{2068}1\u{2069}u\u{2068}2\u{2069}\u{2068}1\u{2069}y{m}\u{2068}{$q}\u{2069}{a}\u{2068}9\u{2069}\u{2068}{F()}\u{2069}";
 
-const TOO_MANY: &str = "Resolver error: Too many placeables\n";
-
-const LOST: &str = "Resolver error: Unknown message: no-message
-Resolver error: Unknown term: -no-term
+const A_LINES: &str = "Resolver error: Cyclical dependency detected
+Resolver error: Unknown variable: $q
+Resolver error: Cyclical dependency detected
+Resolver error: Unknown variable: $q
 Resolver error: Unknown function: F()
+";
+
+const C_LINES: &str = "Resolver error: Unknown variable: $q
+Resolver error: Cyclical dependency detected
+Resolver error: Unknown variable: $q
+Resolver error: Unknown function: F()
+";
+
+const ARGUMENTS_LINES: &str = "Resolver error: Unknown variable: $q
+Resolver error: Cyclical dependency detected
 Resolver error: Unknown variable: $q
 ";
 
+/// A call, its text, the lines of its errors, and how many placeables it opens.
+type Row = (Asked, &'static str, &'static str, u64);
+
 const ROWS: &[Row] = &[
-    Row {
-        settings: &[],
-        steps: &[],
-        text: "",
-        errors: "",
-        after: After::Counts(false, 0, 0, 0),
-    },
-    Row {
-        settings: &[],
-        steps: &[Step::Track("a", "n")],
-        text: "x\u{2068}9\u{2069}",
-        errors: "",
-        after: After::Counts(false, 1, 1, 1),
-    },
-    Row {
-        settings: &[],
-        steps: &[Step::Track("a", "n"), Step::Track("a", "n")],
-        text: "x\u{2068}9\u{2069}x\u{2068}9\u{2069}",
-        errors: "",
-        after: After::Counts(false, 2, 1, 2),
-    },
-    Row {
-        settings: &[],
-        steps: &[Step::Track("n", "n"), Step::Track("v", "n")],
-        text: "abcy\u{2068}9\u{2069}",
-        errors: "",
-        after: After::Counts(false, 6, 2, 4),
-    },
-    Row {
-        settings: &[],
-        steps: &[Step::Track("foo", "n")],
-        text: "{foo}",
-        errors: CYCLIC,
-        after: After::Counts(false, 1, 1, 1),
-    },
-    Row {
-        settings: &[Setting::Limit(2)],
-        steps: &[Step::Track("m", "n"), Step::RefError("string")],
-        text: "ab{\"\\u0041\"}",
-        errors: TOO_MANY,
-        after: After::Counts(true, 2, 1, 1),
-    },
-    Row {
-        settings: &[],
-        steps: &[Step::MaybeTrack("a", "a"), Step::MaybeTrack("a", "a")],
-        text: "99",
-        errors: "",
-        after: After::Counts(false, 0, 1, 2),
-    },
-    Row {
-        settings: &[],
-        steps: &[Step::MaybeTrack("foo", "foo")],
-        text: "{foo}",
-        errors: CYCLIC,
-        after: After::Counts(false, 0, 1, 1),
-    },
-    Row {
-        settings: &[Setting::Limit(3)],
-        steps: &[Step::MaybeTrack("n", "n")],
-        text: "abc",
-        errors: "",
-        after: After::Counts(false, 3, 2, 2),
-    },
-    Row {
-        settings: &[Setting::Limit(2)],
-        steps: &[Step::MaybeTrack("n", "n")],
-        text: "ab{m}",
-        errors: TOO_MANY,
-        after: After::Counts(true, 2, 2, 2),
-    },
-    Row {
-        settings: &[],
-        steps: &[
-            Step::RefError("none"),
-            Step::RefError("term"),
-            Step::RefError("string"),
-            Step::RefError("number"),
-            Step::RefError("nested"),
-            Step::RefError("function"),
-            Step::RefError("missing"),
-        ],
-        text: "{no-message}{-no-term}{\"\\u0041\"}{5}{$q}{F()}{$q}",
-        errors: LOST,
-        after: After::Counts(false, 0, 0, 0),
-    },
-    Row {
-        settings: &[],
-        steps: &[Step::Track("lost", "n")],
-        text: "x\u{2068}{$q}\u{2069}",
-        errors: UNKNOWN,
-        after: After::Counts(false, 1, 1, 1),
-    },
-    Row {
-        settings: &[],
-        steps: &[Step::MaybeTrack("lost", "lost")],
-        text: "{$q}",
-        errors: UNKNOWN,
-        after: After::Counts(false, 0, 1, 1),
-    },
-    Row {
-        settings: &[Setting::Limit(5)],
-        steps: &[Step::Track("four", "n")],
-        text: "xaaaa",
-        errors: "",
-        after: After::Counts(false, 5, 2, 2),
-    },
-    Row {
-        settings: &[Setting::Limit(4)],
-        steps: &[Step::Track("four", "n")],
-        text: "xaaa{fours}",
-        errors: TOO_MANY,
-        after: After::Counts(true, 4, 2, 2),
-    },
-    Row {
-        settings: &[Setting::Limit(4)],
-        steps: &[Step::MaybeTrack("four", "four")],
-        text: "aaaa",
-        errors: "",
-        after: After::Counts(false, 4, 2, 2),
-    },
-    Row {
-        settings: &[Setting::Limit(3)],
-        steps: &[Step::MaybeTrack("four", "four")],
-        text: "aaa{fours}",
-        errors: TOO_MANY,
-        after: After::Counts(true, 3, 2, 2),
-    },
-    // The pattern is off the path after the first call.
-    Row {
-        settings: &[],
-        steps: &[Step::MaybeTrack("self", "self"), Step::Track("self", "n")],
-        text: "{self}x{self}",
-        errors: CYCLIC_TWICE,
-        after: After::Counts(false, 1, 1, 2),
-    },
-    // Once the limit is struck, patterns give nothing, and the fallback follows what is not a pattern.
-    Row {
-        settings: &[Setting::Limit(2)],
-        steps: &[
-            Step::Track("m", "n"),
-            Step::Track("a", "n"),
-            Step::MaybeTrack("n", "n"),
-            Step::MaybeTrack("v", "v"),
-            Step::MaybeTrack("a", "a"),
-        ],
-        text: "ab{m}{$n}9{$n}",
-        errors: TOO_MANY,
-        after: After::Struck(2),
-    },
+    (Asked::Track, A, A_LINES, 11),
+    (Asked::MaybeTrack, "{F()}", C_LINES, 6),
+    (
+        Asked::RefError,
+        "{F()}",
+        "Resolver error: Unknown function: F()\n",
+        0,
+    ),
+    (Asked::Arguments, "", ARGUMENTS_LINES, 6),
+    (
+        Asked::AddError,
+        "",
+        "Resolver error: Unknown variable: $z\n",
+        0,
+    ),
 ];
 
-#[test]
-fn parts_are_resolved_in_a_scope(rt: HostRuntime) -> Result<(), AllocError> {
+/// Whether a call came to its end, where it is to be refused memory else.
+fn is_whole(rt: &impl Abort, answer: Result<(), WriteFault>, text: &str) -> bool {
+    match answer {
+        Ok(()) => true,
+        Err(fault) => {
+            check(rt, matches!(fault, WriteFault::Memory), text);
+            false
+        }
+    }
+}
+
+/// That this was written, or a beginning of it where the call wasn't whole.
+fn is_taken(rt: &impl Abort, written: &[u8], text: &str, is_whole: bool) {
+    check(rt, text.as_bytes().starts_with(written), text);
+    check(rt, !is_whole || written.len() == text.len(), text);
+}
+
+/// Makes a call with a writer that needs no more memory; `false` where it is refused.
+fn asks<'p, 's>(
+    rt: &impl Abort,
+    alloc: Global,
+    scope: &mut Scoped<'_, 'p, '_, 's>,
+    row: &Row,
+    parts: Parts<'p, 's>,
+) -> Result<bool, AllocError> {
+    let mut w = Counting::new(Vec::with_capacity(alloc, 200)?);
+    let is_whole = is_whole(rt, ask(alloc, scope, &mut w, row.0, parts), row.1);
+    is_taken(rt, w.into_inner().as_slice(), row.1, is_whole);
+    Ok(is_whole)
+}
+
+/// What stands in the list of a scope, behind so many.
+fn listed<'x>(scope: &'x Scoped<'_, '_, '_, '_>, count: usize) -> &'x [FluentError] {
+    match scope.errors() {
+        Some(errors) => errors.get(count..).unwrap_or(&[]),
+        None => &[],
+    }
+}
+
+/// Whether a scope that isn't struck opened so many more than before.
+fn has_opened(scope: &Scoped<'_, '_, '_, '_>, before: u64, more: u64) -> bool {
+    let is_more = scope.counts().opened.saturating_sub(before) == more;
+    is_more && !scope.dirty()
+}
+
+/// Makes a call, and once more in the same scope where it is refused, which then comes to the whole.
+fn asks_twice<'p, 's>(
+    rt: &impl Abort,
+    alloc: Global,
+    scope: &mut Scoped<'_, 'p, '_, 's>,
+    row: &Row,
+    parts: Parts<'p, 's>,
+) -> Result<(), AllocError> {
+    if asks(rt, alloc, scope, row, parts)? {
+        check(rt, has_opened(scope, 0, row.3), row.1);
+        return are(rt, alloc, listed(scope, 0), row.2);
+    }
+    let found = lines(alloc, listed(scope, 0))?;
+    check(rt, row.2.starts_with(found.as_str()), row.1);
+    let (opened, count) = (scope.counts().opened, listed(scope, 0).len());
+    check(rt, opened <= row.3 && !scope.dirty(), row.1);
+    check(rt, asks(rt, alloc, scope, row, parts)?, row.1);
+    check(rt, has_opened(scope, opened, row.3), row.1);
+    are(rt, alloc, listed(scope, count), row.2)
+}
+
+/// Makes a call in a new scope.
+fn is_as_before<'p, 'r, 's>(
+    rt: &impl Abort,
+    alloc: Global,
+    bundle: &'p Bundle<'r, 's>,
+    args: &'p Args<'static>,
+    row: &Row,
+    parts: Parts<'p, 's>,
+) -> Result<(), AllocError> {
+    let mut errors = Vec::new(alloc);
+    let mut scope = Scope::new(bundle, bundle.ids(), Some(args), Some(&mut errors));
+    asks_twice(rt, alloc, &mut scope, row, parts)
+}
+
+fn are_as_before<'p, 'r, 's>(
+    rt: &impl Abort,
+    alloc: Global,
+    bundle: &'p Bundle<'r, 's>,
+    args: &'p Args<'static>,
+) -> Result<(), Fail> {
+    let parts = parts_of(bundle).ok_or("no parts")?;
     for row in ROWS {
-        holds(&rt, rt.alloc(), row)?;
+        is_as_before(rt, alloc, bundle, args, row, parts)?;
     }
     Ok(())
+}
+
+/// Run with each allocation failing in turn.
+#[test]
+fn parts_are_resolved_in_a_scope(rt: HostRuntime) -> Result<(), Fail> {
+    let resource = read(rt.alloc(), SOURCE)?;
+    let bundle = bundle_of(rt.alloc(), &[], &resource)?;
+    let args = arguments(rt.alloc(), &[("n", "9")])?;
+    are_as_before(&rt, rt.alloc(), &bundle, &args)
+}
+
+// ---- the limit
+
+/// A call whose budget is two, and is struck at the third placeable.
+fn is_struck<'p, 'r, 's>(
+    rt: &impl Abort,
+    alloc: Global,
+    bundle: &'p Bundle<'r, 's>,
+    errors: &mut Vec<FluentError>,
+    parts: Parts<'p, 's>,
+) -> Result<(), AllocError> {
+    let mut w = Counting::new(Vec::with_capacity(alloc, 200)?);
+    let mut scope = Scope::new(bundle, bundle.ids(), None, Some(errors));
+    let answer = scope.track(&mut w, parts.pattern, parts.inline);
+    let is_right = is_whole(rt, answer, "a") && scope.dirty() && scope.counts().opened == 2;
+    check(rt, is_right, "a struck limit");
+    let text = "xt\u{2068}1\u{2069}{-t}";
+    is_taken(rt, w.into_inner().as_slice(), text, true);
+    Ok(())
+}
+
+#[test]
+fn a_scope_strikes_its_limit(rt: HostRuntime) -> Result<(), Fail> {
+    let resource = read(rt.alloc(), SOURCE)?;
+    let bundle = bundle_of(rt.alloc(), &[Setting::Limit(2)], &resource)?;
+    let parts = parts_of(&bundle).ok_or("no parts")?;
+    let mut errors = Vec::new(rt.alloc());
+    is_struck(&rt, rt.alloc(), &bundle, &mut errors, parts)?;
+    let lines = "Resolver error: Too many placeables\n";
+    Ok(are(&rt, rt.alloc(), errors.as_slice(), lines)?)
 }

@@ -1,11 +1,9 @@
-//! Tests of bundles and chains by their calls: patterns made by hand, the calls of a scope, closures, look-ups, what is
-//! lent, and what an application composes of them. Rows of texts stand in fixtures.
+//! Tests of bundles and chains by their calls: patterns made by hand, the calls of a scope, objects that refuse, what is
+//! given whole, and what an application composes of them. Rows of texts stand in fixtures.
 #![tactic(auto)]
 
 #[cfg(test)]
 mod by_hand;
-#[cfg(test)]
-mod chain;
 #[cfg(test)]
 mod check;
 #[cfg(test)]
@@ -17,8 +15,6 @@ mod deep;
 #[cfg(test)]
 mod errors;
 #[cfg(test)]
-mod first_value;
-#[cfg(test)]
 mod formatted;
 #[cfg(test)]
 mod given;
@@ -26,8 +22,6 @@ mod given;
 mod headline;
 #[cfg(test)]
 mod in_one_scope;
-#[cfg(test)]
-mod kept;
 #[cfg(test)]
 mod lists;
 #[cfg(test)]
@@ -37,8 +31,10 @@ mod messages;
 #[cfg(test)]
 mod own;
 #[cfg(test)]
-mod scope;
+mod refusing;
 #[cfg(test)]
 mod taken;
 #[cfg(test)]
 mod trees;
+#[cfg(test)]
+mod values;

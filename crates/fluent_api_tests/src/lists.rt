@@ -1,13 +1,30 @@
 //! Bundles that are kept in lists and in a map, and let go; and which of them answers.
-use crate::chain::{Bundles, FIRST, SECOND};
 use crate::check::check;
 use crate::common::{Bundle, bundle_of, read};
-use fluent_bundle::FluentResource;
+use crate::own::{Bracketed, Own, Upper};
+use fluent_bundle::{EnglishPlurals, FluentResource, NoCustom};
 use fluent_chain::{Chain, Link};
 use std::alloc::{AllocError, Global};
 use std::collections::BTreeMap;
 use std::process::Abort;
 use std::test::Fail;
+
+/// A chain of bundles.
+pub type Bundles<'c, 'b, 'r, 's> = Chain<
+    'c,
+    'b,
+    'r,
+    's,
+    EnglishPlurals,
+    NoCustom,
+    Own,
+    Bracketed,
+    Upper,
+>;
+
+const FIRST: &str = "a = 1\nk =\n    .t = x\n";
+
+const SECOND: &str = "a = 2\n    .t = { $n }y\nb = { $x }\nk = v\n    .u = { \"w\" }\n";
 
 /// Both sources of the tests of chains.
 pub fn two(alloc: Global) -> Result<[FluentResource<'static>; 2], AllocError> {

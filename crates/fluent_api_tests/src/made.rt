@@ -3,39 +3,10 @@ use crate::check::check;
 use crate::common::{Bundle, read, value_in};
 use crate::given::formats;
 use crate::own::Own;
-use fluent_bundle::{Call, FluentBundle, FluentResource, FunctionRef, GetEntry};
+use fluent_bundle::{Call, Context, FluentBundle, FluentResource, FunctionRef, GetEntry};
 use std::alloc::{AllocError, Global};
 use std::process::Abort;
 use std::test::Fail;
-
-/// What an id names.
-#[derive(Clone, Copy, Drop)]
-enum Kind {
-    Message,
-    Own,
-    Number,
-}
-
-type Held = (&'static str, Kind);
-
-fn is_held(bundle: &Bundle<'_, '_>, held: &Held) -> bool {
-    match held.1 {
-        Kind::Message => bundle.has_message(held.0),
-        Kind::Own => matches!(
-            bundle.get_entry_function(held.0),
-            Some(FunctionRef::Own(Own::Nothing))
-        ),
-        Kind::Number => matches!(bundle.get_entry_function(held.0), Some(FunctionRef::Number)),
-    }
-}
-
-/// A default bundle, made a second time where memory is refused at the first.
-fn default_bundle<'r, 's>(alloc: Global) -> Result<Bundle<'r, 's>, AllocError> {
-    match FluentBundle::new_default(alloc) {
-        Ok(bundle) => Ok(bundle),
-        Err(_) => FluentBundle::new_default(alloc),
-    }
-}
 
 fn make_first<'r, 's>(
     alloc: Global,
@@ -88,14 +59,7 @@ fn makes_first<'r, 's>(
     }
 }
 
-/// What ids name in a bundle.
-fn holds(rt: &impl Abort, bundle: &Bundle<'_, '_>, rows: &[Held]) {
-    for held in rows {
-        check(rt, is_held(bundle, held), held.0);
-    }
-}
-
-/// What a message is formatted as, a second time where memory is refused at the first.
+/// What a message is formatted as.
 fn gives(
     rt: &impl Abort,
     alloc: Global,
@@ -104,21 +68,35 @@ fn gives(
     wanted: (&str, &str),
 ) -> Result<(), Fail> {
     let pattern = value_in(bundle, id).ok_or("no value")?;
-    match formats(rt, alloc, bundle, pattern, None, wanted) {
-        Ok(()) => Ok(()),
-        Err(AllocError) => Ok(formats(rt, alloc, bundle, pattern, None, wanted)?),
-    }
+    Ok(formats(rt, alloc, bundle, pattern, None, wanted)?)
 }
 
-/// What ids name in a bundle, and what `a` and `c`, a text and a missing variable, are formatted as.
+/// Whether the two functions are there.
+fn has_functions(bundle: &Bundle<'_, '_>) -> bool {
+    let own = bundle.get_entry_function("F");
+    let number = bundle.get_entry_function("NUMBER");
+    matches!(own, Some(FunctionRef::Own(Own::Nothing)))
+        && matches!(number, Some(FunctionRef::Number))
+}
+
+/// Whether look-ups find a message and a term, by their kinds, and the limit is as it was: one of 0 isn't taken.
+fn has_entries(bundle: &Bundle<'_, '_>) -> bool {
+    bundle.get_entry_message("b").is_some()
+        && bundle.get_entry_term("t").is_some()
+        && bundle.get_entry_term("b").is_none()
+        && bundle.has_message("b")
+        && bundle.placeable_limit() == 100
+}
+
+/// What is in a bundle, and what `a` and `c`, a text and a missing variable, are formatted as.
 fn has(
     rt: &impl Abort,
     alloc: Global,
     bundle: &Bundle<'_, '_>,
-    rows: &[Held],
     texts: (&str, &str),
 ) -> Result<(), Fail> {
-    holds(rt, bundle, rows);
+    check(rt, has_functions(bundle), "functions");
+    check(rt, has_entries(bundle), "entries");
     gives(rt, alloc, bundle, "a", (texts.0, ""))?;
     let error = "Resolver error: Unknown variable: $y\n";
     gives(rt, alloc, bundle, "c", (texts.1, error))
@@ -129,30 +107,24 @@ fn has_one_locale(bundle: &Bundle<'_, '_>) -> bool {
     bundle.locales.len() == 1 && bundle.locales[0].language.is_none()
 }
 
-const FIRST: &[Held] = &[
-    ("b", Kind::Message),
-    ("NUMBER", Kind::Number),
-    ("F", Kind::Own),
-];
-
 fn makes_calls<'r, 's>(
     rt: &impl Abort,
     alloc: Global,
     first: &'r FluentResource<'s>,
     second: &'r FluentResource<'s>,
 ) -> Result<(), Fail> {
-    let mut bundle: Bundle<'r, 's> = default_bundle(alloc)?;
+    let mut bundle: Bundle<'r, 's> = FluentBundle::new_default(alloc)?;
     check(rt, has_one_locale(&bundle), "one locale");
     makes_first(rt, alloc, &mut bundle, first, second)?;
-    has(rt, alloc, &bundle, FIRST, ("one", "x{$y}"))?;
+    has(rt, alloc, &bundle, ("one", "x{$y}"))?;
     make_last(alloc, &mut bundle, second)?;
-    has(rt, alloc, &bundle, FIRST, ("two", "x\u{2068}{$y}\u{2069}"))
+    has(rt, alloc, &bundle, ("two", "x\u{2068}{$y}\u{2069}"))
 }
 
 /// Run with each allocation failing in turn.
 #[test]
 fn calls_are_made_in_order_on_a_default_bundle(rt: HostRuntime) -> Result<(), Fail> {
     let first = read(rt.alloc(), "a = one\n")?;
-    let second = read(rt.alloc(), "a = two\nb = three\nc = x{ $y }\n")?;
+    let second = read(rt.alloc(), "a = two\nb = three\nc = x{ $y }\n-t = z\n")?;
     makes_calls(&rt, rt.alloc(), &first, &second)
 }

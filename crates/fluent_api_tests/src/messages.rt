@@ -1,81 +1,14 @@
-//! Messages and attributes that are lent.
+//! Messages and attributes that are lent are the same where their contents are.
 ghost use Rattle.std.specs.Prelude.{◌≡◌, ◌↔◌, IsTrue};
 ghost use Rattle.fluent_tree.specs.View.{attribute_view};
 ghost use Rattle.fluent_tree.specs.View as tree;
 
 use crate::check::check;
 use crate::common::{message_of, read};
-use fluent_bundle::ast::{Attribute, Message, Pattern, PatternElement};
+use fluent_bundle::ast::{Attribute, Message};
 use fluent_bundle::{FluentAttribute, FluentMessage};
 use std::alloc::Global;
 use std::test::Fail;
-
-/// The name of an attribute and its text.
-type Named = (&'static str, &'static str);
-
-/// The text that a pattern begins with.
-fn first_text<'x>(pattern: &'x Pattern<'_>) -> &'x str {
-    match pattern.elements.first() {
-        Some(PatternElement::TextElement { value }) => *value,
-        _ => "",
-    }
-}
-
-/// That an attribute has this name and this text; both are empty where there is none.
-fn is_named(attribute: Option<FluentAttribute<'_, '_>>, row: &Named) -> bool {
-    match attribute {
-        Some(attribute) => attribute.id() == row.0 && first_text(attribute.value()) == row.1,
-        None => row.1.is_empty(),
-    }
-}
-
-/// That a message has these attributes, in this order.
-fn are_in_order(message: FluentMessage<'_, '_>, rows: &[Named]) -> bool {
-    let mut attributes = message.attributes();
-    for row in rows {
-        if !is_named(attributes.next(), row) {
-            return false;
-        }
-    }
-    attributes.next().is_none()
-}
-
-/// That each name finds this attribute.
-fn are_found(message: FluentMessage<'_, '_>, rows: &[Named]) -> bool {
-    for row in rows {
-        if !is_named(message.get_attribute(row.0), row) {
-            return false;
-        }
-    }
-    true
-}
-
-/// A source, whether its first message has a value, the message's attributes, and what names find.
-type Row = (&'static str, bool, &'static [Named], &'static [Named]);
-
-const ROWS: &[Row] = &[
-    (
-        "m =\n    .x = one\n    .x = two\n",
-        false,
-        &[("x", "one"), ("x", "two")],
-        &[("x", "one"), ("y", "")],
-    ),
-    (
-        "save = Save?\n    .yes = Save it\n    .no = Drop it\n    .key = S\n",
-        true,
-        &[("yes", "Save it"), ("no", "Drop it"), ("key", "S")],
-        &[("yes", "Save it"), ("no", "Drop it"), ("key", "S")],
-    ),
-];
-
-fn has(message: FluentMessage<'_, '_>, row: &Row) -> bool {
-    message.value().is_some() == row.1 && are_in_order(message, row.2) && are_found(message, row.3)
-}
-
-fn is_row(alloc: Global, row: &Row) -> Result<bool, Fail> {
-    let resource = read(alloc, row.0)?;
-    Ok(has(FluentMessage::from(message_of(&resource)?), row))
-}
 
 fn same_messages<'m, 's>(a: &'m Message<'s>, b: &'m Message<'s>) -> bool
     ensures { IsTrue result ↔ (tree.message_view a.now ≡ tree.message_view b.now) }
@@ -116,10 +49,7 @@ fn is_same(alloc: Global, one: &str, other: &str, same: bool) -> Result<bool, Fa
 }
 
 #[test]
-fn attributes_come_in_order_and_equality_is_that_of_contents(rt: HostRuntime) -> Result<(), Fail> {
-    for row in ROWS {
-        check(&rt, is_row(rt.alloc(), row)?, row.0);
-    }
+fn equality_is_that_of_contents(rt: HostRuntime) -> Result<(), Fail> {
     for (one, other, same) in SAME {
         check(&rt, is_same(rt.alloc(), *one, *other, *same)?, *one);
     }

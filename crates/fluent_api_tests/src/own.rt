@@ -11,35 +11,27 @@ pub enum Own {
     Nothing,
     /// The first positional value, or an error where there is none.
     First,
-    /// The named argument `x`, or an error where there is none.
-    Named,
 }
 
 impl FluentFunction<NoCustom> for Own {
-    ghost use Rattle.std.specs.Prelude.{codes, slice_get, unwrap_or};
-    ghost use Rattle.fluent_meaning.specs.Arguments.{get};
+    ghost use Rattle.std.specs.Prelude.{slice_get, unwrap_or};
     ghost use Rattle.fluent_meaning.specs.Value.{no_value, error_value};
     ghost use Rattle.fluent_api_tests.specs.declared.own.Own.TheVariants as own;
 
-    ghost answer = { λ f positional named. elim f [
+    ghost answer = { λ f positional _. elim f [
       | own.Nothing ↦ no_value
       | own.First ↦ unwrap_or (slice_get positional 0) error_value
-      | own.Named ↦ unwrap_or (get (codes "x") named) error_value
     ] };
 
     fn call<'a>(
         &self,
         alloc: Global,
         positional: &[FluentValue<'a, NoCustom>],
-        arguments: &FluentArgs<'a, NoCustom>,
+        _arguments: &FluentArgs<'a, NoCustom>,
     ) -> Result<FluentValue<'a, NoCustom>, AllocError> {
         match self {
             Own::Nothing => Ok(FluentValue::None),
             Own::First => match positional.first() {
-                Some(value) => value.try_clone(alloc),
-                None => Ok(FluentValue::Error),
-            },
-            Own::Named => match arguments.get("x") {
                 Some(value) => value.try_clone(alloc),
                 None => Ok(FluentValue::Error),
             },

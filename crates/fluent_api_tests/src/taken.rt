@@ -1,14 +1,36 @@
-//! What a chain writes, and the texts of their own that it gives, where memory is refused too.
-use crate::chain::{BOTH, Bundles, NO_X, Row, is_shown, stand};
-use crate::check::check;
+//! What a chain writes, and the texts of their own that it gives.
+use crate::check::{check, check_same};
 use crate::common::{Args, arguments};
-use crate::lists::{list_of, two};
+use crate::given::are;
+use crate::lists::{Bundles, list_of, two};
 use fluent_bundle::{Counting, FluentError, WriteFault};
 use fluent_chain::Chain;
 use std::alloc::{AllocError, Global};
-use std::borrow::CowStr;
 use std::process::Abort;
 use std::test::Fail;
+
+/// An id, the name of an attribute or none, the text, and the lines of its errors.
+type Row = (
+    &'static str,
+    Option<&'static str>,
+    &'static str,
+    &'static str,
+);
+
+const NO_N: &str = "Resolver error: Unknown variable: $n\n";
+
+const NO_X: &str = "Resolver error: Unknown variable: $x\n";
+
+const BOTH: &[Row] = &[
+    ("a", None, "1", ""),
+    ("b", None, "{$x}", NO_X),
+    ("k", None, "v", ""),
+    ("c", None, "c", ""),
+    ("k", Some("t"), "x", ""),
+    ("k", Some("u"), "w", ""),
+    ("a", Some("t"), "\u{2068}{$n}\u{2069}y", NO_N),
+    ("a", Some("u"), "a", ""),
+];
 
 /// Where `$n` is given as 5.
 const FIVE: &[Row] = &[
@@ -26,26 +48,25 @@ fn own(
     row: &Row,
     args: &Args<'_>,
     errors: &mut Vec<FluentError>,
-) -> Result<CowStr<'static>, AllocError> {
-    let text = match row.1 {
-        None => chain.format_value_owned(alloc, row.0, Some(args), errors)?,
-        Some(name) => chain.format_attribute_owned(alloc, row.0, name, Some(args), errors)?,
-    };
-    Ok(CowStr::Owned(text))
+) -> Result<String, AllocError> {
+    match row.1 {
+        None => chain.format_value_owned(alloc, row.0, Some(args), errors),
+        Some(name) => chain.format_attribute_owned(alloc, row.0, name, Some(args), errors),
+    }
 }
 
-/// `false` where memory is refused, which leaves a beginning of the errors.
-fn owns_once(
+/// That a text is given as a row says.
+fn owns(
     rt: &impl Abort,
     alloc: Global,
     chain: Asked<'_, '_, '_>,
     row: &Row,
     args: &Args<'_>,
-) -> Result<bool, AllocError> {
+) -> Result<(), AllocError> {
     let mut errors = Vec::new(alloc);
-    let is_whole = is_shown(rt, own(alloc, chain, row, args, &mut errors), row.2);
-    stand(rt, alloc, errors.as_slice(), row.3, is_whole)?;
-    Ok(is_whole)
+    let text = own(alloc, chain, row, args, &mut errors)?;
+    check_same(rt, text.as_str(), row.2);
+    are(rt, alloc, errors.as_slice(), row.3)
 }
 
 fn write(
@@ -61,41 +82,32 @@ fn write(
     }
 }
 
-/// Whether a call came to its end, where it is to be refused memory else.
-fn is_whole(rt: &impl Abort, answer: Result<(), WriteFault>, text: &str) -> bool {
+/// Whether a call came to its end, where memory isn't refused.
+fn is_whole(answer: Result<(), WriteFault>) -> Result<bool, AllocError> {
     match answer {
-        Ok(()) => true,
-        Err(fault) => {
-            check(rt, matches!(fault, WriteFault::Memory), text);
-            false
-        }
+        Ok(()) => Ok(true),
+        Err(WriteFault::Memory) => Err(AllocError),
+        Err(_) => Ok(false),
     }
 }
 
-/// That this was written, or a beginning of it where the call wasn't whole.
-fn is_taken(rt: &impl Abort, written: &[u8], text: &str, is_whole: bool) {
-    check(rt, text.as_bytes().starts_with(written), text);
-    check(rt, !is_whole || written.len() == text.len(), text);
-}
-
-/// Writes to a writer that needs no more memory; `false` where memory is refused.
-fn writes_once(
+/// That it is written so, to a writer that needs no more memory.
+fn writes(
     rt: &impl Abort,
     alloc: Global,
     chain: Asked<'_, '_, '_>,
     row: &Row,
     args: &Args<'_>,
-) -> Result<bool, AllocError> {
+) -> Result<(), AllocError> {
     let mut errors = Vec::new(alloc);
     let mut w = Counting::new(Vec::with_capacity(alloc, 50)?);
-    let is_whole = is_whole(rt, write(chain, row, args, &mut w, &mut errors), row.2);
-    is_taken(rt, w.into_inner().as_slice(), row.2, is_whole);
-    stand(rt, alloc, errors.as_slice(), row.3, is_whole)?;
-    Ok(is_whole)
+    let is_whole = is_whole(write(chain, row, args, &mut w, &mut errors))?;
+    let is_taken = w.into_inner().as_slice() == row.2.as_bytes();
+    check(rt, is_whole && is_taken, row.2);
+    are(rt, alloc, errors.as_slice(), row.3)
 }
 
-/// That each text is given as a row says, a second time where memory is refused at the first.
-fn owns(
+fn gives(
     rt: &impl Abort,
     alloc: Global,
     chain: Asked<'_, '_, '_>,
@@ -103,49 +115,19 @@ fn owns(
     args: &Args<'_>,
 ) -> Result<(), AllocError> {
     for row in rows {
-        if !owns_once(rt, alloc, chain, row, args)? {
-            check(rt, owns_once(rt, alloc, chain, row, args)?, row.2);
-        }
-    }
-    Ok(())
-}
-
-/// The same of what is written.
-fn writes(
-    rt: &impl Abort,
-    alloc: Global,
-    chain: Asked<'_, '_, '_>,
-    rows: &[Row],
-    args: &Args<'_>,
-) -> Result<(), AllocError> {
-    for row in rows {
-        if !writes_once(rt, alloc, chain, row, args)? {
-            check(rt, writes_once(rt, alloc, chain, row, args)?, row.2);
-        }
+        owns(rt, alloc, chain, row, args)?;
+        writes(rt, alloc, chain, row, args)?;
     }
     Ok(())
 }
 
 /// Run with each allocation failing in turn.
 #[test]
-fn a_chain_gives_texts_of_their_own(rt: HostRuntime) -> Result<(), Fail> {
+fn a_chain_gives_and_writes_what_its_bundles_have(rt: HostRuntime) -> Result<(), Fail> {
     let alloc = rt.alloc();
     let resources = two(alloc)?;
     let bundles = list_of(alloc, &resources)?;
     let chain = Chain::of(bundles.as_slice());
-    owns(&rt, alloc, &chain, BOTH, &arguments(alloc, &[])?)?;
-    owns(&rt, alloc, &chain, FIVE, &arguments(alloc, &[("n", "5")])?)?;
-    Ok(())
-}
-
-/// Run with each allocation failing in turn.
-#[test]
-fn a_chain_writes_what_its_bundles_have(rt: HostRuntime) -> Result<(), Fail> {
-    let alloc = rt.alloc();
-    let resources = two(alloc)?;
-    let bundles = list_of(alloc, &resources)?;
-    let chain = Chain::of(bundles.as_slice());
-    writes(&rt, alloc, &chain, BOTH, &arguments(alloc, &[])?)?;
-    writes(&rt, alloc, &chain, FIVE, &arguments(alloc, &[("n", "5")])?)?;
-    Ok(())
+    gives(&rt, alloc, &chain, BOTH, &arguments(alloc, &[])?)?;
+    Ok(gives(&rt, alloc, &chain, FIVE, &arguments(alloc, &[("n", "5")])?)?)
 }

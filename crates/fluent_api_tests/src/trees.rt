@@ -7,52 +7,33 @@ use std::alloc::{AllocError, Global};
 
 // ---- what tables say
 
-/// An expression that takes no memory; an attribute is one of a term.
+/// An expression that takes no memory.
 #[derive(Clone, Copy, Drop)]
 pub enum Leaf {
     String(&'static str),
     Number(&'static str),
     Variable(&'static str),
     Message(&'static str),
-    Term(&'static str),
-    Attribute(&'static str, &'static str),
 }
 
 /// A named argument.
-#[derive(Clone, Copy, Drop)]
-pub struct Named(pub &'static str, pub Leaf);
-
-/// What a term or a function is asked: positional arguments and named ones.
-#[derive(Clone, Copy, Drop)]
-pub struct Asked(pub &'static [Leaf], pub &'static [Named]);
+pub type Named = (&'static str, Leaf);
 
 /// A variant by its key, which is a name or a number, and its text.
 #[derive(Clone, Copy, Drop)]
 pub enum Case {
-    Name(&'static str, &'static str),
     Number(&'static str, &'static str),
+    Name(&'static str, &'static str),
     Default(&'static str, &'static str),
 }
 
-/// An expression.
-#[derive(Clone, Copy, Drop)]
-pub enum Part {
-    Leaf(Leaf),
-    Term(&'static str, Asked),
-    Attribute(&'static str, &'static str, Asked),
-    Function(&'static str, Asked),
-    /// In so many brackets.
-    Brackets(Leaf, usize),
-    /// In brackets, by its selector.
-    Select(Leaf, &'static [Case]),
-}
-
-/// A pattern: texts, an expression behind them, or a select by its selector.
+/// A pattern: no element, a literal or a reference, the term `t` with named arguments, or a select by its selector.
 #[derive(Clone, Copy, Drop)]
 pub enum Tree {
-    Texts(&'static [&'static str]),
-    Beside(&'static [&'static str], Part),
-    Choice(Part, &'static [Case]),
+    Nothing,
+    Leaf(Leaf),
+    Term(&'static [Named]),
+    Choice(Leaf, &'static [Case]),
 }
 
 // ---- memory
@@ -81,25 +62,13 @@ fn boxed<T: Drop>(maker: &mut Maker, value: T) -> Option<Box<T>> {
     }
 }
 
-// ---- expressions
+// ---- parts
 
 type Inline<'s> = InlineExpression<'s>;
 
-fn string<'s>(value: &'s str) -> Inline<'s> {
-    InlineExpression::StringLiteral { value }
-}
-
-fn bare_term<'s>(name: &'s str, attribute: Option<Identifier<'s>>) -> Inline<'s> {
-    InlineExpression::TermReference {
-        id: Identifier { name },
-        attribute,
-        arguments: None,
-    }
-}
-
 fn leaf_of<'s>(leaf: Leaf) -> Inline<'s> {
     match leaf {
-        Leaf::String(value) => string(value),
+        Leaf::String(value) => InlineExpression::StringLiteral { value },
         Leaf::Number(value) => InlineExpression::NumberLiteral { value },
         Leaf::Variable(name) => InlineExpression::VariableReference {
             id: Identifier { name },
@@ -108,126 +77,64 @@ fn leaf_of<'s>(leaf: Leaf) -> Inline<'s> {
             id: Identifier { name },
             attribute: None,
         },
-        Leaf::Term(name) => bare_term(name, None),
-        Leaf::Attribute(name, attribute) => bare_term(name, Some(Identifier { name: attribute })),
-    }
-}
-
-fn positional_of<'s>(maker: &mut Maker, leaves: &[Leaf]) -> Vec<Inline<'s>> {
-    let mut list = Vec::new(maker.alloc);
-    for part in leaves {
-        add(maker, &mut list, leaf_of(*part));
-    }
-    list
-}
-
-fn argument<'s>(named: Named) -> NamedArgument<'s> {
-    NamedArgument {
-        name: Identifier { name: named.0 },
-        value: leaf_of(named.1),
     }
 }
 
 fn named_of<'s>(maker: &mut Maker, all: &[Named]) -> Vec<NamedArgument<'s>> {
     let mut list = Vec::new(maker.alloc);
-    for named in all {
-        add(maker, &mut list, argument(*named));
+    for (name, leaf) in all {
+        let name = Identifier { name: *name };
+        let value = leaf_of(*leaf);
+        add(maker, &mut list, NamedArgument { name, value });
     }
     list
 }
 
-/// What is asked; nothing where memory for it was refused.
-fn arguments_of<'s>(maker: &mut Maker, asked: Asked) -> Option<Box<CallArguments<'s>>> {
-    let positional = positional_of(maker, asked.0);
-    let named = named_of(maker, asked.1);
-    boxed(maker, CallArguments { positional, named })
-}
-
-fn term<'s>(
-    maker: &mut Maker,
-    name: &'s str,
-    attribute: Option<Identifier<'s>>,
-    asked: Asked,
-) -> Inline<'s> {
+/// The term `t`; without arguments where memory for them was refused.
+fn term<'s>(maker: &mut Maker, all: &[Named]) -> Inline<'s> {
+    let positional = Vec::new(maker.alloc);
+    let named = named_of(maker, all);
     InlineExpression::TermReference {
-        id: Identifier { name },
-        attribute,
-        arguments: arguments_of(maker, asked),
+        id: Identifier { name: "t" },
+        attribute: None,
+        arguments: boxed(maker, CallArguments { positional, named }),
     }
 }
 
-/// A function, or a text where memory for its arguments was refused.
-fn function<'s>(maker: &mut Maker, name: &'s str, asked: Asked) -> Inline<'s> {
-    match arguments_of(maker, asked) {
-        Some(arguments) => InlineExpression::FunctionReference {
-            id: Identifier { name },
-            arguments,
-        },
-        None => string(name),
+/// A pattern of one element, or of none.
+fn pattern_of<'s>(maker: &mut Maker, element: Option<PatternElement<'s>>) -> Pattern<'s> {
+    let mut elements = Vec::new(maker.alloc);
+    if let Some(element) = element {
+        add(maker, &mut elements, element);
     }
+    Pattern { elements }
 }
 
-/// An expression in brackets, or a text where memory for it was refused.
-fn nested<'s>(maker: &mut Maker, expression: Expression<'s>) -> Inline<'s> {
-    match boxed(maker, expression) {
-        Some(expression) => InlineExpression::Placeable { expression },
-        None => string(""),
-    }
-}
-
-fn in_brackets<'s>(maker: &mut Maker, part: Leaf, count: usize) -> Inline<'s> {
-    let mut inline = leaf_of(part);
-    for _ in 0..count {
-        inline = nested(maker, Expression::Inline(inline));
-    }
-    inline
-}
-
-fn inline_of<'s>(maker: &mut Maker, part: Part) -> Inline<'s> {
-    match part {
-        Part::Leaf(part) => leaf_of(part),
-        Part::Term(name, asked) => term(maker, name, None, asked),
-        Part::Attribute(name, attribute, asked) => {
-            term(maker, name, Some(Identifier { name: attribute }), asked)
-        }
-        Part::Function(name, asked) => function(maker, name, asked),
-        Part::Brackets(part, count) => in_brackets(maker, part, count),
-        Part::Select(selector, cases) => {
-            let select = select(maker, leaf_of(selector), cases);
-            nested(maker, select)
-        }
-    }
-}
-
-// ---- selects
-
-/// A variant with a text, which is the default or not.
 fn variant<'s>(
     maker: &mut Maker,
     key: VariantKey<'s>,
     text: &'static str,
     default: bool,
 ) -> Variant<'s> {
+    let value = pattern_of(maker, Some(PatternElement::TextElement { value: text }));
     Variant {
         key,
-        value: Pattern {
-            elements: texts(maker, &[text]),
-        },
+        value,
         default,
     }
 }
 
 fn variant_of<'s>(maker: &mut Maker, case: Case) -> Variant<'s> {
     match case {
-        Case::Name(name, text) => variant(maker, VariantKey::Identifier { name }, text, false),
         Case::Number(value, text) => {
             variant(maker, VariantKey::NumberLiteral { value }, text, false)
         }
+        Case::Name(name, text) => variant(maker, VariantKey::Identifier { name }, text, false),
         Case::Default(name, text) => variant(maker, VariantKey::Identifier { name }, text, true),
     }
 }
 
-fn variants<'s>(maker: &mut Maker, cases: &[Case]) -> Vec<Variant<'s>> {
+fn variants_of<'s>(maker: &mut Maker, cases: &[Case]) -> Vec<Variant<'s>> {
     let mut list = Vec::new(maker.alloc);
     for case in cases {
         let variant = variant_of(maker, *case);
@@ -236,56 +143,15 @@ fn variants<'s>(maker: &mut Maker, cases: &[Case]) -> Vec<Variant<'s>> {
     list
 }
 
-fn select<'s>(maker: &mut Maker, selector: Inline<'s>, cases: &[Case]) -> Expression<'s> {
-    Expression::Select {
-        selector,
-        variants: variants(maker, cases),
-    }
-}
-
-// ---- patterns
-
-fn texts<'s>(maker: &mut Maker, texts: &[&'static str]) -> Vec<PatternElement<'s>> {
-    let mut list = Vec::new(maker.alloc);
-    for value in texts {
-        add(
-            maker,
-            &mut list,
-            PatternElement::TextElement { value: *value },
-        );
-    }
-    list
-}
-
-/// Texts, and an expression behind them.
-fn beside<'s>(
-    maker: &mut Maker,
-    front: &[&'static str],
-    expression: Expression<'s>,
-) -> Pattern<'s> {
-    let mut elements = texts(maker, front);
-    add(
-        maker,
-        &mut elements,
-        PatternElement::Placeable { expression },
-    );
-    Pattern { elements }
-}
-
-fn made<'s>(maker: &mut Maker, tree: Tree) -> Pattern<'s> {
+fn expression_of<'s>(maker: &mut Maker, tree: Tree) -> Option<Expression<'s>> {
     match tree {
-        Tree::Texts(front) => Pattern {
-            elements: texts(maker, front),
-        },
-        Tree::Beside(front, part) => {
-            let inline = inline_of(maker, part);
-            beside(maker, front, Expression::Inline(inline))
-        }
-        Tree::Choice(selector, cases) => {
-            let selector = inline_of(maker, selector);
-            let select = select(maker, selector, cases);
-            beside(maker, &[], select)
-        }
+        Tree::Nothing => None,
+        Tree::Leaf(leaf) => Some(Expression::Inline(leaf_of(leaf))),
+        Tree::Term(named) => Some(Expression::Inline(term(maker, named))),
+        Tree::Choice(leaf, cases) => Some(Expression::Select {
+            selector: leaf_of(leaf),
+            variants: variants_of(maker, cases),
+        }),
     }
 }
 
@@ -295,7 +161,11 @@ pub fn pattern<'s>(alloc: Global, tree: Tree) -> Result<Pattern<'s>, AllocError>
         alloc,
         refused: false,
     };
-    let made = made(&mut maker, tree);
+    let element = match expression_of(&mut maker, tree) {
+        Some(expression) => Some(PatternElement::Placeable { expression }),
+        None => None,
+    };
+    let made = pattern_of(&mut maker, element);
     if maker.refused {
         Err(AllocError)
     } else {

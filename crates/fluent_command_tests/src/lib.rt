@@ -2,13 +2,9 @@
 #![tactic(auto)]
 
 #[cfg(test)]
-mod each_read;
-#[cfg(test)]
 mod each_write;
 #[cfg(test)]
 mod faults;
-#[cfg(test)]
-mod memory;
 #[cfg(test)]
 mod options;
 #[cfg(test)]

@@ -10,3 +10,9 @@ q = { -G }
 #absent F
 #= p |
 #= q | 2
+#===
+#@ functions none
+#@ objects last
+NUMBER = 2
+#left function "NUMBER"
+#= 2

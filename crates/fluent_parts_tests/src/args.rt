@@ -1,4 +1,4 @@
-//! Each call once, also where memory is refused.
+//! Arguments: each call once, also where memory is refused.
 use crate::common::{Given, MANY, Named, arguments, many, nth_name, value};
 use fluent_values::FluentArgs;
 use fluent_values::types::{FluentValue, NoCustom};

@@ -1,5 +1,5 @@
 //! The texts of errors, and copies of them.
-use fluent_tree::ParserError;
+use fluent_syntax::ParserError;
 use fluent_values::{EntryKind, FluentError, ReferenceKind, ResolverError};
 use std::alloc::{AllocError, Global};
 use std::test::Fail;
@@ -181,6 +181,7 @@ fn is_reported(alloc: Global, row: &Row) -> Result<bool, AllocError> {
     )
 }
 
+/// Run with each allocation failing in turn.
 #[test]
 fn errors_have_their_texts(rt: HostRuntime) -> Result<(), Fail> {
     for row in ROWS {

@@ -1,11 +1,15 @@
-//! A function of an application, kept with its fact.
+//! A function of an application, kept with its fact, and the objects that stand for none of an application's own.
 ghost use Rattle.std.specs.Prelude.{◌≡◌, [], map, unwrap_or, slice_get, codes, IfOk};
 ghost use Rattle.fluent_meaning.specs.Value.{text_value, error_value};
 ghost use Rattle.fluent_values.specs.View.{value_view};
 
 use crate::common::{Given, is_shown, values};
-use fluent_values::types::{FluentValue, NoCustom};
-use fluent_values::{AnswerRule, Answering, FluentArgs, FluentFunction, FunctionOf, NoFunction};
+use fluent_intl::EnglishPlurals;
+use fluent_values::types::{FluentType, FluentValue, NoCustom};
+use fluent_values::{
+    AnswerRule, Answering, FluentArgs, FluentFormatter, FluentFunction, FunctionOf, NoFormatter,
+    NoFunction, NoTransform, Transform,
+};
 use std::alloc::{AllocError, Global};
 use std::test::Fail;
 
@@ -115,6 +119,7 @@ fn captured(alloc: Global) -> Result<bool, AllocError> {
     )
 }
 
+/// Run with each allocation failing in turn.
 #[test]
 fn a_kept_function_answers_by_its_rule_and_no_function_an_error(
     rt: HostRuntime,
@@ -123,5 +128,41 @@ fn a_kept_function_answers_by_its_rule_and_no_function_an_error(
     assert!(rt; first_of_closure(rt.alloc())?);
     assert!(rt; captured(rt.alloc())?);
     assert!(rt; answers_both(rt.alloc(), &NoFunction, "error")?);
+    Ok(())
+}
+
+// ---- none of an application's own
+
+/// A custom value that is none has the empty text.
+fn no_custom_value(alloc: Global) -> Result<bool, AllocError> {
+    let copy = NoCustom.duplicate(alloc)?;
+    Ok(copy.as_string(alloc)?.is_empty() && copy.same(&NoCustom))
+}
+
+/// A formatter that is none leaves a value to its own text.
+fn no_formatter(alloc: Global) -> Result<bool, AllocError> {
+    let value: FluentValue<'_, NoCustom> = FluentValue::from("a");
+    let shown = NoFormatter.format(alloc, &value, &EnglishPlurals)?;
+    Ok(shown.is_none())
+}
+
+/// Whether a transform leaves a text as it is.
+fn changes_nothing<T: Transform>(alloc: Global, transform: &T) -> Result<bool, AllocError> {
+    let text = transform.transform(alloc, "abc")?;
+    Ok(text.as_str() == "abc")
+}
+
+fn boxed(alloc: Global) -> Result<bool, AllocError> {
+    let boxed: Box<dyn Transform> = Box::new(alloc, NoTransform)?;
+    changes_nothing(alloc, &boxed)
+}
+
+/// Run with each allocation failing in turn.
+#[test]
+fn what_is_none_changes_nothing(rt: HostRuntime) -> Result<(), Fail> {
+    assert!(rt; no_custom_value(rt.alloc())?);
+    assert!(rt; no_formatter(rt.alloc())?);
+    assert!(rt; changes_nothing(rt.alloc(), &NoTransform)?);
+    assert!(rt; boxed(rt.alloc())?);
     Ok(())
 }

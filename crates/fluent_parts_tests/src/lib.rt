@@ -1,13 +1,11 @@
-//! Tests of what bundles are made of: numbers and slots of ids, classes of patterns, links and places among them; numbers,
-//! operands and plural rules; values, arguments, functions and reports; and of all these the calls that take no memory.
+//! Tests of what bundles are made of: numbers and slots of ids, links of patterns and their classes; numbers, operands and
+//! plural rules; values, arguments, functions and reports.
 #![tactic(auto)]
 
 #[cfg(test)]
 mod args;
 #[cfg(test)]
 mod check;
-#[cfg(test)]
-mod classes;
 #[cfg(test)]
 mod common;
 #[cfg(test)]
@@ -16,16 +14,6 @@ mod contents;
 mod decimals;
 #[cfg(test)]
 mod errors;
-#[cfg(test)]
-mod free_conversions;
-#[cfg(test)]
-mod free_errors;
-#[cfg(test)]
-mod free_numbers;
-#[cfg(test)]
-mod free_plurals;
-#[cfg(test)]
-mod free_values;
 #[cfg(test)]
 mod function;
 #[cfg(test)]
@@ -37,8 +25,6 @@ mod numbers;
 #[cfg(test)]
 mod options;
 #[cfg(test)]
-mod places;
-#[cfg(test)]
 mod plurals;
 #[cfg(test)]
 mod rules;
@@ -46,8 +32,6 @@ mod rules;
 mod same;
 #[cfg(test)]
 mod slots;
-#[cfg(test)]
-mod trees;
 #[cfg(test)]
 mod values;
 #[cfg(test)]

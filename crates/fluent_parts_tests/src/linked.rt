@@ -1,22 +1,54 @@
-//! Patterns that are linked: the numbers of what they refer to, in order, and their classes.
+//! Patterns of a source that are linked: the numbers of what they refer to, in order, and their classes.
 use crate::check::{check, check_at};
 use crate::slots::has_number;
-use crate::trees::{Maker, Tree, alone, list, message, put, text, variable, whole};
 use fluent_links::{Classes, Linked, Slots};
+use fluent_syntax::ast::{Entry, Pattern};
+use fluent_syntax::parse_runtime;
 use std::alloc::{AllocError, Global};
 use std::process::Abort;
 use std::test::Fail;
 
-/// Links a pattern, again where memory is refused.
-pub fn link<'r>(
-    alloc: Global,
-    slots: &mut Slots<'static, u8>,
-    classes: &mut Classes<'r, 'static>,
-    tree: &'r Tree,
-) -> Result<Linked, AllocError> {
-    match Linked::link(alloc, slots, classes, tree) {
-        Err(AllocError) => Linked::link(alloc, slots, classes, tree),
-        linked => linked,
+/// A pattern that refers to an id as a selector, an argument, in variants and twice; the same again; patterns that refer
+/// to nothing; and others.
+const SOURCE: &str = "p = { F(a, { b }, n: 1) }x{ -t(c, x: \"v\") }{ G(-u) ->
+    [k] { d }
+   *[o] { a }
+}{ e.f }{ $v }
+q = { F(a, { b }, n: 1) }x{ -t(c, x: \"v\") }{ G(-u) ->
+    [k] { d }
+   *[o] { a }
+}{ e.f }{ $v }
+r = x
+s = x{ $a }
+t = { g }
+u = { a }
+v = { g }
+";
+
+/// The class of each pattern, where it has one, and the numbers of what it refers to. Those of the first are F, a, b, t,
+/// c, G, u, d, a again, and e.
+const LINKED: &[(Option<u32>, &[u32])] = &[
+    (Some(0), &[0, 1, 2, 3, 4, 5, 6, 7, 1, 8]),
+    (Some(0), &[0, 1, 2, 3, 4, 5, 6, 7, 1, 8]),
+    (None, &[]),
+    (None, &[]),
+    (Some(1), &[9]),
+    (Some(2), &[1]),
+    (Some(1), &[9]),
+];
+
+/// The entries of a source without Junk.
+fn read(alloc: Global, source: &'static str) -> Result<Vec<Entry<'static>>, Fail> {
+    match parse_runtime(alloc, source) {
+        Ok(resource) => Ok(resource.body),
+        Err(_) => Err(AllocError.into()),
+    }
+}
+
+fn value_of<'r>(entry: &'r Entry<'static>) -> Option<&'r Pattern<'static>> {
+    match entry {
+        Entry::Message(message) => message.value.as_ref(),
+        _ => None,
     }
 }
 
@@ -32,151 +64,121 @@ fn is_linked(linked: &Linked, class: Option<u32>, numbers: &[u32]) -> bool {
     place.first().is_none() && linked.class() == class
 }
 
-/// Of the whole pattern on no slots: F, a, b, c, t, d, u, G, e, a again, f.
-const WHOLE: &[u32] = &[0, 1, 2, 3, 4, 5, 6, 7, 8, 1, 9];
-
-fn is_linked_as(linked: &Result<Linked, AllocError>, class: Option<u32>, numbers: &[u32]) -> bool {
-    match linked {
-        Ok(linked) => is_linked(linked, class, numbers),
-        Err(AllocError) => false,
+/// Links a pattern, again where memory is refused.
+fn link<'r>(
+    alloc: Global,
+    slots: &mut Slots<'static, u8>,
+    classes: &mut Classes<'r, 'static>,
+    pattern: &'r Pattern<'static>,
+) -> Result<Linked, AllocError> {
+    match Linked::link(alloc, slots, classes, pattern) {
+        Err(AllocError) => Linked::link(alloc, slots, classes, pattern),
+        linked => linked,
     }
 }
 
-/// That a pattern is linked so, behind what was linked before.
+/// Whether the value of a message is linked so, behind what was linked before.
 fn links<'r>(
     alloc: Global,
     slots: &mut Slots<'static, u8>,
     classes: &mut Classes<'r, 'static>,
-    tree: &'r Tree,
-    class: Option<u32>,
-    numbers: &[u32],
-) -> bool {
-    is_linked_as(&link(alloc, slots, classes, tree), class, numbers)
-}
-
-fn both_are_numbered<'r>(
-    rt: &impl Abort,
-    slots: &mut Slots<'static, u8>,
-    classes: &mut Classes<'r, 'static>,
-    trees: &'r [Tree],
-    alloc: Global,
-) {
-    check(rt, trees.len() == 2, "how many");
-    for (at, tree) in trees.iter().enumerate() {
-        let is_so = links(alloc, slots, classes, tree, Some(0), WHOLE);
-        check_at(rt, is_so, "the whole", at);
+    entry: &'r Entry<'static>,
+    row: &(Option<u32>, &[u32]),
+) -> Result<bool, AllocError> {
+    match value_of(entry) {
+        Some(pattern) => {
+            let linked = link(alloc, slots, classes, pattern)?;
+            Ok(is_linked(&linked, row.0, row.1))
+        }
+        None => Ok(false),
     }
 }
 
-fn are_numbered<'r>(
+fn are_linked(
     rt: &impl Abort,
-    maker: &Maker,
-    slots: &mut Slots<'static, u8>,
-    classes: &mut Classes<'r, 'static>,
-    trees: &'r [Tree],
     alloc: Global,
-) -> Result<(), Fail> {
-    maker.all_made()?;
-    both_are_numbered(rt, slots, classes, trees, alloc);
-    check(rt, has_number(slots, "f", 9), "the last");
-    check(rt, has_number(slots, "v", 10), "no variable has a number");
+    slots: &mut Slots<'static, u8>,
+    entries: &[Entry<'static>],
+) -> Result<(), AllocError> {
+    let mut classes = Classes::new(alloc);
+    check(rt, entries.len() == LINKED.len(), "how many");
+    for (at, (entry, row)) in entries.iter().zip(LINKED).enumerate() {
+        let is_so = links(alloc, slots, &mut classes, entry, row)?;
+        check_at(rt, is_so, "linked", at);
+    }
     Ok(())
-}
-
-/// The whole pattern, twice.
-fn two(maker: &mut Maker) -> Vec<Tree> {
-    let first = whole(maker);
-    let second = whole(maker);
-    list(maker, [first, second])
 }
 
 /// Run with each allocation failing in turn: what is linked again gets the numbers that it would have got.
 #[test]
 fn references_are_numbered_in_order(rt: HostRuntime) -> Result<(), Fail> {
-    let mut maker = Maker::new(rt.alloc());
-    let trees = two(&mut maker);
+    let entries = read(rt.alloc(), SOURCE)?;
     let mut slots = Slots::new(rt.alloc());
-    let mut classes = Classes::new(rt.alloc());
-    are_numbered(&rt, &maker, &mut slots, &mut classes, &trees, rt.alloc())
-}
-
-/// The class and the links of a text, a variable and a message.
-const BEHIND: &[(Option<u32>, &[u32])] = &[(None, &[]), (None, &[]), (Some(0), &[1])];
-
-/// That a pattern at a place of the list is linked so.
-fn is_linked_behind<'r>(
-    slots: &mut Slots<'static, u8>,
-    classes: &mut Classes<'r, 'static>,
-    tree: &'r Tree,
-    at: usize,
-    alloc: Global,
-) -> bool {
-    match BEHIND.get(at) {
-        Some((class, numbers)) => links(alloc, slots, classes, tree, *class, numbers),
-        None => false,
-    }
-}
-
-fn are_linked_behind<'r>(
-    rt: &impl Abort,
-    slots: &mut Slots<'static, u8>,
-    classes: &mut Classes<'r, 'static>,
-    trees: &'r [Tree],
-    alloc: Global,
-) {
-    check(rt, trees.len() == BEHIND.len(), "how many");
-    for (at, tree) in trees.iter().enumerate() {
-        check_at(
-            rt,
-            is_linked_behind(slots, classes, tree, at, alloc),
-            "linked",
-            at,
-        );
-    }
-}
-
-/// Puts `b` and fills its slot.
-fn put_before(slots: &mut Slots<'static, u8>) -> bool {
-    let is_put = has_number(slots, "b", 0);
-    slots.fill(0, Some(7));
-    is_put
-}
-
-/// That `b` names what it named before, and no other id anything.
-fn is_kept(slots: &Slots<'static, u8>) -> bool {
-    slots.find("b") == Some(&7) && slots.find("a").is_none()
-}
-
-/// Behind slots of which the first is filled.
-fn are_linked<'r>(
-    rt: &impl Abort,
-    maker: &Maker,
-    slots: &mut Slots<'static, u8>,
-    classes: &mut Classes<'r, 'static>,
-    trees: &'r [Tree],
-    alloc: Global,
-) -> Result<(), Fail> {
-    maker.all_made()?;
-    check(rt, put_before(slots), "the number before");
-    are_linked_behind(rt, slots, classes, trees, alloc);
-    check(rt, is_kept(slots), "what was filled before");
+    are_linked(&rt, rt.alloc(), &mut slots, &entries)?;
+    check(&rt, has_number(&mut slots, "g", 9), "the last");
+    check(&rt, has_number(&mut slots, "v", 10), "no variable has one");
     Ok(())
 }
 
-/// A text, a variable and a message, each alone.
-fn three(maker: &mut Maker) -> Vec<Tree> {
-    let first = alone(maker, text("x"));
-    let second = alone(maker, put(variable("a")));
-    let third = alone(maker, put(message("a")));
-    list(maker, [first, second, third])
+// ---- classes
+
+/// Patterns that differ in one part each, and some again.
+const CONTENTS: &str = "a = x
+b = y
+c = { x }
+d = { x.y }
+e = { \"x\" }
+f = { $x }
+g = { F(x) }
+h = { F(n: 1) }
+i = { F(m: 1) }
+j = { $v ->\n    [k] x\n   *[l] y\n }
+k = { $v ->\n   *[k] x\n    [l] y\n }
+l = x
+m = { F(m: 1) }
+n = { $v ->\n    [k] x\n   *[l] y\n }
+";
+
+const CLASSES: &[u32] = &[0, 1, 2, 3, 4, 5, 6, 7, 8, 9, 10, 0, 8, 9];
+
+/// The class of a pattern, asked again where memory is refused.
+fn class_of<'r>(
+    classes: &mut Classes<'r, 'static>,
+    pattern: &'r Pattern<'static>,
+) -> Result<u32, AllocError> {
+    match classes.class_of(pattern) {
+        Err(AllocError) => classes.class_of(pattern),
+        class => class,
+    }
 }
 
-/// Run with each allocation failing in turn: slots that were filled before stay so, and their ids keep their numbers.
+fn has_class<'r>(
+    classes: &mut Classes<'r, 'static>,
+    entry: &'r Entry<'static>,
+    class: u32,
+) -> Result<bool, AllocError> {
+    match value_of(entry) {
+        Some(pattern) => Ok(class_of(classes, pattern)? == class),
+        None => Ok(false),
+    }
+}
+
+fn have_classes(
+    rt: &impl Abort,
+    alloc: Global,
+    entries: &[Entry<'static>],
+) -> Result<(), AllocError> {
+    let mut classes = Classes::new(alloc);
+    check(rt, entries.len() == CLASSES.len(), "how many");
+    for (at, (entry, class)) in entries.iter().zip(CLASSES).enumerate() {
+        check_at(rt, has_class(&mut classes, entry, *class)?, "a class", at);
+    }
+    Ok(())
+}
+
+/// Run with each allocation failing in turn: a pattern that was refused gets the class that it would have got.
 #[test]
-fn linking_goes_on_behind_earlier_slots(rt: HostRuntime) -> Result<(), Fail> {
-    let mut maker = Maker::new(rt.alloc());
-    let trees = three(&mut maker);
-    let mut slots = Slots::new(rt.alloc());
-    let mut classes = Classes::new(rt.alloc());
-    are_linked(&rt, &maker, &mut slots, &mut classes, &trees, rt.alloc())
+fn classes_are_equal_where_patterns_are(rt: HostRuntime) -> Result<(), Fail> {
+    let entries = read(rt.alloc(), CONTENTS)?;
+    Ok(have_classes(&rt, rt.alloc(), &entries)?)
 }

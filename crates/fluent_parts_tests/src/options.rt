@@ -2,8 +2,8 @@
 use crate::common::{Given, Named, arguments, is_shown, many, values};
 use fluent_values::builtins::NUMBER;
 use fluent_values::types::{
-    FluentNumberCurrencyDisplayStyle, FluentNumberOptions, FluentNumberStyle, FluentNumberType,
-    MergeArgs,
+    FluentNumber, FluentNumberCurrencyDisplayStyle, FluentNumberOptions, FluentNumberStyle,
+    FluentNumberType, FluentValue, MergeArgs, NoCustom,
 };
 use std::alloc::{AllocError, Global};
 use std::test::Fail;
@@ -91,5 +91,48 @@ fn is_itself(alloc: Global) -> Result<bool, AllocError> {
 #[test]
 fn many_other_names_change_no_number(rt: HostRuntime) -> Result<(), Fail> {
     assert!(rt; is_itself(rt.alloc())?);
+    Ok(())
+}
+
+// ---- a price
+
+/// Minus twelve in euros, with seven digits.
+fn price<'s>(alloc: Global) -> Result<FluentValue<'s, NoCustom>, AllocError> {
+    let positional = values(alloc, &[Given::Number(-12)])?;
+    let named = [
+        ("currency", Given::Text("EUR")),
+        ("minimumFractionDigits", Given::Number(7)),
+    ];
+    NUMBER(alloc, positional.as_slice(), &arguments(alloc, &named)?)
+}
+
+fn is_euro(options: &FluentNumberOptions) -> bool {
+    match &options.currency {
+        Some(currency) => currency.as_str() == "EUR",
+        None => false,
+    }
+}
+
+/// Whether a copy of the price, and one of its options, have its currency and its text.
+fn is_price(alloc: Global, price: &FluentNumber) -> Result<bool, AllocError> {
+    let copy = price.try_clone(alloc)?;
+    let options = price.options.try_clone(alloc)?;
+    let text = copy.value.as_text(alloc, options.minimum_fraction_digits)?;
+    let is_text = text.as_str() == "-12.0000000"
+        && copy.as_string(alloc)?.as_str() == text.as_str();
+    Ok(is_text && is_euro(&options) && copy == *price)
+}
+
+fn is_copied(alloc: Global) -> Result<bool, AllocError> {
+    match price(alloc)? {
+        FluentValue::Number(price) => is_price(alloc, &price),
+        _ => Ok(false),
+    }
+}
+
+/// Run with each allocation failing in turn.
+#[test]
+fn a_price_is_copied(rt: HostRuntime) -> Result<(), Fail> {
+    assert!(rt; is_copied(rt.alloc())?);
     Ok(())
 }

@@ -1,4 +1,4 @@
-//! Which values are the same, and copies of them.
+//! Copies of values, and which of them are the same.
 use fluent_values::types::{FluentType, FluentValue};
 use std::alloc::{AllocError, Global};
 use std::borrow::CowStr;
@@ -52,27 +52,6 @@ fn value_at<'s>(i: usize) -> FluentValue<'s, Shade> {
 const ALL: usize = 11;
 
 const ALONE: usize = 9;
-
-fn are_same(i: usize, j: usize) -> bool {
-    value_at(i).same(&value_at(j))
-}
-
-/// That a value is the same as the one at its place, where that isn't one of the last two, and as no other.
-fn is_alone(i: usize) -> bool {
-    for j in 0..ALL {
-        if are_same(i, j) != (i == j && i < ALONE) {
-            return false;
-        }
-    }
-    true
-}
-
-#[test]
-fn equal_content_of_one_kind_is_the_same(rt: HostRuntime) {
-    for i in 0..ALL {
-        assert!(rt; is_alone(i), "at {i}");
-    }
-}
 
 /// That a value which was copied is the one at a place.
 fn is_at(value: FluentValue<'_, Shade>, i: usize) -> bool {

@@ -1,5 +1,5 @@
 //! Numbers of ids, and what stands in their slots.
-use crate::check::{check, check_at};
+use crate::check::check;
 use fluent_links::Slots;
 use std::alloc::AllocError;
 use std::borrow::CowStr;
@@ -47,68 +47,27 @@ fn ids_get_numbers_in_turn(rt: HostRuntime) {
     get_numbers(&rt, &mut slots);
 }
 
-/// What the ids of the first three slots name.
-type Named = (Option<u8>, Option<u8>, Option<u8>);
-
-/// What is put into the slot of a number, and what is named from then on.
-const FILLED: &[(u32, u8, Named)] = &[
-    (1, 10, (None, Some(10), None)),
-    (0, 11, (Some(11), Some(10), None)),
-    // In place of what stood there.
-    (1, 12, (Some(11), Some(12), None)),
-    // No slot has these numbers.
-    (3, 13, (Some(11), Some(12), None)),
-    (u32::MAX, 14, (Some(11), Some(12), None)),
-    (2, 15, (Some(11), Some(12), Some(15))),
-];
-
 /// That an id names this, and that it stands in the slot of its number.
 fn holds(slots: &Slots<'_, u8>, id: &str, number: u32, value: Option<u8>) -> bool {
     slots.find(id).copied() == value && slots.at(number).copied() == value
 }
 
-/// That the slots of a, b and c hold this, and that no other slot is there.
-fn hold(slots: &Slots<'_, u8>, named: Named) -> bool {
-    holds(slots, "a", 0, named.0)
-        && holds(slots, "b", 1, named.1)
-        && holds(slots, "c", 2, named.2)
-        && holds(slots, "d", 3, None)
+/// That the slots of a and b hold this, and that no other slot is there.
+fn hold(slots: &Slots<'_, u8>, named: (Option<u8>, Option<u8>)) -> bool {
+    holds(slots, "a", 0, named.0) && holds(slots, "b", 1, named.1) && holds(slots, "c", 2, None)
 }
 
-fn hold_what_was_put_last(rt: &impl Abort, slots: &mut Slots<'static, u8>) {
-    for (number, id) in ["a", "b", "c"].into_iter().enumerate() {
-        check(rt, has_number(slots, id, number as u32), id);
-    }
-    check(rt, hold(slots, (None, None, None)), "before");
-    for (at, (number, value, named)) in FILLED.iter().enumerate() {
-        slots.fill(*number, Some(*value));
-        check_at(rt, hold(slots, *named), "filled", at);
-    }
-}
-
-/// Run with each allocation failing in turn.
-#[test]
-fn slots_hold_what_was_put_there_last(rt: HostRuntime) {
-    let mut slots = Slots::new(rt.alloc());
-    hold_what_was_put_last(&rt, &mut slots);
-}
-
-/// Puts `a`, fills its slot and puts `b`.
+/// Puts `a`, fills its slot and one that isn't there, and puts `b`.
 fn put_and_add(slots: &mut Slots<'static, u8>) -> bool {
     let is_put = has_number(slots, "a", 0);
     slots.fill(0, Some(7));
+    slots.fill(1, Some(8));
     is_put && has_number(slots, "b", 1)
 }
 
 /// Whether a new slot is empty, and the one before stays as it is.
 fn adds_an_empty_slot(slots: &mut Slots<'static, u8>) -> bool {
-    put_and_add(slots) && hold(slots, (Some(7), None, None))
-}
-
-#[test]
-fn a_new_slot_is_empty(rt: HostRuntime) {
-    let mut slots = Slots::new(rt.alloc());
-    check(&rt, adds_an_empty_slot(&mut slots), "a new slot");
+    put_and_add(slots) && hold(slots, (Some(7), None))
 }
 
 /// Makes room, again where memory is refused.
@@ -121,7 +80,7 @@ fn are_same_with_room(slots: &mut Slots<'static, u8>) -> bool {
     make_room(slots, 1)
         && adds_an_empty_slot(slots)
         && make_room(slots, 100)
-        && hold(slots, (Some(7), None, None))
+        && hold(slots, (Some(7), None))
 }
 
 /// Run with each allocation failing in turn: what ids name, and their numbers, are as before.

@@ -1,10 +1,9 @@
-//! Escapes of string literals: texts that the standard gives, and what becomes of a writer that fails.
+//! Escapes of string literals: texts that the standard gives.
 use crate::check::{check, is_same};
-use crate::writers::{Slow, has_counts, slow_writer};
-use fluent_syntax::{Counting, WriteFault, unescape_unicode, unescape_unicode_to_string};
+use fluent_syntax::{Counting, unescape_unicode, unescape_unicode_to_string};
 use std::alloc::{AllocError, Global};
 use std::borrow::CowStr;
-use std::io;
+use std::test::Fail;
 
 /// A quoted text, and what it means.
 const ESCAPES: &[(&str, &str)] = &[
@@ -31,65 +30,30 @@ const ESCAPES: &[(&str, &str)] = &[
 ];
 
 /// That a text is written as what it means, without a fault.
-fn is_written(alloc: Global, text: &str, meaning: &str) -> bool {
-    let mut w = slow_writer(alloc, 1, 1000);
-    unescape_unicode(&mut w, text).is_ok()
-        && has_counts(&w, (0, 0))
-        && w.into_inner().taken.as_slice() == meaning.as_bytes()
+fn is_written(alloc: Global, text: &str, meaning: &str) -> Result<bool, AllocError> {
+    let mut w = Counting::new(Vec::with_capacity(alloc, 100)?);
+    match unescape_unicode(&mut w, text) {
+        Ok(()) => Ok(w.into_inner().as_slice() == meaning.as_bytes()),
+        Err(_) => Ok(false),
+    }
 }
 
 /// That the text that is made is the meaning, lent where there is no backslash.
-fn is_made(made: &Result<CowStr<'_>, AllocError>, text: &str, meaning: &str) -> bool {
-    match made {
-        Ok(made) => {
-            let lent = matches!(made, CowStr::Borrowed(_));
-            is_same(made.as_str(), meaning) && lent != text.contains('\\')
-        }
-        Err(AllocError) => false,
-    }
+fn is_made(made: &CowStr<'_>, text: &str, meaning: &str) -> bool {
+    let lent = matches!(made, CowStr::Borrowed(_));
+    is_same(made.as_str(), meaning) && lent != text.contains('\\')
 }
 
-fn is_meant(alloc: Global, text: &str, meaning: &str) -> bool {
-    is_written(alloc, text, meaning)
-        && is_made(&unescape_unicode_to_string(alloc, text), text, meaning)
+fn is_meant(alloc: Global, text: &str, meaning: &str) -> Result<bool, AllocError> {
+    let made = unescape_unicode_to_string(alloc, text)?;
+    Ok(is_made(&made, text, meaning) && is_written(alloc, text, meaning)?)
 }
 
+/// Run with each allocation failing in turn.
 #[test]
-fn texts_are_what_escapes_mean(rt: HostRuntime) {
+fn texts_are_what_escapes_mean(rt: HostRuntime) -> Result<(), Fail> {
     for (text, meaning) in ESCAPES {
-        check(&rt, is_meant(rt.alloc(), *text, *meaning), text);
+        check(&rt, is_meant(rt.alloc(), *text, *meaning)?, text);
     }
-}
-
-/// Whether an escaped text is refused by a writer, with the writer's own error.
-fn is_refused(w: &mut Counting<Slow>) -> bool {
-    match unescape_unicode(w, "a\\\\\\u00E9") {
-        Err(WriteFault::Writer(e)) => e.kind() == io::ErrorKind::BrokenPipe,
-        _ => false,
-    }
-}
-
-/// That a writer fails after its good calls, with a front of the text.
-fn fails_after(alloc: Global, good: u64) -> bool {
-    let mut w = slow_writer(alloc, 1, good);
-    is_refused(&mut w)
-        && has_counts(&w, (1, 0))
-        && "a\\é"
-            .as_bytes()
-            .starts_with(w.into_inner().taken.as_slice())
-}
-
-/// When a writer fails, and how many calls are good before.
-const FAILING: &[(&str, u64)] = &[
-    ("at once", 0),
-    ("after one call", 1),
-    ("after two calls", 2),
-    ("after three calls", 3),
-];
-
-#[test]
-fn a_writer_that_fails(rt: HostRuntime) {
-    for (name, good) in FAILING {
-        check(&rt, fails_after(rt.alloc(), *good), name);
-    }
+    Ok(())
 }

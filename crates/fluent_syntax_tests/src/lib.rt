@@ -4,8 +4,6 @@
 #[cfg(test)]
 mod check;
 #[cfg(test)]
-mod cuts;
-#[cfg(test)]
 mod depth;
 #[cfg(test)]
 mod equality;

@@ -5,6 +5,7 @@ mod chunks;
 mod indents;
 mod line_ends;
 mod messages;
+mod mixed;
 mod placeable_lines;
 mod placeables;
 mod selects;
@@ -23,7 +24,7 @@ impl Row for Source {
 }
 
 /// How many tables there are.
-const TABLES: usize = 9;
+const TABLES: usize = 10;
 
 /// The table at a place.
 fn table(place: usize) -> &'static [Source] {
@@ -34,8 +35,9 @@ fn table(place: usize) -> &'static [Source] {
         3 => indents::ROWS,
         4 => line_ends::ROWS,
         5 => messages::ROWS,
-        6 => placeable_lines::ROWS,
-        7 => placeables::ROWS,
+        6 => mixed::ROWS,
+        7 => placeable_lines::ROWS,
+        8 => placeables::ROWS,
         _ => selects::ROWS,
     }
 }

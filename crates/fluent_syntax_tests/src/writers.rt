@@ -21,8 +21,8 @@ fn laws_speak_of_any_source() {
 
 /// Takes at most `step` bytes a call, and fails at the call that follows the first `good` ones.
 #[derive(Drop)]
-pub struct Slow {
-    pub taken: Vec<u8>,
+struct Slow {
+    taken: Vec<u8>,
     step: usize,
     good: u64,
 }
@@ -45,7 +45,7 @@ impl io::Write for Slow {
     }
 }
 
-pub fn slow_writer(alloc: Global, step: usize, good: u64) -> Counting<Slow> {
+fn slow_writer(alloc: Global, step: usize, good: u64) -> Counting<Slow> {
     Counting::new(Slow {
         taken: Vec::new(alloc),
         step,
@@ -73,7 +73,7 @@ fn outcome(w: &mut Counting<Slow>, text: &[u8]) -> &'static str {
     }
 }
 
-pub fn has_counts(w: &Counting<Slow>, counts: (u64, u64)) -> bool {
+fn has_counts(w: &Counting<Slow>, counts: (u64, u64)) -> bool {
     w.failed() == counts.0 && w.empty() == counts.1
 }
 

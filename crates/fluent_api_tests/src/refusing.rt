@@ -1,12 +1,11 @@
 //! Objects of an application that answer each call by want of memory: so does the formatting call that asked them, and
-//! what was written and added till then stands.
+//! what was written and added till then stands. One that isn't asked refuses nothing.
 use crate::check::check;
 use crate::common::{read, value_of};
-use crate::found::Noted;
+use crate::given::are;
 use fluent_bundle::ast::Pattern;
-use fluent_bundle::bundle::AddFault;
 use fluent_bundle::{
-    Counting, EnglishPlurals, FluentArgs, FluentBundle, FluentError, FluentFormatter,
+    Call, Counting, EnglishPlurals, FluentArgs, FluentBundle, FluentError, FluentFormatter,
     FluentFunction, FluentResource, FluentType, FluentValue, Transform, WriteFault,
 };
 use std::alloc::{AllocError, Global};
@@ -88,8 +87,16 @@ enum Has {
     Transform,
 }
 
-/// A source, whose first entry is asked for; what is written of it before memory is refused, and the errors' lines.
-struct Row(&'static str, Has, &'static str, &'static str);
+/// What comes to its end: neither call, writing alone, or both.
+#[derive(Clone, Copy, PartialEq, Eq)]
+enum Ends {
+    Neither,
+    Writing,
+    Both,
+}
+
+/// A source, whose first entry is asked for; what is written of it, the errors' lines, and what comes to its end.
+struct Row(&'static str, Has, &'static str, &'static str, Ends);
 
 const LOST: &str = "Resolver error: Unknown variable: $y\n";
 
@@ -100,50 +107,77 @@ const ROWS: &[Row] = &[
         Has::Neither,
         "a \u{2068}{$y}\u{2069} b \u{2068}",
         LOST,
+        Ends::Neither,
     ),
-    Row("m = a { F($y, F()) } b", Has::Neither, "a \u{2068}", LOST),
+    Row(
+        "m = a { F($y, F()) } b",
+        Has::Neither,
+        "a \u{2068}",
+        LOST,
+        Ends::Neither,
+    ),
     Row(
         "m = a { F($y) ->\n   *[o] b\n }",
         Has::Neither,
         "a \u{2068}",
         LOST,
+        Ends::Neither,
     ),
     Row(
         "m = { $y } { -t } b\n-t = c { F() } d",
         Has::Neither,
         "\u{2068}{$y}\u{2069} c \u{2068}",
         LOST,
+        Ends::Neither,
     ),
-    // a value that is shown, that is an argument
-    Row("m = a { $x } b", Has::Neither, "a \u{2068}", ""),
+    // a value that is shown, that is an argument; one that is a selector is lent, and isn't asked for a copy
+    Row(
+        "m = a { $x } b",
+        Has::Neither,
+        "a \u{2068}",
+        "",
+        Ends::Neither,
+    ),
     Row(
         "m = a { NUMBER($y, $x) } c",
         Has::Neither,
         "a \u{2068}",
         LOST,
+        Ends::Neither,
+    ),
+    Row(
+        "m = a { $x ->\n   *[o] b\n } c",
+        Has::Neither,
+        "a \u{2068}b\u{2069} c",
+        "",
+        Ends::Both,
     ),
     // a transform, before and behind a placeable
-    Row("m = a { $y } b", Has::Transform, "", ""),
-    Row("m = { $y } b", Has::Transform, "\u{2068}{$y}\u{2069}", LOST),
-    Row("m = b", Has::Transform, "", ""),
-    // a formatter, of a number; what is lost is no value
+    Row("m = a { $y } b", Has::Transform, "", "", Ends::Neither),
+    Row(
+        "m = { $y } b",
+        Has::Transform,
+        "\u{2068}{$y}\u{2069}",
+        LOST,
+        Ends::Neither,
+    ),
+    Row("m = b", Has::Transform, "", "", Ends::Neither),
+    // a formatter, of a number; what is lost is no value, and the whole text is shown when it is written already
     Row(
         "m = a { $y } b { 1 } c",
         Has::Formatter,
         "a \u{2068}{$y}\u{2069} b \u{2068}",
         LOST,
+        Ends::Neither,
+    ),
+    Row(
+        "m = a { $y }",
+        Has::Formatter,
+        "a \u{2068}{$y}\u{2069}",
+        LOST,
+        Ends::Writing,
     ),
 ];
-
-/// Whether a call added all, where nothing was there.
-fn is_added(answer: Result<(), AddFault>) -> bool {
-    answer.is_ok()
-}
-
-/// Adds the source and the function.
-fn fill<'r, 's>(bundle: &mut Bundle<'r, 's>, resource: &'r FluentResource<'s>) -> bool {
-    is_added(bundle.add_resource(resource)) && is_added(bundle.add_function("F", Refusing))
-}
 
 fn set(bundle: &mut Bundle<'_, '_>, has: Has) {
     match has {
@@ -157,11 +191,10 @@ fn bundle_of<'r, 's>(
     alloc: Global,
     has: Has,
     resource: &'r FluentResource<'s>,
-) -> Result<Bundle<'r, 's>, Fail> {
+) -> Result<Bundle<'r, 's>, AllocError> {
     let mut bundle: Bundle<'r, 's> = FluentBundle::new_default(alloc)?;
-    if !fill(&mut bundle, resource) {
-        return Err("not added".into());
-    }
+    bundle.make(Call::AddResource(resource))?;
+    bundle.make(Call::AddFunction("F", Refusing))?;
     set(&mut bundle, has);
     Ok(bundle)
 }
@@ -192,27 +225,13 @@ fn format<'s>(
     bundle.format_pattern(pattern, Some(args), errors)
 }
 
-// ---- rows
-
-/// That a pattern is written until memory is refused.
-fn stops_writing<'s>(
-    rt: &impl Abort,
-    alloc: Global,
-    bundle: &Bundle<'_, 's>,
-    pattern: &Pattern<'s>,
-    args: &FluentArgs<'_, Refusing>,
-    row: &Row,
-) -> Result<(), Fail> {
-    let mut noted = Noted::new(alloc)?;
-    let mut w = Counting::new(Vec::new(alloc));
-    let answer = write(bundle, pattern, args, &mut w, &mut noted.errors);
-    check(rt, is_memory(answer), row.0);
-    check(rt, has_taken(w, row.2), row.0);
-    noted.stand(rt, row.3, true)
-}
-
-fn is_memory(answer: Result<(), WriteFault>) -> bool {
-    matches!(answer, Err(WriteFault::Memory))
+/// Whether a call came to its end, or answered want of memory, as it should.
+fn is_answered(answer: Result<(), WriteFault>, ends: Ends) -> bool {
+    match answer {
+        Ok(()) => ends != Ends::Neither,
+        Err(WriteFault::Memory) => ends == Ends::Neither,
+        Err(_) => false,
+    }
 }
 
 /// Whether a writer without a fault took this text.
@@ -221,19 +240,36 @@ fn has_taken(w: Counting<Vec<u8>>, text: &str) -> bool {
     has_no_fault && w.into_inner().as_slice() == text.as_bytes()
 }
 
-/// The same where it is formatted.
-fn stops_formatting<'s>(
+/// That a pattern is written so.
+fn writes<'s>(
     rt: &impl Abort,
     alloc: Global,
     bundle: &Bundle<'_, 's>,
     pattern: &Pattern<'s>,
     args: &FluentArgs<'_, Refusing>,
     row: &Row,
-) -> Result<(), Fail> {
-    let mut noted = Noted::new(alloc)?;
-    let formatted = format(bundle, pattern, args, &mut noted.errors);
-    check(rt, formatted.is_err(), row.0);
-    noted.stand(rt, row.3, true)
+) -> Result<(), AllocError> {
+    let mut errors = Vec::new(alloc);
+    let mut w = Counting::new(Vec::new(alloc));
+    let answer = write(bundle, pattern, args, &mut w, &mut errors);
+    check(rt, is_answered(answer, row.4), row.0);
+    check(rt, has_taken(w, row.2), row.0);
+    are(rt, alloc, errors.as_slice(), row.3)
+}
+
+/// The same where it is formatted.
+fn formats<'s>(
+    rt: &impl Abort,
+    alloc: Global,
+    bundle: &Bundle<'_, 's>,
+    pattern: &Pattern<'s>,
+    args: &FluentArgs<'_, Refusing>,
+    row: &Row,
+) -> Result<(), AllocError> {
+    let mut errors = Vec::new(alloc);
+    let formatted = format(bundle, pattern, args, &mut errors);
+    check(rt, formatted.is_ok() == (row.4 == Ends::Both), row.0);
+    are(rt, alloc, errors.as_slice(), row.3)
 }
 
 fn is_refused(rt: &impl Abort, alloc: Global, row: &Row) -> Result<(), Fail> {
@@ -241,8 +277,8 @@ fn is_refused(rt: &impl Abort, alloc: Global, row: &Row) -> Result<(), Fail> {
     let bundle = bundle_of(alloc, row.1, &resource)?;
     let args = arguments(alloc)?;
     let pattern = value_of(&resource)?;
-    stops_writing(rt, alloc, &bundle, pattern, &args, row)?;
-    stops_formatting(rt, alloc, &bundle, pattern, &args, row)
+    writes(rt, alloc, &bundle, pattern, &args, row)?;
+    Ok(formats(rt, alloc, &bundle, pattern, &args, row)?)
 }
 
 #[test]
@@ -251,66 +287,4 @@ fn want_of_memory_that_an_object_answers_is_answered(rt: HostRuntime) -> Result<
         is_refused(&rt, rt.alloc(), row)?;
     }
     Ok(())
-}
-
-// ---- what isn't asked
-
-/// Writes a pattern, which is whole, with these errors behind it.
-fn is_written<'s>(
-    rt: &impl Abort,
-    alloc: Global,
-    bundle: &Bundle<'_, 's>,
-    pattern: &Pattern<'s>,
-    noted: &mut Noted,
-    text: &str,
-    lines: &str,
-) -> Result<(), Fail> {
-    let args = arguments(alloc)?;
-    let mut w = Counting::new(Vec::new(alloc));
-    let answer = write(bundle, pattern, &args, &mut w, &mut noted.errors);
-    check(rt, answer.is_ok(), text);
-    check(rt, has_taken(w, text), text);
-    noted.stand(rt, lines, true)
-}
-
-const CHOOSING: &str = "m = a { $x ->\n   *[o] b\n } c";
-
-/// A value that is a selector is lent: it isn't asked for a copy.
-#[test]
-fn a_selector_is_not_copied(rt: HostRuntime) -> Result<(), Fail> {
-    let resource = read(rt.alloc(), CHOOSING)?;
-    let bundle = bundle_of(rt.alloc(), Has::Neither, &resource)?;
-    let pattern = value_of(&resource)?;
-    let mut noted = Noted::new(rt.alloc())?;
-    let text = "a \u{2068}b\u{2069} c";
-    is_written(&rt, rt.alloc(), &bundle, pattern, &mut noted, text, "")
-}
-
-const LOST_TWICE: &str =
-    "Resolver error: Unknown variable: $y\nResolver error: Unknown variable: $y\n";
-
-/// Writes a pattern whole, and formats it in vain.
-fn is_not_shown<'s>(
-    rt: &impl Abort,
-    alloc: Global,
-    bundle: &Bundle<'_, 's>,
-    pattern: &Pattern<'s>,
-    noted: &mut Noted,
-) -> Result<(), Fail> {
-    let text = "a \u{2068}{$y}\u{2069}";
-    is_written(rt, alloc, bundle, pattern, noted, text, LOST)?;
-    let args = arguments(alloc)?;
-    let formatted = format(bundle, pattern, &args, &mut noted.errors);
-    check(rt, formatted.is_err(), text);
-    noted.stand(rt, LOST_TWICE, true)
-}
-
-/// A formatter is asked once more for the whole text, when it is written already.
-#[test]
-fn a_whole_text_that_is_not_shown_keeps_its_errors(rt: HostRuntime) -> Result<(), Fail> {
-    let resource = read(rt.alloc(), "m = a { $y }")?;
-    let bundle = bundle_of(rt.alloc(), Has::Formatter, &resource)?;
-    let pattern = value_of(&resource)?;
-    let mut noted = Noted::new(rt.alloc())?;
-    is_not_shown(&rt, rt.alloc(), &bundle, pattern, &mut noted)
 }
