@@ -1,5 +1,5 @@
 -- The first bundle that has a pattern.
-use Rattle.std.proofs.Common.{◌≡◌, ◌∙◌, sym, ap, subst, refl, List, [], ◌∷◌, ◌++◌, append-nil, map, Option, Some, None, Result, Ok, Err, OnOk, OnErr, IfOk, String, string_bytes, Global}
+use Rattle.std.proofs.Common.{◌≡◌, ◌∙◌, sym, ap, subst, refl, List, [], ◌∷◌, append-nil, map, Option, Some, None, Result, Ok, Err, OnOk, OnErr, IfOk, String, string_bytes, Global}
 use Rattle.std.specs.Prelude.{is_some, ◌||◌}
 use Rattle.std.specs.Cow.{cow_str_bytes}
 use Rattle.std.specs.List.{list_any}
@@ -10,9 +10,15 @@ use Rattle.std.specs.declared.borrow.CowStr.{CowStr}
 use Rattle.fluent_tree.specs.Tree.{Text, Pattern}
 use Rattle.fluent_meaning.specs.Errors.{Error}
 use Rattle.fluent_entries.specs.declared.errors.FluentError.{FluentError}
-use Rattle.fluent_bundle.specs.Formatted.{GivesText, WritesAll, WritesFront}
+use Rattle.fluent_bundle.specs.Formatted.{AddsFront, GivesText, WritesAll, WritesFront}
+use Rattle.fluent_text.specs.declared.counting.WriteFault.{WriteFault}
+use Rattle.std.specs.declared.alloc.AllocError.{AllocError}
+use Rattle.fluent_meaning.specs.Arguments.{Map}
+use Rattle.fluent_meaning.specs.Bundle.{Bundle}
+use Rattle.fluent_meaning.specs.Value.{Value}
 use Rattle.fluent_chain.specs.Chain.{or_others, first_with}
-use Rattle.fluent_chain.specs.ChainView.{GivesOwned}
+use Rattle.fluent_chain.specs.ChainCalls.{Errors, GivesFound, GivesOwned, WritesFound}
+use Rattle.fluent_chain.specs.Inside.Found.{Found, bundle_found}
 
 -- a bundle that has none is passed over
 pub first_with-none : {B : Type 0} (has : B → Option Pattern) (b : B) (bs : List B) → has b ≡ None → first_with has (b ∷ bs) ≡ first_with has bs
@@ -45,13 +51,30 @@ is_some-or_others : {B : Type 0} (b : B) (o : Option Pattern) (others : Option (
 is_some-or_others b (Some p) others = refl
 is_some-or_others b None others = refl
 
-pub is_some-option_map : {A B : Type 0} (f : A → B) (o : Option A) → is_some (option_map f o) ≡ is_some o
-is_some-option_map f None = refl
-is_some-option_map f (Some x) = refl
+pub is_some-bundle_found : {B : Type 0} (found : Found B) → is_some (bundle_found found) ≡ is_some found
+is_some-bundle_found None = refl
+is_some-bundle_found (Some x) = refl
 
 pub is_some-first_with : {B : Type 0} (has : B → Option Pattern) (bs : List B) → is_some (first_with has bs) ≡ list_any (λ b. is_some (has b)) bs
 is_some-first_with has [] = refl
 is_some-first_with has (b ∷ bs) = is_some-or_others b (has b) (first_with has bs) ∙ ap (λ o. is_some (has b) || o) (is_some-first_with has bs)
+
+-- what is said of the bundle that was found is said of what it means
+pub gives_of : {A : Type 0} (of : A → Bundle Text) (has : Bundle Text → Option Pattern) (as' : List A) (found : Option (A × Pattern)) → found ≡ first_with (λ a. has (of a)) as'
+    → (id : Text) (args : Map (Value Text)) (result : Result (CowStr Global) AllocError) (errors errors' : Errors)
+    → GivesFound id args (option_map (seen of has) found) result errors errors' → GivesFound id args (first_with has (map of as')) result errors errors'
+gives_of of has as' found is id args result errors errors' gives =
+    subst (λ f. GivesFound id args f result errors errors') (sym (first_with-found of has as' found is)) gives
+
+pub writes_of : {A : Type 0} (of : A → Bundle Text) (has : Bundle Text → Option Pattern) (as' : List A) (found : Option (A × Pattern)) → found ≡ first_with (λ a. has (of a)) as'
+    → (id : Text) (args : Map (Value Text)) (result : Result (Unit {0}) WriteFault) (held held' : Option Text) (errors errors' : Errors)
+    → WritesFound id args (option_map (seen of has) found) result held held' errors errors' → WritesFound id args (first_with has (map of as')) result held held' errors errors'
+writes_of of has as' found is id args result held held' errors errors' writes =
+    subst (λ f. WritesFound id args f result held held' errors errors') (sym (first_with-found of has as' found is)) writes
+
+-- nothing is added
+pub adds_none : (list : List FluentError) → AddsFront [] list list
+adds_none list = record { front = []; rest = []; whole = refl; adds = record { added = sym (append-nil _) } }
 
 -- where there is none, a text is answered and nothing is added
 pub gives_alone : {E : Type 0} (text : CowStr Global) (list : List FluentError) → GivesText {E = E} (cow_str_bytes text) [] (Ok text) list list
@@ -67,6 +90,6 @@ front_alone (Ok x) piece text held held' list same took left = record { front = 
 front_alone (Err e) piece text held held' list same took left = record { front = left.0; rest = left.1; whole = sym left.2 ∙ same; taken = left.3; adds = record { front = []; rest = []; whole = refl; adds = record { added = sym (append-nil _) } } }
 
 -- a text that is answered in memory of its own
-pub owned : {D E : Type 0} (all : Text) (errors : List Error) (text : CowStr Global) (r : Result (String Global) E) (list list' : List FluentError) → GivesText {E = D} all errors (Ok text) list list' → IfOk r (λ s. string_bytes s ≡ cow_str_bytes text) → GivesOwned all errors r list list'
+pub owned : {D : Type 0} (all : Text) (errors : List Error) (text : CowStr Global) (r : Result (String Global) AllocError) (list list' : List FluentError) → GivesText {E = D} all errors (Ok text) list list' → IfOk r (λ s. string_bytes s ≡ cow_str_bytes text) → GivesOwned all errors r list list'
 owned all errors text (Ok s) list list' gives same = record { text = same ∙ gives.text; adds = gives.adds }
 owned all errors text (Err e) list list' gives same = record { text = tt; adds = tt }

@@ -23,6 +23,11 @@ attribute_at id name b =
     option_and_then (λ message. option_map (λ a. a.1) (first_named name message.attributes))
     (message_at id b)
 
+-- the one or the other: the attribute where a name is given
+abbrev pub pattern_at : {C : Type 0} → Text → Option Text → Bundle C → Option Pattern
+pattern_at id None b = value_at id b
+pattern_at id (Some name) b = attribute_at id name b
+
 -- ---- which bundle answers
 
 -- this bundle with its pattern, or what the others have

@@ -1,4 +1,5 @@
 pub mod Chain
 pub mod ChainView
+pub mod ChainCalls
 pub mod Rows
 pub mod Inside

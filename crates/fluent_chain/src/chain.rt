@@ -1,17 +1,10 @@
 //! Bundles that are asked in turn.
-ghost use Rattle.std.specs.Prelude.{◌≡◌, ◌≢◌, map, is_some, Err};
-ghost use Rattle.std.specs.List.{list_any};
-ghost use Rattle.std.specs.Option.{option_map};
-ghost use Rattle.fluent_text.specs.Writer.{writer_in, CountsFault};
-ghost use Rattle.fluent_tree.specs.View.{pattern_view};
-ghost use Rattle.fluent_resolver.specs.Status.{arguments_view};
-ghost use Rattle.fluent_bundle.specs.BundleView.{meant};
-ghost use Rattle.fluent_bundle.specs.Formatted.{AddsFront, WritesFront};
-ghost use Rattle.fluent_chain.specs.Chain.{value_at, attribute_at, first_with, place_with, shown_of, written_of};
-ghost use Rattle.fluent_chain.specs.ChainView.{bundles_of, AnswersWithin, AnswersWhole, LendsFound};
-ghost use Rattle.fluent_chain.specs.ChainView.{OwnsWithin, OwnsWhole, PutsWithin, PutsWhole, NeedsNoMemory};
-ghost use Rattle.fluent_chain.specs.Inside.Found.{bundle_found, pattern_at, place_found};
+ghost use Rattle.std.specs.Prelude.{◌≡◌};
+ghost use Rattle.fluent_text.specs.Writer.{CountsFault};
+ghost use Rattle.fluent_chain.specs.ChainView.{bundles_of, linked};
+ghost use Rattle.fluent_chain.specs.Inside.Found.{pattern_seen};
 
+use crate::says::Says;
 use fluent_bundle::{
     Counting, FluentArgs, FluentBundle, FluentError, FluentFormatter, FluentFunction, FluentType,
     MemoizerKind, Transform, WriteFault, ast,
@@ -66,7 +59,7 @@ impl<
 > Chain<'c, 'b, 'r, 's, M, C, F, G, T> {
     /// A chain of these bundles, of which the first is asked first.
     pub fn new(bundles: &'c [Link<'b, 'r, 's, M, C, F, G, T>]) -> Self
-        ensures { bundles_of result ≡ map (λ link. link.0.now) bundles.now }
+        ensures { bundles_of result ≡ linked bundles.now }
     {
         Chain {
             bundles: Bundles::Links(bundles),
@@ -84,8 +77,7 @@ impl<
 
     /// Whether one of the bundles has a message of this id with a value. Where none has, the id stands for the text.
     pub fn has_value(&self, id: &str) -> bool
-        ensures { let of = meant M.category C.shown C.alike F.answer G.formatted T.changed in
-            result ≡ list_any (λ b. is_some (value_at id.now (of b))) (bundles_of self.now) }
+        ensures { result ≡ ⟦<Self as Says>⟧.has self.now id.now None }
     {
         self.found(id, None).is_some()
     }
@@ -93,9 +85,7 @@ impl<
     /// Whether one of the bundles has a message of this id with an attribute of this name. Where none has, the id
     /// stands for the text.
     pub fn has_attribute(&self, id: &str, name: &str) -> bool
-        ensures { let of = meant M.category C.shown C.alike F.answer G.formatted T.changed in
-            result ≡ list_any (λ b. is_some (attribute_at id.now name.now (of b)))
-            (bundles_of self.now) }
+        ensures { result ≡ ⟦<Self as Says>⟧.has self.now id.now (Some name.entry) }
     {
         self.found(id, Some(name)).is_some()
     }
@@ -103,8 +93,7 @@ impl<
     /// Which bundle answers for the value of a message: its place among the bundles, from 0 on. `None` where none has
     /// a value for it, and the id stands for the text.
     pub fn find_value(&self, id: &str) -> Option<usize>
-        ensures { let of = meant M.category C.shown C.alike F.answer G.formatted T.changed in
-            result ≡ place_with (λ b. value_at id.now (of b)) (bundles_of self.now) }
+        ensures { result ≡ ⟦<Self as Says>⟧.place self.now id.now None }
     {
         match self.found(id, None) {
             Some((place, _, _)) => Some(place),
@@ -114,8 +103,7 @@ impl<
 
     /// Which bundle answers for an attribute of a message, by the rule of [`Chain::find_value`].
     pub fn find_attribute(&self, id: &str, name: &str) -> Option<usize>
-        ensures { let of = meant M.category C.shown C.alike F.answer G.formatted T.changed in
-            result ≡ place_with (λ b. attribute_at id.now name.now (of b)) (bundles_of self.now) }
+        ensures { result ≡ ⟦<Self as Says>⟧.place self.now id.now (Some name.entry) }
     {
         match self.found(id, Some(name)) {
             Some((place, _, _)) => Some(place),
@@ -138,21 +126,9 @@ impl<
     ) -> Result<CowStr<'t>, AllocError>
     where
         's: 't,
-        ensures within { let of = meant M.category C.shown C.alike F.answer G.formatted T.changed in
-            let args = arguments_view C.content args.entry in
-            let found = first_with (value_at id.now) (map of (bundles_of self.now)) in
-            AnswersWithin id.now args found result errors.old.items errors.new.items }
-        ensures whole { let of = meant M.category C.shown C.alike F.answer G.formatted T.changed in
-            let args = arguments_view C.content args.entry in
-            let found = first_with (value_at id.now) (map of (bundles_of self.now)) in
-            AnswersWhole id.now args found result errors.old.items errors.new.items }
-        ensures front { let of = meant M.category C.shown C.alike F.answer G.formatted T.changed in
-            let args = arguments_view C.content args.entry in
-            let found = first_with (value_at id.now) (map of (bundles_of self.now)) in
-            AddsFront (shown_of id.now args found).errors errors.old.items errors.new.items }
-        ensures lent { let of = meant M.category C.shown C.alike F.answer G.formatted T.changed in
-            let found = first_with (λ b. value_at id.now (of b)) (bundles_of self.now) in
-            LendsFound id.now found result }
+        ensures text { ⟦<Self as Says>⟧.gives self.now id.now None args.entry result
+            errors.old errors.new }
+        ensures lent { ⟦<Self as Says>⟧.lends self.now id.now None result }
     {
         self.format(id, None, args, errors)
     }
@@ -172,22 +148,9 @@ impl<
     ) -> Result<CowStr<'t>, AllocError>
     where
         's: 't,
-        ensures within { let of = meant M.category C.shown C.alike F.answer G.formatted T.changed in
-            let args = arguments_view C.content args.entry in
-            let found = first_with (attribute_at id.now name.now) (map of (bundles_of self.now)) in
-            AnswersWithin id.now args found result errors.old.items errors.new.items }
-        ensures whole { let of = meant M.category C.shown C.alike F.answer G.formatted T.changed in
-            let args = arguments_view C.content args.entry in
-            let found = first_with (attribute_at id.now name.now) (map of (bundles_of self.now)) in
-            AnswersWhole id.now args found result errors.old.items errors.new.items }
-        ensures front { let of = meant M.category C.shown C.alike F.answer G.formatted T.changed in
-            let args = arguments_view C.content args.entry in
-            let found = first_with (attribute_at id.now name.now) (map of (bundles_of self.now)) in
-            AddsFront (shown_of id.now args found).errors errors.old.items errors.new.items }
-        ensures lent { let of = meant M.category C.shown C.alike F.answer G.formatted T.changed in
-            let found = first_with (λ b. attribute_at id.now name.now (of b))
-            (bundles_of self.now) in
-            LendsFound id.now found result }
+        ensures text { ⟦<Self as Says>⟧.gives self.now id.now (Some name.entry) args.entry result
+            errors.old errors.new }
+        ensures lent { ⟦<Self as Says>⟧.lends self.now id.now (Some name.entry) result }
     {
         self.format(id, Some(name), args, errors)
     }
@@ -204,18 +167,8 @@ impl<
         args: Option<&FluentArgs<'_, C>>,
         errors: &mut Vec<FluentError>,
     ) -> Result<String, AllocError>
-        ensures within { let of = meant M.category C.shown C.alike F.answer G.formatted T.changed in
-            let args = arguments_view C.content args.entry in
-            let found = first_with (value_at id.now) (map of (bundles_of self.now)) in
-            OwnsWithin id.now args found result errors.old.items errors.new.items }
-        ensures whole { let of = meant M.category C.shown C.alike F.answer G.formatted T.changed in
-            let args = arguments_view C.content args.entry in
-            let found = first_with (value_at id.now) (map of (bundles_of self.now)) in
-            OwnsWhole id.now args found result errors.old.items errors.new.items }
-        ensures front { let of = meant M.category C.shown C.alike F.answer G.formatted T.changed in
-            let args = arguments_view C.content args.entry in
-            let found = first_with (value_at id.now) (map of (bundles_of self.now)) in
-            AddsFront (shown_of id.now args found).errors errors.old.items errors.new.items }
+        ensures { ⟦<Self as Says>⟧.owns self.now id.now None args.entry result
+            errors.old errors.new }
     {
         match self.format_value(id, args, errors) {
             Ok(text) => text.into_owned(alloc),
@@ -236,18 +189,8 @@ impl<
         args: Option<&FluentArgs<'_, C>>,
         errors: &mut Vec<FluentError>,
     ) -> Result<String, AllocError>
-        ensures within { let of = meant M.category C.shown C.alike F.answer G.formatted T.changed in
-            let args = arguments_view C.content args.entry in
-            let found = first_with (attribute_at id.now name.now) (map of (bundles_of self.now)) in
-            OwnsWithin id.now args found result errors.old.items errors.new.items }
-        ensures whole { let of = meant M.category C.shown C.alike F.answer G.formatted T.changed in
-            let args = arguments_view C.content args.entry in
-            let found = first_with (attribute_at id.now name.now) (map of (bundles_of self.now)) in
-            OwnsWhole id.now args found result errors.old.items errors.new.items }
-        ensures front { let of = meant M.category C.shown C.alike F.answer G.formatted T.changed in
-            let args = arguments_view C.content args.entry in
-            let found = first_with (attribute_at id.now name.now) (map of (bundles_of self.now)) in
-            AddsFront (shown_of id.now args found).errors errors.old.items errors.new.items }
+        ensures { ⟦<Self as Says>⟧.owns self.now id.now (Some name.entry) args.entry result
+            errors.old errors.new }
     {
         match self.format_attribute(id, name, args, errors) {
             Ok(text) => text.into_owned(alloc),
@@ -269,26 +212,10 @@ impl<
         args: Option<&FluentArgs<'_, C>>,
         errors: &mut Vec<FluentError>,
     ) -> Result<(), WriteFault>
-        ensures within { let of = meant M.category C.shown C.alike F.answer G.formatted T.changed in
-            let args = arguments_view C.content args.entry in
-            let found = first_with (value_at id.now) (map of (bundles_of self.now)) in
-            PutsWithin id.now args found result (W.contents (writer_in w.old))
-            (W.contents (writer_in w.new)) errors.old.items errors.new.items }
-        ensures whole { let of = meant M.category C.shown C.alike F.answer G.formatted T.changed in
-            let args = arguments_view C.content args.entry in
-            let found = first_with (value_at id.now) (map of (bundles_of self.now)) in
-            PutsWhole id.now args found result (W.contents (writer_in w.old))
-            (W.contents (writer_in w.new)) errors.old.items errors.new.items }
-        ensures front { let of = meant M.category C.shown C.alike F.answer G.formatted T.changed in
-            let args = arguments_view C.content args.entry in
-            let found = first_with (value_at id.now) (map of (bundles_of self.now)) in
-            let means = written_of id.now args found in
-            WritesFront means.text means.errors (W.contents (writer_in w.old))
-            (W.contents (writer_in w.new)) errors.old.items errors.new.items }
+        ensures text { ⟦<Self as Says>⟧.writes W self.now id.now None args.entry result
+            W.contents w.old w.new errors.old errors.new }
         ensures fault { CountsFault w.old w.new result }
-        ensures memory { let of = meant M.category C.shown C.alike F.answer G.formatted T.changed in
-            let found = first_with (λ b. value_at id.now (of b)) (bundles_of self.now) in
-            NeedsNoMemory found → result ≢ Err WriteFault.Memory }
+        ensures memory { ⟦<Self as Says>⟧.owes self.now id.now None result }
     {
         self.write(w, id, None, args, errors)
     }
@@ -307,26 +234,10 @@ impl<
         args: Option<&FluentArgs<'_, C>>,
         errors: &mut Vec<FluentError>,
     ) -> Result<(), WriteFault>
-        ensures within { let of = meant M.category C.shown C.alike F.answer G.formatted T.changed in
-            let args = arguments_view C.content args.entry in
-            let found = first_with (attribute_at id.now name.now) (map of (bundles_of self.now)) in
-            PutsWithin id.now args found result (W.contents (writer_in w.old))
-            (W.contents (writer_in w.new)) errors.old.items errors.new.items }
-        ensures whole { let of = meant M.category C.shown C.alike F.answer G.formatted T.changed in
-            let args = arguments_view C.content args.entry in
-            let found = first_with (attribute_at id.now name.now) (map of (bundles_of self.now)) in
-            PutsWhole id.now args found result (W.contents (writer_in w.old))
-            (W.contents (writer_in w.new)) errors.old.items errors.new.items }
-        ensures front { let of = meant M.category C.shown C.alike F.answer G.formatted T.changed in
-            let args = arguments_view C.content args.entry in
-            let found = first_with (attribute_at id.now name.now) (map of (bundles_of self.now)) in
-            let means = written_of id.now args found in
-            WritesFront means.text means.errors (W.contents (writer_in w.old))
-            (W.contents (writer_in w.new)) errors.old.items errors.new.items }
+        ensures text { ⟦<Self as Says>⟧.writes W self.now id.now (Some name.entry) args.entry result
+            W.contents w.old w.new errors.old errors.new }
         ensures fault { CountsFault w.old w.new result }
-        ensures memory { let of = meant M.category C.shown C.alike F.answer G.formatted T.changed in
-            let found = first_with (λ b. attribute_at id.now name.now (of b)) (bundles_of self.now) in
-            NeedsNoMemory found → result ≢ Err WriteFault.Memory }
+        ensures memory { ⟦<Self as Says>⟧.owes self.now id.now (Some name.entry) result }
     {
         self.write(w, id, Some(name), args, errors)
     }
@@ -341,25 +252,9 @@ impl<
     ) -> Result<CowStr<'t>, AllocError>
     where
         's: 't,
-        ensures within { let of = meant M.category C.shown C.alike F.answer G.formatted T.changed in
-            let args = arguments_view C.content args.entry in
-            let name = option_map (λ n. n.now) attribute.entry in
-            let found = first_with (pattern_at id.now name) (map of (bundles_of self.now)) in
-            AnswersWithin id.now args found result errors.old.items errors.new.items }
-        ensures whole { let of = meant M.category C.shown C.alike F.answer G.formatted T.changed in
-            let args = arguments_view C.content args.entry in
-            let name = option_map (λ n. n.now) attribute.entry in
-            let found = first_with (pattern_at id.now name) (map of (bundles_of self.now)) in
-            AnswersWhole id.now args found result errors.old.items errors.new.items }
-        ensures front { let of = meant M.category C.shown C.alike F.answer G.formatted T.changed in
-            let args = arguments_view C.content args.entry in
-            let name = option_map (λ n. n.now) attribute.entry in
-            let found = first_with (pattern_at id.now name) (map of (bundles_of self.now)) in
-            AddsFront (shown_of id.now args found).errors errors.old.items errors.new.items }
-        ensures lent { let of = meant M.category C.shown C.alike F.answer G.formatted T.changed in
-            let name = option_map (λ n. n.now) attribute.entry in
-            let found = first_with (λ b. pattern_at id.now name (of b)) (bundles_of self.now) in
-            LendsFound id.now found result }
+        ensures text { ⟦<Self as Says>⟧.gives self.now id.now attribute.entry args.entry result
+            errors.old errors.new }
+        ensures lent { ⟦<Self as Says>⟧.lends self.now id.now attribute.entry result }
     {
         match self.found(id, attribute) {
             Some((_, bundle, pattern)) => bundle.format_pattern(pattern, args, errors),
@@ -376,30 +271,10 @@ impl<
         args: Option<&FluentArgs<'_, C>>,
         errors: &mut Vec<FluentError>,
     ) -> Result<(), WriteFault>
-        ensures within { let of = meant M.category C.shown C.alike F.answer G.formatted T.changed in
-            let args = arguments_view C.content args.entry in
-            let name = option_map (λ n. n.now) attribute.entry in
-            let found = first_with (pattern_at id.now name) (map of (bundles_of self.now)) in
-            PutsWithin id.now args found result (W.contents (writer_in w.old))
-            (W.contents (writer_in w.new)) errors.old.items errors.new.items }
-        ensures whole { let of = meant M.category C.shown C.alike F.answer G.formatted T.changed in
-            let args = arguments_view C.content args.entry in
-            let name = option_map (λ n. n.now) attribute.entry in
-            let found = first_with (pattern_at id.now name) (map of (bundles_of self.now)) in
-            PutsWhole id.now args found result (W.contents (writer_in w.old))
-            (W.contents (writer_in w.new)) errors.old.items errors.new.items }
-        ensures front { let of = meant M.category C.shown C.alike F.answer G.formatted T.changed in
-            let args = arguments_view C.content args.entry in
-            let name = option_map (λ n. n.now) attribute.entry in
-            let found = first_with (pattern_at id.now name) (map of (bundles_of self.now)) in
-            let means = written_of id.now args found in
-            WritesFront means.text means.errors (W.contents (writer_in w.old))
-            (W.contents (writer_in w.new)) errors.old.items errors.new.items }
+        ensures text { ⟦<Self as Says>⟧.writes W self.now id.now attribute.entry args.entry result
+            W.contents w.old w.new errors.old errors.new }
         ensures fault { CountsFault w.old w.new result }
-        ensures memory { let of = meant M.category C.shown C.alike F.answer G.formatted T.changed in
-            let name = option_map (λ n. n.now) attribute.entry in
-            let found = first_with (λ b. pattern_at id.now name (of b)) (bundles_of self.now) in
-            NeedsNoMemory found → result ≢ Err WriteFault.Memory }
+        ensures memory { ⟦<Self as Says>⟧.owes self.now id.now attribute.entry result }
     {
         match self.found(id, attribute) {
             Some((_, bundle, pattern)) => bundle.write_pattern(w, pattern, args, errors),
@@ -410,14 +285,7 @@ impl<
     /// The first bundle that has the value of the message, or its attribute where a name is given, with its place and
     /// that pattern.
     fn found(&self, id: &str, attribute: Option<&str>) -> Option<Found<'c, 'r, 's, M, C, F, G, T>>
-        ensures found { let of = meant M.category C.shown C.alike F.answer G.formatted T.changed in
-            let name = option_map (λ n. n.now) attribute.entry in
-            option_map bundle_found result
-            ≡ first_with (λ b. pattern_at id.now name (of b)) (bundles_of self.now) }
-        ensures place { let of = meant M.category C.shown C.alike F.answer G.formatted T.changed in
-            let name = option_map (λ n. n.now) attribute.entry in
-            option_map place_found result
-            ≡ place_with (λ b. pattern_at id.now name (of b)) (bundles_of self.now) }
+        ensures { ⟦<Self as Says>⟧.finds (bundles_of self.now) id.now attribute.entry result }
     {
         match self.bundles {
             Bundles::Links(links) => Self::found_linked(links, id, attribute),
@@ -430,14 +298,7 @@ impl<
         id: &str,
         attribute: Option<&str>,
     ) -> Option<Found<'c, 'r, 's, M, C, F, G, T>>
-        ensures found { let of = meant M.category C.shown C.alike F.answer G.formatted T.changed in
-            let name = option_map (λ n. n.now) attribute.entry in
-            option_map bundle_found result
-            ≡ first_with (λ b. pattern_at id.now name (of b)) (map (λ link. link.0.now) links.now) }
-        ensures place { let of = meant M.category C.shown C.alike F.answer G.formatted T.changed in
-            let name = option_map (λ n. n.now) attribute.entry in
-            option_map place_found result
-            ≡ place_with (λ b. pattern_at id.now name (of b)) (map (λ link. link.0.now) links.now) }
+        ensures { ⟦<Self as Says>⟧.finds (linked links.now) id.now attribute.entry result }
     {
         for (place, link) in links.iter().enumerate() {
             if let Some(pattern) = Self::pattern_in(link.0, id, attribute) {
@@ -452,14 +313,7 @@ impl<
         id: &str,
         attribute: Option<&str>,
     ) -> Option<Found<'c, 'r, 's, M, C, F, G, T>>
-        ensures found { let of = meant M.category C.shown C.alike F.answer G.formatted T.changed in
-            let name = option_map (λ n. n.now) attribute.entry in
-            option_map bundle_found result
-            ≡ first_with (λ b. pattern_at id.now name (of b)) (bundles.now) }
-        ensures place { let of = meant M.category C.shown C.alike F.answer G.formatted T.changed in
-            let name = option_map (λ n. n.now) attribute.entry in
-            option_map place_found result
-            ≡ place_with (λ b. pattern_at id.now name (of b)) (bundles.now) }
+        ensures { ⟦<Self as Says>⟧.finds bundles.now id.now attribute.entry result }
     {
         for (place, bundle) in bundles.iter().enumerate() {
             if let Some(pattern) = Self::pattern_in(bundle, id, attribute) {
@@ -475,9 +329,7 @@ impl<
         id: &str,
         attribute: Option<&str>,
     ) -> Option<&'r ast::Pattern<'s>>
-        ensures { let of = meant M.category C.shown C.alike F.answer G.formatted T.changed in
-            let name = option_map (λ n. n.now) attribute.entry in
-            option_map (λ p. pattern_view p.now) result ≡ pattern_at id.now name (of bundle.now) }
+        ensures { pattern_seen result ≡ ⟦<Self as Says>⟧.pattern id.now attribute.entry bundle.now }
     {
         let message = bundle.get_message(id)?;
         match attribute {

@@ -3,5 +3,6 @@
 
 pub mod chain;
 pub mod examples;
+mod says;
 
 pub use chain::{Chain, Link};

@@ -5,3 +5,5 @@ pub mod BundleView
 pub mod OneRead
 pub mod Said
 pub mod Far
+pub mod Comes
+pub mod Ends

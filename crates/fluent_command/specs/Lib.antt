@@ -7,4 +7,5 @@ pub mod Ending
 pub mod EndingView
 pub mod Program
 pub mod Outcome
+pub mod RunView
 pub mod Inside

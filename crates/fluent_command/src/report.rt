@@ -1,7 +1,7 @@
 //! What is said on standard error, and the status.
 
-ghost use Rattle.std.specs.Prelude.{◌≡◌, ◌≢◌, [], Err, IfOk, OnErr, string_bytes};
-ghost use Rattle.fluent_text.specs.Writer.{writer_in, CountsFault};
+ghost use Rattle.std.specs.Prelude.{◌≡◌, ◌≢◌, [], Err, IfOk, string_bytes};
+ghost use Rattle.fluent_text.specs.Writer.{CountsFault};
 ghost use Rattle.fluent_meaning.specs.Errors.{error_text};
 ghost use Rattle.fluent_values.specs.View.{error_view};
 ghost use Rattle.fluent_command.specs.Ending.{exit_status, line, no_message, ending_line};
@@ -10,7 +10,7 @@ ghost use Rattle.fluent_command.specs.EndingView.{ending_view};
 ghost use Rattle.fluent_command.specs.Outcome.{ReportsRun};
 ghost use Rattle.fluent_command.specs.Outlet.{outlet};
 ghost use Rattle.fluent_command.specs.Inside.Far.{Took};
-ghost use Rattle.fluent_command.specs.Inside.Said.{BeganToSay, Says, TookErrors};
+ghost use Rattle.fluent_command.specs.Inside.Said.{At, SaysAll, SaysFront, TookErrors, line_of};
 
 use fluent_bundle::{Counting, FluentError, WriteFault};
 use fluent_intl::RuleFault;
@@ -92,8 +92,7 @@ fn put_errors<E: Write>(
     errors: &[FluentError],
     err: &mut Counting<E>,
 ) -> Result<(), WriteFault>
-    ensures lines { TookErrors result (reported errors.now)
-        (E.contents (writer_in err.old)) (E.contents (writer_in err.new)) }
+    ensures lines { At E.contents err.old err.new (TookErrors result (reported errors.now)) }
     ensures fault { CountsFault err.old err.new result }
 {
     for error in errors {
@@ -104,8 +103,7 @@ fn put_errors<E: Write>(
 }
 
 fn put_no_message<E: Write>(id: &str, err: &mut Counting<E>) -> Result<(), WriteFault>
-    ensures took { Took result (ending_line (no_message id.now))
-        (E.contents (writer_in err.old)) (E.contents (writer_in err.new)) }
+    ensures took { At E.contents err.old err.new (Took result (ending_line (no_message id.now))) }
     ensures fault { CountsFault err.old err.new result }
     ensures memory { result ≢ Err WriteFault.Memory }
 {
@@ -116,8 +114,7 @@ fn put_no_message<E: Write>(id: &str, err: &mut Counting<E>) -> Result<(), Write
 
 /// Writes the line of an ending, which takes no memory.
 fn put_ending<E: Write>(ending: Ending<'_>, err: &mut Counting<E>) -> Result<(), WriteFault>
-    ensures took { Took result (ending_line (ending_view ending.entry))
-        (E.contents (writer_in err.old)) (E.contents (writer_in err.new)) }
+    ensures took { At E.contents err.old err.new (Took result (line_of ending.entry)) }
     ensures fault { CountsFault err.old err.new result }
     ensures memory { result ≢ Err WriteFault.Memory }
 {
@@ -148,11 +145,8 @@ pub(crate) fn report<'w, E: Write>(
     ending: Ending<'w>,
     err: &mut Counting<E>,
 ) -> Result<Ending<'w>, WriteFault>
-    ensures says { IfOk result (λ final.
-        Says (reported errors.now) (ending_view ending.entry) (ending_view final)
-        (E.contents (writer_in err.old)) (E.contents (writer_in err.new))) }
-    ensures front { OnErr result (BeganToSay (reported errors.now) (ending_view ending.entry)
-        (E.contents (writer_in err.old)) (E.contents (writer_in err.new))) }
+    ensures says { At E.contents err.old err.new (SaysAll result errors.now ending.entry) }
+    ensures front { At E.contents err.old err.new (SaysFront result errors.now ending.entry) }
     ensures fault { CountsFault err.old err.new result }
     ensures memory { result ≢ Err WriteFault.Memory }
 {

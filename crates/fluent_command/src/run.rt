@@ -1,19 +1,13 @@
 //! The program over any reader and writers.
 
-ghost use Rattle.std.specs.Prelude.{◌≡◌, ◌≢◌, ◌≤◌, ◌⊎◌, ℕ, List, [], map, None, string_bytes};
-ghost use Rattle.fluent_meaning.specs.Errors.{Error};
+ghost use Rattle.std.specs.Prelude.{◌≡◌, ◌≢◌, ◌≤◌, [], None};
 ghost use Rattle.fluent_resolver.specs.Status.{reported};
-ghost use Rattle.fluent_command.specs.Words.{asked_by};
-ghost use Rattle.fluent_command.specs.Inside.WordsView.{asked_view};
 ghost use Rattle.fluent_command.specs.Plurals.{HasBadRule};
-ghost use Rattle.fluent_command.specs.Inside.PluralsView.{plurals_view};
-ghost use Rattle.fluent_command.specs.Ending.{bad_usage, bad_rule, out_of_memory, reading_failed};
+ghost use Rattle.fluent_command.specs.Ending.{bad_usage, reading_failed};
 ghost use Rattle.fluent_command.specs.EndingView.{ending_view};
-ghost use Rattle.fluent_command.specs.Program.{run_input, run_of, first_of, first_of_source, program};
-ghost use Rattle.fluent_command.specs.Input.{ReadsAreBounded, ReadFor, inlet, reader_in, made_in, state_in};
-ghost use Rattle.fluent_command.specs.declared.input.InputState.TheVariants.{Open, AtEnd};
-ghost use Rattle.fluent_command.specs.Outlet.{outlet};
-ghost use Rattle.fluent_command.specs.Outcome.{AreLeft, EndsRun, AnswersAs, IsStopped, RanTo};
+ghost use Rattle.fluent_command.specs.Input.{ReadsAreBounded};
+ghost use Rattle.fluent_command.specs.RunView.{IsUntouched, Ran, RanWith, Stopped, Works, asked_of};
+ghost use Rattle.fluent_command.specs.Inside.Ends.{EndsAsked, EndsOnRule, EndsOver, EndsReading, ReadAs};
 
 use crate::input::{ReadFault, Reads, read_all};
 use crate::plurals::{Plurals, read_rules};
@@ -35,11 +29,8 @@ fn show_bytes<'w, W: Write>(
     errors: &mut Vec<FluentError>,
 ) -> Ending<'w>
     requires { errors.old.items ≡ [] }
-    ensures ends { let asked = asked_view request.entry in
-        let plurals = plurals_view plurals.entry in
-        EndsRun (run_input asked plurals bytes.now) (first_of_source asked plurals bytes.now)
-        AtEnd (outlet W.contents out.old) (outlet W.contents out.new)
-        (ending_view result) (reported errors.new.items) }
+    ensures ends { EndsOver W.contents request.entry plurals.entry bytes.now
+        out.old out.new result errors.new }
     ensures read { ending_view result ≢ reading_failed }
 {
     match str::from_utf8(bytes) {
@@ -61,14 +52,9 @@ fn show_input<'w, R: Read, W: Write>(
     errors: &mut Vec<FluentError>,
 ) -> Ending<'w>
     requires { errors.old.items ≡ [] }
-    ensures ends { let asked = asked_view request.entry in
-        let plurals = plurals_view plurals.entry in
-        (bytes : List ℕ) × AreLeft (R.remaining (reader_in input.old)) bytes
-        × EndsRun (run_input asked plurals bytes) (first_of_source asked plurals bytes)
-        (state_in input.new) (outlet W.contents out.old) (outlet W.contents out.new)
-        (ending_view result) (reported errors.new.items) }
-    ensures reads { ReadFor (ending_view result)
-        (inlet R.remaining input.old) (inlet R.remaining input.new) }
+    ensures ends { EndsReading R.remaining W.contents request.entry plurals.entry
+        input.old input.new out.old out.new result errors.new }
+    ensures reads { ReadAs R.remaining input.old input.new result }
     ensures bounded { ReadsAreBounded input.new }
 {
     match read_all(alloc, input) {
@@ -87,21 +73,14 @@ fn attempt<'w, R: Read, W: Write>(
     errors: &mut Vec<FluentError>,
 ) -> Ending<'w>
     requires { errors.old.items ≡ [] }
-    ensures ends { let asked = map string_bytes words.now in
-        (bytes : List ℕ) × AreLeft (R.remaining (reader_in input.old)) bytes
-        × EndsRun (run_of asked bytes) (first_of asked bytes)
-        (state_in input.new) (outlet W.contents out.old) (outlet W.contents out.new)
-        (ending_view result) (reported errors.new.items) }
-    ensures usage { asked_by (map string_bytes words.now) ≡ None → ending_view result ≡ bad_usage }
-    ensures rule { HasBadRule (asked_by (map string_bytes words.now)) →
-        (ending_view result ≡ bad_rule) ⊎ (ending_view result ≡ out_of_memory) }
-    ensures reads { ReadFor (ending_view result)
-        (inlet R.remaining input.old) (inlet R.remaining input.new) }
-    ensures unread { asked_by (map string_bytes words.now) ≡ None → input.new ≡ input.old }
-    ensures untouched { HasBadRule (asked_by (map string_bytes words.now)) →
-        (reader_in input.new ≡ reader_in input.old) × (made_in input.new ≡ 0)
-        × (state_in input.new ≡ Open) }
-    ensures bounded { asked_by (map string_bytes words.now) ≢ None → ReadsAreBounded input.new }
+    ensures ends { EndsAsked R.remaining W.contents words.now
+        input.old input.new out.old out.new result errors.new }
+    ensures usage { asked_of words.now ≡ None → ending_view result ≡ bad_usage }
+    ensures rule { HasBadRule (asked_of words.now) → EndsOnRule result }
+    ensures reads { ReadAs R.remaining input.old input.new result }
+    ensures unread { asked_of words.now ≡ None → input.new ≡ input.old }
+    ensures untouched { HasBadRule (asked_of words.now) → IsUntouched input.old input.new }
+    ensures bounded { asked_of words.now ≢ None → ReadsAreBounded input.new }
 {
     let Some(request) = Request::of(words) else {
         return Ending::Usage;
@@ -126,17 +105,11 @@ fn run_with<R: Read, W: Write, E: Write>(
     errors: &mut Vec<FluentError>,
 ) -> u8
     requires { errors.old.items ≡ [] }
-    ensures ran { let asked = map string_bytes words.now in
-        (bytes : List ℕ) × AreLeft (R.remaining (reader_in input.old)) bytes
-        × RanTo (run_of asked bytes) (first_of asked bytes) (reported errors.new.items)
-        (inlet R.remaining input.old) (inlet R.remaining input.new)
-        (outlet W.contents out.old) (outlet W.contents out.new)
-        (outlet E.contents err.old) (outlet E.contents err.new) result }
-    ensures unread { asked_by (map string_bytes words.now) ≡ None → input.new ≡ input.old }
-    ensures untouched { HasBadRule (asked_by (map string_bytes words.now)) →
-        (reader_in input.new ≡ reader_in input.old) × (made_in input.new ≡ 0)
-        × (state_in input.new ≡ Open) }
-    ensures bounded { asked_by (map string_bytes words.now) ≢ None → ReadsAreBounded input.new }
+    ensures ran { RanWith R.remaining W.contents E.contents words.now input.old input.new
+        out.old out.new err.old err.new (reported errors.new.items) result }
+    ensures unread { asked_of words.now ≡ None → input.new ≡ input.old }
+    ensures untouched { HasBadRule (asked_of words.now) → IsUntouched input.old input.new }
+    ensures bounded { asked_of words.now ≢ None → ReadsAreBounded input.new }
 {
     let ending = attempt(alloc, words, input, out, errors);
     match report(alloc, errors.as_slice(), ending, err) {
@@ -163,26 +136,15 @@ pub fn run<R: Read, W: Write, E: Write>(
     out: &mut Counting<W>,
     err: &mut Counting<E>,
 ) -> u8
-    ensures works { let asked = map string_bytes words.now in
-        result ≢ 3 → (bytes : List ℕ) × AreLeft (R.remaining (reader_in input.old)) bytes
-        × AnswersAs (program asked bytes) result
-        (outlet W.contents out.old) (outlet W.contents out.new)
-        (outlet E.contents err.old) (outlet E.contents err.new) }
-    ensures stopped { result ≡ 3 →
-        IsStopped (inlet R.remaining input.old) (inlet R.remaining input.new)
-        (outlet W.contents out.old) (outlet W.contents out.new)
-        (outlet E.contents err.old) (outlet E.contents err.new) }
-    ensures ran { let asked = map string_bytes words.now in
-        (bytes : List ℕ) × AreLeft (R.remaining (reader_in input.old)) bytes × (errors : List Error)
-        × RanTo (run_of asked bytes) (first_of asked bytes) errors
-        (inlet R.remaining input.old) (inlet R.remaining input.new)
-        (outlet W.contents out.old) (outlet W.contents out.new)
-        (outlet E.contents err.old) (outlet E.contents err.new) result }
-    ensures unread { asked_by (map string_bytes words.now) ≡ None → input.new ≡ input.old }
-    ensures untouched { HasBadRule (asked_by (map string_bytes words.now)) →
-        (reader_in input.new ≡ reader_in input.old) × (made_in input.new ≡ 0)
-        × (state_in input.new ≡ Open) }
-    ensures bounded { asked_by (map string_bytes words.now) ≢ None → ReadsAreBounded input.new }
+    ensures works { Works R.remaining W.contents E.contents words.now input.old
+        out.old out.new err.old err.new result }
+    ensures stopped { Stopped R.remaining W.contents E.contents input.old input.new
+        out.old out.new err.old err.new result }
+    ensures ran { Ran R.remaining W.contents E.contents words.now input.old input.new
+        out.old out.new err.old err.new result }
+    ensures unread { asked_of words.now ≡ None → input.new ≡ input.old }
+    ensures untouched { HasBadRule (asked_of words.now) → IsUntouched input.old input.new }
+    ensures bounded { asked_of words.now ≢ None → ReadsAreBounded input.new }
     ensures status { result ≤ 3 }
 {
     let mut errors = Vec::new(alloc);

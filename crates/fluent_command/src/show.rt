@@ -1,23 +1,16 @@
 //! A message of a source, written with its errors.
 
-ghost use Rattle.std.specs.Prelude.{◌≡◌, ◌++◌, ◌∷◌, [], map, Err, IfOk, IfErr, string_bytes};
-ghost use Rattle.fluent_syntax.specs.Chunks.{entries};
+ghost use Rattle.std.specs.Prelude.{◌≡◌, map, IfOk};
+ghost use Rattle.fluent_syntax.specs.Chunks as grammar;
 ghost use Rattle.fluent_syntax.specs.Parsed.{error_range};
-ghost use Rattle.fluent_text.specs.Writer.{writer_in, CountsFault};
-ghost use Rattle.fluent_tree.specs.View.{pattern_view};
-ghost use Rattle.fluent_meaning.specs.Result.{written_pattern};
+ghost use Rattle.fluent_text.specs.Writer.{CountsFault};
 ghost use Rattle.fluent_bundle.specs.BundleView.{entries_of};
-ghost use Rattle.fluent_chain.specs.Chain.{chain_value, value_at};
-ghost use Rattle.fluent_command.specs.Outlet.{outlet};
-ghost use Rattle.fluent_command.specs.Words.{name_and_value};
-ghost use Rattle.fluent_command.specs.Inside.WordsView.{asked_view};
 ghost use Rattle.fluent_command.specs.Inside.PluralsView.{plurals_view};
-ghost use Rattle.fluent_command.specs.EndingView.{ending_view};
 ghost use Rattle.fluent_command.specs.Inside.BundleView.{args_view, bundle_view};
-ghost use Rattle.fluent_command.specs.Program.{arguments_of, error_at, junk_errors, adding_errors, both_adding_errors, start, bundle_of};
-ghost use Rattle.fluent_command.specs.Program.{run_pattern, run_chain, run_value, run_entries, run_alone, run_both, run_fallback, run_source};
-ghost use Rattle.fluent_command.specs.Program.{all_first, in_pieces, first_of_entries, first_alone, first_of_source};
-ghost use Rattle.fluent_command.specs.Inside.Far.{Added, Stops, Took, TookPart};
+ghost use Rattle.fluent_command.specs.Inside.Comes as of;
+ghost use Rattle.fluent_command.specs.Inside.Comes.{words_arguments, Adds, EndsAs, StopsIn, Puts, PutsPart};
+ghost use Rattle.fluent_command.specs.Inside.Far.{Added};
+ghost use Rattle.fluent_command.specs.Program.{error_at, junk_errors, adding_errors, start, bundle_of};
 
 use crate::plurals::Plurals;
 use crate::report::Ending;
@@ -45,8 +38,7 @@ type Bundle<'p, 'r, 's> = FluentBundle<
 
 /// The arguments that words `NAME=VALUE` give. A value that is the text of a number is a number, any other a text.
 fn arguments<'w>(alloc: Global, words: &'w [String]) -> Result<FluentArgs<'w, NoCustom>, AllocError>
-    ensures { IfOk result (λ args.
-        args_view args ≡ arguments_of (map name_and_value (map string_bytes words.now))) }
+    ensures { IfOk result (λ args. args_view args ≡ words_arguments words.now) }
 {
     let mut args = FluentArgs::new(alloc);
     for word in words {
@@ -73,7 +65,7 @@ fn read<'s>(
     source: &'s str,
     errors: &mut Vec<FluentError>,
 ) -> Result<FluentResource<'s>, AllocError>
-    ensures entries { IfOk result (λ resource. entries_of resource ≡ entries source.now) }
+    ensures entries { IfOk result (λ resource. entries_of resource ≡ grammar.entries source.now) }
     ensures errors { Added result (junk_errors source.now) errors.old.items errors.new.items }
 {
     match FluentResource::try_new(alloc, source) {
@@ -112,11 +104,10 @@ fn bundle_of<'p, 'r, 's>(
     resource: &'r FluentResource<'s>,
     errors: &mut Vec<FluentError>,
 ) -> Result<Bundle<'p, 'r, 's>, AllocError>
-    ensures bundle { let entries = entries_of resource.now in
-        IfOk result (λ bundle. bundle_view bundle ≡ bundle_of
-        (plurals_view plurals.entry) isolate entries) }
-    ensures errors { let entries = entries_of resource.now in
-        Added result (adding_errors (plurals_view plurals.entry) isolate entries)
+    ensures bundle { IfOk result (λ bundle. bundle_view bundle
+        ≡ bundle_of (plurals_view plurals.entry) isolate (entries_of resource.now)) }
+    ensures errors { Added result
+        (adding_errors (plurals_view plurals.entry) isolate (entries_of resource.now))
         errors.old.items errors.new.items }
 {
     let mut bundle = start(alloc, plurals, isolate)?;
@@ -141,19 +132,12 @@ fn write_value<'p, 'r, 's: 'r, W: Write>(
     out: &mut Counting<W>,
     errors: &mut Vec<FluentError>,
 ) -> Result<(), WriteFault>
-    ensures text { let args = arguments_of (map name_and_value (map string_bytes words.now)) in
-        let run = run_pattern (written_pattern (bundle_view bundle.now) args
-        (pattern_view pattern.now)) in
-        Took result run.output (W.contents (writer_in out.old)) (W.contents (writer_in out.new)) }
-    ensures part { let args = arguments_of (map name_and_value (map string_bytes words.now)) in
-        let run = run_pattern (written_pattern (bundle_view bundle.now) args
-        (pattern_view pattern.now)) in
-        result ≡ Err WriteFault.Memory → TookPart run.output
-        (W.contents (writer_in out.old)) (W.contents (writer_in out.new)) }
-    ensures errors { let args = arguments_of (map name_and_value (map string_bytes words.now)) in
-        let run = run_pattern (written_pattern (bundle_view bundle.now) args
-        (pattern_view pattern.now)) in
-        Added result run.errors errors.old.items errors.new.items }
+    ensures text { Puts result (of.pattern bundle.now words.now pattern.now)
+        W.contents out.old out.new }
+    ensures part { PutsPart result (of.pattern bundle.now words.now pattern.now)
+        W.contents out.old out.new }
+    ensures errors { Adds result (of.pattern bundle.now words.now pattern.now)
+        errors.old errors.new }
     ensures fault { CountsFault out.old out.new result }
 {
     let args = arguments(alloc, words)?;
@@ -169,19 +153,11 @@ fn show_value<'w, 'p, 'r, 's: 'r, W: Write>(
     out: &mut Counting<W>,
     errors: &mut Vec<FluentError>,
 ) -> Result<Ending<'w>, WriteFault>
-    ensures text { let value = value_at request.entry.id.now (bundle_view bundle.now) in
-        let run = run_value (asked_view request.entry) (bundle_view bundle.now) value in
-        Took result run.output (W.contents (writer_in out.old)) (W.contents (writer_in out.new)) }
-    ensures errors { let value = value_at request.entry.id.now (bundle_view bundle.now) in
-        let run = run_value (asked_view request.entry) (bundle_view bundle.now) value in
-        Added result run.errors errors.old.items errors.new.items }
-    ensures stops { let value = value_at request.entry.id.now (bundle_view bundle.now) in
-        let run = run_value (asked_view request.entry) (bundle_view bundle.now) value in
-        IfErr result (Stops run (in_pieces []) errors.old.items errors.new.items
-        (outlet W.contents out.old) (outlet W.contents out.new)) }
-    ensures ending { let value = value_at request.entry.id.now (bundle_view bundle.now) in
-        let run = run_value (asked_view request.entry) (bundle_view bundle.now) value in
-        IfOk result (λ ending. ending_view ending ≡ run.ending) }
+    ensures text { Puts result (of.value request.entry bundle.now) W.contents out.old out.new }
+    ensures errors { Adds result (of.value request.entry bundle.now) errors.old errors.new }
+    ensures stops { StopsIn result (of.value request.entry bundle.now)
+        errors.old errors.new W.contents out.old out.new }
+    ensures ending { EndsAs result (of.value request.entry bundle.now) }
     ensures fault { CountsFault out.old out.new result }
 {
     let Some(message) = bundle.get_message(request.id) else {
@@ -203,21 +179,13 @@ fn show_resource<'w, W: Write>(
     out: &mut Counting<W>,
     errors: &mut Vec<FluentError>,
 ) -> Result<Ending<'w>, WriteFault>
-    ensures text { let asked = asked_view request.entry in
-        let run = run_entries asked (plurals_view plurals.entry) (entries_of resource.now) in
-        Took result run.output (W.contents (writer_in out.old)) (W.contents (writer_in out.new)) }
-    ensures errors { let asked = asked_view request.entry in
-        let run = run_entries asked (plurals_view plurals.entry) (entries_of resource.now) in
-        Added result run.errors errors.old.items errors.new.items }
-    ensures stops { let asked = asked_view request.entry in
-        let entries = entries_of resource.now in
-        IfErr result (Stops (run_entries asked (plurals_view plurals.entry) entries)
-        (first_of_entries asked (plurals_view plurals.entry) entries)
-        errors.old.items errors.new.items
-        (outlet W.contents out.old) (outlet W.contents out.new)) }
-    ensures ending { let asked = asked_view request.entry in
-        let run = run_entries asked (plurals_view plurals.entry) (entries_of resource.now) in
-        IfOk result (λ ending. ending_view ending ≡ run.ending) }
+    ensures text { Puts result (of.entries request.entry plurals.entry resource.now)
+        W.contents out.old out.new }
+    ensures errors { Adds result (of.entries request.entry plurals.entry resource.now)
+        errors.old errors.new }
+    ensures stops { StopsIn result (of.entries request.entry plurals.entry resource.now)
+        errors.old errors.new W.contents out.old out.new }
+    ensures ending { EndsAs result (of.entries request.entry plurals.entry resource.now) }
     ensures fault { CountsFault out.old out.new result }
 {
     let bundle = bundle_of(alloc, plurals, request.options.isolate, resource, errors)?;
@@ -233,20 +201,13 @@ fn show_alone<'w, W: Write>(
     out: &mut Counting<W>,
     errors: &mut Vec<FluentError>,
 ) -> Result<Ending<'w>, WriteFault>
-    ensures text { let run = run_alone (asked_view request.entry)
-        (plurals_view plurals.entry) source.now in
-        Took result run.output (W.contents (writer_in out.old)) (W.contents (writer_in out.new)) }
-    ensures errors { let run = run_alone (asked_view request.entry)
-        (plurals_view plurals.entry) source.now in
-        Added result run.errors errors.old.items errors.new.items }
-    ensures stops { let asked = asked_view request.entry in
-        IfErr result (Stops (run_alone asked (plurals_view plurals.entry) source.now)
-        (first_alone asked (plurals_view plurals.entry) source.now)
-        errors.old.items errors.new.items
-        (outlet W.contents out.old) (outlet W.contents out.new)) }
-    ensures ending { let run = run_alone (asked_view request.entry)
-        (plurals_view plurals.entry) source.now in
-        IfOk result (λ ending. ending_view ending ≡ run.ending) }
+    ensures text { Puts result (of.alone request.entry plurals.entry source.now)
+        W.contents out.old out.new }
+    ensures errors { Adds result (of.alone request.entry plurals.entry source.now)
+        errors.old errors.new }
+    ensures stops { StopsIn result (of.alone request.entry plurals.entry source.now)
+        errors.old errors.new W.contents out.old out.new }
+    ensures ending { EndsAs result (of.alone request.entry plurals.entry source.now) }
     ensures fault { CountsFault out.old out.new result }
 {
     let resource = read(alloc, source, errors)?;
@@ -264,19 +225,12 @@ fn write_chain<'p, 'r, 's: 'r, W: Write>(
     out: &mut Counting<W>,
     errors: &mut Vec<FluentError>,
 ) -> Result<(), WriteFault>
-    ensures text { let asked = asked_view request.entry in
-        let bundles = bundle_view first.now ∷ bundle_view second.now ∷ [] in
-        let run = run_chain (chain_value asked.id (arguments_of asked.arguments) bundles) in
-        Took result run.output (W.contents (writer_in out.old)) (W.contents (writer_in out.new)) }
-    ensures errors { let asked = asked_view request.entry in
-        let bundles = bundle_view first.now ∷ bundle_view second.now ∷ [] in
-        let run = run_chain (chain_value asked.id (arguments_of asked.arguments) bundles) in
-        Added result run.errors errors.old.items errors.new.items }
-    ensures stops { let asked = asked_view request.entry in
-        let bundles = bundle_view first.now ∷ bundle_view second.now ∷ [] in
-        let run = run_chain (chain_value asked.id (arguments_of asked.arguments) bundles) in
-        IfErr result (Stops run (all_first run) errors.old.items errors.new.items
-        (outlet W.contents out.old) (outlet W.contents out.new)) }
+    ensures text { Puts result (of.chain request.entry first.now second.now)
+        W.contents out.old out.new }
+    ensures errors { Adds result (of.chain request.entry first.now second.now)
+        errors.old errors.new }
+    ensures stops { StopsIn result (of.chain request.entry first.now second.now)
+        errors.old errors.new W.contents out.old out.new }
     ensures fault { CountsFault out.old out.new result }
 {
     let args = arguments(alloc, request.arguments)?;
@@ -296,23 +250,13 @@ fn show_both<'w, 'r, 's, W: Write>(
     out: &mut Counting<W>,
     errors: &mut Vec<FluentError>,
 ) -> Result<Ending<'w>, WriteFault>
-    ensures text { let asked = asked_view request.entry in
-        let run = run_both asked (plurals_view plurals.entry) (entries_of first.now)
-        (entries_of second.now) in
-        Took result run.output (W.contents (writer_in out.old)) (W.contents (writer_in out.new)) }
-    ensures errors { let asked = asked_view request.entry in
-        let run = run_both asked (plurals_view plurals.entry) (entries_of first.now)
-        (entries_of second.now) in
-        Added result run.errors errors.old.items errors.new.items }
-    ensures stops { let asked = asked_view request.entry in
-        let run = run_both asked (plurals_view plurals.entry) (entries_of first.now)
-        (entries_of second.now) in
-        IfErr result (Stops run (all_first run) errors.old.items errors.new.items
-        (outlet W.contents out.old) (outlet W.contents out.new)) }
-    ensures ending { let asked = asked_view request.entry in
-        let run = run_both asked (plurals_view plurals.entry) (entries_of first.now)
-        (entries_of second.now) in
-        IfOk result (λ ending. ending_view ending ≡ run.ending) }
+    ensures text { Puts result (of.both request.entry plurals.entry first.now second.now)
+        W.contents out.old out.new }
+    ensures errors { Adds result (of.both request.entry plurals.entry first.now second.now)
+        errors.old errors.new }
+    ensures stops { StopsIn result (of.both request.entry plurals.entry first.now second.now)
+        errors.old errors.new W.contents out.old out.new }
+    ensures ending { EndsAs result (of.both request.entry plurals.entry first.now second.now) }
     ensures fault { CountsFault out.old out.new result }
 {
     let isolate = request.options.isolate;
@@ -332,19 +276,14 @@ fn show_fallback<'w, W: Write>(
     out: &mut Counting<W>,
     errors: &mut Vec<FluentError>,
 ) -> Result<Ending<'w>, WriteFault>
-    ensures text { let asked = asked_view request.entry in
-        let run = run_fallback asked (plurals_view plurals.entry) source.now fallback.now in
-        Took result run.output (W.contents (writer_in out.old)) (W.contents (writer_in out.new)) }
-    ensures errors { let asked = asked_view request.entry in
-        let run = run_fallback asked (plurals_view plurals.entry) source.now fallback.now in
-        Added result run.errors errors.old.items errors.new.items }
-    ensures stops { let run = run_fallback (asked_view request.entry)
-        (plurals_view plurals.entry) source.now fallback.now in
-        IfErr result (Stops run (all_first run) errors.old.items errors.new.items
-        (outlet W.contents out.old) (outlet W.contents out.new)) }
-    ensures ending { let asked = asked_view request.entry in
-        let run = run_fallback asked (plurals_view plurals.entry) source.now fallback.now in
-        IfOk result (λ ending. ending_view ending ≡ run.ending) }
+    ensures text { Puts result (of.fallback request.entry plurals.entry source.now fallback.now)
+        W.contents out.old out.new }
+    ensures errors { Adds result (of.fallback request.entry plurals.entry source.now fallback.now)
+        errors.old errors.new }
+    ensures stops { StopsIn result (of.fallback request.entry plurals.entry source.now fallback.now)
+        errors.old errors.new W.contents out.old out.new }
+    ensures ending { EndsAs result
+        (of.fallback request.entry plurals.entry source.now fallback.now) }
     ensures fault { CountsFault out.old out.new result }
 {
     let first = read(alloc, source, errors)?;
@@ -369,20 +308,13 @@ pub fn show<'w, W: Write>(
     out: &mut Counting<W>,
     errors: &mut Vec<FluentError>,
 ) -> Result<Ending<'w>, WriteFault>
-    ensures text { let run = run_source (asked_view request.entry)
-        (plurals_view plurals.entry) source.now in
-        Took result run.output (W.contents (writer_in out.old)) (W.contents (writer_in out.new)) }
-    ensures errors { let run = run_source (asked_view request.entry)
-        (plurals_view plurals.entry) source.now in
-        Added result run.errors errors.old.items errors.new.items }
-    ensures stops { let asked = asked_view request.entry in
-        IfErr result (Stops (run_source asked (plurals_view plurals.entry) source.now)
-        (first_of_source asked (plurals_view plurals.entry) source.now)
-        errors.old.items errors.new.items
-        (outlet W.contents out.old) (outlet W.contents out.new)) }
-    ensures ending { let run = run_source (asked_view request.entry)
-        (plurals_view plurals.entry) source.now in
-        IfOk result (λ ending. ending_view ending ≡ run.ending) }
+    ensures text { Puts result (of.source request.entry plurals.entry source.now)
+        W.contents out.old out.new }
+    ensures errors { Adds result (of.source request.entry plurals.entry source.now)
+        errors.old errors.new }
+    ensures stops { StopsIn result (of.source request.entry plurals.entry source.now)
+        errors.old errors.new W.contents out.old out.new }
+    ensures ending { EndsAs result (of.source request.entry plurals.entry source.now) }
     ensures fault { CountsFault out.old out.new result }
 {
     match request.options.fallback {

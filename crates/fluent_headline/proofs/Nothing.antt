@@ -1,8 +1,15 @@
--- What was not begun wrote and added nothing.
-use Rattle.std.specs.Prelude.{List, [], Option, Some, None, refl}
+-- What was not begun wrote and added nothing, and what is done in a bundle is done in one of the same content.
+use Rattle.std.specs.Prelude.{◌≡◌, false, is_ok, List, [], Option, Some, None, Result, Ok, Err, IfOk, refl}
+use Rattle.std.specs.declared.alloc.AllocError.{AllocError}
+use Rattle.std.specs.declared.borrow.CowStr.{CowStr}
 use Rattle.std.specs.Io.KnownBytes.{Appends}
-use Rattle.std.proofs.Common.{sym, append-nil}
-use Rattle.fluent_tree.specs.Tree.{Text}
+use Rattle.std.proofs.Common.{subst, sym, append-nil, Global}
+use Rattle.fluent_text.specs.declared.counting.WriteFault.{WriteFault}
+use Rattle.fluent_tree.specs.Tree.{Text, Pattern}
+use Rattle.fluent_meaning.specs.Arguments.{Map}
+use Rattle.fluent_meaning.specs.Bundle.{Bundle}
+use Rattle.fluent_meaning.specs.Value.{Value}
+use Rattle.fluent_headline.specs.Headline.{Errors, Gives, Writes}
 use Rattle.fluent_meaning.specs.Errors.{Error}
 use Rattle.fluent_bundle.specs.Formatted.{WritesFront, AddsFront}
 use Rattle.fluent_entries.specs.declared.errors.FluentError.{FluentError}
@@ -16,3 +23,20 @@ none_added errors list = record { front = []; rest = errors; whole = refl; adds 
 
 pub none_written : (text : Text) (errors : List Error) (held : Option Text) (list : List FluentError) → WritesFront text errors held held list list
 none_written text errors held list = record { front = []; rest = text; whole = refl; taken = taken_none held; adds = none_added errors list }
+
+pub gives_none : (b : Bundle Text) (args : Map (Value Text)) (p : Pattern) (r : Result (CowStr Global) AllocError) (errors : Errors) → is_ok r ≡ false → Gives b args p r errors errors
+gives_none b args p (Ok x) errors h = cc
+gives_none b args p (Err e) errors h = record { within = λ few. record { text = tt; adds = tt }; whole = record { text = tt; adds = tt }; front = none_added _ _ }
+
+pub writes_none : (b : Bundle Text) (args : Map (Value Text)) (p : Pattern) (r : Result (Unit {0}) WriteFault) (held : Option Text) (errors : Errors) → is_ok r ≡ false → Writes b args p r held held errors errors
+writes_none b args p (Ok x) held errors h = cc
+writes_none b args p (Err e) held errors h = record { within = λ few. tt; whole = tt; front = none_written _ _ _ _ }
+
+pub of_ok : {B E : Type 0} (P : B → Type 0) (r : Result B E) (b : B) → r ≡ Ok b → IfOk r P → P b
+of_ok P r b is holds = subst (λ s. IfOk s P) is holds
+
+pub gives_in : (b b' : Bundle Text) (args : Map (Value Text)) (p : Pattern) (result : Result (CowStr Global) AllocError) (errors errors' : Errors) → b ≡ b' → Gives b args p result errors errors' → Gives b' args p result errors errors'
+gives_in b b' args p result errors errors' same gives = subst (λ a. Gives a args p result errors errors') same gives
+
+pub writes_in : (b b' : Bundle Text) (args : Map (Value Text)) (p : Pattern) (result : Result (Unit {0}) WriteFault) (held held' : Option Text) (errors errors' : Errors) → b ≡ b' → Writes b args p result held held' errors errors' → Writes b' args p result held held' errors errors'
+writes_in b b' args p result held held' errors errors' same writes = subst (λ a. Writes a args p result held held' errors errors') same writes

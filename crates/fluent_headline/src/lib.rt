@@ -3,16 +3,13 @@
 
 ghost use Rattle.std.specs.Prelude.{◌≡◌, map, IfOk};
 ghost use Rattle.fluent_syntax.specs.Chunks.{entries};
-ghost use Rattle.fluent_text.specs.Writer.{writer_in, CountsFault};
-ghost use Rattle.fluent_tree.specs.View.{pattern_view};
-ghost use Rattle.fluent_bundle.specs.BundleView.{custom_by, entries_of, meant};
-ghost use Rattle.fluent_bundle.specs.Calls.{asked};
-ghost use Rattle.fluent_resolver.specs.Status.{arguments_view};
-ghost use Rattle.fluent_headline.specs.Headline.{bundle_after, step};
-ghost use Rattle.fluent_headline.specs.Inside.OnTheWay.{source_of, step_over};
-ghost use Rattle.fluent_bundle.specs.Formatting.{WritesWithin, WritesWhole, WritesBeginning};
-ghost use Rattle.fluent_bundle.specs.Formatting.{GivesWithin, GivesWhole, AddsBeginning};
+ghost use Rattle.fluent_text.specs.Writer.{CountsFault};
+ghost use Rattle.fluent_bundle.specs.BundleView.{entries_of};
+ghost use Rattle.fluent_headline.specs.Inside.OnTheWay.{source_of, AreReadFor, AsksOver, AskAll};
 
+mod makes;
+
+use crate::makes::Makes;
 use fluent_bundle::{
     Call, Counting, FluentArgs, FluentBundle, FluentError, FluentFormatter, FluentFunction,
     FluentResource, FluentType, MemoizerKind, Transform, TryNewFault, WriteFault, ast,
@@ -61,8 +58,7 @@ fn resources_of<'s, F, G, T>(
     alloc: Global,
     calls: &[Asked<'s, F, G, T>],
 ) -> Result<Vec<FluentResource<'s>>, AllocError>
-    ensures { let read = map (λ call. entries (source_of call)) calls.now in
-        IfOk result (λ resources. map entries_of resources.items ≡ read) }
+    ensures { IfOk result (λ resources. AreReadFor calls.now resources.items) }
 {
     let mut resources = Vec::new(alloc);
     for call in calls {
@@ -81,8 +77,7 @@ fn call_of<
     G: FluentFormatter<C, M>,
     T: Transform,
 >(call: Asked<'s, F, G, T>, resource: &'r FluentResource<'s>) -> Call<'r, 's, F, G, T>
-    ensures { (intls : M) → asked F.answer G.formatted T.changed intls result
-        ≡ step_over F.answer G.formatted T.changed intls call.entry (entries_of resource.now) }
+    ensures { AsksOver F.answer G.formatted T.changed call.entry (entries_of resource.now) result }
 {
     match call {
         Asked::AddResource(_) => Call::AddResource(resource),
@@ -110,10 +105,9 @@ fn calls_of<
     calls: Vec<Asked<'s, F, G, T>>,
     resources: &'r [FluentResource<'s>],
 ) -> Result<Vec<Call<'r, 's, F, G, T>>, AllocError>
-    requires { map entries_of resources.now ≡ map (λ call. entries (source_of call)) calls.items }
-    ensures { IfOk result
-        (λ made. (intls : M) → map (asked F.answer G.formatted T.changed intls) made.items
-        ≡ map (step F.answer G.formatted T.changed intls) calls.entry.items) }
+    requires { AreReadFor calls.items resources.now }
+    ensures { IfOk result (λ made.
+        AskAll F.answer G.formatted T.changed calls.entry.items made.items) }
 {
     let mut made = Vec::new(alloc);
     for (call, resource) in calls.into_iter().zip(resources) {
@@ -137,11 +131,8 @@ fn bundle_over<
     calls: Vec<Asked<'s, F, G, T>>,
     resources: &'r [FluentResource<'s>],
 ) -> Result<FluentBundle<'r, 's, M, C, F, G, T>, AllocError>
-    requires { map entries_of resources.now ≡ map (λ call. entries (source_of call)) calls.items }
-    ensures { let of = meant M.category C.shown C.alike F.answer G.formatted T.changed in
-        let steps = map (step F.answer G.formatted T.changed intls) calls.entry.items in
-        let made = bundle_after (M.category intls) (custom_by C.shown C.alike) steps in
-        IfOk result (λ bundle. of bundle ≡ made) }
+    requires { AreReadFor calls.items resources.now }
+    ensures { IfOk result (⟦<Asked<'s, F, G, T> as Makes<M, C>>⟧.makes intls calls.entry) }
 {
     let calls = calls_of::<M, C, F, G, T>(alloc, calls, resources)?;
     let mut bundle = FluentBundle::new(alloc, Vec::new(alloc), intls);
@@ -175,24 +166,9 @@ pub fn write_after<
     w: &mut Counting<W>,
     errors: &mut Vec<FluentError>,
 ) -> Result<(), WriteFault>
-    // By substitution, where that opens no more placeables than the limit.
-    ensures within { let steps = map (step F.answer G.formatted T.changed intls)
-        calls.entry.items in
-        let b = bundle_after (M.category intls) (custom_by C.shown C.alike) steps in
-        WritesWithin b (arguments_view C.content args.entry) (pattern_view pattern.now) result
-        (W.contents (writer_in w.old)) (W.contents (writer_in w.new)) errors.old.items errors.new.items }
-
-    // With the budget, in every case.
-    ensures whole { let steps = map (step F.answer G.formatted T.changed intls) calls.entry.items in
-        let b = bundle_after (M.category intls) (custom_by C.shown C.alike) steps in
-        WritesWhole b (arguments_view C.content args.entry) (pattern_view pattern.now) result
-        (W.contents (writer_in w.old)) (W.contents (writer_in w.new)) errors.old.items errors.new.items }
-
-    // Whatever is answered.
-    ensures front { let steps = map (step F.answer G.formatted T.changed intls) calls.entry.items in
-        let b = bundle_after (M.category intls) (custom_by C.shown C.alike) steps in
-        WritesBeginning b (arguments_view C.content args.entry) (pattern_view pattern.now)
-        (W.contents (writer_in w.old)) (W.contents (writer_in w.new)) errors.old.items errors.new.items }
+    ensures text { ⟦<Asked<'s, F, G, T> as Makes<M, C>>⟧.writes W intls calls.entry
+        args.entry pattern.now
+        result W.contents w.old w.new errors.old errors.new }
     ensures fault { CountsFault w.old w.new result }
 {
     let resources = resources_of(alloc, calls.as_slice())?;
@@ -227,24 +203,8 @@ pub fn format_after<
     pattern: &ast::Pattern<'s>,
     errors: &mut Vec<FluentError>,
 ) -> Result<CowStr<'s>, AllocError>
-    // By substitution, where that opens no more placeables than the limit.
-    ensures within { let steps = map (step F.answer G.formatted T.changed intls)
-        calls.entry.items in
-        let b = bundle_after (M.category intls) (custom_by C.shown C.alike) steps in
-        GivesWithin b (arguments_view C.content args.entry) (pattern_view pattern.now) result
-        errors.old.items errors.new.items }
-
-    // With the budget, in every case.
-    ensures whole { let steps = map (step F.answer G.formatted T.changed intls) calls.entry.items in
-        let b = bundle_after (M.category intls) (custom_by C.shown C.alike) steps in
-        GivesWhole b (arguments_view C.content args.entry) (pattern_view pattern.now) result
-        errors.old.items errors.new.items }
-
-    // Whatever is answered.
-    ensures front { let steps = map (step F.answer G.formatted T.changed intls) calls.entry.items in
-        let b = bundle_after (M.category intls) (custom_by C.shown C.alike) steps in
-        AddsBeginning b (arguments_view C.content args.entry) (pattern_view pattern.now)
-        errors.old.items errors.new.items }
+    ensures { ⟦<Asked<'s, F, G, T> as Makes<M, C>>⟧.gives intls calls.entry args.entry pattern.now
+        result errors.old errors.new }
 {
     let resources = resources_of(alloc, calls.as_slice())?;
     let bundle: FluentBundle<'_, '_, M, C, F, G, T> = bundle_over(

@@ -1,13 +1,19 @@
 -- What standard error took of a report.
-use Rattle.std.specs.Prelude.{◌≡◌, List, ◌⊎◌, Option, Result, Ok, Err}
+use Rattle.std.specs.Prelude.{◌≡◌, List, ◌⊎◌, Option, Result, Ok, Err, IfOk, OnErr}
 use Rattle.std.specs.Io.KnownBytes.{Appends}
 use Rattle.fluent_tree.specs.Tree.{Text}
 use Rattle.fluent_text.specs.Taken.{TookFront}
 use Rattle.fluent_text.specs.declared.counting.WriteFault.{WriteFault}
 use Rattle.fluent_text.specs.declared.counting.WriteFault.TheVariants.{Memory, Writer, Zero}
+use Rattle.fluent_text.specs.Writer.{writer_in}
+use Rattle.fluent_text.specs.declared.counting.Counting.{Counting}
 use Rattle.fluent_meaning.specs.Errors.{Error}
-use Rattle.fluent_command.specs.Ending.{Ending, out_of_memory, error_lines, said}
+use Rattle.fluent_resolver.specs.Status.{reported}
+use Rattle.fluent_entries.specs.declared.errors.FluentError.{FluentError}
+use Rattle.fluent_command.specs.Ending.{Ending, out_of_memory, ending_line, error_lines, said}
+use Rattle.fluent_command.specs.EndingView.{ending_view}
 use Rattle.fluent_command.specs.Outlet.{Precedes}
+use Rattle.fluent_command.specs.declared.report.Ending as code
 
 -- The lines of all errors were taken; where memory was refused for the line of one, those before it;
 -- where the writer faulted, a beginning of them all.
@@ -32,3 +38,23 @@ abbrev pub BeganToSay : List Error → Ending → Option Text → Option Text �
 BeganToSay errors ending old new =
     TookFront old new (said errors ending)
     ⊎ ((front : List Error) × Precedes front errors × TookFront old new (said front out_of_memory))
+
+-- ---- of the code
+
+-- between what a writer held and what it holds, as its type says it
+abbrev pub At : {W : Type 0} → (W → Option Text) → Counting W → Counting W
+    → (Option Text → Option Text → Type 0) → Type 0
+At contents w w' took = took (contents (writer_in w)) (contents (writer_in w'))
+
+abbrev pub line_of : code.Ending → Text
+line_of ending = ending_line (ending_view ending)
+
+abbrev pub SaysAll : {E : Type 0} → Result code.Ending E → List FluentError → code.Ending
+    → Option Text → Option Text → Type 0
+SaysAll result errors ending old new =
+    IfOk result (λ final. Says (reported errors) (ending_view ending) (ending_view final) old new)
+
+abbrev pub SaysFront : {T E : Type 0} → Result T E → List FluentError → code.Ending
+    → Option Text → Option Text → Type 0
+SaysFront result errors ending old new =
+    OnErr result (BeganToSay (reported errors) (ending_view ending) old new)

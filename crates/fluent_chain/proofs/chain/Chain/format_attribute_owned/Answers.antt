@@ -1,8 +1,9 @@
 use Rattle.fluent_chain.proofs.First.{owned}
 use Rattle.fluent_chain.proofs.chain.Chain.format_attribute_owned.Goals as goal
 
-pub returns-in-Ok-clause-within : goal.returns-in-Ok-clause-within
-returns-in-Ok-clause-within g c = λ few. owned _ _ _ _ _ _ (c.in-Ok.ensures.within few) c.into_owned.ensures.ok
-
-pub returns-in-Ok-clause-whole : goal.returns-in-Ok-clause-whole
-returns-in-Ok-clause-whole g c = owned _ _ _ _ _ _ c.in-Ok.ensures.whole c.into_owned.ensures.ok
+pub returns-in-Ok : goal.returns-in-Ok
+returns-in-Ok g c = record {
+  within = λ few. owned _ _ _ _ _ _ (c.in-Ok.ensures.text.within few) c.into_owned.ensures.ok;
+  whole = owned _ _ _ _ _ _ c.in-Ok.ensures.text.whole c.into_owned.ensures.ok;
+  front = c.in-Ok.ensures.text.front;
+}

@@ -3,8 +3,7 @@ use Rattle.std.specs.Prelude.{is_some}
 use Rattle.std.specs.List.{position_from}
 use Rattle.std.specs.Option.{option_map}
 use Rattle.fluent_bundle.specs.BundleView.{meant}
-use Rattle.fluent_chain.specs.Chain.{first_with, place_with}
-use Rattle.fluent_chain.specs.Inside.Found.{pattern_at}
+use Rattle.fluent_chain.specs.Chain.{first_with, pattern_at, place_with}
 use Rattle.fluent_chain.proofs.chain.Chain.found_linked.Given as goal
 
 -- the first of those that are left is the first of all

@@ -1,0 +1,104 @@
+-- What the calls of a chain say: what is given and written of a pattern in the first bundle that has it, and of the id where none has.
+use Rattle.std.specs.Prelude.{◌≡◌, ◌≢◌, List, Option, Some, None, Result, Err, OnOk, IfOk, String, string_bytes, ⊤}
+use Rattle.std.specs.Borrow.{Bor}
+use Rattle.std.specs.declared.alloc.AllocError.{AllocError}
+use Rattle.std.specs.declared.borrow.CowStr.{CowStr}
+use Rattle.std.specs.declared.vec.Vec.{Vec}
+use Rattle.std.proofs.Common.{Global}
+use Rattle.fluent_text.specs.Unescaped.{Lends}
+use Rattle.fluent_text.specs.Writer.{writer_in}
+use Rattle.fluent_text.specs.declared.counting.Counting.{Counting}
+use Rattle.fluent_text.specs.declared.counting.WriteFault.{WriteFault}
+use Rattle.fluent_text.specs.declared.counting.WriteFault.TheVariants.{Memory}
+use Rattle.fluent_tree.specs.Tree.{Text, Pattern}
+use Rattle.fluent_meaning.specs.Value.{Value}
+use Rattle.fluent_meaning.specs.Arguments.{Map}
+use Rattle.fluent_meaning.specs.Bundle.{Bundle}
+use Rattle.fluent_meaning.specs.Errors.{Error}
+use Rattle.fluent_resolver.specs.Status.{arguments_view}
+use Rattle.fluent_values.specs.Texts.{sole_text, IsTextAlone}
+use Rattle.fluent_values.specs.declared.args.FluentArgs.{FluentArgs}
+use Rattle.fluent_entries.specs.declared.errors.FluentError.{FluentError}
+use Rattle.fluent_bundle.specs.BundleView.{formatter_in, transform_in}
+use Rattle.fluent_bundle.specs.Formatted.{AddsAll, AddsFront, GivesText, WritesAll, WritesFront}
+use Rattle.fluent_bundle.specs.declared.bundle.FluentBundle.{FluentBundle}
+use Rattle.fluent_chain.specs.Chain.{shown_of, substituted_of, written_of, written_by_substitution, IsWithin}
+use Rattle.fluent_chain.specs.ChainView.{bundle_with, meant_with}
+use Rattle.fluent_chain.specs.declared.chain.Chain.{Chain}
+
+-- a list of errors
+abbrev pub Errors : Type 0
+Errors = Vec FluentError Global
+
+-- ---- what is given
+
+-- Of a pattern that was found, or of the id alone.
+pub record GivesFound (id : Text) (args : Map (Value Text)) (found : Option (Bundle Text × Pattern)) (result : Result (CowStr Global) AllocError) (errors errors' : Errors) : Type 0 where
+  -- by substitution, where that opens no more placeables than the limit
+  pub within : IsWithin args found → GivesText (substituted_of id args found).text (substituted_of id args found).errors result errors.items errors'.items
+  -- with the budget, in every case
+  pub whole : GivesText (shown_of id args found).text (shown_of id args found).errors result errors.items errors'.items
+  -- whatever is answered
+  pub front : AddsFront (shown_of id args found).errors errors.items errors'.items
+
+-- What is lent: the id, or a pattern that is one text, of a bundle without transform and formatter.
+abbrev pub LendsFound : {M C F G X : Type 0} → Text
+    → Option (FluentBundle M C F G X × Pattern) → Result (CowStr Global) AllocError → Type 0
+LendsFound id None result = Lends result id
+LendsFound id (Some found) result =
+    (t : Text) → sole_text found.1 ≡ Some t
+    → transform_in found.0 ≡ None → formatter_in found.0 ≡ None → Lends result t
+
+-- ---- the same in memory of its own
+
+-- The text is answered, and the errors are added.
+pub record GivesOwned (all : Text) (errors : List Error) (result : Result (String Global) AllocError) (list list' : List FluentError) : Type 0 where
+  pub text : IfOk result (λ t. string_bytes t ≡ all)
+  pub adds : OnOk result (AddsAll errors list list')
+
+pub record OwnsFound (id : Text) (args : Map (Value Text)) (found : Option (Bundle Text × Pattern)) (result : Result (String Global) AllocError) (errors errors' : Errors) : Type 0 where
+  pub within : IsWithin args found → GivesOwned (substituted_of id args found).text (substituted_of id args found).errors result errors.items errors'.items
+  pub whole : GivesOwned (shown_of id args found).text (shown_of id args found).errors result errors.items errors'.items
+  pub front : AddsFront (shown_of id args found).errors errors.items errors'.items
+
+-- ---- what is written
+
+pub record WritesFound (id : Text) (args : Map (Value Text)) (found : Option (Bundle Text × Pattern)) (result : Result (Unit {0}) WriteFault) (held held' : Option Text) (errors errors' : Errors) : Type 0 where
+  -- by substitution, where that opens no more placeables than the limit
+  pub within : IsWithin args found → OnOk result (WritesAll (written_by_substitution id args found).text (written_by_substitution id args found).errors held held' errors.items errors'.items)
+  -- with the budget, in every case
+  pub whole : OnOk result (WritesAll (written_of id args found).text (written_of id args found).errors held held' errors.items errors'.items)
+  -- whatever is answered
+  pub front : WritesFront (written_of id args found).text (written_of id args found).errors held held' errors.items errors'.items
+
+-- What takes no memory: the id, or texts alone, of a bundle without transform.
+abbrev pub NeedsNoMemory : {M C F G X : Type 0} → Option (FluentBundle M C F G X × Pattern) → Type 0
+NeedsNoMemory None = ⊤
+NeedsNoMemory (Some found) = IsTextAlone found.1 × (transform_in found.0 ≡ None)
+
+-- ---- of a chain, the id of a message and the name of an attribute, if one is given
+
+-- with arguments, an answer, and the errors before and after
+abbrev pub Giving : Type 0 → Type 0 → Type 0 → Type 1
+Giving S C T = S → Text → Option (Bor Text) → Option (Bor (FluentArgs C)) → Result T AllocError → Errors → Errors → Type 0
+
+-- and with what the writer holds before and after, as its type says it
+abbrev pub Writing : Type 0 → Type 0 → Type 0 → Type 1
+Writing S C W = S → Text → Option (Bor Text) → Option (Bor (FluentArgs C)) → Result (Unit {0}) WriteFault → (W → Option Text) → Counting W → Counting W → Errors → Errors → Type 0
+
+module _ {M C F G X : Type 0} (of : FluentBundle M C F G X → Bundle Text) where
+  abbrev pub gives : (C → Text) → Giving (Chain M C F G X) C (CowStr Global)
+  gives content chain id name args = GivesFound id (arguments_view content args) (meant_with of chain id name)
+
+  abbrev pub owns : (C → Text) → Giving (Chain M C F G X) C (String Global)
+  owns content chain id name args = OwnsFound id (arguments_view content args) (meant_with of chain id name)
+
+  abbrev pub writes : (C → Text) → (W : Type 0) → Writing (Chain M C F G X) C W
+  writes content W chain id name args result contents w w' = WritesFound id (arguments_view content args) (meant_with of chain id name) result (contents (writer_in w)) (contents (writer_in w'))
+
+  abbrev pub lends : Chain M C F G X → Text → Option (Bor Text) → Result (CowStr Global) AllocError → Type 0
+  lends chain id name result = LendsFound id (bundle_with of chain id name) result
+
+  -- success is owed, as far as memory goes
+  abbrev pub owes : Chain M C F G X → Text → Option (Bor Text) → Result (Unit {0}) WriteFault → Type 0
+  owes chain id name result = NeedsNoMemory (bundle_with of chain id name) → result ≢ Err Memory

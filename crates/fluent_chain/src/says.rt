@@ -1,0 +1,94 @@
+//! What the calls of a chain say, by what the types of its parts state. Contracts alone name it.
+ghost use Rattle.std.specs.Prelude.{ℕ, Bool, List, Option, Result, String};
+ghost use Rattle.std.specs.Borrow.{Bor};
+ghost use Rattle.std.specs.declared.alloc.AllocError.{AllocError as Refused};
+ghost use Rattle.std.specs.declared.borrow.CowStr.{CowStr};
+ghost use Rattle.std.proofs.Common.{Global};
+ghost use Rattle.fluent_text.specs.declared.counting.WriteFault.{WriteFault};
+ghost use Rattle.fluent_tree.specs.Tree.{Text, Pattern};
+ghost use Rattle.fluent_chain.specs.ChainCalls.{Giving, Writing};
+ghost use Rattle.fluent_chain.specs.Inside.Found.{Found};
+
+use crate::chain::Chain;
+use fluent_bundle::{
+    FluentBundle, FluentFormatter, FluentFunction, FluentType, MemoizerKind, Transform,
+};
+
+/// Of a message by its id, and of an attribute where a name is given.
+pub(crate) trait Says {
+    /// The type of its bundles.
+    type One;
+
+    /// The type of an application's own values.
+    type Own;
+
+    /// What a bundle has.
+    ghost pattern: { Text → Option (Bor Text) → Self.One → Option Pattern };
+
+    /// That the first of some bundles that has it was found.
+    ghost finds: { List Self.One → Text → Option (Bor Text) → Found Self.One → Type 0 };
+
+    /// Whether one has it.
+    ghost has: { Self → Text → Option (Bor Text) → Bool };
+
+    /// The place of the first that has it.
+    ghost place: { Self → Text → Option (Bor Text) → Option ℕ };
+
+    /// Its text is given.
+    ghost gives: { Giving Self Self.Own (CowStr Global) };
+
+    /// In memory of its own.
+    ghost owns: { Giving Self Self.Own (String Global) };
+
+    /// Lent, where it is one text.
+    ghost lends: { Self → Text → Option (Bor Text) → Result (CowStr Global) Refused → Type 0 };
+
+    /// Its text is written.
+    ghost writes: { (W : Type 0) → Writing Self Self.Own W };
+
+    /// Success is owed as to memory, where it is texts alone.
+    ghost owes: { Self → Text → Option (Bor Text) → Result (Unit {0}) WriteFault → Type 0 };
+}
+
+impl<
+    'c,
+    'b,
+    'r,
+    's: 'r,
+    M: MemoizerKind,
+    C: FluentType,
+    F: FluentFunction<C>,
+    G: FluentFormatter<C, M>,
+    T: Transform,
+> Says for Chain<'c, 'b, 'r, 's, M, C, F, G, T> {
+    type One = FluentBundle<'r, 's, M, C, F, G, T>;
+
+    type Own = C;
+
+    ghost use Rattle.fluent_bundle.specs.BundleView.{meant};
+    ghost use Rattle.fluent_chain.specs.ChainView as view;
+    ghost use Rattle.fluent_chain.specs.ChainCalls as call;
+    ghost use Rattle.fluent_chain.specs.Inside.Found.{IsFirst};
+
+    ghost pattern = { view.pattern_of
+        (meant M.category C.shown C.alike F.answer G.formatted T.changed) };
+
+    ghost finds = { IsFirst (meant M.category C.shown C.alike F.answer G.formatted T.changed) };
+
+    ghost has = { view.has (meant M.category C.shown C.alike F.answer G.formatted T.changed) };
+
+    ghost place = { view.place (meant M.category C.shown C.alike F.answer G.formatted T.changed) };
+
+    ghost gives = { call.gives (meant M.category C.shown C.alike F.answer G.formatted T.changed)
+        C.content };
+
+    ghost owns = { call.owns (meant M.category C.shown C.alike F.answer G.formatted T.changed)
+        C.content };
+
+    ghost lends = { call.lends (meant M.category C.shown C.alike F.answer G.formatted T.changed) };
+
+    ghost writes = { call.writes (meant M.category C.shown C.alike F.answer G.formatted T.changed)
+        C.content };
+
+    ghost owes = { call.owes (meant M.category C.shown C.alike F.answer G.formatted T.changed) };
+}

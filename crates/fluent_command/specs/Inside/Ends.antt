@@ -1,0 +1,60 @@
+-- How a run of the code ends before it reports.
+use Rattle.std.specs.Prelude.{◌≡◌, ℕ, ◌⊎◌, List, map, Option, String, string_bytes}
+use Rattle.std.specs.declared.vec.Vec.{Vec}
+use Rattle.std.proofs.Common.{Global}
+use Rattle.fluent_text.specs.declared.counting.Counting.{Counting}
+use Rattle.fluent_tree.specs.Tree.{Text}
+use Rattle.fluent_resolver.specs.Status.{reported}
+use Rattle.fluent_entries.specs.declared.errors.FluentError.{FluentError}
+use Rattle.fluent_command.specs.Ending.{bad_rule, out_of_memory}
+use Rattle.fluent_command.specs.EndingView.{ending_view}
+use Rattle.fluent_command.specs.Input.{ReadFor, inlet, reader_in, state_in}
+use Rattle.fluent_command.specs.Outcome.{AreLeft, EndsRun}
+use Rattle.fluent_command.specs.Outlet.{outlet}
+use Rattle.fluent_command.specs.Program.{first_of, first_of_source, run_input, run_of}
+use Rattle.fluent_command.specs.Inside.PluralsView.{plurals_view}
+use Rattle.fluent_command.specs.Inside.WordsView.{asked_view}
+use Rattle.fluent_command.specs.declared.input.InputState.TheVariants.{AtEnd}
+use Rattle.fluent_command.specs.declared.input.Reads.{Reads}
+use Rattle.fluent_command.specs.declared.plurals.Plurals.{Plurals}
+use Rattle.fluent_command.specs.declared.report.Ending.{Ending}
+use Rattle.fluent_command.specs.declared.request.Request.{Request}
+
+abbrev pub Errors : Type 0
+Errors = Vec FluentError Global
+
+-- a rule could not be read, or memory was refused
+abbrev pub EndsOnRule : Ending → Type 0
+EndsOnRule ending = (ending_view ending ≡ bad_rule) ⊎ (ending_view ending ≡ out_of_memory)
+
+-- its reads showed what they must for that
+abbrev pub ReadAs : {R : Type 0} → (R → Option (List ℕ)) → Reads R → Reads R → Ending → Type 0
+ReadAs remaining input input' ending =
+    ReadFor (ending_view ending) (inlet remaining input) (inlet remaining input')
+
+-- of a request, over the bytes of an input
+abbrev pub EndsOver : {W : Type 0} → (W → Option Text) → Request → Plurals → List ℕ
+    → Counting W → Counting W → Ending → Errors → Type 0
+EndsOver held request plurals bytes out out' ending errors =
+    EndsRun (run_input (asked_view request) (plurals_view plurals) bytes)
+    (first_of_source (asked_view request) (plurals_view plurals) bytes) AtEnd
+    (outlet held out) (outlet held out') (ending_view ending) (reported errors.items)
+
+module _ {R W : Type 0} (remaining : R → Option (List ℕ)) (held : W → Option Text) where
+  -- over what a reader has left
+  abbrev pub EndsReading : Request → Plurals → Reads R → Reads R → Counting W → Counting W
+      → Ending → Errors → Type 0
+  EndsReading request plurals input input' out out' ending errors =
+      (bytes : List ℕ) × AreLeft (remaining (reader_in input)) bytes
+      × EndsRun (run_input (asked_view request) (plurals_view plurals) bytes)
+      (first_of_source (asked_view request) (plurals_view plurals) bytes) (state_in input')
+      (outlet held out) (outlet held out') (ending_view ending) (reported errors.items)
+
+  -- of words
+  abbrev pub EndsAsked : List (String Global) → Reads R → Reads R → Counting W → Counting W
+      → Ending → Errors → Type 0
+  EndsAsked words input input' out out' ending errors =
+      (bytes : List ℕ) × AreLeft (remaining (reader_in input)) bytes
+      × EndsRun (run_of (map string_bytes words) bytes) (first_of (map string_bytes words) bytes)
+      (state_in input') (outlet held out) (outlet held out')
+      (ending_view ending) (reported errors.items)
