@@ -124,3 +124,39 @@ fn a_map_keeps_bundles_by_tag(rt: HostRuntime) -> Result<(), Fail> {
     check(&rt, by_tag.len() == 1, "one is let go");
     Ok(())
 }
+
+/// Bundles in a struct.
+#[derive(Drop)]
+struct Kept<'r> {
+    bundles: Vec<Bundle<'r, 'static>>,
+}
+
+impl<'r> Kept<'r> {
+    fn push(
+        &mut self,
+        alloc: Global,
+        resource: &'r FluentResource<'static>,
+    ) -> Result<(), AllocError> {
+        self.bundles.push(bundle_of(alloc, &[], resource)?)?;
+        Ok(())
+    }
+}
+
+/// How many there were, when they are let go.
+fn count_of(kept: Kept<'_>) -> usize {
+    kept.bundles.len()
+}
+
+#[test]
+fn a_struct_keeps_bundles(rt: HostRuntime) -> Result<(), Fail> {
+    let resources = two(rt.alloc())?;
+    let mut kept = Kept {
+        bundles: Vec::new(rt.alloc()),
+    };
+    for resource in &resources {
+        kept.push(rt.alloc(), resource)?;
+    }
+    answers(&rt, &Chain::of(kept.bundles.as_slice()), PLACES);
+    check(&rt, count_of(kept) == 2, "both are let go");
+    Ok(())
+}

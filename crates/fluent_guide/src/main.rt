@@ -13,6 +13,7 @@ mod missing;
 mod plurals;
 mod pseudo;
 mod reading;
+mod several;
 mod showing;
 mod welcome;
 
@@ -60,7 +61,10 @@ fn show_languages(rt: &HostRuntime, resource: &FluentResource<'_>) -> Result<()>
     plurals::show_plurals(rt, resource)?;
 
     println!(rt; "A plural source of one's own")?;
-    japanese::show_one(rt, resource)
+    japanese::show_one(rt, resource)?;
+
+    println!(rt; "Several languages")?;
+    several::show_several(rt, &["pl-PL", "de"])
 }
 
 /// Shows bundles of the messages.

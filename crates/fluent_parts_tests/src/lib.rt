@@ -21,6 +21,8 @@ mod languages;
 #[cfg(test)]
 mod linked;
 #[cfg(test)]
+mod negotiated;
+#[cfg(test)]
 mod numbers;
 #[cfg(test)]
 mod options;

@@ -1,0 +1,13 @@
+-- What a catalog holds.
+use Rattle.std.specs.Prelude.{List, map}
+use Rattle.fluent_tree.specs.Tree.{Text}
+use Rattle.fluent_bundle.specs.declared.bundle.FluentBundle.{FluentBundle}
+use Rattle.fluent_catalog.specs.declared.catalog.Catalog.{Catalog}
+
+-- the tags of its languages, the first that is asked first
+abbrev pub tags_in : {M C F G X : Type 0} → Catalog M C F G X → List Text
+tags_in catalog = map (λ tag. tag.now) catalog.tags.items
+
+-- the bundles of its languages, in the same order
+abbrev pub bundles_in : {M C F G X : Type 0} → Catalog M C F G X → List (FluentBundle M C F G X)
+bundles_in catalog = catalog.bundles.items

@@ -1,0 +1,3 @@
+pub mod CatalogView
+pub mod Language
+pub mod Reports

@@ -1,0 +1,198 @@
+//! The bundles of several languages, the best first.
+ghost use Rattle.std.specs.Prelude.{◌≡◌, [], ◌∷◌, ◌++◌, map, OnOk, OnErr};
+ghost use Rattle.std.specs.List.{slice_get};
+ghost use Rattle.std.specs.Option.{option_map, option_and_then};
+ghost use Rattle.fluent_resolver.specs.Status.{arguments_view};
+ghost use Rattle.fluent_bundle.specs.BundleView.{meant};
+ghost use Rattle.fluent_bundle.specs.Formatted.{AddsFront};
+ghost use Rattle.fluent_chain.specs.Chain.{value_at, attribute_at, first_with, place_with, shown_of};
+ghost use Rattle.fluent_chain.specs.ChainView.{bundles_of, AnswersWithin, AnswersWhole, LendsFound};
+ghost use Rattle.fluent_catalog.specs.CatalogView.{bundles_in, tags_in};
+
+use fluent_bundle::{
+    FluentArgs, FluentBundle, FluentError, FluentFormatter, FluentFunction, FluentType,
+    MemoizerKind, Transform,
+};
+use fluent_chain::Chain;
+use std::alloc::{AllocError, Global};
+use std::borrow::CowStr;
+
+/// The texts of a program in several languages: a bundle for each, in the order in which they are asked, with the tag
+/// of its language.
+///
+/// The bundles have one type, and each its own plural rules of that type (those of [`plurals_for`](crate::plurals_for)
+/// for one), transform, formatter, functions and limit.
+pub struct Catalog<'r, 's, M, C, F, G, T = Box<dyn Transform>> {
+    tags: Vec<&'s str>,
+    bundles: Vec<FluentBundle<'r, 's, M, C, F, G, T>>,
+}
+
+// Written out as a bundle's is, for the same reason.
+impl<'r, 's: 'r, M: Drop, C, F: Drop, G: Drop, T: Drop> Drop for Catalog<'r, 's, M, C, F, G, T> {
+    fn drop(self) {
+        let Catalog {
+            tags: _,
+            bundles: _,
+        } = self;
+    }
+}
+
+impl<
+    'r,
+    's: 'r,
+    M: MemoizerKind,
+    C: FluentType,
+    F: FluentFunction<C>,
+    G: FluentFormatter<C, M>,
+    T: Transform,
+> Catalog<'r, 's, M, C, F, G, T> {
+    /// A catalog of no language. It takes no memory.
+    pub fn new(alloc: Global) -> Self
+        ensures tags { tags_in result ≡ [] }
+        ensures bundles { bundles_in result ≡ [] }
+    {
+        Catalog {
+            tags: Vec::new(alloc),
+            bundles: Vec::new(alloc),
+        }
+    }
+
+    /// Adds a language with the bundle of its texts, which is asked behind those that are there.
+    ///
+    /// # Errors
+    ///
+    /// Memory was refused: the catalog is as before, and the bundle is dropped.
+    pub fn push(
+        &mut self,
+        tag: &'s str,
+        bundle: FluentBundle<'r, 's, M, C, F, G, T>,
+    ) -> Result<(), AllocError>
+        ensures tags { OnOk result (tags_in self.new ≡ tags_in self.old ++ tag.now ∷ []) }
+        ensures bundles { OnOk result (bundles_in self.new ≡ bundles_in self.old ++ bundle.entry ∷ []) }
+        ensures err { OnErr result ((tags_in self.new ≡ tags_in self.old)
+            × (bundles_in self.new ≡ bundles_in self.old)) }
+    {
+        self.tags.reserve(1)?;
+        self.bundles.push(bundle)?;
+        let _ = self.tags.push(tag);
+        Ok(())
+    }
+
+    /// The tags of the languages, in the order in which they are asked.
+    pub fn languages(&self) -> &[&'s str]
+        ensures { map (λ tag. tag.now) result.now ≡ tags_in self.now }
+    {
+        self.tags.as_slice()
+    }
+
+    /// The bundles of the languages, in the same order.
+    pub fn bundles(&self) -> &[FluentBundle<'r, 's, M, C, F, G, T>]
+        ensures { result.now ≡ bundles_in self.now }
+    {
+        self.bundles.as_slice()
+    }
+
+    /// The chain of the bundles, which writes texts too, and gives them in memory of their own.
+    pub fn chain(&self) -> Chain<'_, '_, 'r, 's, M, C, F, G, T>
+        ensures { bundles_of result ≡ bundles_in self.now }
+    {
+        Chain::of(self.bundles.as_slice())
+    }
+
+    /// The value of the message in the first language where it has one, as [`Chain::format_value`] gives it: where no
+    /// language has a value for it, the id is lent as the text, and nothing is added.
+    ///
+    /// # Errors
+    ///
+    /// Memory was refused: what was added begins the errors.
+    pub fn format_value<'t>(
+        &self,
+        id: &'t str,
+        args: Option<&FluentArgs<'_, C>>,
+        errors: &mut Vec<FluentError>,
+    ) -> Result<CowStr<'t>, AllocError>
+    where
+        's: 't,
+        ensures within { let of = meant M.category C.shown C.alike F.answer G.formatted T.changed in
+            let args = arguments_view C.content args.entry in
+            let found = first_with (value_at id.now) (map of (bundles_in self.now)) in
+            AnswersWithin id.now args found result errors.old.items errors.new.items }
+        ensures whole { let of = meant M.category C.shown C.alike F.answer G.formatted T.changed in
+            let args = arguments_view C.content args.entry in
+            let found = first_with (value_at id.now) (map of (bundles_in self.now)) in
+            AnswersWhole id.now args found result errors.old.items errors.new.items }
+        ensures front { let of = meant M.category C.shown C.alike F.answer G.formatted T.changed in
+            let args = arguments_view C.content args.entry in
+            let found = first_with (value_at id.now) (map of (bundles_in self.now)) in
+            AddsFront (shown_of id.now args found).errors errors.old.items errors.new.items }
+        ensures lent { let of = meant M.category C.shown C.alike F.answer G.formatted T.changed in
+            let found = first_with (λ b. value_at id.now (of b)) (bundles_in self.now) in
+            LendsFound id.now found result }
+    {
+        Chain::of(self.bundles.as_slice()).format_value(id, args, errors)
+    }
+
+    /// The first attribute of the name in the first language where the message has one, as
+    /// [`Chain::format_attribute`] gives it.
+    ///
+    /// # Errors
+    ///
+    /// Memory was refused: what was added begins the errors.
+    pub fn format_attribute<'t>(
+        &self,
+        id: &'t str,
+        name: &str,
+        args: Option<&FluentArgs<'_, C>>,
+        errors: &mut Vec<FluentError>,
+    ) -> Result<CowStr<'t>, AllocError>
+    where
+        's: 't,
+        ensures within { let of = meant M.category C.shown C.alike F.answer G.formatted T.changed in
+            let args = arguments_view C.content args.entry in
+            let found = first_with (attribute_at id.now name.now) (map of (bundles_in self.now)) in
+            AnswersWithin id.now args found result errors.old.items errors.new.items }
+        ensures whole { let of = meant M.category C.shown C.alike F.answer G.formatted T.changed in
+            let args = arguments_view C.content args.entry in
+            let found = first_with (attribute_at id.now name.now) (map of (bundles_in self.now)) in
+            AnswersWhole id.now args found result errors.old.items errors.new.items }
+        ensures front { let of = meant M.category C.shown C.alike F.answer G.formatted T.changed in
+            let args = arguments_view C.content args.entry in
+            let found = first_with (attribute_at id.now name.now) (map of (bundles_in self.now)) in
+            AddsFront (shown_of id.now args found).errors errors.old.items errors.new.items }
+        ensures lent { let of = meant M.category C.shown C.alike F.answer G.formatted T.changed in
+            let found = first_with (λ b. attribute_at id.now name.now (of b))
+            (bundles_in self.now) in
+            LendsFound id.now found result }
+    {
+        Chain::of(self.bundles.as_slice()).format_attribute(id, name, args, errors)
+    }
+
+    /// The language that answers for the value of a message. `None` where no language has a value for it, and the id
+    /// stands for the text.
+    pub fn find_value(&self, id: &str) -> Option<&'s str>
+        ensures { let of = meant M.category C.shown C.alike F.answer G.formatted T.changed in
+            let place = place_with (λ b. value_at id.now (of b)) (bundles_in self.now) in
+            option_map (λ tag. tag.now) result ≡ option_and_then (slice_get (tags_in self.now)) place }
+    {
+        self.tag_at(Chain::of(self.bundles.as_slice()).find_value(id))
+    }
+
+    /// The language that answers for an attribute of a message, by the rule of [`Catalog::find_value`].
+    pub fn find_attribute(&self, id: &str, name: &str) -> Option<&'s str>
+        ensures { let of = meant M.category C.shown C.alike F.answer G.formatted T.changed in
+            let place = place_with (λ b. attribute_at id.now name.now (of b)) (bundles_in self.now) in
+            option_map (λ tag. tag.now) result ≡ option_and_then (slice_get (tags_in self.now)) place }
+    {
+        self.tag_at(Chain::of(self.bundles.as_slice()).find_attribute(id, name))
+    }
+
+    /// The tag at a place, if there is one.
+    fn tag_at(&self, place: Option<usize>) -> Option<&'s str>
+        ensures { option_map (λ tag. tag.now) result ≡ option_and_then (slice_get (tags_in self.now)) place }
+    {
+        match self.tags.as_slice().get(place?) {
+            Some(tag) => Some(*tag),
+            None => None,
+        }
+    }
+}

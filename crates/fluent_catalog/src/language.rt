@@ -1,0 +1,53 @@
+//! The plural rules of a language, by its tag.
+ghost use Rattle.fluent_intl.specs.LanguageTable.{cldr_plurals};
+ghost use Rattle.fluent_intl.specs.Languages.{rules_of};
+ghost use Rattle.fluent_catalog.specs.Language.{HasPlurals};
+
+use fluent_intl::{RuleFault, RuleTexts, cldr_plurals, rules_for};
+use std::alloc::Global;
+use std::error::Error;
+use std::fmt;
+
+/// Why a language has no plural rules here.
+#[derive(Clone, Copy, Debug, PartialEq, Eq)]
+pub enum LanguageFault {
+    /// The Unicode CLDR has none for its tag.
+    Unknown,
+    /// They could not be read: of CLDR's rules, only since memory was refused.
+    Rules(RuleFault),
+}
+
+impl fmt::Display for LanguageFault {
+    ghost use Rattle.std.specs.Prelude.{Some};
+    ghost use Rattle.fluent_catalog.specs.Language.{fault_text};
+
+    ghost output = { λ fault. Some (fault_text fault) };
+
+    fn fmt<W: fmt::Write>(&self, f: &mut fmt::Formatter<W>) -> fmt::Result {
+        match self {
+            LanguageFault::Unknown => f.write_str("no plural rules for this language"),
+            LanguageFault::Rules(fault) => write!(f, "{fault}"),
+        }
+    }
+}
+
+impl Error for LanguageFault {}
+
+/// The plural rules of a language by its tag, as [`rules_for`] finds them in [`cldr_plurals`]: `pt-AO` has those of
+/// `pt`.
+///
+/// # Errors
+///
+/// `Unknown` where the Unicode CLDR has no rules for the tag, which takes no memory; `Rules` where they can't be read
+/// or memory was refused.
+pub fn plurals_for(alloc: Global, tag: &str) -> Result<RuleTexts, LanguageFault>
+    ensures { HasPlurals (rules_of cldr_plurals tag.now) result }
+{
+    match rules_for(cldr_plurals(), tag) {
+        Some(rules) => match RuleTexts::parse(alloc, rules.cardinal, rules.ordinal) {
+            Ok(plurals) => Ok(plurals),
+            Err(fault) => Err(LanguageFault::Rules(fault)),
+        },
+        None => Err(LanguageFault::Unknown),
+    }
+}

@@ -1,0 +1,10 @@
+//! The texts of a program in several languages, each with its plural rules.
+#![tactic(auto)]
+
+pub mod catalog;
+mod language;
+mod reports;
+
+pub use catalog::Catalog;
+pub use language::{LanguageFault, plurals_for};
+pub use reports::{Report, add_source, read_source};

@@ -1,0 +1,88 @@
+//! What is wrong with the sources of several languages.
+ghost use Rattle.std.specs.Prelude.{◌≡◌, ◌++◌, map, IfOk, OnOk, OnErr};
+ghost use Rattle.fluent_syntax.specs.Chunks.{junk_ranges};
+ghost use Rattle.fluent_meaning.specs.Bundle.{add_resource, after, answered};
+ghost use Rattle.fluent_bundle.specs.BundleView.{entries_of, meant, IsRead, Kept};
+ghost use Rattle.fluent_catalog.specs.Reports.{left_in, report_view, unreadable_in};
+
+use fluent_bundle::{
+    AddFault, FluentBundle, FluentError, FluentFormatter, FluentFunction, FluentResource,
+    FluentType, MemoizerKind, ParserError, Transform, TryNewFault,
+};
+use std::alloc::{AllocError, Global};
+
+/// What is wrong with a source of a language, whose tag stands first.
+#[derive(Debug, Drop)]
+pub enum Report<'t> {
+    /// Parts of the source that can't be read, in order, each by its range of bytes.
+    Unreadable(&'t str, Vec<ParserError>),
+    /// Entries that were left, in order, since their ids were there.
+    Left(&'t str, Vec<FluentError>),
+}
+
+/// Reads a source of a language, as [`FluentResource::try_new`] does; a report of what can't be read, if there is any,
+/// is added at the end of the list. The rest of the source is there all the same.
+///
+/// # Errors
+///
+/// Memory was refused: nothing was added.
+pub fn read_source<'s>(
+    alloc: Global,
+    tag: &'s str,
+    source: &'s str,
+    reports: &mut Vec<Report<'s>>,
+) -> Result<FluentResource<'s>, AllocError>
+    ensures resource { IfOk result (λ resource. IsRead source.now resource) }
+    ensures reports { OnOk result (map report_view reports.new.items
+        ≡ map report_view reports.old.items ++ unreadable_in tag.now (junk_ranges source.now)) }
+    ensures err { OnErr result (reports.new.items ≡ reports.old.items) }
+{
+    match FluentResource::try_new(alloc, source) {
+        Ok(resource) => Ok(resource),
+        Err(TryNewFault::Parser(resource, errors)) => {
+            reports.push(Report::Unreadable(tag, errors))?;
+            Ok(resource)
+        }
+        Err(TryNewFault::Memory) => Err(AllocError),
+    }
+}
+
+/// Adds the messages and terms of a resource of a language to its bundle, as [`FluentBundle::add_resource`] does; a
+/// report of the entries that were left, if there are any, is added at the end of the list.
+///
+/// # Errors
+///
+/// Memory was refused: the bundle and the list are as before.
+pub fn add_source<
+    'r,
+    's,
+    M: MemoizerKind,
+    C: FluentType,
+    F: FluentFunction<C>,
+    G: FluentFormatter<C, M>,
+    T: Transform,
+>(
+    bundle: &mut FluentBundle<'r, 's, M, C, F, G, T>,
+    tag: &'s str,
+    resource: &'r FluentResource<'s>,
+    reports: &mut Vec<Report<'s>>,
+) -> Result<(), AllocError>
+    ensures step { let of = meant M.category C.shown C.alike F.answer G.formatted T.changed in
+        OnOk result (of bundle.new ≡ after (add_resource (entries_of resource.now)) (of bundle.old)) }
+    ensures reports { let of = meant M.category C.shown C.alike F.answer G.formatted T.changed in
+        OnOk result (map report_view reports.new.items ≡ map report_view reports.old.items
+        ++ left_in tag.now (answered (add_resource (entries_of resource.now)) (of bundle.old))) }
+    ensures err { let of = meant M.category C.shown C.alike F.answer G.formatted T.changed in
+        OnErr result ((of bundle.new ≡ of bundle.old) × (reports.new.items ≡ reports.old.items)) }
+    ensures kept { Kept bundle.old bundle.new }
+{
+    reports.reserve(1)?;
+    match bundle.add_resource(resource) {
+        Ok(()) => Ok(()),
+        Err(AddFault::Overriding(errors)) => {
+            let _ = reports.push(Report::Left(tag, errors));
+            Ok(())
+        }
+        Err(AddFault::Memory) => Err(AllocError),
+    }
+}
