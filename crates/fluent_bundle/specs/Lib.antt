@@ -9,5 +9,7 @@ pub mod Formatting
 pub mod Limits
 pub mod Adding
 pub mod Calls
+pub mod Said
 pub mod CallRows
 pub mod Messages
+pub mod Under

@@ -1,16 +1,17 @@
 //! The bundle: messages, terms and functions by id, and its settings.
 #![tactic(auto, unfolding(crate::specs::BundleView::bundle_parts))]
 
-ghost use Rattle.std.specs.Prelude.{◌≡◌, ◌≤◌, ◌↔◌, map, is_some, None, IfOk, OnOk, OnErr, IsTrue};
+ghost use Rattle.std.specs.Prelude.{◌≡◌, ◌≤◌, ◌↔◌, is_some, None, IfOk, OnOk, OnErr, IsTrue};
 ghost use Rattle.std.specs.Option.{option_map};
 ghost use Rattle.fluent_intl.specs.Plurals.{english};
-ghost use Rattle.fluent_meaning.specs.Bundle.{empty_bundle, after, answered, add_resource, add_resource_overriding, add_function, add_builtins, set_use_isolating, set_transform, set_formatter, set_placeable_limit};
-ghost use Rattle.fluent_values.specs.View.{error_view};
-ghost use Rattle.fluent_bundle.specs.BundleView.{custom_by, entries_in, entries_of, formatter_in, intls_in, message_at, message_entry_at, transform_in, AnswersCall, AreUndetermined, Kept, KeptBeside};
+ghost use Rattle.fluent_meaning.specs.Bundle.{empty_bundle};
+ghost use Rattle.fluent_bundle.specs.BundleView.{custom_by, entries_in, formatter_in, intls_in, message_at, message_entry_at, transform_in, AreUndetermined, Kept, KeptBeside};
 ghost use Rattle.fluent_values.specs.MessageView.{entry_seen, message_view};
 ghost use Rattle.fluent_bundle.specs.Adding.{answer_of};
 
+use crate::calls::Call;
 use crate::resource::FluentResource;
+use crate::says::Says;
 use fluent_intl::{EnglishPlurals, LanguageIdentifier, MemoizerKind};
 use fluent_syntax::ast;
 use fluent_values::types::FluentType;
@@ -88,8 +89,7 @@ impl<
     pub fn new(alloc: Global, locales: Vec<LanguageIdentifier>, intls: M) -> Self
         ensures holds { (result.locales ≡ locales) × (intls_in result ≡ intls) }
         ensures unset { (transform_in result ≡ None) × (formatter_in result ≡ None) }
-        ensures empty { let of = ⟦<Self as Context<C>>⟧.meant in
-            of result ≡ empty_bundle (M.category intls) (custom_by C.shown C.alike) }
+        ensures empty { ⟦<Self as Says>⟧.of result ≡ ⟦<Self as Says>⟧.empty intls }
     {
         FluentBundle {
             locales,
@@ -113,8 +113,7 @@ impl<
 
     /// Says whether placeables are written between U+2068 and U+2069.
     pub fn set_use_isolating(&mut self, value: bool)
-        ensures step { let of = ⟦<Self as Context<C>>⟧.meant in
-            of self.new ≡ after (set_use_isolating value) (of self.old) }
+        ensures step { ⟦<Self as Says>⟧.steps (Call.SetUseIsolating value) self.old self.new }
         ensures kept { Kept self.old self.new }
     {
         self.use_isolating = value;
@@ -122,9 +121,7 @@ impl<
 
     /// Sets what changes text elements; `None` leaves them as they are. The transform that was set is dropped.
     pub fn set_transform(&mut self, transform: Option<T>)
-        ensures step { let of = ⟦<Self as Context<C>>⟧.meant in
-            let changes = option_map T.changed transform in
-            of self.new ≡ after (set_transform changes) (of self.old) }
+        ensures step { ⟦<Self as Says>⟧.steps (Call.SetTransform transform) self.old self.new }
         ensures set { transform_in self.new ≡ transform }
         ensures kept { KeptBeside self.old self.new }
         ensures formatter { formatter_in self.new ≡ formatter_in self.old }
@@ -135,9 +132,7 @@ impl<
     /// Sets what is asked how a value is shown; `None` shows each value by its own text. The formatter that was
     /// set is dropped.
     pub fn set_formatter(&mut self, formatter: Option<G>)
-        ensures step { let of = ⟦<Self as Context<C>>⟧.meant in
-            let shows = option_map (λ g v. G.formatted g v (intls_in self.old)) formatter in
-            of self.new ≡ after (set_formatter shows) (of self.old) }
+        ensures step { ⟦<Self as Says>⟧.steps (Call.SetFormatter formatter) self.old self.new }
         ensures set { formatter_in self.new ≡ formatter }
         ensures kept { KeptBeside self.old self.new }
         ensures transform { transform_in self.new ≡ transform_in self.old }
@@ -148,8 +143,7 @@ impl<
     /// Sets how many placeables one formatting call opens, 100 at first, and says whether that was done: a limit
     /// of 1 to 10,000 is set, any other leaves the bundle as it was.
     pub fn set_placeable_limit(&mut self, limit: usize) -> bool
-        ensures step { let of = ⟦<Self as Context<C>>⟧.meant in
-            of self.new ≡ after (set_placeable_limit limit) (of self.old) }
+        ensures step { ⟦<Self as Says>⟧.steps (Call.SetPlaceableLimit limit) self.old self.new }
         ensures set { IsTrue result ↔ ((1 ≤ limit) × (limit ≤ 10000)) }
         ensures kept { Kept self.old self.new }
     {
@@ -168,9 +162,8 @@ impl<
     /// `Overriding` where an id was there, also from an earlier entry of the same resource: all others are added.
     /// `Memory` where memory was refused: the bundle is as before.
     pub fn add_resource(&mut self, resource: &'r FluentResource<'s>) -> Result<(), AddFault>
-        ensures step { let of = ⟦<Self as Context<C>>⟧.meant in
-            let adding = add_resource (entries_of resource.now) in
-            AnswersCall (of self.old) adding (of self.new) result }
+        ensures step { ⟦<Self as Says>⟧.answers (Call.AddResource resource.entry)
+            self.old self.new result }
         ensures kept { Kept self.old self.new }
     {
         all_added(self.take_resource(resource))
@@ -181,14 +174,11 @@ impl<
         &mut self,
         resource: &'r FluentResource<'s>,
     ) -> Result<Vec<FluentError>, AllocError>
-        ensures ok { let of = ⟦<Self as Context<C>>⟧.meant in
-            let adding = add_resource (entries_of resource.now) in
-            OnOk result (of self.new ≡ after adding (of self.old)) }
-        ensures errors { let of = ⟦<Self as Context<C>>⟧.meant in
-            let adding = add_resource (entries_of resource.now) in
-            IfOk result (λ es. map error_view es.items ≡ answered adding (of self.old)) }
-        ensures err { let of = ⟦<Self as Context<C>>⟧.meant in
-            OnErr result (of self.new ≡ of self.old) }
+        ensures ok { OnOk result (⟦<Self as Says>⟧.steps (Call.AddResource resource.entry)
+            self.old self.new) }
+        ensures errors { IfOk result (⟦<Self as Says>⟧.leaves (Call.AddResource resource.entry)
+            self.old) }
+        ensures err { OnErr result (⟦<Self as Says>⟧.same self.old self.new) }
         ensures kept { Kept self.old self.new }
     {
         self.entries.add_entries(self.alloc, resource.all())
@@ -204,11 +194,9 @@ impl<
         &mut self,
         resource: &'r FluentResource<'s>,
     ) -> Result<(), AllocError>
-        ensures ok { let of = ⟦<Self as Context<C>>⟧.meant in
-            let overriding = add_resource_overriding (entries_of resource.now) in
-            OnOk result (of self.new ≡ after overriding (of self.old)) }
-        ensures err { let of = ⟦<Self as Context<C>>⟧.meant in
-            OnErr result (of self.new ≡ of self.old) }
+        ensures ok { OnOk result
+            (⟦<Self as Says>⟧.steps (Call.AddResourceOverriding resource.entry) self.old self.new) }
+        ensures err { OnErr result (⟦<Self as Says>⟧.same self.old self.new) }
         ensures kept { Kept self.old self.new }
     {
         self.entries.override_entries(self.alloc, resource.all())
@@ -221,9 +209,8 @@ impl<
     /// `Overriding` with one error where the id was there, `Memory` where memory was refused: the bundle is as
     /// before, and the function is dropped.
     pub fn add_function(&mut self, id: &str, function: F) -> Result<(), AddFault>
-        ensures step { let of = ⟦<Self as Context<C>>⟧.meant in
-            let adding = add_function id.now (F.answer function) in
-            AnswersCall (of self.old) adding (of self.new) result }
+        ensures step { ⟦<Self as Says>⟧.answers (Call.AddFunction id.entry function)
+            self.old self.new result }
         ensures kept { Kept self.old self.new }
     {
         all_added(self.take_function(id, function))
@@ -231,14 +218,11 @@ impl<
 
     /// Adds a function where its id is free, and gives the report where it is not.
     fn take_function(&mut self, id: &str, function: F) -> Result<Vec<FluentError>, AllocError>
-        ensures ok { let of = ⟦<Self as Context<C>>⟧.meant in
-            let adding = add_function id.now (F.answer function) in
-            OnOk result (of self.new ≡ after adding (of self.old)) }
-        ensures errors { let of = ⟦<Self as Context<C>>⟧.meant in
-            let adding = add_function id.now (F.answer function) in
-            IfOk result (λ es. map error_view es.items ≡ answered adding (of self.old)) }
-        ensures err { let of = ⟦<Self as Context<C>>⟧.meant in
-            OnErr result (of self.new ≡ of self.old) }
+        ensures ok { OnOk result (⟦<Self as Says>⟧.steps (Call.AddFunction id.entry function)
+            self.old self.new) }
+        ensures errors { IfOk result (⟦<Self as Says>⟧.leaves (Call.AddFunction id.entry function)
+            self.old) }
+        ensures err { OnErr result (⟦<Self as Says>⟧.same self.old self.new) }
         ensures kept { Kept self.old self.new }
     {
         let id = CowStr::Owned(String::from_str(self.alloc, id)?);
@@ -252,8 +236,7 @@ impl<
     /// `Overriding` with one error where the id `NUMBER` was there, `Memory` where memory was refused: the bundle
     /// is as before.
     pub fn add_builtins(&mut self) -> Result<(), AddFault>
-        ensures step { let of = ⟦<Self as Context<C>>⟧.meant in
-            AnswersCall (of self.old) add_builtins (of self.new) result }
+        ensures step { ⟦<Self as Says>⟧.answers Call.AddBuiltins self.old self.new result }
         ensures kept { Kept self.old self.new }
     {
         let id = CowStr::Borrowed("NUMBER");
@@ -262,18 +245,17 @@ impl<
 
     /// Whether the id names a message. Takes no memory.
     pub fn has_message(&self, id: &str) -> bool
-        ensures { let of = ⟦<Self as Context<C>>⟧.meant in
-            result ≡ is_some (message_at id.now (of self.now)) }
+        ensures { result ≡ is_some (message_at id.now (⟦<Self as Says>⟧.of self.now)) }
     {
         self.get_message(id).is_some()
     }
 
     /// The message that the id names, or `None`. Takes no memory.
     pub fn get_message(&self, id: &str) -> Option<FluentMessage<'r, 's>>
-        ensures content { let of = ⟦<Self as Context<C>>⟧.meant in
-            option_map message_view result ≡ message_at id.now (of self.now) }
-        ensures whole { let of = ⟦<Self as Context<C>>⟧.meant in
-            option_map entry_seen result ≡ message_entry_at id.now (of self.now) }
+        ensures content { option_map message_view result ≡ message_at id.now
+            (⟦<Self as Says>⟧.of self.now) }
+        ensures whole { option_map entry_seen result
+            ≡ message_entry_at id.now (⟦<Self as Says>⟧.of self.now) }
     {
         match self.entries.named(id) {
             Some(Entry::Message(node)) => Some(FluentMessage::from(*node)),
@@ -296,8 +278,8 @@ impl<
     ///
     /// Memory was refused.
     pub fn new_default(alloc: Global) -> Result<Self, AllocError>
-        ensures empty { let of = ⟦<Self as Context<C>>⟧.meant in
-            IfOk result (λ b. of b ≡ empty_bundle english (custom_by C.shown C.alike)) }
+        ensures empty { IfOk result (λ b. ⟦<Self as Says>⟧.of b
+            ≡ empty_bundle english (custom_by C.shown C.alike)) }
         ensures locales { IfOk result (λ b. AreUndetermined b.locales.items) }
         ensures unset { IfOk result (λ b. (transform_in b ≡ None) × (formatter_in b ≡ None)) }
     {
@@ -341,11 +323,10 @@ impl<
     }
 
     fn get_entry_function(&self, id: &str) -> Option<FunctionRef<'_, F>>
-        ensures answer { let of = ⟦<Self as Context<C>>⟧.meant in
-            option_map (function_of F.answer) result
-            ≡ function_found (get id.now (of self.now).ids) }
-        ensures builtin { let of = ⟦<Self as Context<C>>⟧.meant in
-            (result ≡ Some FunctionRef.Number) ↔ (get id.now (of self.now).ids ≡ Some number_builtin) }
+        ensures answer { option_map (function_of F.answer) result
+            ≡ function_found (get id.now (⟦<Self as Says>⟧.of self.now).ids) }
+        ensures builtin { (result ≡ Some FunctionRef.Number)
+            ↔ (get id.now (⟦<Self as Says>⟧.of self.now).ids ≡ Some number_builtin) }
     {
         match self.entries.named(id) {
             Some(Entry::Function(function)) => Some(FunctionRef::Own(function)),

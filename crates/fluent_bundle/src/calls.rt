@@ -2,11 +2,12 @@
 ghost use Rattle.std.specs.Prelude.{◌≡◌, [], ◌∷◌, OnOk, OnErr, IsOk};
 ghost use Rattle.std.specs.List.{All};
 ghost use Rattle.fluent_bundle.specs.Adding.{unless_refused};
-ghost use Rattle.fluent_bundle.specs.BundleView.{intls_in, Kept};
-ghost use Rattle.fluent_bundle.specs.Calls.{asked, BegunBy, Makes, TakesNoMemory};
+ghost use Rattle.fluent_bundle.specs.BundleView.{Kept};
+ghost use Rattle.fluent_bundle.specs.Calls.{TakesNoMemory};
 
 use crate::bundle::{AddFault, FluentBundle};
 use crate::resource::FluentResource;
+use crate::says::Says;
 use fluent_intl::MemoizerKind;
 use fluent_values::types::FluentType;
 use fluent_values::{Context, FluentFormatter, FluentFunction, Transform};
@@ -42,11 +43,9 @@ impl<
     ///
     /// Memory was refused, which the setters can't meet: the bundle is as before.
     pub fn make(&mut self, call: Call<'r, 's, F, G, T>) -> Result<(), AllocError>
-        ensures ok { let of = ⟦<Self as Context<C>>⟧.meant in
-            let ask = asked F.answer G.formatted T.changed (intls_in self.old) in
-            OnOk result (Makes of ask (call.entry ∷ []) self.old self.new) }
-        ensures err { let of = ⟦<Self as Context<C>>⟧.meant in
-            OnErr result ((of self.new ≡ of self.old) × Kept self.old self.new) }
+        ensures ok { OnOk result (⟦<Self as Says>⟧.makes (call.entry ∷ []) self.old self.new) }
+        ensures err { OnErr result (⟦<Self as Says>⟧.same self.old self.new × Kept
+            self.old self.new) }
         ensures succeeds { TakesNoMemory call.entry → IsOk result }
     {
         match call {
@@ -80,12 +79,8 @@ impl<
     /// Memory was refused at one of them, which is no setter: those before it were made, and no other; what the
     /// others hand over is dropped.
     pub fn make_all(&mut self, calls: Vec<Call<'r, 's, F, G, T>>) -> Result<(), AllocError>
-        ensures ok { let of = ⟦<Self as Context<C>>⟧.meant in
-            let ask = asked F.answer G.formatted T.changed (intls_in self.old) in
-            OnOk result (Makes of ask calls.entry.items self.old self.new) }
-        ensures err { let of = ⟦<Self as Context<C>>⟧.meant in
-            let ask = asked F.answer G.formatted T.changed (intls_in self.old) in
-            OnErr result (BegunBy of ask calls.entry.items self.old self.new) }
+        ensures ok { OnOk result (⟦<Self as Says>⟧.makes calls.entry.items self.old self.new) }
+        ensures err { OnErr result (⟦<Self as Says>⟧.begins calls.entry.items self.old self.new) }
         ensures succeeds { All TakesNoMemory calls.entry.items → IsOk result }
     {
         for call in calls {

@@ -1,29 +1,26 @@
 //! The formatting calls of a bundle.
 #![tactic(auto, unfolding(crate::specs::BundleView::bundle_parts))]
 
-ghost use Rattle.std.specs.Prelude.{◌≡◌, ◌≢◌, ◌≤◌, ◌++◌, ◌&&◌, not, if◌then◌else◌, is_some, None, Some, false, Err, IfOk, OnOk, true, string_bytes};
+ghost use Rattle.std.specs.Prelude.{◌≡◌, ◌≢◌, ◌&&◌, not, if◌then◌else◌, is_some, None, Some, false, Err, IfOk, OnOk, string_bytes};
 ghost use Rattle.std.specs.Option.{option_map};
 ghost use Rattle.fluent_meaning.specs.Value.{text_value};
 ghost use Rattle.fluent_text.specs.Unescaped.{Lends};
-ghost use Rattle.fluent_text.specs.Writer.{writer_in, failed_in, empty_in, CountsFault};
+ghost use Rattle.fluent_text.specs.Writer.{failed_in, empty_in, CountsFault};
 ghost use Rattle.fluent_tree.specs.Tree.{Text};
 ghost use Rattle.fluent_tree.specs.View.{pattern_view};
-ghost use Rattle.fluent_meaning.specs.Result.{written_pattern};
 ghost use Rattle.fluent_bundle.specs.BundleView.{formatter_in, transform_in};
-ghost use Rattle.fluent_bundle.specs.Formatted.{AddsAll, AddsFront, Writes};
-ghost use Rattle.fluent_bundle.specs.Formatting.{WritesWithin, WritesWhole, WritesBeginning, GivesWithin, GivesWhole, AddsBeginning};
-ghost use Rattle.fluent_bundle.specs.Limits.{KeepsLimit};
-ghost use Rattle.fluent_resolver.specs.Status.{arguments_view};
+ghost use Rattle.fluent_bundle.specs.Under.{AddsBeginning, AddsWhole, Extends, GivesWhole, GivesWithin, IsLimited, IsText, Writes, WritesBeginning, WritesWhole, WritesWithin};
 ghost use Rattle.fluent_values.specs.Texts.{sole_text, is_text, IsTextAlone};
-ghost use Rattle.fluent_values.specs.Written.{sink, CountsTell};
+ghost use Rattle.fluent_values.specs.Written.{CountsTell};
 
 use crate::bundle::FluentBundle;
 use crate::laws;
 use crate::resolver::answers::formatted;
+use crate::says::Says;
 use fluent_intl::MemoizerKind;
 use fluent_meaning::laws::calls_pass_through;
 use fluent_resolver::texts::{is_text, put_texts};
-use fluent_resolver::{Context, Place, Scope, write_pattern};
+use fluent_resolver::{Place, Scope, write_pattern};
 use fluent_syntax::ast::{Pattern, PatternElement};
 use fluent_syntax::{Counting, WriteFault};
 use fluent_values::output::{Halt, Output, with_error};
@@ -68,28 +65,18 @@ impl<
         errors: &mut Vec<FluentError>,
     ) -> Result<(), WriteFault>
         // By substitution, where that opens no more placeables than the limit.
-        ensures within { let of = ⟦<Self as Context<C>>⟧.meant in
-            let args = arguments_view C.content args.entry in
-            WritesWithin (of self.now) args (pattern_view pattern.now) result
-            (W.contents (writer_in w.old)) (W.contents (writer_in w.new))
-            errors.old.items errors.new.items }
+        ensures within { WritesWithin (⟦<Self as Says>⟧.under self.now args.entry)
+            (pattern_view pattern.now) result W.contents w.old w.new errors.old errors.new }
 
         // With the budget, in every case.
-        ensures whole { let of = ⟦<Self as Context<C>>⟧.meant in
-            let args = arguments_view C.content args.entry in
-            WritesWhole (of self.now) args (pattern_view pattern.now) result
-            (W.contents (writer_in w.old)) (W.contents (writer_in w.new))
-            errors.old.items errors.new.items }
+        ensures whole { WritesWhole (⟦<Self as Says>⟧.under self.now args.entry)
+            (pattern_view pattern.now) result W.contents w.old w.new errors.old errors.new }
 
         // Whatever is answered.
-        ensures front { let of = ⟦<Self as Context<C>>⟧.meant in
-            let args = arguments_view C.content args.entry in
-            WritesBeginning (of self.now) args (pattern_view pattern.now)
-            (W.contents (writer_in w.old)) (W.contents (writer_in w.new))
-            errors.old.items errors.new.items }
-        ensures limit { let of = ⟦<Self as Context<C>>⟧.meant in
-            let args = arguments_view C.content args.entry in
-            KeepsLimit (of self.now) args (pattern_view pattern.now) }
+        ensures front { WritesBeginning (⟦<Self as Says>⟧.under self.now args.entry)
+            (pattern_view pattern.now) W.contents w.old w.new errors.old errors.new }
+        ensures limit { IsLimited (⟦<Self as Says>⟧.under self.now args.entry)
+            (pattern_view pattern.now) }
         ensures fault { CountsFault w.old w.new result }
         ensures memory { IsTextAlone (pattern_view pattern.now) → transform_in self.now ≡ None →
             result ≢ Err WriteFault.Memory }
@@ -119,21 +106,14 @@ impl<
         args: Option<&FluentArgs<'_, C>>,
         errors: &mut Vec<FluentError>,
     ) -> Result<CowStr<'s>, AllocError>
-        ensures within { let of = ⟦<Self as Context<C>>⟧.meant in
-            let args = arguments_view C.content args.entry in
-            GivesWithin (of self.now) args (pattern_view pattern.now) result
-            errors.old.items errors.new.items }
-        ensures whole { let of = ⟦<Self as Context<C>>⟧.meant in
-            let args = arguments_view C.content args.entry in
-            GivesWhole (of self.now) args (pattern_view pattern.now) result
-            errors.old.items errors.new.items }
-        ensures front { let of = ⟦<Self as Context<C>>⟧.meant in
-            let args = arguments_view C.content args.entry in
-            AddsBeginning (of self.now) args (pattern_view pattern.now)
-            errors.old.items errors.new.items }
-        ensures limit { let of = ⟦<Self as Context<C>>⟧.meant in
-            let args = arguments_view C.content args.entry in
-            KeepsLimit (of self.now) args (pattern_view pattern.now) }
+        ensures within { GivesWithin (⟦<Self as Says>⟧.under self.now args.entry)
+            (pattern_view pattern.now) result errors.old errors.new }
+        ensures whole { GivesWhole (⟦<Self as Says>⟧.under self.now args.entry)
+            (pattern_view pattern.now) result errors.old errors.new }
+        ensures front { AddsBeginning (⟦<Self as Says>⟧.under self.now args.entry)
+            (pattern_view pattern.now) errors.old errors.new }
+        ensures limit { IsLimited (⟦<Self as Says>⟧.under self.now args.entry)
+            (pattern_view pattern.now) }
         ensures lent { (t : Text) → sole_text (pattern_view pattern.now) ≡ Some t →
             transform_in self.now ≡ None → formatter_in self.now ≡ None → Lends result t }
     {
@@ -171,9 +151,8 @@ impl<
 
     /// The formatter's answer for a whole text.
     fn formatted_text(&self, text: &str) -> Result<Option<String>, AllocError>
-        ensures { let of = ⟦<Self as Context<C>>⟧.meant in
-            IfOk result (λ shown. option_map string_bytes shown
-            ≡ (of self.now).formatter (text_value text.now)) }
+        ensures { IfOk result (λ shown. option_map string_bytes shown
+            ≡ (⟦<Self as Says>⟧.of self.now).formatter (text_value text.now)) }
     {
         let value = FluentValue::String(CowStr::Borrowed(text));
         formatted(self.alloc, &self.formatter, &value, &self.intls)
@@ -187,11 +166,8 @@ impl<
         args: Option<&FluentArgs<'_, C>>,
         errors: &mut Vec<FluentError>,
     ) -> Result<(), Halt>
-        ensures writes { let of = ⟦<Self as Context<C>>⟧.meant in
-            let args = arguments_view C.content args.entry in
-            Writes result (written_pattern (of self.now) args (pattern_view pattern.now))
-            (sink W.contents out.old) (sink W.contents out.new)
-            errors.old.items errors.new.items }
+        ensures writes { Writes (⟦<Self as Says>⟧.under self.now args.entry)
+            (pattern_view pattern.now) result W.contents out.old out.new errors.old errors.new }
         ensures memory { IsTextAlone (pattern_view pattern.now) → transform_in self.now ≡ None →
             out.old.is_buffered ≡ false → result ≢ Err Halt.Memory }
     {
@@ -214,19 +190,12 @@ impl<
         args: Option<&FluentArgs<'_, C>>,
         errors: &mut Vec<FluentError>,
     ) -> Result<String, AllocError>
-        ensures text { let of = ⟦<Self as Context<C>>⟧.meant in
-            let args = arguments_view C.content args.entry in
-            IfOk result (λ text. string_bytes text ≡ (written_pattern (of self.now) args
-            (pattern_view pattern.now)).value) }
-        ensures errors { let of = ⟦<Self as Context<C>>⟧.meant in
-            let args = arguments_view C.content args.entry in
-            OnOk result (AddsAll (written_pattern (of self.now) args
-            (pattern_view pattern.now)).errors
-            errors.old.items errors.new.items) }
-        ensures front { let of = ⟦<Self as Context<C>>⟧.meant in
-            let args = arguments_view C.content args.entry in
-            AddsFront (written_pattern (of self.now) args (pattern_view pattern.now)).errors
-            errors.old.items errors.new.items }
+        ensures text { IfOk result
+            (IsText (⟦<Self as Says>⟧.under self.now args.entry) (pattern_view pattern.now)) }
+        ensures errors { OnOk result (AddsWhole (⟦<Self as Says>⟧.under self.now args.entry)
+            (pattern_view pattern.now) errors.old errors.new) }
+        ensures front { AddsBeginning (⟦<Self as Says>⟧.under self.now args.entry)
+            (pattern_view pattern.now) errors.old errors.new }
     {
         let mut text = String::with_capacity(self.alloc, ROOM)?;
         let mut unused = Counting::new(Vec::new(self.alloc));
@@ -245,20 +214,12 @@ impl<
         args: Option<&FluentArgs<'_, C>>,
         errors: &mut Vec<FluentError>,
     ) -> Result<(), Halt>
-        ensures text { let of = ⟦<Self as Context<C>>⟧.meant in
-            let args = arguments_view C.content args.entry in
-            OnOk result (string_bytes text.new
-            ≡ string_bytes text.old ++ (written_pattern (of self.now) args
-            (pattern_view pattern.now)).value) }
-        ensures errors { let of = ⟦<Self as Context<C>>⟧.meant in
-            let args = arguments_view C.content args.entry in
-            OnOk result (AddsAll (written_pattern (of self.now) args
-            (pattern_view pattern.now)).errors
-            errors.old.items errors.new.items) }
-        ensures front { let of = ⟦<Self as Context<C>>⟧.meant in
-            let args = arguments_view C.content args.entry in
-            AddsFront (written_pattern (of self.now) args (pattern_view pattern.now)).errors
-            errors.old.items errors.new.items }
+        ensures text { OnOk result (Extends (⟦<Self as Says>⟧.under self.now args.entry)
+            (pattern_view pattern.now) text.old text.new) }
+        ensures errors { OnOk result (AddsWhole (⟦<Self as Says>⟧.under self.now args.entry)
+            (pattern_view pattern.now) errors.old errors.new) }
+        ensures front { AddsBeginning (⟦<Self as Says>⟧.under self.now args.entry)
+            (pattern_view pattern.now) errors.old errors.new }
         ensures fault { CountsTell (failed_in unused.old) (empty_in unused.old)
             (failed_in unused.new) (empty_in unused.new) result }
     {

@@ -9,6 +9,7 @@ pub mod laws;
 mod messages;
 pub mod resolver;
 mod resource;
+mod says;
 
 pub use bundle::{AddFault, FluentBundle};
 pub use calls::Call;

@@ -1,15 +1,9 @@
 //! A message with all its parts as text.
-ghost use Rattle.std.specs.Prelude.{◌≡◌, map, Some, IfOk, OnOk};
-ghost use Rattle.std.specs.Option.{option_map};
-ghost use Rattle.std.specs.Cow.{cow_str_bytes};
-ghost use Rattle.fluent_tree.specs.View.{attribute_view, pattern_view};
-ghost use Rattle.fluent_values.specs.MessageView.{content_of};
-ghost use Rattle.fluent_resolver.specs.Status.{arguments_view};
-ghost use Rattle.fluent_bundle.specs.BundleView.{message_at};
-ghost use Rattle.fluent_bundle.specs.Formatted.{AddsAll, AddsFront};
-ghost use Rattle.fluent_bundle.specs.Messages.{attribute_errors, attribute_shown, attribute_texts, message_errors, message_shown, message_text, text_of, value_errors};
+ghost use Rattle.std.specs.Prelude.{IfOk, OnOk};
+ghost use Rattle.fluent_bundle.specs.Under.{attributes_errors, message_errors, parts_errors, value_errors, AddsAll, AddsFront, ShowsAttributes, ShowsMessage, ShowsParts, ShowsValue};
 
 use crate::bundle::FluentBundle;
+use crate::says::Says;
 use fluent_intl::MemoizerKind;
 use fluent_syntax::ast;
 use fluent_values::types::FluentType;
@@ -57,18 +51,13 @@ impl<
         args: Option<&FluentArgs<'_, C>>,
         errors: &mut Vec<FluentError>,
     ) -> Result<Option<FormattedMessage<'s>>, AllocError>
-        ensures text { let of = ⟦<Self as Context<C>>⟧.meant in
-            let args = arguments_view C.content args.entry in
-            IfOk result (λ message. option_map message_shown message
-            ≡ option_map (message_text (of self.now) args) (message_at id.now (of self.now))) }
-        ensures errors { let of = ⟦<Self as Context<C>>⟧.meant in
-            let args = arguments_view C.content args.entry in
-            let all = message_errors (of self.now) args (message_at id.now (of self.now)) in
-            OnOk result (AddsAll all errors.old.items errors.new.items) }
-        ensures front { let of = ⟦<Self as Context<C>>⟧.meant in
-            let args = arguments_view C.content args.entry in
-            let all = message_errors (of self.now) args (message_at id.now (of self.now)) in
-            AddsFront all errors.old.items errors.new.items }
+        ensures text { IfOk result (ShowsMessage (⟦<Self as Says>⟧.under self.now args.entry)
+            id.now) }
+        ensures errors { OnOk result (AddsAll
+            (message_errors (⟦<Self as Says>⟧.under self.now args.entry) id.now)
+            errors.old errors.new) }
+        ensures front { AddsFront (message_errors (⟦<Self as Says>⟧.under self.now args.entry)
+            id.now) errors.old errors.new }
     {
         match self.get_entry_message(id) {
             Some(message) => match self.format_parts(message, args, errors) {
@@ -86,18 +75,13 @@ impl<
         args: Option<&FluentArgs<'_, C>>,
         errors: &mut Vec<FluentError>,
     ) -> Result<FormattedMessage<'s>, AllocError>
-        ensures text { let of = ⟦<Self as Context<C>>⟧.meant in
-            let args = arguments_view C.content args.entry in
-            IfOk result (λ formatted. message_shown formatted
-            ≡ message_text (of self.now) args (content_of message.now)) }
-        ensures errors { let of = ⟦<Self as Context<C>>⟧.meant in
-            let args = arguments_view C.content args.entry in
-            let all = message_errors (of self.now) args (Some (content_of message.now)) in
-            OnOk result (AddsAll all errors.old.items errors.new.items) }
-        ensures front { let of = ⟦<Self as Context<C>>⟧.meant in
-            let args = arguments_view C.content args.entry in
-            let all = message_errors (of self.now) args (Some (content_of message.now)) in
-            AddsFront all errors.old.items errors.new.items }
+        ensures text { IfOk result (ShowsParts (⟦<Self as Says>⟧.under self.now args.entry)
+            message.now) }
+        ensures errors { OnOk result (AddsAll
+            (parts_errors (⟦<Self as Says>⟧.under self.now args.entry) message.now)
+            errors.old errors.new) }
+        ensures front { AddsFront (parts_errors (⟦<Self as Says>⟧.under self.now args.entry)
+            message.now) errors.old errors.new }
     {
         let value = self.format_value(&message.value, args, errors)?;
         let attributes = self.format_attributes(message.attributes.as_slice(), args, errors)?;
@@ -111,18 +95,13 @@ impl<
         args: Option<&FluentArgs<'_, C>>,
         errors: &mut Vec<FluentError>,
     ) -> Result<Option<CowStr<'s>>, AllocError>
-        ensures text { let of = ⟦<Self as Context<C>>⟧.meant in
-            let args = arguments_view C.content args.entry in
-            IfOk result (λ text. option_map cow_str_bytes text
-            ≡ option_map (text_of (of self.now) args) (option_map pattern_view value.now)) }
-        ensures errors { let of = ⟦<Self as Context<C>>⟧.meant in
-            let args = arguments_view C.content args.entry in
-            let all = value_errors (of self.now) args (option_map pattern_view value.now) in
-            OnOk result (AddsAll all errors.old.items errors.new.items) }
-        ensures front { let of = ⟦<Self as Context<C>>⟧.meant in
-            let args = arguments_view C.content args.entry in
-            let all = value_errors (of self.now) args (option_map pattern_view value.now) in
-            AddsFront all errors.old.items errors.new.items }
+        ensures text { IfOk result (ShowsValue (⟦<Self as Says>⟧.under self.now args.entry)
+            value.now) }
+        ensures errors { OnOk result (AddsAll
+            (value_errors (⟦<Self as Says>⟧.under self.now args.entry) value.now)
+            errors.old errors.new) }
+        ensures front { AddsFront (value_errors (⟦<Self as Says>⟧.under self.now args.entry)
+            value.now) errors.old errors.new }
     {
         match value {
             Some(pattern) => match self.format_pattern(pattern, args, errors) {
@@ -140,18 +119,13 @@ impl<
         args: Option<&FluentArgs<'_, C>>,
         errors: &mut Vec<FluentError>,
     ) -> Result<Vec<FormattedAttribute<'s>>, AllocError>
-        ensures text { let of = ⟦<Self as Context<C>>⟧.meant in
-            let args = arguments_view C.content args.entry in
-            IfOk result (λ texts. map attribute_shown texts.items
-            ≡ attribute_texts (of self.now) args (map attribute_view attributes.now)) }
-        ensures errors { let of = ⟦<Self as Context<C>>⟧.meant in
-            let args = arguments_view C.content args.entry in
-            let all = attribute_errors (of self.now) args (map attribute_view attributes.now) in
-            OnOk result (AddsAll all errors.old.items errors.new.items) }
-        ensures front { let of = ⟦<Self as Context<C>>⟧.meant in
-            let args = arguments_view C.content args.entry in
-            let all = attribute_errors (of self.now) args (map attribute_view attributes.now) in
-            AddsFront all errors.old.items errors.new.items }
+        ensures text { IfOk result (ShowsAttributes (⟦<Self as Says>⟧.under self.now args.entry)
+            attributes.now) }
+        ensures errors { OnOk result (AddsAll
+            (attributes_errors (⟦<Self as Says>⟧.under self.now args.entry) attributes.now)
+            errors.old errors.new) }
+        ensures front { AddsFront (attributes_errors (⟦<Self as Says>⟧.under self.now args.entry)
+            attributes.now) errors.old errors.new }
     {
         let mut texts = Vec::new(self.alloc);
         for attribute in attributes {

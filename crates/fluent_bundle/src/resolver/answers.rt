@@ -10,6 +10,7 @@ ghost use Rattle.fluent_meaning.specs.Value.{category_of};
 ghost use Rattle.fluent_values.specs.View.{value_view};
 
 use crate::bundle::FluentBundle;
+use crate::says::Says;
 use fluent_intl::{MemoizerKind, PluralCategory, PluralOperands, PluralRuleType};
 use fluent_values::types::{FluentNumber, FluentNumberType, FluentType, FluentValue};
 use fluent_values::{Context, FluentFormatter, FluentFunction, Transform};
@@ -53,11 +54,10 @@ impl<
     }
 
     fn formatted(&self, value: &FluentValue<'_, C>) -> Result<Option<String>, AllocError>
-        ensures answer { let of = meant M.category C.shown C.alike F.answer G.formatted T.changed in
-            IfOk result (λ text. option_map string_bytes text
-            ≡ (of self.now).formatter (value_view C.content value.now)) }
-        ensures custom { let of = meant M.category C.shown C.alike F.answer G.formatted T.changed in
-            (of self.now).custom ≡ record { text = C.shown; same = C.alike } }
+        ensures answer { IfOk result (λ text. option_map string_bytes text
+            ≡ (⟦<Self as Says>⟧.of self.now).formatter (value_view C.content value.now)) }
+        ensures custom { (⟦<Self as Says>⟧.of self.now).custom
+            ≡ record { text = C.shown; same = C.alike } }
         ensures succeeds { formatter_in self.now ≡ None → IsOk result }
     {
         formatted(self.alloc, &self.formatter, value, &self.intls)
