@@ -19,7 +19,6 @@ use Rattle.fluent_meaning.specs.Laws.{CallsByThemselves}
 use Rattle.fluent_meaning.specs.Result.{written_pattern, substituted_pattern}
 use Rattle.fluent_bundle.specs.Formatted.{AddsAll, WritesAll, Writes}
 use Rattle.fluent_resolver.specs.Status.{Status, reported, with_errors}
-use Rattle.fluent_resolver.specs.Trail.{on_path}
 use Rattle.fluent_resolver.specs.Along.{Walk, Wrote, from_here, given}
 use Rattle.fluent_bundle.specs.Limits.{KeepsLimit}
 use Rattle.fluent_values.specs.Written.{Sink, SinkTook, CountsTell, without_error, writer, at}
@@ -34,9 +33,9 @@ pattern_walk p = λ b below env path. whole with_work b below env path p
 pub fresh : {K : Type 0} → CallsByThemselves Text → (a : Status K) (b : Bundle Text) (args : Map (Value Text)) (p : Pattern) → a.bundle ≡ b → a.environment ≡ application args → a.path ≡ [] → a.budget ≡ left b.limit
     → (from_here a (pattern_walk p)).ran ≡ written_pattern b args p
 fresh law a b args p h j k l =
-    ap (λ c. (whole with_work c (work c) a.environment (on_path a.path) p a.budget).ran) h
-    ∙ ap (λ env. (whole with_work b (work b) env (on_path a.path) p a.budget).ran) j
-    ∙ ap (λ path. (whole with_work b (work b) (application args) (on_path path) p a.budget).ran) k
+    ap (λ c. (whole with_work c (work c) a.environment a.path p a.budget).ran) h
+    ∙ ap (λ env. (whole with_work b (work b) env a.path p a.budget).ran) j
+    ∙ ap (λ path. (whole with_work b (work b) (application args) path p a.budget).ran) k
     ∙ ap (λ budget. (whole with_work b (work b) (application args) [] p budget).ran) l
     ∙ sym (law.pattern b args p)
 

@@ -136,8 +136,14 @@ referring number [] [] p table some are = absurd (some refl)
 referring number [] (l ∷ ls) p table some are = absurd cc
 referring number (r ∷ rs) ls p table some are = refl
 
-pub has_class : (table : List Pattern) (p : Pattern) (class : ℕ) → HasClass table class p → IsClassOf table p (Some class)
-has_class table p class h = (λ c at. subst (λ n. HasClass table n p) (ap (λ o. unwrap_or o class) at) h, λ none. absurd cc)
+-- where there are links, there are references
+pub some_referred : (number : Text → Option ℕ) (rs : List Reference) (ls : List ℕ) → (ls ≡ [] → ⊥) → AreNumbers number rs ls → are_some rs ≡ true
+some_referred number [] [] some are = absurd (some refl)
+some_referred number [] (l ∷ ls) some are = absurd cc
+some_referred number (r ∷ rs) ls some are = refl
+
+pub has_class : (table : List Pattern) (p : Pattern) (class : ℕ) → HasClass table class p → are_some (references p) ≡ true → IsClassOf table p (Some class)
+has_class table p class h some = (λ c at. (subst (λ n. HasClass table n p) (ap (λ o. unwrap_or o class) at) h, some), λ none. absurd cc)
 
 pub no_class : (table : List Pattern) (p : Pattern) → references p ≡ [] → IsClassOf table p None
 no_class table p h = (λ c at. absurd cc, λ none. ap are_some h)

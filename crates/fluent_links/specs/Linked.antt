@@ -18,9 +18,9 @@ abbrev pub are_some : List Reference → Bool
 are_some [] = false
 are_some (r ∷ rs) = true
 
--- a pattern's class, if it has one; one that refers to anything has one
+-- a pattern's class, if it has one; it has one where it refers to anything, and only there
 abbrev pub IsClassOf : List Pattern → Pattern → Option ℕ → Type 0
-IsClassOf table p class = ((c : ℕ) → class ≡ Some c → HasClass table c p) × (class ≡ None → are_some (references p) ≡ false)
+IsClassOf table p class = ((c : ℕ) → class ≡ Some c → HasClass table c p × (are_some (references p) ≡ true)) × (class ≡ None → are_some (references p) ≡ false)
 
 -- it has the pattern's class, and its links are the numbers of what the pattern refers to
 abbrev pub IsOf : (Text → Option ℕ) → List Pattern → Pattern → Linked → Type 0
@@ -35,7 +35,7 @@ abbrev pub with_content : Pattern → List Pattern → List Pattern
 with_content p table = with_referring (references p) p table
 
 still_class : (table table' : List Pattern) → Grows table table' → (p : Pattern) (class : Option ℕ) → IsClassOf table p class → IsClassOf table' p class
-still_class table table' grows p class h = (λ c at. grows c p (h.0 c at), h.1)
+still_class table table' grows p class h = (λ c at. (grows c p (h.0 c at).0, (h.0 c at).1), h.1)
 
 -- it stays so while ids keep their numbers and contents their classes
 pub still_of : (number number' : Text → Option ℕ) (table table' : List Pattern) → KeepsNumbers number number' → Grows table table' → (p : Pattern) (l : Linked) → IsOf number table p l → IsOf number' table' p l

@@ -1,5 +1,5 @@
 -- What is kept of patterns, and of which pattern that is.
-use Rattle.std.proofs.Common.{◌≡◌, ℕ, zero, suc, ◌+◌, ◌<◌, List, [], ◌∷◌, length, get_or, drop, map, ap, sym, ◌∙◌, arith, refl, slice_get, Option, Some, unwrap_or, Bool, false, cond}
+use Rattle.std.proofs.Common.{◌≡◌, ℕ, zero, suc, ◌+◌, ◌<◌, List, [], ◌∷◌, length, get_or, drop, map, ap, sym, ◌∙◌, arith, refl, slice_get, Option, None, Some, unwrap_or, Bool, false, cond}
 use Rattle.std.specs.Borrow.{Bor}
 use Rattle.std.specs.Option.{option_copied}
 use Rattle.fluent_tree.specs.Tree.{Text}
@@ -25,6 +25,9 @@ pattern_at (y ∷ ys) (suc i) x h is = pattern_at ys i x (omega (arith, h)) is
 -- what is lent is what it is lent from
 pub lent_from : {X : Type 0} (o : Option (Bor X)) (p : Option X) (b : Bor X) → option_copied o ≡ p → o ≡ Some b → p ≡ Some b.now
 lent_from o p b copied is = sym copied ∙ ap option_copied is
+
+pub lent_none : {X : Type 0} (o : Option (Bor X)) (p : Option X) → option_copied o ≡ p → o ≡ None → p ≡ None
+lent_none o p copied is = sym copied ∙ ap option_copied is
 
 pub value_is : {X : Type 0} (x y : X) → Some x ≡ Some y → x ≡ y
 value_is x y h = ap (λ o. unwrap_or o x) h

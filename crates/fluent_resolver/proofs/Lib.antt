@@ -2,6 +2,7 @@ pub mod Views
 pub mod Choice
 pub mod Classed
 pub mod Cases
+pub mod Bare
 mod Stored
 pub mod Measures
 pub mod Passing

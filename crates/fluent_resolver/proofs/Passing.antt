@@ -5,7 +5,6 @@ use Rattle.fluent_meaning.specs.Errors.{Error}
 use Rattle.fluent_meaning.specs.Meaning.{Budget, at_most}
 use Rattle.fluent_meaning.specs.Work.{work}
 use Rattle.fluent_resolver.specs.Status.{Status, Tally, counted, with_errors, Keeps, Spends}
-use Rattle.fluent_resolver.specs.Trail.{on_path}
 use Rattle.fluent_resolver.specs.Along.{Walk, walked, from_here, Trace, follows, adding, Reports, Passed, Elsewhere, ReportsIfOk, TakesOne}
 
 -- SCOPES
@@ -48,9 +47,9 @@ keeps_on h j = record {
 -- a walk from a scope that kept another's rest is one from that other, with its own budget
 pub moved : {A K : Type 0} {a b : Status K} (walk : Walk A) → Keeps a b → from_here b walk ≡ walked a walk b.budget
 moved {a = a} {b = b} walk h =
-    ap (λ s. walk s (work s) b.environment (on_path b.path) b.budget) h.bundle
-    ∙ ap (λ e. walk a.bundle (work a.bundle) e (on_path b.path) b.budget) h.environment
-    ∙ ap (λ p. walk a.bundle (work a.bundle) a.environment (on_path p) b.budget) h.path
+    ap (λ s. walk s (work s) b.environment b.path b.budget) h.bundle
+    ∙ ap (λ e. walk a.bundle (work a.bundle) e b.path b.budget) h.environment
+    ∙ ap (λ p. walk a.bundle (work a.bundle) a.environment p b.budget) h.path
 
 -- ERRORS
 

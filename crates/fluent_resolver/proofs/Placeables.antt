@@ -8,7 +8,6 @@ use Rattle.fluent_meaning.specs.Work.{Worked, with_work, work}
 use Rattle.fluent_tree.specs.Tree.{Text}
 use Rattle.fluent_resolver.specs.Along.{Along, TakesOne, Walk, Went, can_open, from_here, given, trace}
 use Rattle.fluent_resolver.specs.Status.{Keeps, Status}
-use Rattle.fluent_resolver.specs.Trail.{on_path}
 use Rattle.fluent_values.specs.Written.{Sink, SinkTook}
 use Rattle.fluent_values.specs.declared.output.Halt.{Halt}
 use Rattle.fluent_resolver.proofs.Along.{passes, put, starts, turns}
@@ -22,7 +21,7 @@ placing_one one e s f env path = part with_work s f env path one (placeable e)
 
 -- what is to come behind its first mark
 abbrev pub unmarked_at : {K : Type 0} → Status K → Bool → Expression → Budget → Worked Text
-unmarked_at a one e = unmarked a.bundle (work a.bundle) a.environment (on_path a.path) one e
+unmarked_at a one e = unmarked a.bundle (work a.bundle) a.environment a.path one e
 
 -- whether it is marked is the same in a scope that kept the bundle
 pub marked_as : {K : Type 0} {m : Bool} {a b : Status K} (one : Bool) (e : Expression) → Keeps a b → m ≡ is_marked b.bundle.isolates one e → m ≡ is_marked a.bundle.isolates one e
@@ -31,7 +30,7 @@ marked_as one e keeps is = is ∙ ap (λ s. is_marked s.isolates one e) keeps.bu
 -- none was left to take: nothing is to come but the error
 pub strikes : {T K : Type 0} {r : Bool} (x : T) (a b : Status K) (one : Bool) (e : Expression) (w : Sink) → (a.budget ≡ struck → ⊥) → r ≡ can_open a.budget → r ≡ false → TakesOne r a b → Along (Ok x) (from_here a (placing_one one e)) (tells (resolver_error too_many_placeables ∷ []) (given [] b.budget)) w w a b
 strikes x a b one e w left opens is takes =
-    let short = part_strikes a.bundle (work a.bundle) a.environment (on_path a.path) one e a.budget left (sym opens ∙ is)
+    let short = part_strikes a.bundle (work a.bundle) a.environment a.path one e a.budget left (sym opens ∙ is)
     ∙ ap (λ n. tells (resolver_error too_many_placeables ∷ []) (given [] n)) (sym takes.budget) in
     passes refl (passed_still takes.errors (struck_same is takes) takes.keeps) (turns short (starts a w _))
 
@@ -40,7 +39,7 @@ pub marks : {T K : Type 0} {q : Result T Halt} {r m : Bool} {w w' : Sink} (x : T
 marks {w = w} x a b one e opens is takes marked took =
     let first = first_mark (is_marked a.bundle.isolates one e) in
     let rest = prepend first (unmarked_at a one e b.budget) in
-    let whole = part_opens a.bundle (work a.bundle) a.environment (on_path a.path) one e a.budget (sym opens ∙ is)
+    let whole = part_opens a.bundle (work a.bundle) a.environment a.path one e a.budget (sym opens ∙ is)
     ∙ ap (λ n. opening (prepend first (unmarked_at a one e n))) (sym takes.budget) in
     let begun : Along (Ok x) (from_here a (placing_one one e)) rest w w a b = passes {rest = opening rest} {rest' = rest} refl (passed_counts takes.errors refl refl (opened_on (trace rest) is takes) takes.keeps) (turns whole (starts a w _)) in
     put (unmarked_at a one e b.budget) (took_same (ap first_mark (marked_as one e takes.keeps marked)) took) begun

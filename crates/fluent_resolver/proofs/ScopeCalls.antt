@@ -1,6 +1,6 @@
 -- The calls of a scope that resolve a part of a pattern by itself.
 use Rattle.std.specs.Prelude.{nat_eq, ◌&&◌}
-use Rattle.std.proofs.Common.{◌≡◌, refl, sym, ap, ◌∙◌, length, append-nil, add-zero, List, [], ◌∷◌, map, Option, Some, None, true}
+use Rattle.std.proofs.Common.{◌≡◌, refl, sym, ap, ◌∙◌, length, append-nil, add-zero, List, [], ◌∷◌, map, Option, Some, None, Result, subst, true}
 use Rattle.std.proofs.Math.Dec.{eqb-suc-zero}
 use Rattle.std.proofs.Math.Nat.{max-zero}
 use Rattle.fluent_tree.specs.Tree.{Text, Pattern, Expression, Inline, Arguments, arguments, no_inlines, argument, inlines_of, no_nameds, named_argument, nameds_of}
@@ -10,15 +10,16 @@ use Rattle.fluent_tree.specs.declared.ast.InlineExpression.{InlineExpression}
 use Rattle.fluent_tree.specs.declared.ast.NamedArgument.{NamedArgument}
 use Rattle.fluent_tree.specs.Fallback.{fallback_of}
 use Rattle.fluent_meaning.specs.Meaning.{Budget, ending}
-use Rattle.fluent_meaning.specs.Walk.{inner, elements}
-use Rattle.fluent_meaning.specs.Work.{Worked, work}
-use Rattle.fluent_meaning.specs.Laws.{CallsByThemselves}
-use Rattle.fluent_resolver.specs.Along.{walked, from_here, given, lost_of, Elsewhere}
+use Rattle.fluent_meaning.specs.Walk.{inner, elements, whole}
+use Rattle.fluent_meaning.specs.Work.{Worked, with_work, work}
+use Rattle.fluent_meaning.specs.Laws.{CallsByThemselves, CountsByItself}
+use Rattle.fluent_resolver.specs.Along.{Walk, Went, Wrote, walked, from_here, given, lost_of, Elsewhere}
 use Rattle.fluent_resolver.specs.Status.{Status}
-use Rattle.fluent_resolver.specs.Trail.{on_path}
-use Rattle.fluent_resolver.specs.Tracking.{Runs, are_none, called_run, calling, closes, losing, lost_run, maybe_tracks}
+use Rattle.fluent_resolver.specs.Tracking.{Runs, are_none, called_run, calling, closes, losing, lost_run, maybe_tracks, tracks}
+use Rattle.fluent_values.specs.Written.{Sink}
+use Rattle.fluent_values.specs.declared.output.Halt.{Halt}
 use Rattle.fluent_resolver.proofs.Cases.{entering, loses_is, sequence}
-use Rattle.fluent_resolver.proofs.Steps.{expressing}
+use Rattle.fluent_resolver.proofs.Steps.{expressing, wholing}
 use Rattle.fluent_resolver.proofs.Views.{view_arguments}
 
 -- EXPRESSIONS
@@ -31,25 +32,36 @@ pub closes_at : {K : Type 0} (a : Status K) (e : Expression) → from_here a (cl
 closes_at a e = simp (append-nil, add-zero, max-zero)
 
 -- the same, from a scope whose path the pattern begins
-pub maybe_at : {K : Type 0} (a b : Status K) (p : Pattern) (e : Expression) → on_path b.path ≡ inner (on_path a.path) p → Elsewhere a b → from_here a (maybe_tracks p e) ≡ entering (length (on_path b.path)) (from_here b (closes e))
+pub maybe_at : {K : Type 0} (a b : Status K) (p : Pattern) (e : Expression) → b.path ≡ inner a.path p → Elsewhere a b → from_here a (maybe_tracks p e) ≡ entering (length b.path) (from_here b (closes e))
 maybe_at a b p e begun before = sym (
-    ap (λ s. entering (length (on_path b.path)) (closes e s (work s) b.environment (on_path b.path) b.budget)) before.bundle
-    ∙ ap (λ v. entering (length (on_path b.path)) (closes e a.bundle (work a.bundle) v (on_path b.path) b.budget)) before.environment
+    ap (λ s. entering (length b.path) (closes e s (work s) b.environment b.path b.budget)) before.bundle
+    ∙ ap (λ v. entering (length b.path) (closes e a.bundle (work a.bundle) v b.path b.budget)) before.environment
     ∙ ap (λ way. entering (length way) (closes e a.bundle (work a.bundle) a.environment way b.budget)) begun
-    ∙ ap (λ n. entering (length (inner (on_path a.path) p)) (closes e a.bundle (work a.bundle) a.environment (inner (on_path a.path) p) n)) before.budget)
+    ∙ ap (λ n. entering (length (inner a.path p)) (closes e a.bundle (work a.bundle) a.environment (inner a.path p) n)) before.budget)
+
+-- a pattern that is referred to, where no pattern is being written
+pub tracked_at : {K : Type 0} → CountsByItself Text → (a : Status K) (p : Pattern) (x : Inline) → a.path ≡ [] → from_here a (wholing p) ≡ from_here a (tracks p x)
+tracked_at law a p x none =
+    ap (λ path. whole with_work a.bundle (work a.bundle) a.environment path p a.budget) none
+    ∙ sym (law.counts a.bundle a.environment (p ∷ []) p a.budget)
+    ∙ ap (λ path. tracks p x a.bundle (work a.bundle) a.environment path a.budget) (sym none)
+
+-- the same walk
+pub wrote_as : {T K : Type 0} {r : Result T Halt} {walk walk' : Walk Text} {w w' : Sink} {a b : Status K} → from_here a walk ≡ from_here a walk' → Wrote r walk w w' a b → Wrote r walk' w w' a b
+wrote_as {r = r} {w = w} {w' = w'} {a = a} {b = b} same h = record { went = subst (λ all. Went r all (given [] b.budget) w w' a b) same h.went }
 
 -- WHICH RUNS
 
 -- what can't be found is reported, and shown in braces
 pub losing_runs : {K : Type 0} (a : Status K) (x : Inline) → Runs a (losing x) (λ b env path. lost_run x)
 losing_runs a x =
-    ap (λ (m : Worked Text). m.ran) (loses_is a.bundle (work a.bundle) a.environment (on_path a.path) x a.budget)
+    ap (λ (m : Worked Text). m.ran) (loses_is a.bundle (work a.bundle) a.environment a.path x a.budget)
     ∙ ap (λ es. record (lost_run x a.budget) { errors = es }) (append-nil (lost_of x))
 
 -- the values of arguments, or none
 pub calling_runs : {K : Type 0} → CallsByThemselves Text → (a : Status K) (o : Option Arguments) → Runs a (calling o) (λ b env path. called_run b env path o)
 calling_runs law a None = refl
-calling_runs law a (Some k) = sym (law.arguments a.bundle a.environment (on_path a.path) k a.budget)
+calling_runs law a (Some k) = sym (law.arguments a.bundle a.environment a.path k a.budget)
 
 -- NO ARGUMENTS
 

@@ -1,5 +1,6 @@
 -- What each function of the resolver is to do, from its scope, as the steps of its code.
-use Rattle.std.proofs.Common.{◌≡◌, refl, sym, ap, subst, ◌∙◌, ℕ, zero, suc, ◌+◌, ◌<◌, ◌≤◌, length, get_or, drop, List, [], ◌∷◌, ◌++◌, Bool, true, false, Option, Some, None, map, arith, unwrap_or}
+use Rattle.std.proofs.Common.{◌≡◌, refl, sym, ap, subst, ◌∙◌, ℕ, zero, suc, ◌+◌, ◌<◌, ◌≤◌, length, get_or, drop, List, [], ◌∷◌, ◌++◌, Bool, true, false, Option, Some, None, map, arith, unwrap_or, Result, Ok, IfOk}
+use Rattle.std.specs.Bool.{OnTrue, OnFalse}
 use Rattle.std.proofs.lemmas.List.{drop_more}
 use Rattle.std.specs.Option.{option_map}
 use Rattle.fluent_tree.specs.Tree.{Text, Pattern, Inline, Expression, Attribute, Call, Arguments, placeable, select, text, function, term, variable, pattern_of, inlines_of, nameds_of, variants_of, Element, more}
@@ -21,15 +22,14 @@ use Rattle.fluent_meaning.specs.Meaning.{Budget, struck}
 use Rattle.fluent_meaning.specs.Walk.{Environment, is_on, inner, go, whole, local_of, application, local, variables, missing, loses, variable_text, variable_value, function_text, answer_text, elements, part, expression, written, resolved, positional, named, follow, has_one, function_value, called}
 use Rattle.fluent_meaning.specs.Work.{Worked, with_work, work}
 use Rattle.fluent_meaning.specs.Laws.{CountsByItself}
-use Rattle.fluent_resolver.specs.Along.{Below, Walk, walked, from_here, given, mapping, lost_of, shown_answer, Elsewhere, StartsPattern, EndsPattern}
+use Rattle.fluent_resolver.specs.Along.{Below, Walk, walked, from_here, given, mapping, lost_of, shown_answer, Elsewhere, StartsPattern, EndsPattern, Enters, Leaves}
 use Rattle.fluent_resolver.specs.Choice.{choice, choosing, first_default}
 use Rattle.fluent_resolver.specs.Status.{Status}
-use Rattle.fluent_resolver.specs.Trail.{on_path, content_at}
-use Rattle.fluent_resolver.specs.declared.path.Step.{Step}
 use Rattle.fluent_values.specs.View.{value_view}
 use Rattle.fluent_values.specs.declared.types.value.FluentValue.{FluentValue}
 use Rattle.fluent_values.specs.declared.types.value.FluentValue.TheVariants as values
-use Rattle.fluent_resolver.proofs.Cases.{sequence, prepend, and_then, elements_end, elements_struck, elements_more, part_text, positional_none, positional_more, named_none, named_more, given_first, tells, loses_is, written_variable, variable_text_some, variable_text_none, missing_application, missing_local, resolved_variable, variable_value_some, variable_value_none, function_text_none, function_text_some, expression_inline, expression_select, chosen, chosen_is, meant, entering, go_cyclic, go_entered, whole_is, written_term, written_function, and_then_is, mapping_then, then_give, called_is}
+use Rattle.fluent_resolver.proofs.Cases.{sequence, prepend, and_then, elements_end, elements_struck, elements_more, part_text, positional_none, positional_more, named_none, named_more, given_first, tells, loses_is, written_variable, variable_text_some, variable_text_none, missing_application, missing_local, resolved_variable, variable_value_some, variable_value_none, function_text_none, function_text_some, expression_inline, expression_select, chosen, chosen_is, meant, entering, go_cyclic, go_entered, inner_longer, whole_is, written_term, written_function, and_then_is, mapping_then, then_give, called_is}
+use Rattle.fluent_resolver.proofs.Bare.{entering_bare}
 use Rattle.fluent_resolver.proofs.Views.{view_pattern, view_named, view_in, view_arguments}
 use Rattle.fluent_entries.specs.Texts.{IsTextAlone}
 
@@ -56,13 +56,13 @@ giving_all a one p b = ap (λ q. walked a (λ s f env path. elements with_work s
 giving_next : {K : Type 0} (a : Status K) (one : Bool) (es rest : List PatternElement) (e : PatternElement) (b : Budget) → es ≡ e ∷ rest → (b ≡ struck → ⊥) → giving a one es b ≡ sequence (walked a (λ s f env path. part with_work s f env path one (element_view e)) b) (giving a one rest)
 giving_next a one es rest e b h n =
     ap (λ es. giving a one es b) h
-    ∙ elements_more a.bundle (work a.bundle) a.environment (on_path a.path) one (element_view e) (pattern_of (map element_view rest)) b n
+    ∙ elements_more a.bundle (work a.bundle) a.environment a.path one (element_view e) (pattern_of (map element_view rest)) b n
 
 pub giving_text : {K : Type 0} (a : Status K) (one : Bool) (es rest : List PatternElement) (e : PatternElement) (t : Text) (b : Budget) → es ≡ e ∷ rest → (b ≡ struck → ⊥) → element_view e ≡ text t → giving a one es b ≡ prepend (a.bundle.transform t) (giving a one rest b)
 giving_text a one es rest e t b h n is =
     giving_next a one es rest e b h n
     ∙ ap (λ v. sequence (walked a (λ s f env path. part with_work s f env path one v) b) (giving a one rest)) is
-    ∙ ap (λ m. sequence m (giving a one rest)) (part_text a.bundle (work a.bundle) a.environment (on_path a.path) one t b)
+    ∙ ap (λ m. sequence m (giving a one rest)) (part_text a.bundle (work a.bundle) a.environment a.path one t b)
     ∙ given_first (a.bundle.transform t) b (giving a one rest)
 
 pub giving_placeable : {K : Type 0} (a : Status K) (one : Bool) (es rest : List PatternElement) (e : PatternElement) (x : Expression) (b : Budget) → es ≡ e ∷ rest → (b ≡ struck → ⊥) → element_view e ≡ placeable x → giving a one es b ≡ sequence (walked a (λ s f env path. part with_work s f env path one (placeable x)) b) (giving a one rest)
@@ -71,12 +71,12 @@ giving_placeable a one es rest e x b h n is =
     ∙ ap (λ v. sequence (walked a (λ s f env path. part with_work s f env path one v) b) (giving a one rest)) is
 
 pub giving_end : {K : Type 0} (a : Status K) (one : Bool) (es : List PatternElement) (b : Budget) → es ≡ [] → giving a one es b ≡ given [] b
-giving_end a one es b h = ap (λ es. giving a one es b) h ∙ elements_end a.bundle (work a.bundle) a.environment (on_path a.path) one b
+giving_end a one es b h = ap (λ es. giving a one es b) h ∙ elements_end a.bundle (work a.bundle) a.environment a.path one b
 
 pub giving_struck : {K : Type 0} (a : Status K) (one : Bool) (es : List PatternElement) (b : Budget) → b ≡ struck → giving a one es b ≡ given [] b
 giving_struck a one es b h =
     ap (giving a one es) h
-    ∙ elements_struck a.bundle (work a.bundle) a.environment (on_path a.path) one (pattern_of (map element_view es))
+    ∙ elements_struck a.bundle (work a.bundle) a.environment a.path one (pattern_of (map element_view es))
     ∙ ap (given []) (sym h)
 
 -- ARGUMENTS
@@ -93,19 +93,19 @@ resolving x s f env path = resolved with_work s f env path x
 pub placing_next : {K : Type 0} (a : Status K) (xs rest : List of_inline.InlineExpression) (x : of_inline.InlineExpression) (b : Budget) → xs ≡ x ∷ rest → walked a (place_walk xs) b ≡ and_then (walked a (resolving (inline_view x)) b) (λ v n. mapping (λ vs. v ∷ vs) (walked a (place_walk rest) n))
 placing_next a xs rest x b h =
     ap (λ xs. walked a (place_walk xs) b) h
-    ∙ positional_more a.bundle (work a.bundle) a.environment (on_path a.path) (inline_view x) (inlines_of (map inline_view rest)) b
+    ∙ positional_more a.bundle (work a.bundle) a.environment a.path (inline_view x) (inlines_of (map inline_view rest)) b
 
 pub placing_end : {K : Type 0} (a : Status K) (xs : List of_inline.InlineExpression) (b : Budget) → xs ≡ [] → walked a (place_walk xs) b ≡ given [] b
-placing_end a xs b h = ap (λ xs. walked a (place_walk xs) b) h ∙ positional_none a.bundle (work a.bundle) a.environment (on_path a.path) b
+placing_end a xs b h = ap (λ xs. walked a (place_walk xs) b) h ∙ positional_none a.bundle (work a.bundle) a.environment a.path b
 
 pub labelling_next : {K : Type 0} (a : Status K) (xs rest : List of_named.NamedArgument) (x : of_named.NamedArgument) (b : Budget) → xs ≡ x ∷ rest → walked a (label_walk xs) b ≡ and_then (walked a (resolving (inline_view x.value)) b) (λ v n. mapping (λ vs. (x.name.name.now, v) ∷ vs) (walked a (label_walk rest) n))
 labelling_next a xs rest x b h =
     ap (λ xs. walked a (label_walk xs) b) h
     ∙ ap (λ n. walked a (λ s f env path. named with_work s f env path (nameds_of (n ∷ map named_view rest))) b) (view_named x)
-    ∙ named_more a.bundle (work a.bundle) a.environment (on_path a.path) x.name.name.now (inline_view x.value) (nameds_of (map named_view rest)) b
+    ∙ named_more a.bundle (work a.bundle) a.environment a.path x.name.name.now (inline_view x.value) (nameds_of (map named_view rest)) b
 
 pub labelling_end : {K : Type 0} (a : Status K) (xs : List of_named.NamedArgument) (b : Budget) → xs ≡ [] → walked a (label_walk xs) b ≡ given [] b
-labelling_end a xs b h = ap (λ xs. walked a (label_walk xs) b) h ∙ named_none a.bundle (work a.bundle) a.environment (on_path a.path) b
+labelling_end a xs b h = ap (λ xs. walked a (label_walk xs) b) h ∙ named_none a.bundle (work a.bundle) a.environment a.path b
 
 -- what is made of the value of an argument, where these are still to come
 abbrev pub placing_more : {K : Type 0} → Status K → List of_inline.InlineExpression → Value Text → Budget → Worked (List (Value Text))
@@ -139,7 +139,7 @@ calling x s f env path = called with_work s f env path x
 pub calling_at : {K : Type 0} (a : Status K) (x : of_call.CallArguments) (ps : List of_inline.InlineExpression) (ns : List of_named.NamedArgument) (b : Budget) → ps ≡ (of_call.out-CallArguments x).positional.items → ns ≡ named_in x → walked a (calling (arguments_view x)) b ≡ and_then (walked a (place_walk ps) b) (naming_after a ns)
 calling_at a x ps ns b hp hn =
     ap (λ x. walked a (calling x) b) (view_arguments x)
-    ∙ called_is a.bundle (work a.bundle) a.environment (on_path a.path) (inlines_of (map inline_view (of_call.out-CallArguments x).positional.items)) (nameds_of (map named_view (named_in x))) b
+    ∙ called_is a.bundle (work a.bundle) a.environment a.path (inlines_of (map inline_view (of_call.out-CallArguments x).positional.items)) (nameds_of (map named_view (named_in x))) b
     ∙ ap (λ ps. and_then (walked a (place_walk ps) b) (λ vs n. mapping (λ m. (vs, set_all m [])) (walked a (label_walk (named_in x)) n))) (sym hp)
     ∙ ap (λ ns. and_then (walked a (place_walk ps) b) (λ vs n. mapping (λ m. (vs, set_all m [])) (walked a (label_walk ns) n))) (sym hn)
     ∙ and_then_is (walked a (place_walk ps) b) (λ vs n. mapping (λ m. (vs, set_all m [])) (walked a (label_walk ns) n)) (naming_after a ns) (λ vs n. sym (then_give (walked a (naming ns) n) (λ m. (vs, m))))
@@ -162,65 +162,65 @@ texting a x id b = variable_text with_work a.bundle (work a.bundle) a.environmen
 
 variable_written : {K : Type 0} (a : Status K) (x : Inline) (id : Text) (b : Budget) → x ≡ variable id → walked a (writing x) b ≡ texting a x id b
 unfolding texting
-variable_written a x id b h = subst (λ x. walked a (writing x) b ≡ texting a x id b) (sym h) (written_variable a.bundle (work a.bundle) a.environment (on_path a.path) id b)
+variable_written a x id b h = subst (λ x. walked a (writing x) b ≡ texting a x id b) (sym h) (written_variable a.bundle (work a.bundle) a.environment a.path id b)
 
 pub variable_found : {K : Type 0} (a : Status K) (x : Inline) (id : Text) (v : Value Text) (b : Budget) → x ≡ variable id → get id (variables a.environment) ≡ Some v → walked a (writing x) b ≡ given (shown a.bundle v) b
 unfolding texting
 variable_found a x id v b h is =
     variable_written a x id b h
     ∙ ap (λ o. variable_text with_work a.bundle (work a.bundle) a.environment x o b) is
-    ∙ variable_text_some a.bundle (work a.bundle) a.environment (on_path a.path) x v b
+    ∙ variable_text_some a.bundle (work a.bundle) a.environment a.path x v b
 
 pub variable_lost : {K : Type 0} (a : Status K) (x : Inline) (id : Text) (m : Map (Value Text)) (b : Budget) → x ≡ variable id → a.environment ≡ application m → get id m ≡ None → walked a (writing x) b ≡ walked a (losing x) b
 unfolding texting
 variable_lost a x id m b h env is =
     variable_written a x id b h
     ∙ ap (λ o. variable_text with_work a.bundle (work a.bundle) a.environment x o b) (ap (λ e. get id (variables e)) env ∙ is)
-    ∙ variable_text_none a.bundle (work a.bundle) a.environment (on_path a.path) x b
+    ∙ variable_text_none a.bundle (work a.bundle) a.environment a.path x b
     ∙ ap (λ e. missing with_work a.bundle (work a.bundle) a.environment e x b) env
-    ∙ missing_application a.bundle (work a.bundle) a.environment (on_path a.path) m x b
-    ∙ sym (loses_is a.bundle (work a.bundle) a.environment (on_path a.path) x b)
+    ∙ missing_application a.bundle (work a.bundle) a.environment a.path m x b
+    ∙ sym (loses_is a.bundle (work a.bundle) a.environment a.path x b)
 
 pub variable_unseen : {K : Type 0} (a : Status K) (x : Inline) (id : Text) (m : Map (Value Text)) (b : Budget) → x ≡ variable id → a.environment ≡ local m → get id m ≡ None → walked a (writing x) b ≡ given (in_braces (fallback x)) b
 unfolding texting
 variable_unseen a x id m b h env is =
     variable_written a x id b h
     ∙ ap (λ o. variable_text with_work a.bundle (work a.bundle) a.environment x o b) (ap (λ e. get id (variables e)) env ∙ is)
-    ∙ variable_text_none a.bundle (work a.bundle) a.environment (on_path a.path) x b
+    ∙ variable_text_none a.bundle (work a.bundle) a.environment a.path x b
     ∙ ap (λ e. missing with_work a.bundle (work a.bundle) a.environment e x b) env
-    ∙ missing_local a.bundle (work a.bundle) a.environment (on_path a.path) m x b
+    ∙ missing_local a.bundle (work a.bundle) a.environment a.path m x b
 
 valuing : {K : Type 0} → Status K → Inline → Text → Budget → Worked (Value Text)
 valuing a x id b = variable_value with_work a.bundle (work a.bundle) a.environment x (get id (variables a.environment)) b
 
 variable_resolved : {K : Type 0} (a : Status K) (x : Inline) (id : Text) (b : Budget) → x ≡ variable id → walked a (resolving x) b ≡ valuing a x id b
 unfolding valuing
-variable_resolved a x id b h = subst (λ x. walked a (resolving x) b ≡ valuing a x id b) (sym h) (resolved_variable a.bundle (work a.bundle) a.environment (on_path a.path) id b)
+variable_resolved a x id b h = subst (λ x. walked a (resolving x) b ≡ valuing a x id b) (sym h) (resolved_variable a.bundle (work a.bundle) a.environment a.path id b)
 
 pub value_found : {K : Type 0} (a : Status K) (x : Inline) (id : Text) (v : Value Text) (b : Budget) → x ≡ variable id → get id (variables a.environment) ≡ Some v → walked a (resolving x) b ≡ given v b
 unfolding valuing
 value_found a x id v b h is =
     variable_resolved a x id b h
     ∙ ap (λ o. variable_value with_work a.bundle (work a.bundle) a.environment x o b) is
-    ∙ variable_value_some a.bundle (work a.bundle) a.environment (on_path a.path) x v b
+    ∙ variable_value_some a.bundle (work a.bundle) a.environment a.path x v b
 
 pub value_lost : {K : Type 0} (a : Status K) (x : Inline) (id : Text) (m : Map (Value Text)) (b : Budget) → x ≡ variable id → a.environment ≡ application m → get id m ≡ None → walked a (resolving x) b ≡ tells (lost_of x) (given error_value b)
 unfolding valuing
 value_lost a x id m b h env is =
     variable_resolved a x id b h
     ∙ ap (λ o. variable_value with_work a.bundle (work a.bundle) a.environment x o b) (ap (λ e. get id (variables e)) env ∙ is)
-    ∙ variable_value_none a.bundle (work a.bundle) a.environment (on_path a.path) x b
+    ∙ variable_value_none a.bundle (work a.bundle) a.environment a.path x b
     ∙ ap (λ e. mapping (λ t. error_value) (missing with_work a.bundle (work a.bundle) a.environment e x b)) env
-    ∙ ap (mapping (λ t. error_value)) (missing_application a.bundle (work a.bundle) a.environment (on_path a.path) m x b)
+    ∙ ap (mapping (λ t. error_value)) (missing_application a.bundle (work a.bundle) a.environment a.path m x b)
 
 pub value_unseen : {K : Type 0} (a : Status K) (x : Inline) (id : Text) (m : Map (Value Text)) (b : Budget) → x ≡ variable id → a.environment ≡ local m → get id m ≡ None → walked a (resolving x) b ≡ given error_value b
 unfolding valuing
 value_unseen a x id m b h env is =
     variable_resolved a x id b h
     ∙ ap (λ o. variable_value with_work a.bundle (work a.bundle) a.environment x o b) (ap (λ e. get id (variables e)) env ∙ is)
-    ∙ variable_value_none a.bundle (work a.bundle) a.environment (on_path a.path) x b
+    ∙ variable_value_none a.bundle (work a.bundle) a.environment a.path x b
     ∙ ap (λ e. mapping (λ t. error_value) (missing with_work a.bundle (work a.bundle) a.environment e x b)) env
-    ∙ ap (mapping (λ t. error_value)) (missing_local a.bundle (work a.bundle) a.environment (on_path a.path) m x b)
+    ∙ ap (mapping (λ t. error_value)) (missing_local a.bundle (work a.bundle) a.environment a.path m x b)
 
 -- FUNCTIONS
 
@@ -234,8 +234,8 @@ answer_lost a x id vs m b h = by_case (function_found (get id a.bundle.ids)) ref
     by_case : (o : Option (Function Text)) → function_found (get id a.bundle.ids) ≡ o → None ≡ option_map (λ g. g vs m) o → walked a (answering x id vs m) b ≡ walked a (losing x) b
     by_case None is h =
         ap (λ o. function_text with_work a.bundle (work a.bundle) a.environment x o vs m b) is
-        ∙ function_text_none a.bundle (work a.bundle) a.environment (on_path a.path) x vs m b
-        ∙ sym (loses_is a.bundle (work a.bundle) a.environment (on_path a.path) x b)
+        ∙ function_text_none a.bundle (work a.bundle) a.environment a.path x vs m b
+        ∙ sym (loses_is a.bundle (work a.bundle) a.environment a.path x b)
     by_case (Some g) is h = cc
 
 pub answer_is : {K : Type 0} (a : Status K) (x : Inline) (id : Text) (vs : List (Value Text)) (m : Map (Value Text)) (v : Value Text) (b : Budget) → Some v ≡ option_map (λ g. g vs m) (function_found (get id a.bundle.ids)) → walked a (answering x id vs m) b ≡ answer_text with_work a.bundle (work a.bundle) a.environment x v b
@@ -245,7 +245,7 @@ answer_is a x id vs m v b h = by_case (function_found (get id a.bundle.ids)) ref
     by_case None is h = cc
     by_case (Some g) is h =
         ap (λ o. function_text with_work a.bundle (work a.bundle) a.environment x o vs m b) is
-        ∙ function_text_some a.bundle (work a.bundle) a.environment (on_path a.path) x g vs m b
+        ∙ function_text_some a.bundle (work a.bundle) a.environment a.path x g vs m b
         ∙ ap (λ w. answer_text with_work a.bundle (work a.bundle) a.environment x w b) (same v (g vs m) h)
       where
         same : (v w : Value Text) → Some v ≡ Some w → w ≡ v
@@ -273,28 +273,23 @@ expressing e s f env path = expression with_work s f env path e
 pub inline_at : {K : Type 0} (a : Status K) (e : of_expression.Expression) (x : of_inline.InlineExpression) (b : Budget) → e ≡ expressions.Inline x → walked a (expressing (expression_view e)) b ≡ walked a (writing (inline_view x)) b
 inline_at a e x b h =
     ap (λ v. walked a (expressing v) b) (view_in e x h)
-    ∙ expression_inline a.bundle (work a.bundle) a.environment (on_path a.path) (inline_view x) b
+    ∙ expression_inline a.bundle (work a.bundle) a.environment a.path (inline_view x) b
 
 -- the walk of a variant that was chosen
 abbrev pub chosen_walk : {K : Type 0} → Status K → Option Pattern → Budget → Worked Text
-chosen_walk a = meant a.bundle (work a.bundle) a.environment (on_path a.path)
+chosen_walk a = meant a.bundle (work a.bundle) a.environment a.path
 
 pub selecting_at : {K : Type 0} (a : Status K) (x : of_inline.InlineExpression) (vs : List Variant) (b : Budget) → walked a (expressing (select (inline_view x) (variants_of (map variant_view vs)))) b ≡ and_then (walked a (choosing (inline_view x) (variants_of (map variant_view vs))) b) (chosen_walk a)
 selecting_at a x vs b =
     let all = variants_of (map variant_view vs) in
     let goes : Value Text → Option Pattern = λ v. choice (goes_to a.bundle v) (first_default all) all in
     let value = walked a (resolving (inline_view x)) b in
-    let means : (v : Value Text) (n : Budget) → chosen a.bundle (work a.bundle) a.environment (on_path a.path) all v n ≡ chosen_walk a (goes v) n = λ v n. ap (λ m. m n) (chosen_is a.bundle (work a.bundle) a.environment (on_path a.path) all v (goes v) refl) in
-    expression_select a.bundle (work a.bundle) a.environment (on_path a.path) (inline_view x) all b
-    ∙ and_then_is value (chosen a.bundle (work a.bundle) a.environment (on_path a.path) all) (λ v. chosen_walk a (goes v)) means
+    let means : (v : Value Text) (n : Budget) → chosen a.bundle (work a.bundle) a.environment a.path all v n ≡ chosen_walk a (goes v) n = λ v n. ap (λ m. m n) (chosen_is a.bundle (work a.bundle) a.environment a.path all v (goes v) refl) in
+    expression_select a.bundle (work a.bundle) a.environment a.path (inline_view x) all b
+    ∙ and_then_is value (chosen a.bundle (work a.bundle) a.environment a.path all) (λ v. chosen_walk a (goes v)) means
     ∙ sym (mapping_then goes value (chosen_walk a))
 
 -- REFERENCES
-
-pub on_path_more : (ps : List (Option Step)) (x : Step) → on_path (ps ++ Some x ∷ []) ≡ on_path ps ++ content_at x ∷ []
-on_path_more [] x = refl
-on_path_more (None ∷ ps) x = on_path_more ps x
-on_path_more (Some y ∷ ps) x = ap (λ xs. content_at y ∷ xs) (on_path_more ps x)
 
 abbrev pub going : Inline → Pattern → Walk Text
 going x p s f env path = go with_work s f env (is_on path p) env path x p
@@ -302,40 +297,61 @@ going x p s f env path = go with_work s f env (is_on path p) env path x p
 abbrev pub wholing : Pattern → Walk Text
 wholing p s f env path = whole with_work s f env path p
 
-pub cyclic_at : {K : Type 0} (a : Status K) (x : Inline) (p : Pattern) → is_on (on_path a.path) p ≡ true → from_here a (going x p) ≡ tells (resolver_error cyclic ∷ []) (given (in_braces (fallback x)) a.budget)
-cyclic_at a x p h = go_cyclic a.bundle (work a.bundle) a.environment (on_path a.path) a.environment x p a.budget h
-
-pub entered_at : {K : Type 0} → CountsByItself Text → (a b : Status K) (x : Inline) (p : Step) → is_on (on_path a.path) (content_at p) ≡ false → b.path ≡ a.path ++ Some p ∷ [] → Elsewhere a b → from_here a (going x (content_at p)) ≡ from_here b (wholing (content_at p))
-entered_at law a b x p off entered before =
-    let q = content_at p in
-    go_entered law a.bundle a.environment (on_path a.path) a.environment x q a.budget off
-    ∙ sym (
-    ap (λ s. whole with_work s (work s) b.environment (on_path b.path) q b.budget) before.bundle
-    ∙ ap (λ e. whole with_work a.bundle (work a.bundle) e (on_path b.path) q b.budget) before.environment
-    ∙ ap (λ way. whole with_work a.bundle (work a.bundle) a.environment way q b.budget) (ap on_path entered ∙ on_path_more a.path p)
-    ∙ ap (λ n. whole with_work a.bundle (work a.bundle) a.environment (on_path a.path ++ q ∷ []) q n) before.budget)
+pub cyclic_at : {K : Type 0} (a : Status K) (x : Inline) (p : Pattern) → is_on a.path p ≡ true → from_here a (going x p) ≡ tells (resolver_error cyclic ∷ []) (given (in_braces (fallback x)) a.budget)
+cyclic_at a x p h = go_cyclic a.bundle (work a.bundle) a.environment a.path a.environment x p a.budget h
 
 abbrev pub elementing : Pattern → Walk Text
 elementing p s f env path = elements with_work s f env path (has_one p) p
 
 -- a pattern is its elements, under the path that it begins
-pub begun_at : {K : Type 0} (a b : Status K) (p : Pattern) → on_path b.path ≡ inner (on_path a.path) p → Elsewhere a b → from_here a (wholing p) ≡ entering (length (on_path b.path)) (from_here b (elementing p))
+pub begun_at : {K : Type 0} (a b : Status K) (p : Pattern) → b.path ≡ inner a.path p → Elsewhere a b → from_here a (wholing p) ≡ entering (length b.path) (from_here b (elementing p))
 begun_at a b p begun before =
-    whole_is a.bundle (work a.bundle) a.environment (on_path a.path) p a.budget
+    whole_is a.bundle (work a.bundle) a.environment a.path p a.budget
     ∙ sym (
-    ap (λ s. entering (length (on_path b.path)) (elements with_work s (work s) b.environment (on_path b.path) (has_one p) p b.budget)) before.bundle
-    ∙ ap (λ e. entering (length (on_path b.path)) (elements with_work a.bundle (work a.bundle) e (on_path b.path) (has_one p) p b.budget)) before.environment
+    ap (λ s. entering (length b.path) (elements with_work s (work s) b.environment b.path (has_one p) p b.budget)) before.bundle
+    ∙ ap (λ e. entering (length b.path) (elements with_work a.bundle (work a.bundle) e b.path (has_one p) p b.budget)) before.environment
     ∙ ap (λ way. entering (length way) (elements with_work a.bundle (work a.bundle) a.environment way (has_one p) p b.budget)) begun
-    ∙ ap (λ n. entering (length (inner (on_path a.path) p)) (elements with_work a.bundle (work a.bundle) a.environment (inner (on_path a.path) p) (has_one p) p n)) before.budget)
+    ∙ ap (λ n. entering (length (inner a.path p)) (elements with_work a.bundle (work a.bundle) a.environment (inner a.path p) (has_one p) p n)) before.budget)
 
 -- the path is as it was before a pattern began
 pub back : {K : Type 0} (begun : Bool) (p : Pattern) {a b d e : Status K} → StartsPattern begun p a b → d.path ≡ b.path → EndsPattern begun d e → e.path ≡ a.path
 back true p h k j = j.off ∙ sym h.put
 back false p h k j = j.kept ∙ k ∙ h.kept
 
+if_put : {E X : Type 0} {r : Result Bool E} → r ≡ Ok true → IfOk r (λ put. OnTrue put X) → X
+if_put {X = X} is h = subst (λ r. IfOk r (λ put. OnTrue put X)) is h
+
+if_off : {E X : Type 0} {r : Result Bool E} → r ≡ Ok false → IfOk r (λ put. OnFalse put X) → X
+if_off {X = X} is h = subst (λ r. IfOk r (λ put. OnFalse put X)) is h
+
+-- a pattern that is off the path is its elements, under the path that it ends; one that refers to nothing may be left off
+pub entered_at : {E K : Type 0} → CountsByItself Text → (r : Result Bool E) (put : Bool) (a b : Status K) (x : Inline) (p : Pattern) → is_on a.path p ≡ false → r ≡ Ok put → Enters r p a b → from_here a (going x p) ≡ entering (length (a.path ++ p ∷ [])) (from_here b (elementing p))
+entered_at law r put a b x p off is h =
+    let under = a.path ++ p ∷ [] in
+    let before = h.elsewhere in
+    go_entered law a.bundle (a.environment) a.path a.environment x p a.budget off
+    ∙ whole_is a.bundle (work a.bundle) a.environment under p a.budget
+    ∙ ap (λ way. entering (length way) (elements with_work a.bundle (work a.bundle) a.environment way (has_one p) p a.budget)) (inner_longer a.path p p)
+    ∙ by put is
+    ∙ sym (
+    ap (λ s. entering (length under) (elements with_work s (work s) b.environment b.path (has_one p) p b.budget)) before.bundle
+    ∙ ap (λ e. entering (length under) (elements with_work a.bundle (work a.bundle) e b.path (has_one p) p b.budget)) before.environment
+    ∙ ap (λ n. entering (length under) (elements with_work a.bundle (work a.bundle) a.environment b.path (has_one p) p n)) before.budget)
+  where
+    by : (put : Bool) → r ≡ Ok put → entering (length (a.path ++ p ∷ [])) (elements with_work a.bundle (work a.bundle) a.environment (a.path ++ p ∷ []) (has_one p) p a.budget) ≡ entering (length (a.path ++ p ∷ [])) (elements with_work a.bundle (work a.bundle) a.environment b.path (has_one p) p a.budget)
+    by true is = ap (λ way. entering (length (a.path ++ p ∷ [])) (elements with_work a.bundle (work a.bundle) a.environment way (has_one p) p a.budget)) (sym (if_put is h.entered))
+    by false is =
+        entering_bare a.bundle (work a.bundle) a.environment a.path (has_one p) p a.budget (if_off is h.others) (if_off is h.bare)
+        ∙ ap (λ way. entering (length (a.path ++ p ∷ [])) (elements with_work a.bundle (work a.bundle) a.environment way (has_one p) p a.budget)) (sym (if_off is h.same))
+
+-- and the path is left as it was
+pub left_again : {E K : Type 0} (r : Result Bool E) (put : Bool) (p : Pattern) {a b d e : Status K} → r ≡ Ok put → Enters r p a b → d.path ≡ b.path → Leaves put d e → e.path ≡ a.path
+left_again r true p {a = a} is h k j = j.left a.path p (k ∙ if_put is h.entered)
+left_again r false p is h k j = j.kept ∙ k ∙ if_off is h.same
+
 -- what a term's pattern gives in the environment that its arguments make
 abbrev pub inside : {K : Type 0} → Status K → Inline → Text → Attribute → Map (Value Text) → Budget → Worked Text
-inside a x t at m b = follow with_work a.bundle (work a.bundle) a.environment (local m) (on_path a.path) x t (term_target (get t a.bundle.ids) at) b
+inside a x t at m b = follow with_work a.bundle (work a.bundle) a.environment (local m) a.path x t (term_target (get t a.bundle.ids) at) b
 
 abbrev pub locals : Call → Walk (Map (Value Text))
 locals k s f env path = local_of with_work s f env path k
@@ -343,7 +359,7 @@ locals k s f env path = local_of with_work s f env path k
 pub term_at : {K : Type 0} (a : Status K) (x : Inline) (t : Text) (at : Attribute) (k : Call) (b : Budget) → x ≡ term t at k → walked a (writing x) b ≡ and_then (walked a (locals k) b) (inside a x t at)
 term_at a x t at k b h =
     subst (λ x. walked a (writing x) b ≡ and_then (walked a (locals k) b) (inside a x t at)) (sym h)
-    (written_term a.bundle (work a.bundle) a.environment (on_path a.path) t at k b)
+    (written_term a.bundle (work a.bundle) a.environment a.path t at k b)
 
 abbrev pub following : Inline → Text → Target → Walk Text
 following x id g s f env path = follow with_work s f env env path x id g
@@ -360,12 +376,12 @@ follow_in s f env env' other path x id (found p) b = go_in (is_on path p)
 
 pub inside_at : {K : Type 0} (a c : Status K) (x : Inline) (t : Text) (at : Attribute) (m : Map (Value Text)) (g : Target) → c.bundle ≡ a.bundle → c.path ≡ a.path → c.environment ≡ local m → g ≡ term_target (get t a.bundle.ids) at → inside a x t at m c.budget ≡ from_here c (following x t g)
 inside_at a c x t at m g hb hp he hg =
-    follow_in a.bundle (work a.bundle) a.environment (local m) (local m) (on_path a.path) x t (term_target (get t a.bundle.ids) at) c.budget
+    follow_in a.bundle (work a.bundle) a.environment (local m) (local m) a.path x t (term_target (get t a.bundle.ids) at) c.budget
     ∙ sym (
-    ap (λ s. follow with_work s (work s) c.environment c.environment (on_path c.path) x t g c.budget) hb
-    ∙ ap (λ e. follow with_work a.bundle (work a.bundle) e e (on_path c.path) x t g c.budget) he
-    ∙ ap (λ p. follow with_work a.bundle (work a.bundle) (local m) (local m) (on_path p) x t g c.budget) hp
-    ∙ ap (λ g. follow with_work a.bundle (work a.bundle) (local m) (local m) (on_path a.path) x t g c.budget) hg)
+    ap (λ s. follow with_work s (work s) c.environment c.environment c.path x t g c.budget) hb
+    ∙ ap (λ e. follow with_work a.bundle (work a.bundle) e e c.path x t g c.budget) he
+    ∙ ap (λ p. follow with_work a.bundle (work a.bundle) (local m) (local m) p x t g c.budget) hp
+    ∙ ap (λ g. follow with_work a.bundle (work a.bundle) (local m) (local m) a.path x t g c.budget) hg)
 
 -- a pattern of texts alone has no placeable
 pub no_placeable : (es : List PatternElement) (i : ℕ) (e : PatternElement) (x : Expression) → IsTextAlone (pattern_of (map element_view es)) → i < length es → e ≡ get_or es i e → element_view e ≡ placeable x → ⊥
@@ -389,7 +405,7 @@ valued a id p b = given (function_value with_work a.bundle (work a.bundle) a.env
 pub function_at : {K : Type 0} (a : Status K) (x : Inline) (id : Text) (k : Arguments) (b : Budget) → x ≡ function id k → walked a (writing x) b ≡ and_then (walked a (calling k) b) (λ p. walked a (answering x id p.0 p.1))
 function_at a x id k b h =
     subst (λ x. walked a (writing x) b ≡ and_then (walked a (calling k) b) (λ p. walked a (answering x id p.0 p.1))) (sym h)
-    (written_function a.bundle (work a.bundle) a.environment (on_path a.path) id k b)
+    (written_function a.bundle (work a.bundle) a.environment a.path id k b)
 
 -- the value of a function's answer, an error where there is none
 pub answered_value : {C K : Type 0} (content : C → Text) (a : Status K) (id : Text) (vs : List (Value Text)) (m : Map (Value Text)) (o : Option (FluentValue C)) → option_map (value_view content) o ≡ option_map (λ g. g vs m) (function_found (get id a.bundle.ids)) → value_view content (unwrap_or o values.Error) ≡ function_value with_work a.bundle (work a.bundle) a.environment (function_found (get id a.bundle.ids)) vs m

@@ -1,5 +1,5 @@
 -- How far a call of the resolver went along a walk.
-use Rattle.std.specs.Prelude.{◌≡◌, ℕ, zero, suc, ◌+◌, max, List, [], ◌∷◌, ◌++◌, length, Bool, true, false, Option, None, Some, Result, OnOk, OnErr, IfOk}
+use Rattle.std.specs.Prelude.{◌≡◌, ◌≢◌, ℕ, zero, suc, ◌+◌, max, List, [], ◌∷◌, ◌++◌, length, Bool, true, false, Option, None, Some, Result, OnOk, OnErr, IfOk}
 use Rattle.std.specs.Bool.{OnTrue, OnFalse}
 use Rattle.std.specs.Io.KnownBytes.{Appends}
 use Rattle.fluent_tree.specs.Tree.{Text, Pattern, Inline}
@@ -12,8 +12,7 @@ use Rattle.fluent_meaning.specs.Walk.{Environment, application, inner}
 use Rattle.fluent_meaning.specs.Meaning.{Budget, left, struck, at_most}
 use Rattle.fluent_meaning.specs.Work.{Worked, counting, work}
 use Rattle.fluent_resolver.specs.Status.{Status, Tally, counted, with_errors, Keeps, Spends}
-use Rattle.fluent_resolver.specs.Trail.{on_path}
-use Rattle.fluent_resolver.specs.declared.path.Step.{Step}
+use Rattle.fluent_entries.specs.Linking.{RefersToNothing}
 use Rattle.fluent_values.specs.declared.output.Halt.{Halt}
 use Rattle.fluent_values.specs.Written.{Sink, CountsTell}
 
@@ -37,7 +36,7 @@ Walk A = Bundle Text → Below → Environment Text → List Pattern → Budget 
 
 -- what a walk does from here, with this budget
 abbrev pub walked : {A B : Type 0} → Status B → Walk A → Budget → Worked A
-walked s walk b = walk s.bundle (work s.bundle) s.environment (on_path s.path) b
+walked s walk b = walk s.bundle (work s.bundle) s.environment s.path b
 
 abbrev pub from_here : {A B : Type 0} → Status B → Walk A → Worked A
 from_here s walk = walked s walk s.budget
@@ -186,10 +185,10 @@ pub record TakesOne {B : Type 0} (opens : Bool) (s s' : Status B) : Type 0 where
 
 -- a pattern begins, which the path holds where it held none, and it is counted
 pub record StartsPattern {B : Type 0} (begun : Bool) (p : Pattern) (s s' : Status B) : Type 0 where
-  pub path : on_path s'.path ≡ inner (on_path s.path) p
+  pub path : s'.path ≡ inner s.path p
   pub put : OnTrue begun (s.path ≡ [])
   pub kept : OnFalse begun (s'.path ≡ s.path)
-  pub tally : s'.tally ≡ record { opened = s.tally.opened; longest = counted (max s.tally.longest (length (on_path s'.path))); entered = counted (s.tally.entered + 1) }
+  pub tally : s'.tally ≡ record { opened = s.tally.opened; longest = counted (max s.tally.longest (length s'.path)); entered = counted (s.tally.entered + 1) }
   pub elsewhere : Elsewhere s s'
 
 -- the path is left as it was before the pattern
@@ -199,15 +198,20 @@ pub record EndsPattern {B : Type 0} (begun : Bool) (s s' : Status B) : Type 0 wh
   pub tally : s'.tally ≡ s.tally
   pub elsewhere : Elsewhere s s'
 
--- a pattern was put on the path, or none, where the answer is no Ok
-pub record Enters {T E B : Type 0} (result : Result T E) (x : Step) (s s' : Status B) : Type 0 where
-  pub entered : OnOk result (s'.path ≡ s.path ++ Some x ∷ [])
+-- A pattern was entered, and counted with the path that it ends: it was put on the path, or it refers to nothing and others stand there. Where the answer is no Ok, it was not.
+pub record Enters {E B : Type 0} (result : Result Bool E) (p : Pattern) (s s' : Status B) : Type 0 where
+  pub entered : IfOk result (λ put. OnTrue put (s'.path ≡ s.path ++ p ∷ []))
+  pub same : IfOk result (λ put. OnFalse put (s'.path ≡ s.path))
+  pub others : IfOk result (λ put. OnFalse put (s.path ≢ []))
+  pub bare : IfOk result (λ put. OnFalse put (RefersToNothing p))
   pub refused : OnErr result (s'.path ≡ s.path)
-  pub tally : s'.tally ≡ s.tally
+  pub tally : OnOk result (s'.tally ≡ record { opened = s.tally.opened; longest = counted (max s.tally.longest (length (s.path ++ p ∷ []))); entered = counted (s.tally.entered + 1) })
+  pub still : OnErr result (s'.tally ≡ s.tally)
   pub elsewhere : Elsewhere s s'
 
--- the last pattern was taken off the path
-pub record Leaves {B : Type 0} (s s' : Status B) : Type 0 where
-  pub left : (before : List (Option Step)) → (last : Option Step) → s.path ≡ before ++ last ∷ [] → s'.path ≡ before
+-- the last pattern was taken off the path, if it was put there
+pub record Leaves {B : Type 0} (put : Bool) (s s' : Status B) : Type 0 where
+  pub left : OnTrue put ((before : List Pattern) → (last : Pattern) → s.path ≡ before ++ last ∷ [] → s'.path ≡ before)
+  pub kept : OnFalse put (s'.path ≡ s.path)
   pub tally : s'.tally ≡ s.tally
   pub elsewhere : Elsewhere s s'

@@ -14,18 +14,18 @@ use Rattle.fluent_meaning.specs.Walk.{Environment, application, local}
 use Rattle.fluent_meaning.specs.Meaning.{Budget, left, struck, at_most}
 use Rattle.fluent_entries.specs.EntryView.{ids}
 use Rattle.fluent_entries.specs.Numbered.{numbers, table}
-use Rattle.fluent_resolver.specs.Trail.{trail}
+use Rattle.fluent_resolver.specs.Trail.{on_path}
 use Rattle.fluent_values.specs.View.{error_view, named}
 use Rattle.fluent_values.specs.declared.args.FluentArgs.{FluentArgs}
 use Rattle.fluent_entries.specs.declared.errors.FluentError.{FluentError}
 use Rattle.fluent_entries.specs.declared.ids.Ids.{Ids}
 use Rattle.fluent_resolver.specs.declared.environment.Environment as environments
 use Rattle.fluent_resolver.specs.declared.environment.Environment.TheVariants as environment
-use Rattle.fluent_resolver.specs.declared.path.Step.{Step}
 use Rattle.fluent_resolver.specs.declared.scope.Budget as budgets
 use Rattle.fluent_resolver.specs.declared.scope.Budget.TheVariants as budget
 use Rattle.fluent_resolver.specs.declared.scope.Counts.{Counts}
 use Rattle.fluent_resolver.specs.declared.scope.Scope.{Scope}
+use Rattle.fluent_resolver.specs.declared.state.State.{State}
 
 -- no arguments are an empty map
 abbrev pub arguments_view : {C : Type 0} → (C → Text) → Option (Bor (FluentArgs C)) → Map (Value Text)
@@ -79,12 +79,12 @@ pub record Stored : Type 0 where
 abbrev pub stored_in : {F : Type 0} → Ids F → Stored
 stored_in m = record { numbers = numbers m; table = table m }
 
--- Its bundle, and which borrow that is; its environment, its path, what stands in its list of errors and which borrow that is, its budget, and what it counted.
+-- Its bundle, and which borrow that is; its environment, the contents on its path, what stands in its list of errors and which borrow that is, its budget, and what it counted.
 pub record Status (B : Type 0) : Type 0 where
   pub bundle : Bundle Text
   pub borrow : Bor B
   pub environment : Environment Text
-  pub path : List (Option Step)
+  pub path : List t.Pattern
   pub errors : Option (List Error)
   pub list : Option ℕ
   pub budget : Budget
@@ -93,43 +93,43 @@ pub record Status (B : Type 0) : Type 0 where
   -- whether the bundle changes no text
   pub is_plain : Bool
 
--- What a scope holds.
-pub record ScopeParts (C F B : Type 0) : Type 0 where
+-- What the state of a call holds.
+pub record StateParts (C F B : Type 0) : Type 0 where
   pub errors : Option (MutBor (Vec FluentError Global))
   pub bundle : Bor B
   pub ids : Ids F
   pub environment : environments.Environment C
-  pub path : List (Option Step)
+  pub path : List t.Pattern
   pub budget : budgets.Budget
   pub counts : Counts
 
-unfoldable pub scope_parts : {C F B : Type 0} → Scope C F B → ScopeParts C F B
-scope_parts s = record {
+unfoldable pub state_parts : {C F B : Type 0} → State C F B → StateParts C F B
+state_parts s = record {
   errors = s.errors;
   bundle = s.bundle;
   ids = s.ids.now;
   environment = s.environment;
-  path = trail s.path;
+  path = on_path (table s.ids.now) s.path;
   budget = s.budget;
   counts = s.counts;
 }
 
--- the list of errors that it was given, its bundle, the ids of that, and what it counted
+unfoldable pub scope_parts : {C F B : Type 0} → Scope C F B → StateParts C F B
+unfolding state_parts
+scope_parts s = state_parts s.state
+
+-- the list of errors that it was given, its bundle, and what it counted
 abbrev pub errors_in : {C F B : Type 0} → Scope C F B → Option (MutBor (Vec FluentError Global))
 errors_in s = (scope_parts s).errors
 
 abbrev pub bundle_in : {C F B : Type 0} → Scope C F B → Bor B
 bundle_in s = (scope_parts s).bundle
 
-abbrev pub ids_in : {C F B : Type 0} → Scope C F B → Ids F
-ids_in s = (scope_parts s).ids
-
 abbrev pub counts_in : {C F B : Type 0} → Scope C F B → Counts
 counts_in s = (scope_parts s).counts
 
-abbrev pub status : {C F B : Type 0} → (B → Bundle Text) → (B → Bool) → (F → Function Text) → (C → Text) → Scope C F B → Status B
-status meant is_plain answer content s =
-    let of = scope_parts s in
+abbrev pub status_of : {C F B : Type 0} → (B → Bundle Text) → (B → Bool) → (F → Function Text) → (C → Text) → StateParts C F B → Status B
+status_of meant is_plain answer content of =
     record {
       bundle = with_ids (meant of.bundle.now) (ids answer of.ids);
       borrow = of.bundle;
@@ -142,6 +142,13 @@ status meant is_plain answer content s =
       stored = stored_in of.ids;
       is_plain = is_plain of.bundle.now;
     }
+
+-- of a call while it resolves, and of a scope
+abbrev pub state : {C F B : Type 0} → (B → Bundle Text) → (B → Bool) → (F → Function Text) → (C → Text) → State C F B → Status B
+state meant is_plain answer content s = status_of meant is_plain answer content (state_parts s)
+
+abbrev pub status : {C F B : Type 0} → (B → Bundle Text) → (B → Bool) → (F → Function Text) → (C → Text) → Scope C F B → Status B
+status meant is_plain answer content s = status_of meant is_plain answer content (scope_parts s)
 
 -- What was opened was taken from the budget: both together are what they were, struck stays struck, and no count falls.
 pub record Spends {B : Type 0} (s s' : Status B) : Type 0 where

@@ -11,7 +11,6 @@ use Rattle.fluent_meaning.specs.Result.{arguments_of}
 use Rattle.fluent_meaning.specs.Work.{with_work}
 use Rattle.fluent_resolver.specs.Along.{Walk, from_here, lost_of}
 use Rattle.fluent_resolver.specs.Status.{Status}
-use Rattle.fluent_resolver.specs.Trail.{on_path}
 
 -- the pattern that an expression refers to
 abbrev pub tracks : Pattern → Inline → Walk Text
@@ -50,4 +49,4 @@ are_none _ = false
 
 -- From a scope, a walk is this run beside its counts.
 abbrev pub Runs : {A B : Type 0} → Status B → Walk A → (Bundle Text → Environment Text → List Pattern → Budget → Ran A) → Type 0
-Runs s walk run = (from_here s walk).ran ≡ run s.bundle s.environment (on_path s.path) s.budget
+Runs s walk run = (from_here s walk).ran ≡ run s.bundle s.environment s.path s.budget

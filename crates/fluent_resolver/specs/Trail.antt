@@ -1,40 +1,40 @@
--- The patterns that are being written, and the numbers of their contents.
-use Rattle.std.specs.Prelude.{◌≡◌, ℕ, List, [], ◌∷◌, slice_get, Option, None, Some}
-use mathlib.Core.HLevel.{hedberg}
+-- The patterns that are being written, by content: the first, and those that the classes above it name.
+use Rattle.std.specs.Prelude.{◌≡◌, ℕ, Bool, true, List, [], ◌∷◌, map, slice_get, is_none, Option, None, Some}
+use Rattle.std.specs.List.{list_all}
+use Rattle.std.specs.Option.{option_map, unwrap_or}
 use Rattle.fluent_tree.specs.Tree as t
+use Rattle.fluent_tree.specs.Tree.{nothing}
+use Rattle.fluent_tree.specs.References.{references}
 use Rattle.fluent_tree.specs.View.{pattern_view}
-use Rattle.fluent_links.specs.Classes.{HasClass}
+use Rattle.fluent_links.specs.Linked.{are_some}
 use Rattle.fluent_resolver.specs.declared.path.Path.{Path}
-use Rattle.fluent_resolver.specs.declared.path.Step.{Step}
 
--- Which patterns stand on a path, as it holds them.
-abbrev pub trail_of : Option Step → List (Option Step) → List (Option Step)
-trail_of None others = []
-trail_of (Some x) others = Some x ∷ others
+-- the content that a class names; a pattern without elements, where it names none
+abbrev pub content_of : List t.Pattern → ℕ → t.Pattern
+content_of table c = unwrap_or (slice_get table c) nothing
 
-unfoldable pub trail : Path → List (Option Step)
-trail p = trail_of p.bottom p.others.items
+-- a first pattern, and those above it
+abbrev pub contents : List t.Pattern → Option t.Pattern → List ℕ → List t.Pattern
+contents table None cs = []
+contents table (Some p) cs = p ∷ map (content_of table) cs
 
--- the content of a step
-abbrev pub content_at : Step → t.Pattern
-content_at x = pattern_view x.pattern.now
+-- the contents on a path, of these stored ones
+unfoldable pub on_path : List t.Pattern → Path → List t.Pattern
+on_path table p = contents table (option_map (λ b. pattern_view b.now) p.bottom) p.above.items
 
--- the same of a path
-abbrev pub on_path : List (Option Step) → List t.Pattern
-on_path [] = []
-on_path (None ∷ xs) = on_path xs
-on_path (Some x ∷ xs) = content_at x ∷ on_path xs
+-- whether none stands there
+unfoldable pub is_idle : Path → Bool
+is_idle p = is_none p.bottom
 
 -- ---- classes
 
--- the number of a step's content, if it has one, is its class
-abbrev pub IsClassed : List t.Pattern → Step → Type 0
-IsClassed table x = (c : ℕ) → x.class ≡ Some c → HasClass table c (content_at x)
+unfoldable pub classes_on : Path → List ℕ
+classes_on p = p.above.items
 
--- the same of each step of a path
-abbrev pub AreClassed : List t.Pattern → List (Option Step) → Type 0
-AreClassed table xs = (k : ℕ) (x : Step) → slice_get xs k ≡ Some (Some x) → IsClassed table x
+-- whether a class is that of a content that refers to anything
+abbrev pub is_referring : List t.Pattern → ℕ → Bool
+is_referring table c = are_some (references (content_of table c))
 
--- contents are equal in one way at most
-pub content_set : IsSet t.Pattern
-content_set = hedberg t.pattern_same
+-- each of them is
+abbrev pub AreReferring : List t.Pattern → List ℕ → Type 0
+AreReferring table cs = list_all (is_referring table) cs ≡ true

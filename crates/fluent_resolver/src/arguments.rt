@@ -1,5 +1,5 @@
 //! Values: of arguments and of selectors.
-#![tactic(auto, unfolding(crate::specs::Status::scope_parts))]
+#![tactic(auto, unfolding(crate::specs::Status::state_parts))]
 
 ghost use Rattle.std.specs.Prelude.{◌≡◌, [], ◌∷◌, ◌++◌, map, IfOk, OnOk};
 ghost use Rattle.std.specs.Option.{option_map};
@@ -11,7 +11,7 @@ ghost use Rattle.fluent_meaning.specs.Walk.{written, resolved, called, local_of,
 ghost use Rattle.fluent_meaning.specs.Work.{with_work};
 ghost use Rattle.fluent_resolver.specs.Along.{Gave, Got, Wrote, mapping};
 ghost use Rattle.fluent_entries.specs.Numbered.{IsPlaced};
-ghost use Rattle.fluent_resolver.specs.Status.{status, arguments_view as given_arguments};
+ghost use Rattle.fluent_resolver.specs.Status.{arguments_view as given_arguments, state};
 ghost use Rattle.fluent_values.specs.View.{value_view, named};
 ghost use Rattle.fluent_values.specs.Written.{writer, beside};
 
@@ -19,7 +19,7 @@ use crate::environment::Environment;
 use crate::found::answer_of;
 use crate::gathered::Gathered;
 use crate::inline_expression::{report_lost, write_inline};
-use crate::scope::Scope;
+use crate::state::State;
 use fluent_links::Place;
 use fluent_text::{Counting, unescape_unicode_to_string};
 use fluent_tree::ast::{CallArguments, Identifier, InlineExpression, NamedArgument};
@@ -33,13 +33,13 @@ use std::io::Write;
 /// gives.
 #[cycle(resolve)]
 pub(crate) fn resolve<'p, 's, W: Write, C: FluentType, F: FluentFunction<C>, B: Context<C>>(
-    scope: &mut Scope<'_, 'p, '_, 's, '_, C, F, B>,
+    scope: &mut State<'_, 'p, '_, 's, '_, C, F, B>,
     w: &mut Counting<W>,
     inline: &'p InlineExpression<'s>,
     place: Place<'p>,
 ) -> Result<FluentValue<'p, C>, Halt>
     requires { IsPlaced scope.old.ids.now (in_inline (inline_view inline.now)) place }
-    ensures { let at = status B.meant B.is_plain F.answer C.content in
+    ensures { let at = state B.meant B.is_plain F.answer C.content in
         Gave result (value_view C.content)
         (λ b below env path. resolved with_work b below env path (inline_view inline.now))
         (writer W.contents w.old) (writer W.contents w.new) (at scope.old) (at scope.new) }
@@ -66,7 +66,7 @@ pub(crate) fn resolve<'p, 's, W: Write, C: FluentType, F: FluentFunction<C>, B: 
 /// a call may hold costs at its entry.
 #[cycle(resolve)]
 fn resolve_function<'p, 's, W: Write, C: FluentType, F: FluentFunction<C>, B: Context<C>>(
-    scope: &mut Scope<'_, 'p, '_, 's, '_, C, F, B>,
+    scope: &mut State<'_, 'p, '_, 's, '_, C, F, B>,
     w: &mut Counting<W>,
     inline: &InlineExpression<'_>,
     id: &Identifier<'_>,
@@ -76,7 +76,7 @@ fn resolve_function<'p, 's, W: Write, C: FluentType, F: FluentFunction<C>, B: Co
     requires view { inline_view inline.now
         ≡ function id.now.name.now (arguments_view arguments.now) }
     requires placed { IsPlaced scope.old.ids.now (in_inline (inline_view inline.now)) place }
-    ensures { let at = status B.meant B.is_plain F.answer C.content in
+    ensures { let at = state B.meant B.is_plain F.answer C.content in
         Gave result (value_view C.content)
         (λ b below env path. resolved with_work b below env path (inline_view inline.now))
         (writer W.contents w.old) (writer W.contents w.new) (at scope.old) (at scope.new) }
@@ -90,14 +90,14 @@ fn resolve_function<'p, 's, W: Write, C: FluentType, F: FluentFunction<C>, B: Co
 /// Writes what an inline expression gives to a text, and leaves the writer alone.
 #[cycle(resolve)]
 fn write_beside<'p, 's, W: Write, C: FluentType, F: FluentFunction<C>, B: Context<C>>(
-    scope: &mut Scope<'_, 'p, '_, 's, '_, C, F, B>,
+    scope: &mut State<'_, 'p, '_, 's, '_, C, F, B>,
     w: &mut Counting<W>,
     text: &mut String,
     inline: &'p InlineExpression<'s>,
     place: Place<'p>,
 ) -> Result<(), Halt>
     requires { IsPlaced scope.old.ids.now (in_inline (inline_view inline.now)) place }
-    ensures { let at = status B.meant B.is_plain F.answer C.content in
+    ensures { let at = state B.meant B.is_plain F.answer C.content in
         Wrote result
         (λ b below env path. written with_work b below env path (inline_view inline.now))
         (beside W.contents w.old text.old) (beside W.contents w.new text.new)
@@ -115,12 +115,12 @@ fn write_beside<'p, 's, W: Write, C: FluentType, F: FluentFunction<C>, B: Contex
 /// A copy of a variable's value. One that is missing is an error value, with the error that it has where it is
 /// written.
 fn resolve_variable<'p, C: FluentType, F: FluentFunction<C>, B: Context<C>>(
-    scope: &mut Scope<'_, 'p, '_, '_, '_, C, F, B>,
+    scope: &mut State<'_, 'p, '_, '_, '_, C, F, B>,
     inline: &InlineExpression<'_>,
     id: &Identifier<'_>,
 ) -> Result<FluentValue<'p, C>, AllocError>
     requires { inline_view inline.now ≡ variable id.now.name.now }
-    ensures { let at = status B.meant B.is_plain F.answer C.content in
+    ensures { let at = state B.meant B.is_plain F.answer C.content in
         Got result (value_view C.content)
         (λ b below env path. resolved with_work b below env path (inline_view inline.now))
         (at scope.old) (at scope.new) }
@@ -172,14 +172,14 @@ fn lent<'v, C: FluentType>(
 #[cycle(resolve)]
 #[inline(always)]
 pub(crate) fn resolve_local<'p, 's, W: Write, C: FluentType, F: FluentFunction<C>, B: Context<C>>(
-    scope: &mut Scope<'_, 'p, '_, 's, '_, C, F, B>,
+    scope: &mut State<'_, 'p, '_, 's, '_, C, F, B>,
     w: &mut Counting<W>,
     arguments: &'p Option<Box<CallArguments<'s>>>,
     place: Place<'p>,
 ) -> Result<FluentArgs<'p, C>, Halt>
     requires { let call = call_view arguments.now in
         IsPlaced scope.old.ids.now (in_call call) place }
-    ensures { let at = status B.meant B.is_plain F.answer C.content in
+    ensures { let at = state B.meant B.is_plain F.answer C.content in
         Gave result (named C.content)
         (λ b below env path. local_of with_work b below env path (call_view arguments.now))
         (writer W.contents w.old) (writer W.contents w.new) (at scope.old) (at scope.new) }
@@ -197,13 +197,13 @@ pub(crate) fn resolve_local<'p, 's, W: Write, C: FluentType, F: FluentFunction<C
 #[cycle(resolve)]
 #[inline(always)]
 pub(crate) fn resolve_call<'p, 's, W: Write, C: FluentType, F: FluentFunction<C>, B: Context<C>>(
-    scope: &mut Scope<'_, 'p, '_, 's, '_, C, F, B>,
+    scope: &mut State<'_, 'p, '_, 's, '_, C, F, B>,
     w: &mut Counting<W>,
     arguments: &'p CallArguments<'s>,
     place: Place<'p>,
 ) -> Result<(Vec<FluentValue<'p, C>>, FluentArgs<'p, C>), Halt>
     requires { IsPlaced scope.old.ids.now (in_arguments (arguments_view arguments.now)) place }
-    ensures { let at = status B.meant B.is_plain F.answer C.content in
+    ensures { let at = state B.meant B.is_plain F.answer C.content in
         Gave result (λ v. (map (value_view C.content) v.0.items, named C.content v.1))
         (λ b below env path. called with_work b below env path (arguments_view arguments.now))
         (writer W.contents w.old) (writer W.contents w.new) (at scope.old) (at scope.new) }
@@ -218,14 +218,14 @@ pub(crate) fn resolve_call<'p, 's, W: Write, C: FluentType, F: FluentFunction<C>
 #[cycle(resolve)]
 #[inline(always)]
 fn resolve_positional<'p, 's, W: Write, C: FluentType, F: FluentFunction<C>, B: Context<C>>(
-    scope: &mut Scope<'_, 'p, '_, 's, '_, C, F, B>,
+    scope: &mut State<'_, 'p, '_, 's, '_, C, F, B>,
     w: &mut Counting<W>,
     arguments: &'p [InlineExpression<'s>],
     place: Place<'p>,
 ) -> Result<Vec<FluentValue<'p, C>>, Halt>
     requires { IsPlaced scope.old.ids.now
         (in_positional (inlines_of (map inline_view arguments.now))) place }
-    ensures { let at = status B.meant B.is_plain F.answer C.content in
+    ensures { let at = state B.meant B.is_plain F.answer C.content in
         Gave result (λ v. map (value_view C.content) v.items)
         (λ b below env path. positional with_work b below env path
         (inlines_of (map inline_view arguments.now)))
@@ -258,14 +258,14 @@ fn push_value<'p, C: FluentType>(
 #[cycle(resolve)]
 #[inline(always)]
 fn resolve_named<'p, 's, W: Write, C: FluentType, F: FluentFunction<C>, B: Context<C>>(
-    scope: &mut Scope<'_, 'p, '_, 's, '_, C, F, B>,
+    scope: &mut State<'_, 'p, '_, 's, '_, C, F, B>,
     w: &mut Counting<W>,
     arguments: &'p [NamedArgument<'s>],
     place: Place<'p>,
 ) -> Result<FluentArgs<'p, C>, Halt>
     requires { IsPlaced scope.old.ids.now (in_named (nameds_of (map named_view arguments.now)))
         place }
-    ensures { let at = status B.meant B.is_plain F.answer C.content in
+    ensures { let at = state B.meant B.is_plain F.answer C.content in
         Gave result (named C.content)
         (λ b below env path n. mapping (λ m. set_all m [])
         (named_arguments with_work b below env path (nameds_of (map named_view arguments.now)) n))

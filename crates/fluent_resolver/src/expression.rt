@@ -1,5 +1,5 @@
 //! Expressions.
-#![tactic(auto, unfolding(crate::specs::Status::scope_parts))]
+#![tactic(auto, unfolding(crate::specs::Status::state_parts))]
 
 ghost use Rattle.std.specs.Prelude.{◌≡◌, map};
 ghost use Rattle.fluent_tree.specs.Fallback.{fallback, fallback_of};
@@ -11,12 +11,12 @@ ghost use Rattle.fluent_meaning.specs.Walk.{is_bare};
 ghost use Rattle.fluent_meaning.specs.Work.{with_work};
 ghost use Rattle.fluent_resolver.specs.Along.{Wrote};
 ghost use Rattle.fluent_entries.specs.Numbered.{IsPlaced};
-ghost use Rattle.fluent_resolver.specs.Status.{status};
+ghost use Rattle.fluent_resolver.specs.Status.{state};
 ghost use Rattle.fluent_values.specs.Written.{sink};
 
 use crate::inline_expression::write_inline;
 use crate::pattern::write_pattern;
-use crate::scope::Scope;
+use crate::state::State;
 use crate::variants::choose_variant;
 use fluent_links::Place;
 use fluent_tree::ast::{Expression, InlineExpression, Variant};
@@ -34,13 +34,13 @@ pub(crate) fn write_expression<
     F: FluentFunction<C>,
     B: Context<C>,
 >(
-    scope: &mut Scope<'_, 'p, '_, 's, '_, C, F, B>,
+    scope: &mut State<'_, 'p, '_, 's, '_, C, F, B>,
     out: &mut Output<W>,
     expression: &'p Expression<'s>,
     place: Place<'p>,
 ) -> Result<(), Halt>
     requires { IsPlaced scope.old.ids.now (in_expression (expression_view expression.now)) place }
-    ensures { let at = status B.meant B.is_plain F.answer C.content in
+    ensures { let at = state B.meant B.is_plain F.answer C.content in
         Wrote result
         (λ b below env path. walk.expression with_work b below env path
         (expression_view expression.now))
@@ -57,7 +57,7 @@ pub(crate) fn write_expression<
 /// Writes the variant that a selector's value goes to. It stands by itself, as what a call may hold costs at its entry.
 #[cycle(resolve)]
 fn write_select<'p, 's, W: Write, C: FluentType, F: FluentFunction<C>, B: Context<C>>(
-    scope: &mut Scope<'_, 'p, '_, 's, '_, C, F, B>,
+    scope: &mut State<'_, 'p, '_, 's, '_, C, F, B>,
     out: &mut Output<W>,
     selector: &'p InlineExpression<'s>,
     variants: &'p [Variant<'s>],
@@ -65,7 +65,7 @@ fn write_select<'p, 's, W: Write, C: FluentType, F: FluentFunction<C>, B: Contex
 ) -> Result<(), Halt>
     requires { let vs = variants_of (map variant_view variants.now) in
         IsPlaced scope.old.ids.now (in_expression (select (inline_view selector.now) vs)) place }
-    ensures { let at = status B.meant B.is_plain F.answer C.content in
+    ensures { let at = state B.meant B.is_plain F.answer C.content in
         let e = select (inline_view selector.now) (variants_of (map variant_view variants.now)) in
         Wrote result (λ b below env path. walk.expression with_work b below env path e)
         (sink W.contents out.old) (sink W.contents out.new) (at scope.old) (at scope.new) }

@@ -10,12 +10,10 @@ ghost use Rattle.fluent_meaning.specs.Bundle.{Function, message_target, term_tar
 ghost use Rattle.fluent_entries.specs.EntryView.{entry_of, ids as ids_of};
 ghost use Rattle.fluent_entries.specs.Linking.{IsLinked};
 ghost use Rattle.fluent_entries.specs.Named.{is_named};
-ghost use Rattle.fluent_resolver.specs.FoundView.{IsLed, IsLedBy, IsStoredBy, OfPattern, OfPatterns, OfValue, found_view};
+ghost use Rattle.fluent_resolver.specs.FoundView.{IsLed, IsLedBy, IsStoredBy, OfPattern, OfPatterns, OfValue, content_at, found_view};
 ghost use Rattle.fluent_entries.specs.Numbered.{IsNumberOf, IsPlaced, numbers, table};
-ghost use Rattle.fluent_resolver.specs.Trail.{content_at};
 ghost use Rattle.fluent_values.specs.View.{value_view, named};
 
-use crate::path::Step;
 use fluent_entries::{Entry, Ids, Slot};
 use fluent_links::{Linked, Place};
 use fluent_tree::ast::{Attribute, Identifier, Pattern};
@@ -23,10 +21,11 @@ use fluent_values::builtins::NUMBER;
 use fluent_values::{FluentArgs, FluentFunction, FluentType, FluentValue};
 use std::alloc::{AllocError, Global};
 
-/// A pattern that a reference leads to, and where it begins.
+/// A pattern that a reference leads to, the class of its content, if it refers to anything, and where it begins.
 #[derive(Clone, Copy, Drop)]
 pub struct Target<'p, 's> {
-    pub step: Step<'p, 's>,
+    pub pattern: &'p Pattern<'s>,
+    pub class: Option<u32>,
     pub place: Place<'p>,
 }
 
@@ -110,21 +109,20 @@ pub(crate) fn term<'p, 's, F>(
 impl<'p, 's> Target<'p, 's> {
     /// A pattern with what is kept of it. Of one of which nothing is kept, ids are looked up.
     fn of(pattern: &'p Pattern<'s>, linked: Option<&'p Linked>) -> Self
-        ensures content { content_at result.step ≡ pattern_view pattern.now }
+        ensures content { content_at result ≡ pattern_view pattern.now }
         ensures stored { (number : Text → Option ℕ) (table : List Content) →
             OfPattern number table (pattern_view pattern.now) linked.entry →
             IsStoredBy number table result }
     {
         match linked {
             Some(linked) => Target {
-                step: Step {
-                    pattern,
-                    class: linked.class(),
-                },
+                pattern,
+                class: linked.class(),
                 place: linked.place(),
             },
             None => Target {
-                step: Step::own(pattern),
+                pattern,
+                class: None,
                 place: Place::by_name(),
             },
         }

@@ -1,5 +1,5 @@
 //! Inline expressions.
-#![tactic(auto, unfolding(crate::specs::Status::scope_parts))]
+#![tactic(auto, unfolding(crate::specs::Status::state_parts))]
 
 ghost use Rattle.std.specs.Prelude.{◌≡◌, ◌≢◌, ◌<◌, ◌∷◌, [], map, Err, IsOk, None, false};
 ghost use Rattle.fluent_tree.specs.References.{a_function, in_inline};
@@ -12,11 +12,10 @@ ghost use Rattle.fluent_meaning.specs.Errors.{resolver_error, no_value, referenc
 ghost use Rattle.fluent_meaning.specs.Walk.{written, follow, go, is_on, loses, function_text};
 ghost use Rattle.fluent_meaning.specs.Work.{with_work};
 ghost use Rattle.fluent_resolver.specs.Along.{Wrote, ReportsIfOk, lost_of, shown_answer};
-ghost use Rattle.fluent_resolver.specs.FoundView.{IsLed, IsStored, found_view};
-ghost use Rattle.fluent_resolver.specs.Trail.{content_at};
+ghost use Rattle.fluent_resolver.specs.FoundView.{IsLed, IsStored, content_at, found_view};
 ghost use Rattle.fluent_entries.specs.Numbered.{IsPlaced};
 ghost use Rattle.fluent_resolver.specs.Sizes.{size, bound, IsBelow};
-ghost use Rattle.fluent_resolver.specs.Status.{status};
+ghost use Rattle.fluent_resolver.specs.Status.{state};
 ghost use Rattle.fluent_values.specs.View.{value_view, named};
 ghost use Rattle.fluent_values.specs.Written.{sink, SinkTook};
 
@@ -25,8 +24,8 @@ use crate::environment::Environment;
 use crate::expression::write_expression;
 use crate::fallback::{put_fallback, put_id_in_braces, put_in_braces};
 use crate::found::{self, Found, Target, answer_of};
-use crate::pattern::write_pattern;
-use crate::scope::Scope;
+use crate::pattern::write_elements;
+use crate::state::State;
 use fluent_links::Place;
 use fluent_meaning::laws::budgets_pass_through;
 use fluent_tree::ast::{CallArguments, Identifier, InlineExpression};
@@ -41,13 +40,13 @@ use std::mem;
 /// Writes what an inline expression gives.
 #[cycle(resolve)]
 pub(crate) fn write_inline<'p, 's, W: Write, C: FluentType, F: FluentFunction<C>, B: Context<C>>(
-    scope: &mut Scope<'_, 'p, '_, 's, '_, C, F, B>,
+    scope: &mut State<'_, 'p, '_, 's, '_, C, F, B>,
     out: &mut Output<W>,
     inline: &'p InlineExpression<'s>,
     place: Place<'p>,
 ) -> Result<(), Halt>
     requires { IsPlaced scope.old.ids.now (in_inline (inline_view inline.now)) place }
-    ensures { let at = status B.meant B.is_plain F.answer C.content in
+    ensures { let at = state B.meant B.is_plain F.answer C.content in
         Wrote result
         (λ b below env path. written with_work b below env path (inline_view inline.now))
         (sink W.contents out.old) (sink W.contents out.new) (at scope.old) (at scope.new) }
@@ -91,7 +90,7 @@ fn put_number<W: Write, C: FluentType, B: Context<C>>(
 /// Writes what a function answers to its arguments. It stands by itself, as what a call may hold costs at its entry.
 #[cycle(resolve)]
 fn write_function<'p, 's, W: Write, C: FluentType, F: FluentFunction<C>, B: Context<C>>(
-    scope: &mut Scope<'_, 'p, '_, 's, '_, C, F, B>,
+    scope: &mut State<'_, 'p, '_, 's, '_, C, F, B>,
     out: &mut Output<W>,
     inline: &'p InlineExpression<'s>,
     id: &Identifier<'_>,
@@ -101,7 +100,7 @@ fn write_function<'p, 's, W: Write, C: FluentType, F: FluentFunction<C>, B: Cont
     requires view { inline_view inline.now
         ≡ function id.now.name.now (arguments_view arguments.now) }
     requires placed { IsPlaced scope.old.ids.now (in_inline (inline_view inline.now)) place }
-    ensures { let at = status B.meant B.is_plain F.answer C.content in
+    ensures { let at = state B.meant B.is_plain F.answer C.content in
         Wrote result
         (λ b below env path. written with_work b below env path (inline_view inline.now))
         (sink W.contents out.old) (sink W.contents out.new) (at scope.old) (at scope.new) }
@@ -114,7 +113,7 @@ fn write_function<'p, 's, W: Write, C: FluentType, F: FluentFunction<C>, B: Cont
 #[cycle(resolve)]
 #[inline(never)]
 fn write_term<'p, 's, W: Write, C: FluentType, F: FluentFunction<C>, B: Context<C>>(
-    scope: &mut Scope<'_, 'p, '_, 's, '_, C, F, B>,
+    scope: &mut State<'_, 'p, '_, 's, '_, C, F, B>,
     out: &mut Output<W>,
     inline: &'p InlineExpression<'s>,
     id: &Identifier<'_>,
@@ -126,7 +125,7 @@ fn write_term<'p, 's, W: Write, C: FluentType, F: FluentFunction<C>, B: Context<
         ≡ term id.now.name.now (attribute_of attribute.now)
         (call_view arguments.now) }
     requires placed { IsPlaced scope.old.ids.now (in_inline (inline_view inline.now)) place }
-    ensures { let at = status B.meant B.is_plain F.answer C.content in
+    ensures { let at = state B.meant B.is_plain F.answer C.content in
         Wrote result
         (λ b below env path. written with_work b below env path (inline_view inline.now))
         (sink W.contents out.old) (sink W.contents out.new) (at scope.old) (at scope.new) }
@@ -143,16 +142,16 @@ fn write_term<'p, 's, W: Write, C: FluentType, F: FluentFunction<C>, B: Context<
 #[cycle(resolve)]
 #[inline(always)]
 fn follow<'p, 's, W: Write, C: FluentType, F: FluentFunction<C>, B: Context<C>>(
-    scope: &mut Scope<'_, 'p, '_, 's, '_, C, F, B>,
+    scope: &mut State<'_, 'p, '_, 's, '_, C, F, B>,
     out: &mut Output<W>,
     inline: &InlineExpression<'_>,
     id: &Identifier<'_>,
     found: Found<'p, 's>,
 ) -> Result<(), Halt>
-    requires below { IsBelow (bound (status B.meant B.is_plain F.answer C.content scope.old).bundle)
+    requires below { IsBelow (bound (state B.meant B.is_plain F.answer C.content scope.old).bundle)
         (found_view found) }
     requires led { IsLed scope.old.ids.now found }
-    ensures { let at = status B.meant B.is_plain F.answer C.content in
+    ensures { let at = state B.meant B.is_plain F.answer C.content in
         Wrote result
         (λ b below env path. follow with_work b below env env path
         (inline_view inline.now) id.now.name.now (found_view found.entry))
@@ -172,35 +171,35 @@ fn follow<'p, 's, W: Write, C: FluentType, F: FluentFunction<C>, B: Context<C>>(
 #[cycle(resolve)]
 #[inline(always)]
 fn go<'p, 's, W: Write, C: FluentType, F: FluentFunction<C>, B: Context<C>>(
-    scope: &mut Scope<'_, 'p, '_, 's, '_, C, F, B>,
+    scope: &mut State<'_, 'p, '_, 's, '_, C, F, B>,
     out: &mut Output<W>,
     inline: &InlineExpression<'_>,
     target: Target<'p, 's>,
 ) -> Result<(), Halt>
-    requires size { size (content_at target.step)
-        < bound (status B.meant B.is_plain F.answer C.content scope.old).bundle }
+    requires size { size (content_at target)
+        < bound (state B.meant B.is_plain F.answer C.content scope.old).bundle }
     requires stored { IsStored scope.old.ids.now target }
-    ensures { let at = status B.meant B.is_plain F.answer C.content in
+    ensures { let at = state B.meant B.is_plain F.answer C.content in
         Wrote result
         (λ b below env path. go with_work b below env
-        (is_on path (content_at target.entry.step)) env path (inline_view inline.now)
-        (content_at target.entry.step))
+        (is_on path (content_at target.entry)) env path (inline_view inline.now)
+        (content_at target.entry))
         (sink W.contents out.old) (sink W.contents out.new) (at scope.old) (at scope.new) }
 {
-    if scope.is_on(&target.step) {
+    if scope.is_on(target.pattern, target.class) {
         scope.add_error(ResolverError::Cyclic)?;
         return put_in_braces(out, inline);
     }
     budgets_pass_through::<LinkedList<u8>>();
-    scope.enter(target.step)?;
-    let written = write_pattern(scope, out, target.step.pattern, target.place);
-    scope.leave();
+    let put = scope.enter(target.pattern, target.class)?;
+    let written = write_elements(scope, out, target.pattern, target.place);
+    scope.leave(put);
     written
 }
 
 /// Writes what a function answers.
 fn put_answer<'p, W: Write, C: FluentType, F: FluentFunction<C>, B: Context<C>>(
-    scope: &mut Scope<'_, 'p, '_, '_, '_, C, F, B>,
+    scope: &mut State<'_, 'p, '_, '_, '_, C, F, B>,
     out: &mut Output<W>,
     inline: &InlineExpression<'_>,
     id: &Identifier<'_>,
@@ -209,7 +208,7 @@ fn put_answer<'p, W: Write, C: FluentType, F: FluentFunction<C>, B: Context<C>>(
     place: Place<'p>,
 ) -> Result<(), Halt>
     requires { IsPlaced scope.old.ids.now (a_function id.now.name.now ∷ []) place }
-    ensures { let at = status B.meant B.is_plain F.answer C.content in
+    ensures { let at = state B.meant B.is_plain F.answer C.content in
         Wrote result
         (λ b below env path. function_text with_work b below env (inline_view inline.now)
         (function_found (get id.now.name.now b.ids))
@@ -249,13 +248,13 @@ fn put_shown<W: Write, C: FluentType, B: Context<C>>(
 /// Writes the value of a variable. One that is missing shows its fallback in braces, and is an error where it is
 /// looked up among the application's arguments.
 fn write_variable<W: Write, C: FluentType, F: FluentFunction<C>, B: Context<C>>(
-    scope: &mut Scope<'_, '_, '_, '_, '_, C, F, B>,
+    scope: &mut State<'_, '_, '_, '_, '_, C, F, B>,
     out: &mut Output<W>,
     inline: &InlineExpression<'_>,
     id: &Identifier<'_>,
 ) -> Result<(), Halt>
     requires { inline_view inline.now ≡ variable id.now.name.now }
-    ensures { let at = status B.meant B.is_plain F.answer C.content in
+    ensures { let at = state B.meant B.is_plain F.answer C.content in
         Wrote result
         (λ b below env path. written with_work b below env path (inline_view inline.now))
         (sink W.contents out.old) (sink W.contents out.new) (at scope.old) (at scope.new) }
@@ -274,11 +273,11 @@ fn write_variable<W: Write, C: FluentType, F: FluentFunction<C>, B: Context<C>>(
 
 /// Reports what can't be found, and then writes its fallback in braces. What is no reference is no error.
 pub(crate) fn lose<W: Write, C: FluentType, F: FluentFunction<C>, B: Context<C>>(
-    scope: &mut Scope<'_, '_, '_, '_, '_, C, F, B>,
+    scope: &mut State<'_, '_, '_, '_, '_, C, F, B>,
     out: &mut Output<W>,
     inline: &InlineExpression<'_>,
 ) -> Result<(), Halt>
-    ensures wrote { let at = status B.meant B.is_plain F.answer C.content in
+    ensures wrote { let at = state B.meant B.is_plain F.answer C.content in
         Wrote result
         (λ b below env path. loses with_work b below env (inline_view inline.now))
         (sink W.contents out.old) (sink W.contents out.new) (at scope.old) (at scope.new) }
@@ -291,10 +290,10 @@ pub(crate) fn lose<W: Write, C: FluentType, F: FluentFunction<C>, B: Context<C>>
 
 /// Reports what can't be found, if it is a reference.
 pub(crate) fn report_lost<C: FluentType, F: FluentFunction<C>, B: Context<C>>(
-    scope: &mut Scope<'_, '_, '_, '_, '_, C, F, B>,
+    scope: &mut State<'_, '_, '_, '_, '_, C, F, B>,
     inline: &InlineExpression<'_>,
 ) -> Result<(), AllocError>
-    ensures reports { let at = status B.meant B.is_plain F.answer C.content in
+    ensures reports { let at = state B.meant B.is_plain F.answer C.content in
         ReportsIfOk result (lost_of (inline_view inline.now)) (at scope.old) (at scope.new) }
     ensures succeeds { reference_of (inline_view inline.now) ≡ None → IsOk result }
 {
@@ -306,10 +305,10 @@ pub(crate) fn report_lost<C: FluentType, F: FluentFunction<C>, B: Context<C>>(
 
 /// Reports that a message has no value.
 fn report_no_value<C: FluentType, F: FluentFunction<C>, B: Context<C>>(
-    scope: &mut Scope<'_, '_, '_, '_, '_, C, F, B>,
+    scope: &mut State<'_, '_, '_, '_, '_, C, F, B>,
     id: &str,
 ) -> Result<(), AllocError>
-    ensures { let at = status B.meant B.is_plain F.answer C.content in
+    ensures { let at = state B.meant B.is_plain F.answer C.content in
         ReportsIfOk result (resolver_error (no_value id.now) ∷ []) (at scope.old) (at scope.new) }
 {
     let id = String::from_str(scope.bundle.allocator(), id)?;

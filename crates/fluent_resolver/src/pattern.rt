@@ -1,5 +1,5 @@
 //! Patterns.
-#![tactic(auto, unfolding(crate::specs::Status::scope_parts))]
+#![tactic(auto, unfolding(crate::specs::Status::state_parts))]
 
 ghost use Rattle.std.specs.Prelude.{◌≡◌, ◌≢◌, Err, false, IsTrue};
 ghost use Rattle.fluent_tree.specs.Fallback.{fallback_of};
@@ -11,13 +11,14 @@ ghost use Rattle.fluent_meaning.specs.Walk.{has_one, is_marked, elements, part, 
 ghost use Rattle.fluent_meaning.specs.Work.{with_work};
 ghost use Rattle.fluent_resolver.specs.Along.{Wrote};
 ghost use Rattle.fluent_entries.specs.Numbered.{IsPlaced};
-ghost use Rattle.fluent_resolver.specs.Status.{budget_view, bundle_in, ids_in, status};
+ghost use Rattle.fluent_resolver.specs.Status.{budget_view, state, state_parts};
 ghost use Rattle.fluent_entries.specs.Texts.{IsTextAlone};
 ghost use Rattle.fluent_values.specs.Written.{sink, SinkTook};
 
 use crate::expression::{is_bare, shown_part, write_expression};
 use crate::fallback::put_in_braces;
-use crate::scope::{Budget, Scope};
+use crate::scope::Budget;
+use crate::state::State;
 use fluent_links::Place;
 use fluent_tree::ast::{Expression, Pattern, PatternElement};
 use fluent_values::output::{Halt, Output, put_text};
@@ -28,18 +29,18 @@ use std::io::Write;
 /// the path is empty.
 #[cycle(resolve)]
 pub fn write_pattern<'p, 's, W: Write, C: FluentType, F: FluentFunction<C>, B: Context<C>>(
-    scope: &mut Scope<'_, 'p, '_, 's, '_, C, F, B>,
+    scope: &mut State<'_, 'p, '_, 's, '_, C, F, B>,
     out: &mut Output<W>,
     pattern: &'p Pattern<'s>,
     place: Place<'p>,
 ) -> Result<(), Halt>
-    requires { IsPlaced (ids_in scope.old) (references (pattern_view pattern.now)) place }
-    ensures wrote { let at = status B.meant B.is_plain F.answer C.content in
+    requires { IsPlaced (state_parts scope.old).ids (references (pattern_view pattern.now)) place }
+    ensures wrote { let at = state B.meant B.is_plain F.answer C.content in
         Wrote result
         (λ b below env path. whole with_work b below env path (pattern_view pattern.now))
         (sink W.contents out.old) (sink W.contents out.new) (at scope.old) (at scope.new) }
     ensures memory { IsTextAlone (pattern_view pattern.now) →
-        IsTrue (B.is_plain (bundle_in scope.old).now) → out.old.is_buffered ≡ false →
+        IsTrue (B.is_plain (state_parts scope.old).bundle.now) → out.old.is_buffered ≡ false →
         result ≢ Err Halt.Memory }
 {
     let begun = scope.begin(pattern);
@@ -50,14 +51,14 @@ pub fn write_pattern<'p, 's, W: Write, C: FluentType, F: FluentFunction<C>, B: C
 
 /// Writes the elements of a pattern, in order.
 #[cycle(resolve)]
-fn write_elements<'p, 's, W: Write, C: FluentType, F: FluentFunction<C>, B: Context<C>>(
-    scope: &mut Scope<'_, 'p, '_, 's, '_, C, F, B>,
+pub(crate) fn write_elements<'p, 's, W: Write, C: FluentType, F: FluentFunction<C>, B: Context<C>>(
+    scope: &mut State<'_, 'p, '_, 's, '_, C, F, B>,
     out: &mut Output<W>,
     pattern: &'p Pattern<'s>,
     place: Place<'p>,
 ) -> Result<(), Halt>
     requires { IsPlaced scope.old.ids.now (references (pattern_view pattern.now)) place }
-    ensures wrote { let at = status B.meant B.is_plain F.answer C.content in
+    ensures wrote { let at = state B.meant B.is_plain F.answer C.content in
         Wrote result
         (λ b below env path. elements with_work b below env path
         (has_one (pattern_view pattern.now)) (pattern_view pattern.now))
@@ -85,7 +86,7 @@ fn write_elements<'p, 's, W: Write, C: FluentType, F: FluentFunction<C>, B: Cont
 
 /// Writes what a text element is changed to.
 fn put_changed<W: Write, C: FluentType, F: FluentFunction<C>, B: Context<C>>(
-    scope: &Scope<'_, '_, '_, '_, '_, C, F, B>,
+    scope: &State<'_, '_, '_, '_, '_, C, F, B>,
     out: &mut Output<W>,
     text: &str,
 ) -> Result<(), Halt>
@@ -108,7 +109,7 @@ pub(crate) fn has_one(pattern: &Pattern) -> bool
 /// Writes a placeable of a pattern, which is all of it or not.
 #[cycle(resolve)]
 fn write_placeable<'p, 's, W: Write, C: FluentType, F: FluentFunction<C>, B: Context<C>>(
-    scope: &mut Scope<'_, 'p, '_, 's, '_, C, F, B>,
+    scope: &mut State<'_, 'p, '_, 's, '_, C, F, B>,
     out: &mut Output<W>,
     one: bool,
     expression: &'p Expression<'s>,
@@ -117,7 +118,7 @@ fn write_placeable<'p, 's, W: Write, C: FluentType, F: FluentFunction<C>, B: Con
     requires left { budget_view scope.old.budget ≢ struck }
     requires placed { IsPlaced scope.old.ids.now (in_expression (expression_view expression.now))
         place }
-    ensures { let at = status B.meant B.is_plain F.answer C.content in
+    ensures { let at = state B.meant B.is_plain F.answer C.content in
         Wrote result
         (λ b below env path. part with_work b below env path one
         (placeable (expression_view expression.now)))

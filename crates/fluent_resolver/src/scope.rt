@@ -1,14 +1,11 @@
 //! The state of one formatting call.
-#![tactic(auto, unfolding(crate::specs::Status::scope_parts))]
+#![tactic(auto, unfolding(crate::specs::Status::scope_parts, crate::specs::Status::state_parts))]
 
-ghost use Rattle.fluent_entries.specs.Numbered.{table};
-ghost use Rattle.fluent_resolver.specs.Trail.{AreClassed, content_set, trail};
-ghost use Rattle.std.proofs.Props.{props};
+ghost use Rattle.std.specs.Prelude.{◌≡◌, true};
+ghost use Rattle.fluent_resolver.specs.Trail.{is_idle};
 
-use crate::environment::Environment;
-use crate::path::{Path, Step};
+use crate::state::State;
 use fluent_entries::Ids;
-use fluent_tree::ast::Pattern;
 use fluent_values::{
     Context, FluentArgs, FluentError, FluentFunction, FluentType, HasBundle, ResolverError,
 };
@@ -29,19 +26,13 @@ pub struct Counts {
     pub entered: u64,
 }
 
-/// The state of one formatting call: its bundle, where its variables are looked up, the patterns that are being
-/// written, its list of errors, how many more placeables it may open, and what it did.
+/// The state of one formatting call between the calls that resolve a part of a pattern: its bundle, where its
+/// variables are looked up, its list of errors, how many more placeables it may open, and what it did.
 #[derive(Drop)]
 pub struct Scope<'errors, 'p, 'r, 's, 'args, C, F, B> {
-    pub(crate) errors: Option<&'errors mut Vec<FluentError>>,
-    pub(crate) bundle: &'p B,
-    pub(crate) ids: &'p Ids<'r, 's, F>,
-    pub(crate) environment: Environment<'p, 'args, C>,
-    pub(crate) path: Path<'p, 's>,
-    pub(crate) budget: Budget,
-    pub(crate) counts: Counts,
-    /// The numbers on the path are those of its patterns.
-    ghost classed: { AreClassed (table ids.now) (trail path) } by { Prim.hlevel (props, content_set) },
+    pub(crate) state: State<'errors, 'p, 'r, 's, 'args, C, F, B>,
+    /// No pattern is being written.
+    ghost idle: { is_idle state.path ≡ true },
 }
 
 impl<'errors, 'p, 'r, 's, 'args, C: FluentType, F: FluentFunction<C>, B: Context<C>> Scope<
@@ -54,17 +45,14 @@ impl<'errors, 'p, 'r, 's, 'args, C: FluentType, F: FluentFunction<C>, B: Context
     F,
     B,
 > {
-    ghost use Rattle.std.specs.Prelude.{◌≡◌, ◌↔◌, ◌∷◌, ◌++◌, [], OnOk, OnErr, IfNone, IsOk, IsTrue, None, Some, map};
+    ghost use Rattle.std.specs.Prelude.{◌≡◌, ◌↔◌, ◌∷◌, [], IfNone, IsOk, IsTrue, map};
     ghost use Rattle.std.specs.Option.{option_map};
     ghost use Rattle.fluent_meaning.specs.Errors.{resolver_error};
     ghost use Rattle.fluent_meaning.specs.Meaning.{struck};
     ghost use Rattle.fluent_values.specs.View.{error_view, resolver_error_view};
     ghost use Rattle.fluent_entries.specs.EntryView.{ids as ids_of};
-    ghost use Rattle.fluent_resolver.specs.Status.{arguments_view, budget_view, bundle_in, counts_in, errors_in, status, with_ids};
-    ghost use Rattle.fluent_meaning.specs.Walk.{is_on};
-    ghost use Rattle.fluent_resolver.specs.Along.{can_open, ReportsIfOk, TakesOne, IsAtStart, StartsPattern, EndsPattern, Enters, Leaves};
-    ghost use Rattle.fluent_tree.specs.View.{pattern_view};
-    ghost use Rattle.fluent_resolver.specs.Trail.{IsClassed, content_at, on_path};
+    ghost use Rattle.fluent_resolver.specs.Status.{arguments_view, bundle_in, counts_in, errors_in, status, with_ids};
+    ghost use Rattle.fluent_resolver.specs.Along.{ReportsIfOk, IsAtStart};
 
     /// The state in which a call begins, with the whole budget of its bundle, whose ids it is handed too. Errors
     /// are added at the end of the list, if there is one. Without arguments each variable is missing. It takes no
@@ -82,17 +70,7 @@ impl<'errors, 'p, 'r, 's, 'args, C: FluentType, F: FluentFunction<C>, B: Context
             (arguments_view C.content args.entry) }
     {
         Scope {
-            errors,
-            bundle,
-            ids,
-            environment: Environment::Application(args),
-            path: Path::new(bundle.allocator()),
-            budget: Budget::Left(bundle.placeable_limit()),
-            counts: Counts {
-                opened: 0,
-                longest: 0,
-                entered: 0,
-            },
+            state: State::new(bundle, ids, args, errors),
         }
     }
 
@@ -100,7 +78,7 @@ impl<'errors, 'p, 'r, 's, 'args, C: FluentType, F: FluentFunction<C>, B: Context
     pub fn bundle(&self) -> &'p B
         ensures { result ≡ bundle_in self.now }
     {
-        self.bundle
+        self.state.bundle
     }
 
     /// The list of errors, with those that the call added; `None` where it was given no list.
@@ -108,7 +86,7 @@ impl<'errors, 'p, 'r, 's, 'args, C: FluentType, F: FluentFunction<C>, B: Context
         ensures { option_map (λ list. map error_view list.now) result
             ≡ (status B.meant B.is_plain F.answer C.content self.now).errors }
     {
-        match &self.errors {
+        match &self.state.errors {
             Some(errors) => Some(errors.as_slice()),
             None => None,
         }
@@ -118,16 +96,8 @@ impl<'errors, 'p, 'r, 's, 'args, C: FluentType, F: FluentFunction<C>, B: Context
     pub fn into_errors(self) -> Option<&'errors mut Vec<FluentError>>
         ensures { result ≡ errors_in self.entry }
     {
-        let Scope {
-            errors,
-            bundle: _,
-            ids: _,
-            environment: _,
-            path: _,
-            budget: _,
-            counts: _,
-        } = self;
-        errors
+        let Scope { state } = self;
+        state.into_errors()
     }
 
     /// Whether a placeable past the limit was met.
@@ -135,14 +105,14 @@ impl<'errors, 'p, 'r, 's, 'args, C: FluentType, F: FluentFunction<C>, B: Context
         ensures { IsTrue result ↔ ((status B.meant B.is_plain F.answer C.content self.now).budget
             ≡ struck) }
     {
-        matches!(self.budget, Budget::Struck)
+        self.state.dirty()
     }
 
     /// What the call did so far.
     pub fn counts(&self) -> Counts
         ensures { result ≡ counts_in self.now }
     {
-        self.counts
+        self.state.counts
     }
 
     /// Adds an error at the end of the list, if there is one.
@@ -157,83 +127,7 @@ impl<'errors, 'p, 'r, 's, 'args, C: FluentType, F: FluentFunction<C>, B: Context
         ensures bundle { bundle_in self.new ≡ bundle_in self.old }
         ensures succeeds { IfNone (errors_in self.old) (IsOk result) }
     {
-        match &mut self.errors {
-            Some(errors) => {
-                errors.push(FluentError::ResolverError(error))?;
-                Ok(())
-            }
-            None => Ok(()),
-        }
-    }
-
-    /// Takes one from the budget, or strikes it where none is left.
-    pub(crate) fn take_one(&mut self) -> bool
-        ensures opens { result ≡ can_open (budget_view self.old.budget) }
-        ensures takes { let at = status B.meant B.is_plain F.answer C.content in
-            TakesOne result (at self.old) (at self.new) }
-    {
-        match self.budget {
-            Budget::Left(left) if left > 0 => {
-                self.budget = Budget::Left(left - 1);
-                self.counts.opened = self.counts.opened.saturating_add(1);
-                true
-            }
-            _ => {
-                self.budget = Budget::Struck;
-                false
-            }
-        }
-    }
-
-    /// Whether a pattern has the content of one that is being written.
-    #[inline(always)]
-    pub(crate) fn is_on(&self, step: &Step<'_, 's>) -> bool
-        requires { IsClassed (table self.now.ids.now) step.now }
-        ensures { let at = status B.meant B.is_plain F.answer C.content self.now in
-            result ≡ is_on (on_path at.path) (content_at step.now) }
-    {
-        self.path.is_on(step)
-    }
-
-    /// Puts a pattern on the path where that is empty, counts the pattern, and says whether it put it there.
-    pub(crate) fn begin(&mut self, pattern: &'p Pattern<'s>) -> bool
-        ensures { let at = status B.meant B.is_plain F.answer C.content in
-            StartsPattern result (pattern_view pattern.now) (at self.old) (at self.new) }
-    {
-        let begun = self.path.begin(pattern);
-        let length = self.path.len();
-        self.counts.longest = self.counts.longest.max(length);
-        self.counts.entered = self.counts.entered.saturating_add(1);
-        begun
-    }
-
-    /// Takes the pattern off the path that `begin` put there, where it did.
-    pub(crate) fn end(&mut self, begun: bool)
-        ensures { let at = status B.meant B.is_plain F.answer C.content in
-            EndsPattern begun (at self.old) (at self.new) }
-    {
-        self.path.end(begun);
-    }
-
-    /// Puts a pattern on the path.
-    ///
-    /// # Errors
-    ///
-    /// Memory was refused: the path is as before.
-    pub(crate) fn enter(&mut self, step: Step<'p, 's>) -> Result<(), AllocError>
-        requires { IsClassed (table self.old.ids.now) step }
-        ensures { let at = status B.meant B.is_plain F.answer C.content in
-            Enters result step.entry (at self.old) (at self.new) }
-    {
-        self.path.enter(step)
-    }
-
-    /// Takes the last pattern off the path.
-    pub(crate) fn leave(&mut self)
-        ensures { let at = status B.meant B.is_plain F.answer C.content in
-            Leaves (at self.old) (at self.new) }
-    {
-        self.path.leave();
+        self.state.add_error(error)
     }
 }
 
@@ -246,6 +140,6 @@ impl<'p, C: FluentType, F: FluentFunction<C>, B: Context<C>> HasBundle<C>
     ghost bundle_of = { λ scope. (bundle_in scope).now };
 
     fn bundle(&self) -> &B {
-        self.bundle
+        self.state.bundle
     }
 }

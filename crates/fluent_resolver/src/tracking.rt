@@ -1,13 +1,15 @@
 //! The calls of a scope that resolve a part of a pattern by itself.
-#![tactic(auto, unfolding(crate::specs::Status::scope_parts))]
+#![tactic(auto, unfolding(crate::specs::Status::scope_parts, crate::specs::Status::state_parts))]
 
-ghost use Rattle.std.specs.Prelude.{◌≡◌, ◌≢◌, Err, IsOk, IsTrue, None, Some, map};
+ghost use Rattle.std.specs.Prelude.{◌≡◌, ◌≢◌, Err, IsOk, IsTrue, None, Some, map, true};
 ghost use Rattle.std.specs.Option.{option_map};
+ghost use Rattle.fluent_tree.specs.Tree.{Inline};
 ghost use Rattle.fluent_tree.specs.View.{arguments_view, expression_view, inline_view, pattern_view};
 ghost use Rattle.fluent_meaning.specs.Errors.{reference_of};
 ghost use Rattle.fluent_meaning.specs.Result.{maybe_tracked, tracked};
 ghost use Rattle.fluent_resolver.specs.Along.{Got, Wrote};
-ghost use Rattle.fluent_resolver.specs.Status.{bundle_in, status};
+ghost use Rattle.fluent_resolver.specs.Status.{bundle_in, state, status};
+ghost use Rattle.fluent_resolver.specs.Trail.{is_idle};
 ghost use Rattle.fluent_resolver.specs.Tracking.{Runs, are_none, called_run, calling, closes, losing, lost_run, maybe_tracks, tracks};
 ghost use Rattle.fluent_values.specs.View.{named, value_view};
 ghost use Rattle.fluent_values.specs.Written.{sink, writer, without_error};
@@ -16,15 +18,15 @@ use crate::arguments::resolve_call;
 use crate::expression::write_expression;
 use crate::fallback::put_in_braces;
 use crate::inline_expression::lose;
-use crate::path::Step;
 use crate::pattern::{put_ending, write_pattern};
 use crate::scope::Scope;
+use crate::state::State;
 use fluent_links::Place;
 use fluent_meaning::laws::{budgets_pass_through, calls_pass_through};
 use fluent_text::{Counting, WriteFault};
 use fluent_tree::ast::{CallArguments, Expression, InlineExpression, Pattern};
 use fluent_values::output::{Halt, Output, with_error};
-use fluent_values::{Context, FluentArgs, FluentFunction, FluentType, FluentValue, ResolverError};
+use fluent_values::{Context, FluentArgs, FluentFunction, FluentType, FluentValue};
 use std::alloc::AllocError;
 use std::collections::LinkedList;
 use std::io::Write;
@@ -64,14 +66,14 @@ impl<'p, 's, C: FluentType, F: FluentFunction<C>, B: Context<C>> Scope<
         ensures bundle { bundle_in self.new ≡ bundle_in self.old }
     {
         calls_pass_through::<LinkedList<u8>>();
-        let mut unused = String::new(self.bundle.allocator());
+        let mut unused = String::new(self.state.bundle.allocator());
         let mut out = Output {
             writer: w,
             buffer: &mut unused,
             is_buffered: false,
             error: None,
         };
-        let written = write_tracked(self, &mut out, pattern, inline);
+        let written = write_tracked(&mut self.state, &mut out, pattern);
         with_error(written, out.error)
     }
 
@@ -101,14 +103,14 @@ impl<'p, 's, C: FluentType, F: FluentFunction<C>, B: Context<C>> Scope<
         ensures bundle { bundle_in self.new ≡ bundle_in self.old }
     {
         calls_pass_through::<LinkedList<u8>>();
-        let mut unused = String::new(self.bundle.allocator());
+        let mut unused = String::new(self.state.bundle.allocator());
         let mut out = Output {
             writer: w,
             buffer: &mut unused,
             is_buffered: false,
             error: None,
         };
-        let written = write_maybe_tracked(self, &mut out, pattern, expression);
+        let written = write_maybe_tracked(&mut self.state, &mut out, pattern, expression);
         with_error(written, out.error)
     }
 
@@ -136,14 +138,14 @@ impl<'p, 's, C: FluentType, F: FluentFunction<C>, B: Context<C>> Scope<
         ensures memory { reference_of (inline_view inline.now) ≡ None →
             result ≢ Err WriteFault.Memory }
     {
-        let mut unused = String::new(self.bundle.allocator());
+        let mut unused = String::new(self.state.bundle.allocator());
         let mut out = Output {
             writer: w,
             buffer: &mut unused,
             is_buffered: false,
             error: None,
         };
-        let written = lose(self, &mut out, inline);
+        let written = lose(&mut self.state, &mut out, inline);
         with_error(written, out.error)
     }
 
@@ -171,7 +173,7 @@ impl<'p, 's, C: FluentType, F: FluentFunction<C>, B: Context<C>> Scope<
             IsTrue (are_none given) → IsOk result }
     {
         calls_pass_through::<LinkedList<u8>>();
-        let alloc = self.bundle.allocator();
+        let alloc = self.state.bundle.allocator();
         let Some(arguments) = arguments else {
             return Ok((Vec::new(alloc), FluentArgs::new(alloc)));
         };
@@ -179,7 +181,7 @@ impl<'p, 's, C: FluentType, F: FluentFunction<C>, B: Context<C>> Scope<
             return Ok((Vec::new(alloc), FluentArgs::new(alloc)));
         }
         let mut unused = Counting::new(Vec::new(alloc));
-        match resolve_call(self, &mut unused, arguments, Place::by_name()) {
+        match resolve_call(&mut self.state, &mut unused, arguments, Place::by_name()) {
             Ok(values) => Ok(values),
             Err(_) => Err(AllocError),
         }
@@ -193,37 +195,29 @@ fn is_empty(arguments: &CallArguments<'_>) -> bool
     arguments.positional.is_empty() && arguments.named.is_empty()
 }
 
-/// Writes a pattern that an expression refers to, unless it is being written.
+/// Writes a pattern that an expression refers to, where no pattern is being written: so it is not cyclic.
 fn write_tracked<'p, 's, W: Write, C: FluentType, F: FluentFunction<C>, B: Context<C>>(
-    scope: &mut Scope<'_, 'p, '_, 's, '_, C, F, B>,
+    scope: &mut State<'_, 'p, '_, 's, '_, C, F, B>,
     out: &mut Output<W>,
     pattern: &'p Pattern<'s>,
-    inline: &InlineExpression<'_>,
 ) -> Result<(), Halt>
-    ensures { let at = status B.meant B.is_plain F.answer C.content in
-        Wrote result (tracks (pattern_view pattern.now) (inline_view inline.now))
+    requires { is_idle scope.old.path ≡ true }
+    ensures { let at = state B.meant B.is_plain F.answer C.content in
+        (x : Inline) → Wrote result (tracks (pattern_view pattern.now) x)
         (sink W.contents out.old) (sink W.contents out.new) (at scope.old) (at scope.new) }
 {
-    let step = Step::own(pattern);
-    if scope.is_on(&step) {
-        scope.add_error(ResolverError::Cyclic)?;
-        return put_in_braces(out, inline);
-    }
     budgets_pass_through::<LinkedList<u8>>();
-    scope.enter(step)?;
-    let written = write_pattern(scope, out, pattern, Place::by_name());
-    scope.leave();
-    written
+    write_pattern(scope, out, pattern, Place::by_name())
 }
 
 /// Writes a placeable's expression, with the pattern on the path where that is empty.
 fn write_maybe_tracked<'p, 's, W: Write, C: FluentType, F: FluentFunction<C>, B: Context<C>>(
-    scope: &mut Scope<'_, 'p, '_, 's, '_, C, F, B>,
+    scope: &mut State<'_, 'p, '_, 's, '_, C, F, B>,
     out: &mut Output<W>,
     pattern: &'p Pattern<'s>,
     expression: &'p Expression<'s>,
 ) -> Result<(), Halt>
-    ensures { let at = status B.meant B.is_plain F.answer C.content in
+    ensures { let at = state B.meant B.is_plain F.answer C.content in
         Wrote result (maybe_tracks (pattern_view pattern.now) (expression_view expression.now))
         (sink W.contents out.old) (sink W.contents out.new) (at scope.old) (at scope.new) }
 {
@@ -235,11 +229,11 @@ fn write_maybe_tracked<'p, 's, W: Write, C: FluentType, F: FluentFunction<C>, B:
 
 /// Writes an expression, and its fallback in braces where it leaves the budget struck.
 fn write_closed<'p, 's, W: Write, C: FluentType, F: FluentFunction<C>, B: Context<C>>(
-    scope: &mut Scope<'_, 'p, '_, 's, '_, C, F, B>,
+    scope: &mut State<'_, 'p, '_, 's, '_, C, F, B>,
     out: &mut Output<W>,
     expression: &'p Expression<'s>,
 ) -> Result<(), Halt>
-    ensures { let at = status B.meant B.is_plain F.answer C.content in
+    ensures { let at = state B.meant B.is_plain F.answer C.content in
         Wrote result (closes (expression_view expression.now))
         (sink W.contents out.old) (sink W.contents out.new) (at scope.old) (at scope.new) }
 {

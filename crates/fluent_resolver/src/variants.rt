@@ -1,5 +1,5 @@
 //! Which variant of a select a value goes to.
-#![tactic(auto, unfolding(crate::specs::Status::scope_parts))]
+#![tactic(auto, unfolding(crate::specs::Status::state_parts))]
 
 ghost use Rattle.std.specs.Prelude.{◌≡◌, IfOk, map};
 ghost use Rattle.std.specs.Option.{option_map};
@@ -13,14 +13,14 @@ ghost use Rattle.fluent_resolver.specs.Along.{Gave, Got};
 ghost use Rattle.fluent_resolver.specs.Choice.{choice, choosing, first_default, is_like};
 ghost use Rattle.fluent_resolver.specs.ChosenView.{BeginsAt, BeginsIn, chosen_view};
 ghost use Rattle.fluent_entries.specs.Numbered.{IsPlaced, numbers};
-ghost use Rattle.fluent_resolver.specs.Status.{status};
+ghost use Rattle.fluent_resolver.specs.Status.{state};
 ghost use Rattle.fluent_values.specs.View.{value_view};
 ghost use Rattle.fluent_values.specs.Written.{writer};
 
 use crate::arguments::{argument, resolve};
 use crate::environment::Environment;
 use crate::inline_expression::report_lost;
-use crate::scope::Scope;
+use crate::state::State;
 use fluent_intl::FluentNumber;
 use fluent_links::Place;
 use fluent_meaning::laws::numbers_read_as_defined;
@@ -55,7 +55,7 @@ impl<'p, 's> Chosen<'p, 's> {
 /// The variant that a selector's value goes to. The value of a variable stays where it is.
 #[cycle(resolve)]
 pub(crate) fn choose_variant<'p, 's, W: Write, C: FluentType, F: FluentFunction<C>, B: Context<C>>(
-    scope: &mut Scope<'_, 'p, '_, 's, '_, C, F, B>,
+    scope: &mut State<'_, 'p, '_, 's, '_, C, F, B>,
     w: &mut Counting<W>,
     selector: &'p InlineExpression<'s>,
     variants: &'p [Variant<'s>],
@@ -63,7 +63,7 @@ pub(crate) fn choose_variant<'p, 's, W: Write, C: FluentType, F: FluentFunction<
 ) -> Result<Option<Chosen<'p, 's>>, Halt>
     requires { let vs = variants_of (map variant_view variants.now) in
         IsPlaced scope.old.ids.now (in_expression (select (inline_view selector.now) vs)) place }
-    ensures chose { let at = status B.meant B.is_plain F.answer C.content in
+    ensures chose { let at = state B.meant B.is_plain F.answer C.content in
         let vs = variants_of (map variant_view variants.now) in
         Gave result chosen_view (choosing (inline_view selector.now) vs)
         (writer W.contents w.old) (writer W.contents w.new) (at scope.old) (at scope.new) }
@@ -81,7 +81,7 @@ pub(crate) fn choose_variant<'p, 's, W: Write, C: FluentType, F: FluentFunction<
 /// The same of any selector. It stands by itself, as what a call may hold costs at its entry.
 #[cycle(resolve)]
 fn choose_by_value<'p, 's, W: Write, C: FluentType, F: FluentFunction<C>, B: Context<C>>(
-    scope: &mut Scope<'_, 'p, '_, 's, '_, C, F, B>,
+    scope: &mut State<'_, 'p, '_, 's, '_, C, F, B>,
     w: &mut Counting<W>,
     selector: &'p InlineExpression<'s>,
     variants: &'p [Variant<'s>],
@@ -89,7 +89,7 @@ fn choose_by_value<'p, 's, W: Write, C: FluentType, F: FluentFunction<C>, B: Con
 ) -> Result<Option<Chosen<'p, 's>>, Halt>
     requires { let vs = variants_of (map variant_view variants.now) in
         IsPlaced scope.old.ids.now (in_expression (select (inline_view selector.now) vs)) place }
-    ensures chose { let at = status B.meant B.is_plain F.answer C.content in
+    ensures chose { let at = state B.meant B.is_plain F.answer C.content in
         let vs = variants_of (map variant_view variants.now) in
         Gave result chosen_view (choosing (inline_view selector.now) vs)
         (writer W.contents w.old) (writer W.contents w.new) (at scope.old) (at scope.new) }
@@ -107,14 +107,14 @@ fn choose_by_value<'p, 's, W: Write, C: FluentType, F: FluentFunction<C>, B: Con
 /// The variant that a variable's value goes to. One that is missing goes to the default, with the error that it has
 /// where it is written.
 fn choose_by_variable<'p, 's, C: FluentType, F: FluentFunction<C>, B: Context<C>>(
-    scope: &mut Scope<'_, 'p, '_, 's, '_, C, F, B>,
+    scope: &mut State<'_, 'p, '_, 's, '_, C, F, B>,
     selector: &InlineExpression<'_>,
     id: &Identifier<'_>,
     variants: &'p [Variant<'s>],
     place: Place<'p>,
 ) -> Result<Option<Chosen<'p, 's>>, AllocError>
     requires { inline_view selector.now ≡ variable id.now.name.now }
-    ensures chose { let at = status B.meant B.is_plain F.answer C.content in
+    ensures chose { let at = state B.meant B.is_plain F.answer C.content in
         let vs = variants_of (map variant_view variants.now) in
         Got result chosen_view (choosing (inline_view selector.now) vs)
         (at scope.old) (at scope.new) }

@@ -27,6 +27,9 @@ appends_none (Some o) = sym (append-nil o)
 pub at_ok : {A E P : Type 0} {r : Result A E} {x : A} → r ≡ Ok x → OnOk r P → P
 at_ok {P = P} h k = subst (λ r. OnOk r P) h k
 
+pub at_err : {A E P : Type 0} {r : Result A E} {e : E} → r ≡ Err e → OnErr r P → P
+at_err {P = P} h k = subst (λ r. OnErr r P) h k
+
 pub never : {A E : Type 0} (P : Type 0) {r : Result A E} {e : E} → r ≡ Err e → OnOk r P
 never P h = subst (λ r. OnOk r P) (sym h) tt
 

@@ -1,9 +1,9 @@
-use Rattle.std.proofs.Common.{◌∙◌, ap, sym, subst, None}
+use Rattle.std.proofs.Common.{◌∙◌, ap, sym, subst, None, Some}
 use Rattle.std.specs.Option.{option_map}
 use Rattle.fluent_tree.specs.View.{pattern_view}
 use Rattle.fluent_entries.specs.Linking.{IsValueKept}
 use Rattle.fluent_entries.specs.Numbered.{numbers, table}
-use Rattle.fluent_entries.proofs.Linking.{text_value}
+use Rattle.fluent_entries.proofs.Linking.{one_value, text_value}
 use Rattle.fluent_entries.proofs.adding.linked_value.Goals as goal
 
 pub returns-then-is_text-clause-linked : goal.returns-then-is_text-clause-linked
@@ -12,3 +12,11 @@ returns-then-is_text-clause-linked g c =
     let t = table c.args.known.now in
     subst (λ o. IsValueKept n t o None) (sym (ap (option_map (λ p. pattern_view p.now)) c.in-Some.is))
     (text_value n t (pattern_view c.in-Some.pattern.now) (sym c.is_text.ensures ∙ c.if-is_text.true))
+
+pub returns-in_ok-link-in-Some-clause-linked : goal.returns-in_ok-link-in-Some-clause-linked
+returns-in_ok-link-in-Some-clause-linked g c =
+    let n = numbers c.link.new.self in
+    let t = table c.link.new.self in
+    let l = c.in_ok-link-in-Some.field-0 in
+    let kept = one_value n t (pattern_view c.in-Some.pattern.now) l c.in_ok-link-in-Some.ensures.linked in
+    subst (λ o. IsValueKept n t o (Some l)) (sym (ap (option_map (λ p. pattern_view p.now)) c.in-Some.is)) kept

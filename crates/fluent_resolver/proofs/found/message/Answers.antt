@@ -8,12 +8,19 @@ pub returns-in-None-clause-led : goal.returns-in-None-clause-led
 returns-in-None-clause-led g c =
     let kept = c.in-Some.ensures.linked in
     c.value_of.ensures.led (numbers c.args.ids.now) (table c.args.ids.now)
-    (λ p is l at. kept.value p l.now (ap value_in c.in-Message.is ∙ is) (sym c.value.ensures ∙ ap (option_map (λ l. l.now)) at))
+    (λ p is. (
+      λ l at. kept.value p l.now (ap value_in c.in-Message.is ∙ is) (sym c.value.ensures ∙ ap (option_map (λ l. l.now)) at),
+      λ none. kept.left p (ap value_in c.in-Message.is ∙ is) (sym c.value.ensures ∙ ap (option_map (λ l. l.now)) none),
+    ))
 
 pub returns-in-Some-attribute-clause-led : goal.returns-in-Some-attribute-clause-led
 returns-in-Some-attribute-clause-led g c =
     let kept = c.in-Some.ensures.linked in
-    c.first_of.ensures.led (numbers c.args.ids.now) (table c.args.ids.now)
-    (λ k p l is at. kept.attributes.each k p l
-    (ap (λ e. slice_get (attributes_in e) k) c.in-Message.is ∙ ap (λ xs. slice_get (patterns xs) k) (sym c.deref.ensures.value) ∙ is)
-    (ap (λ ls. slice_get ls k) (sym c.attributes.ensures) ∙ at))
+    c.first_of.ensures.led (numbers c.args.ids.now) (table c.args.ids.now) (
+      λ k p l is at. kept.attributes.each k p l
+          (ap (λ e. slice_get (attributes_in e) k) c.in-Message.is ∙ ap (λ xs. slice_get (patterns xs) k) (sym c.deref.ensures.value) ∙ is)
+          (ap (λ ls. slice_get ls k) (sym c.attributes.ensures) ∙ at),
+      λ k p is none. kept.attributes.left k p
+          (ap (λ e. slice_get (attributes_in e) k) c.in-Message.is ∙ ap (λ xs. slice_get (patterns xs) k) (sym c.deref.ensures.value) ∙ is)
+          (ap (λ ls. slice_get ls k) (sym c.attributes.ensures) ∙ none),
+    )

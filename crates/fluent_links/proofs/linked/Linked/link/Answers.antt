@@ -4,11 +4,17 @@ use Rattle.fluent_tree.specs.View.{pattern_view}
 use Rattle.fluent_links.specs.Linked.{with_referring}
 use Rattle.fluent_links.specs.Slots.{slots as slots_of, number}
 use Rattle.fluent_links.specs.Table.{table}
-use Rattle.fluent_links.proofs.Gathered.{has_class, kept, names_kept, no_class, no_items, none_linked, none_referred, referring, some_items}
+use Rattle.fluent_links.proofs.Gathered.{has_class, kept, names_kept, no_class, no_items, none_linked, none_referred, referring, some_items, some_referred}
 use Rattle.fluent_links.proofs.linked.Linked.link.Goals as goal
 
 pub returns-clause-linked : goal.returns-clause-linked
-returns-clause-linked g c = (has_class (table c.class_of.new.self) (pattern_view c.args.pattern.now) c.in_ok-class.class c.in_ok-class.ensures.class, c.in_ok-link_pattern.ensures.ok.1 [] (sym (ap (map Some) c.new-links.ensures.items)))
+returns-clause-linked g c =
+    let p = pattern_view c.args.pattern.now in
+    let items = c.link_pattern.new.links.items in
+    let told : c.is_empty.result ≡ nat_eq (length items) 0 = search (rules, c.is_empty.ensures) in
+    let are = c.in_ok-link_pattern.ensures.ok.1 [] (sym (ap (map Some) c.new-links.ensures.items)) in
+    let some = some_referred (number (slots_of c.link_pattern.new.slots)) (references p) items (some_items items c.is_empty.result told c.if-is_empty.false) are in
+    (has_class (table c.class_of.new.self) p c.in_ok-class.class c.in_ok-class.ensures.class some, are)
 
 pub returns-clause-stored : goal.returns-clause-stored
 returns-clause-stored g c =

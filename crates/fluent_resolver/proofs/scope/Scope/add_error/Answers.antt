@@ -1,0 +1,11 @@
+use Rattle.fluent_entries.specs.Numbered.{table}
+use Rattle.fluent_resolver.specs.Status.{scope_parts, state_parts}
+use Rattle.fluent_resolver.proofs.Trails.{idle_kept}
+use Rattle.fluent_resolver.proofs.scope.Scope.add_error.Goals as goal
+
+pub invariant_of-self : goal.invariant_of-self
+unfolding scope_parts state_parts
+invariant_of-self g c =
+    let old = c.args.self.now.state in
+    let new = c.add_error.new.self in
+    record { idle = idle_kept old.path new.path (table old.ids.now) (table new.ids.now) c.args.self.now.idle c.add_error.ensures.added.keeps.path }
