@@ -1,9 +1,9 @@
 //! Texts in two languages, what is wrong with their sources, and plural rules by a tag; where memory is refused too.
-use crate::chain::{BOTH, Row, is_shown, stand};
 use crate::check::{check, check_same};
 use crate::common::{empty, lines};
 use crate::lists::two;
 use crate::own::{Bracketed, Own, Upper};
+use crate::taken::{BOTH, Row};
 use fluent_bundle::{
     EnglishPlurals, FluentError, FluentResource, NoCustom, ParserError, PluralCategory,
     PluralOperands, PluralRuleType,
@@ -44,6 +44,34 @@ fn format(
         None => catalog.format_value(row.0, None, errors),
         Some(name) => catalog.format_attribute(row.0, name, None, errors),
     }
+}
+
+/// Whether a part was shown, as this text.
+fn is_shown(rt: &impl Abort, shown: Result<CowStr<'_>, AllocError>, text: &str) -> bool {
+    match shown {
+        Ok(found) => {
+            check_same(rt, found.as_str(), text);
+            true
+        }
+        Err(AllocError) => false,
+    }
+}
+
+/// That errors are these lines, or a beginning of them where a call was refused memory.
+fn stand(
+    rt: &impl Abort,
+    alloc: Global,
+    errors: &[FluentError],
+    wanted: &str,
+    is_whole: bool,
+) -> Result<(), AllocError> {
+    let found = lines(alloc, errors)?;
+    if is_whole {
+        check_same(rt, found.as_str(), wanted);
+    } else {
+        check(rt, wanted.starts_with(found.as_str()), wanted);
+    }
+    Ok(())
 }
 
 /// `false` where memory is refused, which leaves a beginning of the errors.

@@ -10,7 +10,7 @@ use std::process::Abort;
 use std::test::Fail;
 
 /// An id, the name of an attribute or none, the text, and the lines of its errors.
-type Row = (
+pub type Row = (
     &'static str,
     Option<&'static str>,
     &'static str,
@@ -21,7 +21,7 @@ const NO_N: &str = "Resolver error: Unknown variable: $n\n";
 
 const NO_X: &str = "Resolver error: Unknown variable: $x\n";
 
-const BOTH: &[Row] = &[
+pub const BOTH: &[Row] = &[
     ("a", None, "1", ""),
     ("b", None, "{$x}", NO_X),
     ("k", None, "v", ""),
