@@ -20,7 +20,7 @@ use crate::says::Says;
 use fluent_intl::MemoizerKind;
 use fluent_meaning::laws::calls_pass_through;
 use fluent_resolver::texts::{is_text, put_texts};
-use fluent_resolver::{Place, State, write_pattern};
+use fluent_resolver::{Place, Scope, write_pattern};
 use fluent_syntax::ast::{Pattern, PatternElement};
 use fluent_syntax::{Counting, WriteFault};
 use fluent_values::output::{Halt, Output, with_error};
@@ -175,9 +175,9 @@ impl<
             return put_texts(out, pattern);
         }
         calls_pass_through::<LinkedList<u8>>();
-        let mut state = State::new(self, &self.entries, args, Some(errors));
-        let written = write_pattern(&mut state, out, pattern, Place::by_name());
-        match state.into_errors() {
+        let mut scope = Scope::new(self, &self.entries, args, Some(errors));
+        let written = write_pattern(&mut scope, out, pattern, Place::by_name());
+        match scope.into_errors() {
             Some(_list) => written,
             None => written,
         }

@@ -5,7 +5,7 @@ use Rattle.fluent_tree.specs.View.{pattern_view}
 use Rattle.fluent_meaning.specs.Bundle.{transform_of}
 use Rattle.fluent_meaning.specs.Result.{written_pattern}
 use Rattle.fluent_bundle.specs.BundleView.{bundle_parts, is_plain, meant, transform_in}
-use Rattle.fluent_resolver.specs.Status.{arguments_view, reported, state, state_parts}
+use Rattle.fluent_resolver.specs.Status.{arguments_view, errors_in, reported, status}
 use Rattle.fluent_bundle.proofs.Formats.{fresh, never_none, writes_of, writes_text}
 use Rattle.fluent_bundle.proofs.Givings.{texts_errors, texts_value, texts_where}
 use Rattle.fluent_bundle.proofs.bundle.FluentBundle.write_out.Goals as goal
@@ -26,16 +26,16 @@ pub returns-in-Some-clause-writes : goal.returns-in-Some-clause-writes
 unfolding bundle_parts
 returns-in-Some-clause-writes g c =
     let of = meant g.M.MemoizerKind.category g.C.FluentType.shown g.C.FluentType.alike g.F.FluentFunction.answer g.G.FluentFormatter.formatted g.T.Transform.changed in
-    let begins = c.new-state.ensures.begins in
-    let a = state of is_plain g.F.FluentFunction.answer g.C.FluentType.content c.new-state.result in
+    let begins = c.new-scope.ensures.begins in
+    let a = status of is_plain g.F.FluentFunction.answer g.C.FluentType.content c.new-scope.result in
     let held = ap (option_map (λ e. reported e.now.items)) (sym c.into_errors.ensures ∙ c.in-Some.is) in
     writes_of c.write_pattern-written.ensures.wrote
     (fresh c.calls_pass_through.ensures a (of c.args.self.now) (arguments_view g.C.FluentType.content c.args.args) (pattern_view c.args.pattern.now)
     begins.bundle begins.environment begins.path begins.budget)
-    (search (rules, c.new-state.ensures.errors))
+    (search (rules, c.new-scope.ensures.errors))
     (search (rules, held))
 
 pub returns-in-None-clause-writes : goal.returns-in-None-clause-writes
 returns-in-None-clause-writes g c =
     let kept = c.write_pattern-written.ensures.wrote.went.along.passed.keeps.list in
-    absurd (never_none (λ e. e.ghost_name) (state_parts c.write_pattern-written.new.scope).errors _ (sym c.into_errors.ensures ∙ c.in-None.is) (kept ∙ ap (option_map (λ e. e.ghost_name)) c.new-state.ensures.errors))
+    absurd (never_none (λ e. e.ghost_name) (errors_in c.write_pattern-written.new.scope) _ (sym c.into_errors.ensures ∙ c.in-None.is) (kept ∙ ap (option_map (λ e. e.ghost_name)) c.new-scope.ensures.errors))
