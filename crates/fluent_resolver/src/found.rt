@@ -80,6 +80,20 @@ pub(crate) fn message<'p, 's, F>(
     }
 }
 
+/// The same by look-up, from outside a pattern.
+pub fn by_id<'p, 's, F>(
+    ids: &'p Ids<'_, 's, F>,
+    id: &str,
+    attribute: &Option<Identifier<'_>>,
+) -> Found<'p, 's>
+    ensures content { (answer : F → Function Text) →
+        found_view result ≡ message_target (get id.now (ids_of answer ids.now))
+        (attribute_of attribute.now) }
+    ensures led { IsLed ids.now result }
+{
+    message(ids, id, attribute, Place::by_name())
+}
+
 /// What a term's id leads to, or its attribute of a name. Takes no memory.
 #[inline(always)]
 pub(crate) fn term<'p, 's, F>(

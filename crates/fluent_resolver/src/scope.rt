@@ -51,7 +51,7 @@ impl<'errors, 'p, 'r, 's, 'args, C: FluentType, F: FluentFunction<C>, B: Context
     ghost use Rattle.fluent_meaning.specs.Meaning.{struck};
     ghost use Rattle.fluent_values.specs.View.{error_view, resolver_error_view};
     ghost use Rattle.fluent_entries.specs.EntryView.{ids as ids_of};
-    ghost use Rattle.fluent_resolver.specs.Status.{arguments_view, bundle_in, counts_in, errors_in, status, with_ids};
+    ghost use Rattle.fluent_resolver.specs.Status.{arguments_view, bundle_in, counts_in, errors_in, scope_parts, status, with_ids};
     ghost use Rattle.fluent_resolver.specs.Along.{ReportsIfOk, IsAtStart};
 
     /// The state in which a call begins, with the whole budget of its bundle, whose ids it is handed too. Errors
@@ -65,6 +65,7 @@ impl<'errors, 'p, 'r, 's, 'args, C: FluentType, F: FluentFunction<C>, B: Context
     ) -> Self
         ensures bundle { bundle_in result ≡ bundle.entry }
         ensures errors { errors_in result ≡ errors.entry }
+        ensures ids { (scope_parts result).ids ≡ ids.now }
         ensures begins { let at = status B.meant B.is_plain F.answer C.content in
             IsAtStart (at result) (with_ids (B.meant bundle.now) (ids_of F.answer ids.now))
             (arguments_view C.content args.entry) }

@@ -60,6 +60,7 @@ impl<'errors, 'p, 'r, 's, 'args, C: FluentType, F: FluentFunction<C>, B: Context
     ) -> Self
         ensures bundle { (state_parts result).bundle ≡ bundle.entry }
         ensures errors { (state_parts result).errors ≡ errors.entry }
+        ensures ids { (state_parts result).ids ≡ ids.now }
         ensures idle { is_idle result.path ≡ true }
         ensures begins { let at = state B.meant B.is_plain F.answer C.content in
             IsAtStart (at result) (with_ids (B.meant bundle.now) (ids_of F.answer ids.now))
