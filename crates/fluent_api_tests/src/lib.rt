@@ -25,6 +25,8 @@ mod headline;
 #[cfg(test)]
 mod in_one_scope;
 #[cfg(test)]
+mod linted;
+#[cfg(test)]
 mod lists;
 #[cfg(test)]
 mod made;

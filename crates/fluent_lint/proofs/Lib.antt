@@ -1,0 +1,9 @@
+pub mod Listed
+pub mod Decided
+pub mod Growing
+pub mod Settled
+pub mod Tables
+pub mod Reported
+pub mod CountedEnds
+pub mod PlaceLists
+pub mod LinesOn

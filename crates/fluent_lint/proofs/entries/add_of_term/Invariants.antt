@@ -1,0 +1,9 @@
+use Rattle.std.proofs.Common.{◌≡◌, ◌++◌, drop, map}
+use Rattle.fluent_tree.specs.View.{attribute_view}
+use Rattle.fluent_clean.specs.Places.{of_term}
+use Rattle.fluent_lint.specs.Findings.{views}
+use Rattle.fluent_lint.specs.EntryPlaces.{attribute_places}
+use Rattle.fluent_lint.proofs.entries.add_of_term.Given as goal
+
+abbrev pub invariant-loop-attribute : goal.invariant-loop-attribute
+invariant-loop-attribute l = views l.places.items ++ attribute_places (of_term l.id.name.now) (map attribute_view (drop l.attribute-index l.attributes)) ≡ views l.initial.places.items ++ attribute_places (of_term l.id.name.now) (map attribute_view l.attributes)

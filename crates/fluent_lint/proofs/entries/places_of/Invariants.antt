@@ -1,0 +1,8 @@
+use Rattle.std.proofs.Common.{◌≡◌, ◌++◌, drop, map}
+use Rattle.fluent_tree.specs.View.{entry_view}
+use Rattle.fluent_lint.specs.Findings.{views}
+use Rattle.fluent_lint.specs.EntryPlaces.{places_in}
+use Rattle.fluent_lint.proofs.entries.places_of.Given as goal
+
+abbrev pub invariant-loop-entry : goal.invariant-loop-entry
+invariant-loop-entry l = views l.places.items ++ places_in (map entry_view (drop l.entry-index l.entries)) ≡ places_in (map entry_view l.entries)

@@ -1,0 +1,37 @@
+-- The content of the code's places, and what stands there.
+use Rattle.std.specs.Prelude.{◌≡◌, ℕ, List, [], ◌++◌, Option, Some, None, IsTrue}
+use Rattle.std.proofs.Common.{ap, sym}
+use Rattle.std.specs.Hash as fed
+use mathlib.Core.Bool.{true≢false}
+use Rattle.fluent_tree.specs.Tree.{Attribute, no_attribute, attribute, Pattern, is_yes}
+use Rattle.fluent_tree.specs.View.{attribute_of}
+use Rattle.fluent_meaning.specs.Bundle.{Target, unknown, without_value, found}
+use Rattle.fluent_clean.specs.Places.{Place, of_message, of_term, place_same}
+use Rattle.fluent_lint.specs.declared.place.Place as code
+use Rattle.fluent_lint.specs.declared.place.Place.TheVariants as place
+
+abbrev pub place_view : code.Place → Place
+place_view (place.Message id a) = of_message id.name.now (attribute_of a)
+place_view (place.Term id a) = of_term id.name.now (attribute_of a)
+
+abbrev pub pattern_in : Target → Option Pattern
+pattern_in unknown = None
+pattern_in without_value = None
+pattern_in (found p) = Some p
+
+-- ---- what of a place is hashed: its id, and the name of its attribute
+
+abbrev pub hashed_attribute : Attribute → List (List ℕ)
+hashed_attribute no_attribute = []
+hashed_attribute (attribute a) = fed.str a
+
+abbrev pub hashed : Place → List (List ℕ)
+hashed (of_message m a) = fed.str m ++ hashed_attribute a
+hashed (of_term t a) = fed.str t ++ hashed_attribute a
+
+same_of : {P : Type 0} (d : Dec P) → IsTrue (is_yes d) → P
+same_of (yes p) h = p
+same_of (no n) h = absurd (true≢false (sym h))
+
+pub respects : (a b : code.Place) → IsTrue (is_yes (place_same (place_view a) (place_view b))) → hashed (place_view a) ≡ hashed (place_view b)
+respects a b h = ap hashed (same_of (place_same (place_view a) (place_view b)) h)

@@ -1,0 +1,146 @@
+//! How many placeables a pattern opens at most.
+
+ghost use Rattle.std.specs.Prelude.{◌≡◌};
+ghost use Rattle.fluent_tree.specs.References.{inlines_view, nameds_view, variants_view};
+ghost use Rattle.fluent_tree.specs.View.{arguments_view, element_view, expression_view, inline_view, pattern_view};
+ghost use Rattle.fluent_clean.specs.Placeables.{in_arguments, in_element, in_expression, in_inline, in_largest, in_named, in_pattern, in_positional};
+ghost use Rattle.fluent_lint.specs.PlaceView.{place_view};
+ghost use Rattle.fluent_lint.specs.Table.{capped, count_of};
+
+use crate::place::Place;
+use fluent_tree::ast::{
+    CallArguments, Expression, InlineExpression, NamedArgument, Pattern, PatternElement, Variant,
+};
+use indexmap::IndexMap;
+
+/// What is known of places: how many placeables the pattern opens, if it was found clean.
+pub(crate) type Table<'s> = IndexMap<Place<'s>, Option<u64>>;
+
+/// How many placeables a pattern opens at most, by the counts of the patterns that it refers to: 0 where none is
+/// known. Takes no memory.
+#[cycle(counting)]
+pub(crate) fn most_opened<'s>(pattern: &Pattern<'s>, table: &Table<'s>) -> u64
+    ensures { result ≡ capped (in_pattern (count_of table.now.entries) (pattern_view pattern.now)) }
+{
+    let mut total: u64 = 0;
+    for element in &pattern.elements {
+        let more = in_element(element, table);
+        total = total.saturating_add(more);
+    }
+    total
+}
+
+#[cycle(counting)]
+fn in_element<'s>(element: &PatternElement<'s>, table: &Table<'s>) -> u64
+    ensures { result ≡ capped (in_element (count_of table.now.entries) (element_view element.now)) }
+{
+    match element {
+        PatternElement::TextElement { .. } => 0,
+        PatternElement::Placeable { expression } => in_expression(expression, table).saturating_add(
+            1,
+        ),
+    }
+}
+
+#[cycle(counting)]
+fn in_expression<'s>(expression: &Expression<'s>, table: &Table<'s>) -> u64
+    ensures { result
+        ≡ capped (in_expression (count_of table.now.entries) (expression_view expression.now)) }
+{
+    match expression {
+        Expression::Inline(inline) => in_inline(inline, table),
+        Expression::Select { selector, variants } => {
+            let selecting = in_inline(selector, table);
+            let largest = in_largest(variants, table);
+            selecting.saturating_add(largest)
+        }
+    }
+}
+
+/// Of the variant that opens most.
+#[cycle(counting)]
+fn in_largest<'s>(variants: &[Variant<'s>], table: &Table<'s>) -> u64
+    ensures { result
+        ≡ capped (in_largest (count_of table.now.entries) (variants_view variants.now)) }
+{
+    let mut largest: u64 = 0;
+    for variant in variants {
+        let here = most_opened(&variant.value, table);
+        if here > largest {
+            largest = here;
+        }
+    }
+    largest
+}
+
+#[cycle(counting)]
+fn in_inline<'s>(inline: &InlineExpression<'s>, table: &Table<'s>) -> u64
+    ensures { result ≡ capped (in_inline (count_of table.now.entries) (inline_view inline.now)) }
+{
+    match inline {
+        InlineExpression::StringLiteral { .. }
+        | InlineExpression::NumberLiteral { .. }
+        | InlineExpression::VariableReference { .. } => 0,
+        InlineExpression::FunctionReference { arguments, .. } => in_arguments(arguments, table),
+        InlineExpression::MessageReference { id, attribute } => {
+            count_at(&Place::Message(*id, *attribute), table)
+        }
+        InlineExpression::TermReference {
+            id,
+            attribute,
+            arguments,
+        } => {
+            let there = count_at(&Place::Term(*id, *attribute), table);
+            match arguments {
+                Some(arguments) => in_arguments(arguments, table).saturating_add(there),
+                None => there,
+            }
+        }
+        InlineExpression::Placeable { expression } => in_expression(expression, table),
+    }
+}
+
+#[cycle(counting)]
+fn in_arguments<'s>(arguments: &CallArguments<'s>, table: &Table<'s>) -> u64
+    ensures { result
+        ≡ capped (in_arguments (count_of table.now.entries) (arguments_view arguments.now)) }
+{
+    let positional = in_positional(&arguments.positional, table);
+    let named = in_named(&arguments.named, table);
+    positional.saturating_add(named)
+}
+
+#[cycle(counting)]
+fn in_positional<'s>(positional: &[InlineExpression<'s>], table: &Table<'s>) -> u64
+    ensures { result
+        ≡ capped (in_positional (count_of table.now.entries) (inlines_view positional.now)) }
+{
+    let mut total: u64 = 0;
+    for argument in positional {
+        let more = in_inline(argument, table);
+        total = total.saturating_add(more);
+    }
+    total
+}
+
+#[cycle(counting)]
+fn in_named<'s>(named: &[NamedArgument<'s>], table: &Table<'s>) -> u64
+    ensures { result ≡ capped (in_named (count_of table.now.entries) (nameds_view named.now)) }
+{
+    let mut total: u64 = 0;
+    for argument in named {
+        let more = in_inline(&argument.value, table);
+        total = total.saturating_add(more);
+    }
+    total
+}
+
+/// The count of a place, or 0 where none is known.
+fn count_at<'s>(place: &Place<'s>, table: &Table<'s>) -> u64
+    ensures { result ≡ capped (count_of table.now.entries (place_view place.now)) }
+{
+    match table.get(place) {
+        Some(Some(count)) => *count,
+        _ => 0,
+    }
+}

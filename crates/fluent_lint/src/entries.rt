@@ -1,0 +1,73 @@
+//! The places of entries.
+
+ghost use Rattle.std.specs.Prelude.{◌≡◌, IfOk, OnOk, map};
+ghost use Rattle.fluent_tree.specs.Tree.{no_attribute};
+ghost use Rattle.fluent_tree.specs.View.{attribute_view, entry_view};
+ghost use Rattle.fluent_clean.specs.Places.{of_message, of_term};
+ghost use Rattle.fluent_lint.specs.EntryPlaces.{AddsPlaces, places_in, places_of, attribute_places};
+ghost use Rattle.fluent_lint.specs.Findings.{views};
+
+use crate::place::Place;
+use fluent_tree::ast::{Attribute, Entry, Identifier};
+use std::alloc::{AllocError, Global};
+
+/// The places of entries, in order: each value, then the attributes. What can't be read has none.
+///
+/// # Errors
+///
+/// Memory was refused.
+pub fn places_of<'s>(alloc: Global, entries: &[Entry<'s>]) -> Result<Vec<Place<'s>>, AllocError>
+    ensures { IfOk result (λ places. views places.items ≡ places_in (map entry_view entries.now)) }
+{
+    let mut places = Vec::new(alloc);
+    for entry in entries {
+        add_entry(entry, &mut places)?;
+    }
+    Ok(places)
+}
+
+#[tactic(auto, using(crate::proofs::PlaceLists::pushed_then))]
+fn add_entry<'s>(entry: &Entry<'s>, places: &mut Vec<Place<'s>>) -> Result<(), AllocError>
+    ensures { OnOk result
+        (AddsPlaces places.old.items places.new.items (places_of (entry_view entry.now))) }
+{
+    match entry {
+        Entry::Message(message) => {
+            places.push(Place::Message(message.id, None))?;
+            add_of_message(message.id, &message.attributes, places)
+        }
+        Entry::Term(term) => {
+            places.push(Place::Term(term.id, None))?;
+            add_of_term(term.id, &term.attributes, places)
+        }
+        Entry::Junk { .. } => Ok(()),
+    }
+}
+
+fn add_of_message<'s>(
+    id: Identifier<'s>,
+    attributes: &[Attribute<'s>],
+    places: &mut Vec<Place<'s>>,
+) -> Result<(), AllocError>
+    ensures { OnOk result (AddsPlaces places.old.items places.new.items
+        (attribute_places (of_message id.entry.name.now) (map attribute_view attributes.now))) }
+{
+    for attribute in attributes {
+        places.push(Place::Message(id, Some(attribute.id)))?;
+    }
+    Ok(())
+}
+
+fn add_of_term<'s>(
+    id: Identifier<'s>,
+    attributes: &[Attribute<'s>],
+    places: &mut Vec<Place<'s>>,
+) -> Result<(), AllocError>
+    ensures { OnOk result (AddsPlaces places.old.items places.new.items
+        (attribute_places (of_term id.entry.name.now) (map attribute_view attributes.now))) }
+{
+    for attribute in attributes {
+        places.push(Place::Term(id, Some(attribute.id)))?;
+    }
+    Ok(())
+}

@@ -1,0 +1,42 @@
+//! Where a byte stands in a text.
+ghost use Rattle.std.specs.Prelude.{◌≡◌, take};
+ghost use Rattle.fluent_lint.specs.Columns.{column_behind, line_behind};
+
+/// A line and a column, each counted from 1. A column counts characters.
+#[derive(Clone, Copy, Drop)]
+pub struct LineColumn {
+    pub line: usize,
+    pub column: usize,
+}
+
+/// The line and the column of the byte at an offset, as the one of what can't be read: the line feeds before it plus
+/// one, and the characters since the last of them plus one. Behind the end it is those of the end.
+pub fn position(source: &str, offset: usize) -> LineColumn
+    ensures line { result.line ≡ line_behind (take offset source.now) }
+    ensures column { result.column ≡ column_behind (take offset source.now) }
+{
+    let bytes = source.as_bytes();
+    if offset < bytes.len() {
+        position_behind(&bytes[..offset])
+    } else {
+        position_behind(bytes)
+    }
+}
+
+/// Where what stands behind these bytes is.
+fn position_behind(before: &[u8]) -> LineColumn
+    ensures line { result.line ≡ line_behind before.now }
+    ensures column { result.column ≡ column_behind before.now }
+{
+    let mut line: usize = 1;
+    let mut column: usize = 1;
+    for byte in before {
+        if *byte == 10 {
+            line += 1;
+            column = 1;
+        } else if *byte < 128 || *byte >= 192 {
+            column += 1;
+        }
+    }
+    LineColumn { line, column }
+}

@@ -1,0 +1,139 @@
+//! Which of the patterns at some places are clean.
+
+ghost use Rattle.std.specs.Prelude.{IfOk, OnOk};
+ghost use Rattle.fluent_lint.specs.Findings.{Reports, views};
+ghost use Rattle.fluent_lint.specs.Table.{AreRight};
+ghost use Rattle.fluent_lint.specs.Inside.Steps.{AreUnknown, IsListing, IsStep, Takes};
+
+use crate::checking::{Look, look_at};
+use crate::counting::Table;
+use crate::finding::{Finding, Large, Report};
+use crate::order::in_order;
+use crate::place::Place;
+use fluent_clean::laws;
+use fluent_entries::GetEntry;
+use indexmap::IndexMap;
+use std::alloc::{AllocError, Global};
+use std::collections::LinkedList;
+
+/// What comes of looking at all places.
+#[derive(Drop)]
+pub(crate) enum Step<'s> {
+    /// All were looked at.
+    Done(Report<'s>),
+    /// This one is clean, which wasn't known.
+    Clean(Place<'s>, u64),
+}
+
+/// What can be told of the patterns at these places: each has a finding, or is clean and opens at most as many
+/// placeables as the limit.
+///
+/// # Errors
+///
+/// Memory was refused.
+pub fn lint_places<'s, F, B: GetEntry<'s, F>>(
+    alloc: Global,
+    bundle: &B,
+    places: &[Place<'s>],
+    limit: u32,
+) -> Result<Report<'s>, AllocError>
+    ensures { IfOk result (Reports (B.named bundle.now) limit (views places.now)) }
+{
+    let mut table = prepared(alloc, bundle, places)?;
+    loop {
+        match look_at_all(alloc, bundle, &table, limit)? {
+            Step::Done(report) => return Ok(report),
+            Step::Clean(place, count) => {
+                table.insert(place, Some(count))?;
+            }
+        }
+    }
+}
+
+/// A table of these places, of which those are known to be clean that are found so in one pass.
+fn prepared<'s, F, B: GetEntry<'s, F>>(
+    alloc: Global,
+    bundle: &B,
+    places: &[Place<'s>],
+) -> Result<Table<'s>, AllocError>
+    ensures right { IfOk result (λ table. AreRight (B.named bundle.now) table.entries) }
+    ensures listing { IfOk result (λ table. IsListing (views places.now) table.entries) }
+{
+    let mut table = listed(alloc, places)?;
+    let order = in_order(alloc, bundle, &table)?;
+    for i in &order {
+        take(alloc, bundle, &mut table, *i)?;
+    }
+    Ok(table)
+}
+
+/// Notes the count of the place with this index, if its pattern is found clean.
+fn take<'s, F, B: GetEntry<'s, F>>(
+    alloc: Global,
+    bundle: &B,
+    table: &mut Table<'s>,
+    index: usize,
+) -> Result<(), AllocError>
+    requires { AreRight (B.named bundle.now) table.old.entries }
+    ensures { OnOk result (Takes (B.named bundle.now) table.old.entries table.new.entries) }
+{
+    let Some((place, _)) = table.get_index(index) else {
+        return Ok(());
+    };
+    let place = *place;
+    if let Look::Clean(count) = look_at(alloc, bundle, table, &place)? {
+        table.insert(place, Some(count))?;
+    }
+    Ok(())
+}
+
+/// A table of these places, of which nothing is known yet.
+fn listed<'s>(alloc: Global, places: &[Place<'s>]) -> Result<Table<'s>, AllocError>
+    ensures listing { IfOk result (λ table. IsListing (views places.now) table.entries) }
+    ensures unknown { IfOk result (λ table. AreUnknown table.entries) }
+{
+    let mut table = IndexMap::new(alloc);
+    for place in places {
+        table.insert(*place, None)?;
+    }
+    Ok(table)
+}
+
+/// Looks at each place of a table, until one is clean of which that wasn't known.
+fn look_at_all<'s, F, B: GetEntry<'s, F>>(
+    alloc: Global,
+    bundle: &B,
+    table: &Table<'s>,
+    limit: u32,
+) -> Result<Step<'s>, AllocError>
+    requires { AreRight (B.named bundle.now) table.now.entries }
+    ensures { IfOk result (IsStep (B.named bundle.now) limit table.now.entries) }
+{
+    laws::deeper_counts_more::<LinkedList<u8>>();
+    let mut unclean = Vec::new(alloc);
+    let mut large = Vec::new(alloc);
+    for i in 0..table.len() {
+        let Some((place, known)) = table.get_index(i) else {
+            continue;
+        };
+        match known {
+            Some(count) => {
+                if *count > limit as u64 {
+                    large.push(Large {
+                        place: *place,
+                        count: *count,
+                    })?;
+                }
+            }
+            None => match look_at(alloc, bundle, table, place)? {
+                Look::Nothing => {}
+                Look::Clean(count) => return Ok(Step::Clean(*place, count)),
+                Look::Unclean(causes) => unclean.push(Finding {
+                    place: *place,
+                    causes,
+                })?,
+            },
+        }
+    }
+    Ok(Step::Done(Report { unclean, large }))
+}

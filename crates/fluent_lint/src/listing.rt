@@ -1,0 +1,187 @@
+//! What a pattern asks for, listed.
+
+ghost use Rattle.std.specs.Prelude.{◌≡◌, IfOk, OnOk};
+ghost use Rattle.fluent_tree.specs.View.{arguments_view, expression_view, inline_view, pattern_view};
+ghost use Rattle.fluent_tree.specs.References.{inlines_view, nameds_view, variants_view};
+ghost use Rattle.fluent_clean.specs.Needs.{a_default, has_default, unless, needs, in_arguments, in_expression, in_inline, in_named, in_positional, in_variants};
+ghost use Rattle.fluent_lint.specs.NeedsView.{AddsNeeds, needs_view};
+
+use fluent_tree::ast::{
+    CallArguments, Expression, Identifier, InlineExpression, NamedArgument, Pattern,
+    PatternElement, Variant,
+};
+use std::alloc::{AllocError, Global};
+
+/// What a pattern asks of its bundle, or of its arguments.
+#[derive(Clone, Copy, Drop)]
+pub enum Need<'t, 's> {
+    /// A message's value, or an attribute of it.
+    Message(Identifier<'s>, Option<Identifier<'s>>),
+    /// A term's value, or an attribute of it, with the arguments of the reference.
+    Term(Identifier<'s>, Option<Identifier<'s>>, &'t Option<Box<CallArguments<'s>>>),
+    Function(Identifier<'s>),
+    Variable(Identifier<'s>),
+    /// A default variant, of a select that has none.
+    Default,
+}
+
+/// Lists what a pattern asks for, in the order of the tree and as often as it stands there.
+///
+/// # Errors
+///
+/// Memory was refused.
+pub fn needs<'t, 's>(
+    alloc: Global,
+    pattern: &'t Pattern<'s>,
+) -> Result<Vec<Need<'t, 's>>, AllocError>
+    ensures { IfOk result (λ list. needs_view list ≡ needs (pattern_view pattern.now)) }
+{
+    let mut list = Vec::new(alloc);
+    add_pattern(&mut list, pattern)?;
+    Ok(list)
+}
+
+#[cycle(listing)]
+fn add_pattern<'t, 's>(
+    list: &mut Vec<Need<'t, 's>>,
+    pattern: &'t Pattern<'s>,
+) -> Result<(), AllocError>
+    ensures { OnOk result (AddsNeeds list.old list.new (needs (pattern_view pattern.now))) }
+{
+    for element in &pattern.elements {
+        if let PatternElement::Placeable { expression } = element {
+            add_expression(list, expression)?;
+        }
+    }
+    Ok(())
+}
+
+#[cycle(listing)]
+fn add_expression<'t, 's>(
+    list: &mut Vec<Need<'t, 's>>,
+    expression: &'t Expression<'s>,
+) -> Result<(), AllocError>
+    ensures { OnOk result
+        (AddsNeeds list.old list.new (in_expression (expression_view expression.now))) }
+{
+    match expression {
+        Expression::Inline(inline) => add_inline(list, inline),
+        Expression::Select { selector, variants } => {
+            add_inline(list, selector)?;
+            add_variants(list, variants)?;
+            add_default(list, variants)
+        }
+    }
+}
+
+/// Lists a default where none of the variants is one.
+fn add_default<'t, 's>(
+    list: &mut Vec<Need<'t, 's>>,
+    variants: &[Variant<'s>],
+) -> Result<(), AllocError>
+    ensures { OnOk result
+        (AddsNeeds list.old list.new (unless (has_default (variants_view variants.now)) a_default)) }
+{
+    if !has_default(variants) {
+        list.push(Need::Default)?;
+    }
+    Ok(())
+}
+
+/// Whether one of the variants is a default.
+fn has_default(variants: &[Variant<'_>]) -> bool
+    ensures { result ≡ has_default (variants_view variants.now) }
+{
+    for variant in variants {
+        if variant.default {
+            return true;
+        }
+    }
+    false
+}
+
+#[cycle(listing)]
+fn add_variants<'t, 's>(
+    list: &mut Vec<Need<'t, 's>>,
+    variants: &'t [Variant<'s>],
+) -> Result<(), AllocError>
+    ensures { OnOk result (AddsNeeds list.old list.new (in_variants (variants_view variants.now))) }
+{
+    for variant in variants {
+        add_pattern(list, &variant.value)?;
+    }
+    Ok(())
+}
+
+#[cycle(listing)]
+fn add_inline<'t, 's>(
+    list: &mut Vec<Need<'t, 's>>,
+    inline: &'t InlineExpression<'s>,
+) -> Result<(), AllocError>
+    ensures { OnOk result (AddsNeeds list.old list.new (in_inline (inline_view inline.now))) }
+{
+    match inline {
+        InlineExpression::FunctionReference { id, arguments } => {
+            list.push(Need::Function(*id))?;
+            add_arguments(list, arguments)
+        }
+        InlineExpression::MessageReference { id, attribute } => {
+            list.push(Need::Message(*id, *attribute))?;
+            Ok(())
+        }
+        InlineExpression::TermReference {
+            id,
+            attribute,
+            arguments,
+        } => {
+            list.push(Need::Term(*id, *attribute, arguments))?;
+            match arguments {
+                Some(arguments) => add_arguments(list, arguments),
+                None => Ok(()),
+            }
+        }
+        InlineExpression::VariableReference { id } => {
+            list.push(Need::Variable(*id))?;
+            Ok(())
+        }
+        InlineExpression::Placeable { expression } => add_expression(list, expression),
+        InlineExpression::StringLiteral { .. } | InlineExpression::NumberLiteral { .. } => Ok(()),
+    }
+}
+
+#[cycle(listing)]
+fn add_arguments<'t, 's>(
+    list: &mut Vec<Need<'t, 's>>,
+    arguments: &'t CallArguments<'s>,
+) -> Result<(), AllocError>
+    ensures { OnOk result (AddsNeeds list.old list.new (in_arguments (arguments_view arguments.now))) }
+{
+    add_positional(list, &arguments.positional)?;
+    add_named(list, &arguments.named)
+}
+
+#[cycle(listing)]
+fn add_positional<'t, 's>(
+    list: &mut Vec<Need<'t, 's>>,
+    positional: &'t [InlineExpression<'s>],
+) -> Result<(), AllocError>
+    ensures { OnOk result (AddsNeeds list.old list.new (in_positional (inlines_view positional.now))) }
+{
+    for argument in positional {
+        add_inline(list, argument)?;
+    }
+    Ok(())
+}
+
+#[cycle(listing)]
+fn add_named<'t, 's>(
+    list: &mut Vec<Need<'t, 's>>,
+    named: &'t [NamedArgument<'s>],
+) -> Result<(), AllocError>
+    ensures { OnOk result (AddsNeeds list.old list.new (in_named (nameds_view named.now))) }
+{
+    for argument in named {
+        add_inline(list, &argument.value)?;
+    }
+    Ok(())
+}

@@ -1,0 +1,121 @@
+//! Patterns of a bundle, by how they are referred to.
+
+ghost use Rattle.std.specs.Prelude.{◌≡◌, ◌↔◌, IsTrue, map};
+ghost use Rattle.std.specs.Option.{option_map};
+ghost use Rattle.fluent_tree.specs.View.{attribute_of, attribute_view, pattern_view};
+ghost use Rattle.fluent_meaning.specs.Bundle.{first_of};
+ghost use Rattle.fluent_clean.specs.Places.{place_target};
+ghost use Rattle.fluent_lint.specs.PlaceView.{pattern_in, place_view};
+
+use fluent_entries::GetEntry;
+use fluent_tree::ast::{Attribute, Identifier, Pattern};
+use std::hash::{Hash, Hasher};
+
+/// The value of a message or of a term, or an attribute of it. A term's id stands without the dash.
+#[derive(Clone, Copy, Debug, Drop)]
+pub enum Place<'s> {
+    Message(Identifier<'s>, Option<Identifier<'s>>),
+    Term(Identifier<'s>, Option<Identifier<'s>>),
+}
+
+impl<'s> PartialEq for Place<'s> {
+    ghost use Rattle.std.specs.Cmp.{partial_equiv_from_equiv};
+    ghost use Rattle.fluent_tree.specs.Tree.{is_yes};
+    ghost use Rattle.fluent_tree.specs.Same.{equivalent};
+    ghost use Rattle.fluent_clean.specs.Places.{place_same};
+
+    ghost eq = { λ a b. is_yes (place_same (place_view a) (place_view b)) };
+
+    ghost laws = { partial_equiv_from_equiv (equivalent place_view place_same) };
+
+    #[tactic(auto, using(crate::proofs::Decided::decided))]
+    fn eq(&self, other: &Self) -> bool {
+        same_place(self, other)
+    }
+}
+
+impl<'s> Eq for Place<'s> {
+    ghost use Rattle.fluent_tree.specs.Same.{equivalent};
+    ghost use Rattle.fluent_clean.specs.Places.{place_same};
+
+    ghost laws = { equivalent place_view place_same };
+}
+
+impl<'s> Hash for Place<'s> {
+    ghost use Rattle.fluent_lint.specs.PlaceView.{hashed, respects};
+
+    ghost hash_input = { λ a. hashed (place_view a) };
+
+    ghost respects_eq = { respects };
+
+    fn hash<H: Hasher>(&self, state: &mut H) {
+        match self {
+            Place::Message(id, attribute) | Place::Term(id, attribute) => {
+                id.name.hash(state);
+                if let Some(name) = attribute {
+                    name.name.hash(state);
+                }
+            }
+        }
+    }
+}
+
+/// The same place, by content.
+fn same_place(a: &Place<'_>, b: &Place<'_>) -> bool
+    ensures { IsTrue result ↔ (place_view a.now ≡ place_view b.now) }
+{
+    match (a, b) {
+        (Place::Message(x, p), Place::Message(y, q)) => x.name == y.name && same_attribute(p, q),
+        (Place::Term(x, p), Place::Term(y, q)) => x.name == y.name && same_attribute(p, q),
+        _ => false,
+    }
+}
+
+fn same_attribute(a: &Option<Identifier<'_>>, b: &Option<Identifier<'_>>) -> bool
+    ensures { IsTrue result ↔ (attribute_of a.now ≡ attribute_of b.now) }
+{
+    match (a, b) {
+        (None, None) => true,
+        (Some(x), Some(y)) => x.name == y.name,
+        _ => false,
+    }
+}
+
+/// The pattern that stands there, or `None`. Takes no memory.
+pub fn pattern_at<'b, 's, F, B: GetEntry<'s, F>>(
+    bundle: &'b B,
+    place: &Place<'s>,
+) -> Option<&'b Pattern<'s>>
+    ensures { option_map (λ p. pattern_view p.now) result
+        ≡ pattern_in (place_target (B.named bundle.now) (place_view place.now)) }
+{
+    match place {
+        Place::Message(id, attribute) => {
+            let message = bundle.get_entry_message(id.name)?;
+            match attribute {
+                None => message.value.as_ref(),
+                Some(name) => attribute_named(&message.attributes, name.name),
+            }
+        }
+        Place::Term(id, attribute) => {
+            let term = bundle.get_entry_term(id.name)?;
+            match attribute {
+                None => Some(&term.value),
+                Some(name) => attribute_named(&term.attributes, name.name),
+            }
+        }
+    }
+}
+
+/// The first attribute of a name.
+fn attribute_named<'b, 's>(attributes: &'b [Attribute<'s>], name: &str) -> Option<&'b Pattern<'s>>
+    ensures { option_map (λ p. pattern_view p.now) result
+        ≡ pattern_in (first_of name.now (map attribute_view attributes.now)) }
+{
+    for attribute in attributes {
+        if attribute.id.name == name {
+            return Some(&attribute.value);
+        }
+    }
+    None
+}
