@@ -5,6 +5,8 @@
 #[cfg(test)]
 mod by_hand;
 #[cfg(test)]
+mod by_id;
+#[cfg(test)]
 mod catalogs;
 #[cfg(test)]
 mod check;

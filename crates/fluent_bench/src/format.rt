@@ -25,7 +25,7 @@ pub type Bundle<'r, 's> = FluentBundle<
 /// A figure is the best of so many batches.
 pub const BATCHES: u32 = 5;
 
-fn out_of_memory() -> io::Error {
+pub fn out_of_memory() -> io::Error {
     io::Error::from(io::ErrorKind::OutOfMemory)
 }
 
@@ -67,7 +67,7 @@ fn pattern_of<'m, 's>(bundle: &'m Bundle<'_, 's>, id: &str) -> Option<&'m Patter
 }
 
 /// The arguments that words `NAME=VALUE` give; the other words give none.
-fn arguments<'w>(alloc: Global, words: &'w [String]) -> io::Result<FluentArgs<'w, NoCustom>> {
+pub fn arguments<'w>(alloc: Global, words: &'w [String]) -> io::Result<FluentArgs<'w, NoCustom>> {
     let mut args = FluentArgs::new(alloc);
     for word in words {
         if let Some((name, value)) = word.as_str().split_once('=') {
@@ -78,7 +78,7 @@ fn arguments<'w>(alloc: Global, words: &'w [String]) -> io::Result<FluentArgs<'w
 }
 
 /// Writes a figure of a turn, in nanoseconds with one place.
-fn say(rt: &HostRuntime, call: &str, nanoseconds: u128, turns: u32) -> io::Result<()> {
+pub fn say(rt: &HostRuntime, call: &str, nanoseconds: u128, turns: u32) -> io::Result<()> {
     let tenths = nanoseconds
         .saturating_mul(10)
         .checked_div(turns as u128)
@@ -86,6 +86,17 @@ fn say(rt: &HostRuntime, call: &str, nanoseconds: u128, turns: u32) -> io::Resul
     let (whole, tenth) = (tenths / 10, tenths % 10);
     eprintln!(rt; "{call} {whole}.{tenth} ns")?;
     Ok(())
+}
+
+/// Writes what a call gives.
+pub fn say_answer(rt: &HostRuntime, bytes: usize, errors: usize) -> io::Result<()> {
+    println!(rt; "{bytes} bytes, {errors} errors")?;
+    Ok(())
+}
+
+/// Whether the words leave isolation on.
+pub fn is_isolating(words: &[String]) -> bool {
+    !words.iter().any(|word| word.as_str() == "--no-isolate")
 }
 
 /// The least time of a batch of calls that answer a text.
@@ -158,8 +169,7 @@ pub fn time_formatting(
     words: &[String],
 ) -> io::Result<()> {
     let resource = read(rt.alloc(), source)?;
-    let isolate = !words.iter().any(|word| word.as_str() == "--no-isolate");
-    let bundle = bundle_of(rt.alloc(), isolate, &resource)?;
+    let bundle = bundle_of(rt.alloc(), is_isolating(words), &resource)?;
     let args = arguments(rt.alloc(), words)?;
     let Some(id) = words.get(1) else {
         return Err(bad_usage());
@@ -169,7 +179,7 @@ pub fn time_formatting(
     };
     let answered = time_format(rt, turns, &bundle, pattern, &args)?;
     let (written, bytes, errors) = time_write(rt, turns, &bundle, pattern, &args)?;
-    println!(rt; "{bytes} bytes, {errors} errors")?;
+    say_answer(rt, bytes, errors)?;
     say(rt, "format_pattern", answered, turns)?;
     say(rt, "write_pattern", written, turns)
 }

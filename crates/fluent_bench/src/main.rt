@@ -6,12 +6,14 @@ mod count;
 mod format;
 mod read;
 mod request;
+mod value;
 
 use add::time_adding;
 use format::time_formatting;
 use read::time_reading;
 use request::Request;
 use std::io;
+use value::time_values;
 
 fn main(rt: HostRuntime) -> io::Result<()> {
     let request = Request::from_words(&rt)?;
@@ -21,6 +23,9 @@ fn main(rt: HostRuntime) -> io::Result<()> {
         Request::Add { turns } => time_adding(&rt, source.as_str(), turns),
         Request::Format { turns, words } => {
             time_formatting(&rt, source.as_str(), turns, words.as_slice())
+        }
+        Request::Value { turns, words } => {
+            time_values(&rt, source.as_str(), turns, words.as_slice())
         }
     }
 }

@@ -3,13 +3,15 @@
 use std::{env, io};
 
 /// `parse N`: read the source in batches of N turns. `add N`: add it to a bundle, likewise. `format ID N [--no-isolate]
-/// [NAME=VALUE]..`: format a message, or an attribute `MESSAGE.ATTRIBUTE`, in batches of N calls; `words` holds all of
-/// them but the first.
+/// [NAME=VALUE]..`: format a message, or an attribute `MESSAGE.ATTRIBUTE`, in batches of N calls, of a pattern that is
+/// looked up once. `value ID N ..`: the same by id, so that each call looks it up. `words` holds all of them but the
+/// program's name.
 #[derive(Drop)]
 pub enum Request {
     Parse { turns: u32 },
     Add { turns: u32 },
     Format { turns: u32, words: Vec<String> },
+    Value { turns: u32, words: Vec<String> },
 }
 
 impl Request {
@@ -27,6 +29,10 @@ impl Request {
                 turns: number_at(words.as_slice(), 1)?,
             }),
             Some(command) if command.as_str() == "format" => Ok(Request::Format {
+                turns: number_at(words.as_slice(), 2)?,
+                words,
+            }),
+            Some(command) if command.as_str() == "value" => Ok(Request::Value {
                 turns: number_at(words.as_slice(), 2)?,
                 words,
             }),

@@ -3,3 +3,4 @@ pub mod Formats
 pub mod Givings
 pub mod Running
 pub mod Parts
+pub mod Asked

@@ -13,3 +13,6 @@ pub mod Said
 pub mod CallRows
 pub mod Messages
 pub mod Under
+pub mod Free
+pub mod ById
+pub mod Inside

@@ -4,11 +4,12 @@
 ghost use Rattle.std.specs.Prelude.{◌≡◌, ◌≢◌, ◌&&◌, not, if◌then◌else◌, is_some, None, Some, false, Err, IfOk, OnOk, string_bytes};
 ghost use Rattle.std.specs.Option.{option_map};
 ghost use Rattle.fluent_meaning.specs.Value.{text_value};
-ghost use Rattle.fluent_text.specs.Unescaped.{Lends};
 ghost use Rattle.fluent_text.specs.Writer.{failed_in, empty_in, CountsFault};
-ghost use Rattle.fluent_tree.specs.Tree.{Text};
+ghost use Rattle.fluent_tree.specs.References.{references};
 ghost use Rattle.fluent_tree.specs.View.{pattern_view};
-ghost use Rattle.fluent_bundle.specs.BundleView.{formatter_in, transform_in};
+ghost use Rattle.fluent_entries.specs.Numbered.{IsPlaced};
+ghost use Rattle.fluent_bundle.specs.BundleView.{entries_in, formatter_in, transform_in};
+ghost use Rattle.fluent_bundle.specs.Free.{LendsText, WritesFree};
 ghost use Rattle.fluent_bundle.specs.Under.{AddsBeginning, AddsWhole, Extends, GivesWhole, GivesWithin, IsLimited, IsText, Writes, WritesBeginning, WritesWhole, WritesWithin};
 ghost use Rattle.fluent_values.specs.Texts.{sole_text, is_text, IsTextAlone};
 ghost use Rattle.fluent_values.specs.Written.{CountsTell};
@@ -78,19 +79,10 @@ impl<
         ensures limit { IsLimited (⟦<Self as Says>⟧.under self.now args.entry)
             (pattern_view pattern.now) }
         ensures fault { CountsFault w.old w.new result }
-        ensures memory { IsTextAlone (pattern_view pattern.now) → transform_in self.now ≡ None →
-            result ≢ Err WriteFault.Memory }
+        ensures memory { WritesFree self.now (pattern_view pattern.now) result }
     {
         laws::limits_are_kept();
-        let mut unused = String::new(self.alloc);
-        let mut out = Output {
-            writer: w,
-            buffer: &mut unused,
-            is_buffered: false,
-            error: None,
-        };
-        let written = self.write_out(&mut out, pattern, args, errors);
-        with_error(written, out.error)
+        self.write_linked(w, pattern, Place::by_name(), args, errors)
     }
 
     /// The text of a pattern, as [`FluentBundle::write_pattern`] writes it, and then as the formatter shows it as a
@@ -114,14 +106,65 @@ impl<
             (pattern_view pattern.now) errors.old errors.new }
         ensures limit { IsLimited (⟦<Self as Says>⟧.under self.now args.entry)
             (pattern_view pattern.now) }
-        ensures lent { (t : Text) → sole_text (pattern_view pattern.now) ≡ Some t →
-            transform_in self.now ≡ None → formatter_in self.now ≡ None → Lends result t }
+        ensures lent { LendsText self.now (pattern_view pattern.now) result }
+    {
+        laws::limits_are_kept();
+        self.format_linked(pattern, Place::by_name(), args, errors)
+    }
+
+    /// Writes a pattern whose references go by their links, or by name where there are none.
+    pub(crate) fn write_linked<W: Write>(
+        &self,
+        w: &mut Counting<W>,
+        pattern: &Pattern<'s>,
+        place: Place<'_>,
+        args: Option<&FluentArgs<'_, C>>,
+        errors: &mut Vec<FluentError>,
+    ) -> Result<(), WriteFault>
+        requires { IsPlaced (entries_in self.now) (references (pattern_view pattern.now)) place }
+        ensures within { WritesWithin (⟦<Self as Says>⟧.under self.now args.entry)
+            (pattern_view pattern.now) result W.contents w.old w.new errors.old errors.new }
+        ensures whole { WritesWhole (⟦<Self as Says>⟧.under self.now args.entry)
+            (pattern_view pattern.now) result W.contents w.old w.new errors.old errors.new }
+        ensures front { WritesBeginning (⟦<Self as Says>⟧.under self.now args.entry)
+            (pattern_view pattern.now) W.contents w.old w.new errors.old errors.new }
+        ensures fault { CountsFault w.old w.new result }
+        ensures memory { WritesFree self.now (pattern_view pattern.now) result }
+    {
+        laws::limits_are_kept();
+        let mut unused = String::new(self.alloc);
+        let mut out = Output {
+            writer: w,
+            buffer: &mut unused,
+            is_buffered: false,
+            error: None,
+        };
+        let written = self.write_out(&mut out, pattern, place, args, errors);
+        with_error(written, out.error)
+    }
+
+    /// The text of a pattern whose references go by their links, or by name where there are none.
+    pub(crate) fn format_linked(
+        &self,
+        pattern: &Pattern<'s>,
+        place: Place<'_>,
+        args: Option<&FluentArgs<'_, C>>,
+        errors: &mut Vec<FluentError>,
+    ) -> Result<CowStr<'s>, AllocError>
+        requires { IsPlaced (entries_in self.now) (references (pattern_view pattern.now)) place }
+        ensures within { GivesWithin (⟦<Self as Says>⟧.under self.now args.entry)
+            (pattern_view pattern.now) result errors.old errors.new }
+        ensures whole { GivesWhole (⟦<Self as Says>⟧.under self.now args.entry)
+            (pattern_view pattern.now) result errors.old errors.new }
+        ensures front { AddsBeginning (⟦<Self as Says>⟧.under self.now args.entry)
+            (pattern_view pattern.now) errors.old errors.new }
+        ensures lent { LendsText self.now (pattern_view pattern.now) result }
     {
         laws::limits_are_kept();
         if let Some(text) = self.sole_text(pattern) {
             return Ok(CowStr::Borrowed(text));
         }
-        let text = self.gather(pattern, args, errors)?;
+        let text = self.gather(pattern, place, args, errors)?;
         match self.formatted_text(text.as_str())? {
             Some(shown) => Ok(CowStr::Owned(shown)),
             None => Ok(CowStr::Owned(text)),
@@ -163,9 +206,11 @@ impl<
         &self,
         out: &mut Output<W>,
         pattern: &Pattern<'s>,
+        place: Place<'_>,
         args: Option<&FluentArgs<'_, C>>,
         errors: &mut Vec<FluentError>,
     ) -> Result<(), Halt>
+        requires { IsPlaced (entries_in self.now) (references (pattern_view pattern.now)) place }
         ensures writes { Writes (⟦<Self as Says>⟧.under self.now args.entry)
             (pattern_view pattern.now) result W.contents out.old out.new errors.old errors.new }
         ensures memory { IsTextAlone (pattern_view pattern.now) → transform_in self.now ≡ None →
@@ -176,7 +221,7 @@ impl<
         }
         calls_pass_through::<LinkedList<u8>>();
         let mut scope = Scope::new(self, &self.entries, args, Some(errors));
-        let written = write_pattern(&mut scope, out, pattern, Place::by_name());
+        let written = write_pattern(&mut scope, out, pattern, place);
         match scope.into_errors() {
             Some(_list) => written,
             None => written,
@@ -187,9 +232,11 @@ impl<
     fn gather(
         &self,
         pattern: &Pattern<'s>,
+        place: Place<'_>,
         args: Option<&FluentArgs<'_, C>>,
         errors: &mut Vec<FluentError>,
     ) -> Result<String, AllocError>
+        requires { IsPlaced (entries_in self.now) (references (pattern_view pattern.now)) place }
         ensures text { IfOk result
             (IsText (⟦<Self as Says>⟧.under self.now args.entry) (pattern_view pattern.now)) }
         ensures errors { OnOk result (AddsWhole (⟦<Self as Says>⟧.under self.now args.entry)
@@ -199,7 +246,7 @@ impl<
     {
         let mut text = String::with_capacity(self.alloc, ROOM)?;
         let mut unused = Counting::new(Vec::new(self.alloc));
-        match self.write_into(&mut text, &mut unused, pattern, args, errors) {
+        match self.write_into(&mut text, &mut unused, pattern, place, args, errors) {
             Ok(()) => Ok(text),
             Err(_) => Err(AllocError),
         }
@@ -211,9 +258,11 @@ impl<
         text: &mut String,
         unused: &mut Counting<W>,
         pattern: &Pattern<'s>,
+        place: Place<'_>,
         args: Option<&FluentArgs<'_, C>>,
         errors: &mut Vec<FluentError>,
     ) -> Result<(), Halt>
+        requires { IsPlaced (entries_in self.now) (references (pattern_view pattern.now)) place }
         ensures text { OnOk result (Extends (⟦<Self as Says>⟧.under self.now args.entry)
             (pattern_view pattern.now) text.old text.new) }
         ensures errors { OnOk result (AddsWhole (⟦<Self as Says>⟧.under self.now args.entry)
@@ -229,7 +278,7 @@ impl<
             is_buffered: true,
             error: None,
         };
-        self.write_out(&mut out, pattern, args, errors)
+        self.write_out(&mut out, pattern, place, args, errors)
     }
 }
 

@@ -2,6 +2,7 @@
 #![tactic(auto)]
 
 pub mod bundle;
+mod by_id;
 mod calls;
 pub mod examples;
 mod formatting;

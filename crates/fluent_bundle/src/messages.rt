@@ -83,13 +83,13 @@ impl<
         ensures front { AddsFront (parts_errors (⟦<Self as Says>⟧.under self.now args.entry)
             message.now) errors.old errors.new }
     {
-        let value = self.format_value(&message.value, args, errors)?;
+        let value = self.format_optional(&message.value, args, errors)?;
         let attributes = self.format_attributes(message.attributes.as_slice(), args, errors)?;
         Ok(FormattedMessage { value, attributes })
     }
 
     /// The text of a value, where there is one.
-    fn format_value(
+    fn format_optional(
         &self,
         value: &Option<ast::Pattern<'s>>,
         args: Option<&FluentArgs<'_, C>>,

@@ -21,11 +21,8 @@ pub fn show<
     args: Option<&FluentArgs<'_, C>>,
 ) -> Result<()> {
     let mut errors = Vec::new(rt.alloc());
-    match bundle.get_message(id).and_then(|message| message.value()) {
-        Some(pattern) => {
-            let text = bundle.format_pattern(pattern, args, &mut errors)?;
-            println!(rt; "{}", text.as_str())?;
-        }
+    match bundle.format_value(id, args, &mut errors)? {
+        Some(text) => println!(rt; "{}", text.as_str())?,
         None => println!(rt; "{id}")?,
     }
     show_errors(rt, errors.as_slice())

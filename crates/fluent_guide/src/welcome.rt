@@ -22,10 +22,8 @@ fn welcome(rt: &HostRuntime, resource: &FluentResource<'_>, name: &str) -> Resul
     bundle.add_resource(resource).ok().context("not added")?;
     let mut args = FluentArgs::new(rt.alloc());
     args.set(CowStr::Borrowed("name"), FluentValue::from(name))?;
-    let message = bundle.get_message("intro").context("no message")?;
-    let pattern = message.value().context("no value")?;
     let mut errors = Vec::new(rt.alloc());
-    let text = bundle.format_pattern(pattern, Some(&args), &mut errors)?;
-    println!(rt; "{}", text.as_str())?;
+    let text = bundle.format_value("intro", Some(&args), &mut errors)?;
+    println!(rt; "{}", text.context("no value")?.as_str())?;
     Ok(())
 }

@@ -24,7 +24,9 @@ fn is_alike(
     has_formatter: bool,
 ) -> Result<bool, AllocError> {
     let mut errors = Vec::new(alloc);
-    let text = format(asked, &mut errors)?;
+    let Some(text) = format(asked, &mut errors)? else {
+        return Ok(false);
+    };
     let found = lines(alloc, errors.as_slice())?;
     let is_same = has_formatter || text.as_str().as_bytes() == written.0.as_slice();
     Ok(is_same && found.as_str() == written.1.as_str())

@@ -3,7 +3,7 @@ use crate::bundles::{Bundle, all, pattern_in, read_all};
 use crate::damaged;
 use crate::objects::{Formatter, Function, Plurals, Star, Upper};
 use crate::values::{Args, arguments};
-use crate::ways::{are_told, call_for, hold, stops_behind};
+use crate::ways::{are_told, call_by_id, call_for, finds_nothing, hold, stops_behind};
 use fluent_bundle::ast::Pattern;
 use fluent_chain::{Chain, Link};
 use fluent_rows::fixture::{Fixture, Row, Told, Wanted};
@@ -70,10 +70,13 @@ fn gives<'s>(
         return report.holds(false, "no such value");
     };
     let asked = call_for(bundle, pattern, args);
+    let by_id = call_by_id(bundle, row.id, row.attribute, args);
     if told.is_full {
-        return stops_behind(alloc, &asked, told, report);
+        stops_behind(alloc, &asked, told, report)?;
+        return stops_behind(alloc, &by_id, told, report);
     }
     hold(alloc, &asked, told, report)?;
+    hold(alloc, &by_id, told, report)?;
     report.holds(has(links, row), "a chain has no such value")?;
     chained(alloc, links, row, told, args, report)
 }
@@ -106,6 +109,10 @@ fn is_nothing<'s>(
 ) -> Result<(), AllocError> {
     let is_there = has(links, row) || first_with(links, row).is_some();
     report.holds(!is_there, "there is such a value")?;
+    for link in links {
+        let asked = call_by_id(link.0, row.id, row.attribute, None);
+        finds_nothing(alloc, &asked, report)?;
+    }
     let told = Told {
         text: String::from_str(alloc, row.id)?,
         formatted: None,

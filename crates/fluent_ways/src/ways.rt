@@ -1,7 +1,7 @@
 //! The ways in which a call is tried.
 use crate::bundles::Bundle;
 use crate::values::Args;
-use crate::writers::{End, How, Narrow, end_of, writer_of};
+use crate::writers::{End, How, Narrow, end_by_id, end_of, writer_of};
 use fluent_bundle::ast::Pattern;
 use fluent_bundle::{Counting, FluentError};
 use fluent_rows::fixture::Told;
@@ -9,12 +9,30 @@ use fluent_rows::report::Report;
 use std::alloc::{AllocError, Global};
 use std::borrow::CowStr;
 
-/// What a call is made for: a bundle, a pattern, and arguments if there are some.
+/// How a bundle is told what to format: by a pattern that was looked up, or by id, a value or an attribute.
+#[derive(Clone, Copy, Drop)]
+enum By<'x, 's> {
+    Pattern(&'x Pattern<'s>),
+    Value(&'x str),
+    Attribute(&'x str, &'x str),
+}
+
+/// What a call is made for: a bundle, what it is asked for, and arguments if there are some.
 #[derive(Clone, Copy, Drop)]
 pub struct Asked<'x, 'r, 's, 'f> {
     bundle: &'x Bundle<'r, 's, 'f>,
-    pattern: &'x Pattern<'s>,
+    by: By<'x, 's>,
     args: Option<&'x Args<'f>>,
+}
+
+impl Asked<'_, '_, '_, '_> {
+    /// The name of a way, by what the bundle is told.
+    fn way(&self, of_pattern: &'static str, by_id: &'static str) -> &'static str {
+        match self.by {
+            By::Pattern(_) => of_pattern,
+            _ => by_id,
+        }
+    }
 }
 
 /// What is made with these.
@@ -25,32 +43,50 @@ pub fn call_for<'x, 'r, 's, 'f>(
 ) -> Asked<'x, 'r, 's, 'f> {
     Asked {
         bundle,
-        pattern,
+        by: By::Pattern(pattern),
         args,
     }
 }
 
-/// Formats a pattern.
+/// The same by id: of a value, or of an attribute where a name is given.
+pub fn call_by_id<'x, 'r, 's, 'f>(
+    bundle: &'x Bundle<'r, 's, 'f>,
+    id: &'x str,
+    attribute: Option<&'x str>,
+    args: Option<&'x Args<'f>>,
+) -> Asked<'x, 'r, 's, 'f> {
+    let by = match attribute {
+        Some(name) => By::Attribute(id, name),
+        None => By::Value(id),
+    };
+    Asked { bundle, by, args }
+}
+
+/// Formats what is asked for, if it is there.
 pub fn format<'s>(
     asked: &Asked<'_, '_, 's, '_>,
     errors: &mut Vec<FluentError>,
-) -> Result<CowStr<'s>, AllocError> {
-    asked
-        .bundle
-        .format_pattern(asked.pattern, asked.args, errors)
+) -> Result<Option<CowStr<'s>>, AllocError> {
+    let (bundle, args) = (asked.bundle, asked.args);
+    match asked.by {
+        By::Pattern(pattern) => Ok(Some(bundle.format_pattern(pattern, args, errors)?)),
+        By::Value(id) => bundle.format_value(id, args, errors),
+        By::Attribute(id, name) => bundle.format_attribute(id, name, args, errors),
+    }
 }
 
-/// Writes a pattern.
+/// Writes what is asked for.
 fn write(
     asked: &Asked<'_, '_, '_, '_>,
     w: &mut Counting<Narrow>,
     errors: &mut Vec<FluentError>,
 ) -> End {
-    end_of(
-        asked
-            .bundle
-            .write_pattern(w, asked.pattern, asked.args, errors),
-    )
+    let (bundle, args) = (asked.bundle, asked.args);
+    match asked.by {
+        By::Pattern(pattern) => end_of(bundle.write_pattern(w, pattern, args, errors)),
+        By::Value(id) => end_by_id(bundle.write_value(w, id, args, errors)),
+        By::Attribute(id, name) => end_by_id(bundle.write_attribute(w, id, name, args, errors)),
+    }
 }
 
 // ---- errors
@@ -81,7 +117,7 @@ pub fn are_told(
 
 // ---- whole calls
 
-/// Formats a pattern.
+/// Formats what is asked for.
 fn formats(
     alloc: Global,
     asked: &Asked<'_, '_, '_, '_>,
@@ -89,21 +125,19 @@ fn formats(
     report: &mut Report<'_>,
 ) -> Result<(), AllocError> {
     let mut errors = Vec::new(alloc);
-    let text = format(asked, &mut errors)?;
-    report.same(told.formatted(), text.as_str(), "format_pattern")?;
-    are_told(
-        alloc,
-        errors.as_slice(),
-        told,
-        "errors of format_pattern",
-        report,
-    )
+    let way = asked.way("format_pattern", "format by id");
+    match format(asked, &mut errors)? {
+        Some(text) => report.same(told.formatted(), text.as_str(), way)?,
+        None => report.holds(false, "no text by id")?,
+    }
+    let way = asked.way("errors of format_pattern", "errors of format by id");
+    are_told(alloc, errors.as_slice(), told, way, report)
 }
 
 /// What a call wrote: its text and the lines of its errors.
 pub type Written = (Vec<u8>, String);
 
-/// Writes a pattern to a writer that takes so many bytes at once, and has room for all; `None` where it fails.
+/// Writes what is asked for to a writer that takes so many bytes at once, and has room for all; `None` where it fails.
 pub fn write_whole(
     alloc: Global,
     asked: &Asked<'_, '_, '_, '_>,
@@ -127,7 +161,7 @@ pub fn write_whole(
     Ok(Some((w.into_inner().taken, errors)))
 }
 
-/// Writes a pattern so.
+/// Writes what is asked for so.
 fn writes(
     alloc: Global,
     asked: &Asked<'_, '_, '_, '_>,
@@ -136,19 +170,17 @@ fn writes(
     report: &mut Report<'_>,
 ) -> Result<(), AllocError> {
     let Some((taken, errors)) = write_whole(alloc, asked, at_once)? else {
-        return report.holds_at(
-            false,
+        let way = asked.way(
             "write_pattern failed where a writer takes at once",
-            at_once,
+            "write by id failed where a writer takes at once",
         );
+        return report.holds_at(false, way, at_once);
     };
     let text = str::from_utf8(taken.as_slice()).unwrap_or("no text");
-    report.same(told.text.as_str(), text, "write_pattern")?;
-    report.same(
-        told.errors.as_str(),
-        errors.as_str(),
-        "errors of write_pattern",
-    )
+    let way = asked.way("write_pattern", "write by id");
+    report.same(told.text.as_str(), text, way)?;
+    let way = asked.way("errors of write_pattern", "errors of write by id");
+    report.same(told.errors.as_str(), errors.as_str(), way)
 }
 
 // ---- calls that stop
@@ -167,7 +199,7 @@ fn is_front(taken: &[u8], how: How, text: &str) -> bool {
     taken.len() == how.in_all && text.as_bytes().starts_with(taken)
 }
 
-/// Writes a pattern to a writer that takes a front of its text: what it took is that, and the lines of the errors that
+/// Writes what is asked for to a writer that takes a front of its text: what it took is that, and the lines of the errors that
 /// were added.
 fn stopped(
     alloc: Global,
@@ -186,13 +218,16 @@ fn stopped(
     let is_front = is_front(w.into_inner().taken.as_slice(), how, text);
     report.holds_at(
         is_one && is_front,
-        "write_pattern to a writer that is full",
+        asked.way(
+            "write_pattern to a writer that is full",
+            "write by id to a writer that is full",
+        ),
         how.in_all,
     )?;
     lines(alloc, errors.as_slice())
 }
 
-/// Writes a pattern to a writer that takes less than its text, after which the errors begin those of the row.
+/// Writes what is asked for to a writer that takes less than its text, after which the errors begin those of the row.
 fn stops(
     alloc: Global,
     asked: &Asked<'_, '_, '_, '_>,
@@ -260,6 +295,32 @@ fn stops_everywhere(
         }
     }
     Ok(())
+}
+
+/// That nothing is found by id: no text is given and none written, and there is no error.
+pub fn finds_nothing(
+    alloc: Global,
+    asked: &Asked<'_, '_, '_, '_>,
+    report: &mut Report<'_>,
+) -> Result<(), AllocError> {
+    let mut errors = Vec::new(alloc);
+    let text = format(asked, &mut errors)?;
+    report.holds(text.is_none() && errors.is_empty(), "a text is given by id")?;
+    let how = How {
+        at_once: usize::MAX,
+        in_all: usize::MAX,
+        fails: true,
+    };
+    let mut w = writer_of(alloc, how);
+    let end = write(asked, &mut w, &mut errors);
+    if end == End::Memory {
+        return Err(AllocError);
+    }
+    let is_untouched = w.into_inner().taken.is_empty() && errors.is_empty();
+    report.holds(
+        end == End::Nothing && is_untouched,
+        "a text is written by id",
+    )
 }
 
 /// Each way of a bundle.

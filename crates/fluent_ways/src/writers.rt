@@ -55,6 +55,7 @@ pub fn writer_of(alloc: Global, how: How) -> Counting<Narrow> {
 #[derive(Clone, Copy, Drop, PartialEq, Eq)]
 pub enum End {
     Whole,
+    Nothing,
     Memory,
     Writer,
     Other,
@@ -73,5 +74,14 @@ pub fn end_of(outcome: Result<(), WriteFault>) -> End {
             _ => End::Other,
         },
         Err(WriteFault::Zero) => End::Zero,
+    }
+}
+
+/// How a call by id ended: with nothing where there is nothing to write.
+pub fn end_by_id(outcome: Result<bool, WriteFault>) -> End {
+    match outcome {
+        Ok(true) => End::Whole,
+        Ok(false) => End::Nothing,
+        Err(fault) => end_of(Err(fault)),
     }
 }

@@ -1,76 +1,9 @@
-use Rattle.std.proofs.Common.{rules, refl, sym, ap, ◌∙◌, [], append-nil}
-use Rattle.std.specs.Option.{option_map, unwrap_or}
 use Rattle.fluent_tree.specs.View.{pattern_view}
-use Rattle.fluent_meaning.specs.Bundle.{transform_of, formatter_of}
-use Rattle.fluent_bundle.specs.BundleView.{formatter_in, intls_in, meant, transform_in}
-use Rattle.fluent_resolver.specs.Status.{arguments_view, reported}
-use Rattle.fluent_bundle.proofs.Givings.{gives_within, lent_where, sole_formatted, sole_known, none_added}
+use Rattle.fluent_bundle.specs.BundleView.{meant}
+use Rattle.fluent_resolver.specs.Status.{arguments_view}
 use Rattle.fluent_bundle.proofs.bundle.FluentBundle.format_pattern.Goals as goal
-
-pub returns-in-Some-clause-whole : goal.returns-in-Some-clause-whole
-returns-in-Some-clause-whole g c =
-    let self = c.args.self.now in
-    let b = meant g.M.MemoizerKind.category g.C.FluentType.shown g.C.FluentType.alike g.F.FluentFunction.answer g.G.FluentFormatter.formatted g.T.Transform.changed self in
-    let env = arguments_view g.C.FluentType.content c.args.args in
-    let p = pattern_view c.args.pattern.now in
-    let t = c.in-Some.text.now in
-    let lent = lent_where (transform_in self) (formatter_in self) p t (sym (ap (option_map (λ t. t.now)) c.in-Some.is) ∙ c.sole_text.ensures) in
-    record {
-      text = sole_formatted b env p t
-          (λ u. ap (λ o. transform_of (option_map g.T.Transform.changed o) u) lent.0)
-          (λ v. ap (λ o. formatter_of (option_map (λ f v. g.G.FluentFormatter.formatted f v (intls_in self)) o) v) lent.1)
-          lent.2;
-      adds = none_added b env p t c.args.errors.now.items lent.2;
-    }
-
-pub returns-in-Some-clause-within : goal.returns-in-Some-clause-within
-returns-in-Some-clause-within g c =
-    let b = meant g.M.MemoizerKind.category g.C.FluentType.shown g.C.FluentType.alike g.F.FluentFunction.answer g.G.FluentFormatter.formatted g.T.Transform.changed c.args.self.now in
-    gives_within b (arguments_view g.C.FluentType.content c.args.args) (pattern_view c.args.pattern.now) _ _ _ (c.limits_are_kept.ensures b (arguments_view g.C.FluentType.content c.args.args) (pattern_view c.args.pattern.now)) (returns-in-Some-clause-whole g c)
-
-pub returns-in-Some-2-clause-within : goal.returns-in-Some-2-clause-within
-returns-in-Some-2-clause-within g c =
-    let b = meant g.M.MemoizerKind.category g.C.FluentType.shown g.C.FluentType.alike g.F.FluentFunction.answer g.G.FluentFormatter.formatted g.T.Transform.changed c.args.self.now in
-    gives_within b (arguments_view g.C.FluentType.content c.args.args) (pattern_view c.args.pattern.now) _ _ _ (c.limits_are_kept.ensures b (arguments_view g.C.FluentType.content c.args.args) (pattern_view c.args.pattern.now)) (search rules)
-
-pub returns-clause-within : goal.returns-clause-within
-returns-clause-within g c =
-    let b = meant g.M.MemoizerKind.category g.C.FluentType.shown g.C.FluentType.alike g.F.FluentFunction.answer g.G.FluentFormatter.formatted g.T.Transform.changed c.args.self.now in
-    gives_within b (arguments_view g.C.FluentType.content c.args.args) (pattern_view c.args.pattern.now) _ _ _ (c.limits_are_kept.ensures b (arguments_view g.C.FluentType.content c.args.args) (pattern_view c.args.pattern.now)) (search rules)
-
-pub returns-in-Some-clause-limit : goal.returns-in-Some-clause-limit
-returns-in-Some-clause-limit g c =
-    let b = meant g.M.MemoizerKind.category g.C.FluentType.shown g.C.FluentType.alike g.F.FluentFunction.answer g.G.FluentFormatter.formatted g.T.Transform.changed c.args.self.now in
-    c.limits_are_kept.ensures b (arguments_view g.C.FluentType.content c.args.args) (pattern_view c.args.pattern.now)
-
-pub returns-in-Some-2-clause-limit : goal.returns-in-Some-2-clause-limit
-returns-in-Some-2-clause-limit g c =
-    let b = meant g.M.MemoizerKind.category g.C.FluentType.shown g.C.FluentType.alike g.F.FluentFunction.answer g.G.FluentFormatter.formatted g.T.Transform.changed c.args.self.now in
-    c.limits_are_kept.ensures b (arguments_view g.C.FluentType.content c.args.args) (pattern_view c.args.pattern.now)
 
 pub returns-clause-limit : goal.returns-clause-limit
 returns-clause-limit g c =
     let b = meant g.M.MemoizerKind.category g.C.FluentType.shown g.C.FluentType.alike g.F.FluentFunction.answer g.G.FluentFormatter.formatted g.T.Transform.changed c.args.self.now in
     c.limits_are_kept.ensures b (arguments_view g.C.FluentType.content c.args.args) (pattern_view c.args.pattern.now)
-
-pub returns-in_err-text-clause-limit : goal.returns-in_err-text-clause-limit
-returns-in_err-text-clause-limit g c =
-    let b = meant g.M.MemoizerKind.category g.C.FluentType.shown g.C.FluentType.alike g.F.FluentFunction.answer g.G.FluentFormatter.formatted g.T.Transform.changed c.args.self.now in
-    c.limits_are_kept.ensures b (arguments_view g.C.FluentType.content c.args.args) (pattern_view c.args.pattern.now)
-
-pub returns-in_err-shown-clause-limit : goal.returns-in_err-shown-clause-limit
-returns-in_err-shown-clause-limit g c =
-    let b = meant g.M.MemoizerKind.category g.C.FluentType.shown g.C.FluentType.alike g.F.FluentFunction.answer g.G.FluentFormatter.formatted g.T.Transform.changed c.args.self.now in
-    c.limits_are_kept.ensures b (arguments_view g.C.FluentType.content c.args.args) (pattern_view c.args.pattern.now)
-
-pub returns-in-Some-clause-lent : goal.returns-in-Some-clause-lent
-returns-in-Some-clause-lent g c = λ t is a b.
-    ap (λ o. unwrap_or o t) (sym (ap (option_map (λ t. t.now)) c.in-Some.is) ∙ sole_known (transform_in c.args.self.now) (formatter_in c.args.self.now) (pattern_view c.args.pattern.now) t _ c.sole_text.ensures is a b)
-
-pub returns-in-Some-clause-front : goal.returns-in-Some-clause-front
-returns-in-Some-clause-front g c = record {
-  front = [];
-  rest = _;
-  whole = refl;
-  adds = record { added = sym (append-nil (reported c.args.errors.now.items)) };
-}

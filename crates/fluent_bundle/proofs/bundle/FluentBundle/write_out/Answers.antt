@@ -1,9 +1,11 @@
-use Rattle.std.proofs.Common.{rules, ◌≡◌, ap, sym, ◌∙◌}
+use Rattle.std.proofs.Common.{rules, ◌≡◌, ap, sym, subst, ◌∙◌}
 use Rattle.std.specs.Option.{option_map}
+use Rattle.fluent_tree.specs.References.{references}
 use Rattle.fluent_tree.specs.Tree.{Text}
 use Rattle.fluent_tree.specs.View.{pattern_view}
 use Rattle.fluent_meaning.specs.Bundle.{transform_of}
 use Rattle.fluent_meaning.specs.Result.{written_pattern}
+use Rattle.fluent_entries.specs.Numbered.{IsPlaced}
 use Rattle.fluent_bundle.specs.BundleView.{bundle_parts, is_plain, meant, transform_in}
 use Rattle.fluent_resolver.specs.Status.{arguments_view, errors_in, reported, status}
 use Rattle.fluent_bundle.proofs.Formats.{fresh, never_none, writes_of, writes_text}
@@ -39,3 +41,7 @@ pub returns-in-None-clause-writes : goal.returns-in-None-clause-writes
 returns-in-None-clause-writes g c =
     let kept = c.write_pattern-written.ensures.wrote.went.along.passed.keeps.list in
     absurd (never_none (λ e. e.ghost_name) (errors_in c.write_pattern-written.new.scope) _ (sym c.into_errors.ensures ∙ c.in-None.is) (kept ∙ ap (option_map (λ e. e.ghost_name)) c.new-scope.ensures.errors))
+
+pub write_pattern-written-requires : goal.write_pattern-written-requires
+unfolding bundle_parts
+write_pattern-written-requires g c = subst (λ m. IsPlaced m (references (pattern_view c.args.pattern.now)) c.args.place) (sym c.new-scope.ensures.ids) c.requires

@@ -1,0 +1,123 @@
+-- What is asked for by id.
+use Rattle.std.proofs.Common.{◌≡◌, ◌∙◌, refl, ap, subst, Option, Some, None, List, [], ◌∷◌, Bool, true, false, Result, Ok, Err, Global}
+use Rattle.std.specs.Prelude.{if◌then◌else◌}
+use Rattle.std.specs.Option.{option_map, option_and_then}
+use Rattle.std.specs.declared.borrow.CowStr.{CowStr}
+use Rattle.std.specs.declared.borrow.CowStr.TheVariants.{Borrowed, Owned}
+use Rattle.std.specs.declared.alloc.AllocError.{AllocError}
+use Rattle.fluent_text.specs.Unescaped.{Lends}
+use Rattle.fluent_text.specs.declared.counting.Counting.{Counting}
+use Rattle.fluent_text.specs.declared.counting.WriteFault.{WriteFault}
+use Rattle.fluent_text.specs.declared.counting.WriteFault.TheVariants as fault
+use Rattle.fluent_tree.specs.Tree.{Text, Pattern, Attributes, Attribute, no_attribute, attribute}
+use Rattle.fluent_meaning.specs.Arguments.{get}
+use Rattle.fluent_meaning.specs.Bundle.{Bundle, Entry, a_message, a_term, a_function, number_builtin, Target, unknown, without_value, found, first_of, message_target}
+use Rattle.fluent_meaning.specs.Errors.{Error}
+use Rattle.fluent_meaning.specs.Number.{is_text}
+use Rattle.fluent_values.specs.EntryView.{message_content}
+use Rattle.fluent_values.specs.MessageView.{first_named}
+use Rattle.fluent_bundle.specs.ById.{GivesAsked, GivesSome, Lent, LendsSome, TakesNoMemory, WritesAsked}
+use Rattle.fluent_bundle.specs.Formatted.{GivesText}
+use Rattle.fluent_bundle.specs.Free.{LendsText, WritesFree}
+use Rattle.fluent_bundle.specs.Inside.Asked.{pattern_at}
+use Rattle.fluent_bundle.specs.Under.{AddsBeginning, Errors, GivesWhole, GivesWithin, Under, WritesBeginning, WritesWhole, WritesWithin}
+use Rattle.fluent_bundle.specs.declared.bundle.FluentBundle.{FluentBundle}
+
+-- the pattern that a reference leads to, if it leads to one
+abbrev pub pattern_in : Target → Option Pattern
+pattern_in unknown = None
+pattern_in without_value = None
+pattern_in (found p) = Some p
+
+in_value : (o : Option (Entry Text)) → pattern_in (message_target o no_attribute) ≡ option_and_then (λ m. m.value) (message_content o)
+in_value None = refl
+in_value (Some (a_message None as')) = refl
+in_value (Some (a_message (Some p) as')) = refl
+in_value (Some (a_term p as')) = refl
+in_value (Some (a_function f)) = refl
+in_value (Some number_builtin) = refl
+
+by_name : (b : Bool) (a : Text × Pattern) (t : Target) (o : Option (Text × Pattern)) → pattern_in t ≡ option_map (λ a. a.1) o → pattern_in (if b then found a.1 else t) ≡ option_map (λ a. a.1) (if b then Some a else o)
+by_name true a t o h = refl
+by_name false a t o h = h
+
+in_first : (name : Text) (as' : Attributes) → pattern_in (first_of name as') ≡ option_map (λ a. a.1) (first_named name as')
+in_first name [] = refl
+in_first name (a ∷ as') = by_name (is_text a.0 name) a (first_of name as') (first_named name as') (in_first name as')
+
+in_attribute : (name : Text) (o : Option (Entry Text)) → pattern_in (message_target o (attribute name)) ≡ option_and_then (λ m. option_map (λ a. a.1) (first_named name m.attributes)) (message_content o)
+in_attribute name None = refl
+in_attribute name (Some (a_message v as')) = in_first name as'
+in_attribute name (Some (a_term p as')) = refl
+in_attribute name (Some (a_function f)) = refl
+in_attribute name (Some number_builtin) = refl
+
+-- a reference to a message, and what is asked for by its id
+pub asked : (b : Bundle Text) (id : Text) (a : Attribute) (t : Target) → t ≡ message_target (get id b.ids) a → pattern_in t ≡ pattern_at id a b
+asked b id no_attribute t is = ap pattern_in is ∙ in_value (get id b.ids)
+asked b id (attribute name) t is = ap pattern_in is ∙ in_attribute name (get id b.ids)
+
+-- ---- given
+
+gives_some : {D E : Type 0} {all : Text} {wrong : List Error} {text : CowStr Global} {old new : Errors} → GivesText {E = D} all wrong (Ok text) old.items new.items → GivesSome {E = E} all wrong (Ok (Some text)) old new
+gives_some h = record { text = ap (λ t. Some t) h.text; adds = h.adds }
+
+gives_none : {E : Type 0} {all : Text} {wrong : List Error} {e : E} {old new : Errors} → GivesSome all wrong (Err e) old new
+gives_none = record { text = tt; adds = tt }
+
+-- the text of a pattern that is there
+pub gives_asked : {E : Type 0} {asked : Option Pattern} (u : Under) (p : Pattern) (text : CowStr Global) (old new : Errors) → Some p ≡ asked
+    → GivesWithin {E = E} u p (Ok text) old new → GivesWhole {E = E} u p (Ok text) old new → AddsBeginning u p old new → GivesAsked {E = E} u asked (Ok (Some text)) old new
+gives_asked {E = E} u p text old new is within whole front =
+    subst (λ o. GivesAsked {E = E} u o (Ok (Some text)) old new) is (record { nothing = tt; within = λ few. gives_some (within few); whole = gives_some whole; front = front })
+
+pub gives_refused : {E : Type 0} {asked : Option Pattern} (u : Under) (p : Pattern) (e : E) (old new : Errors) → Some p ≡ asked
+    → AddsBeginning u p old new → GivesAsked u asked (Err e) old new
+gives_refused u p e old new is front =
+    subst (λ o. GivesAsked u o (Err e) old new) is (record { nothing = tt; within = λ few. gives_none; whole = gives_none; front = front })
+
+pub gives_nothing : {E : Type 0} {asked : Option Pattern} (u : Under) (old : Errors) → None ≡ asked → GivesAsked {E = E} u asked (Ok None) old old
+gives_nothing {E = E} u old is = subst (λ o. GivesAsked {E = E} u o (Ok None) old old) is (record { nothing = (refl, refl); within = tt; whole = tt; front = tt })
+
+-- it is lent
+lends_some : (text : CowStr Global) (t : Text) → Lends (Ok text) t → LendsSome (Ok (Some text)) t
+lends_some (Borrowed s) t h = h
+lends_some (Owned s) t h = h
+
+module _ {M C F G X : Type 0} (b : FluentBundle M C F G X) where
+  pub lends_asked : {asked : Option Pattern} (p : Pattern) (text : CowStr Global) → Some p ≡ asked → LendsText b p (Ok text) → Lent b asked (Ok (Some text))
+  lends_asked p text is h = subst (λ o. Lent b o (Ok (Some text))) is (λ t sole plain bare. lends_some text t (h t sole plain bare))
+
+  pub lends_refused : {asked : Option Pattern} (p : Pattern) (e : AllocError) → Some p ≡ asked → LendsText b p (Err e) → Lent b asked (Err e)
+  lends_refused p e is h = subst (λ o. Lent b o (Err e)) is (λ t sole plain bare. h t sole plain bare)
+
+  pub lends_nothing : {asked : Option Pattern} → None ≡ asked → Lent b asked (Ok None)
+  lends_nothing is = subst (λ o. Lent b o (Ok None)) is tt
+
+-- ---- written
+
+-- the text of a pattern that is there
+pub writes_asked : {W E : Type 0} {asked : Option Pattern} (u : Under) (p : Pattern) (contents : W → Option Text) (w w' : Counting W) (old new : Errors) → Some p ≡ asked
+    → WritesWithin {T = Unit {0}} {E = E} u p (Ok tt) contents w w' old new → WritesWhole {T = Unit {0}} {E = E} u p (Ok tt) contents w w' old new → WritesBeginning u p contents w w' old new → WritesAsked {E = E} u asked (Ok true) contents w w' old new
+writes_asked {E = E} u p contents w w' old new is within whole front =
+    subst (λ o. WritesAsked {E = E} u o (Ok true) contents w w' old new) is (record { there = refl; nothing = tt; within = within; whole = whole; front = front })
+
+pub writes_refused : {W E : Type 0} {asked : Option Pattern} (u : Under) (p : Pattern) (e : E) (contents : W → Option Text) (w w' : Counting W) (old new : Errors) → Some p ≡ asked
+    → WritesBeginning u p contents w w' old new → WritesAsked u asked (Err e) contents w w' old new
+writes_refused u p e contents w w' old new is front =
+    subst (λ o. WritesAsked u o (Err e) contents w w' old new) is (record { there = tt; nothing = tt; within = λ few. tt; whole = tt; front = front })
+
+pub writes_nothing : {W E : Type 0} {asked : Option Pattern} (u : Under) (contents : W → Option Text) (w : Counting W) (old : Errors) → None ≡ asked → WritesAsked {E = E} u asked (Ok false) contents w w old old
+writes_nothing {E = E} u contents w old is =
+    subst (λ o. WritesAsked {E = E} u o (Ok false) contents w w old old) is (record { there = refl; nothing = (refl, refl, refl); within = tt; whole = tt; front = tt })
+
+-- it takes no memory
+module _ {M C F G X : Type 0} (b : FluentBundle M C F G X) where
+  pub free_asked : {asked : Option Pattern} (p : Pattern) → Some p ≡ asked → TakesNoMemory b asked (Ok true)
+  free_asked p is = subst (λ o. TakesNoMemory b o (Ok true)) is (λ texts plain same. cc)
+
+  pub free_refused : {T : Type 0} {r : Result T WriteFault} {asked : Option Pattern} (p : Pattern) (e : WriteFault) → r ≡ Err e → Some p ≡ asked → WritesFree b p r → TakesNoMemory b asked (Err e)
+  free_refused p e at is h = subst (λ o. TakesNoMemory b o (Err e)) is (λ texts plain same. let memory : e ≡ fault.Memory = cc in h texts plain (at ∙ ap (λ x. Err x) memory))
+
+  pub free_nothing : {asked : Option Pattern} → None ≡ asked → TakesNoMemory b asked (Ok false)
+  free_nothing is = subst (λ o. TakesNoMemory b o (Ok false)) is tt

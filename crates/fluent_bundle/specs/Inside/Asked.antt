@@ -1,0 +1,10 @@
+-- The pattern that is asked for by id.
+use Rattle.std.specs.Prelude.{Option}
+use Rattle.fluent_tree.specs.Tree.{Text, Pattern, Attribute, no_attribute, attribute}
+use Rattle.fluent_meaning.specs.Bundle.{Bundle}
+use Rattle.fluent_bundle.specs.ById.{value_at, attribute_at}
+
+-- the value of a message, or its first attribute where a name is given
+abbrev pub pattern_at : {C : Type 0} → Text → Attribute → Bundle C → Option Pattern
+pattern_at id no_attribute b = value_at id b
+pattern_at id (attribute name) b = attribute_at id name b
