@@ -4,9 +4,9 @@ ghost use Rattle.std.specs.List.{slice_get};
 ghost use Rattle.std.specs.Option.{option_map, option_and_then};
 ghost use Rattle.fluent_resolver.specs.Status.{arguments_view};
 ghost use Rattle.fluent_bundle.specs.BundleView.{meant};
-ghost use Rattle.fluent_bundle.specs.Formatted.{AddsFront};
-ghost use Rattle.fluent_chain.specs.Chain.{value_at, attribute_at, first_with, place_with, shown_of};
-ghost use Rattle.fluent_chain.specs.ChainView.{bundles_of, AnswersWithin, AnswersWhole, LendsFound};
+ghost use Rattle.fluent_chain.specs.Chain.{value_at, attribute_at, first_with, place_with};
+ghost use Rattle.fluent_chain.specs.ChainCalls.{GivesFound, LendsFound};
+ghost use Rattle.fluent_chain.specs.ChainView.{bundles_of};
 ghost use Rattle.fluent_catalog.specs.CatalogView.{bundles_in, tags_in};
 
 use fluent_bundle::{
@@ -113,18 +113,10 @@ impl<
     ) -> Result<CowStr<'t>, AllocError>
     where
         's: 't,
-        ensures within { let of = meant M.category C.shown C.alike F.answer G.formatted T.changed in
+        ensures text { let of = meant M.category C.shown C.alike F.answer G.formatted T.changed in
             let args = arguments_view C.content args.entry in
             let found = first_with (value_at id.now) (map of (bundles_in self.now)) in
-            AnswersWithin id.now args found result errors.old.items errors.new.items }
-        ensures whole { let of = meant M.category C.shown C.alike F.answer G.formatted T.changed in
-            let args = arguments_view C.content args.entry in
-            let found = first_with (value_at id.now) (map of (bundles_in self.now)) in
-            AnswersWhole id.now args found result errors.old.items errors.new.items }
-        ensures front { let of = meant M.category C.shown C.alike F.answer G.formatted T.changed in
-            let args = arguments_view C.content args.entry in
-            let found = first_with (value_at id.now) (map of (bundles_in self.now)) in
-            AddsFront (shown_of id.now args found).errors errors.old.items errors.new.items }
+            GivesFound id.now args found result errors.old errors.new }
         ensures lent { let of = meant M.category C.shown C.alike F.answer G.formatted T.changed in
             let found = first_with (λ b. value_at id.now (of b)) (bundles_in self.now) in
             LendsFound id.now found result }
@@ -147,18 +139,10 @@ impl<
     ) -> Result<CowStr<'t>, AllocError>
     where
         's: 't,
-        ensures within { let of = meant M.category C.shown C.alike F.answer G.formatted T.changed in
+        ensures text { let of = meant M.category C.shown C.alike F.answer G.formatted T.changed in
             let args = arguments_view C.content args.entry in
             let found = first_with (attribute_at id.now name.now) (map of (bundles_in self.now)) in
-            AnswersWithin id.now args found result errors.old.items errors.new.items }
-        ensures whole { let of = meant M.category C.shown C.alike F.answer G.formatted T.changed in
-            let args = arguments_view C.content args.entry in
-            let found = first_with (attribute_at id.now name.now) (map of (bundles_in self.now)) in
-            AnswersWhole id.now args found result errors.old.items errors.new.items }
-        ensures front { let of = meant M.category C.shown C.alike F.answer G.formatted T.changed in
-            let args = arguments_view C.content args.entry in
-            let found = first_with (attribute_at id.now name.now) (map of (bundles_in self.now)) in
-            AddsFront (shown_of id.now args found).errors errors.old.items errors.new.items }
+            GivesFound id.now args found result errors.old errors.new }
         ensures lent { let of = meant M.category C.shown C.alike F.answer G.formatted T.changed in
             let found = first_with (λ b. attribute_at id.now name.now (of b))
             (bundles_in self.now) in

@@ -1,0 +1,3 @@
+pub mod Accents
+pub mod Dates
+pub mod Upper

@@ -1,0 +1,61 @@
+//! The texts of a mail client in the languages that somebody reads: `fluent_mailbox [--pseudo] LANGUAGE..` shows some
+//! of them, by the messages in `en.ftl` and `pl.ftl`.
+#![tactic(auto)]
+
+mod date;
+mod functions;
+mod letters;
+mod pseudo;
+mod texts;
+
+use anyhow::Result;
+use fluent_negotiate::negotiate;
+use letters::show_letters;
+use std::{env, fs};
+use texts::{read, show_reports, texts_of};
+
+/// The languages that there are.
+const TAGS: [&str; 2] = ["en", "pl"];
+
+/// What the command line says: whether texts have accents, and the languages that somebody reads.
+fn read_words(rt: &HostRuntime) -> Result<(bool, Vec<String>)> {
+    let mut is_pseudo = false;
+    let mut requested = Vec::new(rt.alloc());
+    let mut words = env::args(rt)?;
+    words.next();
+    for word in words {
+        if word.as_str() == "--pseudo" {
+            is_pseudo = true;
+        } else {
+            requested.push(word)?;
+        }
+    }
+    Ok((is_pseudo, requested))
+}
+
+/// The sources of the languages that serve somebody, each with its tag.
+fn sources_for(rt: &HostRuntime, requested: &[String]) -> Result<Vec<(&'static str, String)>> {
+    let mut sources = Vec::new(rt.alloc());
+    for place in negotiate(rt.alloc(), requested, &TAGS, "en")? {
+        if let Some(tag) = TAGS.get(place) {
+            let path = format!(in rt.alloc(); "{tag}.ftl")?;
+            sources.push((*tag, fs::read_to_string(rt, path.as_str())?))?;
+        }
+    }
+    Ok(sources)
+}
+
+/// Shows the texts of these sources.
+fn run(rt: &HostRuntime, sources: &[(&str, String)], is_pseudo: bool) -> Result<()> {
+    let mut reports = Vec::new(rt.alloc());
+    let resources = read(rt.alloc(), sources, &mut reports)?;
+    let texts = texts_of(rt.alloc(), resources.as_slice(), is_pseudo, &mut reports)?;
+    show_reports(rt, reports.as_slice())?;
+    show_letters(rt, &texts)
+}
+
+fn main(rt: HostRuntime) -> Result<()> {
+    let (is_pseudo, requested) = read_words(&rt)?;
+    let sources = sources_for(&rt, requested.as_slice())?;
+    run(&rt, sources.as_slice(), is_pseudo)
+}
