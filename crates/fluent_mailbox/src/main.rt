@@ -9,10 +9,10 @@ mod pseudo;
 mod texts;
 
 use anyhow::Result;
+use fluent_catalog::read_source;
 use fluent_negotiate::negotiate;
-use letters::show_letters;
 use std::{env, fs};
-use texts::{read, show_reports, texts_of};
+use texts::show_from;
 
 /// The languages that there are.
 const TAGS: [&str; 2] = ["en", "pl"];
@@ -46,12 +46,14 @@ fn sources_for(rt: &HostRuntime, requested: &[String]) -> Result<Vec<(&'static s
 }
 
 /// Shows the texts of these sources.
-fn run(rt: &HostRuntime, sources: &[(&str, String)], is_pseudo: bool) -> Result<()> {
+fn run(rt: &HostRuntime, sources: &[(&'static str, String)], is_pseudo: bool) -> Result<()> {
+    let mut resources = Vec::new(rt.alloc());
     let mut reports = Vec::new(rt.alloc());
-    let resources = read(rt.alloc(), sources, &mut reports)?;
-    let texts = texts_of(rt.alloc(), resources.as_slice(), is_pseudo, &mut reports)?;
-    show_reports(rt, reports.as_slice())?;
-    show_letters(rt, &texts)
+    for (tag, source) in sources {
+        let resource = read_source(rt.alloc(), *tag, source.as_str(), &mut reports)?;
+        resources.push((*tag, resource))?;
+    }
+    show_from(rt, resources.as_slice(), reports, is_pseudo)
 }
 
 fn main(rt: HostRuntime) -> Result<()> {

@@ -1,41 +1,32 @@
 //! The texts of the program, with what its messages need.
 use crate::date::{Date, Dates};
 use crate::functions::Upper;
+use crate::letters::show_letters;
 use crate::pseudo::Pseudo;
 use anyhow::{Context, Result};
 use fluent_bundle::{FluentBundle, FluentResource};
-use fluent_catalog::{Catalog, Report, add_source, plurals_for, read_source};
+use fluent_catalog::{Catalog, Report, add_source, plurals_for};
 use fluent_intl::RuleTexts;
-use std::alloc::Global;
 use std::fmt::Display;
+
+/// The bundle of a language.
+type Bundle<'r, 's> = FluentBundle<'r, 's, RuleTexts, Date, Upper, Dates, Pseudo>;
 
 /// The texts of this program.
 pub type Texts<'r, 's> = Catalog<'r, 's, RuleTexts, Date, Upper, Dates, Pseudo>;
 
-/// Reads sources, each with its tag.
-pub fn read<'s>(
-    alloc: Global,
-    sources: &'s [(&'s str, String)],
-    reports: &mut Vec<Report<'s>>,
-) -> Result<Vec<(&'s str, FluentResource<'s>)>> {
-    let mut resources = Vec::new(alloc);
-    for (tag, source) in sources {
-        let resource = read_source(alloc, *tag, source.as_str(), reports)?;
-        resources.push((*tag, resource))?;
-    }
-    Ok(resources)
-}
-
-/// The texts of these resources, the first language first.
-pub fn texts_of<'r, 's: 'r>(
-    alloc: Global,
-    resources: &'r [(&'s str, FluentResource<'s>)],
+/// Shows the texts of these resources, the first language first.
+pub fn show_from<'s>(
+    rt: &HostRuntime,
+    resources: &[(&'static str, FluentResource<'s>)],
+    mut reports: Vec<Report<'s>>,
     is_pseudo: bool,
-    reports: &mut Vec<Report<'s>>,
-) -> Result<Texts<'r, 's>> {
+) -> Result<()> {
+    let alloc = rt.alloc();
     let mut texts = Catalog::new(alloc);
     for (tag, resource) in resources {
-        let mut bundle = FluentBundle::new(alloc, Vec::new(alloc), plurals_for(alloc, *tag)?);
+        let plurals = plurals_for(alloc, *tag)?;
+        let mut bundle: Bundle<'_, 's> = FluentBundle::new(alloc, Vec::new(alloc), plurals);
         bundle.set_formatter(Some(Dates::of(*tag)));
         bundle.set_transform(if is_pseudo { Some(Pseudo) } else { None });
         bundle.set_use_isolating(false);
@@ -44,14 +35,15 @@ pub fn texts_of<'r, 's: 'r>(
             .add_function("UPPER", Upper)
             .ok()
             .context("not added")?;
-        add_source(&mut bundle, *tag, resource, reports)?;
+        add_source(&mut bundle, *tag, resource, &mut reports)?;
         texts.push(*tag, bundle)?;
     }
-    Ok(texts)
+    show_reports(rt, reports.as_slice())?;
+    show_letters(rt, &texts)
 }
 
 /// Shows what is wrong with the sources.
-pub fn show_reports(rt: &HostRuntime, reports: &[Report<'_>]) -> Result<()> {
+fn show_reports(rt: &HostRuntime, reports: &[Report<'_>]) -> Result<()> {
     for report in reports {
         match report {
             Report::Unreadable(tag, errors) => show_each(rt, *tag, errors.as_slice())?,
