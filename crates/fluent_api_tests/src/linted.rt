@@ -3,7 +3,8 @@
 use crate::check::check_same;
 use crate::common::{Bundle, Setting, bundle_of, read};
 use fluent_bundle::Call;
-use fluent_lint::{Cause, Place, Report, lint_places, places_of};
+use fluent_bundle::ast::Identifier;
+use fluent_lint::{Cause, Place, Report, lint_places, places_of, variables_of};
 use std::alloc::{AllocError, Global};
 use std::test::Fail;
 
@@ -11,9 +12,9 @@ use std::test::Fail;
 const SOURCE: &str =
     "top = { mid } { $n ->\n    [one] { -term }\n   *[other] { NUMBER($n) }\n }\nmid = { last } { -brand(x: 1) }\nlast = text { $v }\n-brand = Fire { $x }\n-term = t { last }\n    .case = { last }\ncycle-a = { cycle-b }\ncycle-b = { cycle-c }\ncycle-c = { cycle-a } { nothing }\nabove = { cycle-a } { last.gone } { FUN(1) }\nonly =\n    .title = { above }\nasks = { only }\nlarge = { top } { top } { top }\nlast = again\n";
 
-/// What is reported of it with a limit of 20.
+/// What is reported of it with a limit of 20, and which variables its first message asks for.
 const FINDINGS: &str =
-    "cycle-a: unclean cycle-b\ncycle-b: unclean cycle-c\ncycle-c: unclean cycle-a missing nothing\nabove: unclean cycle-a missing last.gone unknown FUN\nonly.title: unclean above\nasks: missing only\nlarge: 30\n";
+    "cycle-a: unclean cycle-b\ncycle-b: unclean cycle-c\ncycle-c: unclean cycle-a missing nothing\nabove: unclean cycle-a missing last.gone unknown FUN\nonly.title: unclean above\nasks: missing only\nlarge: 30\ntop asks n v\n";
 
 fn write_place(out: &mut String, place: &Place<'_>) -> Result<(), AllocError> {
     match place {
@@ -74,7 +75,15 @@ fn linted(alloc: Global, source: &str) -> Result<String, AllocError> {
     bundle.make(Call::AddBuiltins)?;
     let places = places_of(alloc, resource.entries().as_slice())?;
     let report = lint_places(alloc, &bundle, &places, 20)?;
-    lines_of(alloc, &report)
+    let mut lines = lines_of(alloc, &report)?;
+    let top = Place::Message(Identifier { name: "top" }, None);
+    lines.push_str("top asks")?;
+    for name in &variables_of(alloc, &bundle, &top)? {
+        lines.push(' ')?;
+        lines.push_str(name)?;
+    }
+    lines.push('\n')?;
+    Ok(lines)
 }
 
 /// Run with each allocation failing in turn.

@@ -67,21 +67,21 @@ all_got P xs i x at all p = rw add-one (got_next P xs i x at all p)
 
 -- ---- those so far, with one more
 
-front : {A B : Type 0} (f : A → B) (xs : List A) (i : ℕ) (x : A) → i < length xs → x ≡ get_or xs i x → map f (take (i + 1) xs) ≡ map f (take i xs) ++ f x ∷ []
+pub front : {A B : Type 0} (f : A → B) (xs : List A) (i : ℕ) (x : A) → i < length xs → x ≡ get_or xs i x → map f (take (i + 1) xs) ≡ map f (take i xs) ++ f x ∷ []
 front f xs i x h is = ap (map f) (take_more xs i x h) ∙ (map-append f (take i xs) (get_or xs i x ∷ []) ∙ ap (λ u. map f (take i xs) ++ f u ∷ []) (sym is))
 
-last_of : {B : Type 0} (x y : B) (ys : List B) → IsAmong x (ys ++ y ∷ []) → IsAmong x ys ⊎ (x ≡ y)
+pub last_of : {B : Type 0} (x y : B) (ys : List B) → IsAmong x (ys ++ y ∷ []) → IsAmong x ys ⊎ (x ≡ y)
 last_of x y [] (inl here) = inr here
 last_of x y [] (inr never) = absurd never
 last_of x y (z ∷ zs) (inl here) = inl (inl here)
 last_of x y (z ∷ zs) (inr later) = elim (last_of x y zs later) [ inl h ↦ inl (inr h) | inr h ↦ inr h ]
 
-wider : {B : Type 0} (x y : B) (ys : List B) → IsAmong x ys → IsAmong x (ys ++ y ∷ [])
+pub wider : {B : Type 0} (x y : B) (ys : List B) → IsAmong x ys → IsAmong x (ys ++ y ∷ [])
 wider x y [] h = absurd h
 wider x y (z ∷ zs) (inl here) = inl here
 wider x y (z ∷ zs) (inr later) = inr (wider x y zs later)
 
-at_last : {B : Type 0} (y : B) (ys : List B) → IsAmong y (ys ++ y ∷ [])
+pub at_last : {B : Type 0} (y : B) (ys : List B) → IsAmong y (ys ++ y ∷ [])
 at_last y [] = inl refl
 at_last y (z ∷ zs) = inr (at_last y zs)
 

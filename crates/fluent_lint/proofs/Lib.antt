@@ -7,3 +7,4 @@ pub mod Reported
 pub mod CountedEnds
 pub mod PlaceLists
 pub mod LinesOn
+pub mod Gathering

@@ -5,4 +5,5 @@ pub mod Findings
 pub mod EntryPlaces
 pub mod Laws
 pub mod Columns
+pub mod Asked
 pub mod Inside

@@ -11,9 +11,11 @@ mod linting;
 mod listing;
 mod order;
 pub mod place;
+mod variables;
 
 pub use entries::places_of;
 pub use finding::{Cause, Finding, Large, Report};
 pub use lines::{LineColumn, position};
 pub use linting::lint_places;
 pub use place::Place;
+pub use variables::variables_of;

@@ -61,7 +61,7 @@ impl<'s> Hash for Place<'s> {
 }
 
 /// The same place, by content.
-fn same_place(a: &Place<'_>, b: &Place<'_>) -> bool
+pub(crate) fn same_place(a: &Place<'_>, b: &Place<'_>) -> bool
     ensures { IsTrue result ↔ (place_view a.now ≡ place_view b.now) }
 {
     match (a, b) {

@@ -1,0 +1,218 @@
+-- Variables are gathered from a place and the messages that it leads to.
+use Rattle.std.proofs.Common.{◌≡◌, ◌⊎◌, ◌↔◌, ◌∙◌, ℕ, zero, suc, ◌+◌, ◌<◌, ◌≤◌, List, [], ◌∷◌, ◌++◌, length, get_or, map, take, Option, Some, None, inl, inr, refl, sym, ap, subst, add-one, arith}
+use Rattle.std.specs.List.{AllByRecursion}
+use Rattle.std.specs.Result.{OnOk}
+use Rattle.std.specs.Prelude.{Result}
+use Rattle.std.proofs.lemmas.List.{append_assoc, append-nil}
+use Rattle.fluent_tree.specs.Tree.{Text, Attribute, Pattern}
+use Rattle.fluent_meaning.specs.Bundle.{Target, unknown, without_value, found, message_target}
+use Rattle.fluent_clean.specs.Places.{Place, of_message, Names, place_target}
+use Rattle.fluent_clean.specs.Needs.{Need, a_message, a_term, a_function, a_variable, a_default, needs}
+use Rattle.fluent_clean.specs.Clean.{IsAmong, AsksFor, itself, by_message}
+use Rattle.fluent_lint.specs.Asked.{AsksForAt, AreAsked, AreDistinct}
+use Rattle.fluent_lint.specs.PlaceView.{pattern_in, place_view}
+use Rattle.fluent_lint.specs.Inside.Reached.{Adds, IsReference, NotesOf, NotedAt, needs_there, needs_at, IsThrough, Gathered}
+use Rattle.fluent_lint.proofs.Growing.{all_map, front, last_of, wider, at_last}
+use Rattle.fluent_lint.specs.NeedsView.{need_view}
+use Rattle.fluent_lint.specs.declared.listing.Need as code
+use Rattle.fluent_lint.specs.declared.place.Place as places
+use Rattle.fluent_lint.specs.Findings.{views}
+
+-- what stands at a place of a list is there whatever the default
+pub got_self : {A : Type 0} (xs : List A) (i : ℕ) (d : A) → i < length xs → get_or xs i d ≡ get_or xs i (get_or xs i d)
+got_self [] i d h = absurd (omega arith)
+got_self (x ∷ xs) zero d h = refl
+got_self (x ∷ xs) (suc i) d h = got_self xs i d (omega arith)
+
+-- ---- one that is added
+
+pub adds_front : {A : Type 0} (x : A) (old new : List A) → Adds x old new → (rest : List A) × (new ≡ old ++ rest)
+adds_front x old new (inl h) = ([], h.1 ∙ sym (append-nil old))
+adds_front x old new (inr h) = (x ∷ [], h.1)
+
+pub adds_kept : {A : Type 0} (x y : A) (old new : List A) → Adds x old new → IsAmong y old → IsAmong y new
+adds_kept x y old new (inl h) among = subst (IsAmong y) (sym h.1) among
+adds_kept x y old new (inr h) among = subst (IsAmong y) (sym h.1) (wider y x old among)
+
+pub adds_here : {A : Type 0} (x : A) (old new : List A) → Adds x old new → IsAmong x new
+adds_here x old new (inl h) = subst (IsAmong x) (sym h.1) h.0
+adds_here x old new (inr h) = subst (IsAmong x) (sym h.1) (at_last x old)
+
+pub adds_only : {A : Type 0} (x y : A) (old new : List A) → Adds x old new → IsAmong y new → IsAmong y old ⊎ (y ≡ x)
+adds_only x y old new (inl h) among = inl (subst (IsAmong y) h.1 among)
+adds_only x y old new (inr h) among = last_of y x old (subst (IsAmong y) h.1 among)
+
+distinct_snoc : {A : Type 0} (x : A) (xs : List A) → (IsAmong x xs → ⊥) → AreDistinct xs → AreDistinct (xs ++ x ∷ [])
+distinct_snoc x [] new d = (λ h. h, tt)
+distinct_snoc x (y ∷ ys) new d = (
+  λ h. elim (last_of y x ys h) [ inl there ↦ d.0 there | inr same ↦ new (inl (sym same)) ],
+  distinct_snoc x ys (λ h. new (inr h)) d.1,
+)
+
+pub adds_distinct : {A : Type 0} (x : A) (old new : List A) → Adds x old new → AreDistinct old → AreDistinct new
+adds_distinct x old new (inl h) d = subst AreDistinct (sym h.1) d
+adds_distinct x old new (inr h) d = subst AreDistinct (sym h.1) (distinct_snoc x old h.0 d)
+
+-- ---- the needs so far, and one more
+
+pub notes_none : (xs : List Place) (vs : List Text) → NotesOf [] xs xs vs vs
+notes_none xs vs = record {
+  front = ([], sym (append-nil xs));
+  reached = λ x h. inl h;
+  named = λ v h. inl h;
+  kept = λ v h. h;
+  messages = λ x h. absurd h.2;
+  variables = λ v h. absurd h;
+  distinct = λ d. d;
+}
+
+later_reference : (ns : List Need) (n : Need) (x : Place) → IsReference ns x → IsReference (ns ++ n ∷ []) x
+later_reference ns n x h = (h.0, h.1, wider (a_message h.0 h.1) n ns h.2, h.3)
+
+pub notes_variable : (ns : List Need) (v : Text) (xs xs' : List Place) (vs vs' vs'' : List Text) → NotesOf ns xs xs' vs vs' → Adds v vs' vs'' → NotesOf (ns ++ a_variable v ∷ []) xs xs' vs vs''
+notes_variable ns v xs xs' vs vs' vs'' h adds = record {
+  front = h.front;
+  reached = λ x among. elim (h.reached x among) [ inl old ↦ inl old | inr new ↦ inr (later_reference ns (a_variable v) x new) ];
+  named = λ w among. elim (adds_only v w vs' vs'' adds among) [
+    | inl there ↦ elim (h.named w there) [ inl old ↦ inl old | inr new ↦ inr (wider (a_variable w) (a_variable v) ns new) ]
+    | inr same ↦ inr (subst (λ u. IsAmong (a_variable u) (ns ++ a_variable v ∷ [])) (sym same) (at_last (a_variable v) ns))
+  ];
+  kept = λ w among. adds_kept v w vs' vs'' adds (h.kept w among);
+  messages = λ x r. elim (last_of (a_message r.0 r.1) (a_variable v) ns r.2) [ inl there ↦ h.messages x (r.0, r.1, there, r.3) | inr same ↦ absurd cc ];
+  variables = λ w among. elim (last_of (a_variable w) (a_variable v) ns among) [
+    | inl there ↦ adds_kept v w vs' vs'' adds (h.variables w there)
+    | inr same ↦ let is : w ≡ v = cc in subst (λ u. IsAmong u vs'') (sym is) (adds_here v vs' vs'' adds)
+  ];
+  distinct = λ d. adds_distinct v vs' vs'' adds (h.distinct d);
+}
+
+pub notes_message : (ns : List Need) (m : Text) (a : Attribute) (xs xs' xs'' : List Place) (vs vs' : List Text) → NotesOf ns xs xs' vs vs' → Adds (of_message m a) xs' xs'' → NotesOf (ns ++ a_message m a ∷ []) xs xs'' vs vs'
+notes_message ns m a xs xs' xs'' vs vs' h adds =
+    let more = adds_front (of_message m a) xs' xs'' adds in record {
+      front = (h.front.0 ++ more.0, more.1 ∙ (ap (λ l. l ++ more.0) h.front.1 ∙ append_assoc xs h.front.0 more.0));
+      reached = λ x among. elim (adds_only (of_message m a) x xs' xs'' adds among) [
+        | inl there ↦ elim (h.reached x there) [ inl old ↦ inl old | inr new ↦ inr (later_reference ns (a_message m a) x new) ]
+        | inr same ↦ inr (m, a, at_last (a_message m a) ns, same)
+      ];
+      named = λ w among. elim (h.named w among) [ inl old ↦ inl old | inr new ↦ inr (wider (a_variable w) (a_message m a) ns new) ];
+      kept = h.kept;
+      messages = λ x r. elim (last_of (a_message r.0 r.1) (a_message m a) ns r.2) [
+        | inl there ↦ adds_kept (of_message m a) x xs' xs'' adds (h.messages x (r.0, r.1, there, r.3))
+        | inr same ↦ let id : r.0 ≡ m = cc in let at : r.1 ≡ a = cc in
+            let is : x ≡ of_message m a = r.3 ∙ (ap (λ k. of_message k r.1) id ∙ ap (of_message m) at) in
+            subst (λ u. IsAmong u xs'') (sym is) (adds_here (of_message m a) xs' xs'' adds)
+      ];
+      variables = λ w among. elim (last_of (a_variable w) (a_message m a) ns among) [ inl there ↦ h.variables w there | inr same ↦ absurd cc ];
+      distinct = h.distinct;
+    }
+
+pub notes_other : (ns : List Need) (n : Need) (xs xs' : List Place) (vs vs' : List Text) → ((m : Text) (a : Attribute) → a_message m a ≡ n → ⊥) → ((v : Text) → a_variable v ≡ n → ⊥) → NotesOf ns xs xs' vs vs' → NotesOf (ns ++ n ∷ []) xs xs' vs vs'
+notes_other ns n xs xs' vs vs' no_message no_variable h = record {
+  front = h.front;
+  reached = λ x among. elim (h.reached x among) [ inl old ↦ inl old | inr new ↦ inr (later_reference ns n x new) ];
+  named = λ w among. elim (h.named w among) [ inl old ↦ inl old | inr new ↦ inr (wider (a_variable w) n ns new) ];
+  kept = h.kept;
+  messages = λ x r. elim (last_of (a_message r.0 r.1) n ns r.2) [ inl there ↦ h.messages x (r.0, r.1, there, r.3) | inr same ↦ absurd (no_message r.0 r.1 same) ];
+  variables = λ w among. elim (last_of (a_variable w) n ns among) [ inl there ↦ h.variables w there | inr same ↦ absurd (no_variable w same) ];
+  distinct = h.distinct;
+}
+
+-- by what the need is, and with what it leaves
+pub notes_as : (ns : List Need) (n n' : Need) (xs xs' xs'' : List Place) (vs vs' vs'' : List Text) → n ≡ n' → xs'' ≡ xs' → vs'' ≡ vs' → NotesOf (ns ++ n' ∷ []) xs xs' vs vs' → NotesOf (ns ++ n ∷ []) xs xs'' vs vs''
+notes_as ns n n' xs xs' xs'' vs vs' vs'' e f g h = subst (λ m. NotesOf (ns ++ m ∷ []) xs xs'' vs vs'') (sym e) (subst (λ l. NotesOf (ns ++ n' ∷ []) xs l vs vs'') (sym f) (subst (λ l. NotesOf (ns ++ n' ∷ []) xs xs' vs l) (sym g) h))
+
+pub notes_term : (ns : List Need) (t : Text) (a : Attribute) (names : List Text) (xs xs' : List Place) (vs vs' : List Text) → NotesOf ns xs xs' vs vs' → NotesOf (ns ++ a_term t a names ∷ []) xs xs' vs vs'
+notes_term ns t a names xs xs' vs vs' = notes_other ns (a_term t a names) xs xs' vs vs' (λ m b e. absurd cc) (λ v e. absurd cc)
+
+pub notes_function : (ns : List Need) (f : Text) (xs xs' : List Place) (vs vs' : List Text) → NotesOf ns xs xs' vs vs' → NotesOf (ns ++ a_function f ∷ []) xs xs' vs vs'
+notes_function ns f xs xs' vs vs' = notes_other ns (a_function f) xs xs' vs vs' (λ m b e. absurd cc) (λ v e. absurd cc)
+
+pub notes_default : (ns : List Need) (xs xs' : List Place) (vs vs' : List Text) → NotesOf ns xs xs' vs vs' → NotesOf (ns ++ a_default ∷ []) xs xs' vs vs'
+notes_default ns xs xs' vs vs' = notes_other ns a_default xs xs' vs vs' (λ m b e. absurd cc) (λ v e. absurd cc)
+
+pub notes_next : (list : List code.Need) (i : ℕ) (n : code.Need) (xs xs' : List Place) (vs vs' : List Text) → i < length list → n ≡ get_or list i n → NotesOf (map need_view (take i list) ++ need_view n ∷ []) xs xs' vs vs' → NotesOf (map need_view (take (i + 1) list)) xs xs' vs vs'
+notes_next list i n xs xs' vs vs' h is notes = subst (λ ns. NotesOf ns xs xs' vs vs') (sym (front need_view list i n h is)) notes
+
+-- ---- where nothing stands
+
+pub none_there : (t : Target) → None ≡ pattern_in t → needs_there t ≡ []
+none_there unknown h = refl
+none_there without_value h = refl
+none_there (found p) h = absurd cc
+
+pub all_noted : {R : Type 0} (result : Result (Unit {0}) R) (named : Names Text) (x : Place) (q : Pattern) (ns : List Need) (xs xs' : List Place) (vs vs' : List Text) → ns ≡ needs q → place_target named x ≡ found q → OnOk result (NotesOf ns xs xs' vs vs') → OnOk result (NotedAt named x xs xs' vs vs')
+all_noted result named x q ns xs xs' vs vs' listed at h = subst (λ l. OnOk result (NotesOf l xs xs' vs vs')) (listed ∙ sym (ap needs_there at)) h
+
+-- ---- place by place
+
+pub gathered_first : (named : Names Text) (x : Place) → Gathered named x 0 (x ∷ []) []
+gathered_first named x = record {
+  started = inl refl;
+  leads = λ y among v asks. elim among [ inl same ↦ subst (λ z. AsksForAt named z v) same asks | inr never ↦ absurd never ];
+  told = λ v h. absurd h;
+  through = tt;
+  distinct = tt;
+}
+
+asks_itself : (named : Names Text) (y : Place) (v : Text) (t : Target) → place_target named y ≡ t → IsAmong (a_variable v) (needs_there t) → AsksForAt named y v
+asks_itself named y v unknown e h = absurd h
+asks_itself named y v without_value e h = absurd h
+asks_itself named y v (found p) e h = (p, e, itself h)
+
+asks_by : (named : Names Text) (y : Place) (v m : Text) (a : Attribute) (t : Target) → place_target named y ≡ t → IsAmong (a_message m a) (needs_there t) → AsksForAt named (of_message m a) v → AsksForAt named y v
+asks_by named y v m a unknown e h asks = absurd h
+asks_by named y v m a without_value e h asks = absurd h
+asks_by named y v m a (found p) e h asks = (p, e, by_message m a h asks.1 asks.2)
+
+next_all : {A B : Type 0} (P : B → Type 0) (f : A → B) (xs : List A) (rest : List B) (i : ℕ) (x : A) → i < length xs → x ≡ get_or xs i x → AllByRecursion P (take i (map f xs)) → P (f x) → AllByRecursion P (take (suc i) (map f xs ++ rest))
+next_all P f [] rest i x h is all p = absurd (omega arith)
+next_all P f (z ∷ zs) rest zero x h is all p = (subst (λ w. P (f w)) is p, tt)
+next_all P f (z ∷ zs) rest (suc i) x h is all p = (all.0, next_all P f zs rest i x (omega arith) is all.1 p)
+
+pub gathered_more : {A : Type 0} (f : A → Place) (named : Names Text) (from : Place) (i : ℕ) (xs : List A) (y : A) (xs' : List Place) (vs vs' : List Text) → i < length xs → y ≡ get_or xs i y
+    → Gathered named from i (map f xs) vs → NotedAt named (f y) (map f xs) xs' vs vs' → IsAmong (f y) (map f xs) → Gathered named from (i + 1) xs' vs'
+gathered_more f named from i xs y xs' vs vs' h is old notes here =
+    let longer : (x : Place) → IsAmong x (map f xs) → IsAmong x xs' = λ x among. subst (IsAmong x) (sym notes.front.1) (in_front x (map f xs) notes.front.0 among) in
+    let asks_here : (v : Text) → AsksForAt named (f y) v → AsksForAt named from v = old.leads (f y) here in record {
+      started = longer from old.started;
+      leads = λ x among v asks. elim (notes.reached x among) [
+        | inl there ↦ old.leads x there v asks
+        | inr r ↦ asks_here v (asks_by named (f y) v r.0 r.1 (place_target named (f y)) refl r.2 (subst (λ z. AsksForAt named z v) r.3 asks))
+      ];
+      told = λ v among. elim (notes.named v among) [
+        | inl there ↦ old.told v there
+        | inr new ↦ asks_here v (asks_itself named (f y) v (place_target named (f y)) refl new)
+      ];
+      through = rw add-one (subst (λ l. AllByRecursion (IsThrough named xs' vs') (take (suc i) l)) (sym notes.front.1)
+          (next_all (IsThrough named xs' vs') f xs notes.front.0 i y h is (all_map _ _ (take i (map f xs)) (λ x t. (λ z r. longer z (t.0 z r), λ v r. notes.kept v (t.1 v r))) old.through) (notes.messages, notes.variables)));
+      distinct = notes.distinct old.distinct;
+    }
+  where
+    in_front : (x : Place) (ys rest : List Place) → IsAmong x ys → IsAmong x (ys ++ rest)
+    in_front x [] rest among = absurd among
+    in_front x (z ∷ zs) rest (inl same) = inl same
+    in_front x (z ∷ zs) rest (inr later) = inr (in_front x zs rest later)
+
+-- ---- at the end
+
+one_of : {A : Type 0} (P : A → Type 0) (xs : List A) (x : A) → IsAmong x xs → AllByRecursion P xs → P x
+one_of P [] x among all = absurd among
+one_of P (y ∷ ys) x (inl same) all = subst P (sym same) all.0
+one_of P (y ∷ ys) x (inr later) all = one_of P ys x later all.1
+
+all_told : (named : Names Text) (xs : List Place) (vs : List Text) (v : Text) → AllByRecursion (IsThrough named xs vs) xs → (p : Pattern) → AsksFor named v p → (y : Place) → IsAmong y xs → place_target named y ≡ found p → IsAmong v vs
+all_told named xs vs v all p (itself h) y among at = (one_of (IsThrough named xs vs) xs y among all).1 v (subst (λ t. IsAmong (a_variable v) (needs_there t)) (sym at) h)
+all_told named xs vs v all p (by_message m a h there asks) y among at =
+    all_told named xs vs v all _ asks (of_message m a) ((one_of (IsThrough named xs vs) xs y among all).0 (of_message m a) (m, a, subst (λ t. IsAmong (a_message m a) (needs_there t)) (sym at) h, refl)) there
+
+map_length : {A B : Type 0} (f : A → B) (xs : List A) (i : ℕ) → length xs ≤ i → take i (map f xs) ≡ map f xs
+map_length f [] zero h = refl
+map_length f [] (suc i) h = refl
+map_length f (x ∷ xs) zero h = absurd (omega arith)
+map_length f (x ∷ xs) (suc i) h = ap (λ l. f x ∷ l) (map_length f xs i (omega arith))
+
+pub gathered_all : (named : Names Text) (from : Place) (i : ℕ) (xs : List places.Place) (vs : List Text) → length xs ≤ i → Gathered named from i (views xs) vs → AreAsked named from vs
+gathered_all named from i xs vs h g v = (
+  g.told v,
+  λ asks. all_told named (views xs) vs v (subst (AllByRecursion (IsThrough named (views xs) vs)) (map_length place_view xs i h) g.through) asks.0 asks.2 from g.started asks.1,
+)
