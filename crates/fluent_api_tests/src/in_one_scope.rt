@@ -243,7 +243,11 @@ fn is_as_before<'p, 'r, 's>(
 ) -> Result<(), AllocError> {
     let mut errors = Vec::new(alloc);
     let mut scope = Scope::new(bundle, bundle.ids(), Some(args), Some(&mut errors));
-    asks_twice(rt, alloc, &mut scope, row, parts)
+    let asked = asks_twice(rt, alloc, &mut scope, row, parts);
+    match scope.into_errors() {
+        Some(_list) => asked,
+        None => asked,
+    }
 }
 
 fn are_as_before<'p, 'r, 's>(
@@ -270,6 +274,16 @@ fn parts_are_resolved_in_a_scope(rt: HostRuntime) -> Result<(), Fail> {
 
 // ---- the limit
 
+fn strikes<'p, 's>(
+    rt: &impl Abort,
+    scope: &mut Scoped<'_, 'p, '_, 's>,
+    w: &mut Counting<Vec<u8>>,
+    parts: Parts<'p, 's>,
+) -> bool {
+    let answer = scope.track(w, parts.pattern, parts.inline);
+    is_whole(rt, answer, "a") && scope.dirty() && scope.counts().opened == 2
+}
+
 /// A call whose budget is two, and is struck at the third placeable.
 fn is_struck<'p, 'r, 's>(
     rt: &impl Abort,
@@ -280,9 +294,12 @@ fn is_struck<'p, 'r, 's>(
 ) -> Result<(), AllocError> {
     let mut w = Counting::new(Vec::with_capacity(alloc, 200)?);
     let mut scope = Scope::new(bundle, bundle.ids(), None, Some(errors));
-    let answer = scope.track(&mut w, parts.pattern, parts.inline);
-    let is_right = is_whole(rt, answer, "a") && scope.dirty() && scope.counts().opened == 2;
-    check(rt, is_right, "a struck limit");
+    let is_right = strikes(rt, &mut scope, &mut w, parts);
+    check(
+        rt,
+        scope.into_errors().is_some() && is_right,
+        "a struck limit",
+    );
     let text = "xt\u{2068}1\u{2069}{-t}";
     is_taken(rt, w.into_inner().as_slice(), text, true);
     Ok(())

@@ -27,8 +27,6 @@ mod headline;
 #[cfg(test)]
 mod in_one_scope;
 #[cfg(test)]
-mod linted;
-#[cfg(test)]
 mod lists;
 #[cfg(test)]
 mod made;
@@ -42,5 +40,3 @@ mod refusing;
 mod taken;
 #[cfg(test)]
 mod trees;
-#[cfg(test)]
-mod values;
