@@ -291,7 +291,7 @@ impl<
 
 impl<
     'r,
-    's,
+    's: 'r,
     M: MemoizerKind,
     C: FluentType,
     F: FluentFunction<C>,

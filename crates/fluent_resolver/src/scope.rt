@@ -132,8 +132,9 @@ impl<'errors, 'p, 'r, 's, 'args, C: FluentType, F: FluentFunction<C>, B: Context
     }
 }
 
-impl<'p, C: FluentType, F: FluentFunction<C>, B: Context<C>> HasBundle<C>
-    for Scope<'_, 'p, '_, '_, '_, C, F, B> {
+impl<'errors, 'p, 'r, 's: 'r, 'args, C: FluentType, F: FluentFunction<C>, B: Context<C>> HasBundle<
+    C,
+> for Scope<'errors, 'p, 'r, 's, 'args, C, F, B> {
     ghost use Rattle.fluent_resolver.specs.Status.{bundle_in};
 
     type Bundle = B;

@@ -14,7 +14,6 @@ use std::alloc::AllocError;
 
 /// What one formatting call carries: its bundle, where its variables are looked up, the patterns that are being
 /// written, its list of errors, how many more placeables it may open, and what it did.
-#[derive(Drop)]
 pub struct State<'errors, 'p, 'r, 's, 'args, C, F, B> {
     pub(crate) errors: Option<&'errors mut Vec<FluentError>>,
     pub(crate) bundle: &'p B,
@@ -25,6 +24,21 @@ pub struct State<'errors, 'p, 'r, 's, 'args, C, F, B> {
     pub(crate) counts: Counts,
     /// The classes on the path are those of stored patterns that refer to something.
     ghost classed: { AreReferring (table ids.now) (classes_on path) },
+}
+
+// Written out, since a bundle's resources outlive what it holds of them.
+impl<'errors, 'p, 'r, 's: 'r, 'args, C, F, B> Drop for State<'errors, 'p, 'r, 's, 'args, C, F, B> {
+    fn drop(self) {
+        let State {
+            errors: _,
+            bundle: _,
+            ids: _,
+            environment: _,
+            path: _,
+            budget: _,
+            counts: _,
+        } = self;
+    }
 }
 
 impl<'errors, 'p, 'r, 's, 'args, C: FluentType, F: FluentFunction<C>, B: Context<C>> State<
