@@ -27,7 +27,8 @@ pub struct State<'errors, 'p, 'r, 's, 'args, C, F, B> {
 }
 
 // Written out, since a bundle's resources outlive what it holds of them.
-impl<'errors, 'p, 'r, 's: 'r, 'args, C, F, B> Drop for State<'errors, 'p, 'r, 's, 'args, C, F, B> {
+impl<'errors, 'p, 'r, 's: 'r, 'args, C: Drop, F, B> Drop
+    for State<'errors, 'p, 'r, 's, 'args, C, F, B> {
     fn drop(self) {
         let State {
             errors: _,
