@@ -13,8 +13,8 @@ use Rattle.fluent_meaning.specs.Meaning.{Budget, left, struck, Ran, after_errors
 use Rattle.fluent_meaning.specs.Work.{Worked, together, work_element, work_opens, with_work}
 use Rattle.fluent_links.specs.Linked.{are_some}
 use Rattle.fluent_entries.specs.Linking.{RefersToNothing}
-use Rattle.fluent_resolver.specs.Along.{Below}
-use Rattle.fluent_resolver.proofs.Cases.{entering}
+use Rattle.fluent_state.specs.Along.{Below}
+use Rattle.fluent_state.specs.Facts.Cases.{entering}
 
 -- alike but for the longest path, which is at most so long in both
 record Alike {A : Type 0} (n : ℕ) (w v : Worked A) : Type 0 where

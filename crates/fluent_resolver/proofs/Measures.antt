@@ -8,13 +8,13 @@ use Rattle.fluent_tree.specs.declared.ast.PatternElement.{PatternElement}
 use Rattle.fluent_meaning.specs.Arguments.{get}
 use Rattle.fluent_meaning.specs.Bundle.{Bundle, message_target, term_target}
 use Rattle.fluent_meaning.specs.Meaning.{Budget, left, struck, at_most}
-use Rattle.fluent_resolver.specs.Along.{can_open, less_one, TakesOne, Elsewhere}
+use Rattle.fluent_state.specs.Along.{can_open, less_one, TakesOne, Elsewhere}
 use Rattle.fluent_resolver.specs.Sizes.{size, element_size, inline_size, inlines_size, nameds_size, variants_size, bound, IsBelow}
-use Rattle.fluent_resolver.specs.Choice.{first_default, choice}
-use Rattle.fluent_resolver.specs.Status.{Status, Keeps}
-use Rattle.fluent_resolver.proofs.Passing.{at_true}
+use Rattle.fluent_state.specs.Choice.{first_default, choice}
+use Rattle.fluent_state.specs.Status.{Status, Keeps}
+use Rattle.fluent_state.specs.Facts.Passing.{at_true}
 use Rattle.fluent_resolver.proofs.Stored.{id_below, message_below, term_below}
-use Rattle.fluent_resolver.proofs.Views.{view_named}
+use Rattle.fluent_state.specs.Facts.Views.{view_named}
 
 -- the weight of a tree of this size, where n more placeables may be opened
 abbrev pub weight : ℕ → ℕ → ℕ → ℕ

@@ -6,13 +6,13 @@ use Rattle.fluent_meaning.specs.Meaning.{Budget, first_mark, struck}
 use Rattle.fluent_meaning.specs.Walk.{is_marked, part}
 use Rattle.fluent_meaning.specs.Work.{Worked, with_work, work}
 use Rattle.fluent_tree.specs.Tree.{Text}
-use Rattle.fluent_resolver.specs.Along.{Along, TakesOne, Walk, Went, can_open, from_here, given, trace}
-use Rattle.fluent_resolver.specs.Status.{Keeps, Status}
+use Rattle.fluent_state.specs.Along.{Along, TakesOne, Walk, Went, can_open, from_here, given, trace}
+use Rattle.fluent_state.specs.Status.{Keeps, Status}
 use Rattle.fluent_values.specs.Written.{Sink, SinkTook}
 use Rattle.fluent_values.specs.declared.output.Halt.{Halt}
-use Rattle.fluent_resolver.proofs.Along.{passes, put, starts, turns}
-use Rattle.fluent_resolver.proofs.Cases.{opening, part_opens, part_strikes, prepend, tells, unmarked}
-use Rattle.fluent_resolver.proofs.Passing.{opened_on, passed_counts, passed_still, struck_same}
+use Rattle.fluent_state.specs.Facts.Along.{passes, put, starts, turns}
+use Rattle.fluent_state.specs.Facts.Cases.{opening, part_opens, part_strikes, prepend, tells, unmarked}
+use Rattle.fluent_state.specs.Facts.Passing.{opened_on, passed_counts, passed_still, struck_same}
 use Rattle.fluent_values.specs.Facts.Took.{took_same}
 
 -- a placeable of a pattern, which is all of it or not

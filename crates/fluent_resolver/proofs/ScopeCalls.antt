@@ -13,14 +13,14 @@ use Rattle.fluent_meaning.specs.Meaning.{Budget, ending}
 use Rattle.fluent_meaning.specs.Walk.{inner, elements, whole}
 use Rattle.fluent_meaning.specs.Work.{Worked, with_work, work}
 use Rattle.fluent_meaning.specs.Laws.{CallsByThemselves, CountsByItself}
-use Rattle.fluent_resolver.specs.Along.{Walk, Went, Wrote, walked, from_here, given, lost_of, Elsewhere}
-use Rattle.fluent_resolver.specs.Status.{Status}
+use Rattle.fluent_state.specs.Along.{Walk, Went, Wrote, walked, from_here, given, lost_of, Elsewhere}
+use Rattle.fluent_state.specs.Status.{Status}
 use Rattle.fluent_resolver.specs.Tracking.{Runs, are_none, called_run, calling, closes, losing, lost_run, maybe_tracks, tracks}
 use Rattle.fluent_values.specs.Written.{Sink}
 use Rattle.fluent_values.specs.declared.output.Halt.{Halt}
-use Rattle.fluent_resolver.proofs.Cases.{entering, loses_is, sequence}
+use Rattle.fluent_state.specs.Facts.Cases.{entering, loses_is, sequence}
 use Rattle.fluent_resolver.proofs.Steps.{expressing, wholing}
-use Rattle.fluent_resolver.proofs.Views.{view_arguments}
+use Rattle.fluent_state.specs.Facts.Views.{view_arguments}
 
 -- EXPRESSIONS
 

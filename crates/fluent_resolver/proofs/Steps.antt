@@ -1,9 +1,8 @@
 -- What each function of the resolver is to do, from its scope, as the steps of its code.
-use Rattle.std.proofs.Common.{◌≡◌, refl, sym, ap, subst, ◌∙◌, ℕ, zero, suc, ◌+◌, ◌<◌, ◌≤◌, length, get_or, drop, List, [], ◌∷◌, ◌++◌, Bool, true, false, Option, Some, None, map, arith, unwrap_or, Result, Ok, IfOk}
+use Rattle.std.proofs.Common.{[], ◌≡◌, refl, sym, ap, subst, ◌∙◌, ℕ, zero, suc, ◌+◌, ◌<◌, length, get_or, List, ◌∷◌, ◌++◌, Bool, true, false, Option, Some, None, map, arith, unwrap_or, Result, Ok, IfOk}
 use Rattle.std.specs.Bool.{OnTrue, OnFalse}
-use Rattle.std.proofs.lemmas.List.{drop_more}
 use Rattle.std.specs.Option.{option_map}
-use Rattle.fluent_tree.specs.Tree.{Text, Pattern, Inline, Expression, Attribute, Call, Arguments, placeable, select, text, function, term, variable, pattern_of, inlines_of, nameds_of, variants_of, Element, more}
+use Rattle.fluent_tree.specs.Tree.{Text, Pattern, Inline, Expression, Attribute, Call, Arguments, placeable, select, text, function, term, pattern_of, inlines_of, nameds_of, variants_of, Element, more}
 use Rattle.fluent_tree.specs.Fallback.{fallback, in_braces}
 use Rattle.fluent_tree.specs.View.{pattern_view, element_view, expression_view, inline_view, named_view, variant_view, arguments_view}
 use Rattle.fluent_tree.specs.declared.ast.CallArguments as of_call
@@ -15,34 +14,24 @@ use Rattle.fluent_tree.specs.declared.ast.Expression as of_expression
 use Rattle.fluent_tree.specs.declared.ast.Expression.TheVariants as expressions
 use Rattle.fluent_tree.specs.declared.ast.Variant.{Variant}
 use Rattle.fluent_meaning.specs.Arguments.{Map, get, set, set_all}
-use Rattle.fluent_meaning.specs.Bundle.{Bundle, Function, Target, unknown, without_value, found, goes_to, term_target, shown, function_found}
-use Rattle.fluent_meaning.specs.Value.{Value, text_value, number_value, custom_value, no_value, error_value}
+use Rattle.fluent_meaning.specs.Bundle.{Bundle, Function, Target, unknown, without_value, found, goes_to, term_target, function_found}
+use Rattle.fluent_meaning.specs.Value.{Value}
 use Rattle.fluent_meaning.specs.Errors.{resolver_error, cyclic}
 use Rattle.fluent_meaning.specs.Meaning.{Budget, struck}
-use Rattle.fluent_meaning.specs.Walk.{Environment, is_on, inner, go, whole, local_of, application, local, variables, missing, loses, variable_text, variable_value, function_text, answer_text, elements, part, expression, written, resolved, positional, named, follow, has_one, function_value, called}
+use Rattle.fluent_meaning.specs.Walk.{Environment, is_on, inner, go, whole, local_of, local, elements, part, expression, written, resolved, positional, named, follow, has_one, function_value, called}
 use Rattle.fluent_meaning.specs.Work.{Worked, with_work, work}
 use Rattle.fluent_meaning.specs.Laws.{CountsByItself}
-use Rattle.fluent_resolver.specs.Along.{Below, Walk, walked, from_here, given, mapping, lost_of, shown_answer, Elsewhere, StartsPattern, EndsPattern, Enters, Leaves}
-use Rattle.fluent_resolver.specs.Choice.{choice, choosing, first_default}
-use Rattle.fluent_resolver.specs.Status.{Status}
+use Rattle.fluent_state.specs.Along.{Below, Walk, walked, from_here, given, mapping, Elsewhere, StartsPattern, EndsPattern, Enters, Leaves}
+use Rattle.fluent_state.specs.Choice.{choice, choosing, first_default}
+use Rattle.fluent_state.specs.Status.{Status}
 use Rattle.fluent_values.specs.View.{value_view}
 use Rattle.fluent_values.specs.declared.types.value.FluentValue.{FluentValue}
 use Rattle.fluent_values.specs.declared.types.value.FluentValue.TheVariants as values
-use Rattle.fluent_resolver.proofs.Cases.{sequence, prepend, and_then, elements_end, elements_struck, elements_more, part_text, positional_none, positional_more, named_none, named_more, given_first, tells, loses_is, written_variable, variable_text_some, variable_text_none, missing_application, missing_local, resolved_variable, variable_value_some, variable_value_none, function_text_none, function_text_some, expression_inline, expression_select, chosen, chosen_is, meant, entering, go_cyclic, go_entered, inner_longer, whole_is, written_term, written_function, and_then_is, mapping_then, then_give, called_is}
+use Rattle.fluent_state.specs.Facts.Cases.{sequence, prepend, and_then, elements_end, elements_struck, elements_more, part_text, positional_none, positional_more, named_none, named_more, given_first, tells, loses_is, expression_inline, expression_select, chosen, chosen_is, meant, entering, go_cyclic, go_entered, inner_longer, whole_is, written_term, written_function, and_then_is, mapping_then, then_give, called_is}
 use Rattle.fluent_resolver.proofs.Bare.{entering_bare}
-use Rattle.fluent_resolver.proofs.Views.{view_pattern, view_named, view_in, view_arguments}
+use Rattle.fluent_state.specs.Facts.Views.{view_pattern, view_named, view_in, view_arguments}
 use Rattle.fluent_entries.specs.Texts.{IsTextAlone}
-
--- LISTS
-
-pub next_of : {X : Type 0} (xs : List X) (i : ℕ) (x : X) → i < length xs → x ≡ get_or xs i x → drop i xs ≡ x ∷ drop (i + 1) xs
-next_of xs i x h is = drop_more xs i x h ∙ ap (λ y. y ∷ drop (i + 1) xs) (sym is)
-
-pub none_left : {X : Type 0} (xs : List X) (i : ℕ) → length xs ≤ i → drop i xs ≡ []
-none_left [] zero h = refl
-none_left [] (suc i) h = refl
-none_left (x ∷ xs) zero h = absurd (omega arith)
-none_left (x ∷ xs) (suc i) h = none_left xs i (omega arith)
+use Rattle.fluent_state.specs.Facts.Lookups.{writing, resolving, answering}
 
 -- ELEMENTS
 
@@ -86,9 +75,6 @@ place_walk xs s f env path = positional with_work s f env path (inlines_of (map 
 
 abbrev pub label_walk : List of_named.NamedArgument → Walk (List (Text × Value Text))
 label_walk xs s f env path = named with_work s f env path (nameds_of (map named_view xs))
-
-abbrev pub resolving : Inline → Walk (Value Text)
-resolving x s f env path = resolved with_work s f env path x
 
 pub placing_next : {K : Type 0} (a : Status K) (xs rest : List of_inline.InlineExpression) (x : of_inline.InlineExpression) (b : Budget) → xs ≡ x ∷ rest → walked a (place_walk xs) b ≡ and_then (walked a (resolving (inline_view x)) b) (λ v n. mapping (λ vs. v ∷ vs) (walked a (place_walk rest) n))
 placing_next a xs rest x b h =
@@ -148,122 +134,6 @@ calling_at a x ps ns b hp hn =
 pub set_all_next : (es : List (Text × Value Text)) (k : Text) (v : Value Text) (m : Map (Value Text)) → set_all (es ++ (k, v) ∷ []) m ≡ set k v (set_all es m)
 set_all_next [] k v m = refl
 set_all_next (e ∷ es) k v m = set_all_next es k v (set e.0 e.1 m)
-
--- VARIABLES
-
-abbrev pub writing : Inline → Walk Text
-writing x s f env path = written with_work s f env path x
-
-abbrev pub losing : Inline → Walk Text
-losing x s f env path = loses with_work s f env x
-
-texting : {K : Type 0} → Status K → Inline → Text → Budget → Worked Text
-texting a x id b = variable_text with_work a.bundle (work a.bundle) a.environment x (get id (variables a.environment)) b
-
-variable_written : {K : Type 0} (a : Status K) (x : Inline) (id : Text) (b : Budget) → x ≡ variable id → walked a (writing x) b ≡ texting a x id b
-unfolding texting
-variable_written a x id b h = subst (λ x. walked a (writing x) b ≡ texting a x id b) (sym h) (written_variable a.bundle (work a.bundle) a.environment a.path id b)
-
-pub variable_found : {K : Type 0} (a : Status K) (x : Inline) (id : Text) (v : Value Text) (b : Budget) → x ≡ variable id → get id (variables a.environment) ≡ Some v → walked a (writing x) b ≡ given (shown a.bundle v) b
-unfolding texting
-variable_found a x id v b h is =
-    variable_written a x id b h
-    ∙ ap (λ o. variable_text with_work a.bundle (work a.bundle) a.environment x o b) is
-    ∙ variable_text_some a.bundle (work a.bundle) a.environment a.path x v b
-
-pub variable_lost : {K : Type 0} (a : Status K) (x : Inline) (id : Text) (m : Map (Value Text)) (b : Budget) → x ≡ variable id → a.environment ≡ application m → get id m ≡ None → walked a (writing x) b ≡ walked a (losing x) b
-unfolding texting
-variable_lost a x id m b h env is =
-    variable_written a x id b h
-    ∙ ap (λ o. variable_text with_work a.bundle (work a.bundle) a.environment x o b) (ap (λ e. get id (variables e)) env ∙ is)
-    ∙ variable_text_none a.bundle (work a.bundle) a.environment a.path x b
-    ∙ ap (λ e. missing with_work a.bundle (work a.bundle) a.environment e x b) env
-    ∙ missing_application a.bundle (work a.bundle) a.environment a.path m x b
-    ∙ sym (loses_is a.bundle (work a.bundle) a.environment a.path x b)
-
-pub variable_unseen : {K : Type 0} (a : Status K) (x : Inline) (id : Text) (m : Map (Value Text)) (b : Budget) → x ≡ variable id → a.environment ≡ local m → get id m ≡ None → walked a (writing x) b ≡ given (in_braces (fallback x)) b
-unfolding texting
-variable_unseen a x id m b h env is =
-    variable_written a x id b h
-    ∙ ap (λ o. variable_text with_work a.bundle (work a.bundle) a.environment x o b) (ap (λ e. get id (variables e)) env ∙ is)
-    ∙ variable_text_none a.bundle (work a.bundle) a.environment a.path x b
-    ∙ ap (λ e. missing with_work a.bundle (work a.bundle) a.environment e x b) env
-    ∙ missing_local a.bundle (work a.bundle) a.environment a.path m x b
-
-valuing : {K : Type 0} → Status K → Inline → Text → Budget → Worked (Value Text)
-valuing a x id b = variable_value with_work a.bundle (work a.bundle) a.environment x (get id (variables a.environment)) b
-
-variable_resolved : {K : Type 0} (a : Status K) (x : Inline) (id : Text) (b : Budget) → x ≡ variable id → walked a (resolving x) b ≡ valuing a x id b
-unfolding valuing
-variable_resolved a x id b h = subst (λ x. walked a (resolving x) b ≡ valuing a x id b) (sym h) (resolved_variable a.bundle (work a.bundle) a.environment a.path id b)
-
-pub value_found : {K : Type 0} (a : Status K) (x : Inline) (id : Text) (v : Value Text) (b : Budget) → x ≡ variable id → get id (variables a.environment) ≡ Some v → walked a (resolving x) b ≡ given v b
-unfolding valuing
-value_found a x id v b h is =
-    variable_resolved a x id b h
-    ∙ ap (λ o. variable_value with_work a.bundle (work a.bundle) a.environment x o b) is
-    ∙ variable_value_some a.bundle (work a.bundle) a.environment a.path x v b
-
-pub value_lost : {K : Type 0} (a : Status K) (x : Inline) (id : Text) (m : Map (Value Text)) (b : Budget) → x ≡ variable id → a.environment ≡ application m → get id m ≡ None → walked a (resolving x) b ≡ tells (lost_of x) (given error_value b)
-unfolding valuing
-value_lost a x id m b h env is =
-    variable_resolved a x id b h
-    ∙ ap (λ o. variable_value with_work a.bundle (work a.bundle) a.environment x o b) (ap (λ e. get id (variables e)) env ∙ is)
-    ∙ variable_value_none a.bundle (work a.bundle) a.environment a.path x b
-    ∙ ap (λ e. mapping (λ t. error_value) (missing with_work a.bundle (work a.bundle) a.environment e x b)) env
-    ∙ ap (mapping (λ t. error_value)) (missing_application a.bundle (work a.bundle) a.environment a.path m x b)
-
-pub value_unseen : {K : Type 0} (a : Status K) (x : Inline) (id : Text) (m : Map (Value Text)) (b : Budget) → x ≡ variable id → a.environment ≡ local m → get id m ≡ None → walked a (resolving x) b ≡ given error_value b
-unfolding valuing
-value_unseen a x id m b h env is =
-    variable_resolved a x id b h
-    ∙ ap (λ o. variable_value with_work a.bundle (work a.bundle) a.environment x o b) (ap (λ e. get id (variables e)) env ∙ is)
-    ∙ variable_value_none a.bundle (work a.bundle) a.environment a.path x b
-    ∙ ap (λ e. mapping (λ t. error_value) (missing with_work a.bundle (work a.bundle) a.environment e x b)) env
-    ∙ ap (mapping (λ t. error_value)) (missing_local a.bundle (work a.bundle) a.environment a.path m x b)
-
--- FUNCTIONS
-
--- what is written of a function's answer
-abbrev pub answering : Inline → Text → List (Value Text) → Map (Value Text) → Walk Text
-answering x id vs m s f env path = function_text with_work s f env x (function_found (get id s.ids)) vs m
-
-pub answer_lost : {K : Type 0} (a : Status K) (x : Inline) (id : Text) (vs : List (Value Text)) (m : Map (Value Text)) (b : Budget) → None ≡ option_map (λ g. g vs m) (function_found (get id a.bundle.ids)) → walked a (answering x id vs m) b ≡ walked a (losing x) b
-answer_lost a x id vs m b h = by_case (function_found (get id a.bundle.ids)) refl h
-  where
-    by_case : (o : Option (Function Text)) → function_found (get id a.bundle.ids) ≡ o → None ≡ option_map (λ g. g vs m) o → walked a (answering x id vs m) b ≡ walked a (losing x) b
-    by_case None is h =
-        ap (λ o. function_text with_work a.bundle (work a.bundle) a.environment x o vs m b) is
-        ∙ function_text_none a.bundle (work a.bundle) a.environment a.path x vs m b
-        ∙ sym (loses_is a.bundle (work a.bundle) a.environment a.path x b)
-    by_case (Some g) is h = cc
-
-pub answer_is : {K : Type 0} (a : Status K) (x : Inline) (id : Text) (vs : List (Value Text)) (m : Map (Value Text)) (v : Value Text) (b : Budget) → Some v ≡ option_map (λ g. g vs m) (function_found (get id a.bundle.ids)) → walked a (answering x id vs m) b ≡ answer_text with_work a.bundle (work a.bundle) a.environment x v b
-answer_is a x id vs m v b h = by_case (function_found (get id a.bundle.ids)) refl h
-  where
-    by_case : (o : Option (Function Text)) → function_found (get id a.bundle.ids) ≡ o → Some v ≡ option_map (λ g. g vs m) o → walked a (answering x id vs m) b ≡ answer_text with_work a.bundle (work a.bundle) a.environment x v b
-    by_case None is h = cc
-    by_case (Some g) is h =
-        ap (λ o. function_text with_work a.bundle (work a.bundle) a.environment x o vs m b) is
-        ∙ function_text_some a.bundle (work a.bundle) a.environment a.path x g vs m b
-        ∙ ap (λ w. answer_text with_work a.bundle (work a.bundle) a.environment x w b) (same v (g vs m) h)
-      where
-        same : (v w : Value Text) → Some v ≡ Some w → w ≡ v
-        same v w h = cc
-
-pub answer_put : {K : Type 0} (a : Status K) (x : Inline) (v : Value Text) (b : Budget) → answer_text with_work a.bundle (work a.bundle) a.environment x v b ≡ given (shown_answer a.bundle x v) b
-answer_put a x (text_value t) b = refl
-answer_put a x (number_value n) b = refl
-answer_put a x (custom_value y) b = refl
-answer_put a x no_value b = refl
-answer_put a x error_value b = refl
-
-pub no_error : {C : Type 0} (content : C → Text) (b : Bundle Text) (x : Inline) (v : FluentValue C) → (v ≡ values.Error → ⊥) → shown b (value_view content v) ≡ shown_answer b x (value_view content v)
-no_error content b x (values.String s) h = refl
-no_error content b x (values.Number n) h = refl
-no_error content b x (values.Custom y) h = refl
-no_error content b x values.None h = refl
-no_error content b x values.Error h = absurd (h refl)
 
 -- EXPRESSIONS
 

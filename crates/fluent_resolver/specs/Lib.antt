@@ -1,9 +1,6 @@
-pub mod Gathered
-pub mod FoundView
-pub mod Trail
-pub mod Status
-pub mod Along
+pub use Rattle.fluent_state.specs.FoundView
+pub use Rattle.fluent_state.specs.Status
+pub use Rattle.fluent_state.specs.Along
+pub mod ScopeView
 pub mod Tracking
 pub mod Sizes
-pub mod Choice
-pub mod ChosenView

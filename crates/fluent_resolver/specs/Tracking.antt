@@ -9,8 +9,8 @@ use Rattle.fluent_meaning.specs.Walk.{Environment, is_on, inner, go, loses, expr
 use Rattle.fluent_meaning.specs.Meaning.{Budget, Ran, closed}
 use Rattle.fluent_meaning.specs.Result.{arguments_of}
 use Rattle.fluent_meaning.specs.Work.{with_work}
-use Rattle.fluent_resolver.specs.Along.{Walk, from_here, lost_of}
-use Rattle.fluent_resolver.specs.Status.{Status}
+use Rattle.fluent_state.specs.Along.{Walk, from_here, lost_of}
+use Rattle.fluent_state.specs.Status.{Status}
 
 -- the pattern that an expression refers to
 abbrev pub tracks : Pattern → Inline → Walk Text

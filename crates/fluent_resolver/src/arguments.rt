@@ -1,31 +1,29 @@
 //! Values: of arguments and of selectors.
-#![tactic(auto, unfolding(crate::specs::Status::state_parts))]
+#![tactic(auto, unfolding(fluent_state::specs::Status::state_parts))]
 
-ghost use Rattle.std.specs.Prelude.{◌≡◌, [], ◌∷◌, ◌++◌, map, IfOk, OnOk};
-ghost use Rattle.std.specs.Option.{option_map};
+ghost use Rattle.std.specs.Prelude.{◌≡◌, [], map};
 ghost use Rattle.fluent_tree.specs.References.{in_arguments, in_call, in_inline, in_named, in_positional};
-ghost use Rattle.fluent_tree.specs.Tree.{function, variable, inlines_of, nameds_of};
+ghost use Rattle.fluent_tree.specs.Tree.{function, inlines_of, nameds_of};
 ghost use Rattle.fluent_tree.specs.View.{inline_view, arguments_view, call_view, named_view};
-ghost use Rattle.fluent_meaning.specs.Arguments.{get, set_all};
+ghost use Rattle.fluent_meaning.specs.Arguments.{set_all};
 ghost use Rattle.fluent_meaning.specs.Walk.{written, resolved, called, local_of, positional, named as named_arguments};
 ghost use Rattle.fluent_meaning.specs.Work.{with_work};
-ghost use Rattle.fluent_resolver.specs.Along.{Gave, Got, Wrote, mapping};
+ghost use Rattle.fluent_state.specs.Along.{Gave, Wrote, mapping};
 ghost use Rattle.fluent_entries.specs.Numbered.{IsPlaced};
-ghost use Rattle.fluent_resolver.specs.Status.{arguments_view as given_arguments, state};
+ghost use Rattle.fluent_state.specs.Status.{state};
 ghost use Rattle.fluent_values.specs.View.{value_view, named};
 ghost use Rattle.fluent_values.specs.Written.{writer, beside};
 
-use crate::environment::Environment;
-use crate::found::answer_of;
-use crate::gathered::Gathered;
-use crate::inline_expression::{report_lost, write_inline};
-use crate::state::State;
+use crate::inline_expression::write_inline;
 use fluent_links::Place;
+use fluent_state::State;
+use fluent_state::found::answer_of;
+use fluent_state::gathered::{Gathered, push_value};
+use fluent_state::variable::resolve_variable;
 use fluent_text::{Counting, unescape_unicode_to_string};
 use fluent_tree::ast::{CallArguments, Identifier, InlineExpression, NamedArgument};
 use fluent_values::output::{Halt, Output};
 use fluent_values::{Context, FluentArgs, FluentFunction, FluentType, FluentValue};
-use std::alloc::{AllocError, Global};
 use std::borrow::CowStr;
 use std::io::Write;
 
@@ -112,62 +110,6 @@ fn write_beside<'p, 's, W: Write, C: FluentType, F: FluentFunction<C>, B: Contex
     write_inline(scope, &mut out, inline, place)
 }
 
-/// A copy of a variable's value. One that is missing is an error value, with the error that it has where it is
-/// written.
-fn resolve_variable<'p, C: FluentType, F: FluentFunction<C>, B: Context<C>>(
-    scope: &mut State<'_, 'p, '_, '_, '_, C, F, B>,
-    inline: &InlineExpression<'_>,
-    id: &Identifier<'_>,
-) -> Result<FluentValue<'p, C>, AllocError>
-    requires { inline_view inline.now ≡ variable id.now.name.now }
-    ensures { let at = state B.meant B.is_plain F.answer C.content in
-        Got result (value_view C.content)
-        (λ b below env path. resolved with_work b below env path (inline_view inline.now))
-        (at scope.old) (at scope.new) }
-{
-    let alloc = scope.bundle.allocator();
-    match &scope.environment {
-        Environment::Local(args) => match args.get(id.name) {
-            Some(value) => value.try_clone(alloc),
-            None => Ok(FluentValue::Error),
-        },
-        Environment::Application(args) => match argument(*args, id.name) {
-            Some(value) => lent(alloc, value),
-            None => {
-                report_lost(scope, inline)?;
-                Ok(FluentValue::Error)
-            }
-        },
-    }
-}
-
-/// The value of a variable among arguments, if there are any.
-pub(crate) fn argument<'p, 'args, C: FluentType>(
-    args: Option<&'p FluentArgs<'args, C>>,
-    name: &str,
-) -> Option<&'p FluentValue<'args, C>>
-    ensures { option_map (λ v. value_view C.content v.now) result
-        ≡ get name.now (given_arguments C.content args.entry) }
-{
-    match args {
-        Some(args) => args.get(name),
-        None => None,
-    }
-}
-
-/// A copy of a value that borrows its text.
-fn lent<'v, C: FluentType>(
-    alloc: Global,
-    value: &'v FluentValue<'_, C>,
-) -> Result<FluentValue<'v, C>, AllocError>
-    ensures { IfOk result (λ copy. value_view C.content copy ≡ value_view C.content value.now) }
-{
-    match value {
-        FluentValue::String(text) => Ok(FluentValue::String(CowStr::Borrowed(text.as_str()))),
-        _ => value.into_owned(alloc),
-    }
-}
-
 /// The environment that a term's arguments make: its named ones. The positional ones are resolved and thrown away.
 #[cycle(resolve)]
 #[inline(always)]
@@ -239,19 +181,6 @@ fn resolve_positional<'p, 's, W: Write, C: FluentType, F: FluentFunction<C>, B: 
         place = place.behind_inline(argument);
     }
     Ok(values)
-}
-
-/// Adds a value at the end.
-fn push_value<'p, C: FluentType>(
-    values: &mut Vec<FluentValue<'p, C>>,
-    value: FluentValue<'p, C>,
-) -> Result<(), AllocError>
-    ensures { OnOk result
-        (map (value_view C.content) values.new.items
-        ≡ map (value_view C.content) values.old.items ++ value_view C.content value.entry ∷ []) }
-{
-    values.push(value)?;
-    Ok(())
 }
 
 /// The values of named arguments, in order; the last of a name stands.

@@ -1,24 +1,22 @@
 //! Expressions.
-#![tactic(auto, unfolding(crate::specs::Status::state_parts))]
+#![tactic(auto, unfolding(fluent_state::specs::Status::state_parts))]
 
-ghost use Rattle.std.specs.Prelude.{◌≡◌, map};
-ghost use Rattle.fluent_tree.specs.Fallback.{fallback, fallback_of};
+ghost use Rattle.std.specs.Prelude.{map};
 ghost use Rattle.fluent_tree.specs.References.{in_expression};
 ghost use Rattle.fluent_tree.specs.Tree.{select, variants_of};
 ghost use Rattle.fluent_tree.specs.View.{expression_view, inline_view, variant_view};
 ghost use Rattle.fluent_meaning.specs.Walk as walk;
-ghost use Rattle.fluent_meaning.specs.Walk.{is_bare};
 ghost use Rattle.fluent_meaning.specs.Work.{with_work};
-ghost use Rattle.fluent_resolver.specs.Along.{Wrote};
+ghost use Rattle.fluent_state.specs.Along.{Wrote};
 ghost use Rattle.fluent_entries.specs.Numbered.{IsPlaced};
-ghost use Rattle.fluent_resolver.specs.Status.{state};
+ghost use Rattle.fluent_state.specs.Status.{state};
 ghost use Rattle.fluent_values.specs.Written.{sink};
 
 use crate::inline_expression::write_inline;
 use crate::pattern::write_pattern;
-use crate::state::State;
 use crate::variants::choose_variant;
 use fluent_links::Place;
+use fluent_state::State;
 use fluent_tree::ast::{Expression, InlineExpression, Variant};
 use fluent_values::output::{Halt, Output};
 use fluent_values::{Context, FluentFunction, FluentType, ResolverError};
@@ -76,31 +74,5 @@ fn write_select<'p, 's, W: Write, C: FluentType, F: FluentFunction<C>, B: Contex
             scope.add_error(ResolverError::MissingDefault)?;
             Ok(())
         }
-    }
-}
-
-/// Whether it is directly a message reference, a term reference or a string literal.
-pub(crate) fn is_bare(expression: &Expression) -> bool
-    ensures { result ≡ is_bare (expression_view expression.now) }
-{
-    matches!(
-        expression,
-        Expression::Inline(
-            InlineExpression::MessageReference { .. }
-                | InlineExpression::TermReference { .. }
-                | InlineExpression::StringLiteral { .. }
-        )
-    )
-}
-
-/// The part of an expression that its fallback shows: of a select the selector.
-pub(crate) fn shown_part<'tree, 's>(
-    expression: &'tree Expression<'s>,
-) -> &'tree InlineExpression<'s>
-    ensures { fallback (inline_view result.now) ≡ fallback_of (expression_view expression.now) }
-{
-    match expression {
-        Expression::Inline(inline) => inline,
-        Expression::Select { selector, .. } => selector,
     }
 }

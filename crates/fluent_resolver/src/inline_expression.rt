@@ -1,38 +1,33 @@
 //! Inline expressions.
-#![tactic(auto, unfolding(crate::specs::Status::state_parts))]
+#![tactic(auto, unfolding(fluent_state::specs::Status::state_parts))]
 
-ghost use Rattle.std.specs.Prelude.{◌≡◌, ◌≢◌, ◌<◌, ◌∷◌, [], map, Err, IsOk, None, false};
-ghost use Rattle.fluent_tree.specs.References.{a_function, in_inline};
-ghost use Rattle.fluent_tree.specs.Tree.{function, variable, term};
+ghost use Rattle.std.specs.Prelude.{◌≡◌, ◌<◌};
+ghost use Rattle.fluent_tree.specs.References.{in_inline};
+ghost use Rattle.fluent_tree.specs.Tree.{function, term};
 ghost use Rattle.fluent_tree.specs.View.{inline_view, attribute_of, call_view, arguments_view};
-ghost use Rattle.fluent_meaning.specs.Arguments.{get};
-ghost use Rattle.fluent_meaning.specs.Bundle.{function_found, shown};
-ghost use Rattle.fluent_meaning.specs.Value.{try_number};
-ghost use Rattle.fluent_meaning.specs.Errors.{resolver_error, no_value, reference_of};
-ghost use Rattle.fluent_meaning.specs.Walk.{written, follow, go, is_on, loses, function_text};
+ghost use Rattle.fluent_meaning.specs.Walk.{written, follow, go, is_on};
 ghost use Rattle.fluent_meaning.specs.Work.{with_work};
-ghost use Rattle.fluent_resolver.specs.Along.{Wrote, ReportsIfOk, lost_of, shown_answer};
-ghost use Rattle.fluent_resolver.specs.FoundView.{IsLed, IsStored, content_at, found_view};
+ghost use Rattle.fluent_state.specs.Along.{Wrote};
+ghost use Rattle.fluent_state.specs.FoundView.{IsLed, IsStored, content_at, found_view};
 ghost use Rattle.fluent_entries.specs.Numbered.{IsPlaced};
 ghost use Rattle.fluent_resolver.specs.Sizes.{size, bound, IsBelow};
-ghost use Rattle.fluent_resolver.specs.Status.{state};
-ghost use Rattle.fluent_values.specs.View.{value_view, named};
-ghost use Rattle.fluent_values.specs.Written.{sink, SinkTook};
+ghost use Rattle.fluent_state.specs.Status.{state};
+ghost use Rattle.fluent_values.specs.View.{named};
+ghost use Rattle.fluent_values.specs.Written.{sink};
 
-use crate::arguments::{argument, resolve_call, resolve_local};
-use crate::environment::Environment;
+use crate::arguments::{resolve_call, resolve_local};
 use crate::expression::write_expression;
-use crate::fallback::{put_fallback, put_id_in_braces, put_in_braces};
-use crate::found::{self, Found, Target, answer_of};
 use crate::pattern::write_elements;
-use crate::state::State;
 use fluent_links::Place;
 use fluent_meaning::laws::budgets_pass_through;
+use fluent_state::fallback::{put_id_in_braces, put_in_braces};
+use fluent_state::lost::{lose, report_no_value};
+use fluent_state::shown::{put_answer, put_number};
+use fluent_state::variable::write_variable;
+use fluent_state::{Environment, Found, State, Target, found};
 use fluent_tree::ast::{CallArguments, Identifier, InlineExpression};
-use fluent_values::output::{Halt, Output, put_text, put_unescaped};
-use fluent_values::shown::put_value;
-use fluent_values::{Context, FluentArgs, FluentFunction, FluentType, FluentValue, ResolverError};
-use std::alloc::{AllocError, Global};
+use fluent_values::output::{Halt, Output, put_unescaped};
+use fluent_values::{Context, FluentFunction, FluentType, ResolverError};
 use std::collections::LinkedList;
 use std::io::Write;
 use std::mem;
@@ -73,18 +68,6 @@ pub(crate) fn write_inline<'p, 's, W: Write, C: FluentType, F: FluentFunction<C>
             write_expression(scope, out, expression, place)
         }
     }
-}
-
-/// Writes the number that a literal's source is, as it is shown.
-fn put_number<W: Write, C: FluentType, B: Context<C>>(
-    bundle: &B,
-    out: &mut Output<W>,
-    source: &str,
-) -> Result<(), Halt>
-    ensures { SinkTook result (shown (B.meant bundle.now) (try_number source.now))
-        (sink W.contents out.old) (sink W.contents out.new) }
-{
-    put_value(bundle, out, &FluentValue::try_number(source))
 }
 
 /// Writes what a function answers to its arguments. It stands by itself, as what a call may hold costs at its entry.
@@ -195,122 +178,4 @@ fn go<'p, 's, W: Write, C: FluentType, F: FluentFunction<C>, B: Context<C>>(
     let written = write_elements(scope, out, target.pattern, target.place);
     scope.leave(put);
     written
-}
-
-/// Writes what a function answers.
-fn put_answer<'p, W: Write, C: FluentType, F: FluentFunction<C>, B: Context<C>>(
-    scope: &mut State<'_, 'p, '_, '_, '_, C, F, B>,
-    out: &mut Output<W>,
-    inline: &InlineExpression<'_>,
-    id: &Identifier<'_>,
-    positional: &[FluentValue<'p, C>],
-    arguments: &FluentArgs<'p, C>,
-    place: Place<'p>,
-) -> Result<(), Halt>
-    requires { IsPlaced scope.old.ids.now (a_function id.now.name.now ∷ []) place }
-    ensures { let at = state B.meant B.is_plain F.answer C.content in
-        Wrote result
-        (λ b below env path. function_text with_work b below env (inline_view inline.now)
-        (function_found (get id.now.name.now b.ids))
-        (map (value_view C.content) positional.now) (named C.content arguments.now))
-        (sink W.contents out.old) (sink W.contents out.new) (at scope.old) (at scope.new) }
-{
-    match answer_of(
-        scope.ids,
-        scope.bundle.allocator(),
-        id.name,
-        positional,
-        arguments,
-        place,
-    )? {
-        None => lose(scope, out, inline),
-        Some(answer) => put_shown(scope.bundle, out, inline, &answer),
-    }
-}
-
-/// Writes a function's answer: an error as the function's fallback, without braces.
-fn put_shown<W: Write, C: FluentType, B: Context<C>>(
-    bundle: &B,
-    out: &mut Output<W>,
-    inline: &InlineExpression<'_>,
-    answer: &FluentValue<'_, C>,
-) -> Result<(), Halt>
-    ensures { SinkTook result (shown_answer (B.meant bundle.now) (inline_view inline.now)
-        (value_view C.content answer.now))
-        (sink W.contents out.old) (sink W.contents out.new) }
-{
-    match answer {
-        FluentValue::Error => put_fallback(out, inline),
-        _ => put_value(bundle, out, answer),
-    }
-}
-
-/// Writes the value of a variable. One that is missing shows its fallback in braces, and is an error where it is
-/// looked up among the application's arguments.
-fn write_variable<W: Write, C: FluentType, F: FluentFunction<C>, B: Context<C>>(
-    scope: &mut State<'_, '_, '_, '_, '_, C, F, B>,
-    out: &mut Output<W>,
-    inline: &InlineExpression<'_>,
-    id: &Identifier<'_>,
-) -> Result<(), Halt>
-    requires { inline_view inline.now ≡ variable id.now.name.now }
-    ensures { let at = state B.meant B.is_plain F.answer C.content in
-        Wrote result
-        (λ b below env path. written with_work b below env path (inline_view inline.now))
-        (sink W.contents out.old) (sink W.contents out.new) (at scope.old) (at scope.new) }
-{
-    match &scope.environment {
-        Environment::Local(args) => match args.get(id.name) {
-            Some(value) => put_value(scope.bundle, out, value),
-            None => put_in_braces(out, inline),
-        },
-        Environment::Application(args) => match argument(*args, id.name) {
-            Some(value) => put_value(scope.bundle, out, value),
-            None => lose(scope, out, inline),
-        },
-    }
-}
-
-/// Reports what can't be found, and then writes its fallback in braces. What is no reference is no error.
-pub(crate) fn lose<W: Write, C: FluentType, F: FluentFunction<C>, B: Context<C>>(
-    scope: &mut State<'_, '_, '_, '_, '_, C, F, B>,
-    out: &mut Output<W>,
-    inline: &InlineExpression<'_>,
-) -> Result<(), Halt>
-    ensures wrote { let at = state B.meant B.is_plain F.answer C.content in
-        Wrote result
-        (λ b below env path. loses with_work b below env (inline_view inline.now))
-        (sink W.contents out.old) (sink W.contents out.new) (at scope.old) (at scope.new) }
-    ensures memory { reference_of (inline_view inline.now) ≡ None → out.old.is_buffered ≡ false →
-        result ≢ Err Halt.Memory }
-{
-    report_lost(scope, inline)?;
-    put_in_braces(out, inline)
-}
-
-/// Reports what can't be found, if it is a reference.
-pub(crate) fn report_lost<C: FluentType, F: FluentFunction<C>, B: Context<C>>(
-    scope: &mut State<'_, '_, '_, '_, '_, C, F, B>,
-    inline: &InlineExpression<'_>,
-) -> Result<(), AllocError>
-    ensures reports { let at = state B.meant B.is_plain F.answer C.content in
-        ReportsIfOk result (lost_of (inline_view inline.now)) (at scope.old) (at scope.new) }
-    ensures succeeds { reference_of (inline_view inline.now) ≡ None → IsOk result }
-{
-    match ResolverError::of(scope.bundle.allocator(), inline)? {
-        Some(error) => scope.add_error(error),
-        None => Ok(()),
-    }
-}
-
-/// Reports that a message has no value.
-fn report_no_value<C: FluentType, F: FluentFunction<C>, B: Context<C>>(
-    scope: &mut State<'_, '_, '_, '_, '_, C, F, B>,
-    id: &str,
-) -> Result<(), AllocError>
-    ensures { let at = state B.meant B.is_plain F.answer C.content in
-        ReportsIfOk result (resolver_error (no_value id.now) ∷ []) (at scope.old) (at scope.new) }
-{
-    let id = String::from_str(scope.bundle.allocator(), id)?;
-    scope.add_error(ResolverError::NoValue(id))
 }

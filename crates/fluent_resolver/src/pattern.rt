@@ -1,27 +1,26 @@
 //! Patterns.
-#![tactic(auto, unfolding(crate::specs::Status::state_parts))]
+#![tactic(auto, unfolding(fluent_state::specs::Status::state_parts))]
 
 ghost use Rattle.std.specs.Prelude.{◌≡◌, ◌≢◌, Err, false, IsTrue};
-ghost use Rattle.fluent_tree.specs.Fallback.{fallback_of};
 ghost use Rattle.fluent_tree.specs.References.{in_expression, references};
 ghost use Rattle.fluent_tree.specs.Tree.{placeable};
 ghost use Rattle.fluent_tree.specs.View.{expression_view, pattern_view};
-ghost use Rattle.fluent_meaning.specs.Meaning.{first_mark, last_mark, ending, struck};
+ghost use Rattle.fluent_meaning.specs.Meaning.{struck};
 ghost use Rattle.fluent_meaning.specs.Walk.{has_one, is_marked, elements, part, whole};
 ghost use Rattle.fluent_meaning.specs.Work.{with_work};
-ghost use Rattle.fluent_resolver.specs.Along.{Wrote};
+ghost use Rattle.fluent_state.specs.Along.{Wrote};
 ghost use Rattle.fluent_entries.specs.Numbered.{IsPlaced};
-ghost use Rattle.fluent_resolver.specs.Status.{budget_view, state, state_parts};
+ghost use Rattle.fluent_state.specs.Status.{budget_view, state, state_parts};
 ghost use Rattle.fluent_entries.specs.Texts.{IsTextAlone};
-ghost use Rattle.fluent_values.specs.Written.{sink, SinkTook};
+ghost use Rattle.fluent_values.specs.Written.{sink};
 
-use crate::expression::{is_bare, shown_part, write_expression};
-use crate::fallback::put_in_braces;
-use crate::scope::Budget;
-use crate::state::State;
+use crate::expression::write_expression;
 use fluent_links::Place;
+use fluent_state::State;
+use fluent_state::placeable::{has_one, is_marked, put_ending, put_first_mark, put_last_mark};
+use fluent_state::texts::put_changed;
 use fluent_tree::ast::{Expression, Pattern, PatternElement};
-use fluent_values::output::{Halt, Output, put_text};
+use fluent_values::output::{Halt, Output};
 use fluent_values::{Context, FluentFunction, FluentType, ResolverError};
 use std::io::Write;
 
@@ -84,28 +83,6 @@ pub(crate) fn write_elements<'p, 's, W: Write, C: FluentType, F: FluentFunction<
     Ok(())
 }
 
-/// Writes what a text element is changed to.
-fn put_changed<W: Write, C: FluentType, F: FluentFunction<C>, B: Context<C>>(
-    scope: &State<'_, '_, '_, '_, '_, C, F, B>,
-    out: &mut Output<W>,
-    text: &str,
-) -> Result<(), Halt>
-    ensures took { SinkTook result ((B.meant scope.now.bundle.now).transform text.now)
-        (sink W.contents out.old) (sink W.contents out.new) }
-    ensures memory { IsTrue (B.is_plain scope.now.bundle.now) → out.old.is_buffered ≡ false →
-        result ≢ Err Halt.Memory }
-{
-    let changed = scope.bundle.change(text)?;
-    put_text(out, &changed)
-}
-
-/// Whether a pattern has one element alone.
-pub(crate) fn has_one(pattern: &Pattern) -> bool
-    ensures { result ≡ has_one (pattern_view pattern.now) }
-{
-    pattern.elements.len() == 1
-}
-
 /// Writes a placeable of a pattern, which is all of it or not.
 #[cycle(resolve)]
 fn write_placeable<'p, 's, W: Write, C: FluentType, F: FluentFunction<C>, B: Context<C>>(
@@ -133,52 +110,4 @@ fn write_placeable<'p, 's, W: Write, C: FluentType, F: FluentFunction<C>, B: Con
     write_expression(scope, out, expression, place)?;
     put_ending(out, expression, scope.budget)?;
     put_last_mark(out, marked)
-}
-
-/// Whether a placeable stands between isolation marks.
-fn is_marked<C: FluentType, B: Context<C>>(bundle: &B, one: bool, expression: &Expression) -> bool
-    ensures { result ≡ is_marked (B.meant bundle.now).isolates one
-        (expression_view expression.now) }
-{
-    bundle.uses_isolating() && !one && !is_bare(expression)
-}
-
-/// U+2068 FIRST STRONG ISOLATE, where it is wanted.
-fn put_first_mark<W: Write>(out: &mut Output<W>, marked: bool) -> Result<(), Halt>
-    ensures { SinkTook result (first_mark marked) (sink W.contents out.old)
-        (sink W.contents out.new) }
-{
-    if marked {
-        put_text(out, "\u{2068}")
-    } else {
-        Ok(())
-    }
-}
-
-/// U+2069 POP DIRECTIONAL ISOLATE, where it is wanted.
-fn put_last_mark<W: Write>(out: &mut Output<W>, marked: bool) -> Result<(), Halt>
-    ensures { SinkTook result (last_mark marked) (sink W.contents out.old)
-        (sink W.contents out.new) }
-{
-    if marked {
-        put_text(out, "\u{2069}")
-    } else {
-        Ok(())
-    }
-}
-
-/// A placeable that was open where the limit was struck ends with its fallback.
-pub(crate) fn put_ending<W: Write>(
-    out: &mut Output<W>,
-    expression: &Expression,
-    budget: Budget,
-) -> Result<(), Halt>
-    ensures { SinkTook result (ending (fallback_of (expression_view expression.now))
-        (budget_view budget))
-        (sink W.contents out.old) (sink W.contents out.new) }
-{
-    match budget {
-        Budget::Left(_) => Ok(()),
-        Budget::Struck => put_in_braces(out, shown_part(expression)),
-    }
 }

@@ -1,30 +1,15 @@
 //! The state of one formatting call.
-#![tactic(auto, unfolding(crate::specs::Status::scope_parts, crate::specs::Status::state_parts))]
+#![tactic(auto, unfolding(crate::specs::ScopeView::scope_parts, fluent_state::specs::Status::state_parts))]
 
 ghost use Rattle.std.specs.Prelude.{◌≡◌, true};
-ghost use Rattle.fluent_resolver.specs.Trail.{is_idle};
+ghost use Rattle.fluent_state.specs.Trail.{is_idle};
 
-use crate::state::State;
 use fluent_entries::Ids;
+use fluent_state::{Counts, State};
 use fluent_values::{
     Context, FluentArgs, FluentError, FluentFunction, FluentType, HasBundle, ResolverError,
 };
 use std::alloc::AllocError;
-
-/// How many more placeables may be opened; struck once one more was met.
-#[derive(Clone, Copy)]
-pub enum Budget {
-    Left(u32),
-    Struck,
-}
-
-/// What a call did: placeables opened, the longest path, patterns entered. Each stands still at the largest number.
-#[derive(Clone, Copy)]
-pub struct Counts {
-    pub opened: u64,
-    pub longest: u64,
-    pub entered: u64,
-}
 
 /// The state of one formatting call between the calls that resolve a part of a pattern: its bundle, where its
 /// variables are looked up, its list of errors, how many more placeables it may open, and what it did.
@@ -51,8 +36,9 @@ impl<'errors, 'p, 'r, 's, 'args, C: FluentType, F: FluentFunction<C>, B: Context
     ghost use Rattle.fluent_meaning.specs.Meaning.{struck};
     ghost use Rattle.fluent_values.specs.View.{error_view, resolver_error_view};
     ghost use Rattle.fluent_entries.specs.EntryView.{ids as ids_of};
-    ghost use Rattle.fluent_resolver.specs.Status.{arguments_view, bundle_in, counts_in, errors_in, scope_parts, status, with_ids};
-    ghost use Rattle.fluent_resolver.specs.Along.{ReportsIfOk, IsAtStart};
+    ghost use Rattle.fluent_state.specs.Status.{arguments_view, with_ids};
+    ghost use Rattle.fluent_resolver.specs.ScopeView.{bundle_in, counts_in, errors_in, scope_parts, status};
+    ghost use Rattle.fluent_state.specs.Along.{ReportsIfOk, IsAtStart};
 
     /// The state in which a call begins, with the whole budget of its bundle, whose ids it is handed too. Errors
     /// are added at the end of the list, if there is one. Without arguments each variable is missing. It takes no
@@ -135,7 +121,7 @@ impl<'errors, 'p, 'r, 's, 'args, C: FluentType, F: FluentFunction<C>, B: Context
 impl<'errors, 'p, 'r, 's: 'r, 'args, C: FluentType, F: FluentFunction<C>, B: Context<C>> HasBundle<
     C,
 > for Scope<'errors, 'p, 'r, 's, 'args, C, F, B> {
-    ghost use Rattle.fluent_resolver.specs.Status.{bundle_in};
+    ghost use Rattle.fluent_resolver.specs.ScopeView.{bundle_in};
 
     type Bundle = B;
 

@@ -1,5 +1,5 @@
 //! The calls of a scope that resolve a part of a pattern by itself.
-#![tactic(auto, unfolding(crate::specs::Status::scope_parts, crate::specs::Status::state_parts))]
+#![tactic(auto, unfolding(crate::specs::ScopeView::scope_parts, fluent_state::specs::Status::state_parts))]
 
 ghost use Rattle.std.specs.Prelude.{◌≡◌, ◌≢◌, Err, IsOk, IsTrue, None, Some, map, true};
 ghost use Rattle.std.specs.Option.{option_map};
@@ -7,22 +7,23 @@ ghost use Rattle.fluent_tree.specs.Tree.{Inline};
 ghost use Rattle.fluent_tree.specs.View.{arguments_view, expression_view, inline_view, pattern_view};
 ghost use Rattle.fluent_meaning.specs.Errors.{reference_of};
 ghost use Rattle.fluent_meaning.specs.Result.{maybe_tracked, tracked};
-ghost use Rattle.fluent_resolver.specs.Along.{Got, Wrote};
-ghost use Rattle.fluent_resolver.specs.Status.{bundle_in, state, status};
-ghost use Rattle.fluent_resolver.specs.Trail.{is_idle};
+ghost use Rattle.fluent_state.specs.Along.{Got, Wrote};
+ghost use Rattle.fluent_state.specs.Status.{state};
+ghost use Rattle.fluent_resolver.specs.ScopeView.{bundle_in, status};
+ghost use Rattle.fluent_state.specs.Trail.{is_idle};
 ghost use Rattle.fluent_resolver.specs.Tracking.{Runs, are_none, called_run, calling, closes, losing, lost_run, maybe_tracks, tracks};
 ghost use Rattle.fluent_values.specs.View.{named, value_view};
 ghost use Rattle.fluent_values.specs.Written.{sink, writer, without_error};
 
 use crate::arguments::resolve_call;
 use crate::expression::write_expression;
-use crate::fallback::put_in_braces;
-use crate::inline_expression::lose;
-use crate::pattern::{put_ending, write_pattern};
+use crate::pattern::write_pattern;
 use crate::scope::Scope;
-use crate::state::State;
 use fluent_links::Place;
 use fluent_meaning::laws::{budgets_pass_through, calls_pass_through};
+use fluent_state::State;
+use fluent_state::lost::lose;
+use fluent_state::placeable::put_ending;
 use fluent_text::{Counting, WriteFault};
 use fluent_tree::ast::{CallArguments, Expression, InlineExpression, Pattern};
 use fluent_values::output::{Halt, Output, with_error};

@@ -1,56 +1,26 @@
 //! Which variant of a select a value goes to.
-#![tactic(auto, unfolding(crate::specs::Status::state_parts))]
+#![tactic(auto, unfolding(fluent_state::specs::Status::state_parts))]
 
-ghost use Rattle.std.specs.Prelude.{◌≡◌, IfOk, map};
-ghost use Rattle.std.specs.Option.{option_map};
+ghost use Rattle.std.specs.Prelude.{IfOk, map};
 ghost use Rattle.fluent_tree.specs.References.{in_expression};
 ghost use Rattle.fluent_tree.specs.Tree.{select, variable, variants_of};
-ghost use Rattle.fluent_tree.specs.View.{inline_view, pattern_view, variant_view, key_view};
-ghost use Rattle.fluent_intl.specs.Number.{number_of};
-ghost use Rattle.fluent_meaning.specs.Bundle.{goes_to, key_value};
-ghost use Rattle.fluent_meaning.specs.Value.{try_number};
-ghost use Rattle.fluent_resolver.specs.Along.{Gave, Got};
-ghost use Rattle.fluent_resolver.specs.Choice.{choice, choosing, first_default, is_like};
-ghost use Rattle.fluent_resolver.specs.ChosenView.{BeginsAt, BeginsIn, chosen_view};
+ghost use Rattle.fluent_tree.specs.View.{inline_view, variant_view};
+ghost use Rattle.fluent_state.specs.Along.{Gave};
+ghost use Rattle.fluent_state.specs.Choice.{choosing};
+ghost use Rattle.fluent_state.specs.ChosenView.{BeginsAt, chosen_view};
 ghost use Rattle.fluent_entries.specs.Numbered.{IsPlaced, numbers};
-ghost use Rattle.fluent_resolver.specs.Status.{state};
-ghost use Rattle.fluent_values.specs.View.{value_view};
+ghost use Rattle.fluent_state.specs.Status.{state};
 ghost use Rattle.fluent_values.specs.Written.{writer};
 
-use crate::arguments::{argument, resolve};
-use crate::environment::Environment;
-use crate::inline_expression::report_lost;
-use crate::state::State;
-use fluent_intl::FluentNumber;
+use crate::arguments::resolve;
 use fluent_links::Place;
-use fluent_meaning::laws::numbers_read_as_defined;
+use fluent_state::State;
+use fluent_state::variants::{Chosen, choose, choose_by_variable};
 use fluent_text::Counting;
-use fluent_tree::ast::{Identifier, InlineExpression, Pattern, Variant, VariantKey};
+use fluent_tree::ast::{InlineExpression, Variant};
 use fluent_values::output::Halt;
-use fluent_values::{Context, FluentFunction, FluentType, FluentValue};
-use std::alloc::AllocError;
+use fluent_values::{Context, FluentFunction, FluentType};
 use std::io::Write;
-use std::str::FromStr;
-
-/// The pattern of a variant that was chosen, and where it begins.
-#[derive(Clone, Copy, Drop)]
-pub struct Chosen<'p, 's> {
-    pub pattern: &'p Pattern<'s>,
-    pub place: Place<'p>,
-}
-
-impl<'p, 's> Chosen<'p, 's> {
-    /// A variant, whose pattern begins there.
-    fn of(variant: &'p Variant<'s>, place: Place<'p>) -> Self
-        ensures pattern { pattern_view result.pattern.now ≡ pattern_view variant.now.value }
-        ensures place { result.place ≡ place.entry }
-    {
-        Chosen {
-            pattern: &variant.value,
-            place,
-        }
-    }
-}
 
 /// The variant that a selector's value goes to. The value of a variable stays where it is.
 #[cycle(resolve)]
@@ -102,128 +72,4 @@ fn choose_by_value<'p, 's, W: Write, C: FluentType, F: FluentFunction<C>, B: Con
         variants,
         place.behind_inline(selector),
     ))
-}
-
-/// The variant that a variable's value goes to. One that is missing goes to the default, with the error that it has
-/// where it is written.
-fn choose_by_variable<'p, 's, C: FluentType, F: FluentFunction<C>, B: Context<C>>(
-    scope: &mut State<'_, 'p, '_, 's, '_, C, F, B>,
-    selector: &InlineExpression<'_>,
-    id: &Identifier<'_>,
-    variants: &'p [Variant<'s>],
-    place: Place<'p>,
-) -> Result<Option<Chosen<'p, 's>>, AllocError>
-    requires { inline_view selector.now ≡ variable id.now.name.now }
-    ensures chose { let at = state B.meant B.is_plain F.answer C.content in
-        let vs = variants_of (map variant_view variants.now) in
-        Got result chosen_view (choosing (inline_view selector.now) vs)
-        (at scope.old) (at scope.new) }
-    ensures placed { IfOk result (λ chosen. BeginsIn variants.now place.entry chosen) }
-{
-    match &scope.environment {
-        Environment::Local(args) => match args.get(id.name) {
-            Some(value) => Ok(choose(scope.bundle, value, variants, place)),
-            None => Ok(first_default(variants, place)),
-        },
-        Environment::Application(args) => match argument(*args, id.name) {
-            Some(value) => Ok(choose(scope.bundle, value, variants, place)),
-            None => {
-                report_lost(scope, selector)?;
-                Ok(first_default(variants, place))
-            }
-        },
-    }
-}
-
-/// The first variant whose key matches a value, else the first default. What category a number has is asked once.
-pub fn choose<'p, 's, C: FluentType, B: Context<C>>(
-    bundle: &B,
-    value: &FluentValue<'_, C>,
-    variants: &'p [Variant<'s>],
-    place: Place<'p>,
-) -> Option<Chosen<'p, 's>>
-    ensures chose { let vs = variants_of (map variant_view variants.now) in
-        chosen_view result
-        ≡ choice (goes_to (B.meant bundle.now) (value_view C.content value.now))
-        (first_default vs) vs }
-    ensures placed { BeginsIn variants.now place.entry result }
-{
-    match value {
-        FluentValue::String(text) => first_like(text.as_str(), None, variants, place),
-        FluentValue::Number(number) => first_like(
-            bundle.category_word(number),
-            Some(number),
-            variants,
-            place,
-        ),
-        FluentValue::Custom(_) | FluentValue::None | FluentValue::Error => {
-            first_default(variants, place)
-        }
-    }
-}
-
-/// The first variant whose key is a word, or a number like that one; else the first default.
-fn first_like<'p, 's>(
-    word: &str,
-    number: Option<&FluentNumber>,
-    variants: &'p [Variant<'s>],
-    place: Place<'p>,
-) -> Option<Chosen<'p, 's>>
-    ensures chose { let vs = variants_of (map variant_view variants.now) in
-        let like = is_like word.now (option_map (λ n. number_of n.now) number.entry) in
-        chosen_view result ≡ choice (λ key. like (key_value key))
-        (first_default vs) vs }
-    ensures placed { BeginsIn variants.now place.entry result }
-{
-    let mut at = place;
-    for variant in variants {
-        if is_like(word, number, &variant.key) {
-            return Some(Chosen::of(variant, at));
-        }
-        at = at.behind_pattern(&variant.value);
-    }
-    first_default(variants, place)
-}
-
-/// Whether a key is a word, or a number like that one.
-fn is_like(word: &str, number: Option<&FluentNumber>, key: &VariantKey) -> bool
-    ensures { result
-        ≡ is_like word.now (option_map (λ n. number_of n.now) number.entry)
-        (key_value (key_view key.now)) }
-{
-    match key {
-        VariantKey::Identifier { name } => *name == word,
-        VariantKey::NumberLiteral { value } => is_source_like(word, number, value),
-    }
-}
-
-/// Whether the source of a key is that of a number like this one, or, where it is no number's, this word.
-fn is_source_like(word: &str, number: Option<&FluentNumber>, source: &str) -> bool
-    ensures { result ≡ is_like word.now (option_map (λ n. number_of n.now) number.entry)
-        (try_number source.now) }
-{
-    numbers_read_as_defined();
-    match FluentNumber::from_str(source) {
-        Ok(key) => match number {
-            Some(number) => key == *number,
-            None => false,
-        },
-        Err(_) => source == word,
-    }
-}
-
-/// The first default among variants.
-fn first_default<'p, 's>(variants: &'p [Variant<'s>], place: Place<'p>) -> Option<Chosen<'p, 's>>
-    ensures chose { chosen_view result
-        ≡ first_default (variants_of (map variant_view variants.now)) }
-    ensures placed { BeginsIn variants.now place.entry result }
-{
-    let mut at = place;
-    for variant in variants {
-        if variant.default {
-            return Some(Chosen::of(variant, at));
-        }
-        at = at.behind_pattern(&variant.value);
-    }
-    None
 }

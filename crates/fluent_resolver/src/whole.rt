@@ -1,14 +1,14 @@
 //! Patterns that are written in a scope.
-#![tactic(auto, unfolding(crate::specs::Status::scope_parts, crate::specs::Status::state_parts))]
+#![tactic(auto, unfolding(crate::specs::ScopeView::scope_parts, fluent_state::specs::Status::state_parts))]
 
 ghost use Rattle.std.specs.Prelude.{◌≡◌, ◌≢◌, Err, false, IsTrue};
 ghost use Rattle.fluent_tree.specs.References.{references};
 ghost use Rattle.fluent_tree.specs.View.{pattern_view};
 ghost use Rattle.fluent_meaning.specs.Walk.{whole};
 ghost use Rattle.fluent_meaning.specs.Work.{with_work};
-ghost use Rattle.fluent_resolver.specs.Along.{Wrote};
+ghost use Rattle.fluent_state.specs.Along.{Wrote};
 ghost use Rattle.fluent_entries.specs.Numbered.{IsPlaced};
-ghost use Rattle.fluent_resolver.specs.Status.{bundle_in, scope_parts, status};
+ghost use Rattle.fluent_resolver.specs.ScopeView.{bundle_in, scope_parts, status};
 ghost use Rattle.fluent_entries.specs.Texts.{IsTextAlone};
 ghost use Rattle.fluent_values.specs.Written.{sink};
 

@@ -9,32 +9,34 @@ use Rattle.fluent_meaning.specs.Bundle.{goes_to, message_target, term_target, fu
 use Rattle.fluent_meaning.specs.Meaning.{last_mark, at_most, struck}
 use Rattle.fluent_meaning.specs.Walk.{has_one, is_marked, part}
 use Rattle.fluent_meaning.specs.Work.{Worked, work, with_work}
-use Rattle.fluent_resolver.specs.Along.{Gave, Walk, given, walked, from_here, adding, trace}
-use Rattle.fluent_resolver.specs.FoundView.{IsLed, content_at, found_view}
+use Rattle.fluent_state.specs.Along.{Gave, Walk, given, walked, from_here, adding, trace}
+use Rattle.fluent_state.specs.FoundView.{IsLed, content_at, found_view}
 use Rattle.fluent_tree.specs.References.{a_function, a_term, in_arguments, in_call, in_expression, in_inline, in_variants, references}
 use Rattle.fluent_links.specs.Links.{IsBefore, behind}
 use Rattle.fluent_links.specs.PlaceParts.{in_arguments_is, in_nested_is, in_one_is, in_pattern_is, in_placeable_is, in_select_is}
 use Rattle.fluent_links.specs.PlaceSteps.{element_in_turn, enters, in_elements, in_named_list, in_positional_list, in_variant_list, leaves, named_in_turn, of_element, of_named, of_positional, positional_in_turn}
 use Rattle.fluent_links.specs.Places.{seen}
-use Rattle.fluent_resolver.specs.ChosenView.{BeginsAt, chosen_view}
-use Rattle.fluent_resolver.specs.declared.variants.Chosen.{Chosen}
+use Rattle.fluent_state.specs.ChosenView.{BeginsAt, chosen_view}
+use Rattle.fluent_state.specs.declared.variants.Chosen.{Chosen}
 use Rattle.fluent_resolver.proofs.Placeables.{marked_as, marks, strikes}
 use Rattle.fluent_resolver.proofs.Placed.{ok_value, placed_as, placed_back, placed_behind, placed_first, placed_front, placed_still, some_value}
-use Rattle.fluent_resolver.specs.Choice.{choice, first_default}
+use Rattle.fluent_state.specs.Choice.{choice, first_default}
 use Rattle.fluent_resolver.specs.Sizes.{size, bound, IsBelow, element_size, expression_size, variants_size, inline_size, call_size, arguments_size, inlines_size, nameds_size}
-use Rattle.fluent_resolver.specs.Status.{Status, environment_view, state, state_parts}
+use Rattle.fluent_state.specs.Status.{Status, environment_view, state, state_parts}
 use Rattle.fluent_values.specs.Written.{Sink}
 use Rattle.fluent_entries.specs.Texts.{IsTextAlone}
 use Rattle.fluent_values.specs.View.{value_view, named}
-use Rattle.fluent_resolver.proofs.Along.{starts, turns, passes, put, puts_last, tail, wrote, ends, stops, memory_halts, refuses, adds, calls, lends, goes_on, at_value}
-use Rattle.fluent_resolver.proofs.Cases.{sequence, closing, written_string, written_number, written_message, written_nested, resolved_number, resolved_string, resolved_function, local_none, local_some, resolved_text}
+use Rattle.fluent_state.specs.Facts.Along.{starts, turns, passes, put, puts_last, tail, wrote, ends, stops, memory_halts, refuses, adds, calls, lends, goes_on, at_value}
+use Rattle.fluent_state.specs.Facts.Cases.{sequence, closing, written_string, written_number, written_message, written_nested, resolved_number, resolved_string, resolved_function, local_none, local_some, resolved_text}
 use Rattle.fluent_resolver.proofs.Measures.{falls_to, less_weight, same_weight, kept_weight, taken_weight, still_weight, less_found, element_less, place_less, label_less, some_variants, chosen_less, below_message, below_term}
 use Rattle.fluent_values.specs.Facts.Outputs.{still}
-use Rattle.fluent_resolver.proofs.Passing.{passed_still, keeps_elsewhere, keeps_around, keeps_back, entered_counts}
-use Rattle.fluent_resolver.proofs.Steps.{inline_at, cyclic_at, entered_at, begun_at, back, term_at, inside, inside_at, left_again, selecting_at, chosen_walk, function_at, answering, answered_value, wholing, elementing, following, giving, giving_all, giving_text, giving_placeable, giving_end, giving_struck, next_of, none_left, no_placeable, expressing, writing, resolving, locals, valued, place_walk, label_walk, placing_next, placing_end, placing_more, labelled, labelling_next, labelling_end, labelling_more, named_in, naming_after, pairing, calling_at, set_all_next}
+use Rattle.fluent_state.specs.Facts.Passing.{passed_still, keeps_elsewhere, keeps_around, keeps_back, entered_counts}
+use Rattle.fluent_state.specs.Facts.Lists.{next_of, none_left}
+use Rattle.fluent_state.specs.Facts.Lookups.{answering, writing, resolving}
+use Rattle.fluent_resolver.proofs.Steps.{inline_at, cyclic_at, entered_at, begun_at, back, term_at, inside, inside_at, left_again, selecting_at, chosen_walk, function_at, answered_value, wholing, elementing, following, giving, giving_all, giving_text, giving_placeable, giving_end, giving_struck, no_placeable, expressing, locals, valued, place_walk, label_walk, placing_next, placing_end, placing_more, labelled, labelling_next, labelling_end, labelling_more, named_in, naming_after, pairing, calling_at, set_all_next}
 use Rattle.fluent_values.specs.Facts.Took.{at_err, at_ok, took_same}
-use Rattle.fluent_resolver.proofs.Values.{gave_outward, asks, ask_stops, misses, begins, reads, gets, gets_part, got_if, got_as, got_part_as, misses_as, rests_memory, rests_same, rests_err, rests_ok, rests_on, by_buffer, as_got, beside_rests, got, gathers_none, gathers_as, gathers_same, gathers_one, gathers_part, gathers_all, gathers_stops, gathers_stops_as}
-use Rattle.fluent_resolver.proofs.Views.{view_pattern, view_text_in, view_placeable_in, view_string_in, view_number_in, view_message_in, view_nested_in, view_function_in, view_in, view_select_in, view_term_in, view_variable_in, view_arguments, view_written}
+use Rattle.fluent_state.specs.Facts.Values.{gave_outward, asks, ask_stops, misses, begins, reads, gets, gets_part, got_if, got_as, got_part_as, misses_as, rests_memory, rests_same, rests_err, rests_ok, rests_on, by_buffer, as_got, beside_rests, got, gathers_none, gathers_as, gathers_same, gathers_one, gathers_part, gathers_all, gathers_stops, gathers_stops_as}
+use Rattle.fluent_state.specs.Facts.Views.{view_pattern, view_text_in, view_placeable_in, view_string_in, view_number_in, view_message_in, view_nested_in, view_function_in, view_in, view_select_in, view_term_in, view_variable_in, view_arguments, view_written}
 use Rattle.fluent_meaning.specs.Value.{text_value}
 use Rattle.fluent_values.specs.declared.output.Halt.{Halt}
 use Rattle.fluent_values.specs.declared.output.Halt.TheVariants as fault

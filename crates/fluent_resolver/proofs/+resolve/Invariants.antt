@@ -8,15 +8,15 @@ use Rattle.fluent_meaning.specs.Walk.{has_one}
 use Rattle.fluent_links.specs.Links.{IsBefore}
 use Rattle.fluent_links.specs.PlaceSteps.{in_elements, in_named_list, in_positional_list}
 use Rattle.fluent_links.specs.Places.{seen}
-use Rattle.fluent_resolver.specs.Along.{Along, from_here, walked, Rests}
+use Rattle.fluent_state.specs.Along.{Along, from_here, walked, Rests}
 use Rattle.fluent_resolver.specs.Sizes.{bound, size, expression_size, variants_size, inline_size, inlines_size, nameds_size, call_size, arguments_size}
-use Rattle.fluent_resolver.specs.Status.{state}
+use Rattle.fluent_state.specs.Status.{state}
 use Rattle.fluent_values.specs.View.{value_view}
-use Rattle.fluent_resolver.specs.Gathered.{gathered}
+use Rattle.fluent_state.specs.Gathered.{gathered}
 use Rattle.fluent_values.specs.Written.{sink, writer}
 use Rattle.fluent_resolver.proofs.Measures.{weight}
 use Rattle.fluent_resolver.proofs.Steps.{elementing, giving, place_walk, label_walk}
-use Rattle.fluent_resolver.proofs.Values.{Gathers}
+use Rattle.fluent_state.specs.Facts.Values.{Gathers}
 use Rattle.fluent_resolver.proofs.+resolve.Given as goal
 
 abbrev pub decreases-pattern::write_pattern : goal.decreases-pattern::write_pattern

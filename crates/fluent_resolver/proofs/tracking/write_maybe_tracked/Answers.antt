@@ -1,10 +1,10 @@
 use Rattle.std.proofs.Common.{◌∙◌, ap, refl, length}
 use Rattle.fluent_tree.specs.View.{expression_view, pattern_view}
-use Rattle.fluent_resolver.specs.Along.{adding, from_here, trace}
-use Rattle.fluent_resolver.specs.Status.{state, state_parts}
+use Rattle.fluent_state.specs.Along.{adding, from_here, trace}
+use Rattle.fluent_state.specs.Status.{state, state_parts}
 use Rattle.fluent_resolver.specs.Tracking.{closes}
-use Rattle.fluent_resolver.proofs.Along.{starts, turns, lends, wrote}
-use Rattle.fluent_resolver.proofs.Passing.{entered_counts, keeps_around}
+use Rattle.fluent_state.specs.Facts.Along.{starts, turns, lends, wrote}
+use Rattle.fluent_state.specs.Facts.Passing.{entered_counts, keeps_around}
 use Rattle.fluent_resolver.proofs.Steps.{back}
 use Rattle.fluent_resolver.proofs.ScopeCalls.{maybe_at}
 use Rattle.fluent_resolver.proofs.tracking.write_maybe_tracked.Goals as goal

@@ -1,10 +1,10 @@
 use Rattle.std.proofs.Common.{◌≡◌, sym, ◌∙◌, ap}
 use Rattle.fluent_tree.specs.View.{pattern_view}
-use Rattle.fluent_resolver.specs.Along.{from_here}
-use Rattle.fluent_resolver.specs.Status.{state, state_parts}
-use Rattle.fluent_resolver.specs.Trail.{is_idle, on_path}
+use Rattle.fluent_state.specs.Along.{from_here}
+use Rattle.fluent_state.specs.Status.{state, state_parts}
+use Rattle.fluent_state.specs.Trail.{is_idle, on_path}
 use Rattle.fluent_resolver.proofs.ScopeCalls.{tracked_at, wrote_as}
-use Rattle.fluent_resolver.proofs.Trails.{idle_path}
+use Rattle.fluent_state.specs.Facts.Trails.{idle_path}
 use Rattle.fluent_resolver.proofs.tracking.write_tracked.Goals as goal
 
 pub returns : goal.returns

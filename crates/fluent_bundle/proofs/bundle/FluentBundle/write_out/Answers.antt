@@ -7,7 +7,8 @@ use Rattle.fluent_meaning.specs.Bundle.{transform_of}
 use Rattle.fluent_meaning.specs.Result.{written_pattern}
 use Rattle.fluent_entries.specs.Numbered.{IsPlaced}
 use Rattle.fluent_bundle.specs.BundleView.{bundle_parts, is_plain, meant, transform_in}
-use Rattle.fluent_resolver.specs.Status.{arguments_view, errors_in, reported, status}
+use Rattle.fluent_resolver.specs.ScopeView.{errors_in, status}
+use Rattle.fluent_resolver.specs.Status.{arguments_view, reported}
 use Rattle.fluent_bundle.proofs.Formats.{fresh, never_none, writes_of, writes_text}
 use Rattle.fluent_bundle.proofs.Givings.{texts_errors, texts_value, texts_where}
 use Rattle.fluent_bundle.proofs.bundle.FluentBundle.write_out.Goals as goal

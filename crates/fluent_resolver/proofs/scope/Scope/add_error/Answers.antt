@@ -1,6 +1,7 @@
 use Rattle.fluent_entries.specs.Numbered.{table}
-use Rattle.fluent_resolver.specs.Status.{scope_parts, state_parts}
-use Rattle.fluent_resolver.proofs.Trails.{idle_kept}
+use Rattle.fluent_state.specs.Status.{state_parts}
+use Rattle.fluent_resolver.specs.ScopeView.{scope_parts}
+use Rattle.fluent_state.specs.Facts.Trails.{idle_kept}
 use Rattle.fluent_resolver.proofs.scope.Scope.add_error.Goals as goal
 
 pub invariant_of-self : goal.invariant_of-self

@@ -2,12 +2,13 @@ use Rattle.fluent_entries.specs.Numbered.{table}
 use Rattle.std.proofs.Common.{rules, ap, refl, sym, ◌∙◌, [], Some}
 use Rattle.std.specs.Option.{option_map}
 use Rattle.fluent_tree.specs.View.{arguments_view}
-use Rattle.fluent_resolver.specs.Along.{from_here}
-use Rattle.fluent_resolver.specs.Status.{scope_parts, state_parts, status}
+use Rattle.fluent_state.specs.Along.{from_here}
+use Rattle.fluent_state.specs.Status.{state_parts}
+use Rattle.fluent_resolver.specs.ScopeView.{scope_parts, status}
 use Rattle.fluent_resolver.specs.Tracking.{calling}
 use Rattle.fluent_resolver.proofs.ScopeCalls.{calling_runs, nothing_called, nothing_is}
-use Rattle.fluent_resolver.proofs.Values.{got_if}
-use Rattle.fluent_resolver.proofs.Trails.{idle_kept}
+use Rattle.fluent_state.specs.Facts.Values.{got_if}
+use Rattle.fluent_state.specs.Facts.Trails.{idle_kept}
 use Rattle.fluent_resolver.proofs.scope.Scope.get_arguments.Goals as goal
 
 pub returns-in_default-clause-got : goal.returns-in_default-clause-got

@@ -1,8 +1,9 @@
 use Rattle.fluent_entries.specs.Numbered.{table}
 use Rattle.std.proofs.Common.{sym}
 use Rattle.fluent_tree.specs.View.{expression_view, pattern_view}
-use Rattle.fluent_resolver.specs.Status.{scope_parts, state_parts, status}
-use Rattle.fluent_resolver.proofs.Trails.{idle_kept}
+use Rattle.fluent_state.specs.Status.{state_parts}
+use Rattle.fluent_resolver.specs.ScopeView.{scope_parts, status}
+use Rattle.fluent_state.specs.Facts.Trails.{idle_kept}
 use Rattle.fluent_resolver.proofs.scope.Scope.maybe_track.Goals as goal
 
 pub returns-clause-runs : goal.returns-clause-runs

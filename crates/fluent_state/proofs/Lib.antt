@@ -1,0 +1,5 @@
+pub mod Choice
+pub mod Classed
+pub mod InTurn
+pub mod Kept
+pub mod TextElements

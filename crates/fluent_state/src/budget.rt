@@ -1,0 +1,16 @@
+//! How many more placeables a call may open, and what it did.
+
+/// How many more placeables may be opened; struck once one more was met.
+#[derive(Clone, Copy)]
+pub enum Budget {
+    Left(u32),
+    Struck,
+}
+
+/// What a call did: placeables opened, the longest path, patterns entered. Each stands still at the largest number.
+#[derive(Clone, Copy)]
+pub struct Counts {
+    pub opened: u64,
+    pub longest: u64,
+    pub entered: u64,
+}

@@ -1,0 +1,91 @@
+//! Fallbacks: how an expression shows where it can't be resolved.
+
+ghost use Rattle.std.specs.Prelude.{◌≡◌, ◌≢◌, Err, false};
+ghost use Rattle.fluent_tree.specs.Fallback.{fallback, dotted, in_braces};
+ghost use Rattle.fluent_tree.specs.View.{inline_view, attribute_of};
+ghost use Rattle.fluent_values.specs.Written.{sink, SinkTook};
+
+use fluent_tree::ast::{Expression, Identifier, InlineExpression};
+use fluent_values::output::{Halt, Output, put_text};
+use std::io::Write;
+
+/// Writes a message's id in braces.
+pub fn put_id_in_braces<W: Write>(out: &mut Output<W>, id: &str) -> Result<(), Halt>
+    ensures { SinkTook result (in_braces id.now) (sink W.contents out.old)
+        (sink W.contents out.new) }
+{
+    put_text(out, "{")?;
+    put_text(out, id)?;
+    put_text(out, "}")
+}
+
+/// Writes an expression's fallback in braces.
+pub fn put_in_braces<W: Write>(
+    out: &mut Output<W>,
+    expression: &InlineExpression,
+) -> Result<(), Halt>
+    ensures took { SinkTook result (in_braces (fallback (inline_view expression.now)))
+        (sink W.contents out.old) (sink W.contents out.new) }
+    ensures memory { out.old.is_buffered ≡ false → result ≢ Err Halt.Memory }
+{
+    put_text(out, "{")?;
+    put_fallback(out, expression)?;
+    put_text(out, "}")
+}
+
+/// Writes an expression's fallback, without braces.
+pub fn put_fallback<W: Write>(
+    out: &mut Output<W>,
+    expression: &InlineExpression,
+) -> Result<(), Halt>
+    ensures took { SinkTook result (fallback (inline_view expression.now))
+        (sink W.contents out.old) (sink W.contents out.new) }
+    ensures memory { out.old.is_buffered ≡ false → result ≢ Err Halt.Memory }
+{
+    match expression {
+        InlineExpression::StringLiteral { value } => {
+            put_text(out, "\"")?;
+            put_text(out, value)?;
+            put_text(out, "\"")
+        }
+        InlineExpression::NumberLiteral { value } => put_text(out, value),
+        InlineExpression::FunctionReference { id, .. } => {
+            put_text(out, id.name)?;
+            put_text(out, "()")
+        }
+        InlineExpression::MessageReference { id, attribute } => put_dotted(out, id, attribute),
+        InlineExpression::TermReference { id, attribute, .. } => {
+            put_text(out, "-")?;
+            put_dotted(out, id, attribute)
+        }
+        InlineExpression::VariableReference { id } => {
+            put_text(out, "$")?;
+            put_text(out, id.name)
+        }
+        InlineExpression::Placeable { expression } => match &**expression {
+            Expression::Inline(shown)
+            | Expression::Select {
+                selector: shown,
+                ..
+            } => put_fallback(out, shown),
+        },
+    }
+}
+
+/// Writes a name, and after a point that of an attribute.
+fn put_dotted<W: Write>(
+    out: &mut Output<W>,
+    id: &Identifier,
+    attribute: &Option<Identifier>,
+) -> Result<(), Halt>
+    ensures took { SinkTook result (dotted id.now.name.now (attribute_of attribute.now))
+        (sink W.contents out.old) (sink W.contents out.new) }
+    ensures memory { out.old.is_buffered ≡ false → result ≢ Err Halt.Memory }
+{
+    put_text(out, id.name)?;
+    if let Some(attribute) = attribute {
+        put_text(out, ".")?;
+        put_text(out, attribute.name)?;
+    }
+    Ok(())
+}

@@ -1,0 +1,101 @@
+//! The arguments of a call, while they are gathered.
+
+ghost use Rattle.std.specs.Prelude.{◌≡◌, ◌++◌, ◌∷◌, [], map, IfOk, OnOk};
+ghost use Rattle.std.specs.Cow.{cow_str_bytes};
+ghost use Rattle.fluent_values.specs.View.{value_view, named, by_name};
+
+use fluent_values::{FluentArgs, FluentType, FluentValue};
+use std::alloc::{AllocError, Global};
+use std::borrow::CowStr;
+use std::collections::BTreeMap;
+
+/// So many arguments are put in order one by one. A further one could move each before it, so more than these are
+/// ordered by a tree: the time of a call doesn't grow with the square of their number.
+const FEW: usize = 16;
+
+/// Named arguments that are gathered one after another.
+#[derive(Drop)]
+pub enum Gathered<'a, C> {
+    Few(FluentArgs<'a, C>),
+    Many(BTreeMap<CowStr<'a>, FluentValue<'a, C>>),
+}
+
+impl<'a, C: FluentType> Gathered<'a, C> {
+    ghost use Rattle.std.specs.Prelude.{◌≡◌, [], IfOk, OnOk};
+    ghost use Rattle.std.specs.Cow.{cow_str_bytes};
+    ghost use Rattle.fluent_meaning.specs.Arguments as fin;
+    ghost use Rattle.fluent_values.specs.View.{value_view, named};
+    ghost use Rattle.fluent_state.specs.Gathered.{gathered};
+
+    /// None, where so many are expected. Takes no memory yet.
+    pub fn new(alloc: Global, expected: usize) -> Gathered<'a, C>
+        ensures { gathered C.content result ≡ [] }
+    {
+        if expected <= FEW {
+            Gathered::Few(FluentArgs::new(alloc))
+        } else {
+            Gathered::Many(BTreeMap::new(alloc))
+        }
+    }
+
+    /// Gives the name the value, in place of one that it had.
+    ///
+    /// # Errors
+    ///
+    /// Memory was refused.
+    pub fn set(&mut self, name: CowStr<'a>, value: FluentValue<'a, C>) -> Result<(), AllocError>
+        ensures { OnOk result (gathered C.content self.new
+            ≡ fin.set (cow_str_bytes name.entry) (value_view C.content value.entry)
+            (gathered C.content self.old)) }
+    {
+        match self {
+            Gathered::Few(args) => args.set(name, value),
+            Gathered::Many(tree) => {
+                tree.insert(name, value)?;
+                Ok(())
+            }
+        }
+    }
+
+    /// The arguments.
+    ///
+    /// # Errors
+    ///
+    /// Memory was refused.
+    pub fn finish(self, alloc: Global) -> Result<FluentArgs<'a, C>, AllocError>
+        ensures { IfOk result (λ args. named C.content args ≡ gathered C.content self.entry) }
+    {
+        match self {
+            Gathered::Few(args) => Ok(args),
+            Gathered::Many(tree) => in_order(alloc, tree),
+        }
+    }
+}
+
+/// The arguments that a tree holds, which it gives in order.
+fn in_order<'a, C: FluentType>(
+    alloc: Global,
+    tree: BTreeMap<CowStr<'a>, FluentValue<'a, C>>,
+) -> Result<FluentArgs<'a, C>, AllocError>
+    ensures { IfOk result (λ args. named C.content args
+        ≡ by_name (map (λ e. (cow_str_bytes e.0, value_view C.content e.1)) tree.entry.entries)) }
+{
+    let mut args = FluentArgs::new(alloc);
+    for (name, value) in tree {
+        args.set(name, value)?;
+    }
+    Ok(args)
+}
+
+/// Adds a value at the end.
+pub fn push_value<'p, C: FluentType>(
+    values: &mut Vec<FluentValue<'p, C>>,
+    value: FluentValue<'p, C>,
+) -> Result<(), AllocError>
+    ensures { OnOk result
+        (map (value_view C.content) values.new.items
+        ≡ map (value_view C.content) values.old.items ++ value_view C.content value.entry ∷ []) }
+{
+    values.push(value)?;
+    Ok(())
+}

@@ -1,0 +1,87 @@
+//! How numbers and what functions answer are written.
+#![tactic(auto, unfolding(crate::specs::Status::state_parts))]
+
+ghost use Rattle.std.specs.Prelude.{◌∷◌, [], map};
+ghost use Rattle.fluent_tree.specs.References.{a_function};
+ghost use Rattle.fluent_tree.specs.View.{inline_view};
+ghost use Rattle.fluent_meaning.specs.Arguments.{get};
+ghost use Rattle.fluent_meaning.specs.Bundle.{function_found, shown};
+ghost use Rattle.fluent_meaning.specs.Value.{try_number};
+ghost use Rattle.fluent_meaning.specs.Walk.{function_text};
+ghost use Rattle.fluent_meaning.specs.Work.{with_work};
+ghost use Rattle.fluent_state.specs.Along.{Wrote, shown_answer};
+ghost use Rattle.fluent_entries.specs.Numbered.{IsPlaced};
+ghost use Rattle.fluent_state.specs.Status.{state};
+ghost use Rattle.fluent_values.specs.View.{value_view, named};
+ghost use Rattle.fluent_values.specs.Written.{sink, SinkTook};
+
+use crate::fallback::put_fallback;
+use crate::found::answer_of;
+use crate::lost::lose;
+use crate::state::State;
+use fluent_links::Place;
+use fluent_tree::ast::{Identifier, InlineExpression};
+use fluent_values::output::{Halt, Output};
+use fluent_values::shown::put_value;
+use fluent_values::{Context, FluentArgs, FluentFunction, FluentType, FluentValue};
+use std::io::Write;
+
+/// Writes the number that a literal's source is, as it is shown.
+pub fn put_number<W: Write, C: FluentType, B: Context<C>>(
+    bundle: &B,
+    out: &mut Output<W>,
+    source: &str,
+) -> Result<(), Halt>
+    ensures { SinkTook result (shown (B.meant bundle.now) (try_number source.now))
+        (sink W.contents out.old) (sink W.contents out.new) }
+{
+    put_value(bundle, out, &FluentValue::try_number(source))
+}
+
+/// Writes what a function answers.
+pub fn put_answer<'p, W: Write, C: FluentType, F: FluentFunction<C>, B: Context<C>>(
+    scope: &mut State<'_, 'p, '_, '_, '_, C, F, B>,
+    out: &mut Output<W>,
+    inline: &InlineExpression<'_>,
+    id: &Identifier<'_>,
+    positional: &[FluentValue<'p, C>],
+    arguments: &FluentArgs<'p, C>,
+    place: Place<'p>,
+) -> Result<(), Halt>
+    requires { IsPlaced scope.old.ids.now (a_function id.now.name.now ∷ []) place }
+    ensures { let at = state B.meant B.is_plain F.answer C.content in
+        Wrote result
+        (λ b below env path. function_text with_work b below env (inline_view inline.now)
+        (function_found (get id.now.name.now b.ids))
+        (map (value_view C.content) positional.now) (named C.content arguments.now))
+        (sink W.contents out.old) (sink W.contents out.new) (at scope.old) (at scope.new) }
+{
+    match answer_of(
+        scope.ids,
+        scope.bundle.allocator(),
+        id.name,
+        positional,
+        arguments,
+        place,
+    )? {
+        None => lose(scope, out, inline),
+        Some(answer) => put_shown(scope.bundle, out, inline, &answer),
+    }
+}
+
+/// Writes a function's answer: an error as the function's fallback, without braces.
+fn put_shown<W: Write, C: FluentType, B: Context<C>>(
+    bundle: &B,
+    out: &mut Output<W>,
+    inline: &InlineExpression<'_>,
+    answer: &FluentValue<'_, C>,
+) -> Result<(), Halt>
+    ensures { SinkTook result (shown_answer (B.meant bundle.now) (inline_view inline.now)
+        (value_view C.content answer.now))
+        (sink W.contents out.old) (sink W.contents out.new) }
+{
+    match answer {
+        FluentValue::Error => put_fallback(out, inline),
+        _ => put_value(bundle, out, answer),
+    }
+}

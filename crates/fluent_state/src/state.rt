@@ -1,0 +1,223 @@
+//! What one formatting call carries while it resolves patterns.
+#![tactic(auto, unfolding(crate::specs::Status::state_parts))]
+
+ghost use Rattle.fluent_entries.specs.Numbered.{table};
+ghost use Rattle.fluent_state.specs.Trail.{AreReferring, classes_on};
+
+use crate::budget::{Budget, Counts};
+use crate::environment::Environment;
+use crate::path::Path;
+use fluent_entries::Ids;
+use fluent_tree::ast::Pattern;
+use fluent_values::{Context, FluentArgs, FluentError, FluentFunction, FluentType, ResolverError};
+use std::alloc::AllocError;
+
+/// What one formatting call carries: its bundle, where its variables are looked up, the patterns that are being
+/// written, its list of errors, how many more placeables it may open, and what it did.
+pub struct State<'errors, 'p, 'r, 's, 'args, C, F, B> {
+    pub errors: Option<&'errors mut Vec<FluentError>>,
+    pub bundle: &'p B,
+    pub ids: &'p Ids<'r, 's, F>,
+    pub environment: Environment<'p, 'args, C>,
+    pub path: Path<'p, 's>,
+    pub budget: Budget,
+    pub counts: Counts,
+    /// The classes on the path are those of stored patterns that refer to something.
+    ghost classed: { AreReferring (table ids.now) (classes_on path) },
+}
+
+// Written out, since a bundle's resources outlive what it holds of them.
+impl<'errors, 'p, 'r, 's: 'r, 'args, C: Drop, F, B> Drop
+    for State<'errors, 'p, 'r, 's, 'args, C, F, B> {
+    fn drop(self) {
+        let State {
+            errors: _,
+            bundle: _,
+            ids: _,
+            environment: _,
+            path: _,
+            budget: _,
+            counts: _,
+        } = self;
+    }
+}
+
+impl<'errors, 'p, 'r, 's, 'args, C: FluentType, F: FluentFunction<C>, B: Context<C>> State<
+    'errors,
+    'p,
+    'r,
+    's,
+    'args,
+    C,
+    F,
+    B,
+> {
+    ghost use Rattle.std.specs.Prelude.{◌≡◌, ◌↔◌, ◌∷◌, [], IfNone, IsOk, IsTrue, true};
+    ghost use Rattle.fluent_meaning.specs.Errors.{resolver_error};
+    ghost use Rattle.fluent_meaning.specs.Meaning.{struck};
+    ghost use Rattle.fluent_values.specs.View.{resolver_error_view};
+    ghost use Rattle.fluent_entries.specs.EntryView.{ids as ids_of};
+    ghost use Rattle.fluent_state.specs.Status.{arguments_view, budget_view, state, state_parts, with_ids};
+    ghost use Rattle.fluent_meaning.specs.Walk.{is_on};
+    ghost use Rattle.fluent_state.specs.Along.{can_open, ReportsIfOk, TakesOne, IsAtStart, StartsPattern, EndsPattern, Enters, Leaves};
+    ghost use Rattle.fluent_tree.specs.View.{pattern_view};
+    ghost use Rattle.fluent_links.specs.Linked.{IsClassOf};
+    ghost use Rattle.fluent_state.specs.Trail.{is_idle};
+
+    /// The state in which a call begins, with the whole budget of its bundle, whose ids it is handed too. Errors
+    /// are added at the end of the list, if there is one. Without arguments each variable is missing. It takes no
+    /// memory yet.
+    pub fn new(
+        bundle: &'p B,
+        ids: &'p Ids<'r, 's, F>,
+        args: Option<&'p FluentArgs<'args, C>>,
+        errors: Option<&'errors mut Vec<FluentError>>,
+    ) -> Self
+        ensures bundle { (state_parts result).bundle ≡ bundle.entry }
+        ensures errors { (state_parts result).errors ≡ errors.entry }
+        ensures ids { (state_parts result).ids ≡ ids.now }
+        ensures idle { is_idle result.path ≡ true }
+        ensures begins { let at = state B.meant B.is_plain F.answer C.content in
+            IsAtStart (at result) (with_ids (B.meant bundle.now) (ids_of F.answer ids.now))
+            (arguments_view C.content args.entry) }
+    {
+        State {
+            errors,
+            bundle,
+            ids,
+            environment: Environment::Application(args),
+            path: Path::new(bundle.allocator()),
+            budget: Budget::Left(bundle.placeable_limit()),
+            counts: Counts {
+                opened: 0,
+                longest: 0,
+                entered: 0,
+            },
+        }
+    }
+
+    /// Gives the list of errors back, with those that the call added, at the call's end.
+    pub fn into_errors(self) -> Option<&'errors mut Vec<FluentError>>
+        ensures { result ≡ (state_parts self.entry).errors }
+    {
+        let State {
+            errors,
+            bundle: _,
+            ids: _,
+            environment: _,
+            path: _,
+            budget: _,
+            counts: _,
+        } = self;
+        errors
+    }
+
+    /// Whether a placeable past the limit was met.
+    pub fn dirty(&self) -> bool
+        ensures { IsTrue result ↔ ((state B.meant B.is_plain F.answer C.content self.now).budget
+            ≡ struck) }
+    {
+        matches!(self.budget, Budget::Struck)
+    }
+
+    /// Adds an error at the end of the list, if there is one.
+    ///
+    /// # Errors
+    ///
+    /// Memory was refused, which only a list can meet: it is as before.
+    pub fn add_error(&mut self, error: ResolverError) -> Result<(), AllocError>
+        ensures added { let at = state B.meant B.is_plain F.answer C.content in
+            ReportsIfOk result (resolver_error (resolver_error_view error) ∷ []) (at self.old)
+            (at self.new) }
+        ensures succeeds { IfNone self.old.errors (IsOk result) }
+    {
+        match &mut self.errors {
+            Some(errors) => {
+                errors.push(FluentError::ResolverError(error))?;
+                Ok(())
+            }
+            None => Ok(()),
+        }
+    }
+
+    /// Takes one from the budget, or strikes it where none is left.
+    pub fn take_one(&mut self) -> bool
+        ensures opens { result ≡ can_open (budget_view self.old.budget) }
+        ensures takes { let at = state B.meant B.is_plain F.answer C.content in
+            TakesOne result (at self.old) (at self.new) }
+    {
+        match self.budget {
+            Budget::Left(left) if left > 0 => {
+                self.budget = Budget::Left(left - 1);
+                self.counts.opened = self.counts.opened.saturating_add(1);
+                true
+            }
+            _ => {
+                self.budget = Budget::Struck;
+                false
+            }
+        }
+    }
+
+    /// Whether a pattern has the content of one that is being written.
+    #[inline(always)]
+    pub fn is_on(&self, pattern: &Pattern<'s>, class: Option<u32>) -> bool
+        requires { IsClassOf (table self.now.ids.now) (pattern_view pattern.now) class }
+        ensures { let at = state B.meant B.is_plain F.answer C.content self.now in
+            result ≡ is_on at.path (pattern_view pattern.now) }
+    {
+        self.path.is_on(pattern, class)
+    }
+
+    /// Puts a pattern on the path where that is empty, counts the pattern, and says whether it put it there.
+    pub fn begin(&mut self, pattern: &'p Pattern<'s>) -> bool
+        ensures { let at = state B.meant B.is_plain F.answer C.content in
+            StartsPattern result (pattern_view pattern.now) (at self.old) (at self.new) }
+    {
+        let begun = self.path.begin(pattern);
+        let length = self.path.len();
+        self.counts.longest = self.counts.longest.max(length);
+        self.counts.entered = self.counts.entered.saturating_add(1);
+        begun
+    }
+
+    /// Takes the pattern off the path that `begin` put there, where it did.
+    pub fn end(&mut self, begun: bool)
+        ensures { let at = state B.meant B.is_plain F.answer C.content in
+            EndsPattern begun (at self.old) (at self.new) }
+    {
+        self.path.end(begun);
+    }
+
+    /// Enters a pattern that a reference leads to: counts it, puts it on the path unless it refers to nothing and
+    /// others stand there, and says whether it put it there.
+    ///
+    /// # Errors
+    ///
+    /// Memory was refused: path and counts are as before.
+    #[inline(always)]
+    pub fn enter(
+        &mut self,
+        pattern: &'p Pattern<'s>,
+        class: Option<u32>,
+    ) -> Result<bool, AllocError>
+        requires { IsClassOf (table self.old.ids.now) (pattern_view pattern.now) class }
+        ensures { let at = state B.meant B.is_plain F.answer C.content in
+            Enters result (pattern_view pattern.now) (at self.old) (at self.new) }
+    {
+        let length = self.path.len().saturating_add(1);
+        let put = self.path.enter(pattern, class)?;
+        self.counts.longest = self.counts.longest.max(length);
+        self.counts.entered = self.counts.entered.saturating_add(1);
+        Ok(put)
+    }
+
+    /// Takes the pattern off the path that `enter` put there, where it did.
+    #[inline(always)]
+    pub fn leave(&mut self, put: bool)
+        ensures { let at = state B.meant B.is_plain F.answer C.content in
+            Leaves put (at self.old) (at self.new) }
+    {
+        self.path.leave(put);
+    }
+}

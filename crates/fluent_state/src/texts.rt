@@ -1,0 +1,44 @@
+//! Texts: as they stand, which needs no scope, and as a bundle changes them.
+#![tactic(auto, unfolding(crate::specs::Status::state_parts))]
+
+ghost use Rattle.std.specs.Prelude.{◌≡◌, ◌≢◌, Err, IsTrue, false};
+ghost use Rattle.fluent_tree.specs.View.{pattern_view};
+ghost use Rattle.fluent_entries.specs.Texts.{texts_of};
+ghost use Rattle.fluent_values.specs.Written.{sink, SinkTook};
+
+use crate::state::State;
+pub use fluent_entries::is_text;
+use fluent_tree::ast::{Pattern, PatternElement};
+use fluent_values::output::{Halt, Output, put_text};
+use fluent_values::{Context, FluentFunction, FluentType};
+use std::io::Write;
+
+/// Writes the texts of a pattern as they stand, in order, and none of its placeables.
+pub fn put_texts<W: Write>(out: &mut Output<W>, pattern: &Pattern) -> Result<(), Halt>
+    ensures took { SinkTook result (texts_of (pattern_view pattern.now)) (sink W.contents out.old)
+        (sink W.contents out.new) }
+    ensures memory { out.old.is_buffered ≡ false → result ≢ Err Halt.Memory }
+{
+    for element in &pattern.elements {
+        match element {
+            PatternElement::TextElement { value } => put_text(out, value)?,
+            PatternElement::Placeable { .. } => {}
+        }
+    }
+    Ok(())
+}
+
+/// Writes what a text element is changed to.
+pub fn put_changed<W: Write, C: FluentType, F: FluentFunction<C>, B: Context<C>>(
+    scope: &State<'_, '_, '_, '_, '_, C, F, B>,
+    out: &mut Output<W>,
+    text: &str,
+) -> Result<(), Halt>
+    ensures took { SinkTook result ((B.meant scope.now.bundle.now).transform text.now)
+        (sink W.contents out.old) (sink W.contents out.new) }
+    ensures memory { IsTrue (B.is_plain scope.now.bundle.now) → out.old.is_buffered ≡ false →
+        result ≢ Err Halt.Memory }
+{
+    let changed = scope.bundle.change(text)?;
+    put_text(out, &changed)
+}
