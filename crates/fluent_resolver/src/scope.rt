@@ -6,9 +6,7 @@ ghost use Rattle.fluent_state.specs.Trail.{is_idle};
 
 use fluent_entries::Ids;
 use fluent_state::{Counts, State};
-use fluent_values::{
-    Context, FluentArgs, FluentError, FluentFunction, FluentType, HasBundle, ResolverError,
-};
+use fluent_values::{Context, FluentArgs, FluentError, FluentFunction, FluentType, HasBundle, ResolverError};
 use std::alloc::AllocError;
 
 /// The state of one formatting call between the calls that resolve a part of a pattern: its bundle, where its

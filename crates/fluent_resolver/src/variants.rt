@@ -3,7 +3,7 @@
 
 ghost use Rattle.std.specs.Prelude.{IfOk, map};
 ghost use Rattle.fluent_tree.specs.References.{in_expression};
-ghost use Rattle.fluent_tree.specs.Tree.{select, variable, variants_of};
+ghost use Rattle.fluent_tree.specs.Tree.{select, variants_of};
 ghost use Rattle.fluent_tree.specs.View.{inline_view, variant_view};
 ghost use Rattle.fluent_state.specs.Along.{Gave};
 ghost use Rattle.fluent_state.specs.Choice.{choosing};

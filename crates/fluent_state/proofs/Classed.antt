@@ -8,7 +8,7 @@ use Rattle.fluent_tree.specs.Tree.{Pattern, is_yes, nothing, pattern_same}
 use Rattle.fluent_tree.specs.References.{references}
 use Rattle.fluent_links.specs.Classes.{AreDistinct, HasClass}
 use Rattle.fluent_links.specs.ClassLaws.{same_class}
-use Rattle.fluent_links.specs.Linked.{IsClassOf, are_some}
+use Rattle.fluent_links.specs.Linked.{are_some}
 use Rattle.fluent_entries.specs.Linking.{RefersToNothing}
 use Rattle.fluent_meaning.specs.Walk.{is_on}
 use Rattle.fluent_state.specs.Trail.{AreReferring, content_of, contents, is_referring}

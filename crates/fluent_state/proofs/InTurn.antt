@@ -5,7 +5,7 @@ use Rattle.fluent_tree.specs.Tree.{Key, Pattern, Text, Variants, variants_of}
 use Rattle.fluent_tree.specs.View.{key_view, pattern_view, variant_view}
 use Rattle.fluent_tree.specs.declared.ast.Variant as of_the_variant
 use Rattle.fluent_tree.specs.declared.ast.Variant.{Variant}
-use Rattle.fluent_links.specs.Links.{IsBefore, Links, behind, next}
+use Rattle.fluent_links.specs.Links.{IsBefore, Links, behind}
 use Rattle.fluent_links.specs.PlaceSteps.{enters, in_variant_list, leaves, of_variant, variant_in_turn}
 use Rattle.fluent_links.specs.Places.{seen}
 use Rattle.fluent_links.specs.declared.place.Place.{Place}

@@ -1,17 +1,34 @@
 -- A variant that was chosen, by content, and where its pattern begins.
-use Rattle.std.specs.Prelude.{ℕ, List, Option, IfSome}
+use Rattle.std.specs.Prelude.{ℕ, Bool, List, Option, IfSome}
+use Rattle.std.specs.Borrow.{Bor}
 use Rattle.std.specs.Option.{option_map}
 use Rattle.fluent_tree.specs.References.{in_variants, references, variants_view}
-use Rattle.fluent_tree.specs.Tree.{Pattern, Text}
+use Rattle.fluent_tree.specs.Tree.{Key, Pattern, Text}
 use Rattle.fluent_tree.specs.View.{pattern_view}
 use Rattle.fluent_tree.specs.declared.ast.Variant.{Variant}
+use Rattle.fluent_intl.specs.Number.{number_of}
+use Rattle.fluent_intl.specs.declared.number.FluentNumber.{FluentNumber}
+use Rattle.fluent_meaning.specs.Bundle.{key_value}
+use Rattle.fluent_meaning.specs.Value.{Value}
 use Rattle.fluent_links.specs.Links.{IsBefore}
 use Rattle.fluent_links.specs.Places.{seen}
 use Rattle.fluent_links.specs.declared.place.Place.{Place}
+use Rattle.fluent_state.specs.Choice.{choice, first_default, is_like}
 use Rattle.fluent_state.specs.declared.variants.Chosen.{Chosen}
 
 abbrev pub chosen_view : Option Chosen → Option Pattern
 chosen_view o = option_map (λ c. pattern_view c.pattern.now) o
+
+-- the first variant with such a key, else the first default
+abbrev pub chosen : (Key → Bool) → List Variant → Option Pattern
+chosen goes vs = choice goes (first_default (variants_view vs)) (variants_view vs)
+
+-- whether a key, or its value, is a word, or a number like that one
+abbrev pub is_like_value : Text → Option (Bor FluentNumber) → Value Text → Bool
+is_like_value word n value = is_like word (option_map (λ n. number_of n.now) n) value
+
+abbrev pub has_key : Text → Option (Bor FluentNumber) → Key → Bool
+has_key word n key = is_like_value word n (key_value key)
 
 -- its place stands before what its pattern refers to
 abbrev pub BeginsAt : (Text → Option ℕ) → Option Chosen → Type 0

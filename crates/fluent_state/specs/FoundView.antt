@@ -1,17 +1,22 @@
 -- What a reference leads to, by content.
 use Rattle.std.specs.Prelude.{◌≡◌, ℕ, List, slice_get, Option, None, Some}
 use Rattle.std.specs.Borrow.{Bor}
+use Rattle.std.specs.Option.{option_map}
 use Rattle.fluent_tree.specs.References.{references}
 use Rattle.fluent_tree.specs.Tree.{Pattern, Text}
-use Rattle.fluent_tree.specs.View.{pattern_view}
+use Rattle.fluent_tree.specs.View.{attribute_of, pattern_view}
+use Rattle.fluent_tree.specs.declared.ast.Identifier.{Identifier}
 use Rattle.fluent_links.specs.Linked.{IsClassOf, IsOf}
 use Rattle.fluent_links.specs.Links.{IsBefore}
 use Rattle.fluent_links.specs.Places.{seen}
 use Rattle.fluent_links.specs.declared.linked.Linked.{Linked}
-use Rattle.fluent_meaning.specs.Bundle.{Target, unknown, without_value, found}
+use Rattle.fluent_meaning.specs.Arguments.{get}
+use Rattle.fluent_meaning.specs.Bundle.{Function, Target, unknown, without_value, found, message_target, term_target}
+use Rattle.fluent_entries.specs.EntryView.{entry_of, ids as ids_of}
 use Rattle.fluent_entries.specs.Numbered.{numbers, table}
 use Rattle.fluent_entries.specs.Linking.{RefersToNothing}
 use Rattle.fluent_entries.specs.declared.ids.Ids.{Ids}
+use Rattle.fluent_entries.specs.declared.slot.Slot.{Slot}
 use Rattle.fluent_state.specs.declared.found.Found.{Found}
 use Rattle.fluent_state.specs.declared.found.Found.TheVariants as leads
 use Rattle.fluent_state.specs.declared.found.Target as code
@@ -54,3 +59,29 @@ OfValue number table value kept = (p : Pattern) → value ≡ Some p → OfPatte
 -- of the patterns of attributes, one for each that refers to anything
 abbrev pub OfPatterns : (Text → Option ℕ) → List Pattern → List Pattern → List Linked → Type 0
 OfPatterns number table ps kept = ((k : ℕ) (p : Pattern) (l : Linked) → slice_get ps k ≡ Some p → slice_get kept k ≡ Some l → IsOf number table p l) × ((k : ℕ) (p : Pattern) → slice_get ps k ≡ Some p → slice_get kept k ≡ None → RefersToNothing p)
+
+-- what is led to is stored, where this is kept of its pattern
+abbrev pub IsStoredAs : Pattern → Option (Bor Linked) → code.Target → Type 0
+IsStoredAs p kept t = (number : Text → Option ℕ) (table : List Pattern) → OfPattern number table p kept → IsStoredBy number table t
+
+-- where this is kept of a message's value
+abbrev pub IsLedAs : Option Pattern → Option (Bor Linked) → Found → Type 0
+IsLedAs value kept f = (number : Text → Option ℕ) (table : List Pattern) → OfValue number table value kept → IsLedBy number table f
+
+-- where these are kept of the patterns of attributes
+abbrev pub IsLedAmong : List Pattern → List Linked → Found → Type 0
+IsLedAmong ps kept f = (number : Text → Option ℕ) (table : List Pattern) → OfPatterns number table ps kept → IsLedBy number table f
+
+-- ---- what an id leads to, whatever the functions among the ids answer
+
+-- its slot, if it has one
+abbrev pub IsNamed : {F : Type 0} → Ids F → Text → Option (Bor (Slot F)) → Type 0
+IsNamed {F} ids id slot = (answer : F → Function Text) → option_map (λ s. entry_of answer s.now.entry) slot ≡ get id (ids_of answer ids)
+
+-- of a message, or its attribute
+abbrev pub IsMessage : {F : Type 0} → Ids F → Text → Option Identifier → Found → Type 0
+IsMessage {F} ids id attribute f = (answer : F → Function Text) → found_view f ≡ message_target (get id (ids_of answer ids)) (attribute_of attribute)
+
+-- of a term, or its attribute
+abbrev pub IsTerm : {F : Type 0} → Ids F → Text → Option Identifier → Found → Type 0
+IsTerm {F} ids id attribute f = (answer : F → Function Text) → found_view f ≡ term_target (get id (ids_of answer ids)) (attribute_of attribute)

@@ -5,4 +5,5 @@ pub mod Status
 pub mod Along
 pub mod Choice
 pub mod ChosenView
+pub mod Said
 pub mod Facts

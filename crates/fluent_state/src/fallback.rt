@@ -3,16 +3,15 @@
 ghost use Rattle.std.specs.Prelude.{◌≡◌, ◌≢◌, Err, false};
 ghost use Rattle.fluent_tree.specs.Fallback.{fallback, dotted, in_braces};
 ghost use Rattle.fluent_tree.specs.View.{inline_view, attribute_of};
-ghost use Rattle.fluent_values.specs.Written.{sink, SinkTook};
 
+use crate::says::Puts;
 use fluent_tree::ast::{Expression, Identifier, InlineExpression};
 use fluent_values::output::{Halt, Output, put_text};
 use std::io::Write;
 
 /// Writes a message's id in braces.
 pub fn put_id_in_braces<W: Write>(out: &mut Output<W>, id: &str) -> Result<(), Halt>
-    ensures { SinkTook result (in_braces id.now) (sink W.contents out.old)
-        (sink W.contents out.new) }
+    ensures { ⟦<W as Puts>⟧.puts (in_braces id.now) result out.old out.new }
 {
     put_text(out, "{")?;
     put_text(out, id)?;
@@ -24,8 +23,7 @@ pub fn put_in_braces<W: Write>(
     out: &mut Output<W>,
     expression: &InlineExpression,
 ) -> Result<(), Halt>
-    ensures took { SinkTook result (in_braces (fallback (inline_view expression.now)))
-        (sink W.contents out.old) (sink W.contents out.new) }
+    ensures took { ⟦<W as Puts>⟧.puts (in_braces (fallback (inline_view expression.now))) result out.old out.new }
     ensures memory { out.old.is_buffered ≡ false → result ≢ Err Halt.Memory }
 {
     put_text(out, "{")?;
@@ -34,12 +32,11 @@ pub fn put_in_braces<W: Write>(
 }
 
 /// Writes an expression's fallback, without braces.
-pub fn put_fallback<W: Write>(
+pub(crate) fn put_fallback<W: Write>(
     out: &mut Output<W>,
     expression: &InlineExpression,
 ) -> Result<(), Halt>
-    ensures took { SinkTook result (fallback (inline_view expression.now))
-        (sink W.contents out.old) (sink W.contents out.new) }
+    ensures took { ⟦<W as Puts>⟧.puts (fallback (inline_view expression.now)) result out.old out.new }
     ensures memory { out.old.is_buffered ≡ false → result ≢ Err Halt.Memory }
 {
     match expression {
@@ -78,8 +75,7 @@ fn put_dotted<W: Write>(
     id: &Identifier,
     attribute: &Option<Identifier>,
 ) -> Result<(), Halt>
-    ensures took { SinkTook result (dotted id.now.name.now (attribute_of attribute.now))
-        (sink W.contents out.old) (sink W.contents out.new) }
+    ensures took { ⟦<W as Puts>⟧.puts (dotted id.now.name.now (attribute_of attribute.now)) result out.old out.new }
     ensures memory { out.old.is_buffered ≡ false → result ≢ Err Halt.Memory }
 {
     put_text(out, id.name)?;

@@ -1,19 +1,15 @@
 //! What references lead to.
 
-ghost use Rattle.std.specs.Prelude.{◌≡◌, ◌∷◌, [], IfOk, IfSome, IsTrue, List, Option, ℕ, drop, map};
-ghost use Rattle.std.specs.Option.{option_map};
+ghost use Rattle.std.specs.Prelude.{◌≡◌, ◌∷◌, [], IfSome, IsTrue, Option, drop, map};
 ghost use Rattle.fluent_tree.specs.References.{a_function, a_message, a_term};
-ghost use Rattle.fluent_tree.specs.Tree.{Text, Pattern as Content};
-ghost use Rattle.fluent_tree.specs.View.{attribute_of, attribute_view, pattern_view, value_view as optional_view};
-ghost use Rattle.fluent_meaning.specs.Arguments.{get};
-ghost use Rattle.fluent_meaning.specs.Bundle.{Function, message_target, term_target, value_target, first_of, function_found};
-ghost use Rattle.fluent_entries.specs.EntryView.{entry_of, ids as ids_of};
+ghost use Rattle.fluent_tree.specs.View.{attribute_view, pattern_view, value_view as optional_view};
+ghost use Rattle.fluent_meaning.specs.Bundle.{Function, value_target, first_of};
 ghost use Rattle.fluent_entries.specs.Linking.{IsLinked};
 ghost use Rattle.fluent_entries.specs.Named.{is_named};
-ghost use Rattle.fluent_state.specs.FoundView.{IsLed, IsLedBy, IsStoredBy, OfPattern, OfPatterns, OfValue, content_at, found_view};
+ghost use Rattle.fluent_state.specs.FoundView.{IsLed, IsLedAmong, IsLedAs, IsMessage, IsNamed, IsStoredAs, IsTerm, content_at, found_view};
 ghost use Rattle.fluent_entries.specs.Numbered.{IsNumberOf, IsPlaced, numbers, table};
-ghost use Rattle.fluent_values.specs.View.{value_view, named};
 
+use crate::says::Answers;
 use fluent_entries::{Entry, Ids, Slot};
 use fluent_links::{Linked, Place};
 use fluent_tree::ast::{Attribute, Identifier, Pattern};
@@ -45,9 +41,7 @@ fn slot_of<'p, 'r, 's, F>(
     number: Option<u32>,
 ) -> Option<&'p Slot<'r, 's, F>>
     requires { IsNumberOf ids.now id.now number }
-    ensures content { (answer : F → Function Text) →
-        option_map (λ s. entry_of answer s.now.entry) result
-        ≡ get id.now (ids_of answer ids.now) }
+    ensures content { IsNamed ids.now id.now result }
     ensures own { IfSome result (λ s. IsTrue (is_named id.now s.now.entry)) }
     ensures linked { IfSome result (λ s. IsLinked (numbers ids.now) (table ids.now) s.now) }
 {
@@ -63,9 +57,7 @@ pub fn message<'p, 's, F>(
     place: Place<'_>,
 ) -> Found<'p, 's>
     requires { IsPlaced ids.now (a_message id.now ∷ []) place }
-    ensures content { (answer : F → Function Text) →
-        found_view result ≡ message_target (get id.now (ids_of answer ids.now))
-        (attribute_of attribute.now) }
+    ensures content { IsMessage ids.now id.now attribute.now result }
     ensures led { IsLed ids.now result }
 {
     let Some(slot) = slot_of(ids, id, place.first()) else {
@@ -86,9 +78,7 @@ pub fn by_id<'p, 's, F>(
     id: &str,
     attribute: &Option<Identifier<'_>>,
 ) -> Found<'p, 's>
-    ensures content { (answer : F → Function Text) →
-        found_view result ≡ message_target (get id.now (ids_of answer ids.now))
-        (attribute_of attribute.now) }
+    ensures content { IsMessage ids.now id.now attribute.now result }
     ensures led { IsLed ids.now result }
 {
     message(ids, id, attribute, Place::by_name())
@@ -103,9 +93,7 @@ pub fn term<'p, 's, F>(
     place: Place<'_>,
 ) -> Found<'p, 's>
     requires { IsPlaced ids.now (a_term id.now ∷ []) place }
-    ensures content { (answer : F → Function Text) →
-        found_view result ≡ term_target (get id.now (ids_of answer ids.now))
-        (attribute_of attribute.now) }
+    ensures content { IsTerm ids.now id.now attribute.now result }
     ensures led { IsLed ids.now result }
 {
     let Some(slot) = slot_of(ids, id, place.first()) else {
@@ -124,9 +112,7 @@ impl<'p, 's> Target<'p, 's> {
     /// A pattern with what is kept of it. Of one of which nothing is kept, ids are looked up.
     fn of(pattern: &'p Pattern<'s>, linked: Option<&'p Linked>) -> Self
         ensures content { content_at result ≡ pattern_view pattern.now }
-        ensures stored { (number : Text → Option ℕ) (table : List Content) →
-            OfPattern number table (pattern_view pattern.now) linked.entry →
-            IsStoredBy number table result }
+        ensures stored { IsStoredAs (pattern_view pattern.now) linked.entry result }
     {
         match linked {
             Some(linked) => Target {
@@ -153,11 +139,7 @@ pub fn answer_of<'a, C: FluentType, F: FluentFunction<C>>(
     place: Place<'_>,
 ) -> Result<Option<FluentValue<'a, C>>, AllocError>
     requires { IsPlaced ids.now (a_function id.now ∷ []) place }
-    ensures { IfOk result (λ answer.
-        option_map (value_view C.content) answer
-        ≡ option_map
-        (λ f. f (map (value_view C.content) positional.now) (named C.content arguments.now))
-        (function_found (get id.now (ids_of F.answer ids.now)))) }
+    ensures { ⟦<F as Answers<C>>⟧.answers ids.now id.now positional.now arguments.now result }
 {
     let Some(slot) = slot_of(ids, id, place.first()) else {
         return Ok(None);
@@ -172,8 +154,7 @@ pub fn answer_of<'a, C: FluentType, F: FluentFunction<C>>(
 /// A message's value, if it has one.
 fn value_of<'p, 's>(value: &'p Option<Pattern<'s>>, linked: Option<&'p Linked>) -> Found<'p, 's>
     ensures content { found_view result ≡ value_target (optional_view value.now) }
-    ensures led { (number : Text → Option ℕ) (table : List Content) →
-        OfValue number table (optional_view value.now) linked.entry → IsLedBy number table result }
+    ensures led { IsLedAs (optional_view value.now) linked.entry result }
 {
     match value {
         None => Found::WithoutValue,
@@ -188,9 +169,7 @@ fn first_of<'p, 's>(
     name: &str,
 ) -> Found<'p, 's>
     ensures content { found_view result ≡ first_of name.now (map attribute_view attributes.now) }
-    ensures led { (number : Text → Option ℕ) (table : List Content) →
-        OfPatterns number table (map (λ a. pattern_view a.value) attributes.now) linked.now →
-        IsLedBy number table result }
+    ensures led { IsLedAmong (map (λ a. pattern_view a.value) attributes.now) linked.now result }
 {
     let mut kept = linked;
     for attribute in attributes {

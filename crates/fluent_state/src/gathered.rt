@@ -1,8 +1,8 @@
 //! The arguments of a call, while they are gathered.
 
-ghost use Rattle.std.specs.Prelude.{◌≡◌, ◌++◌, ◌∷◌, [], map, IfOk, OnOk};
-ghost use Rattle.std.specs.Cow.{cow_str_bytes};
-ghost use Rattle.fluent_values.specs.View.{value_view, named, by_name};
+ghost use Rattle.std.specs.Prelude.{◌≡◌, ◌++◌, ◌∷◌, [], IfOk, OnOk};
+ghost use Rattle.fluent_state.specs.Gathered.{of_entries, values_of};
+ghost use Rattle.fluent_values.specs.View.{value_view, named};
 
 use fluent_values::{FluentArgs, FluentType, FluentValue};
 use std::alloc::{AllocError, Global};
@@ -22,10 +22,8 @@ pub enum Gathered<'a, C> {
 
 impl<'a, C: FluentType> Gathered<'a, C> {
     ghost use Rattle.std.specs.Prelude.{◌≡◌, [], IfOk, OnOk};
-    ghost use Rattle.std.specs.Cow.{cow_str_bytes};
-    ghost use Rattle.fluent_meaning.specs.Arguments as fin;
     ghost use Rattle.fluent_values.specs.View.{value_view, named};
-    ghost use Rattle.fluent_state.specs.Gathered.{gathered};
+    ghost use Rattle.fluent_state.specs.Gathered.{gathered, with_value};
 
     /// None, where so many are expected. Takes no memory yet.
     pub fn new(alloc: Global, expected: usize) -> Gathered<'a, C>
@@ -45,8 +43,7 @@ impl<'a, C: FluentType> Gathered<'a, C> {
     /// Memory was refused.
     pub fn set(&mut self, name: CowStr<'a>, value: FluentValue<'a, C>) -> Result<(), AllocError>
         ensures { OnOk result (gathered C.content self.new
-            ≡ fin.set (cow_str_bytes name.entry) (value_view C.content value.entry)
-            (gathered C.content self.old)) }
+            ≡ with_value C.content name.entry value.entry (gathered C.content self.old)) }
     {
         match self {
             Gathered::Few(args) => args.set(name, value),
@@ -77,8 +74,7 @@ fn in_order<'a, C: FluentType>(
     alloc: Global,
     tree: BTreeMap<CowStr<'a>, FluentValue<'a, C>>,
 ) -> Result<FluentArgs<'a, C>, AllocError>
-    ensures { IfOk result (λ args. named C.content args
-        ≡ by_name (map (λ e. (cow_str_bytes e.0, value_view C.content e.1)) tree.entry.entries)) }
+    ensures { IfOk result (λ args. named C.content args ≡ of_entries C.content tree.entry.entries) }
 {
     let mut args = FluentArgs::new(alloc);
     for (name, value) in tree {
@@ -92,9 +88,8 @@ pub fn push_value<'p, C: FluentType>(
     values: &mut Vec<FluentValue<'p, C>>,
     value: FluentValue<'p, C>,
 ) -> Result<(), AllocError>
-    ensures { OnOk result
-        (map (value_view C.content) values.new.items
-        ≡ map (value_view C.content) values.old.items ++ value_view C.content value.entry ∷ []) }
+    ensures { OnOk result (values_of C.content values.new
+        ≡ values_of C.content values.old ++ value_view C.content value.entry ∷ []) }
 {
     values.push(value)?;
     Ok(())

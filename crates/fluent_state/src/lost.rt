@@ -4,13 +4,10 @@
 ghost use Rattle.std.specs.Prelude.{◌≡◌, ◌≢◌, ◌∷◌, [], Err, IsOk, None, false};
 ghost use Rattle.fluent_tree.specs.View.{inline_view};
 ghost use Rattle.fluent_meaning.specs.Errors.{resolver_error, no_value, reference_of};
-ghost use Rattle.fluent_meaning.specs.Walk.{loses};
-ghost use Rattle.fluent_meaning.specs.Work.{with_work};
-ghost use Rattle.fluent_state.specs.Along.{Wrote, ReportsIfOk, lost_of};
-ghost use Rattle.fluent_state.specs.Status.{state};
-ghost use Rattle.fluent_values.specs.Written.{sink};
+ghost use Rattle.fluent_state.specs.Along.{lost_of};
 
 use crate::fallback::put_in_braces;
+use crate::says::{Says, Sees};
 use crate::state::State;
 use fluent_tree::ast::InlineExpression;
 use fluent_values::output::{Halt, Output};
@@ -24,10 +21,7 @@ pub fn lose<W: Write, C: FluentType, F: FluentFunction<C>, B: Context<C>>(
     out: &mut Output<W>,
     inline: &InlineExpression<'_>,
 ) -> Result<(), Halt>
-    ensures wrote { let at = state B.meant B.is_plain F.answer C.content in
-        Wrote result
-        (λ b below env path. loses with_work b below env (inline_view inline.now))
-        (sink W.contents out.old) (sink W.contents out.new) (at scope.old) (at scope.new) }
+    ensures wrote { ⟦<W as Says<C, F, B>>⟧.lost inline.now result out.old out.new scope.old scope.new }
     ensures memory { reference_of (inline_view inline.now) ≡ None → out.old.is_buffered ≡ false →
         result ≢ Err Halt.Memory }
 {
@@ -40,8 +34,7 @@ pub fn report_lost<C: FluentType, F: FluentFunction<C>, B: Context<C>>(
     scope: &mut State<'_, '_, '_, '_, '_, C, F, B>,
     inline: &InlineExpression<'_>,
 ) -> Result<(), AllocError>
-    ensures reports { let at = state B.meant B.is_plain F.answer C.content in
-        ReportsIfOk result (lost_of (inline_view inline.now)) (at scope.old) (at scope.new) }
+    ensures reports { ⟦<B as Sees<C, F>>⟧.reports (lost_of (inline_view inline.now)) result scope.old scope.new }
     ensures succeeds { reference_of (inline_view inline.now) ≡ None → IsOk result }
 {
     match ResolverError::of(scope.bundle.allocator(), inline)? {
@@ -55,8 +48,7 @@ pub fn report_no_value<C: FluentType, F: FluentFunction<C>, B: Context<C>>(
     scope: &mut State<'_, '_, '_, '_, '_, C, F, B>,
     id: &str,
 ) -> Result<(), AllocError>
-    ensures { let at = state B.meant B.is_plain F.answer C.content in
-        ReportsIfOk result (resolver_error (no_value id.now) ∷ []) (at scope.old) (at scope.new) }
+    ensures { ⟦<B as Sees<C, F>>⟧.reports (resolver_error (no_value id.now) ∷ []) result scope.old scope.new }
 {
     let id = String::from_str(scope.bundle.allocator(), id)?;
     scope.add_error(ResolverError::NoValue(id))

@@ -15,19 +15,17 @@ pub struct Path<'p, 's> {
 }
 
 impl<'p, 's> Path<'p, 's> {
-    ghost use Rattle.std.specs.Prelude.{◌≡◌, ◌≢◌, ◌++◌, ◌∷◌, [], List, None, IfOk, OnErr, length, nat_eq, true};
+    ghost use Rattle.std.specs.Prelude.{◌≡◌, ◌≢◌, [], List, None, IfOk, OnErr, length, nat_eq, true};
     ghost use Rattle.std.specs.List.{list_any};
     ghost use Rattle.std.specs.Bool.{OnTrue, OnFalse};
     ghost use Rattle.fluent_tree.specs.Tree.{Pattern as Content};
     ghost use Rattle.fluent_tree.specs.View.{pattern_view};
-    ghost use Rattle.fluent_links.specs.Classes.{AreDistinct};
-    ghost use Rattle.fluent_links.specs.Linked.{IsClassOf};
     ghost use Rattle.fluent_meaning.specs.Walk.{is_on, inner};
     ghost use Rattle.fluent_state.specs.Status.{counted};
-    ghost use Rattle.fluent_state.specs.Trail.{AreReferring, classes_on, is_idle, on_path};
+    ghost use Rattle.fluent_state.specs.Trail.{IsPut, IsTakenOff, StayReferring, StayReferringWith, Tells, classes_on, is_idle, on_path};
 
     /// No pattern. It keeps the allocator and takes no memory yet.
-    pub fn new(alloc: Global) -> Path<'p, 's>
+    pub(crate) fn new(alloc: Global) -> Path<'p, 's>
         ensures path { (table : List Content) → on_path table result ≡ [] }
         ensures classes { classes_on result ≡ [] }
         ensures idle { is_idle result ≡ true }
@@ -39,7 +37,7 @@ impl<'p, 's> Path<'p, 's> {
     }
 
     /// How many patterns stand on it.
-    pub fn len(&self) -> u64
+    pub(crate) fn len(&self) -> u64
         ensures { (table : List Content) → result ≡ counted (length (on_path table self.now)) }
     {
         match self.bottom {
@@ -51,10 +49,8 @@ impl<'p, 's> Path<'p, 's> {
     /// Whether a pattern has the content of one on it. One without class refers to nothing, so its content is none of
     /// those above the first.
     #[inline(always)]
-    pub fn is_on(&self, pattern: &Pattern<'s>, class: Option<u32>) -> bool
-        ensures { (table : List Content) → AreDistinct table → AreReferring table (classes_on self.now) →
-            IsClassOf table (pattern_view pattern.now) class → result
-            ≡ is_on (on_path table self.now) (pattern_view pattern.now) }
+    pub(crate) fn is_on(&self, pattern: &Pattern<'s>, class: Option<u32>) -> bool
+        ensures { Tells self.now (pattern_view pattern.now) class result }
     {
         let Some(bottom) = self.bottom else {
             return false;
@@ -81,13 +77,12 @@ impl<'p, 's> Path<'p, 's> {
     }
 
     /// Puts a pattern there where there is none, and says whether it did.
-    pub fn begin(&mut self, pattern: &'p Pattern<'s>) -> bool
+    pub(crate) fn begin(&mut self, pattern: &'p Pattern<'s>) -> bool
         ensures inner { (table : List Content) → on_path table self.new
             ≡ inner (on_path table self.old) (pattern_view pattern.now) }
         ensures begun { OnTrue result ((table : List Content) → on_path table self.old ≡ []) }
         ensures same { OnFalse result (self.new ≡ self.old) }
-        ensures classes { (table : List Content) → AreReferring table (classes_on self.old) →
-            AreReferring table (classes_on self.new) }
+        ensures classes { StayReferring self.old self.new }
     {
         if self.bottom.is_some() {
             return false;
@@ -98,7 +93,7 @@ impl<'p, 's> Path<'p, 's> {
     }
 
     /// Takes the pattern off again that `begin` put there, where it did.
-    pub fn end(&mut self, begun: bool)
+    pub(crate) fn end(&mut self, begun: bool)
         ensures begun { OnTrue begun ((table : List Content) → on_path table self.new ≡ []) }
         ensures same { OnFalse begun (self.new ≡ self.old) }
         ensures classes { classes_on self.new ≡ classes_on self.old }
@@ -115,21 +110,18 @@ impl<'p, 's> Path<'p, 's> {
     ///
     /// Memory was refused: the path is as before.
     #[inline(always)]
-    pub fn enter(
+    pub(crate) fn enter(
         &mut self,
         pattern: &'p Pattern<'s>,
         class: Option<u32>,
     ) -> Result<bool, AllocError>
-        ensures put { IfOk result (λ put. OnTrue put ((table : List Content) →
-            IsClassOf table (pattern_view pattern.now) class → on_path table self.new
-            ≡ on_path table self.old ++ pattern_view pattern.now ∷ [])) }
+        ensures put { IfOk result (λ put. OnTrue put (IsPut (pattern_view pattern.now) class self.old self.new)) }
         ensures same { IfOk result (λ put. OnFalse put (self.new ≡ self.old)) }
         ensures bare { IfOk result (λ put. OnFalse put (class ≡ None)) }
         ensures others { IfOk result (λ put. OnFalse put ((table : List Content) →
             on_path table self.old ≢ [])) }
         ensures refused { OnErr result (self.new ≡ self.old) }
-        ensures classes { (table : List Content) → IsClassOf table (pattern_view pattern.now) class →
-            AreReferring table (classes_on self.old) → AreReferring table (classes_on self.new) }
+        ensures classes { StayReferringWith (pattern_view pattern.now) class self.old self.new }
     {
         if self.bottom.is_none() {
             self.above.clear();
@@ -146,13 +138,10 @@ impl<'p, 's> Path<'p, 's> {
     }
 
     /// Takes the last pattern off again that `enter` added, where it did.
-    pub fn leave(&mut self, put: bool)
-        ensures left { OnTrue put ((table : List Content) → (before : List Content) →
-            (last : Content) → on_path table self.old ≡ before ++ last ∷ [] →
-            on_path table self.new ≡ before) }
+    pub(crate) fn leave(&mut self, put: bool)
+        ensures left { OnTrue put (IsTakenOff self.old self.new) }
         ensures same { OnFalse put (self.new ≡ self.old) }
-        ensures classes { (table : List Content) → AreReferring table (classes_on self.old) →
-            AreReferring table (classes_on self.new) }
+        ensures classes { StayReferring self.old self.new }
     {
         if !put {
             return;

@@ -6,10 +6,10 @@ ghost use Rattle.fluent_tree.specs.View.{expression_view, inline_view, pattern_v
 ghost use Rattle.fluent_meaning.specs.Meaning.{first_mark, last_mark, ending};
 ghost use Rattle.fluent_meaning.specs.Walk.{has_one, is_bare, is_marked};
 ghost use Rattle.fluent_state.specs.Status.{budget_view};
-ghost use Rattle.fluent_values.specs.Written.{sink, SinkTook};
 
 use crate::budget::Budget;
 use crate::fallback::put_in_braces;
+use crate::says::Puts;
 use fluent_tree::ast::{Expression, InlineExpression, Pattern};
 use fluent_values::output::{Halt, Output, put_text};
 use fluent_values::{Context, FluentType};
@@ -50,8 +50,7 @@ fn is_bare(expression: &Expression) -> bool
 
 /// U+2068 FIRST STRONG ISOLATE, where it is wanted.
 pub fn put_first_mark<W: Write>(out: &mut Output<W>, marked: bool) -> Result<(), Halt>
-    ensures { SinkTook result (first_mark marked) (sink W.contents out.old)
-        (sink W.contents out.new) }
+    ensures { ⟦<W as Puts>⟧.puts (first_mark marked) result out.old out.new }
 {
     if marked {
         put_text(out, "\u{2068}")
@@ -62,8 +61,7 @@ pub fn put_first_mark<W: Write>(out: &mut Output<W>, marked: bool) -> Result<(),
 
 /// U+2069 POP DIRECTIONAL ISOLATE, where it is wanted.
 pub fn put_last_mark<W: Write>(out: &mut Output<W>, marked: bool) -> Result<(), Halt>
-    ensures { SinkTook result (last_mark marked) (sink W.contents out.old)
-        (sink W.contents out.new) }
+    ensures { ⟦<W as Puts>⟧.puts (last_mark marked) result out.old out.new }
 {
     if marked {
         put_text(out, "\u{2069}")
@@ -78,9 +76,7 @@ pub fn put_ending<W: Write>(
     expression: &Expression,
     budget: Budget,
 ) -> Result<(), Halt>
-    ensures { SinkTook result (ending (fallback_of (expression_view expression.now))
-        (budget_view budget))
-        (sink W.contents out.old) (sink W.contents out.new) }
+    ensures { ⟦<W as Puts>⟧.puts (ending (fallback_of (expression_view expression.now)) (budget_view budget)) result out.old out.new }
 {
     match budget {
         Budget::Left(_) => Ok(()),

@@ -1,23 +1,19 @@
 //! How numbers and what functions answer are written.
 #![tactic(auto, unfolding(crate::specs::Status::state_parts))]
 
-ghost use Rattle.std.specs.Prelude.{◌∷◌, [], map};
+ghost use Rattle.std.specs.Prelude.{◌∷◌, []};
 ghost use Rattle.fluent_tree.specs.References.{a_function};
 ghost use Rattle.fluent_tree.specs.View.{inline_view};
-ghost use Rattle.fluent_meaning.specs.Arguments.{get};
-ghost use Rattle.fluent_meaning.specs.Bundle.{function_found, shown};
+ghost use Rattle.fluent_meaning.specs.Bundle.{shown};
 ghost use Rattle.fluent_meaning.specs.Value.{try_number};
-ghost use Rattle.fluent_meaning.specs.Walk.{function_text};
-ghost use Rattle.fluent_meaning.specs.Work.{with_work};
-ghost use Rattle.fluent_state.specs.Along.{Wrote, shown_answer};
+ghost use Rattle.fluent_state.specs.Along.{shown_answer};
 ghost use Rattle.fluent_entries.specs.Numbered.{IsPlaced};
-ghost use Rattle.fluent_state.specs.Status.{state};
-ghost use Rattle.fluent_values.specs.View.{value_view, named};
-ghost use Rattle.fluent_values.specs.Written.{sink, SinkTook};
+ghost use Rattle.fluent_values.specs.View.{value_view};
 
 use crate::fallback::put_fallback;
 use crate::found::answer_of;
 use crate::lost::lose;
+use crate::says::{Puts, Says};
 use crate::state::State;
 use fluent_links::Place;
 use fluent_tree::ast::{Identifier, InlineExpression};
@@ -32,8 +28,7 @@ pub fn put_number<W: Write, C: FluentType, B: Context<C>>(
     out: &mut Output<W>,
     source: &str,
 ) -> Result<(), Halt>
-    ensures { SinkTook result (shown (B.meant bundle.now) (try_number source.now))
-        (sink W.contents out.old) (sink W.contents out.new) }
+    ensures { ⟦<W as Puts>⟧.puts (shown (B.meant bundle.now) (try_number source.now)) result out.old out.new }
 {
     put_value(bundle, out, &FluentValue::try_number(source))
 }
@@ -49,12 +44,8 @@ pub fn put_answer<'p, W: Write, C: FluentType, F: FluentFunction<C>, B: Context<
     place: Place<'p>,
 ) -> Result<(), Halt>
     requires { IsPlaced scope.old.ids.now (a_function id.now.name.now ∷ []) place }
-    ensures { let at = state B.meant B.is_plain F.answer C.content in
-        Wrote result
-        (λ b below env path. function_text with_work b below env (inline_view inline.now)
-        (function_found (get id.now.name.now b.ids))
-        (map (value_view C.content) positional.now) (named C.content arguments.now))
-        (sink W.contents out.old) (sink W.contents out.new) (at scope.old) (at scope.new) }
+    ensures { ⟦<W as Says<C, F, B>>⟧.answer inline.now id.now.name.now positional.now arguments.now
+        result out.old out.new scope.old scope.new }
 {
     match answer_of(
         scope.ids,
@@ -76,9 +67,8 @@ fn put_shown<W: Write, C: FluentType, B: Context<C>>(
     inline: &InlineExpression<'_>,
     answer: &FluentValue<'_, C>,
 ) -> Result<(), Halt>
-    ensures { SinkTook result (shown_answer (B.meant bundle.now) (inline_view inline.now)
-        (value_view C.content answer.now))
-        (sink W.contents out.old) (sink W.contents out.new) }
+    ensures { ⟦<W as Puts>⟧.puts (shown_answer (B.meant bundle.now) (inline_view inline.now)
+        (value_view C.content answer.now)) result out.old out.new }
 {
     match answer {
         FluentValue::Error => put_fallback(out, inline),

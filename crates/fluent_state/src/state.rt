@@ -7,6 +7,7 @@ ghost use Rattle.fluent_state.specs.Trail.{AreReferring, classes_on};
 use crate::budget::{Budget, Counts};
 use crate::environment::Environment;
 use crate::path::Path;
+use crate::says::Sees;
 use fluent_entries::Ids;
 use fluent_tree::ast::Pattern;
 use fluent_values::{Context, FluentArgs, FluentError, FluentFunction, FluentType, ResolverError};
@@ -56,10 +57,9 @@ impl<'errors, 'p, 'r, 's, 'args, C: FluentType, F: FluentFunction<C>, B: Context
     ghost use Rattle.fluent_meaning.specs.Errors.{resolver_error};
     ghost use Rattle.fluent_meaning.specs.Meaning.{struck};
     ghost use Rattle.fluent_values.specs.View.{resolver_error_view};
-    ghost use Rattle.fluent_entries.specs.EntryView.{ids as ids_of};
-    ghost use Rattle.fluent_state.specs.Status.{arguments_view, budget_view, state, state_parts, with_ids};
+    ghost use Rattle.fluent_state.specs.Status.{budget_view, state_parts};
     ghost use Rattle.fluent_meaning.specs.Walk.{is_on};
-    ghost use Rattle.fluent_state.specs.Along.{can_open, ReportsIfOk, TakesOne, IsAtStart, StartsPattern, EndsPattern, Enters, Leaves};
+    ghost use Rattle.fluent_state.specs.Along.{can_open};
     ghost use Rattle.fluent_tree.specs.View.{pattern_view};
     ghost use Rattle.fluent_links.specs.Linked.{IsClassOf};
     ghost use Rattle.fluent_state.specs.Trail.{is_idle};
@@ -77,9 +77,7 @@ impl<'errors, 'p, 'r, 's, 'args, C: FluentType, F: FluentFunction<C>, B: Context
         ensures errors { (state_parts result).errors ≡ errors.entry }
         ensures ids { (state_parts result).ids ≡ ids.now }
         ensures idle { is_idle result.path ≡ true }
-        ensures begins { let at = state B.meant B.is_plain F.answer C.content in
-            IsAtStart (at result) (with_ids (B.meant bundle.now) (ids_of F.answer ids.now))
-            (arguments_view C.content args.entry) }
+        ensures begins { ⟦<B as Sees<C, F>>⟧.begins bundle.now ids.now args.entry result }
     {
         State {
             errors,
@@ -114,8 +112,7 @@ impl<'errors, 'p, 'r, 's, 'args, C: FluentType, F: FluentFunction<C>, B: Context
 
     /// Whether a placeable past the limit was met.
     pub fn dirty(&self) -> bool
-        ensures { IsTrue result ↔ ((state B.meant B.is_plain F.answer C.content self.now).budget
-            ≡ struck) }
+        ensures { IsTrue result ↔ ((⟦<B as Sees<C, F>>⟧.at self.now).budget ≡ struck) }
     {
         matches!(self.budget, Budget::Struck)
     }
@@ -126,9 +123,8 @@ impl<'errors, 'p, 'r, 's, 'args, C: FluentType, F: FluentFunction<C>, B: Context
     ///
     /// Memory was refused, which only a list can meet: it is as before.
     pub fn add_error(&mut self, error: ResolverError) -> Result<(), AllocError>
-        ensures added { let at = state B.meant B.is_plain F.answer C.content in
-            ReportsIfOk result (resolver_error (resolver_error_view error) ∷ []) (at self.old)
-            (at self.new) }
+        ensures added { ⟦<B as Sees<C, F>>⟧.reports (resolver_error (resolver_error_view error) ∷ []) result
+            self.old self.new }
         ensures succeeds { IfNone self.old.errors (IsOk result) }
     {
         match &mut self.errors {
@@ -143,8 +139,7 @@ impl<'errors, 'p, 'r, 's, 'args, C: FluentType, F: FluentFunction<C>, B: Context
     /// Takes one from the budget, or strikes it where none is left.
     pub fn take_one(&mut self) -> bool
         ensures opens { result ≡ can_open (budget_view self.old.budget) }
-        ensures takes { let at = state B.meant B.is_plain F.answer C.content in
-            TakesOne result (at self.old) (at self.new) }
+        ensures takes { ⟦<B as Sees<C, F>>⟧.takes_one result self.old self.new }
     {
         match self.budget {
             Budget::Left(left) if left > 0 => {
@@ -163,16 +158,14 @@ impl<'errors, 'p, 'r, 's, 'args, C: FluentType, F: FluentFunction<C>, B: Context
     #[inline(always)]
     pub fn is_on(&self, pattern: &Pattern<'s>, class: Option<u32>) -> bool
         requires { IsClassOf (table self.now.ids.now) (pattern_view pattern.now) class }
-        ensures { let at = state B.meant B.is_plain F.answer C.content self.now in
-            result ≡ is_on at.path (pattern_view pattern.now) }
+        ensures { result ≡ is_on (⟦<B as Sees<C, F>>⟧.at self.now).path (pattern_view pattern.now) }
     {
         self.path.is_on(pattern, class)
     }
 
     /// Puts a pattern on the path where that is empty, counts the pattern, and says whether it put it there.
     pub fn begin(&mut self, pattern: &'p Pattern<'s>) -> bool
-        ensures { let at = state B.meant B.is_plain F.answer C.content in
-            StartsPattern result (pattern_view pattern.now) (at self.old) (at self.new) }
+        ensures { ⟦<B as Sees<C, F>>⟧.starts result pattern.now self.old self.new }
     {
         let begun = self.path.begin(pattern);
         let length = self.path.len();
@@ -183,8 +176,7 @@ impl<'errors, 'p, 'r, 's, 'args, C: FluentType, F: FluentFunction<C>, B: Context
 
     /// Takes the pattern off the path that `begin` put there, where it did.
     pub fn end(&mut self, begun: bool)
-        ensures { let at = state B.meant B.is_plain F.answer C.content in
-            EndsPattern begun (at self.old) (at self.new) }
+        ensures { ⟦<B as Sees<C, F>>⟧.ends begun self.old self.new }
     {
         self.path.end(begun);
     }
@@ -202,8 +194,7 @@ impl<'errors, 'p, 'r, 's, 'args, C: FluentType, F: FluentFunction<C>, B: Context
         class: Option<u32>,
     ) -> Result<bool, AllocError>
         requires { IsClassOf (table self.old.ids.now) (pattern_view pattern.now) class }
-        ensures { let at = state B.meant B.is_plain F.answer C.content in
-            Enters result (pattern_view pattern.now) (at self.old) (at self.new) }
+        ensures { ⟦<B as Sees<C, F>>⟧.enters pattern.now result self.old self.new }
     {
         let length = self.path.len().saturating_add(1);
         let put = self.path.enter(pattern, class)?;
@@ -215,8 +206,7 @@ impl<'errors, 'p, 'r, 's, 'args, C: FluentType, F: FluentFunction<C>, B: Context
     /// Takes the pattern off the path that `enter` put there, where it did.
     #[inline(always)]
     pub fn leave(&mut self, put: bool)
-        ensures { let at = state B.meant B.is_plain F.answer C.content in
-            Leaves put (at self.old) (at self.new) }
+        ensures { ⟦<B as Sees<C, F>>⟧.leaves put self.old self.new }
     {
         self.path.leave(put);
     }

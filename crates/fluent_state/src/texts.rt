@@ -4,8 +4,8 @@
 ghost use Rattle.std.specs.Prelude.{◌≡◌, ◌≢◌, Err, IsTrue, false};
 ghost use Rattle.fluent_tree.specs.View.{pattern_view};
 ghost use Rattle.fluent_entries.specs.Texts.{texts_of};
-ghost use Rattle.fluent_values.specs.Written.{sink, SinkTook};
 
+use crate::says::Puts;
 use crate::state::State;
 pub use fluent_entries::is_text;
 use fluent_tree::ast::{Pattern, PatternElement};
@@ -15,8 +15,7 @@ use std::io::Write;
 
 /// Writes the texts of a pattern as they stand, in order, and none of its placeables.
 pub fn put_texts<W: Write>(out: &mut Output<W>, pattern: &Pattern) -> Result<(), Halt>
-    ensures took { SinkTook result (texts_of (pattern_view pattern.now)) (sink W.contents out.old)
-        (sink W.contents out.new) }
+    ensures took { ⟦<W as Puts>⟧.puts (texts_of (pattern_view pattern.now)) result out.old out.new }
     ensures memory { out.old.is_buffered ≡ false → result ≢ Err Halt.Memory }
 {
     for element in &pattern.elements {
@@ -34,8 +33,7 @@ pub fn put_changed<W: Write, C: FluentType, F: FluentFunction<C>, B: Context<C>>
     out: &mut Output<W>,
     text: &str,
 ) -> Result<(), Halt>
-    ensures took { SinkTook result ((B.meant scope.now.bundle.now).transform text.now)
-        (sink W.contents out.old) (sink W.contents out.new) }
+    ensures took { ⟦<W as Puts>⟧.puts ((B.meant scope.now.bundle.now).transform text.now) result out.old out.new }
     ensures memory { IsTrue (B.is_plain scope.now.bundle.now) → out.old.is_buffered ≡ false →
         result ≢ Err Halt.Memory }
 {

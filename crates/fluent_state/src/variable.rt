@@ -6,16 +6,13 @@ ghost use Rattle.std.specs.Option.{option_map};
 ghost use Rattle.fluent_tree.specs.Tree.{variable};
 ghost use Rattle.fluent_tree.specs.View.{inline_view};
 ghost use Rattle.fluent_meaning.specs.Arguments.{get};
-ghost use Rattle.fluent_meaning.specs.Walk.{written, resolved};
-ghost use Rattle.fluent_meaning.specs.Work.{with_work};
-ghost use Rattle.fluent_state.specs.Along.{Got, Wrote};
-ghost use Rattle.fluent_state.specs.Status.{arguments_view as given_arguments, state};
+ghost use Rattle.fluent_state.specs.Status.{arguments_view as given_arguments};
 ghost use Rattle.fluent_values.specs.View.{value_view};
-ghost use Rattle.fluent_values.specs.Written.{sink};
 
 use crate::environment::Environment;
 use crate::fallback::put_in_braces;
 use crate::lost::{lose, report_lost};
+use crate::says::{Says, Sees};
 use crate::state::State;
 use fluent_tree::ast::{Identifier, InlineExpression};
 use fluent_values::output::{Halt, Output};
@@ -34,10 +31,7 @@ pub fn write_variable<W: Write, C: FluentType, F: FluentFunction<C>, B: Context<
     id: &Identifier<'_>,
 ) -> Result<(), Halt>
     requires { inline_view inline.now ≡ variable id.now.name.now }
-    ensures { let at = state B.meant B.is_plain F.answer C.content in
-        Wrote result
-        (λ b below env path. written with_work b below env path (inline_view inline.now))
-        (sink W.contents out.old) (sink W.contents out.new) (at scope.old) (at scope.new) }
+    ensures { ⟦<W as Says<C, F, B>>⟧.inline inline.now result out.old out.new scope.old scope.new }
 {
     match &scope.environment {
         Environment::Local(args) => match args.get(id.name) {
@@ -59,10 +53,7 @@ pub fn resolve_variable<'p, C: FluentType, F: FluentFunction<C>, B: Context<C>>(
     id: &Identifier<'_>,
 ) -> Result<FluentValue<'p, C>, AllocError>
     requires { inline_view inline.now ≡ variable id.now.name.now }
-    ensures { let at = state B.meant B.is_plain F.answer C.content in
-        Got result (value_view C.content)
-        (λ b below env path. resolved with_work b below env path (inline_view inline.now))
-        (at scope.old) (at scope.new) }
+    ensures { ⟦<B as Sees<C, F>>⟧.value inline.now result scope.old scope.new }
 {
     let alloc = scope.bundle.allocator();
     match &scope.environment {

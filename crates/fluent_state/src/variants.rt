@@ -1,21 +1,19 @@
 //! Which variant of a select a value goes to.
 #![tactic(auto, unfolding(crate::specs::Status::state_parts))]
 
-ghost use Rattle.std.specs.Prelude.{◌≡◌, IfOk, map};
-ghost use Rattle.std.specs.Option.{option_map};
-ghost use Rattle.fluent_tree.specs.Tree.{variable, variants_of};
-ghost use Rattle.fluent_tree.specs.View.{inline_view, pattern_view, variant_view, key_view};
-ghost use Rattle.fluent_intl.specs.Number.{number_of};
-ghost use Rattle.fluent_meaning.specs.Bundle.{goes_to, key_value};
+ghost use Rattle.std.specs.Prelude.{◌≡◌, IfOk};
+ghost use Rattle.fluent_tree.specs.References.{variants_view};
+ghost use Rattle.fluent_tree.specs.Tree.{variable};
+ghost use Rattle.fluent_tree.specs.View.{inline_view, pattern_view, key_view};
+ghost use Rattle.fluent_meaning.specs.Bundle.{goes_to};
 ghost use Rattle.fluent_meaning.specs.Value.{try_number};
-ghost use Rattle.fluent_state.specs.Along.{Got};
-ghost use Rattle.fluent_state.specs.Choice.{choice, choosing, first_default, is_like};
-ghost use Rattle.fluent_state.specs.ChosenView.{BeginsIn, chosen_view};
-ghost use Rattle.fluent_state.specs.Status.{state};
+ghost use Rattle.fluent_state.specs.Choice.{choice, first_default, is_like};
+ghost use Rattle.fluent_state.specs.ChosenView.{BeginsIn, chosen, chosen_view, has_key, is_like_value};
 ghost use Rattle.fluent_values.specs.View.{value_view};
 
 use crate::environment::Environment;
 use crate::lost::report_lost;
+use crate::says::Sees;
 use crate::state::State;
 use crate::variable::argument;
 use fluent_intl::FluentNumber;
@@ -56,10 +54,7 @@ pub fn choose_by_variable<'p, 's, C: FluentType, F: FluentFunction<C>, B: Contex
     place: Place<'p>,
 ) -> Result<Option<Chosen<'p, 's>>, AllocError>
     requires { inline_view selector.now ≡ variable id.now.name.now }
-    ensures chose { let at = state B.meant B.is_plain F.answer C.content in
-        let vs = variants_of (map variant_view variants.now) in
-        Got result chosen_view (choosing (inline_view selector.now) vs)
-        (at scope.old) (at scope.new) }
+    ensures chose { ⟦<B as Sees<C, F>>⟧.choice selector.now variants.now result scope.old scope.new }
     ensures placed { IfOk result (λ chosen. BeginsIn variants.now place.entry chosen) }
 {
     match &scope.environment {
@@ -84,10 +79,8 @@ pub fn choose<'p, 's, C: FluentType, B: Context<C>>(
     variants: &'p [Variant<'s>],
     place: Place<'p>,
 ) -> Option<Chosen<'p, 's>>
-    ensures chose { let vs = variants_of (map variant_view variants.now) in
-        chosen_view result
-        ≡ choice (goes_to (B.meant bundle.now) (value_view C.content value.now))
-        (first_default vs) vs }
+    ensures chose { chosen_view result
+        ≡ chosen (goes_to (B.meant bundle.now) (value_view C.content value.now)) variants.now }
     ensures placed { BeginsIn variants.now place.entry result }
 {
     match value {
@@ -111,10 +104,7 @@ fn first_like<'p, 's>(
     variants: &'p [Variant<'s>],
     place: Place<'p>,
 ) -> Option<Chosen<'p, 's>>
-    ensures chose { let vs = variants_of (map variant_view variants.now) in
-        let like = is_like word.now (option_map (λ n. number_of n.now) number.entry) in
-        chosen_view result ≡ choice (λ key. like (key_value key))
-        (first_default vs) vs }
+    ensures chose { chosen_view result ≡ chosen (has_key word.now number.entry) variants.now }
     ensures placed { BeginsIn variants.now place.entry result }
 {
     let mut at = place;
@@ -129,9 +119,7 @@ fn first_like<'p, 's>(
 
 /// Whether a key is a word, or a number like that one.
 fn is_like(word: &str, number: Option<&FluentNumber>, key: &VariantKey) -> bool
-    ensures { result
-        ≡ is_like word.now (option_map (λ n. number_of n.now) number.entry)
-        (key_value (key_view key.now)) }
+    ensures { result ≡ has_key word.now number.entry (key_view key.now) }
 {
     match key {
         VariantKey::Identifier { name } => *name == word,
@@ -141,8 +129,7 @@ fn is_like(word: &str, number: Option<&FluentNumber>, key: &VariantKey) -> bool
 
 /// Whether the source of a key is that of a number like this one, or, where it is no number's, this word.
 fn is_source_like(word: &str, number: Option<&FluentNumber>, source: &str) -> bool
-    ensures { result ≡ is_like word.now (option_map (λ n. number_of n.now) number.entry)
-        (try_number source.now) }
+    ensures { result ≡ is_like_value word.now number.entry (try_number source.now) }
 {
     numbers_read_as_defined();
     match FluentNumber::from_str(source) {
@@ -156,8 +143,7 @@ fn is_source_like(word: &str, number: Option<&FluentNumber>, source: &str) -> bo
 
 /// The first default among variants.
 fn first_default<'p, 's>(variants: &'p [Variant<'s>], place: Place<'p>) -> Option<Chosen<'p, 's>>
-    ensures chose { chosen_view result
-        ≡ first_default (variants_of (map variant_view variants.now)) }
+    ensures chose { chosen_view result ≡ first_default (variants_view variants.now) }
     ensures placed { BeginsIn variants.now place.entry result }
 {
     let mut at = place;
