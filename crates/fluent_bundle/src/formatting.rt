@@ -144,6 +144,7 @@ impl<
     }
 
     /// The text of a pattern whose references go by their links, or by name where there are none.
+    #[inline(always)]
     pub(crate) fn format_linked(
         &self,
         pattern: &Pattern<'s>,
@@ -172,6 +173,7 @@ impl<
     }
 
     /// The text of a pattern that is one text, where no transform and no formatter is set.
+    #[inline(always)]
     fn sole_text<'p>(&self, pattern: &Pattern<'p>) -> Option<&'p str>
         ensures { option_map (λ t. t.now) result ≡ (if not (is_some (transform_in self.now))
             && not (is_some (formatter_in self.now)) then sole_text (pattern_view pattern.now)
@@ -283,6 +285,7 @@ impl<
 }
 
 /// The text of a pattern that is one text.
+#[inline(always)]
 fn only_text<'p>(pattern: &Pattern<'p>) -> Option<&'p str>
     ensures { option_map (λ t. t.now) result ≡ sole_text (pattern_view pattern.now) }
 {

@@ -24,6 +24,7 @@ use std::io::Write;
 
 /// Writes what an expression gives.
 #[cycle(resolve)]
+#[inline(always)]
 pub(crate) fn write_expression<
     'p,
     's,
@@ -54,6 +55,7 @@ pub(crate) fn write_expression<
 
 /// Writes the variant that a selector's value goes to. It stands by itself, as what a call may hold costs at its entry.
 #[cycle(resolve)]
+#[inline(never)]
 fn write_select<'p, 's, W: Write, C: FluentType, F: FluentFunction<C>, B: Context<C>>(
     scope: &mut State<'_, 'p, '_, 's, '_, C, F, B>,
     out: &mut Output<W>,

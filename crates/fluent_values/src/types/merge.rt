@@ -1,11 +1,10 @@
 //! Options of a number from named arguments.
-ghost use Rattle.std.specs.Prelude.{◌≡◌, Some, codes, min, not, OnOk, OnErr};
-ghost use Rattle.fluent_intl.specs.Options.{Options, options_of, type_named, style_named, currency_display_named};
+ghost use Rattle.std.specs.Prelude.{◌≡◌, codes, OnOk, OnErr};
+ghost use Rattle.fluent_intl.specs.Options.{Options, options_of};
 ghost use Rattle.fluent_meaning.specs.Arguments as fin;
-ghost use Rattle.fluent_meaning.specs.Number.{is_text};
-ghost use Rattle.fluent_values.specs.View.{named};
+ghost use Rattle.fluent_values.specs.View.{value_view, named};
 ghost use Rattle.fluent_values.specs.Free.{IsTextGiven};
-ghost use Rattle.fluent_values.specs.Merging.{by_text, by_count, with_argument, with_currency, with_kinds, with_digits};
+ghost use Rattle.fluent_values.specs.Merging.{with_currency, with_one, with_rest, with_text};
 
 use crate::args::FluentArgs;
 use crate::types::{FluentType, FluentValue};
@@ -40,8 +39,7 @@ impl<C: FluentType> MergeArgs<C> for FluentNumberOptions {
 
     fn merge(&mut self, alloc: Global, args: &FluentArgs<'_, C>) -> Result<(), AllocError> {
         merge_currency(self, alloc, args)?;
-        merge_kinds(self, args);
-        merge_digits(self, args);
+        merge_rest(self, args);
         Ok(())
     }
 }
@@ -68,111 +66,58 @@ fn merge_currency<C: FluentType>(
     }
 }
 
-fn merge_kinds<C: FluentType>(options: &mut FluentNumberOptions, args: &FluentArgs<'_, C>)
-    ensures { options_of options.new ≡ with_kinds (named C.content args.now)
+/// All but the currency, in one walk: most calls give one option or two, and there are ten names.
+fn merge_rest<C: FluentType>(options: &mut FluentNumberOptions, args: &FluentArgs<'_, C>)
+    ensures { options_of options.new ≡ with_rest (named C.content args.now)
         (options_of options.old) }
 {
-    options.number_type = number_type(args, options.number_type);
-    options.style = style(args, options.style);
-    options.currency_display = currency_display(args, options.currency_display);
-    options.use_grouping = use_grouping(args, options.use_grouping);
-}
-
-fn number_type<C: FluentType>(
-    args: &FluentArgs<'_, C>,
-    before: FluentNumberType,
-) -> FluentNumberType
-    ensures { result ≡ with_argument (by_text type_named)
-        (fin.get (codes "type") (named C.content args.now)) before }
-{
-    match args.get("type") {
-        Some(FluentValue::String(word)) => FluentNumberType::from(word.as_str()),
-        _ => before,
+    for (name, value) in args.iter() {
+        merge_one(options, name, value);
     }
 }
 
-fn style<C: FluentType>(args: &FluentArgs<'_, C>, before: FluentNumberStyle) -> FluentNumberStyle
-    ensures { result ≡ with_argument (by_text style_named)
-        (fin.get (codes "style") (named C.content args.now)) before }
-{
-    match args.get("style") {
-        Some(FluentValue::String(word)) => FluentNumberStyle::from(word.as_str()),
-        _ => before,
-    }
-}
-
-fn currency_display<C: FluentType>(
-    args: &FluentArgs<'_, C>,
-    before: FluentNumberCurrencyDisplayStyle,
-) -> FluentNumberCurrencyDisplayStyle
-    ensures { result ≡ with_argument (by_text currency_display_named)
-        (fin.get (codes "currencyDisplay") (named C.content args.now)) before }
-{
-    match args.get("currencyDisplay") {
-        Some(FluentValue::String(word)) => FluentNumberCurrencyDisplayStyle::from(word.as_str()),
-        _ => before,
-    }
-}
-
-fn use_grouping<C: FluentType>(args: &FluentArgs<'_, C>, before: bool) -> bool
-    ensures { result ≡ with_argument (by_text (λ t. not (is_text t (codes "false"))))
-        (fin.get (codes "useGrouping") (named C.content args.now)) before }
-{
-    match args.get("useGrouping") {
-        Some(FluentValue::String(word)) => word.as_str() != "false",
-        _ => before,
-    }
-}
-
-fn merge_digits<C: FluentType>(options: &mut FluentNumberOptions, args: &FluentArgs<'_, C>)
-    ensures { options_of options.new ≡ with_digits (named C.content args.now)
-        (options_of options.old) }
-{
-    options.minimum_integer_digits = count(
-        args,
-        "minimumIntegerDigits",
-        options.minimum_integer_digits,
-    );
-    options.minimum_fraction_digits = fraction_digits(args, options.minimum_fraction_digits);
-    options.maximum_fraction_digits = count(
-        args,
-        "maximumFractionDigits",
-        options.maximum_fraction_digits,
-    );
-    options.minimum_significant_digits = count(
-        args,
-        "minimumSignificantDigits",
-        options.minimum_significant_digits,
-    );
-    options.maximum_significant_digits = count(
-        args,
-        "maximumSignificantDigits",
-        options.maximum_significant_digits,
-    );
-}
-
-/// The number of a name as a count, or what stood before.
-fn count<C: FluentType>(
-    args: &FluentArgs<'_, C>,
+/// One argument, unless it is the currency.
+fn merge_one<C: FluentType>(
+    options: &mut FluentNumberOptions,
     name: &str,
-    before: Option<usize>,
-) -> Option<usize>
-    ensures { result ≡ with_argument (by_count Some)
-        (fin.get name.now (named C.content args.now)) before }
+    value: &FluentValue<'_, C>,
+)
+    ensures { options_of options.new ≡ with_one name.now (value_view C.content value.now)
+        (options_of options.old) }
 {
-    match args.get(name) {
-        Some(FluentValue::Number(number)) => Some(usize::from(number)),
-        _ => before,
+    match value {
+        FluentValue::String(text) => merge_text(options, name, text.as_str()),
+        FluentValue::Number(number) => merge_count(options, name, usize::from(number)),
+        _ => {}
     }
 }
 
-/// The minimum of fraction digits, of which 18 count at most.
-fn fraction_digits<C: FluentType>(args: &FluentArgs<'_, C>, before: Option<usize>) -> Option<usize>
-    ensures { result ≡ with_argument (by_count (λ n. Some (min n 18)))
-        (fin.get (codes "minimumFractionDigits") (named C.content args.now)) before }
+fn merge_text(options: &mut FluentNumberOptions, name: &str, text: &str)
+    ensures { options_of options.new ≡ with_text name.now text.now (options_of options.old) }
 {
-    match args.get("minimumFractionDigits") {
-        Some(FluentValue::Number(number)) => Some(usize::from(number).min(18)),
-        _ => before,
+    match name {
+        "type" => options.number_type = FluentNumberType::from(text),
+        "style" => options.style = FluentNumberStyle::from(text),
+        "currency" => {}
+        "currencyDisplay" => {
+            options.currency_display = FluentNumberCurrencyDisplayStyle::from(text);
+        }
+        "useGrouping" => options.use_grouping = text != "false",
+        _ => {}
+    }
+}
+
+/// A count of digits. Of fraction digits 18 count at most, as a minimum.
+fn merge_count(options: &mut FluentNumberOptions, name: &str, count: usize)
+    ensures { options_of options.new ≡ fin.merge_count name.now count
+        (options_of options.old) }
+{
+    match name {
+        "minimumIntegerDigits" => options.minimum_integer_digits = Some(count),
+        "minimumFractionDigits" => options.minimum_fraction_digits = Some(count.min(18)),
+        "maximumFractionDigits" => options.maximum_fraction_digits = Some(count),
+        "minimumSignificantDigits" => options.minimum_significant_digits = Some(count),
+        "maximumSignificantDigits" => options.maximum_significant_digits = Some(count),
+        _ => {}
     }
 }
