@@ -1,5 +1,5 @@
 -- A pattern that refers to nothing gives the same under every path that isn't empty, and counts the same but for the longest path.
-use Rattle.std.proofs.Common.{◌≡◌, refl, sym, ap, subst, ◌∙◌, ℕ, zero, suc, ◌+◌, ◌≤◌, max, length, List, [], ◌∷◌, ◌++◌, Bool, true, false, Option, Some, None, arith}
+use Rattle.std.proofs.Common.{◌≡◌, refl, ap, subst, ◌∙◌, ℕ, zero, suc, ◌+◌, ◌≤◌, max, length, List, [], ◌∷◌, ◌++◌, Bool, true, false, Option, Some, None, arith}
 use Rattle.std.proofs.lemmas.Bool.{true≢false}
 use Rattle.fluent_tree.specs.Tree.{Text, Pattern, nothing, more, Element, text, placeable, Expression, inline, select, Variants, no_variants, variant, Inline, string, number, function, message, term, variable, nested}
 use Rattle.fluent_tree.specs.References.{Reference, references, in_element, in_expression, in_variants, in_inline}

@@ -1,6 +1,6 @@
 -- Places before parts.
-use Rattle.std.proofs.Common.{[], ◌≡◌, ℕ, ◌+◌, List, ◌∷◌, ◌++◌, sym, subst, Option, Some, Result, Ok, IfOk, IfSome}
-use Rattle.fluent_tree.specs.References.{Reference, references}
+use Rattle.std.proofs.Common.{[], ◌≡◌, ℕ, List, ◌∷◌, ◌++◌, sym, subst, Option, Some, Result, Ok, IfOk, IfSome}
+use Rattle.fluent_tree.specs.References.{Reference}
 use Rattle.fluent_tree.specs.Tree.{Text}
 use Rattle.fluent_links.specs.Links.{IsBefore, behind, next}
 use Rattle.fluent_links.specs.PlaceLaws.{back, front}

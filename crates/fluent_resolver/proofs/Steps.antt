@@ -1,5 +1,5 @@
 -- What each function of the resolver is to do, from its scope, as the steps of its code.
-use Rattle.std.proofs.Common.{[], ◌≡◌, refl, sym, ap, subst, ◌∙◌, ℕ, zero, suc, ◌+◌, ◌<◌, length, get_or, List, ◌∷◌, ◌++◌, Bool, true, false, Option, Some, None, map, arith, unwrap_or, Result, Ok, IfOk}
+use Rattle.std.proofs.Common.{[], ◌≡◌, refl, sym, ap, subst, ◌∙◌, ℕ, zero, suc, ◌<◌, length, get_or, List, ◌∷◌, ◌++◌, Bool, true, false, Option, Some, None, map, arith, unwrap_or, Result, Ok, IfOk}
 use Rattle.std.specs.Bool.{OnTrue, OnFalse}
 use Rattle.std.specs.Option.{option_map}
 use Rattle.fluent_tree.specs.Tree.{Text, Pattern, Inline, Expression, Attribute, Call, Arguments, placeable, select, text, function, term, pattern_of, inlines_of, nameds_of, variants_of, Element, more}
@@ -18,7 +18,7 @@ use Rattle.fluent_meaning.specs.Bundle.{Bundle, Function, Target, unknown, witho
 use Rattle.fluent_meaning.specs.Value.{Value}
 use Rattle.fluent_meaning.specs.Errors.{resolver_error, cyclic}
 use Rattle.fluent_meaning.specs.Meaning.{Budget, struck}
-use Rattle.fluent_meaning.specs.Walk.{Environment, is_on, inner, go, whole, local_of, local, elements, part, expression, written, resolved, positional, named, follow, has_one, function_value, called}
+use Rattle.fluent_meaning.specs.Walk.{Environment, is_on, inner, go, whole, local_of, local, elements, part, expression, positional, named, follow, has_one, function_value, called}
 use Rattle.fluent_meaning.specs.Work.{Worked, with_work, work}
 use Rattle.fluent_meaning.specs.Laws.{CountsByItself}
 use Rattle.fluent_state.specs.Along.{Below, Walk, walked, from_here, given, mapping, Elsewhere, StartsPattern, EndsPattern, Enters, Leaves}

@@ -3,4 +3,6 @@ pub use Rattle.fluent_state.specs.Status
 pub use Rattle.fluent_state.specs.Along
 pub mod ScopeView
 pub mod Tracking
+pub mod Said
+pub mod ScopeSaid
 pub mod Sizes

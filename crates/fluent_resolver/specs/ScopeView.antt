@@ -1,5 +1,5 @@
 -- What a scope is, by content.
-use Rattle.std.specs.Prelude.{◌-◌, Bool, Option}
+use Rattle.std.specs.Prelude.{Bool, Option}
 use Rattle.std.specs.Borrow.{Bor, MutBor}
 use Rattle.std.specs.declared.vec.Vec.{Vec}
 use Rattle.std.proofs.Common.{Global}

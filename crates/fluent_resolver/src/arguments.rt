@@ -1,20 +1,16 @@
 //! Values: of arguments and of selectors.
 #![tactic(auto, unfolding(fluent_state::specs::Status::state_parts))]
 
-ghost use Rattle.std.specs.Prelude.{◌≡◌, [], map};
-ghost use Rattle.fluent_tree.specs.References.{in_arguments, in_call, in_inline, in_named, in_positional};
-ghost use Rattle.fluent_tree.specs.Tree.{function, inlines_of, nameds_of};
-ghost use Rattle.fluent_tree.specs.View.{inline_view, arguments_view, call_view, named_view};
-ghost use Rattle.fluent_meaning.specs.Arguments.{set_all};
-ghost use Rattle.fluent_meaning.specs.Walk.{written, resolved, called, local_of, positional, named as named_arguments};
-ghost use Rattle.fluent_meaning.specs.Work.{with_work};
-ghost use Rattle.fluent_state.specs.Along.{Gave, Wrote, mapping};
+ghost use Rattle.std.specs.Prelude.{◌≡◌};
+ghost use Rattle.fluent_tree.specs.References.{in_arguments, in_call, in_inline, in_named, in_positional, inlines_view, nameds_view};
+ghost use Rattle.fluent_tree.specs.Tree.{function};
+ghost use Rattle.fluent_tree.specs.View.{inline_view, arguments_view, call_view};
+ghost use Rattle.fluent_meaning.specs.Walk.{positional};
 ghost use Rattle.fluent_entries.specs.Numbered.{IsPlaced};
-ghost use Rattle.fluent_state.specs.Status.{state};
-ghost use Rattle.fluent_values.specs.View.{value_view, named};
-ghost use Rattle.fluent_values.specs.Written.{writer, beside};
+ghost use Rattle.fluent_values.specs.Written.{writer};
 
 use crate::inline_expression::write_inline;
+use crate::says::Gives;
 use fluent_links::Place;
 use fluent_state::State;
 use fluent_state::found::answer_of;
@@ -37,10 +33,7 @@ pub(crate) fn resolve<'p, 's, W: Write, C: FluentType, F: FluentFunction<C>, B: 
     place: Place<'p>,
 ) -> Result<FluentValue<'p, C>, Halt>
     requires { IsPlaced scope.old.ids.now (in_inline (inline_view inline.now)) place }
-    ensures { let at = state B.meant B.is_plain F.answer C.content in
-        Gave result (value_view C.content)
-        (λ b below env path. resolved with_work b below env path (inline_view inline.now))
-        (writer W.contents w.old) (writer W.contents w.new) (at scope.old) (at scope.new) }
+    ensures { ⟦<W as Gives<C, F, B>>⟧.value inline.now result w.old w.new scope.old scope.new }
 {
     match inline {
         InlineExpression::StringLiteral { value } => {
@@ -74,10 +67,7 @@ fn resolve_function<'p, 's, W: Write, C: FluentType, F: FluentFunction<C>, B: Co
     requires view { inline_view inline.now
         ≡ function id.now.name.now (arguments_view arguments.now) }
     requires placed { IsPlaced scope.old.ids.now (in_inline (inline_view inline.now)) place }
-    ensures { let at = state B.meant B.is_plain F.answer C.content in
-        Gave result (value_view C.content)
-        (λ b below env path. resolved with_work b below env path (inline_view inline.now))
-        (writer W.contents w.old) (writer W.contents w.new) (at scope.old) (at scope.new) }
+    ensures { ⟦<W as Gives<C, F, B>>⟧.value inline.now result w.old w.new scope.old scope.new }
 {
     let (positional, named) = resolve_call(scope, w, arguments, place.after_one())?;
     let alloc = scope.bundle.allocator();
@@ -95,11 +85,8 @@ fn write_beside<'p, 's, W: Write, C: FluentType, F: FluentFunction<C>, B: Contex
     place: Place<'p>,
 ) -> Result<(), Halt>
     requires { IsPlaced scope.old.ids.now (in_inline (inline_view inline.now)) place }
-    ensures { let at = state B.meant B.is_plain F.answer C.content in
-        Wrote result
-        (λ b below env path. written with_work b below env path (inline_view inline.now))
-        (beside W.contents w.old text.old) (beside W.contents w.new text.new)
-        (at scope.old) (at scope.new) }
+    ensures { ⟦<W as Gives<C, F, B>>⟧.text inline.now result w.old w.new text.old text.new
+        scope.old scope.new }
 {
     let mut out = Output {
         writer: w,
@@ -119,12 +106,8 @@ pub(crate) fn resolve_local<'p, 's, W: Write, C: FluentType, F: FluentFunction<C
     arguments: &'p Option<Box<CallArguments<'s>>>,
     place: Place<'p>,
 ) -> Result<FluentArgs<'p, C>, Halt>
-    requires { let call = call_view arguments.now in
-        IsPlaced scope.old.ids.now (in_call call) place }
-    ensures { let at = state B.meant B.is_plain F.answer C.content in
-        Gave result (named C.content)
-        (λ b below env path. local_of with_work b below env path (call_view arguments.now))
-        (writer W.contents w.old) (writer W.contents w.new) (at scope.old) (at scope.new) }
+    requires { IsPlaced scope.old.ids.now (in_call (call_view arguments.now)) place }
+    ensures { ⟦<W as Gives<C, F, B>>⟧.local arguments.now result w.old w.new scope.old scope.new }
 {
     match arguments {
         None => Ok(FluentArgs::new(scope.bundle.allocator())),
@@ -145,10 +128,7 @@ pub(crate) fn resolve_call<'p, 's, W: Write, C: FluentType, F: FluentFunction<C>
     place: Place<'p>,
 ) -> Result<(Vec<FluentValue<'p, C>>, FluentArgs<'p, C>), Halt>
     requires { IsPlaced scope.old.ids.now (in_arguments (arguments_view arguments.now)) place }
-    ensures { let at = state B.meant B.is_plain F.answer C.content in
-        Gave result (λ v. (map (value_view C.content) v.0.items, named C.content v.1))
-        (λ b below env path. called with_work b below env path (arguments_view arguments.now))
-        (writer W.contents w.old) (writer W.contents w.new) (at scope.old) (at scope.new) }
+    ensures { ⟦<W as Gives<C, F, B>>⟧.call arguments.now result w.old w.new scope.old scope.new }
 {
     let positional = resolve_positional(scope, w, &arguments.positional, place)?;
     let behind = place.behind_positional(&arguments.positional);
@@ -165,13 +145,8 @@ fn resolve_positional<'p, 's, W: Write, C: FluentType, F: FluentFunction<C>, B: 
     arguments: &'p [InlineExpression<'s>],
     place: Place<'p>,
 ) -> Result<Vec<FluentValue<'p, C>>, Halt>
-    requires { IsPlaced scope.old.ids.now
-        (in_positional (inlines_of (map inline_view arguments.now))) place }
-    ensures { let at = state B.meant B.is_plain F.answer C.content in
-        Gave result (λ v. map (value_view C.content) v.items)
-        (λ b below env path. positional with_work b below env path
-        (inlines_of (map inline_view arguments.now)))
-        (writer W.contents w.old) (writer W.contents w.new) (at scope.old) (at scope.new) }
+    requires { IsPlaced scope.old.ids.now (in_positional (inlines_view arguments.now)) place }
+    ensures { ⟦<W as Gives<C, F, B>>⟧.positional arguments.now result w.old w.new scope.old scope.new }
 {
     let mut values = Vec::new(scope.bundle.allocator());
     let mut place = place;
@@ -192,13 +167,8 @@ fn resolve_named<'p, 's, W: Write, C: FluentType, F: FluentFunction<C>, B: Conte
     arguments: &'p [NamedArgument<'s>],
     place: Place<'p>,
 ) -> Result<FluentArgs<'p, C>, Halt>
-    requires { IsPlaced scope.old.ids.now (in_named (nameds_of (map named_view arguments.now)))
-        place }
-    ensures { let at = state B.meant B.is_plain F.answer C.content in
-        Gave result (named C.content)
-        (λ b below env path n. mapping (λ m. set_all m [])
-        (named_arguments with_work b below env path (nameds_of (map named_view arguments.now)) n))
-        (writer W.contents w.old) (writer W.contents w.new) (at scope.old) (at scope.new) }
+    requires { IsPlaced scope.old.ids.now (in_named (nameds_view arguments.now)) place }
+    ensures { ⟦<W as Gives<C, F, B>>⟧.named arguments.now result w.old w.new scope.old scope.new }
 {
     let mut values = Gathered::new(scope.bundle.allocator(), arguments.len());
     let mut place = place;

@@ -1,19 +1,14 @@
 //! Expressions.
 #![tactic(auto, unfolding(fluent_state::specs::Status::state_parts))]
 
-ghost use Rattle.std.specs.Prelude.{map};
 ghost use Rattle.fluent_tree.specs.References.{in_expression};
-ghost use Rattle.fluent_tree.specs.Tree.{select, variants_of};
-ghost use Rattle.fluent_tree.specs.View.{expression_view, inline_view, variant_view};
-ghost use Rattle.fluent_meaning.specs.Walk as walk;
-ghost use Rattle.fluent_meaning.specs.Work.{with_work};
-ghost use Rattle.fluent_state.specs.Along.{Wrote};
+ghost use Rattle.fluent_tree.specs.View.{expression_view};
 ghost use Rattle.fluent_entries.specs.Numbered.{IsPlaced};
-ghost use Rattle.fluent_state.specs.Status.{state};
-ghost use Rattle.fluent_values.specs.Written.{sink};
+ghost use Rattle.fluent_resolver.specs.Said.{in_select};
 
 use crate::inline_expression::write_inline;
 use crate::pattern::write_pattern;
+use crate::says::Says;
 use crate::variants::choose_variant;
 use fluent_links::Place;
 use fluent_state::State;
@@ -39,11 +34,7 @@ pub(crate) fn write_expression<
     place: Place<'p>,
 ) -> Result<(), Halt>
     requires { IsPlaced scope.old.ids.now (in_expression (expression_view expression.now)) place }
-    ensures { let at = state B.meant B.is_plain F.answer C.content in
-        Wrote result
-        (λ b below env path. walk.expression with_work b below env path
-        (expression_view expression.now))
-        (sink W.contents out.old) (sink W.contents out.new) (at scope.old) (at scope.new) }
+    ensures { ⟦<W as Says<C, F, B>>⟧.shown expression.now result out.old out.new scope.old scope.new }
 {
     match expression {
         Expression::Inline(inline) => write_inline(scope, out, inline, place),
@@ -63,12 +54,8 @@ fn write_select<'p, 's, W: Write, C: FluentType, F: FluentFunction<C>, B: Contex
     variants: &'p [Variant<'s>],
     place: Place<'p>,
 ) -> Result<(), Halt>
-    requires { let vs = variants_of (map variant_view variants.now) in
-        IsPlaced scope.old.ids.now (in_expression (select (inline_view selector.now) vs)) place }
-    ensures { let at = state B.meant B.is_plain F.answer C.content in
-        let e = select (inline_view selector.now) (variants_of (map variant_view variants.now)) in
-        Wrote result (λ b below env path. walk.expression with_work b below env path e)
-        (sink W.contents out.old) (sink W.contents out.new) (at scope.old) (at scope.new) }
+    requires { IsPlaced scope.old.ids.now (in_select selector.now variants.now) place }
+    ensures { ⟦<W as Says<C, F, B>>⟧.selected selector.now variants.now result out.old out.new scope.old scope.new }
 {
     match choose_variant(scope, out.writer, selector, variants, place)? {
         Some(chosen) => write_pattern(scope, out, chosen.pattern, chosen.place),

@@ -5,22 +5,18 @@ ghost use Rattle.std.specs.Prelude.{◌≡◌, ◌<◌};
 ghost use Rattle.fluent_tree.specs.References.{in_inline};
 ghost use Rattle.fluent_tree.specs.Tree.{function, term};
 ghost use Rattle.fluent_tree.specs.View.{inline_view, attribute_of, call_view, arguments_view};
-ghost use Rattle.fluent_meaning.specs.Walk.{written, follow, go, is_on};
-ghost use Rattle.fluent_meaning.specs.Work.{with_work};
-ghost use Rattle.fluent_state.specs.Along.{Wrote};
+ghost use Rattle.fluent_meaning.specs.Walk.{written, follow, go};
 ghost use Rattle.fluent_state.specs.FoundView.{IsLed, IsStored, content_at, found_view};
 ghost use Rattle.fluent_entries.specs.Numbered.{IsPlaced};
-ghost use Rattle.fluent_resolver.specs.Sizes.{size, bound, IsBelow};
-ghost use Rattle.fluent_state.specs.Status.{state};
-ghost use Rattle.fluent_values.specs.View.{named};
-ghost use Rattle.fluent_values.specs.Written.{sink};
+ghost use Rattle.fluent_resolver.specs.Sizes.{size, IsBelow};
 
 use crate::arguments::{resolve_call, resolve_local};
 use crate::expression::write_expression;
 use crate::pattern::write_elements;
+use crate::says::{Says, Sees};
 use fluent_links::Place;
-use fluent_meaning::laws::budgets_pass_through;
 use fluent_state::fallback::{put_id_in_braces, put_in_braces};
+use fluent_state::laws::references_are_walked;
 use fluent_state::lost::{lose, report_no_value};
 use fluent_state::shown::{put_answer, put_number};
 use fluent_state::variable::write_variable;
@@ -28,7 +24,6 @@ use fluent_state::{Environment, Found, State, Target, found};
 use fluent_tree::ast::{CallArguments, Identifier, InlineExpression};
 use fluent_values::output::{Halt, Output, put_unescaped};
 use fluent_values::{Context, FluentFunction, FluentType, ResolverError};
-use std::collections::LinkedList;
 use std::io::Write;
 use std::mem;
 
@@ -41,10 +36,7 @@ pub(crate) fn write_inline<'p, 's, W: Write, C: FluentType, F: FluentFunction<C>
     place: Place<'p>,
 ) -> Result<(), Halt>
     requires { IsPlaced scope.old.ids.now (in_inline (inline_view inline.now)) place }
-    ensures { let at = state B.meant B.is_plain F.answer C.content in
-        Wrote result
-        (λ b below env path. written with_work b below env path (inline_view inline.now))
-        (sink W.contents out.old) (sink W.contents out.new) (at scope.old) (at scope.new) }
+    ensures { ⟦<W as Says<C, F, B>>⟧.inline inline.now result out.old out.new scope.old scope.new }
 {
     match inline {
         InlineExpression::StringLiteral { value } => {
@@ -83,10 +75,7 @@ fn write_function<'p, 's, W: Write, C: FluentType, F: FluentFunction<C>, B: Cont
     requires view { inline_view inline.now
         ≡ function id.now.name.now (arguments_view arguments.now) }
     requires placed { IsPlaced scope.old.ids.now (in_inline (inline_view inline.now)) place }
-    ensures { let at = state B.meant B.is_plain F.answer C.content in
-        Wrote result
-        (λ b below env path. written with_work b below env path (inline_view inline.now))
-        (sink W.contents out.old) (sink W.contents out.new) (at scope.old) (at scope.new) }
+    ensures { ⟦<W as Says<C, F, B>>⟧.inline inline.now result out.old out.new scope.old scope.new }
 {
     let (positional, named) = resolve_call(scope, out.writer, arguments, place.after_one())?;
     put_answer(scope, out, inline, id, &positional, &named, place)
@@ -108,10 +97,7 @@ fn write_term<'p, 's, W: Write, C: FluentType, F: FluentFunction<C>, B: Context<
         ≡ term id.now.name.now (attribute_of attribute.now)
         (call_view arguments.now) }
     requires placed { IsPlaced scope.old.ids.now (in_inline (inline_view inline.now)) place }
-    ensures { let at = state B.meant B.is_plain F.answer C.content in
-        Wrote result
-        (λ b below env path. written with_work b below env path (inline_view inline.now))
-        (sink W.contents out.old) (sink W.contents out.new) (at scope.old) (at scope.new) }
+    ensures { ⟦<W as Says<C, F, B>>⟧.inline inline.now result out.old out.new scope.old scope.new }
 {
     let local = resolve_local(scope, out.writer, arguments, place.after_one())?;
     let found = found::term(scope.ids, id.name, attribute, place);
@@ -131,14 +117,9 @@ fn follow<'p, 's, W: Write, C: FluentType, F: FluentFunction<C>, B: Context<C>>(
     id: &Identifier<'_>,
     found: Found<'p, 's>,
 ) -> Result<(), Halt>
-    requires below { IsBelow (bound (state B.meant B.is_plain F.answer C.content scope.old).bundle)
-        (found_view found) }
+    requires below { IsBelow (⟦<B as Sees<C, F>>⟧.bound scope.old) (found_view found) }
     requires led { IsLed scope.old.ids.now found }
-    ensures { let at = state B.meant B.is_plain F.answer C.content in
-        Wrote result
-        (λ b below env path. follow with_work b below env env path
-        (inline_view inline.now) id.now.name.now (found_view found.entry))
-        (sink W.contents out.old) (sink W.contents out.new) (at scope.old) (at scope.new) }
+    ensures { ⟦<W as Says<C, F, B>>⟧.follow inline.now id.now.name.now found.entry result out.old out.new scope.old scope.new }
 {
     match found {
         Found::Unknown => lose(scope, out, inline),
@@ -159,21 +140,15 @@ fn go<'p, 's, W: Write, C: FluentType, F: FluentFunction<C>, B: Context<C>>(
     inline: &InlineExpression<'_>,
     target: Target<'p, 's>,
 ) -> Result<(), Halt>
-    requires size { size (content_at target)
-        < bound (state B.meant B.is_plain F.answer C.content scope.old).bundle }
+    requires size { size (content_at target) < ⟦<B as Sees<C, F>>⟧.bound scope.old }
     requires stored { IsStored scope.old.ids.now target }
-    ensures { let at = state B.meant B.is_plain F.answer C.content in
-        Wrote result
-        (λ b below env path. go with_work b below env
-        (is_on path (content_at target.entry)) env path (inline_view inline.now)
-        (content_at target.entry))
-        (sink W.contents out.old) (sink W.contents out.new) (at scope.old) (at scope.new) }
+    ensures { ⟦<W as Says<C, F, B>>⟧.go inline.now target.entry result out.old out.new scope.old scope.new }
 {
     if scope.is_on(target.pattern, target.class) {
         scope.add_error(ResolverError::Cyclic)?;
         return put_in_braces(out, inline);
     }
-    budgets_pass_through::<LinkedList<u8>>();
+    references_are_walked();
     let put = scope.enter(target.pattern, target.class)?;
     let written = write_elements(scope, out, target.pattern, target.place);
     scope.leave(put);

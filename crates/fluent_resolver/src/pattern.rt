@@ -1,20 +1,16 @@
 //! Patterns.
 #![tactic(auto, unfolding(fluent_state::specs::Status::state_parts))]
 
-ghost use Rattle.std.specs.Prelude.{◌≡◌, ◌≢◌, Err, false, IsTrue};
+ghost use Rattle.std.specs.Prelude.{◌≢◌};
 ghost use Rattle.fluent_tree.specs.References.{in_expression, references};
-ghost use Rattle.fluent_tree.specs.Tree.{placeable};
 ghost use Rattle.fluent_tree.specs.View.{expression_view, pattern_view};
 ghost use Rattle.fluent_meaning.specs.Meaning.{struck};
-ghost use Rattle.fluent_meaning.specs.Walk.{has_one, is_marked, elements, part, whole};
-ghost use Rattle.fluent_meaning.specs.Work.{with_work};
-ghost use Rattle.fluent_state.specs.Along.{Wrote};
+ghost use Rattle.fluent_meaning.specs.Walk.{has_one, is_marked};
 ghost use Rattle.fluent_entries.specs.Numbered.{IsPlaced};
-ghost use Rattle.fluent_state.specs.Status.{budget_view, state, state_parts};
-ghost use Rattle.fluent_entries.specs.Texts.{IsTextAlone};
-ghost use Rattle.fluent_values.specs.Written.{sink};
+ghost use Rattle.fluent_state.specs.Status.{budget_view, state_parts};
 
 use crate::expression::write_expression;
+use crate::says::Says;
 use fluent_links::Place;
 use fluent_state::State;
 use fluent_state::placeable::{has_one, is_marked, put_ending, put_first_mark, put_last_mark};
@@ -34,13 +30,8 @@ pub fn write_pattern<'p, 's, W: Write, C: FluentType, F: FluentFunction<C>, B: C
     place: Place<'p>,
 ) -> Result<(), Halt>
     requires { IsPlaced (state_parts scope.old).ids (references (pattern_view pattern.now)) place }
-    ensures wrote { let at = state B.meant B.is_plain F.answer C.content in
-        Wrote result
-        (λ b below env path. whole with_work b below env path (pattern_view pattern.now))
-        (sink W.contents out.old) (sink W.contents out.new) (at scope.old) (at scope.new) }
-    ensures memory { IsTextAlone (pattern_view pattern.now) →
-        IsTrue (B.is_plain (state_parts scope.old).bundle.now) → out.old.is_buffered ≡ false →
-        result ≢ Err Halt.Memory }
+    ensures wrote { ⟦<W as Says<C, F, B>>⟧.whole pattern.now result out.old out.new scope.old scope.new }
+    ensures memory { ⟦<W as Says<C, F, B>>⟧.owes pattern.now result out.old scope.old }
 {
     let begun = scope.begin(pattern);
     let written = write_elements(scope, out, pattern, place);
@@ -57,14 +48,8 @@ pub(crate) fn write_elements<'p, 's, W: Write, C: FluentType, F: FluentFunction<
     place: Place<'p>,
 ) -> Result<(), Halt>
     requires { IsPlaced scope.old.ids.now (references (pattern_view pattern.now)) place }
-    ensures wrote { let at = state B.meant B.is_plain F.answer C.content in
-        Wrote result
-        (λ b below env path. elements with_work b below env path
-        (has_one (pattern_view pattern.now)) (pattern_view pattern.now))
-        (sink W.contents out.old) (sink W.contents out.new) (at scope.old) (at scope.new) }
-    ensures memory { IsTextAlone (pattern_view pattern.now) →
-        IsTrue (B.is_plain scope.old.bundle.now) → out.old.is_buffered ≡ false →
-        result ≢ Err Halt.Memory }
+    ensures wrote { ⟦<W as Says<C, F, B>>⟧.parts pattern.now result out.old out.new scope.old scope.new }
+    ensures memory { ⟦<W as Says<C, F, B>>⟧.owes pattern.now result out.old scope.old }
 {
     let one = has_one(pattern);
     let mut place = place;
@@ -95,11 +80,7 @@ fn write_placeable<'p, 's, W: Write, C: FluentType, F: FluentFunction<C>, B: Con
     requires left { budget_view scope.old.budget ≢ struck }
     requires placed { IsPlaced scope.old.ids.now (in_expression (expression_view expression.now))
         place }
-    ensures { let at = state B.meant B.is_plain F.answer C.content in
-        Wrote result
-        (λ b below env path. part with_work b below env path one
-        (placeable (expression_view expression.now)))
-        (sink W.contents out.old) (sink W.contents out.new) (at scope.old) (at scope.new) }
+    ensures { ⟦<W as Says<C, F, B>>⟧.part one expression.now result out.old out.new scope.old scope.new }
 {
     if !scope.take_one() {
         scope.add_error(ResolverError::TooManyPlaceables)?;

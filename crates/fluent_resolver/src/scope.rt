@@ -4,9 +4,12 @@
 ghost use Rattle.std.specs.Prelude.{◌≡◌, true};
 ghost use Rattle.fluent_state.specs.Trail.{is_idle};
 
+use crate::scope_says::Tells;
 use fluent_entries::Ids;
 use fluent_state::{Counts, State};
-use fluent_values::{Context, FluentArgs, FluentError, FluentFunction, FluentType, HasBundle, ResolverError};
+use fluent_values::{
+    Context, FluentArgs, FluentError, FluentFunction, FluentType, HasBundle, ResolverError,
+};
 use std::alloc::AllocError;
 
 /// The state of one formatting call between the calls that resolve a part of a pattern: its bundle, where its
@@ -28,15 +31,11 @@ impl<'errors, 'p, 'r, 's, 'args, C: FluentType, F: FluentFunction<C>, B: Context
     F,
     B,
 > {
-    ghost use Rattle.std.specs.Prelude.{◌≡◌, ◌↔◌, ◌∷◌, [], IfNone, IsOk, IsTrue, map};
-    ghost use Rattle.std.specs.Option.{option_map};
-    ghost use Rattle.fluent_meaning.specs.Errors.{resolver_error};
+    ghost use Rattle.std.specs.Prelude.{◌≡◌, ◌↔◌, IfNone, IsOk, IsTrue};
     ghost use Rattle.fluent_meaning.specs.Meaning.{struck};
-    ghost use Rattle.fluent_values.specs.View.{error_view, resolver_error_view};
-    ghost use Rattle.fluent_entries.specs.EntryView.{ids as ids_of};
-    ghost use Rattle.fluent_state.specs.Status.{arguments_view, with_ids};
-    ghost use Rattle.fluent_resolver.specs.ScopeView.{bundle_in, counts_in, errors_in, scope_parts, status};
-    ghost use Rattle.fluent_state.specs.Along.{ReportsIfOk, IsAtStart};
+    ghost use Rattle.fluent_values.specs.View.{resolver_error_view};
+    ghost use Rattle.fluent_resolver.specs.ScopeSaid.{listed};
+    ghost use Rattle.fluent_resolver.specs.ScopeView.{bundle_in, counts_in, errors_in, scope_parts};
 
     /// The state in which a call begins, with the whole budget of its bundle, whose ids it is handed too. Errors
     /// are added at the end of the list, if there is one. Without arguments each variable is missing. It takes no
@@ -50,9 +49,7 @@ impl<'errors, 'p, 'r, 's, 'args, C: FluentType, F: FluentFunction<C>, B: Context
         ensures bundle { bundle_in result ≡ bundle.entry }
         ensures errors { errors_in result ≡ errors.entry }
         ensures ids { (scope_parts result).ids ≡ ids.now }
-        ensures begins { let at = status B.meant B.is_plain F.answer C.content in
-            IsAtStart (at result) (with_ids (B.meant bundle.now) (ids_of F.answer ids.now))
-            (arguments_view C.content args.entry) }
+        ensures begins { ⟦<Self as Tells>⟧.begins bundle.now ids.now args.entry result }
     {
         Scope {
             state: State::new(bundle, ids, args, errors),
@@ -68,8 +65,7 @@ impl<'errors, 'p, 'r, 's, 'args, C: FluentType, F: FluentFunction<C>, B: Context
 
     /// The list of errors, with those that the call added; `None` where it was given no list.
     pub fn errors(&self) -> Option<&[FluentError]>
-        ensures { option_map (λ list. map error_view list.now) result
-            ≡ (status B.meant B.is_plain F.answer C.content self.now).errors }
+        ensures { listed result ≡ (⟦<Self as Tells>⟧.at self.now).errors }
     {
         match &self.state.errors {
             Some(errors) => Some(errors.as_slice()),
@@ -87,8 +83,7 @@ impl<'errors, 'p, 'r, 's, 'args, C: FluentType, F: FluentFunction<C>, B: Context
 
     /// Whether a placeable past the limit was met.
     pub fn dirty(&self) -> bool
-        ensures { IsTrue result ↔ ((status B.meant B.is_plain F.answer C.content self.now).budget
-            ≡ struck) }
+        ensures { IsTrue result ↔ ((⟦<Self as Tells>⟧.at self.now).budget ≡ struck) }
     {
         self.state.dirty()
     }
@@ -106,9 +101,8 @@ impl<'errors, 'p, 'r, 's, 'args, C: FluentType, F: FluentFunction<C>, B: Context
     ///
     /// Memory was refused, which only a list can meet: it is as before.
     pub fn add_error(&mut self, error: ResolverError) -> Result<(), AllocError>
-        ensures added { let at = status B.meant B.is_plain F.answer C.content in
-            ReportsIfOk result (resolver_error (resolver_error_view error) ∷ []) (at self.old)
-            (at self.new) }
+        ensures added { ⟦<Self as Tells>⟧.reports (resolver_error_view error) result
+            self.old self.new }
         ensures bundle { bundle_in self.new ≡ bundle_in self.old }
         ensures succeeds { IfNone (errors_in self.old) (IsOk result) }
     {

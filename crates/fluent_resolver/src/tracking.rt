@@ -1,35 +1,32 @@
 //! The calls of a scope that resolve a part of a pattern by itself.
 #![tactic(auto, unfolding(crate::specs::ScopeView::scope_parts, fluent_state::specs::Status::state_parts))]
 
-ghost use Rattle.std.specs.Prelude.{◌≡◌, ◌≢◌, Err, IsOk, IsTrue, None, Some, map, true};
-ghost use Rattle.std.specs.Option.{option_map};
+ghost use Rattle.std.specs.Prelude.{◌≡◌, ◌≢◌, Err, IsOk, IsTrue, None, Some, true};
 ghost use Rattle.fluent_tree.specs.Tree.{Inline};
-ghost use Rattle.fluent_tree.specs.View.{arguments_view, expression_view, inline_view, pattern_view};
+ghost use Rattle.fluent_tree.specs.View.{arguments_view, inline_view};
 ghost use Rattle.fluent_meaning.specs.Errors.{reference_of};
-ghost use Rattle.fluent_meaning.specs.Result.{maybe_tracked, tracked};
-ghost use Rattle.fluent_state.specs.Along.{Got, Wrote};
-ghost use Rattle.fluent_state.specs.Status.{state};
-ghost use Rattle.fluent_resolver.specs.ScopeView.{bundle_in, status};
+ghost use Rattle.fluent_resolver.specs.ScopeSaid.{given_view};
+ghost use Rattle.fluent_resolver.specs.ScopeView.{bundle_in};
 ghost use Rattle.fluent_state.specs.Trail.{is_idle};
-ghost use Rattle.fluent_resolver.specs.Tracking.{Runs, are_none, called_run, calling, closes, losing, lost_run, maybe_tracks, tracks};
-ghost use Rattle.fluent_values.specs.View.{named, value_view};
-ghost use Rattle.fluent_values.specs.Written.{sink, writer, without_error};
+ghost use Rattle.fluent_resolver.specs.Tracking.{are_none};
 
 use crate::arguments::resolve_call;
 use crate::expression::write_expression;
 use crate::pattern::write_pattern;
+use crate::says::Says;
 use crate::scope::Scope;
+use crate::scope_says::{Tells, Tracks};
 use fluent_links::Place;
-use fluent_meaning::laws::{budgets_pass_through, calls_pass_through};
 use fluent_state::State;
+use fluent_state::laws::{calls_are_walks, references_are_walked};
 use fluent_state::lost::lose;
+use fluent_state::output::through;
 use fluent_state::placeable::put_ending;
 use fluent_text::{Counting, WriteFault};
 use fluent_tree::ast::{CallArguments, Expression, InlineExpression, Pattern};
 use fluent_values::output::{Halt, Output, with_error};
 use fluent_values::{Context, FluentArgs, FluentFunction, FluentType, FluentValue};
 use std::alloc::AllocError;
-use std::collections::LinkedList;
 use std::io::Write;
 
 impl<'p, 's, C: FluentType, F: FluentFunction<C>, B: Context<C>> Scope<
@@ -56,24 +53,14 @@ impl<'p, 's, C: FluentType, F: FluentFunction<C>, B: Context<C>> Scope<
         pattern: &'p Pattern<'s>,
         inline: &InlineExpression<'_>,
     ) -> Result<(), WriteFault>
-        ensures wrote { let at = status B.meant B.is_plain F.answer C.content in
-            Wrote (without_error result) (tracks (pattern_view pattern.now)
-            (inline_view inline.now))
-            (writer W.contents w.old) (writer W.contents w.new) (at self.old) (at self.new) }
-        ensures runs { let at = status B.meant B.is_plain F.answer C.content in
-            let p = pattern_view pattern.now in
-            let x = inline_view inline.now in
-            Runs (at self.old) (tracks p x) (λ b env path. tracked b env path p x) }
+        ensures wrote { ⟦<Self as Tracks<W>>⟧.tracked pattern.now inline.now result w.old w.new
+            self.old self.new }
+        ensures runs { ⟦<Self as Tells>⟧.tracks pattern.now inline.now self.old }
         ensures bundle { bundle_in self.new ≡ bundle_in self.old }
     {
-        calls_pass_through::<LinkedList<u8>>();
+        calls_are_walks();
         let mut unused = String::new(self.state.bundle.allocator());
-        let mut out = Output {
-            writer: w,
-            buffer: &mut unused,
-            is_buffered: false,
-            error: None,
-        };
+        let mut out = through(w, &mut unused);
         let written = write_tracked(&mut self.state, &mut out, pattern);
         with_error(written, out.error)
     }
@@ -93,24 +80,14 @@ impl<'p, 's, C: FluentType, F: FluentFunction<C>, B: Context<C>> Scope<
         pattern: &'p Pattern<'s>,
         expression: &'p Expression<'s>,
     ) -> Result<(), WriteFault>
-        ensures wrote { let at = status B.meant B.is_plain F.answer C.content in
-            Wrote (without_error result) (maybe_tracks (pattern_view pattern.now)
-            (expression_view expression.now))
-            (writer W.contents w.old) (writer W.contents w.new) (at self.old) (at self.new) }
-        ensures runs { let at = status B.meant B.is_plain F.answer C.content in
-            let p = pattern_view pattern.now in
-            let e = expression_view expression.now in
-            Runs (at self.old) (maybe_tracks p e) (λ b env path. maybe_tracked b env path p e) }
+        ensures wrote { ⟦<Self as Tracks<W>>⟧.maybe_tracked pattern.now expression.now result
+            w.old w.new self.old self.new }
+        ensures runs { ⟦<Self as Tells>⟧.maybe_tracks pattern.now expression.now self.old }
         ensures bundle { bundle_in self.new ≡ bundle_in self.old }
     {
-        calls_pass_through::<LinkedList<u8>>();
+        calls_are_walks();
         let mut unused = String::new(self.state.bundle.allocator());
-        let mut out = Output {
-            writer: w,
-            buffer: &mut unused,
-            is_buffered: false,
-            error: None,
-        };
+        let mut out = through(w, &mut unused);
         let written = write_maybe_tracked(&mut self.state, &mut out, pattern, expression);
         with_error(written, out.error)
     }
@@ -129,23 +106,14 @@ impl<'p, 's, C: FluentType, F: FluentFunction<C>, B: Context<C>> Scope<
         w: &mut Counting<W>,
         inline: &InlineExpression<'_>,
     ) -> Result<(), WriteFault>
-        ensures wrote { let at = status B.meant B.is_plain F.answer C.content in
-            Wrote (without_error result) (losing (inline_view inline.now))
-            (writer W.contents w.old) (writer W.contents w.new) (at self.old) (at self.new) }
-        ensures runs { let at = status B.meant B.is_plain F.answer C.content in
-            let x = inline_view inline.now in
-            Runs (at self.old) (losing x) (λ b env path. lost_run x) }
+        ensures wrote { ⟦<Self as Tracks<W>>⟧.lost inline.now result w.old w.new self.old self.new }
+        ensures runs { ⟦<Self as Tells>⟧.loses inline.now self.old }
         ensures bundle { bundle_in self.new ≡ bundle_in self.old }
         ensures memory { reference_of (inline_view inline.now) ≡ None →
             result ≢ Err WriteFault.Memory }
     {
         let mut unused = String::new(self.state.bundle.allocator());
-        let mut out = Output {
-            writer: w,
-            buffer: &mut unused,
-            is_buffered: false,
-            error: None,
-        };
+        let mut out = through(w, &mut unused);
         let written = lose(&mut self.state, &mut out, inline);
         with_error(written, out.error)
     }
@@ -161,19 +129,12 @@ impl<'p, 's, C: FluentType, F: FluentFunction<C>, B: Context<C>> Scope<
         &mut self,
         arguments: Option<&'p CallArguments<'s>>,
     ) -> Result<(Vec<FluentValue<'p, C>>, FluentArgs<'p, C>), AllocError>
-        ensures got { let at = status B.meant B.is_plain F.answer C.content in
-            let given = option_map (λ a. arguments_view a.now) arguments.entry in
-            Got result (λ v. (map (value_view C.content) v.0.items, named C.content v.1))
-            (calling given)
-            (at self.old) (at self.new) }
-        ensures runs { let at = status B.meant B.is_plain F.answer C.content in
-            let given = option_map (λ a. arguments_view a.now) arguments.entry in
-            Runs (at self.old) (calling given) (λ b env path. called_run b env path given) }
+        ensures got { ⟦<Self as Tells>⟧.called arguments.entry result self.old self.new }
+        ensures runs { ⟦<Self as Tells>⟧.calls arguments.entry self.old }
         ensures bundle { bundle_in self.new ≡ bundle_in self.old }
-        ensures succeeds { let given = option_map (λ a. arguments_view a.now) arguments.entry in
-            IsTrue (are_none given) → IsOk result }
+        ensures succeeds { IsTrue (are_none (given_view arguments.entry)) → IsOk result }
     {
-        calls_pass_through::<LinkedList<u8>>();
+        calls_are_walks();
         let alloc = self.state.bundle.allocator();
         let Some(arguments) = arguments else {
             return Ok((Vec::new(alloc), FluentArgs::new(alloc)));
@@ -203,11 +164,10 @@ fn write_tracked<'p, 's, W: Write, C: FluentType, F: FluentFunction<C>, B: Conte
     pattern: &'p Pattern<'s>,
 ) -> Result<(), Halt>
     requires { is_idle scope.old.path ≡ true }
-    ensures { let at = state B.meant B.is_plain F.answer C.content in
-        (x : Inline) → Wrote result (tracks (pattern_view pattern.now) x)
-        (sink W.contents out.old) (sink W.contents out.new) (at scope.old) (at scope.new) }
+    ensures { (x : Inline) → ⟦<W as Says<C, F, B>>⟧.tracked pattern.now x result out.old out.new
+        scope.old scope.new }
 {
-    budgets_pass_through::<LinkedList<u8>>();
+    references_are_walked();
     write_pattern(scope, out, pattern, Place::by_name())
 }
 
@@ -218,9 +178,8 @@ fn write_maybe_tracked<'p, 's, W: Write, C: FluentType, F: FluentFunction<C>, B:
     pattern: &'p Pattern<'s>,
     expression: &'p Expression<'s>,
 ) -> Result<(), Halt>
-    ensures { let at = state B.meant B.is_plain F.answer C.content in
-        Wrote result (maybe_tracks (pattern_view pattern.now) (expression_view expression.now))
-        (sink W.contents out.old) (sink W.contents out.new) (at scope.old) (at scope.new) }
+    ensures { ⟦<W as Says<C, F, B>>⟧.maybe_tracked pattern.now expression.now result out.old out.new
+        scope.old scope.new }
 {
     let begun = scope.begin(pattern);
     let written = write_closed(scope, out, expression);
@@ -234,9 +193,7 @@ fn write_closed<'p, 's, W: Write, C: FluentType, F: FluentFunction<C>, B: Contex
     out: &mut Output<W>,
     expression: &'p Expression<'s>,
 ) -> Result<(), Halt>
-    ensures { let at = state B.meant B.is_plain F.answer C.content in
-        Wrote result (closes (expression_view expression.now))
-        (sink W.contents out.old) (sink W.contents out.new) (at scope.old) (at scope.new) }
+    ensures { ⟦<W as Says<C, F, B>>⟧.closed expression.now result out.old out.new scope.old scope.new }
 {
     write_expression(scope, out, expression, Place::by_name())?;
     put_ending(out, expression, scope.budget)

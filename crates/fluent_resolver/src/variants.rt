@@ -1,18 +1,13 @@
 //! Which variant of a select a value goes to.
 #![tactic(auto, unfolding(fluent_state::specs::Status::state_parts))]
 
-ghost use Rattle.std.specs.Prelude.{IfOk, map};
-ghost use Rattle.fluent_tree.specs.References.{in_expression};
-ghost use Rattle.fluent_tree.specs.Tree.{select, variants_of};
-ghost use Rattle.fluent_tree.specs.View.{inline_view, variant_view};
-ghost use Rattle.fluent_state.specs.Along.{Gave};
-ghost use Rattle.fluent_state.specs.Choice.{choosing};
-ghost use Rattle.fluent_state.specs.ChosenView.{BeginsAt, chosen_view};
+ghost use Rattle.std.specs.Prelude.{IfOk};
+ghost use Rattle.fluent_state.specs.ChosenView.{BeginsAt};
 ghost use Rattle.fluent_entries.specs.Numbered.{IsPlaced, numbers};
-ghost use Rattle.fluent_state.specs.Status.{state};
-ghost use Rattle.fluent_values.specs.Written.{writer};
+ghost use Rattle.fluent_resolver.specs.Said.{in_select};
 
 use crate::arguments::resolve;
+use crate::says::Gives;
 use fluent_links::Place;
 use fluent_state::State;
 use fluent_state::variants::{Chosen, choose, choose_by_variable};
@@ -31,12 +26,9 @@ pub(crate) fn choose_variant<'p, 's, W: Write, C: FluentType, F: FluentFunction<
     variants: &'p [Variant<'s>],
     place: Place<'p>,
 ) -> Result<Option<Chosen<'p, 's>>, Halt>
-    requires { let vs = variants_of (map variant_view variants.now) in
-        IsPlaced scope.old.ids.now (in_expression (select (inline_view selector.now) vs)) place }
-    ensures chose { let at = state B.meant B.is_plain F.answer C.content in
-        let vs = variants_of (map variant_view variants.now) in
-        Gave result chosen_view (choosing (inline_view selector.now) vs)
-        (writer W.contents w.old) (writer W.contents w.new) (at scope.old) (at scope.new) }
+    requires { IsPlaced scope.old.ids.now (in_select selector.now variants.now) place }
+    ensures chose { ⟦<W as Gives<C, F, B>>⟧.choice selector.now variants.now result w.old w.new
+        scope.old scope.new }
     ensures placed { IfOk result (λ chosen. BeginsAt (numbers scope.old.ids.now) chosen) }
 {
     match selector {
@@ -57,12 +49,9 @@ fn choose_by_value<'p, 's, W: Write, C: FluentType, F: FluentFunction<C>, B: Con
     variants: &'p [Variant<'s>],
     place: Place<'p>,
 ) -> Result<Option<Chosen<'p, 's>>, Halt>
-    requires { let vs = variants_of (map variant_view variants.now) in
-        IsPlaced scope.old.ids.now (in_expression (select (inline_view selector.now) vs)) place }
-    ensures chose { let at = state B.meant B.is_plain F.answer C.content in
-        let vs = variants_of (map variant_view variants.now) in
-        Gave result chosen_view (choosing (inline_view selector.now) vs)
-        (writer W.contents w.old) (writer W.contents w.new) (at scope.old) (at scope.new) }
+    requires { IsPlaced scope.old.ids.now (in_select selector.now variants.now) place }
+    ensures chose { ⟦<W as Gives<C, F, B>>⟧.choice selector.now variants.now result w.old w.new
+        scope.old scope.new }
     ensures placed { IfOk result (λ chosen. BeginsAt (numbers scope.old.ids.now) chosen) }
 {
     let value = resolve(scope, w, selector, place)?;

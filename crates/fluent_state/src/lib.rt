@@ -9,6 +9,7 @@ pub mod found;
 pub mod gathered;
 pub mod laws;
 pub mod lost;
+pub mod output;
 pub mod path;
 pub mod placeable;
 mod says;

@@ -33,7 +33,7 @@ use Rattle.fluent_values.specs.Facts.Outputs.{still}
 use Rattle.fluent_state.specs.Facts.Passing.{passed_still, keeps_elsewhere, keeps_around, keeps_back, entered_counts}
 use Rattle.fluent_state.specs.Facts.Lists.{next_of, none_left}
 use Rattle.fluent_state.specs.Facts.Lookups.{answering, writing, resolving}
-use Rattle.fluent_resolver.proofs.Steps.{inline_at, cyclic_at, entered_at, begun_at, back, term_at, inside, inside_at, left_again, selecting_at, chosen_walk, function_at, answered_value, wholing, elementing, following, giving, giving_all, giving_text, giving_placeable, giving_end, giving_struck, no_placeable, expressing, locals, valued, place_walk, label_walk, placing_next, placing_end, placing_more, labelled, labelling_next, labelling_end, labelling_more, named_in, naming_after, pairing, calling_at, set_all_next}
+use Rattle.fluent_resolver.proofs.Steps.{inline_at, cyclic_at, entered_at, begun_at, back, term_at, inside, inside_at, left_again, selecting_at, chosen_walk, function_at, answered_value, elementing, following, giving, giving_all, giving_text, giving_placeable, giving_end, giving_struck, no_placeable, expressing, locals, valued, place_walk, label_walk, placing_next, placing_end, placing_more, labelled, labelling_next, labelling_end, labelling_more, named_in, naming_after, pairing, calling_at, set_all_next}
 use Rattle.fluent_values.specs.Facts.Took.{at_err, at_ok, took_same}
 use Rattle.fluent_state.specs.Facts.Values.{gave_outward, asks, ask_stops, misses, begins, reads, gets, gets_part, got_if, got_as, got_part_as, misses_as, rests_memory, rests_same, rests_err, rests_ok, rests_on, by_buffer, as_got, beside_rests, got, gathers_none, gathers_as, gathers_same, gathers_one, gathers_part, gathers_all, gathers_stops, gathers_stops_as}
 use Rattle.fluent_state.specs.Facts.Views.{view_pattern, view_text_in, view_placeable_in, view_string_in, view_number_in, view_message_in, view_nested_in, view_function_in, view_in, view_select_in, view_term_in, view_variable_in, view_arguments, view_written}
@@ -141,7 +141,7 @@ inline_expression::go-returns g t c =
     let counts = ap (λ n. adding n (trace (from_here b walk))) (at_ok c.in_ok-put.was enters.tally) ∙ entered_counts a.tally under (trace (from_here b walk)) in
     wrote (lends enters.elsewhere.errors after.errors counts refl c.leave.ensures.tally after.budget
     (keeps_around enters.elsewhere kept after (left_again c.enter.result c.in_ok-put.put p c.in_ok-put.was enters kept.path c.leave.ensures))
-    w (turns (entered_at c.budgets_pass_through.ensures.counts c.enter.result c.in_ok-put.put a b x p (sym c.is_on.ensures ∙ c.if-is_on.false) c.in_ok-put.was enters) (starts a _ _)))
+    w (turns (entered_at c.references_are_walked.ensures.counts c.enter.result c.in_ok-put.put a b x p (sym c.is_on.ensures ∙ c.if-is_on.false) c.in_ok-put.was enters) (starts a _ _)))
 
 pub pattern::write_pattern-returns-clause-wrote : goal.pattern::write_pattern-returns-clause-wrote
 unfolding state_parts

@@ -21,13 +21,13 @@ pub returns-in-Ok-clause-runs : goal.returns-in-Ok-clause-runs
 unfolding scope_parts state_parts
 returns-in-Ok-clause-runs g c =
     let a = status g.B.Context.meant g.B.Context.is_plain g.F.FluentFunction.answer g.C.FluentType.content c.args.self.now in
-    calling_runs c.calls_pass_through.ensures a (option_map (λ k. arguments_view k.now) c.args.arguments)
+    calling_runs c.calls_are_walks.ensures a (option_map (λ k. arguments_view k.now) c.args.arguments)
 
 pub returns-clause-runs : goal.returns-clause-runs
 unfolding scope_parts state_parts
 returns-clause-runs g c =
     let a = status g.B.Context.meant g.B.Context.is_plain g.F.FluentFunction.answer g.C.FluentType.content c.args.self.now in
-    calling_runs c.calls_pass_through.ensures a (option_map (λ k. arguments_view k.now) c.args.arguments)
+    calling_runs c.calls_are_walks.ensures a (option_map (λ k. arguments_view k.now) c.args.arguments)
 
 pub returns-in_default-clause-bundle : goal.returns-in_default-clause-bundle
 unfolding scope_parts state_parts

@@ -10,7 +10,7 @@ pub returns-clause-runs : goal.returns-clause-runs
 unfolding scope_parts state_parts
 returns-clause-runs g c =
     let a = status g.B.Context.meant g.B.Context.is_plain g.F.FluentFunction.answer g.C.FluentType.content c.args.self.now in
-    sym (c.calls_pass_through.ensures.placeable a.bundle a.environment a.path (pattern_view c.args.pattern.now) (expression_view c.args.expression.now) a.budget)
+    sym (c.calls_are_walks.ensures.placeable a.bundle a.environment a.path (pattern_view c.args.pattern.now) (expression_view c.args.expression.now) a.budget)
 
 pub returns-clause-bundle : goal.returns-clause-bundle
 unfolding scope_parts state_parts

@@ -1,5 +1,5 @@
 use Rattle.fluent_entries.specs.Numbered.{table}
-use Rattle.std.proofs.Common.{ap, refl, sym, ◌∙◌}
+use Rattle.std.proofs.Common.{ap, sym, ◌∙◌}
 use Rattle.fluent_tree.specs.View.{inline_view}
 use Rattle.fluent_state.specs.Status.{state_parts}
 use Rattle.fluent_resolver.specs.ScopeView.{scope_parts, status}
@@ -20,7 +20,7 @@ returns-clause-bundle g c = c.lose-written.ensures.wrote.went.along.passed.keeps
 
 pub returns-clause-memory : goal.returns-clause-memory
 unfolding scope_parts state_parts
-returns-clause-memory g c = λ none is. c.lose-written.ensures.memory none refl (sym c.with_error.ensures ∙ ap without_error is)
+returns-clause-memory g c = λ none is. c.lose-written.ensures.memory none c.through-out.ensures.through (sym c.with_error.ensures ∙ ap without_error is)
 
 pub invariant_of-self : goal.invariant_of-self
 unfolding scope_parts state_parts
