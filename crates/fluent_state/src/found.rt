@@ -130,6 +130,7 @@ impl<'p, 's> Target<'p, 's> {
 }
 
 /// What a function answers; `None` where the id names none.
+#[inline(always)]
 pub fn answer_of<'a, C: FluentType, F: FluentFunction<C>>(
     ids: &Ids<'_, '_, F>,
     alloc: Global,

@@ -26,6 +26,7 @@ impl<'a, C: FluentType> Gathered<'a, C> {
     ghost use Rattle.fluent_state.specs.Gathered.{gathered, with_value};
 
     /// None, where so many are expected. Takes no memory yet.
+    #[inline(always)]
     pub fn new(alloc: Global, expected: usize) -> Gathered<'a, C>
         ensures { gathered C.content result ≡ [] }
     {
@@ -41,6 +42,7 @@ impl<'a, C: FluentType> Gathered<'a, C> {
     /// # Errors
     ///
     /// Memory was refused.
+    #[inline(always)]
     pub fn set(&mut self, name: CowStr<'a>, value: FluentValue<'a, C>) -> Result<(), AllocError>
         ensures { OnOk result (gathered C.content self.new
             ≡ with_value C.content name.entry value.entry (gathered C.content self.old)) }
@@ -59,6 +61,7 @@ impl<'a, C: FluentType> Gathered<'a, C> {
     /// # Errors
     ///
     /// Memory was refused.
+    #[inline(always)]
     pub fn finish(self, alloc: Global) -> Result<FluentArgs<'a, C>, AllocError>
         ensures { IfOk result (λ args. named C.content args ≡ gathered C.content self.entry) }
     {
@@ -84,6 +87,7 @@ fn in_order<'a, C: FluentType>(
 }
 
 /// Adds a value at the end.
+#[inline(always)]
 pub fn push_value<'p, C: FluentType>(
     values: &mut Vec<FluentValue<'p, C>>,
     value: FluentValue<'p, C>,

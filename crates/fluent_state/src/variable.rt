@@ -47,6 +47,7 @@ pub fn write_variable<W: Write, C: FluentType, F: FluentFunction<C>, B: Context<
 
 /// A copy of a variable's value. One that is missing is an error value, with the error that it has where it is
 /// written.
+#[inline(always)]
 pub fn resolve_variable<'p, C: FluentType, F: FluentFunction<C>, B: Context<C>>(
     scope: &mut State<'_, 'p, '_, '_, '_, C, F, B>,
     inline: &InlineExpression<'_>,
@@ -86,6 +87,7 @@ pub(crate) fn argument<'p, 'args, C: FluentType>(
 }
 
 /// A copy of a value that borrows its text.
+#[inline(always)]
 fn lent<'v, C: FluentType>(
     alloc: Global,
     value: &'v FluentValue<'_, C>,

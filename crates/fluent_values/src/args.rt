@@ -116,6 +116,7 @@ impl<'a, C: FluentType> FluentArgs<'a, C> {
     }
 
     /// Where a name stands, or else where it belongs.
+    #[inline(always)]
     fn place_of(&self, name: &str) -> Result<usize, usize>
         ensures { IsPlaceOf name.now self.now.pairs.items result }
     {
