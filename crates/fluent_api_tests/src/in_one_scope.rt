@@ -233,7 +233,7 @@ fn asks_twice<'p, 's>(
 }
 
 /// Makes a call in a new scope.
-fn is_as_before<'p, 'r, 's>(
+fn is_as_before<'p, 'r, 's: 'r>(
     rt: &impl Abort,
     alloc: Global,
     bundle: &'p Bundle<'r, 's>,
@@ -243,14 +243,10 @@ fn is_as_before<'p, 'r, 's>(
 ) -> Result<(), AllocError> {
     let mut errors = Vec::new(alloc);
     let mut scope = Scope::new(bundle, bundle.ids(), Some(args), Some(&mut errors));
-    let asked = asks_twice(rt, alloc, &mut scope, row, parts);
-    match scope.into_errors() {
-        Some(_list) => asked,
-        None => asked,
-    }
+    asks_twice(rt, alloc, &mut scope, row, parts)
 }
 
-fn are_as_before<'p, 'r, 's>(
+fn are_as_before<'p, 'r, 's: 'r>(
     rt: &impl Abort,
     alloc: Global,
     bundle: &'p Bundle<'r, 's>,
@@ -274,18 +270,8 @@ fn parts_are_resolved_in_a_scope(rt: HostRuntime) -> Result<(), Fail> {
 
 // ---- the limit
 
-fn strikes<'p, 's>(
-    rt: &impl Abort,
-    scope: &mut Scoped<'_, 'p, '_, 's>,
-    w: &mut Counting<Vec<u8>>,
-    parts: Parts<'p, 's>,
-) -> bool {
-    let answer = scope.track(w, parts.pattern, parts.inline);
-    is_whole(rt, answer, "a") && scope.dirty() && scope.counts().opened == 2
-}
-
 /// A call whose budget is two, and is struck at the third placeable.
-fn is_struck<'p, 'r, 's>(
+fn is_struck<'p, 'r, 's: 'r>(
     rt: &impl Abort,
     alloc: Global,
     bundle: &'p Bundle<'r, 's>,
@@ -294,12 +280,9 @@ fn is_struck<'p, 'r, 's>(
 ) -> Result<(), AllocError> {
     let mut w = Counting::new(Vec::with_capacity(alloc, 200)?);
     let mut scope = Scope::new(bundle, bundle.ids(), None, Some(errors));
-    let is_right = strikes(rt, &mut scope, &mut w, parts);
-    check(
-        rt,
-        scope.into_errors().is_some() && is_right,
-        "a struck limit",
-    );
+    let answer = scope.track(&mut w, parts.pattern, parts.inline);
+    let is_right = is_whole(rt, answer, "a") && scope.dirty() && scope.counts().opened == 2;
+    check(rt, is_right, "a struck limit");
     let text = "xt\u{2068}1\u{2069}{-t}";
     is_taken(rt, w.into_inner().as_slice(), text, true);
     Ok(())

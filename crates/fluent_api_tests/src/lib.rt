@@ -27,6 +27,8 @@ mod headline;
 #[cfg(test)]
 mod in_one_scope;
 #[cfg(test)]
+mod linted;
+#[cfg(test)]
 mod lists;
 #[cfg(test)]
 mod made;
@@ -40,3 +42,5 @@ mod refusing;
 mod taken;
 #[cfg(test)]
 mod trees;
+#[cfg(test)]
+mod values;

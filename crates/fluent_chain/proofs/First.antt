@@ -1,8 +1,10 @@
 -- The first bundle that has a pattern.
-use Rattle.std.proofs.Common.{◌≡◌, ◌∙◌, sym, ap, subst, refl, List, [], ◌∷◌, append-nil, map, Option, Some, None, Result, Ok, Err, OnOk, OnErr, IfOk, String, string_bytes, Global}
-use Rattle.std.specs.Prelude.{is_some, ◌||◌}
+use Rattle.std.proofs.Common.{◌≡◌, ◌∙◌, sym, ap, subst, refl, ℕ, Bool, true, false, cond, suc, zero, ◌+◌, ◌≤◌, add-one, length, List, [], ◌∷◌, append-nil, map, drop, Option, Some, None, Result, Ok, Err, OnOk, OnErr, IfOk, String, string_bytes, Global}
+use Rattle.std.specs.Prelude.{is_some, ◌||◌, slice_get}
 use Rattle.std.specs.Cow.{cow_str_bytes}
-use Rattle.std.specs.List.{list_any}
+use Rattle.std.specs.List.{list_any, position_from}
+use Rattle.std.proofs.Math.Seq.{drop-nil}
+use Rattle.std.proofs.Math.ListN.{drop_of_length-le}
 use Rattle.std.specs.Option.{option_map}
 use Rattle.std.specs.Io.KnownBytes.{Appends}
 use Rattle.fluent_text.specs.Taken.{TookFront}
@@ -18,7 +20,6 @@ use Rattle.fluent_meaning.specs.Bundle.{Bundle}
 use Rattle.fluent_meaning.specs.Value.{Value}
 use Rattle.fluent_chain.specs.Chain.{or_others, first_with}
 use Rattle.fluent_chain.specs.ChainCalls.{Errors, GivesFound, GivesOwned, WritesFound}
-use Rattle.fluent_chain.specs.Inside.Found.{Found, bundle_found}
 
 -- a bundle that has none is passed over
 pub first_with-none : {B : Type 0} (has : B → Option Pattern) (b : B) (bs : List B) → has b ≡ None → first_with has (b ∷ bs) ≡ first_with has bs
@@ -47,17 +48,17 @@ module _ {A B : Type 0} (of : A → B) (has : B → Option Pattern) where
   first_with-found as' found is = first_with-map as' ∙ ap (option_map seen) (sym is)
 
 -- whether there is one
-is_some-or_others : {B : Type 0} (b : B) (o : Option Pattern) (others : Option (B × Pattern)) → is_some (or_others b o others) ≡ is_some o || is_some others
-is_some-or_others b (Some p) others = refl
-is_some-or_others b None others = refl
+is_some-cond : (t : Bool) (i : ℕ) (r : Option ℕ) (rest : Bool) → is_some r ≡ rest → is_some (cond t (Some i) r) ≡ (t || rest)
+is_some-cond true i r rest h = refl
+is_some-cond false i r rest h = h
 
-pub is_some-bundle_found : {B : Type 0} (found : Found B) → is_some (bundle_found found) ≡ is_some found
-is_some-bundle_found None = refl
-is_some-bundle_found (Some x) = refl
+pub is_some-position : {B : Type 0} (test : B → Bool) (i : ℕ) (bs : List B) → is_some (position_from test i bs) ≡ list_any test bs
+is_some-position test i [] = refl
+is_some-position test i (b ∷ bs) = is_some-cond (test b) i (position_from test (i + 1) bs) (list_any test bs) (is_some-position test (i + 1) bs)
 
-pub is_some-first_with : {B : Type 0} (has : B → Option Pattern) (bs : List B) → is_some (first_with has bs) ≡ list_any (λ b. is_some (has b)) bs
-is_some-first_with has [] = refl
-is_some-first_with has (b ∷ bs) = is_some-or_others b (has b) (first_with has bs) ∙ ap (λ o. is_some (has b) || o) (is_some-first_with has bs)
+pub is_some-map : {A B : Type 0} (f : A → B) (o : Option A) → is_some (option_map f o) ≡ is_some o
+is_some-map f None = refl
+is_some-map f (Some x) = refl
 
 -- what is said of the bundle that was found is said of what it means
 pub gives_of : {A : Type 0} (of : A → Bundle Text) (has : Bundle Text → Option Pattern) (as' : List A) (found : Option (A × Pattern)) → found ≡ first_with (λ a. has (of a)) as'
@@ -93,3 +94,59 @@ front_alone (Err e) piece text held held' list same took left = record { front =
 pub owned : {D : Type 0} (all : Text) (errors : List Error) (text : CowStr Global) (r : Result (String Global) AllocError) (list list' : List FluentError) → GivesText {E = D} all errors (Ok text) list list' → IfOk r (λ s. string_bytes s ≡ cow_str_bytes text) → GivesOwned all errors r list list'
 owned all errors text (Ok s) list list' gives same = record { text = same ∙ gives.text; adds = gives.adds }
 owned all errors text (Err e) list list' gives same = record { text = tt; adds = tt }
+
+-- ---- bundles that are asked by their places
+
+-- what stands at an index begins what is left
+pub drop-at : {X : Type 0} (xs : List X) (i : ℕ) (x : X) → slice_get xs i ≡ Some x → drop i xs ≡ x ∷ drop (suc i) xs
+drop-at [] i x h = absurd (cc h)
+drop-at (y ∷ ys) zero x h = ap (λ z. z ∷ ys) (cc h)
+drop-at (y ∷ ys) (suc i) x h = drop-at ys i x h
+
+drop-none : {X : Type 0} (xs : List X) (i : ℕ) → slice_get xs i ≡ None → drop (suc i) xs ≡ drop i xs
+drop-none [] i h = drop-nil (suc i) ∙ sym (drop-nil i)
+drop-none (x ∷ xs) zero h = cc
+drop-none (x ∷ xs) (suc i) h = drop-none xs i h
+
+module _ {B : Type 0} (has : B → Option Pattern) (bs : List B) (i : ℕ) (first : first_with has (drop i bs) ≡ first_with has bs) where
+  next : first_with has (drop (suc i) bs) ≡ first_with has (drop i bs) → first_with has (drop (i + 1) bs) ≡ first_with has bs
+  next same = ap (λ n. first_with has (drop n bs)) (add-one i) ∙ same ∙ first
+
+  -- a bundle that has none is passed over
+  pub passes : (b : B) → slice_get bs i ≡ Some b → has b ≡ None → first_with has (drop (i + 1) bs) ≡ first_with has bs
+  passes b at none = next (sym (ap (first_with has) (drop-at bs i b at) ∙ first_with-none has b (drop (suc i) bs) none))
+
+  -- and so is a place where none stands
+  pub passes_end : slice_get bs i ≡ None → first_with has (drop (i + 1) bs) ≡ first_with has bs
+  passes_end none = next (ap (first_with has) (drop-none bs i none))
+
+  -- one that has a pattern is the first
+  pub answers : (b : B) (p : Pattern) → slice_get bs i ≡ Some b → has b ≡ Some p → Some (b, p) ≡ first_with has bs
+  answers b p at some = sym (ap (first_with has) (drop-at bs i b at) ∙ first_with-some has b p (drop (suc i) bs) some) ∙ first
+
+  -- at the end there is none
+  pub none_left : length bs ≤ i → None ≡ first_with has bs
+  none_left past = sym (ap (first_with has) (drop_of_length-le bs past)) ∙ first
+
+module _ {B : Type 0} (test : B → Bool) (bs : List B) (i : ℕ) (b : B) (at : slice_get bs i ≡ Some b) (place : Option ℕ) (first : position_from test i (drop i bs) ≡ place) where
+  here : cond (test b) (Some i) (position_from test (i + 1) (drop (suc i) bs)) ≡ place
+  here = sym (ap (position_from test i) (drop-at bs i b at)) ∙ first
+
+  pub place_here : test b ≡ true → Some i ≡ place
+  place_here there = sym (ap (λ t. cond t (Some i) (position_from test (i + 1) (drop (suc i) bs))) there) ∙ here
+
+  pub place_behind : test b ≡ false → position_from test (i + 1) (drop (i + 1) bs) ≡ place
+  place_behind gone =
+      ap (λ n. position_from test (i + 1) (drop n bs)) (add-one i)
+      ∙ sym (ap (λ t. cond t (Some i) (position_from test (i + 1) (drop (suc i) bs))) gone) ∙ here
+
+drop-end : {X : Type 0} (xs : List X) (i : ℕ) → slice_get xs i ≡ None → drop i xs ≡ []
+drop-end [] i h = drop-nil i
+drop-end (x ∷ xs) zero h = cc
+drop-end (x ∷ xs) (suc i) h = drop-end xs i h
+
+pub place_past : {B : Type 0} (test : B → Bool) (bs : List B) (i : ℕ) (place : Option ℕ) → slice_get bs i ≡ None → position_from test i (drop i bs) ≡ place → position_from test (i + 1) (drop (i + 1) bs) ≡ place
+place_past test bs i place none first =
+    ap (λ n. position_from test (i + 1) (drop n bs)) (add-one i)
+    ∙ ap (position_from test (i + 1)) (drop-none bs i none ∙ drop-end bs i none)
+    ∙ sym (ap (position_from test i) (drop-end bs i none)) ∙ first

@@ -1,5 +1,6 @@
 //! Bundles that are asked in turn.
-ghost use Rattle.std.specs.Prelude.{◌≡◌};
+ghost use Rattle.std.specs.Prelude.{◌≡◌, length, slice_get};
+ghost use Rattle.std.specs.Option.{option_map};
 ghost use Rattle.fluent_text.specs.Writer.{CountsFault};
 ghost use Rattle.fluent_chain.specs.ChainView.{bundles_of, linked};
 ghost use Rattle.fluent_chain.specs.Inside.Found.{pattern_seen};
@@ -39,13 +40,6 @@ pub struct Chain<'c, 'b, 'r, 's, M, C, F, G, T = Box<dyn Transform>> {
     bundles: Bundles<'c, 'b, 'r, 's, M, C, F, G, T>,
 }
 
-/// The place of a bundle in a chain, the bundle, and a pattern that it has.
-type Found<'b, 'r, 's, M, C, F, G, T> = (
-    usize,
-    &'b FluentBundle<'r, 's, M, C, F, G, T>,
-    &'r ast::Pattern<'s>,
-);
-
 impl<
     'c,
     'b,
@@ -79,7 +73,7 @@ impl<
     pub fn has_value(&self, id: &str) -> bool
         ensures { result ≡ ⟦<Self as Says>⟧.has self.now id.now None }
     {
-        self.found(id, None).is_some()
+        self.find_value(id).is_some()
     }
 
     /// Whether one of the bundles has a message of this id with an attribute of this name. Where none has, the id
@@ -87,7 +81,7 @@ impl<
     pub fn has_attribute(&self, id: &str, name: &str) -> bool
         ensures { result ≡ ⟦<Self as Says>⟧.has self.now id.now (Some name.entry) }
     {
-        self.found(id, Some(name)).is_some()
+        self.find_attribute(id, name).is_some()
     }
 
     /// Which bundle answers for the value of a message: its place among the bundles, from 0 on. `None` where none has
@@ -95,20 +89,14 @@ impl<
     pub fn find_value(&self, id: &str) -> Option<usize>
         ensures { result ≡ ⟦<Self as Says>⟧.place self.now id.now None }
     {
-        match self.found(id, None) {
-            Some((place, _, _)) => Some(place),
-            None => None,
-        }
+        self.find(id, None)
     }
 
     /// Which bundle answers for an attribute of a message, by the rule of [`Chain::find_value`].
     pub fn find_attribute(&self, id: &str, name: &str) -> Option<usize>
         ensures { result ≡ ⟦<Self as Says>⟧.place self.now id.now (Some name.entry) }
     {
-        match self.found(id, Some(name)) {
-            Some((place, _, _)) => Some(place),
-            None => None,
-        }
+        self.find(id, Some(name))
     }
 
     /// The value of the message in the first bundle where it has one, as [`FluentBundle::format_pattern`] gives it
@@ -204,7 +192,7 @@ impl<
     ///
     /// # Errors
     ///
-    /// As of [`FluentBundle::write_pattern`]. The id, and texts alone of a bundle without transform, take no memory.
+    /// As for [`FluentBundle::write_value`]. The id, and texts alone of a bundle without transform, take no memory.
     pub fn write_value<W: Write>(
         &self,
         w: &mut Counting<W>,
@@ -225,7 +213,7 @@ impl<
     ///
     /// # Errors
     ///
-    /// As of [`Chain::write_value`].
+    /// As for [`Chain::write_value`].
     pub fn write_attribute<W: Write>(
         &self,
         w: &mut Counting<W>,
@@ -256,10 +244,14 @@ impl<
             errors.old errors.new }
         ensures lent { ⟦<Self as Says>⟧.lends self.now id.now attribute.entry result }
     {
-        match self.found(id, attribute) {
-            Some((_, bundle, pattern)) => bundle.format_pattern(pattern, args, errors),
-            None => Ok(CowStr::Borrowed(id)),
+        for place in 0..self.len() {
+            if let Some(bundle) = self.bundle_at(place) {
+                if let Some(text) = Self::format_in(bundle, id, attribute, args, errors)? {
+                    return Ok(text);
+                }
+            }
         }
+        Ok(CowStr::Borrowed(id))
     }
 
     /// Writes the value of the message, or its attribute where a name is given, in the first bundle that has it, or the id.
@@ -276,51 +268,87 @@ impl<
         ensures fault { CountsFault w.old w.new result }
         ensures memory { ⟦<Self as Says>⟧.owes self.now id.now attribute.entry result }
     {
-        match self.found(id, attribute) {
-            Some((_, bundle, pattern)) => bundle.write_pattern(w, pattern, args, errors),
-            None => put(w, id.as_bytes()),
+        for place in 0..self.len() {
+            if let Some(bundle) = self.bundle_at(place) {
+                if Self::write_in(bundle, w, id, attribute, args, errors)? {
+                    return Ok(());
+                }
+            }
         }
+        put(w, id.as_bytes())
     }
 
-    /// The first bundle that has the value of the message, or its attribute where a name is given, with its place and
-    /// that pattern.
-    fn found(&self, id: &str, attribute: Option<&str>) -> Option<Found<'c, 'r, 's, M, C, F, G, T>>
-        ensures { ⟦<Self as Says>⟧.finds (bundles_of self.now) id.now attribute.entry result }
+    /// The place of the first bundle that has the value of the message, or its attribute where a name is given.
+    fn find(&self, id: &str, attribute: Option<&str>) -> Option<usize>
+        ensures { result ≡ ⟦<Self as Says>⟧.place self.now id.now attribute.entry }
+    {
+        for place in 0..self.len() {
+            if let Some(bundle) = self.bundle_at(place) {
+                if Self::pattern_in(bundle, id, attribute).is_some() {
+                    return Some(place);
+                }
+            }
+        }
+        None
+    }
+
+    /// How many bundles there are.
+    fn len(&self) -> usize
+        ensures { result ≡ length (bundles_of self.now) }
     {
         match self.bundles {
-            Bundles::Links(links) => Self::found_linked(links, id, attribute),
-            Bundles::List(bundles) => Self::found_listed(bundles, id, attribute),
+            Bundles::Links(links) => links.len(),
+            Bundles::List(bundles) => bundles.len(),
         }
     }
 
-    fn found_linked(
-        links: &'c [Link<'b, 'r, 's, M, C, F, G, T>],
-        id: &str,
-        attribute: Option<&str>,
-    ) -> Option<Found<'c, 'r, 's, M, C, F, G, T>>
-        ensures { ⟦<Self as Says>⟧.finds (linked links.now) id.now attribute.entry result }
+    /// The bundle at a place.
+    fn bundle_at(&self, place: usize) -> Option<&'c FluentBundle<'r, 's, M, C, F, G, T>>
+        ensures { option_map (λ b. b.now) result ≡ slice_get (bundles_of self.now) place }
     {
-        for (place, link) in links.iter().enumerate() {
-            if let Some(pattern) = Self::pattern_in(link.0, id, attribute) {
-                return Some((place, link.0, pattern));
-            }
+        match self.bundles {
+            Bundles::Links(links) => Some(links.get(place)?.0),
+            Bundles::List(bundles) => bundles.get(place),
         }
-        None
     }
 
-    fn found_listed(
-        bundles: &'c [FluentBundle<'r, 's, M, C, F, G, T>],
+    /// The value of the message in a bundle, or its attribute where a name is given, if it is there.
+    fn format_in(
+        bundle: &FluentBundle<'r, 's, M, C, F, G, T>,
         id: &str,
         attribute: Option<&str>,
-    ) -> Option<Found<'c, 'r, 's, M, C, F, G, T>>
-        ensures { ⟦<Self as Says>⟧.finds bundles.now id.now attribute.entry result }
+        args: Option<&FluentArgs<'_, C>>,
+        errors: &mut Vec<FluentError>,
+    ) -> Result<Option<CowStr<'s>>, AllocError>
+        ensures text { ⟦<Self as Says>⟧.gives_in bundle.now id.now attribute.entry args.entry result
+            errors.old errors.new }
+        ensures lent { ⟦<Self as Says>⟧.lends_in bundle.now id.now attribute.entry result }
     {
-        for (place, bundle) in bundles.iter().enumerate() {
-            if let Some(pattern) = Self::pattern_in(bundle, id, attribute) {
-                return Some((place, bundle, pattern));
-            }
+        match attribute {
+            None => bundle.format_value(id, args, errors),
+            Some(name) => bundle.format_attribute(id, name, args, errors),
         }
-        None
+    }
+
+    /// Writes the value of the message in a bundle, or its attribute where a name is given, and says whether it is
+    /// there.
+    fn write_in<W: Write>(
+        bundle: &FluentBundle<'r, 's, M, C, F, G, T>,
+        w: &mut Counting<W>,
+        id: &str,
+        attribute: Option<&str>,
+        args: Option<&FluentArgs<'_, C>>,
+        errors: &mut Vec<FluentError>,
+    ) -> Result<bool, WriteFault>
+        ensures text { ⟦<Self as Says>⟧.writes_in W bundle.now id.now attribute.entry args.entry result
+            W.contents w.old w.new errors.old errors.new }
+        ensures fault { CountsFault w.old w.new result }
+        ensures memory { ⟦<Self as Says>⟧.owes_in bundle.now id.now attribute.entry result }
+    {
+        match attribute {
+            None => bundle.write_value(w, id, args, errors),
+            Some(name) => bundle.write_attribute(w, id, name, args, errors),
+        }
     }
 
     /// The value of the message in a bundle, or its first attribute where a name is given.

@@ -1,5 +1,5 @@
 //! What the calls of a chain say, by what the types of its parts state. Contracts alone name it.
-ghost use Rattle.std.specs.Prelude.{ℕ, Bool, List, Option, Result, String};
+ghost use Rattle.std.specs.Prelude.{ℕ, Bool, Option, Result, String};
 ghost use Rattle.std.specs.Borrow.{Bor};
 ghost use Rattle.std.specs.declared.alloc.AllocError.{AllocError as Refused};
 ghost use Rattle.std.specs.declared.borrow.CowStr.{CowStr};
@@ -7,7 +7,7 @@ ghost use Rattle.std.proofs.Common.{Global};
 ghost use Rattle.fluent_text.specs.declared.counting.WriteFault.{WriteFault};
 ghost use Rattle.fluent_tree.specs.Tree.{Text, Pattern};
 ghost use Rattle.fluent_chain.specs.ChainCalls.{Giving, Writing};
-ghost use Rattle.fluent_chain.specs.Inside.Found.{Found};
+ghost use Rattle.fluent_chain.specs.Inside.Found.{GivingIn, WritingIn};
 
 use crate::chain::Chain;
 use fluent_bundle::{
@@ -25,8 +25,14 @@ pub(crate) trait Says {
     /// What a bundle has.
     ghost pattern: { Text → Option (Bor Text) → Self.One → Option Pattern };
 
-    /// That the first of some bundles that has it was found.
-    ghost finds: { List Self.One → Text → Option (Bor Text) → Found Self.One → Type 0 };
+    /// What is given, lent, written and owed of it there, where it is there.
+    ghost gives_in: { GivingIn Self.One Self.Own };
+
+    ghost lends_in: { Self.One → Text → Option (Bor Text) → Result (Option (CowStr Global)) Refused → Type 0 };
+
+    ghost writes_in: { (W : Type 0) → WritingIn Self.One Self.Own W };
+
+    ghost owes_in: { Self.One → Text → Option (Bor Text) → Result Bool WriteFault → Type 0 };
 
     /// Whether one has it.
     ghost has: { Self → Text → Option (Bor Text) → Bool };
@@ -68,12 +74,22 @@ impl<
     ghost use Rattle.fluent_bundle.specs.BundleView.{meant};
     ghost use Rattle.fluent_chain.specs.ChainView as view;
     ghost use Rattle.fluent_chain.specs.ChainCalls as call;
-    ghost use Rattle.fluent_chain.specs.Inside.Found.{IsFirst};
+    ghost use Rattle.fluent_chain.specs.Inside.Found as found;
 
     ghost pattern = { view.pattern_of
         (meant M.category C.shown C.alike F.answer G.formatted T.changed) };
 
-    ghost finds = { IsFirst (meant M.category C.shown C.alike F.answer G.formatted T.changed) };
+    ghost gives_in = { found.gives_in
+        (meant M.category C.shown C.alike F.answer G.formatted T.changed) C.content };
+
+    ghost lends_in = { found.lends_in
+        (meant M.category C.shown C.alike F.answer G.formatted T.changed) };
+
+    ghost writes_in = { found.writes_in
+        (meant M.category C.shown C.alike F.answer G.formatted T.changed) C.content };
+
+    ghost owes_in = { found.owes_in
+        (meant M.category C.shown C.alike F.answer G.formatted T.changed) };
 
     ghost has = { view.has (meant M.category C.shown C.alike F.answer G.formatted T.changed) };
 

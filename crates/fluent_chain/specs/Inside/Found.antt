@@ -1,31 +1,52 @@
--- What private calls find, by content.
-use Rattle.std.specs.Prelude.{◌≡◌, ℕ, List, Option}
+-- What a bundle has, and what is given and written of it there.
+use Rattle.std.specs.Prelude.{Bool, Option, Result}
 use Rattle.std.specs.Option.{option_map}
 use Rattle.std.specs.Borrow.{Bor}
+use Rattle.std.specs.declared.alloc.AllocError.{AllocError}
+use Rattle.std.specs.declared.borrow.CowStr.{CowStr}
+use Rattle.std.proofs.Common.{Global}
+use Rattle.fluent_text.specs.declared.counting.Counting.{Counting}
+use Rattle.fluent_text.specs.declared.counting.WriteFault.{WriteFault}
 use Rattle.fluent_tree.specs.Tree.{Text, Pattern}
 use Rattle.fluent_tree.specs.View.{pattern_view}
 use Rattle.fluent_tree.specs.declared.ast.Pattern as tree
 use Rattle.fluent_meaning.specs.Bundle.{Bundle}
-use Rattle.fluent_chain.specs.Chain.{first_with, place_with}
+use Rattle.fluent_resolver.specs.Status.{arguments_view}
+use Rattle.fluent_values.specs.declared.args.FluentArgs.{FluentArgs}
+use Rattle.fluent_bundle.specs.ById.{GivesAsked, Lent, TakesNoMemory, WritesAsked}
+use Rattle.fluent_bundle.specs.Under.{Under}
+use Rattle.fluent_bundle.specs.declared.bundle.FluentBundle.{FluentBundle}
+use Rattle.fluent_chain.specs.ChainCalls.{Errors}
 use Rattle.fluent_chain.specs.ChainView.{pattern_of}
 
 -- a pattern, if there is one
 abbrev pub pattern_seen : Option (Bor tree.Pattern) → Option Pattern
 pattern_seen found = option_map (λ p. pattern_view p.now) found
 
--- a place, a bundle and a pattern of it
-abbrev pub Found : Type 0 → Type 0
-Found B = Option (ℕ × Bor B × Bor tree.Pattern)
+-- ---- of a bundle, the id of a message and the name of an attribute, if one is given
 
--- the bundle with the pattern
-abbrev pub bundle_found : {B : Type 0} → Found B → Option (B × Pattern)
-bundle_found found = option_map (λ f. (f.1.now, pattern_view f.2.now)) found
+-- with arguments, an answer, and the errors before and after
+abbrev pub GivingIn : Type 0 → Type 0 → Type 1
+GivingIn B C = B → Text → Option (Bor Text) → Option (Bor (FluentArgs C)) → Result (Option (CowStr Global)) AllocError → Errors → Errors → Type 0
 
--- the place
-abbrev pub place_found : {B : Type 0} → Found B → Option ℕ
-place_found found = option_map (λ f. f.0) found
+-- and with what the writer holds before and after, as its type says it
+abbrev pub WritingIn : Type 0 → Type 0 → Type 0 → Type 1
+WritingIn B C W = B → Text → Option (Bor Text) → Option (Bor (FluentArgs C)) → Result Bool WriteFault → (W → Option Text) → Counting W → Counting W → Errors → Errors → Type 0
 
--- The first of these bundles that has it, with its place.
-pub record IsFirst {B : Type 0} (of : B → Bundle Text) (bundles : List B) (id : Text) (name : Option (Bor Text)) (result : Found B) : Type 0 where
-  pub found : bundle_found result ≡ first_with (pattern_of of id name) bundles
-  pub place : place_found result ≡ place_with (pattern_of of id name) bundles
+-- a bundle and arguments, by what they mean
+abbrev pub under : {B C : Type 0} → (B → Bundle Text) → (C → Text) → B → Option (Bor (FluentArgs C)) → Under
+under of content b args = record { bundle = of b; args = arguments_view content args }
+
+module _ {M C F G X : Type 0} (of : FluentBundle M C F G X → Bundle Text) where
+  abbrev pub gives_in : (C → Text) → GivingIn (FluentBundle M C F G X) C
+  gives_in content b id name args = GivesAsked (under of content b args) (pattern_of of id name b)
+
+  abbrev pub writes_in : (C → Text) → (W : Type 0) → WritingIn (FluentBundle M C F G X) C W
+  writes_in content W b id name args = WritesAsked (under of content b args) (pattern_of of id name b)
+
+  abbrev pub lends_in : FluentBundle M C F G X → Text → Option (Bor Text) → Result (Option (CowStr Global)) AllocError → Type 0
+  lends_in b id name = Lent b (pattern_of of id name b)
+
+  -- success is owed, as far as memory goes
+  abbrev pub owes_in : FluentBundle M C F G X → Text → Option (Bor Text) → Result Bool WriteFault → Type 0
+  owes_in b id name = TakesNoMemory b (pattern_of of id name b)

@@ -1,26 +1,65 @@
+use Rattle.std.proofs.Common.{rules, arith, ◌≡◌, ◌∙◌, sym, ap, refl, false, is_ok, Ok}
 use Rattle.std.specs.Option.{option_map}
 use Rattle.fluent_bundle.specs.BundleView.{meant}
 use Rattle.fluent_chain.specs.Chain.{pattern_at}
 use Rattle.fluent_chain.specs.ChainView.{bundles_of}
-use Rattle.fluent_chain.proofs.First.{adds_none, gives_alone, gives_of}
+use Rattle.fluent_chain.proofs.First.{none_left, passes, passes_end}
+use Rattle.fluent_chain.proofs.Answered.{gives_here, gives_id, gives_nothing, gives_refused, lends_here, lends_refused}
 use Rattle.fluent_chain.proofs.chain.Chain.format.Goals as goal
+use Rattle.fluent_chain.proofs.chain.Chain.format.Goals.{in-Some+in_ok-text+in_default-2, in_default}
 
-pub returns-in-Some-clause-text : goal.returns-in-Some-clause-text
-returns-in-Some-clause-text g c =
+pub returns-in_err-text-clause-text : goal.returns-in_err-text-clause-text
+returns-in_err-text-clause-text g c =
     let of = meant g.M.MemoizerKind.category g.C.FluentType.shown g.C.FluentType.alike g.F.FluentFunction.answer g.G.FluentFormatter.formatted g.T.Transform.changed in
     let has = pattern_at c.args.id.now (option_map (λ n. n.now) c.args.attribute) in
-    gives_of of has (bundles_of c.args.self.now) _ c.in-Some.ensures.found _ _ _ _ _ (record {
-      within = c.format_pattern.ensures.within;
-      whole = c.format_pattern.ensures.whole;
-      front = c.format_pattern.ensures.front;
-    })
+    let faulted : is_ok c.from_residual.result ≡ false = search rules in
+    gives_refused of has _ (bundles_of c.args.self.now) c.loop-place.place c.in-Some.bundle.now (sym c.in-Some.ensures) c.loop-place.invariant.first
+    c.args.id.now _ refl c.format_in.result _ c.from_residual.result _ _ _ c.loop-place.invariant.errors c.in_err-text.was faulted c.format_in.ensures.text
 
-pub returns-in-None-clause-text : goal.returns-in-None-clause-text
-returns-in-None-clause-text g c =
+pub returns-in_err-text-clause-lent : goal.returns-in_err-text-clause-lent
+returns-in_err-text-clause-lent g c =
     let of = meant g.M.MemoizerKind.category g.C.FluentType.shown g.C.FluentType.alike g.F.FluentFunction.answer g.G.FluentFormatter.formatted g.T.Transform.changed in
     let has = pattern_at c.args.id.now (option_map (λ n. n.now) c.args.attribute) in
-    gives_of of has (bundles_of c.args.self.now) _ c.in-None.ensures.found _ _ _ _ _ (record {
-      within = λ few. gives_alone _ _;
-      whole = gives_alone _ _;
-      front = adds_none _;
-    })
+    let faulted : is_ok c.from_residual.result ≡ false = search rules in
+    lends_refused of has _ (bundles_of c.args.self.now) c.loop-place.place c.in-Some.bundle.now (sym c.in-Some.ensures) c.loop-place.invariant.first
+    c.args.id.now _ refl c.format_in.result _ c.from_residual.result _ _ c.in_err-text.was faulted c.format_in.ensures.text c.format_in.ensures.lent
+
+pub returns-in-Some-2-clause-text : goal.returns-in-Some-2-clause-text
+returns-in-Some-2-clause-text g c =
+    let of = meant g.M.MemoizerKind.category g.C.FluentType.shown g.C.FluentType.alike g.F.FluentFunction.answer g.G.FluentFormatter.formatted g.T.Transform.changed in
+    let has = pattern_at c.args.id.now (option_map (λ n. n.now) c.args.attribute) in
+    gives_here of has _ (bundles_of c.args.self.now) c.loop-place.place c.in-Some.bundle.now (sym c.in-Some.ensures) c.loop-place.invariant.first
+    c.args.id.now _ refl c.format_in.result c.in-Some-2.text _ _ _ c.loop-place.invariant.errors (c.in_ok-text.was ∙ ap Ok c.in-Some-2.is) c.format_in.ensures.text
+
+pub returns-in-Some-2-clause-lent : goal.returns-in-Some-2-clause-lent
+returns-in-Some-2-clause-lent g c =
+    let of = meant g.M.MemoizerKind.category g.C.FluentType.shown g.C.FluentType.alike g.F.FluentFunction.answer g.G.FluentFormatter.formatted g.T.Transform.changed in
+    let has = pattern_at c.args.id.now (option_map (λ n. n.now) c.args.attribute) in
+    lends_here of has _ (bundles_of c.args.self.now) c.loop-place.place c.in-Some.bundle.now (sym c.in-Some.ensures) c.loop-place.invariant.first
+    c.args.id.now _ refl c.format_in.result c.in-Some-2.text _ _ (c.in_ok-text.was ∙ ap Ok c.in-Some-2.is) c.format_in.ensures.text c.format_in.ensures.lent
+
+pub loop-place-preserved : goal.loop-place-preserved
+loop-place-preserved g c =
+    let of = meant g.M.MemoizerKind.category g.C.FluentType.shown g.C.FluentType.alike g.F.FluentFunction.answer g.G.FluentFormatter.formatted g.T.Transform.changed in
+    let has = pattern_at c.args.id.now (option_map (λ n. n.now) c.args.attribute) in
+    let first = c.loop-place.invariant.first in
+    elim c.match-bundle_at.branch [
+      | in-Some+in_ok-text+in_default-2 w ↦
+          let none = gives_nothing of has _ w.in-Some.bundle.now _ w.format_in.result _ _ (w.in_ok-text.was ∙ ap Ok w.in_default-2.is) w.format_in.ensures.text in
+          record {
+            first = passes (λ b. has (of b)) (bundles_of c.args.self.now) c.loop-place.place first w.in-Some.bundle.now (sym w.in-Some.ensures) none.0;
+            errors = w.errors-is ∙ none.1 ∙ c.loop-place.invariant.errors;
+          }
+      | in_default w ↦ record {
+        first = passes_end (λ b. has (of b)) (bundles_of c.args.self.now) c.loop-place.place first (search rules);
+        errors = w.errors-is ∙ c.loop-place.invariant.errors;
+      }
+    ]
+
+pub returns-clause-text : goal.returns-clause-text
+returns-clause-text g c =
+    let of = meant g.M.MemoizerKind.category g.C.FluentType.shown g.C.FluentType.alike g.F.FluentFunction.answer g.G.FluentFormatter.formatted g.T.Transform.changed in
+    let has = pattern_at c.args.id.now (option_map (λ n. n.now) c.args.attribute) in
+    gives_id of has _ (bundles_of c.args.self.now)
+    (none_left (λ b. has (of b)) (bundles_of c.args.self.now) c.loop-place.place c.loop-place.invariant.first (omega (arith, c.loop-place-test.false, c.len-place-end.ensures)))
+    _ _ _ c.loop-place.invariant.errors
