@@ -154,6 +154,13 @@ impl<
         is_allowed
     }
 
+    /// How many placeables one formatting call opens.
+    pub fn placeable_limit(&self) -> u32
+        ensures { result ≡ (⟦<Self as Says>⟧.of self.now).limit }
+    {
+        self.placeable_limit
+    }
+
     /// Adds the messages and terms of a resource in order. An entry whose id is there is left and reported. Junk is
     /// passed over.
     ///

@@ -1,24 +1,24 @@
 -- What was found while all places were looked at is what a report says.
-use Rattle.std.proofs.Common.{◌≡◌, ℕ, cond, ◌+◌, ◌<◌, List, [], ◌∷◌, ◌++◌, map, get_or, length, slice_get, take, Option, Some, None, inl, inr, refl, sym, ap, subst}
+use Rattle.std.proofs.Common.{◌≡◌, ℕ, cond, ◌⊎◌, ◌+◌, ◌<◌, List, [], ◌∷◌, ◌++◌, map, get_or, length, slice_get, take, Option, Some, None, inl, inr, refl, sym, ap, subst}
 use Rattle.std.specs.List.{AllByRecursion}
 use Rattle.fluent_tree.specs.Tree.{Text, Pattern, is_yes}
 use Rattle.fluent_meaning.specs.Bundle.{Target, unknown, without_value, found}
 use Rattle.fluent_clean.specs.Places.{Place, Names, place_same, place_target}
 use Rattle.fluent_clean.specs.Needs.{Need, needs}
-use Rattle.fluent_clean.specs.Clean.{IsAmong, LeadsOn}
+use Rattle.fluent_clean.specs.Clean.{IsAmong, IsMet, LeadsOn}
 use Rattle.fluent_lint.specs.PlaceView.{pattern_in, place_view}
 use Rattle.fluent_lint.specs.Table.{Known, known_of, IsWell}
 use Rattle.fluent_lint.specs.NeedsView.{need_view}
 use Rattle.fluent_lint.specs.declared.listing.Need as needs_code
 use Rattle.fluent_lint.specs.Findings.{IsTrueLarge, Reported, ReportedLarge, IsTold, Holds, Reports}
-use Rattle.fluent_lint.specs.Inside.Steps.{Answers, Explains, Explained, ExplainedAt, IsToldAs, AreTold, IsExplained, Looked, IsListing, keys_in}
+use Rattle.fluent_lint.specs.Inside.Steps.{Answers, Explains, IsAnswered, Explained, ExplainedAt, IsToldAs, AreTold, IsExplained, Looked, IsListing, keys_in}
 use Rattle.fluent_lint.specs.declared.place.Place as code
 use Rattle.fluent_lint.specs.declared.finding.Cause.{Cause}
 use Rattle.fluent_lint.specs.declared.finding.Cause.TheVariants as cause
 use Rattle.fluent_lint.specs.declared.finding.Finding.{Finding}
 use Rattle.fluent_lint.specs.declared.finding.Large.{Large}
 use Rattle.fluent_lint.specs.declared.finding.Report.{Report}
-use Rattle.fluent_lint.proofs.Growing.{all_got, all_map, all_more, all_pushed, among_at, among_kept, among_pushed, not_nil}
+use Rattle.fluent_lint.proofs.Growing.{all_got, all_map, all_more, all_pushed, among_at, among_kept, among_pushed, at_last, wider}
 use Rattle.fluent_lint.proofs.Tables.{none_known}
 
 -- ---- targets
@@ -76,10 +76,19 @@ holds named limit seen known us ls told listing n cause.NoDefault h = h
 holds named limit seen known us ls told listing n (cause.Unclean x) h = (h.0, unknown_told named limit us ls known told (place_view x) h.1 h.2)
 holds named limit seen known us ls told listing n (cause.Elsewhere x) h = (h.0, λ among. none_known known (place_view x) h.1 (listing.listed (place_view x) among))
 
+answered : (named : Names Text) (limit : ℕ) (seen : List Place) (known : Known) (us : List Finding) (ls : List Large) (cs : List Cause) → AreTold named limit us ls known → IsListing seen known → (n : Need) → IsAnswered named known cs n
+    → IsMet named n ⊎ ((c : Cause) × IsAmong c cs × Holds named seen us n c)
+answered named limit seen known us ls cs told listing n (inl well) = inl well.0
+answered named limit seen known us ls cs told listing n (inr k) = inr (k.0, k.1, holds named limit seen known us ls told listing n k.0 k.2)
+
 pub reports : (named : Names Text) (limit : ℕ) (seen : List Place) (known : Known) (r : Report) → IsListing seen known → Looked named limit known known r.unclean.items r.large.items → Reports named limit seen r
 reports named limit seen known r listing h = record {
   told = all_seen _ seen (λ x among. told_at named limit r.unclean.items r.large.items known h.told x (listing.listed x among));
-  unclean = all_map _ _ r.unclean.items (λ f j. (j.0, all_map _ _ f.causes.items (λ c k. (k.0, k.1, holds named limit seen known r.unclean.items r.large.items h.told listing k.0 c k.2)) j.1)) h.unclean;
+  unclean = all_map _ _ r.unclean.items (λ f j. record {
+    some = j.0;
+    each = all_map _ _ f.causes.items (λ c k. (k.0, k.1, holds named limit seen known r.unclean.items r.large.items h.told listing k.0 c k.2)) j.1.each;
+    whole = λ n asks. answered named limit seen known r.unclean.items r.large.items f.causes.items h.told listing n (j.1.every n asks);
+  }) h.unclean;
   large = h.large;
 }
 
@@ -132,8 +141,28 @@ entry_at known i q o a at is = subst (λ b. slice_get known i ≡ Some (q, b)) i
 
 -- ---- the causes of what stands at a place
 
+found_same : (t : Target) (p q : Pattern) → t ≡ found p → t ≡ found q → p ≡ q
+found_same t p q e f = cc
+
+all_among : {A : Type 0} (P : A → Type 0) (xs : List A) (x : A) → IsAmong x xs → AllByRecursion P xs → P x
+all_among P [] x among all = absurd among
+all_among P (y ∷ ys) x (inl same) all = subst P (sym same) all.0
+all_among P (y ∷ ys) x (inr later) all = all_among P ys x later all.1
+
 pub explained_at : (named : Names Text) (known : Known) (x : Place) (p : Pattern) (cs : List Cause) → place_target named x ≡ found p → Explained named known (needs p) (needs p) cs → ExplainedAt named known x cs
-explained_at named known x p cs e h = all_map _ _ cs (λ c k. (k.0, (p, e, k.1), k.2)) h.each
+explained_at named known x p cs e h = record {
+  each = all_map _ _ cs (λ c k. (k.0, (p, e, k.1), k.2)) h.each;
+  every = λ n asks. let same : asks.0 ≡ p = found_same (place_target named x) asks.0 p asks.1 e in all_among (IsAnswered named known cs) (needs p) n (subst (λ q. IsAmong n (needs q)) same asks.2) h.every;
+}
+
+-- ---- where there is no cause, all is well
+
+well_none : (named : Names Text) (known : Known) (n : Need) (cs : List Cause) → cs ≡ [] → IsAnswered named known cs n → IsWell named known n
+well_none named known n cs nil (inl well) = well
+well_none named known n cs nil (inr k) = absurd (subst (IsAmong k.0) nil k.1)
+
+pub all_well : (named : Names Text) (known : Known) (ns : List Need) (cs : List Cause) → cs ≡ [] → AllByRecursion (IsAnswered named known cs) ns → AllByRecursion (IsWell named known) ns
+all_well named known ns cs nil all = all_map _ _ ns (λ n h. well_none named known n cs nil h) all
 
 -- ---- one more need
 
@@ -143,16 +172,20 @@ explains_of named known n o c e h = subst (Answers named known n) e h
 pub well_of : (named : Names Text) (known : Known) (n : Need) (o : Option Cause) → o ≡ None → Answers named known n o → IsWell named known n
 well_of named known n o e h = subst (Answers named known n) e h
 
+answered_more : (named : Names Text) (known : Known) (n : Need) (old new : List Cause) (c : Cause) → new ≡ old ++ c ∷ [] → IsAnswered named known old n → IsAnswered named known new n
+answered_more named known n old new c e (inl well) = inl well
+answered_more named known n old new c e (inr k) = inr (k.0, subst (IsAmong k.0) (sym e) (wider k.0 c old k.1), k.2)
+
 pub explained_pushed : (named : Names Text) (known : Known) (xs : List needs_code.Need) (i : ℕ) (x : needs_code.Need) (old new : List Cause) (c : Cause) → i < length xs → x ≡ get_or xs i x → new ≡ old ++ c ∷ []
     → Explains named known (need_view x) c → Explained named known (map need_view xs) (map need_view (take i xs)) old → Explained named known (map need_view xs) (map need_view (take (i + 1) xs)) new
 explained_pushed named known xs i x old new c lt is e explains h = record {
   each = all_pushed _ old new c e h.each (need_view x, among_at need_view xs i x lt is, explains);
-  none = λ nil. absurd (not_nil old new c e nil);
+  every = all_more (IsAnswered named known new) need_view xs i x lt is (all_map _ _ (map need_view (take i xs)) (λ n a. answered_more named known n old new c e a) h.every) (inr (c, subst (IsAmong c) (sym e) (at_last c old), explains));
 }
 
 pub explained_well : (named : Names Text) (known : Known) (xs : List needs_code.Need) (i : ℕ) (x : needs_code.Need) (old new : List Cause) → i < length xs → x ≡ get_or xs i x → new ≡ old
     → IsWell named known (need_view x) → Explained named known (map need_view xs) (map need_view (take i xs)) old → Explained named known (map need_view xs) (map need_view (take (i + 1) xs)) new
 explained_well named known xs i x old new lt is same well h = rw same record {
   each = h.each;
-  none = λ nil. all_more (IsWell named known) need_view xs i x lt is (h.none nil) well;
+  every = all_more (IsAnswered named known old) need_view xs i x lt is h.every (inl well);
 }

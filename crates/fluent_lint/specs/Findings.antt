@@ -5,10 +5,10 @@ use Rattle.fluent_tree.specs.Tree.{Text, Pattern}
 use Rattle.fluent_meaning.specs.Bundle.{found, is_function}
 use Rattle.fluent_clean.specs.Places.{Place, Names, place_target}
 use Rattle.fluent_clean.specs.Needs.{Need, a_function, a_default, needs}
-use Rattle.fluent_clean.specs.Clean.{IsAmong, IsClean, LeadsOn}
+use Rattle.fluent_clean.specs.Clean.{IsAmong, IsClean, IsMet, LeadsOn}
 use Rattle.fluent_clean.specs.Placeables.{placeables_deep}
 use Rattle.fluent_lint.specs.PlaceView.{place_view}
-use Rattle.fluent_lint.specs.Table.{CountsAs, place_of}
+use Rattle.fluent_lint.specs.Table.{IsRight, place_of}
 use Rattle.fluent_lint.specs.declared.place.Place as code
 use Rattle.fluent_lint.specs.declared.finding.Cause.{Cause}
 use Rattle.fluent_lint.specs.declared.finding.Cause.TheVariants as cause
@@ -47,13 +47,19 @@ Holds named seen us n (cause.Elsewhere x) = (place_of n ≡ Some (place_view x))
 abbrev pub HoldsAt : Names Text → List Place → List Finding → Place → Cause → Type 0
 HoldsAt named seen us x c = (n : Need) × AsksAt named x n × Holds named seen us n c
 
--- there is a cause, and each holds
-abbrev pub IsTrueFinding : Names Text → List Place → List Finding → Finding → Type 0
-IsTrueFinding named seen us f = (f.causes.items ≡ [] → ⊥) × AllByRecursion (HoldsAt named seen us (place_view f.place)) f.causes.items
+-- Of what its pattern asks for, each is met, or one of the causes holds of it.
+abbrev pub IsWhole : Names Text → List Place → List Finding → Place → List Cause → Type 0
+IsWhole named seen us x cs = (n : Need) → AsksAt named x n → IsMet named n ⊎ ((c : Cause) × IsAmong c cs × Holds named seen us n c)
 
--- so many placeables are opened, and these are more than the limit
+-- there is a cause, each holds, and none is left out
+pub record IsTrueFinding (named : Names Text) (seen : List Place) (us : List Finding) (f : Finding) : Type 0 where
+  pub some : f.causes.items ≡ [] → ⊥
+  pub each : AllByRecursion (HoldsAt named seen us (place_view f.place)) f.causes.items
+  pub whole : IsWhole named seen us (place_view f.place) f.causes.items
+
+-- what stands there is clean, and opens so many placeables, which are more than the limit
 abbrev pub IsTrueLarge : Names Text → ℕ → Large → Type 0
-IsTrueLarge named limit f = (limit < f.count) × CountsAs named (place_view f.place) f.count
+IsTrueLarge named limit f = (limit < f.count) × IsRight named (place_view f.place) f.count
 
 abbrev pub views : List code.Place → List Place
 views xs = map place_view xs

@@ -4,7 +4,7 @@ use Rattle.std.specs.Map.{lookup}
 use Rattle.fluent_tree.specs.Tree.{is_yes}
 use Rattle.fluent_clean.specs.Places.{Place, of_message, of_term, Names, place_same, place_target}
 use Rattle.fluent_clean.specs.Needs.{Need, a_message, a_term, a_function, a_variable, a_default}
-use Rattle.fluent_clean.specs.Clean.{IsCleanAt, IsMet}
+use Rattle.fluent_clean.specs.Clean.{IsAmong, IsCleanAt, IsMet}
 use Rattle.fluent_clean.specs.Placeables.{at_place, placeables_deep}
 use Rattle.fluent_lint.specs.PlaceView.{place_view}
 use Rattle.fluent_lint.specs.declared.place.Place as code
@@ -57,3 +57,11 @@ IsCounted named known n = IfSome (place_of n) (λ x. CountsAs named x (count_of 
 
 abbrev pub IsWell : {C : Type 0} → Names C → Known → Need → Type 0
 IsWell named known n = IsMet named n × IsCounted named known n
+
+-- a need refers to a place
+abbrev pub IsOfPlace : Place → Need → Type 0
+IsOfPlace x n = place_of n ≡ Some x
+
+-- one of these does
+abbrev pub RefersIn : List Need → Place → Type 0
+RefersIn ns x = (n : Need) × IsAmong n ns × IsOfPlace x n

@@ -17,5 +17,6 @@ pub use entries::places_of;
 pub use finding::{Cause, Finding, Large, Report};
 pub use lines::{LineColumn, position};
 pub use linting::lint_places;
-pub use place::Place;
+pub use listing::refers_to;
+pub use place::{Place, pattern_at};
 pub use variables::variables_of;

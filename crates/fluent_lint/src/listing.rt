@@ -1,11 +1,14 @@
 //! What a pattern asks for, listed.
 
-ghost use Rattle.std.specs.Prelude.{◌≡◌, IfOk, OnOk};
+ghost use Rattle.std.specs.Prelude.{◌≡◌, ◌↔◌, IfOk, OnOk, IsTrue};
 ghost use Rattle.fluent_tree.specs.View.{arguments_view, expression_view, inline_view, pattern_view};
 ghost use Rattle.fluent_tree.specs.References.{inlines_view, nameds_view, variants_view};
 ghost use Rattle.fluent_clean.specs.Needs.{a_default, has_default, unless, needs, in_arguments, in_expression, in_inline, in_named, in_positional, in_variants};
-ghost use Rattle.fluent_lint.specs.NeedsView.{AddsNeeds, needs_view};
+ghost use Rattle.fluent_lint.specs.NeedsView.{AddsNeeds, need_view, needs_view};
+ghost use Rattle.fluent_lint.specs.PlaceView.{place_view};
+ghost use Rattle.fluent_lint.specs.Table.{IsOfPlace, RefersIn};
 
+use crate::place::{Place, same_place};
 use fluent_tree::ast::{
     CallArguments, Expression, Identifier, InlineExpression, NamedArgument, Pattern,
     PatternElement, Variant,
@@ -39,6 +42,39 @@ pub fn needs<'t, 's>(
     let mut list = Vec::new(alloc);
     add_pattern(&mut list, pattern)?;
     Ok(list)
+}
+
+/// Whether a pattern refers to a place.
+///
+/// # Errors
+///
+/// Memory was refused.
+pub fn refers_to<'s>(
+    alloc: Global,
+    pattern: &Pattern<'s>,
+    place: &Place<'s>,
+) -> Result<bool, AllocError>
+    ensures { IfOk result (λ yes. IsTrue yes
+        ↔ RefersIn (needs (pattern_view pattern.now)) (place_view place.now)) }
+{
+    let list = needs(alloc, pattern)?;
+    for need in &list {
+        if is_of_place(need, place) {
+            return Ok(true);
+        }
+    }
+    Ok(false)
+}
+
+/// Whether a need is a reference to a place.
+fn is_of_place<'s>(need: &Need<'_, 's>, place: &Place<'s>) -> bool
+    ensures { IsTrue result ↔ IsOfPlace (place_view place.now) (need_view need.now) }
+{
+    match need {
+        Need::Message(id, attribute) => same_place(&Place::Message(*id, *attribute), place),
+        Need::Term(id, attribute, _) => same_place(&Place::Term(*id, *attribute), place),
+        Need::Function(_) | Need::Variable(_) | Need::Default => false,
+    }
 }
 
 #[cycle(listing)]

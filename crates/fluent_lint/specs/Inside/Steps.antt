@@ -44,14 +44,19 @@ abbrev pub Answers : Names Text → Known → Need → Option Cause → Type 0
 Answers named known n None = IsWell named known n
 Answers named known n (Some c) = Explains named known n c
 
--- the causes of needs, and where there are none, all needs are well
+-- a need is well, or one of the causes says why not
+abbrev pub IsAnswered : Names Text → Known → List Cause → Need → Type 0
+IsAnswered named known cs n = IsWell named known n ⊎ ((c : Cause) × IsAmong c cs × Explains named known n c)
+
+-- The causes are of needs, and each of some needs is answered.
 pub record Explained (named : Names Text) (known : Known) (all some : List Need) (cs : List Cause) : Type 0 where
   pub each : AllByRecursion (λ c. (n : Need) × IsAmong n all × Explains named known n c) cs
-  pub none : cs ≡ [] → AllByRecursion (IsWell named known) some
+  pub every : AllByRecursion (IsAnswered named known cs) some
 
 -- the same of the needs of what stands at a place
-abbrev pub ExplainedAt : Names Text → Known → Place → List Cause → Type 0
-ExplainedAt named known x cs = AllByRecursion (λ c. (n : Need) × AsksAt named x n × Explains named known n c) cs
+pub record ExplainedAt (named : Names Text) (known : Known) (x : Place) (cs : List Cause) : Type 0 where
+  pub each : AllByRecursion (λ c. (n : Need) × AsksAt named x n × Explains named known n c) cs
+  pub every : (n : Need) → AsksAt named x n → IsAnswered named known cs n
 
 abbrev pub IsLook : Names Text → Known → Place → Look → Type 0
 IsLook named known x look.Nothing = LeadsOn (place_target named x) → ⊥

@@ -16,7 +16,7 @@ loop-i-preserved g c =
       | in-Some-known+then-count-limit+in_ok-push-in-Some-known w ↦
           let right : IsRight named (place_view q) w.in-Some-known.count = c.requires q w.in-Some-known.count (c.in-Some.ensures.value ∙ ap Some w.in-Some-known.is) in
           looked_large named c.args.limit known c.loop-i.unclean.items _ c.loop-i.large.items _ c.loop-i.i q w.in-Some-known.count _ (entry_at known _ q _ _ c.in-Some.ensures.entry w.in-Some-known.is)
-          (ap (λ v. v.items) w.large-is ∙ w.in_ok-push-in-Some-known.ensures.items) (ap (λ v. v.items) w.unclean-is) refl (w.if-count-limit.true, right.1) c.loop-i.invariant
+          (ap (λ v. v.items) w.large-is ∙ w.in_ok-push-in-Some-known.ensures.items) (ap (λ v. v.items) w.unclean-is) refl (w.if-count-limit.true, right) c.loop-i.invariant
       | in-Some-known+else-count-limit w ↦
           let right : IsRight named (place_view q) w.in-Some-known.count = c.requires q w.in-Some-known.count (c.in-Some.ensures.value ∙ ap Some w.in-Some-known.is) in
           looked_more named c.args.limit known c.loop-i.unclean.items _ c.loop-i.large.items _ c.loop-i.i (q, Some w.in-Some-known.count) (entry_at known _ q _ _ c.in-Some.ensures.entry w.in-Some-known.is)

@@ -1,0 +1,5 @@
+mod Among
+mod Missing
+mod Telling
+mod Round
+mod Linted

@@ -1,0 +1,220 @@
+//! Cycles of references.
+//!
+//! What is found is looked at once more before it is told, so no contract speaks of the search.
+
+ghost use Rattle.std.specs.Prelude.{IfOk, OnOk, IsTrue, ℕ};
+ghost use Rattle.fluent_lint.specs.Findings.{views};
+ghost use Rattle.fluent_linter.specs.Findings.{GoRound};
+ghost use Rattle.fluent_linter.specs.Inside.Telling.{AddsTrue};
+
+use crate::finding::{Finding, Kind};
+use fluent_entries::GetEntry;
+use fluent_lint::{Cause, Finding as Unclean, Place, pattern_at, refers_to};
+use indexmap::IndexMap;
+use std::alloc::{AllocError, Global};
+
+/// How far the search has come at a place.
+#[derive(Clone, Copy, Drop)]
+enum State {
+    New,
+    /// On the path that is walked, at this index of it.
+    OnPath(usize),
+    Done,
+}
+
+/// A search for cycles among places, by their indexes.
+#[derive(Drop)]
+struct Search {
+    states: Vec<State>,
+    /// Whether a place is on a cycle that was found.
+    found: Vec<bool>,
+    /// The path that is walked: places, and how many references of each were followed.
+    path: Vec<(usize, usize)>,
+    cycles: Vec<Vec<usize>>,
+}
+
+/// Adds a finding for cycles among these: one at least where patterns lead to one another, and none of them shares a
+/// place with another.
+pub(crate) fn add_cycles<'s, F, B: GetEntry<'s, F>>(
+    alloc: Global,
+    bundle: &B,
+    unclean: &[Unclean<'s>],
+    findings: &mut Vec<Finding<'s>>,
+) -> Result<(), AllocError>
+    ensures { OnOk result ((limit : ℕ)
+        → AddsTrue (B.named bundle.now) limit findings.old.items findings.new.items) }
+{
+    let edges = edges_of(alloc, unclean)?;
+    for cycle in &searched(alloc, &edges)?.cycles {
+        let places = places_at(alloc, unclean, cycle)?;
+        add_cycle(alloc, bundle, places, findings)?;
+    }
+    Ok(())
+}
+
+/// Adds a finding for these places if they are a cycle.
+fn add_cycle<'s, F, B: GetEntry<'s, F>>(
+    alloc: Global,
+    bundle: &B,
+    places: Vec<Place<'s>>,
+    findings: &mut Vec<Finding<'s>>,
+) -> Result<(), AllocError>
+    ensures { OnOk result ((limit : ℕ)
+        → AddsTrue (B.named bundle.now) limit findings.old.items findings.new.items) }
+{
+    if is_cycle(alloc, bundle, &places)? {
+        if let Some(first) = places.first() {
+            findings.push(Finding {
+                place: *first,
+                kind: Kind::Cycle { places },
+            })?;
+        }
+    }
+    Ok(())
+}
+
+/// Whether there are some, and each of these refers to the next, and the last to the first.
+fn is_cycle<'s, F, B: GetEntry<'s, F>>(
+    alloc: Global,
+    bundle: &B,
+    places: &[Place<'s>],
+) -> Result<bool, AllocError>
+    ensures { IfOk result (λ yes. IsTrue yes → GoRound (B.named bundle.now) (views places.now)) }
+{
+    let Some(end) = places.last() else {
+        return Ok(false);
+    };
+    let mut last = *end;
+    for place in places {
+        let Some(pattern) = pattern_at(bundle, &last) else {
+            return Ok(false);
+        };
+        if !refers_to(alloc, pattern, place)? {
+            return Ok(false);
+        }
+        last = *place;
+    }
+    Ok(true)
+}
+
+/// The places with these indexes.
+fn places_at<'s>(
+    alloc: Global,
+    unclean: &[Unclean<'s>],
+    indexes: &[usize],
+) -> Result<Vec<Place<'s>>, AllocError> {
+    let mut places = Vec::new(alloc);
+    for index in indexes {
+        if let Some(one) = unclean.get(*index) {
+            places.push(one.place)?;
+        }
+    }
+    Ok(places)
+}
+
+/// To which of these each refers, by their indexes.
+fn edges_of<'s>(alloc: Global, unclean: &[Unclean<'s>]) -> Result<Vec<Vec<usize>>, AllocError> {
+    let mut indexes: IndexMap<Place<'s>, usize> = IndexMap::new(alloc);
+    for (i, one) in unclean.iter().enumerate() {
+        indexes.insert(one.place, i)?;
+    }
+    let mut edges = Vec::new(alloc);
+    for one in unclean {
+        let mut row = Vec::new(alloc);
+        for cause in &one.causes {
+            if let Cause::Unclean(place) = cause {
+                if let Some(index) = indexes.get(place) {
+                    row.push(*index)?;
+                }
+            }
+        }
+        edges.push(row)?;
+    }
+    Ok(edges)
+}
+
+/// Searches from each place that wasn't met.
+fn searched(alloc: Global, edges: &[Vec<usize>]) -> Result<Search, AllocError> {
+    let mut search = Search {
+        states: Vec::new(alloc),
+        found: Vec::new(alloc),
+        path: Vec::new(alloc),
+        cycles: Vec::new(alloc),
+    };
+    let mut steps = edges.len();
+    for row in edges {
+        search.states.push(State::New)?;
+        search.found.push(false)?;
+        steps = steps.saturating_add(row.len());
+    }
+    for root in 0..edges.len() {
+        enter(&mut search, root)?;
+        for _ in 0..steps {
+            if search.path.is_empty() {
+                break;
+            }
+            step(alloc, &mut search, edges)?;
+        }
+    }
+    Ok(search)
+}
+
+/// Walks on to a place that wasn't met yet.
+fn enter(search: &mut Search, to: usize) -> Result<(), AllocError> {
+    let depth = search.path.len();
+    if let Some(state) = search.states.get_mut(to) {
+        if let State::New = state {
+            *state = State::OnPath(depth);
+            search.path.push((to, 0))?;
+        }
+    }
+    Ok(())
+}
+
+/// Follows the next reference of the last place of the path, or leaves that place.
+fn step(alloc: Global, search: &mut Search, edges: &[Vec<usize>]) -> Result<(), AllocError> {
+    let Some((from, count)) = search.path.pop() else {
+        return Ok(());
+    };
+    let next = match edges.get(from) {
+        Some(row) => row.get(count),
+        None => None,
+    };
+    let Some(to) = next else {
+        if let Some(state) = search.states.get_mut(from) {
+            *state = State::Done;
+        }
+        return Ok(());
+    };
+    search.path.push((from, count.saturating_add(1)))?;
+    match on_path(search, *to) {
+        Some(start) => note(alloc, search, start),
+        None => enter(search, *to),
+    }
+}
+
+/// Where a place stands on the path, if it does.
+fn on_path(search: &Search, place: usize) -> Option<usize> {
+    match search.states.get(place) {
+        Some(State::OnPath(start)) => Some(*start),
+        _ => None,
+    }
+}
+
+/// Notes the path from an index on as a cycle, if none of its places is on one that was found.
+fn note(alloc: Global, search: &mut Search, start: usize) -> Result<(), AllocError> {
+    let mut cycle = Vec::new(alloc);
+    for (place, _) in search.path.iter().skip(start) {
+        if let Some(true) = search.found.get(*place) {
+            return Ok(());
+        }
+        cycle.push(*place)?;
+    }
+    for place in &cycle {
+        if let Some(found) = search.found.get_mut(*place) {
+            *found = true;
+        }
+    }
+    search.cycles.push(cycle)?;
+    Ok(())
+}
