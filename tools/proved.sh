@@ -1,5 +1,5 @@
 # shellcheck shell=bash
-# What ./fluent_show, ./build and ./check share, for a shell to read: which crates one stands on, and whether the program in
+# What ./fluent_show, ./fluent, ./build and ./check share, for a shell to read: which crates one stands on, and whether the program in
 # its out/ is the proved one of these sources. Each takes the folder of a repository, and the name of one of its crates.
 
 # The lines of crates.txt of the crate, or of several, and of those that they stand on, directly or not.

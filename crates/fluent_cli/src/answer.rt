@@ -1,0 +1,62 @@
+//! What a run leaves: its status, what it prints, and what it says on standard error.
+use std::alloc::{AllocError, Global};
+
+/// How a run ends.
+#[derive(Clone, Copy, Debug, PartialEq, Eq)]
+pub enum Status {
+    /// Nothing was found.
+    Fine,
+    /// Something was found: a finding, or an error in a text that is shown strictly.
+    Found,
+    /// The words are not of the form that the program takes.
+    Usage,
+    /// A file can't be read, or memory was refused.
+    Fault,
+}
+
+impl Status {
+    /// The exit status of the program.
+    pub fn code(self) -> u8 {
+        match self {
+            Status::Fine => 0,
+            Status::Found => 1,
+            Status::Usage => 2,
+            Status::Fault => 3,
+        }
+    }
+}
+
+/// What a run leaves.
+#[derive(Drop)]
+pub struct Answer {
+    pub status: Status,
+    /// What goes to standard output.
+    pub output: String,
+    /// What goes to standard error.
+    pub errors: String,
+}
+
+impl Answer {
+    /// A fault of the words, or of a file, with its line on standard error.
+    pub(crate) fn fault(alloc: Global, status: Status, errors: String) -> Answer {
+        Answer {
+            status,
+            output: String::new(alloc),
+            errors,
+        }
+    }
+
+    /// What is left where a file can't be read, for a reason that the system gives.
+    ///
+    /// # Errors
+    ///
+    /// Memory was refused.
+    pub fn unreadable(
+        alloc: Global,
+        name: &str,
+        error: &std::io::Error,
+    ) -> Result<Answer, AllocError> {
+        let errors = format!(in alloc; "fluent: {name}: {error}\n")?;
+        Ok(Answer::fault(alloc, Status::Fault, errors))
+    }
+}

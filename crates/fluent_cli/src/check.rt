@@ -1,0 +1,157 @@
+//! What is wrong with the files of a language.
+use crate::answer::{Answer, Status};
+use crate::bundle::{Bundle, bundle_of};
+use crate::faults::{add_builtin, add_repeated, add_taken, add_unreadable, say_faults, spots_in};
+use crate::linted::add_linted;
+use crate::places::{Places, places_of};
+use crate::plurals::add_pattern;
+use crate::reference::{Side, add_differences};
+use crate::report::{Counts, Finding, put_counts, put_findings, sort};
+use crate::source::{Source, Sources};
+use crate::spots::Spots;
+use crate::words::CheckRequest;
+use fluent_intl::{LanguageRules, cldr_plurals, rules_for};
+use fluent_lint::place::pattern_at;
+use std::alloc::{AllocError, Global};
+
+/// Adds what is wrong with selects on numbers.
+fn add_selects<'s>(
+    alloc: Global,
+    rules: &LanguageRules<'_>,
+    bundle: &Bundle<'_, 's>,
+    places: &Places<'s>,
+    findings: &mut Vec<Finding<'s>>,
+) -> Result<(), AllocError> {
+    for (place, spot) in places {
+        let Some(pattern) = pattern_at(bundle, place) else {
+            continue;
+        };
+        let mut kinds = Vec::new(alloc);
+        add_pattern(rules, place, pattern, &mut kinds)?;
+        for kind in &kinds {
+            findings.push(Finding {
+                file: spot.file,
+                at: spot.at,
+                kind: *kind,
+            })?;
+        }
+    }
+    Ok(())
+}
+
+/// Adds what is wrong with a translation by what it was made from.
+fn add_compared<'s>(
+    alloc: Global,
+    translation: &Side<'_, '_, 's>,
+    references: &Sources<'s>,
+    first: usize,
+    findings: &mut Vec<Finding<'s>>,
+) -> Result<(), AllocError> {
+    if references.texts.is_empty() {
+        return Ok(());
+    }
+    let bundle = bundle_of(alloc, "en", references.resources.as_slice())?;
+    let spots = spots_in(alloc, references)?;
+    let places = places_of(alloc, &bundle, spots.as_slice(), first)?;
+    let reference = Side {
+        bundle: &bundle,
+        places: &places,
+    };
+    add_differences(alloc, &reference, translation, findings)
+}
+
+/// Adds what is wrong with these sources, whatever their patterns refer to.
+fn add_faults<'s>(
+    alloc: Global,
+    sources: &Sources<'s>,
+    spots: &[Spots<'s>],
+    findings: &mut Vec<Finding<'s>>,
+) -> Result<(), AllocError> {
+    add_unreadable(sources, findings)?;
+    add_taken(alloc, sources, spots, 0, sources.resources.as_slice(), findings)?;
+    add_builtin(spots, findings)?;
+    add_repeated(alloc, spots, findings)
+}
+
+/// Adds what is wrong with the patterns of a bundle of these sources.
+fn add_of_patterns<'r, 's: 'r>(
+    alloc: Global,
+    language: Option<&str>,
+    sources: &Sources<'s>,
+    references: &Sources<'s>,
+    side: &Side<'_, 'r, 's>,
+    findings: &mut Vec<Finding<'s>>,
+) -> Result<(), AllocError> {
+    let resources = sources.resources.as_slice();
+    add_linted(alloc, side.bundle, resources, side.places, findings)?;
+    if let Some(tag) = language {
+        if let Some(rules) = rules_for(cldr_plurals(), tag) {
+            add_selects(alloc, &rules, side.bundle, side.places, findings)?;
+        }
+    }
+    add_compared(alloc, side, references, resources.len(), findings)
+}
+
+/// All that is found in these sources, in order.
+fn findings_of<'s>(
+    alloc: Global,
+    language: Option<&str>,
+    sources: &Sources<'s>,
+    references: &Sources<'s>,
+) -> Result<Vec<Finding<'s>>, AllocError> {
+    let mut findings = Vec::new(alloc);
+    let spots = spots_in(alloc, sources)?;
+    add_faults(alloc, sources, spots.as_slice(), &mut findings)?;
+    let tag = language.unwrap_or("en");
+    let bundle = bundle_of(alloc, tag, sources.resources.as_slice())?;
+    let places = places_of(alloc, &bundle, spots.as_slice(), 0)?;
+    let side = Side {
+        bundle: &bundle,
+        places: &places,
+    };
+    add_of_patterns(alloc, language, sources, references, &side, &mut findings)?;
+    sort(alloc, &mut findings)?;
+    Ok(findings)
+}
+
+/// The texts of both.
+fn texts_of<'s>(
+    alloc: Global,
+    sources: &Sources<'s>,
+    references: &Sources<'s>,
+) -> Result<Vec<Source<'s>>, AllocError> {
+    let mut texts = Vec::new(alloc);
+    texts.extend_from_slice(sources.texts.as_slice())?;
+    texts.extend_from_slice(references.texts.as_slice())?;
+    Ok(texts)
+}
+
+/// The status of a run that found so many.
+fn status_of(counts: Counts) -> Status {
+    if counts.is_zero() {
+        Status::Fine
+    } else {
+        Status::Found
+    }
+}
+
+/// Checks sources, each finding on a line, and behind these a line with their counts.
+pub(crate) fn check<'s>(
+    alloc: Global,
+    request: &CheckRequest<'_>,
+    sources: &Sources<'s>,
+    references: &Sources<'s>,
+) -> Result<Answer, AllocError> {
+    let findings = findings_of(alloc, request.language, sources, references)?;
+    let mut output = String::new(alloc);
+    let texts = texts_of(alloc, sources, references)?;
+    let counts = put_findings(alloc, texts.as_slice(), findings.as_slice(), &mut output)?;
+    put_counts(counts, &mut output)?;
+    let mut errors = String::new(alloc);
+    say_faults(alloc, references, &mut errors)?;
+    Ok(Answer {
+        status: status_of(counts),
+        output,
+        errors,
+    })
+}

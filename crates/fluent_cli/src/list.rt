@@ -1,0 +1,41 @@
+//! What messages and terms ask for.
+use crate::answer::{Answer, Status};
+use crate::bundle::{Bundle, bundle_of};
+use crate::faults::{say_faults, spots_in};
+use crate::finding::Named;
+use crate::places::places_of;
+use crate::source::Sources;
+use fluent_lint::{Place, variables_of};
+use std::alloc::{AllocError, Global};
+
+/// Writes the line of a value or an attribute: its name, and the variables that it asks for.
+fn put_place<'s>(
+    alloc: Global,
+    bundle: &Bundle<'_, 's>,
+    place: &Place<'s>,
+    text: &mut String,
+) -> Result<(), AllocError> {
+    let name = Named(*place);
+    write!(text, "{name}")?;
+    for variable in &variables_of(alloc, bundle, place)? {
+        write!(text, " ${variable}")?;
+    }
+    text.push_str("\n")
+}
+
+/// Lists the values and attributes of these sources, each on a line with the variables that it asks for.
+pub(crate) fn list(alloc: Global, sources: &Sources<'_>) -> Result<Answer, AllocError> {
+    let bundle = bundle_of(alloc, "en", sources.resources.as_slice())?;
+    let spots = spots_in(alloc, sources)?;
+    let mut output = String::new(alloc);
+    for (place, _) in &places_of(alloc, &bundle, spots.as_slice(), 0)? {
+        put_place(alloc, &bundle, place, &mut output)?;
+    }
+    let mut errors = String::new(alloc);
+    say_faults(alloc, sources, &mut errors)?;
+    Ok(Answer {
+        status: Status::Fine,
+        output,
+        errors,
+    })
+}

@@ -1,0 +1,118 @@
+//! A message as an application shows it.
+use crate::answer::{Answer, Status};
+use crate::bundle::bundles_of;
+use crate::faults::say_faults;
+use crate::source::Sources;
+use crate::words::{Argument, ShowRequest};
+use fluent_bundle::{
+    FluentArgs, FluentError, FluentValue, NoCustom, NoFormatter, NoFunction, NoTransform,
+};
+use fluent_chain::Chain;
+use fluent_intl::RuleTexts;
+use std::alloc::{AllocError, Global};
+use std::borrow::CowStr;
+
+/// A chain of the bundles of some sources.
+type Texts<'c, 'r, 's> = Chain<
+    'c,
+    'c,
+    'r,
+    's,
+    RuleTexts,
+    NoCustom,
+    NoFunction,
+    NoFormatter,
+    NoTransform,
+>;
+
+/// The arguments of a message. One that comes later takes the place of one with its name.
+fn arguments<'w>(
+    alloc: Global,
+    words: &[Argument<'w>],
+) -> Result<FluentArgs<'w, NoCustom>, AllocError> {
+    let mut args = FluentArgs::new(alloc);
+    for word in words {
+        let value = if word.is_text {
+            FluentValue::from(word.value)
+        } else {
+            FluentValue::try_number(word.value)
+        };
+        args.set(CowStr::Borrowed(word.name), value)?;
+    }
+    Ok(args)
+}
+
+/// The text that was asked for: that of the first bundle that has it, or else the id.
+fn text_of<'s>(
+    alloc: Global,
+    texts: &Texts<'_, '_, 's>,
+    request: &ShowRequest<'_>,
+    errors: &mut Vec<FluentError>,
+) -> Result<String, AllocError> {
+    let args = arguments(alloc, request.arguments.as_slice())?;
+    match request.attribute {
+        Some(name) => {
+            texts.format_attribute_owned(alloc, request.id, name, Some(&args), errors)
+        }
+        None => texts.format_value_owned(alloc, request.id, Some(&args), errors),
+    }
+}
+
+/// Whether one of the bundles has what was asked for.
+fn has(texts: &Texts<'_, '_, '_>, request: &ShowRequest<'_>) -> bool {
+    match request.attribute {
+        Some(name) => texts.has_attribute(request.id, name),
+        None => texts.has_value(request.id),
+    }
+}
+
+/// Says that what was asked for isn't there.
+fn say_missing(request: &ShowRequest<'_>, text: &mut String) -> Result<(), AllocError> {
+    let id = request.id;
+    match request.attribute {
+        Some(name) => write!(text, "fluent: no attribute '{id}.{name}'\n"),
+        None => write!(text, "fluent: no message '{id}' with a value\n"),
+    }
+}
+
+/// Says what went wrong in a text.
+fn say_errors(errors: &[FluentError], text: &mut String) -> Result<(), AllocError> {
+    for error in errors {
+        write!(text, "fluent: {error}\n")?;
+    }
+    Ok(())
+}
+
+/// The status of a run that showed a text.
+fn status_of(is_there: bool, is_strict: bool, errors: &str) -> Status {
+    if is_there && (!is_strict || errors.is_empty()) {
+        Status::Fine
+    } else {
+        Status::Found
+    }
+}
+
+/// Shows the message, or the attribute, of the first of these sources that has it.
+pub(crate) fn show(
+    alloc: Global,
+    request: &ShowRequest<'_>,
+    sources: &Sources<'_>,
+) -> Result<Answer, AllocError> {
+    let bundles = bundles_of(alloc, request.language, sources.resources.as_slice())?;
+    let texts = Chain::of(bundles.as_slice());
+    let mut errors = Vec::new(alloc);
+    let mut output = text_of(alloc, &texts, request, &mut errors)?;
+    output.push_str("\n")?;
+    let mut said = String::new(alloc);
+    say_faults(alloc, sources, &mut said)?;
+    say_errors(errors.as_slice(), &mut said)?;
+    let is_there = has(&texts, request);
+    if !is_there {
+        say_missing(request, &mut said)?;
+    }
+    Ok(Answer {
+        status: status_of(is_there, request.is_strict, said.as_str()),
+        output,
+        errors: said,
+    })
+}
