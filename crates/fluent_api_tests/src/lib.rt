@@ -29,6 +29,8 @@ mod in_one_scope;
 #[cfg(test)]
 mod linted;
 #[cfg(test)]
+mod linter;
+#[cfg(test)]
 mod lists;
 #[cfg(test)]
 mod made;

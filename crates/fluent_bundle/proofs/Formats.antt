@@ -128,6 +128,13 @@ written_by {r = r} {m = m} {list = list} {list' = list'} contents n n' k k' w w'
     subst (λ v. Writes r m (writer contents w) (writer contents v) list list') (sym same)
     (by_itself contents n n' k k' w w' s s' (subst (To r m list list' contents n n' k k' w w' s s') (still contents n n' k k' w w' s s' false b h.lent) h))
 
+-- the same of one that was made to write through
+pub written_through : {W T : Type 0} {r : Result T Halt} {m : Ran Text} {list list' : List FluentError} (contents : W → Option Text) (n n' k k' : ℕ) (w w₀ w' w'' : Counting W) (s s' : String Global) (b₀ b : Bool) → w'' ≡ w' → w₀ ≡ w → b₀ ≡ false → Writes r m (at contents n w₀ k s b₀) (at contents n' w' k' s' b) list list' → Writes r m (writer contents w) (writer contents w'') list list'
+written_through {r = r} {m = m} {list = list} {list' = list'} contents n n' k k' w w₀ w' w'' s s' b₀ b same was through h =
+    written_by contents n n' k k' w w' w'' s s' b same
+    (subst (λ v. Writes r m (at contents n v k s false) (at contents n' w' k' s' b) list list') was
+    (subst (λ c. Writes r m (at contents n w₀ k s c) (at contents n' w' k' s' b) list list') through h))
+
 -- what an output with a buffer wrote, its buffer took
 abbrev Into : {W T : Type 0} → Result T Halt → Ran Text → List FluentError → List FluentError → (W → Option Text) → ℕ → ℕ → ℕ → ℕ → Counting W → Counting W → String Global → String Global → Bool → Type 0
 Into r m list list' contents n n' k k' w w' s s' b = Writes r m (at contents n w k s true) (at contents n' w' k' s' b) list list'

@@ -19,9 +19,9 @@ use crate::laws;
 use crate::resolver::answers::formatted;
 use crate::says::Says;
 use fluent_intl::MemoizerKind;
-use fluent_meaning::laws::calls_pass_through;
+use fluent_resolver::output::through;
 use fluent_resolver::texts::{is_text, put_texts};
-use fluent_resolver::{Place, Scope, write_pattern};
+use fluent_resolver::{Place, Scope, calls_are_walks, write_pattern};
 use fluent_syntax::ast::{Pattern, PatternElement};
 use fluent_syntax::{Counting, WriteFault};
 use fluent_values::output::{Halt, Output, with_error};
@@ -29,7 +29,6 @@ use fluent_values::types::{FluentType, FluentValue};
 use fluent_values::{FluentArgs, FluentError, FluentFormatter, FluentFunction, Transform};
 use std::alloc::AllocError;
 use std::borrow::CowStr;
-use std::collections::LinkedList;
 use std::io::Write;
 
 /// How many bytes are kept ready for a text that is answered: most are no longer, so most take memory once.
@@ -133,12 +132,7 @@ impl<
     {
         laws::limits_are_kept();
         let mut unused = String::new(self.alloc);
-        let mut out = Output {
-            writer: w,
-            buffer: &mut unused,
-            is_buffered: false,
-            error: None,
-        };
+        let mut out = through(w, &mut unused);
         let written = self.write_out(&mut out, pattern, place, args, errors);
         with_error(written, out.error)
     }
@@ -221,7 +215,7 @@ impl<
         if self.writes_texts_alone(pattern) {
             return put_texts(out, pattern);
         }
-        calls_pass_through::<LinkedList<u8>>();
+        calls_are_walks();
         let mut scope = Scope::new(self, &self.entries, args, Some(errors));
         let written = write_pattern(&mut scope, out, pattern, place);
         match scope.into_errors() {

@@ -1,4 +1,8 @@
 //! What a run leaves: its status, what it prints, and what it says on standard error.
+
+ghost use Rattle.std.specs.Prelude.{◌≡◌};
+ghost use Rattle.fluent_cli.specs.Answers.{code_of};
+
 use std::alloc::{AllocError, Global};
 
 /// How a run ends.
@@ -16,7 +20,9 @@ pub enum Status {
 
 impl Status {
     /// The exit status of the program.
-    pub fn code(self) -> u8 {
+    pub fn code(self) -> u8
+        ensures { result ≡ code_of self.entry }
+    {
         match self {
             Status::Fine => 0,
             Status::Found => 1,

@@ -1,10 +1,21 @@
 //! Bundles of sources.
+ghost use Rattle.std.specs.Prelude.{◌≡◌, IfOk, OnOk, map};
+ghost use Rattle.fluent_intl.specs.RuleTexts.{category_of};
+ghost use Rattle.fluent_meaning.specs.Bundle.{after, add_resource};
+ghost use Rattle.fluent_bundle.specs.BundleView.{entries_of};
+ghost use Rattle.fluent_cli.specs.Language.{bundle_of, bundle_view, language_rules, start_by};
+
 use fluent_bundle::{
     AddFault, FluentBundle, FluentResource, NoCustom, NoFormatter, NoFunction, NoTransform,
 };
-use fluent_catalog::{LanguageFault, plurals_for};
-use fluent_intl::RuleTexts;
+use fluent_intl::{LanguageRules, RuleTexts, cldr_plurals, rules_for};
 use std::alloc::{AllocError, Global};
+
+/// The rules of a language that has none.
+const NO_RULES: LanguageRules<'static> = LanguageRules {
+    cardinal: "",
+    ordinal: "",
+};
 
 /// A bundle with the plural rules of a language, to which an application adds nothing of its own.
 pub(crate) type Bundle<'r, 's> = FluentBundle<
@@ -17,24 +28,27 @@ pub(crate) type Bundle<'r, 's> = FluentBundle<
     NoTransform,
 >;
 
-/// The plural rules of a language; the Unicode CLDR's root where that has none of its own.
-fn rules_of(alloc: Global, tag: &str) -> Result<RuleTexts, AllocError> {
-    match plurals_for(alloc, tag) {
+/// The plural rules of a language by its tag; none where the Unicode CLDR has none.
+fn plurals_of(alloc: Global, tag: &str) -> Result<RuleTexts, AllocError>
+    ensures { IfOk result (λ rules. rules ≡ language_rules tag.now) }
+{
+    let texts = rules_for(cldr_plurals(), tag).unwrap_or(NO_RULES);
+    match RuleTexts::parse(alloc, texts.cardinal, texts.ordinal) {
         Ok(rules) => Ok(rules),
-        Err(LanguageFault::Unknown) => match RuleTexts::parse(alloc, "", "") {
-            Ok(rules) => Ok(rules),
-            Err(_) => Err(AllocError),
-        },
-        Err(LanguageFault::Rules(_)) => Err(AllocError),
+        // All of CLDR's rules can be read, so an allocation failed.
+        Err(_) => Err(AllocError),
     }
 }
 
 /// A bundle with the built-in function alone.
-fn start<'r, 's>(alloc: Global, tag: &str) -> Result<Bundle<'r, 's>, AllocError> {
-    let mut bundle = FluentBundle::new(alloc, Vec::new(alloc), rules_of(alloc, tag)?);
+fn start<'r, 's>(alloc: Global, tag: &str) -> Result<Bundle<'r, 's>, AllocError>
+    ensures { IfOk result (λ bundle. bundle_view bundle
+        ≡ start_by (category_of (language_rules tag.now))) }
+{
+    let mut bundle = FluentBundle::new(alloc, Vec::new(alloc), plurals_of(alloc, tag)?);
     match bundle.add_builtins() {
         Ok(()) => Ok(bundle),
-        // All ids are free, so it is memory that was refused.
+        // All ids are free, so an allocation failed.
         Err(_) => Err(AllocError),
     }
 }
@@ -43,15 +57,32 @@ fn start<'r, 's>(alloc: Global, tag: &str) -> Result<Bundle<'r, 's>, AllocError>
 fn add<'r, 's>(
     bundle: &mut Bundle<'r, 's>,
     resource: &'r FluentResource<'s>,
-) -> Result<(), AllocError> {
+) -> Result<(), AllocError>
+    ensures { OnOk result (bundle_view bundle.new
+        ≡ after (add_resource (entries_of resource.now)) (bundle_view bundle.old)) }
+{
     match bundle.add_resource(resource) {
         Ok(()) | Err(AddFault::Overriding(_)) => Ok(()),
         Err(AddFault::Memory) => Err(AllocError),
     }
 }
 
+/// A bundle of one resource.
+fn bundle_alone<'r, 's>(
+    alloc: Global,
+    tag: &str,
+    resource: &'r FluentResource<'s>,
+) -> Result<Bundle<'r, 's>, AllocError>
+    ensures { IfOk result (λ bundle. bundle_view bundle
+        ≡ bundle_of tag.now (entries_of resource.now)) }
+{
+    let mut bundle = start(alloc, tag)?;
+    add(&mut bundle, resource)?;
+    Ok(bundle)
+}
+
 /// A bundle of these resources.
-pub(crate) fn bundle_of<'r, 's>(
+pub(crate) fn bundle_of_all<'r, 's>(
     alloc: Global,
     tag: &str,
     resources: &'r [FluentResource<'s>],
@@ -68,12 +99,13 @@ pub(crate) fn bundles_of<'r, 's>(
     alloc: Global,
     tag: &str,
     resources: &'r [FluentResource<'s>],
-) -> Result<Vec<Bundle<'r, 's>>, AllocError> {
+) -> Result<Vec<Bundle<'r, 's>>, AllocError>
+    ensures { IfOk result (λ bundles. map bundle_view bundles.items
+        ≡ map (λ r. bundle_of tag.now (entries_of r)) resources.now) }
+{
     let mut bundles = Vec::new(alloc);
     for resource in resources {
-        let mut bundle = start(alloc, tag)?;
-        add(&mut bundle, resource)?;
-        bundles.push(bundle)?;
+        bundles.push(bundle_alone(alloc, tag, resource)?)?;
     }
     Ok(bundles)
 }

@@ -1,6 +1,6 @@
 //! What is wrong with the files of a language.
 use crate::answer::{Answer, Status};
-use crate::bundle::{Bundle, bundle_of};
+use crate::bundle::{Bundle, bundle_of_all};
 use crate::faults::{add_builtin, add_repeated, add_taken, add_unreadable, say_faults, spots_in};
 use crate::linted::add_linted;
 use crate::places::{Places, places_of};
@@ -50,7 +50,7 @@ fn add_compared<'s>(
     if references.texts.is_empty() {
         return Ok(());
     }
-    let bundle = bundle_of(alloc, "en", references.resources.as_slice())?;
+    let bundle = bundle_of_all(alloc, "en", references.resources.as_slice())?;
     let spots = spots_in(alloc, references)?;
     let places = places_of(alloc, &bundle, spots.as_slice(), first)?;
     let reference = Side {
@@ -68,7 +68,14 @@ fn add_faults<'s>(
     findings: &mut Vec<Finding<'s>>,
 ) -> Result<(), AllocError> {
     add_unreadable(sources, findings)?;
-    add_taken(alloc, sources, spots, 0, sources.resources.as_slice(), findings)?;
+    add_taken(
+        alloc,
+        sources,
+        spots,
+        0,
+        sources.resources.as_slice(),
+        findings,
+    )?;
     add_builtin(spots, findings)?;
     add_repeated(alloc, spots, findings)
 }
@@ -103,7 +110,7 @@ fn findings_of<'s>(
     let spots = spots_in(alloc, sources)?;
     add_faults(alloc, sources, spots.as_slice(), &mut findings)?;
     let tag = language.unwrap_or("en");
-    let bundle = bundle_of(alloc, tag, sources.resources.as_slice())?;
+    let bundle = bundle_of_all(alloc, tag, sources.resources.as_slice())?;
     let places = places_of(alloc, &bundle, spots.as_slice(), 0)?;
     let side = Side {
         bundle: &bundle,

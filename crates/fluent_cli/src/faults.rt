@@ -79,7 +79,11 @@ fn place_of<'s>(entry: &Entry<'s>) -> Option<Place<'s>> {
 }
 
 /// Where a definition stands, in these resources from this file on.
-fn spot_of(spots: &[Spots<'_>], first: usize, definition: Definition) -> Option<(usize, LineColumn)> {
+fn spot_of(
+    spots: &[Spots<'_>],
+    first: usize,
+    definition: Definition,
+) -> Option<(usize, LineColumn)> {
     let file = first.saturating_add(definition.resource);
     let at = spots.get(file)?.entries.get(definition.entry)?;
     Some((file, *at))

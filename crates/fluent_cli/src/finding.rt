@@ -1,6 +1,6 @@
 //! What is found in a source.
-use fluent_lint::{LineColumn, Place};
 use fluent_intl::PluralCategory;
+use fluent_lint::{LineColumn, Place};
 use std::fmt;
 
 /// How much a finding weighs.
@@ -160,7 +160,10 @@ impl fmt::Display for Kind<'_> {
             }
             Kind::NoFunction(name, within) => {
                 let within = Named(*within);
-                write!(f, "no function '{name}', unless the application adds it (in '{within}')")
+                write!(
+                    f,
+                    "no function '{name}', unless the application adds it (in '{within}')"
+                )
             }
             Kind::Cyclic(place) => {
                 let name = Named(*place);
@@ -182,7 +185,10 @@ impl fmt::Display for Kind<'_> {
             }
             Kind::Large(place, count, limit) => {
                 let name = Named(*place);
-                write!(f, "'{name}' can open {count} placeables, and no more than {limit} are opened")
+                write!(
+                    f,
+                    "'{name}' can open {count} placeables, and no more than {limit} are opened"
+                )
             }
             Kind::Lacks(category, within) => {
                 let key = key_of(*category);
@@ -204,11 +210,17 @@ impl fmt::Display for Kind<'_> {
             }
             Kind::AsksFor(variable, place) => {
                 let name = Named(*place);
-                write!(f, "'{name}' asks for ${variable}, and the reference doesn't")
+                write!(
+                    f,
+                    "'{name}' asks for ${variable}, and the reference doesn't"
+                )
             }
             Kind::LeavesOut(variable, place) => {
                 let name = Named(*place);
-                write!(f, "'{name}' doesn't ask for ${variable}, and the reference does")
+                write!(
+                    f,
+                    "'{name}' doesn't ask for ${variable}, and the reference does"
+                )
             }
         }
     }

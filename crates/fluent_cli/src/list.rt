@@ -1,6 +1,6 @@
 //! What messages and terms ask for.
 use crate::answer::{Answer, Status};
-use crate::bundle::{Bundle, bundle_of};
+use crate::bundle::{Bundle, bundle_of_all};
 use crate::faults::{say_faults, spots_in};
 use crate::finding::Named;
 use crate::places::places_of;
@@ -25,7 +25,7 @@ fn put_place<'s>(
 
 /// Lists the values and attributes of these sources, each on a line with the variables that it asks for.
 pub(crate) fn list(alloc: Global, sources: &Sources<'_>) -> Result<Answer, AllocError> {
-    let bundle = bundle_of(alloc, "en", sources.resources.as_slice())?;
+    let bundle = bundle_of_all(alloc, "en", sources.resources.as_slice())?;
     let spots = spots_in(alloc, sources)?;
     let mut output = String::new(alloc);
     for (place, _) in &places_of(alloc, &bundle, spots.as_slice(), 0)? {

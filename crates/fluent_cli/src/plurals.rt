@@ -1,8 +1,7 @@
 //! Selects on numbers, by the plural categories of a language.
 use crate::finding::{Kind, key_of};
 use fluent_bundle::ast::{
-    Expression, InlineExpression, NamedArgument, Pattern, PatternElement, Variant,
-    VariantKey,
+    Expression, InlineExpression, NamedArgument, Pattern, PatternElement, Variant, VariantKey,
 };
 use fluent_intl::{LanguageRules, PluralCategory};
 use fluent_lint::Place;

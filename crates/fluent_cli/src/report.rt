@@ -37,9 +37,10 @@ impl Counts {
 
 /// Sorts findings by file, line and column.
 pub(crate) fn sort(alloc: Global, findings: &mut Vec<Finding<'_>>) -> Result<(), AllocError> {
-    findings
-        .as_mut_slice()
-        .sort_by_key(alloc, |finding| (finding.file, finding.at.line, finding.at.column))
+    findings.as_mut_slice().sort_by_key(
+        alloc,
+        |finding| (finding.file, finding.at.line, finding.at.column),
+    )
 }
 
 /// The line of a finding.

@@ -1,11 +1,14 @@
 //! A run of the program, over the contents of its files.
+
+ghost use Rattle.std.specs.Prelude.{◌≤◌};
+
 use crate::answer::{Answer, Status};
 use crate::check::check;
 use crate::list::list;
 use crate::show::show;
+pub use crate::source::File;
 use crate::source::{Sources, read_sources, say_marks};
 use crate::words::Request;
-pub use crate::source::File;
 use std::alloc::{AllocError, Global};
 
 /// What is left where a file is no text.
@@ -29,7 +32,9 @@ fn answer<'s>(
 }
 
 /// How many of a request's files are no references.
-fn own_files(request: &Request<'_>, files: usize) -> usize {
+fn own_files(request: &Request<'_>, files: usize) -> usize
+    ensures { result ≤ files }
+{
     match request {
         Request::Check(request) => files.min(request.files.len()),
         Request::Show(_) | Request::List(_) => files,

@@ -1,4 +1,13 @@
 //! A message as an application shows it.
+
+ghost use Rattle.std.specs.Prelude.{◌≡◌, [], IfOk, map, string_bytes, is_some};
+ghost use Rattle.fluent_bundle.specs.BundleView.{entries_of};
+ghost use Rattle.fluent_chain.specs.ChainView.{bundles_of};
+ghost use Rattle.fluent_values.specs.View.{named, value_view};
+ghost use Rattle.fluent_cli.specs.Answers.{status_shown};
+ghost use Rattle.fluent_cli.specs.Language.{bundle_view};
+ghost use Rattle.fluent_cli.specs.Shown.{arguments_of, found_in, show, shown_by, value_of};
+
 use crate::answer::{Answer, Status};
 use crate::bundle::bundles_of;
 use crate::faults::say_faults;
@@ -25,19 +34,27 @@ type Texts<'c, 'r, 's> = Chain<
     NoTransform,
 >;
 
+/// The value of an argument.
+fn value_of<'w>(argument: &Argument<'w>) -> FluentValue<'w, NoCustom>
+    ensures { value_view (λ c. []) result ≡ value_of argument.now.is_text argument.now.value.now }
+{
+    if argument.is_text {
+        FluentValue::from(argument.value)
+    } else {
+        FluentValue::try_number(argument.value)
+    }
+}
+
 /// The arguments of a message. One that comes later takes the place of one with its name.
 fn arguments<'w>(
     alloc: Global,
     words: &[Argument<'w>],
-) -> Result<FluentArgs<'w, NoCustom>, AllocError> {
+) -> Result<FluentArgs<'w, NoCustom>, AllocError>
+    ensures { IfOk result (λ args. named (λ c. []) args ≡ arguments_of words.now) }
+{
     let mut args = FluentArgs::new(alloc);
     for word in words {
-        let value = if word.is_text {
-            FluentValue::from(word.value)
-        } else {
-            FluentValue::try_number(word.value)
-        };
-        args.set(CowStr::Borrowed(word.name), value)?;
+        args.set(CowStr::Borrowed(word.name), value_of(word))?;
     }
     Ok(args)
 }
@@ -48,18 +65,21 @@ fn text_of<'s>(
     texts: &Texts<'_, '_, 's>,
     request: &ShowRequest<'_>,
     errors: &mut Vec<FluentError>,
-) -> Result<String, AllocError> {
+) -> Result<String, AllocError>
+    ensures { IfOk result (λ text. string_bytes text
+        ≡ (shown_by request.now (map bundle_view (bundles_of texts.now))).text) }
+{
     let args = arguments(alloc, request.arguments.as_slice())?;
     match request.attribute {
-        Some(name) => {
-            texts.format_attribute_owned(alloc, request.id, name, Some(&args), errors)
-        }
+        Some(name) => { texts.format_attribute_owned(alloc, request.id, name, Some(&args), errors) }
         None => texts.format_value_owned(alloc, request.id, Some(&args), errors),
     }
 }
 
 /// Whether one of the bundles has what was asked for.
-fn has(texts: &Texts<'_, '_, '_>, request: &ShowRequest<'_>) -> bool {
+fn has(texts: &Texts<'_, '_, '_>, request: &ShowRequest<'_>) -> bool
+    ensures { result ≡ is_some (found_in request.now (map bundle_view (bundles_of texts.now))) }
+{
     match request.attribute {
         Some(name) => texts.has_attribute(request.id, name),
         None => texts.has_value(request.id),
@@ -84,8 +104,10 @@ fn say_errors(errors: &[FluentError], text: &mut String) -> Result<(), AllocErro
 }
 
 /// The status of a run that showed a text.
-fn status_of(is_there: bool, is_strict: bool, errors: &str) -> Status {
-    if is_there && (!is_strict || errors.is_empty()) {
+fn status_of(is_there: bool, is_strict: bool, is_wrong: bool) -> Status
+    ensures { result ≡ status_shown is_there is_strict is_wrong }
+{
+    if is_there && !(is_strict && is_wrong) {
         Status::Fine
     } else {
         Status::Found
@@ -97,7 +119,10 @@ pub(crate) fn show(
     alloc: Global,
     request: &ShowRequest<'_>,
     sources: &Sources<'_>,
-) -> Result<Answer, AllocError> {
+) -> Result<Answer, AllocError>
+    ensures { IfOk result (λ answer. string_bytes answer.output
+        ≡ show request.now (map entries_of sources.now.resources.items)) }
+{
     let bundles = bundles_of(alloc, request.language, sources.resources.as_slice())?;
     let texts = Chain::of(bundles.as_slice());
     let mut errors = Vec::new(alloc);
@@ -111,7 +136,7 @@ pub(crate) fn show(
         say_missing(request, &mut said)?;
     }
     Ok(Answer {
-        status: status_of(is_there, request.is_strict, said.as_str()),
+        status: status_of(is_there, request.is_strict, !said.is_empty()),
         output,
         errors: said,
     })

@@ -95,7 +95,10 @@ pub(crate) fn say_marks(sources: &[Source<'_>], errors: &mut String) -> Result<(
     for source in sources {
         if source.had_mark {
             let name = source.name;
-            write!(errors, "fluent: warning: {name}: a byte order mark was taken off\n")?;
+            write!(
+                errors,
+                "fluent: warning: {name}: a byte order mark was taken off\n"
+            )?;
         }
     }
     Ok(())

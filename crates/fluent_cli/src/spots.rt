@@ -53,7 +53,9 @@ impl<'s> Lines<'s> {
         if let Some(rest) = self.source.get(self.next..) {
             for line in rest.split_inclusive('\n') {
                 let text = if mark == "." { unindented(line) } else { line };
-                found = self.next.saturating_add(line.len().saturating_sub(text.len()));
+                found = self
+                    .next
+                    .saturating_add(line.len().saturating_sub(text.len()));
                 self.next = self.next.saturating_add(line.len());
                 if names(text, mark, name) {
                     break;
@@ -94,11 +96,7 @@ impl<'s> Lines<'s> {
 }
 
 /// A place of a message or a term.
-fn place_of<'s>(
-    is_term: bool,
-    id: Identifier<'s>,
-    attribute: Option<Identifier<'s>>,
-) -> Place<'s> {
+fn place_of<'s>(is_term: bool, id: Identifier<'s>, attribute: Option<Identifier<'s>>) -> Place<'s> {
     if is_term {
         Place::Term(id, attribute)
     } else {

@@ -98,13 +98,18 @@ fn check_command<'a>(alloc: Global) -> Result<Command<'a>, AllocError> {
         .action(ArgAction::Append)
         .help("A file of the language that the files were translated from (may be given again)");
     Command::new(alloc, "check")
-        .about("Finds what is wrong with files, which count as one source: status 1 if there is anything")
+        .about(
+            "Finds what is wrong with files, which count as one source: status 1 if there is anything",
+        )
         .arg(language_option(
             alloc,
             "The language of the files, as 'pl': selects on numbers are held against its plural categories",
         ))?
         .arg(reference)?
-        .arg(files_argument(alloc, "Files of one language, in the order in which they are read"))
+        .arg(files_argument(
+            alloc,
+            "Files of one language, in the order in which they are read",
+        ))
 }
 
 fn show_command<'a>(alloc: Global) -> Result<Command<'a>, AllocError> {
@@ -136,7 +141,9 @@ fn show_command<'a>(alloc: Global) -> Result<Command<'a>, AllocError> {
         .action(ArgAction::Append)
         .help("Arguments: each a number where its value reads as one, and else a text");
     Command::new(alloc, "show")
-        .about("Shows a message as an application would, and what goes wrong in it on standard error")
+        .about(
+            "Shows a message as an application would, and what goes wrong in it on standard error",
+        )
         .arg(language_option(
             alloc,
             "The language whose plural rules are used [default: en]",
@@ -152,7 +159,10 @@ fn show_command<'a>(alloc: Global) -> Result<Command<'a>, AllocError> {
 fn list_command<'a>(alloc: Global) -> Result<Command<'a>, AllocError> {
     Command::new(alloc, "list")
         .about("Lists messages and terms, with the variables that each asks for")
-        .arg(files_argument(alloc, "Files of one language, in the order in which they are read"))
+        .arg(files_argument(
+            alloc,
+            "Files of one language, in the order in which they are read",
+        ))
 }
 
 fn command<'a>(alloc: Global) -> Result<Command<'a>, AllocError> {
@@ -191,7 +201,11 @@ fn said<'w>(alloc: Global, error: Error) -> Result<Asked<'w>, AllocError> {
 }
 
 /// The values of an option.
-fn values<'w>(alloc: Global, matches: &ArgMatches<'w>, id: &str) -> Result<Vec<&'w str>, AllocError> {
+fn values<'w>(
+    alloc: Global,
+    matches: &ArgMatches<'w>,
+    id: &str,
+) -> Result<Vec<&'w str>, AllocError> {
     let mut list = Vec::new(alloc);
     if let Some(found) = matches.get_strs(id) {
         list.extend_from_slice(found)?;

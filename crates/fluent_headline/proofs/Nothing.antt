@@ -1,14 +1,18 @@
 -- What was not begun wrote and added nothing, and what is done in a bundle is done in one of the same content.
-use Rattle.std.specs.Prelude.{◌≡◌, false, is_ok, List, [], Option, Some, None, Result, Ok, Err, IfOk, refl}
+use Rattle.std.specs.Prelude.{◌≡◌, Bool, false, is_ok, List, [], Option, Some, None, Result, Ok, Err, IfOk, refl}
 use Rattle.std.specs.declared.alloc.AllocError.{AllocError}
 use Rattle.std.specs.declared.borrow.CowStr.{CowStr}
 use Rattle.std.specs.Io.KnownBytes.{Appends}
-use Rattle.std.proofs.Common.{subst, sym, append-nil, Global}
+use Rattle.std.proofs.Common.{ap, subst, sym, append-nil, Global}
 use Rattle.fluent_text.specs.declared.counting.WriteFault.{WriteFault}
 use Rattle.fluent_tree.specs.Tree.{Text, Pattern}
 use Rattle.fluent_meaning.specs.Arguments.{Map}
 use Rattle.fluent_meaning.specs.Bundle.{Bundle}
 use Rattle.fluent_meaning.specs.Value.{Value}
+use Rattle.fluent_text.specs.Writer.{writer_in}
+use Rattle.fluent_text.specs.declared.counting.Counting.{Counting}
+use Rattle.fluent_bundle.specs.ById.{GivesAsked, WritesAsked}
+use Rattle.fluent_headline.specs.ById.{GivesFound, WritesFound}
 use Rattle.fluent_headline.specs.Headline.{Errors, Gives, Writes}
 use Rattle.fluent_meaning.specs.Errors.{Error}
 use Rattle.fluent_bundle.specs.Formatted.{WritesFront, AddsFront}
@@ -40,3 +44,34 @@ gives_in b b' args p result errors errors' same gives = subst (λ a. Gives a arg
 
 pub writes_in : (b b' : Bundle Text) (args : Map (Value Text)) (p : Pattern) (result : Result (Unit {0}) WriteFault) (held held' : Option Text) (errors errors' : Errors) → b ≡ b' → Writes b args p result held held' errors errors' → Writes b' args p result held held' errors errors'
 writes_in b b' args p result held held' errors errors' same writes = subst (λ a. Writes a args p result held held' errors errors') same writes
+
+-- ---- of what an id names
+
+pub gives_found_none : (b : Bundle Text) (args : Map (Value Text)) (asked : Option Pattern) (r : Result (Option (CowStr Global)) AllocError) (errors : Errors) → is_ok r ≡ false → GivesFound b args asked r errors errors
+gives_found_none b args asked (Ok x) errors h = cc
+gives_found_none b args None (Err e) errors h = record { nothing = (tt, refl); within = tt; whole = tt; front = tt }
+gives_found_none b args (Some p) (Err e) errors h = record { nothing = tt; within = λ few. record { text = tt; adds = tt }; whole = record { text = tt; adds = tt }; front = none_added _ _ }
+
+pub writes_found_none : (b : Bundle Text) (args : Map (Value Text)) (asked : Option Pattern) (r : Result Bool WriteFault) (held : Option Text) (errors : Errors) → is_ok r ≡ false → WritesFound b args asked r held held errors errors
+writes_found_none b args asked (Ok x) held errors h = cc
+writes_found_none b args None (Err e) held errors h = record { there = tt; nothing = (refl, refl); within = tt; whole = tt; front = tt }
+writes_found_none b args (Some p) (Err e) held errors h = record { there = tt; nothing = tt; within = λ few. tt; whole = tt; front = none_written _ _ _ _ }
+
+found : (b : Bundle Text) (args : Map (Value Text)) (asked : Option Pattern) (r : Result (Option (CowStr Global)) AllocError) (errors errors' : Errors)
+    → GivesAsked (record { bundle = b; args = args }) asked r errors errors' → GivesFound b args asked r errors errors'
+found b args None r errors errors' gives = record { nothing = (subst (λ q. IfOk q (λ text. text ≡ None)) (sym gives.nothing.0) refl, gives.nothing.1); within = tt; whole = tt; front = tt }
+found b args (Some p) r errors errors' gives = record { nothing = tt; within = gives.within; whole = gives.whole; front = gives.front }
+
+pub gives_found_in : (b b' : Bundle Text) (args : Map (Value Text)) (ask : Bundle Text → Option Pattern) (r : Result (Option (CowStr Global)) AllocError) (errors errors' : Errors) → b ≡ b'
+    → GivesAsked (record { bundle = b; args = args }) (ask b) r errors errors' → GivesFound b' args (ask b') r errors errors'
+gives_found_in b b' args ask r errors errors' same gives = subst (λ a. GivesFound a args (ask a) r errors errors') same (found b args (ask b) r errors errors' gives)
+
+found_written : {W : Type 0} (b : Bundle Text) (args : Map (Value Text)) (asked : Option Pattern) (r : Result Bool WriteFault) (contents : W → Option Text) (w w' : Counting W) (errors errors' : Errors)
+    → WritesAsked (record { bundle = b; args = args }) asked r contents w w' errors errors' → WritesFound b args asked r (contents (writer_in w)) (contents (writer_in w')) errors errors'
+found_written b args None r contents w w' errors errors' writes = record { there = writes.there; nothing = (ap (λ v. contents (writer_in v)) writes.nothing.1, writes.nothing.2); within = tt; whole = tt; front = tt }
+found_written b args (Some p) r contents w w' errors errors' writes = record { there = writes.there; nothing = tt; within = writes.within; whole = writes.whole; front = writes.front }
+
+pub writes_found_in : {W : Type 0} (b b' : Bundle Text) (args : Map (Value Text)) (ask : Bundle Text → Option Pattern) (r : Result Bool WriteFault) (contents : W → Option Text) (w w' : Counting W) (errors errors' : Errors) → b ≡ b'
+    → WritesAsked (record { bundle = b; args = args }) (ask b) r contents w w' errors errors' → WritesFound b' args (ask b') r (contents (writer_in w)) (contents (writer_in w')) errors errors'
+writes_found_in b b' args ask r contents w w' errors errors' same writes =
+    subst (λ a. WritesFound a args (ask a) r (contents (writer_in w)) (contents (writer_in w')) errors errors') same (found_written b args (ask b) r contents w w' errors errors' writes)

@@ -215,3 +215,133 @@ pub fn format_after<
     )?;
     bundle.format_pattern(pattern, args, errors)
 }
+
+/// Writes the value of a message of a bundle, or its first attribute of a name where one is given.
+fn write_in<
+    'r,
+    's: 'r,
+    M: MemoizerKind,
+    C: FluentType,
+    F: FluentFunction<C>,
+    G: FluentFormatter<C, M>,
+    T: Transform,
+    W: Write,
+>(
+    bundle: &FluentBundle<'r, 's, M, C, F, G, T>,
+    args: Option<&FluentArgs<'_, C>>,
+    id: &str,
+    attribute: Option<&str>,
+    w: &mut Counting<W>,
+    errors: &mut Vec<FluentError>,
+) -> Result<bool, WriteFault>
+    ensures text { ⟦<Asked<'s, F, G, T> as Makes<M, C>>⟧.writes_in W bundle.now
+        args.entry id.now attribute.entry
+        result W.contents w.old w.new errors.old errors.new }
+    ensures fault { CountsFault w.old w.new result }
+{
+    match attribute {
+        None => bundle.write_value(w, id, args, errors),
+        Some(name) => bundle.write_attribute(w, id, name, args, errors),
+    }
+}
+
+/// Gives the text of the value of a message of a bundle, or of its first attribute of a name where one is given.
+fn format_in<
+    'r,
+    's: 'r,
+    M: MemoizerKind,
+    C: FluentType,
+    F: FluentFunction<C>,
+    G: FluentFormatter<C, M>,
+    T: Transform,
+>(
+    bundle: &FluentBundle<'r, 's, M, C, F, G, T>,
+    args: Option<&FluentArgs<'_, C>>,
+    id: &str,
+    attribute: Option<&str>,
+    errors: &mut Vec<FluentError>,
+) -> Result<Option<CowStr<'s>>, AllocError>
+    ensures { ⟦<Asked<'s, F, G, T> as Makes<M, C>>⟧.gives_in bundle.now args.entry
+        id.now attribute.entry result errors.old errors.new }
+{
+    match attribute {
+        None => bundle.format_value(id, args, errors),
+        Some(name) => bundle.format_attribute(id, name, args, errors),
+    }
+}
+
+/// Makes an empty bundle, makes the calls on it in order, and writes the value of the message that an id names, or its
+/// first attribute of a name where one is given, as [`write_after`] writes a pattern, and says that it is there. `false`
+/// where it isn't: then nothing is written and nothing is added. Sources, ids and limits go as in [`write_after`].
+///
+/// # Errors
+///
+/// As for [`write_after`].
+pub fn write_by_id_after<
+    's,
+    M: MemoizerKind,
+    C: FluentType,
+    F: FluentFunction<C>,
+    G: FluentFormatter<C, M>,
+    T: Transform,
+    W: Write,
+>(
+    alloc: Global,
+    intls: M,
+    calls: Vec<Asked<'s, F, G, T>>,
+    args: Option<&FluentArgs<'_, C>>,
+    id: &str,
+    attribute: Option<&str>,
+    w: &mut Counting<W>,
+    errors: &mut Vec<FluentError>,
+) -> Result<bool, WriteFault>
+    ensures text { ⟦<Asked<'s, F, G, T> as Makes<M, C>>⟧.writes_found W intls calls.entry
+        args.entry id.now attribute.entry
+        result W.contents w.old w.new errors.old errors.new }
+    ensures fault { CountsFault w.old w.new result }
+{
+    let resources = resources_of(alloc, calls.as_slice())?;
+    let bundle: FluentBundle<'_, '_, M, C, F, G, T> = bundle_over(
+        alloc,
+        intls,
+        calls,
+        resources.as_slice(),
+    )?;
+    write_in(&bundle, args, id, attribute, w, errors)
+}
+
+/// Makes an empty bundle, makes the calls on it in order, and gives the text of the value of the message that an id
+/// names, or of its first attribute of a name where one is given, as [`format_after`] gives that of a pattern. `None`
+/// where it isn't there: then nothing is added. Sources, ids and limits go as in [`write_after`].
+///
+/// # Errors
+///
+/// Memory was refused: what was added begins the errors.
+pub fn format_by_id_after<
+    's,
+    M: MemoizerKind,
+    C: FluentType,
+    F: FluentFunction<C>,
+    G: FluentFormatter<C, M>,
+    T: Transform,
+>(
+    alloc: Global,
+    intls: M,
+    calls: Vec<Asked<'s, F, G, T>>,
+    args: Option<&FluentArgs<'_, C>>,
+    id: &str,
+    attribute: Option<&str>,
+    errors: &mut Vec<FluentError>,
+) -> Result<Option<CowStr<'s>>, AllocError>
+    ensures { ⟦<Asked<'s, F, G, T> as Makes<M, C>>⟧.gives_found intls calls.entry args.entry
+        id.now attribute.entry result errors.old errors.new }
+{
+    let resources = resources_of(alloc, calls.as_slice())?;
+    let bundle: FluentBundle<'_, '_, M, C, F, G, T> = bundle_over(
+        alloc,
+        intls,
+        calls,
+        resources.as_slice(),
+    )?;
+    format_in(&bundle, args, id, attribute, errors)
+}

@@ -3,3 +3,4 @@ mod Missing
 mod Telling
 mod Round
 mod Linted
+mod Defined

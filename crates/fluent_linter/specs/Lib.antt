@@ -1,3 +1,4 @@
 pub mod Findings
 pub mod Lints
+pub mod Twice
 pub mod Inside

@@ -1,6 +1,10 @@
 //! What is told of sources, without a bundle.
 
-ghost use Rattle.std.specs.Prelude.{◌≡◌, IfOk, map};
+ghost use Rattle.std.specs.Prelude.{◌≡◌, ◌↔◌, IfOk, OnOk, IsTrue, Some, map};
+ghost use Rattle.std.specs.List.{AllByRecursion};
+ghost use Rattle.std.specs.Option.{option_map};
+ghost use Rattle.fluent_tree.specs.View.{entry_view};
+ghost use Rattle.fluent_linter.specs.Twice.{IsBefore, IsTwice, id_at, id_of};
 ghost use Rattle.fluent_lint.specs.Findings.{views};
 ghost use Rattle.fluent_linter.specs.Lints.{places_in};
 ghost use Rattle.fluent_syntax.specs.Chunks.{junk_ranges};
@@ -70,26 +74,21 @@ pub fn unreadable(
 pub fn defined_twice<'s>(
     alloc: Global,
     resources: &[FluentResource<'s>],
-) -> Result<Vec<Twice<'s>>, AllocError> {
+) -> Result<Vec<Twice<'s>>, AllocError>
+    ensures { IfOk result (λ list. AllByRecursion (IsTwice resources.now) list.items) }
+{
     let mut firsts: IndexMap<&'s str, Definition> = IndexMap::new(alloc);
     let mut list = Vec::new(alloc);
     for (i, resource) in resources.iter().enumerate() {
         for (k, entry) in resource.entries().enumerate() {
-            let Some(id) = id_of(entry) else {
-                continue;
-            };
-            let again = Definition {
-                resource: i,
-                entry: k,
-            };
-            match firsts.get(&id) {
-                Some(first) => list.push(Twice {
-                    id,
-                    first: *first,
-                    again,
-                })?,
-                None => {
-                    firsts.insert(id, again)?;
+            if let Some(id) = id_of(entry) {
+                let here = Definition {
+                    resource: i,
+                    entry: k,
+                };
+                match first_of(&mut firsts, id, here)? {
+                    Some(first) => add_twice(resources, id, first, here, &mut list)?,
+                    None => {}
                 }
             }
         }
@@ -97,8 +96,65 @@ pub fn defined_twice<'s>(
     Ok(list)
 }
 
+/// The first definition of an id, or `None` where it is this one, which is noted then.
+fn first_of<'s>(
+    firsts: &mut IndexMap<&'s str, Definition>,
+    id: &'s str,
+    here: Definition,
+) -> Result<Option<Definition>, AllocError> {
+    match firsts.get(&id) {
+        Some(first) => Ok(Some(*first)),
+        None => {
+            firsts.insert(id, here)?;
+            Ok(None)
+        }
+    }
+}
+
+/// Adds what is defined twice, once it is seen again that it is.
+fn add_twice<'s>(
+    resources: &[FluentResource<'s>],
+    id: &'s str,
+    first: Definition,
+    again: Definition,
+    list: &mut Vec<Twice<'s>>,
+) -> Result<(), AllocError>
+    ensures { OnOk result (AllByRecursion (IsTwice resources.now) list.old.items
+        → AllByRecursion (IsTwice resources.now) list.new.items) }
+{
+    if defines(resources, first, id) && defines(resources, again, id) && is_before(first, again) {
+        list.push(Twice { id, first, again })?;
+    }
+    Ok(())
+}
+
+/// Whether one entry stands before another.
+fn is_before(a: Definition, b: Definition) -> bool
+    ensures { IsTrue result ↔ IsBefore a b }
+{
+    a.resource < b.resource || (a.resource == b.resource && a.entry < b.entry)
+}
+
+/// Whether an id is defined there.
+fn defines(resources: &[FluentResource<'_>], at: Definition, id: &str) -> bool
+    ensures { IsTrue result → id_at resources.now at ≡ Some id.now }
+{
+    let Some(resource) = resources.get(at.resource) else {
+        return false;
+    };
+    let Some(entry) = resource.get_entry(at.entry) else {
+        return false;
+    };
+    match id_of(entry) {
+        Some(found) => found == id,
+        None => false,
+    }
+}
+
 /// The id of an entry that has one.
-fn id_of<'s>(entry: &ast::Entry<'s>) -> Option<&'s str> {
+fn id_of<'s>(entry: &ast::Entry<'s>) -> Option<&'s str>
+    ensures { option_map (λ id. id.now) result ≡ id_of (entry_view entry.now) }
+{
     match entry {
         ast::Entry::Message(message) => Some(message.id.name),
         ast::Entry::Term(term) => Some(term.id.name),

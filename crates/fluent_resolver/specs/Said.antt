@@ -6,9 +6,10 @@ use Rattle.fluent_text.specs.declared.counting.Counting.{Counting}
 use Rattle.fluent_tree.specs.References.{Reference, in_expression, inlines_view, nameds_view, variants_view}
 use Rattle.fluent_tree.specs.Tree as t
 use Rattle.fluent_tree.specs.Tree.{Text, placeable, select}
-use Rattle.fluent_tree.specs.View.{arguments_view, call_view, expression_view, inline_view, pattern_view}
+use Rattle.fluent_tree.specs.View.{arguments_view, attribute_of, call_view, expression_view, inline_view, pattern_view}
 use Rattle.fluent_tree.specs.declared.ast.CallArguments.{CallArguments}
 use Rattle.fluent_tree.specs.declared.ast.Expression.{Expression}
+use Rattle.fluent_tree.specs.declared.ast.Identifier.{Identifier}
 use Rattle.fluent_tree.specs.declared.ast.InlineExpression.{InlineExpression}
 use Rattle.fluent_tree.specs.declared.ast.NamedArgument.{NamedArgument}
 use Rattle.fluent_tree.specs.declared.ast.Pattern.{Pattern}
@@ -44,6 +45,10 @@ parts p b below env path = walk.elements with_work b below env path (has_one (pa
 abbrev pub part : Bool → Expression → Walk Text
 part one e b below env path = walk.part with_work b below env path one (placeable (expression_view e))
 
+-- an expression, and what it refers to
+abbrev pub in_shown : Expression → List Reference
+in_shown e = in_expression (expression_view e)
+
 abbrev pub shown : Expression → Walk Text
 shown e b below env path = walk.expression with_work b below env path (expression_view e)
 
@@ -56,6 +61,10 @@ in_select x vs = in_expression (select_view x vs)
 
 abbrev pub selected : InlineExpression → List Variant → Walk Text
 selected x vs b below env path = walk.expression with_work b below env path (select_view x vs)
+
+-- a term reference
+abbrev pub term_view : Identifier → Option Identifier → Option (Box CallArguments) → t.Inline
+term_view id attribute arguments = t.term id.name.now (attribute_of attribute) (call_view arguments)
 
 -- what a reference leads to
 abbrev pub follow : InlineExpression → Text → Found → Walk Text

@@ -4,10 +4,11 @@
 ghost use Rattle.std.specs.Prelude.{◌≡◌, ◌<◌};
 ghost use Rattle.fluent_tree.specs.References.{in_inline};
 ghost use Rattle.fluent_tree.specs.Tree.{function, term};
-ghost use Rattle.fluent_tree.specs.View.{inline_view, attribute_of, call_view, arguments_view};
+ghost use Rattle.fluent_tree.specs.View.{inline_view, arguments_view};
 ghost use Rattle.fluent_meaning.specs.Walk.{written, follow, go};
 ghost use Rattle.fluent_state.specs.FoundView.{IsLed, IsStored, content_at, found_view};
 ghost use Rattle.fluent_entries.specs.Numbered.{IsPlaced};
+ghost use Rattle.fluent_resolver.specs.Said.{term_view};
 ghost use Rattle.fluent_resolver.specs.Sizes.{size, IsBelow};
 
 use crate::arguments::{resolve_call, resolve_local};
@@ -93,9 +94,7 @@ fn write_term<'p, 's, W: Write, C: FluentType, F: FluentFunction<C>, B: Context<
     arguments: &'p Option<Box<CallArguments<'s>>>,
     place: Place<'p>,
 ) -> Result<(), Halt>
-    requires view { inline_view inline.now
-        ≡ term id.now.name.now (attribute_of attribute.now)
-        (call_view arguments.now) }
+    requires view { inline_view inline.now ≡ term_view id.now attribute.now arguments.now }
     requires placed { IsPlaced scope.old.ids.now (in_inline (inline_view inline.now)) place }
     ensures { ⟦<W as Says<C, F, B>>⟧.inline inline.now result out.old out.new scope.old scope.new }
 {

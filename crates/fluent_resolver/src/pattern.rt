@@ -2,11 +2,12 @@
 #![tactic(auto, unfolding(fluent_state::specs::Status::state_parts))]
 
 ghost use Rattle.std.specs.Prelude.{◌≢◌};
-ghost use Rattle.fluent_tree.specs.References.{in_expression, references};
-ghost use Rattle.fluent_tree.specs.View.{expression_view, pattern_view};
+ghost use Rattle.fluent_tree.specs.References.{references};
+ghost use Rattle.fluent_tree.specs.View.{pattern_view};
 ghost use Rattle.fluent_meaning.specs.Meaning.{struck};
 ghost use Rattle.fluent_meaning.specs.Walk.{has_one, is_marked};
 ghost use Rattle.fluent_entries.specs.Numbered.{IsPlaced};
+ghost use Rattle.fluent_resolver.specs.Said.{in_shown};
 ghost use Rattle.fluent_state.specs.Status.{budget_view, state_parts};
 
 use crate::expression::write_expression;
@@ -30,7 +31,7 @@ pub fn write_pattern<'p, 's, W: Write, C: FluentType, F: FluentFunction<C>, B: C
     place: Place<'p>,
 ) -> Result<(), Halt>
     requires { IsPlaced (state_parts scope.old).ids (references (pattern_view pattern.now)) place }
-    ensures wrote { ⟦<W as Says<C, F, B>>⟧.whole pattern.now result out.old out.new scope.old scope.new }
+    ensures text { ⟦<W as Says<C, F, B>>⟧.whole pattern.now result out.old out.new scope.old scope.new }
     ensures memory { ⟦<W as Says<C, F, B>>⟧.owes pattern.now result out.old scope.old }
 {
     let begun = scope.begin(pattern);
@@ -48,7 +49,7 @@ pub(crate) fn write_elements<'p, 's, W: Write, C: FluentType, F: FluentFunction<
     place: Place<'p>,
 ) -> Result<(), Halt>
     requires { IsPlaced scope.old.ids.now (references (pattern_view pattern.now)) place }
-    ensures wrote { ⟦<W as Says<C, F, B>>⟧.parts pattern.now result out.old out.new scope.old scope.new }
+    ensures text { ⟦<W as Says<C, F, B>>⟧.parts pattern.now result out.old out.new scope.old scope.new }
     ensures memory { ⟦<W as Says<C, F, B>>⟧.owes pattern.now result out.old scope.old }
 {
     let one = has_one(pattern);
@@ -78,8 +79,7 @@ fn write_placeable<'p, 's, W: Write, C: FluentType, F: FluentFunction<C>, B: Con
     place: Place<'p>,
 ) -> Result<(), Halt>
     requires left { budget_view scope.old.budget ≢ struck }
-    requires placed { IsPlaced scope.old.ids.now (in_expression (expression_view expression.now))
-        place }
+    requires placed { IsPlaced scope.old.ids.now (in_shown expression.now) place }
     ensures { ⟦<W as Says<C, F, B>>⟧.part one expression.now result out.old out.new scope.old scope.new }
 {
     if !scope.take_one() {

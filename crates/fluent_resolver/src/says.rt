@@ -51,8 +51,8 @@ pub(crate) trait Says<C, F, B> {
     /// Of a pattern that a reference leads to.
     ghost go: { InlineExpression → Target → Writing Self C F B };
 
-    /// Of one that an expression refers to, where none is being written.
-    ghost tracked: { Pattern → Inline → Writing Self C F B };
+    /// Of one that any expression refers to, where none is being written.
+    ghost tracked: { Pattern → Writing Self C F B };
 
     /// Of an expression, in a pattern that stands on the path for it where that is empty.
     ghost maybe_tracked: { Pattern → Expression → Writing Self C F B };
@@ -94,8 +94,8 @@ impl<W: Write, C: FluentType, F: FluentFunction<C>, B: Context<C>> Says<C, F, B>
     ghost go = { λ x target. said.writes B.meant B.is_plain F.answer C.content W.contents
         (of.go x target) };
 
-    ghost tracked = { λ p x. said.writes B.meant B.is_plain F.answer C.content W.contents
-        (track.tracks (pattern_view p) x) };
+    ghost tracked = { λ p result w w' s s'. (x : Inline) → said.writes B.meant B.is_plain F.answer
+        C.content W.contents (track.tracks (pattern_view p) x) result w w' s s' };
 
     ghost maybe_tracked = { λ p e. said.writes B.meant B.is_plain F.answer C.content W.contents
         (track.maybe_tracks (pattern_view p) (expression_view e)) };

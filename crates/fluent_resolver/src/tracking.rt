@@ -2,7 +2,6 @@
 #![tactic(auto, unfolding(crate::specs::ScopeView::scope_parts, fluent_state::specs::Status::state_parts))]
 
 ghost use Rattle.std.specs.Prelude.{◌≡◌, ◌≢◌, Err, IsOk, IsTrue, None, Some, true};
-ghost use Rattle.fluent_tree.specs.Tree.{Inline};
 ghost use Rattle.fluent_tree.specs.View.{arguments_view, inline_view};
 ghost use Rattle.fluent_meaning.specs.Errors.{reference_of};
 ghost use Rattle.fluent_resolver.specs.ScopeSaid.{given_view};
@@ -164,8 +163,7 @@ fn write_tracked<'p, 's, W: Write, C: FluentType, F: FluentFunction<C>, B: Conte
     pattern: &'p Pattern<'s>,
 ) -> Result<(), Halt>
     requires { is_idle scope.old.path ≡ true }
-    ensures { (x : Inline) → ⟦<W as Says<C, F, B>>⟧.tracked pattern.now x result out.old out.new
-        scope.old scope.new }
+    ensures { ⟦<W as Says<C, F, B>>⟧.tracked pattern.now result out.old out.new scope.old scope.new }
 {
     references_are_walked();
     write_pattern(scope, out, pattern, Place::by_name())

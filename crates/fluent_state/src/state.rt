@@ -16,12 +16,18 @@ use std::alloc::AllocError;
 /// What one formatting call carries: its bundle, where its variables are looked up, the patterns that are being
 /// written, its list of errors, how many more placeables it may open, and what it did.
 pub struct State<'errors, 'p, 'r, 's, 'args, C, F, B> {
+    /// The list that errors are added to, if there is one.
     pub errors: Option<&'errors mut Vec<FluentError>>,
     pub bundle: &'p B,
+    /// What the bundle's ids name.
     pub ids: &'p Ids<'r, 's, F>,
+    /// Where variables are looked up.
     pub environment: Environment<'p, 'args, C>,
+    /// The patterns that are being written.
     pub path: Path<'p, 's>,
+    /// How many more placeables may be opened.
     pub budget: Budget,
+    /// What the call did so far.
     pub counts: Counts,
     /// The classes on the path are those of stored patterns that refer to something.
     ghost classed: { AreReferring (table ids.now) (classes_on path) },

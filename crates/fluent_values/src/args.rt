@@ -1,6 +1,9 @@
 //! The arguments of a formatting call.
 #![tactic(auto, unfolding(crate::specs::View::named, crate::specs::Args::shown_left, crate::specs::Args::given_left))]
 
+ghost use Rattle.std.specs.Prelude.{◌≡◌, ◌≤◌, if◌then◌else◌, length};
+ghost use Rattle.std.specs.List.{insert};
+ghost use Rattle.std.specs.Result.{is_ok};
 ghost use Rattle.fluent_values.specs.Names.{NamesRise};
 
 use crate::types::{FluentType, FluentValue};
@@ -109,7 +112,7 @@ impl<'a, C: FluentType> FluentArgs<'a, C> {
                 Ok(())
             }
             Err(at) => {
-                self.pairs.insert(at, (name, value))?;
+                insert_at(&mut self.pairs, at, (name, value))?;
                 Ok(())
             }
         }
@@ -133,6 +136,21 @@ impl<'a, C: FluentType> FluentArgs<'a, C> {
             inner: self.pairs.iter(),
         }
     }
+}
+
+/// Puts an item at a place among others. Behind all of them it is pushed, which moves it once less.
+#[inline(always)]
+fn insert_at<X: Drop>(items: &mut Vec<X>, at: usize, item: X) -> Result<(), AllocError>
+    requires { at ≤ length items.old.items }
+    ensures { items.new.items ≡ (if is_ok result then insert items.old.items at item
+        else items.old.items) }
+{
+    if at == items.len() {
+        items.push(item)?;
+    } else {
+        items.insert(at, item)?;
+    }
+    Ok(())
 }
 
 /// The names of arguments with their values, lent in the order of the names' bytes.

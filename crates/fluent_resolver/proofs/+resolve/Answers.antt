@@ -74,7 +74,7 @@ expression::write_select-returns-in-Some g t c =
     let b = state g.B.Context.meant g.B.Context.is_plain g.F.FluentFunction.answer g.C.FluentType.content c.choose_variant.new.scope in
     let asked = asks (chosen_walk a) c.in_ok-chosen.was gave begun in
     let seen : Option Chosen → Worked Text = λ o. chosen_walk a (chosen_view o) b.budget in
-    wrote (tail c.write_pattern.ensures.wrote (turns (ap seen c.in-Some.is) asked))
+    wrote (tail c.write_pattern.ensures.text (turns (ap seen c.in-Some.is) asked))
 
 pub expression::write_select-returns-in_err-add_error-in-None : goal.expression::write_select-returns-in_err-add_error-in-None
 unfolding state_parts
@@ -132,7 +132,7 @@ inline_expression::go-returns g t c =
     let x = inline_view c.args.inline.now in
     let b = state g.B.Context.meant g.B.Context.is_plain g.F.FluentFunction.answer g.C.FluentType.content c.enter.new.self in
     let p = content_at c.args.target in
-    let w = c.write_elements-written.ensures.wrote in
+    let w = c.write_elements-written.ensures.text in
     let enters = c.enter.ensures in
     let after = c.leave.ensures.elsewhere in
     let kept = w.went.along.passed.keeps in
@@ -143,13 +143,13 @@ inline_expression::go-returns g t c =
     (keeps_around enters.elsewhere kept after (left_again c.enter.result c.in_ok-put.put p c.in_ok-put.was enters kept.path c.leave.ensures))
     w (turns (entered_at c.references_are_walked.ensures.counts c.enter.result c.in_ok-put.put a b x p (sym c.is_on.ensures ∙ c.if-is_on.false) c.in_ok-put.was enters) (starts a _ _)))
 
-pub pattern::write_pattern-returns-clause-wrote : goal.pattern::write_pattern-returns-clause-wrote
+pub pattern::write_pattern-returns-clause-text : goal.pattern::write_pattern-returns-clause-text
 unfolding state_parts
-pattern::write_pattern-returns-clause-wrote g t c =
+pattern::write_pattern-returns-clause-text g t c =
     let a = state g.B.Context.meant g.B.Context.is_plain g.F.FluentFunction.answer g.C.FluentType.content c.args.scope.now in
     let b = state g.B.Context.meant g.B.Context.is_plain g.F.FluentFunction.answer g.C.FluentType.content c.begin-begun.new.self in
     let p = pattern_view c.args.pattern.now in
-    let w = c.write_elements-written.ensures.wrote in
+    let w = c.write_elements-written.ensures.text in
     let starts_at = c.begin-begun.ensures in
     let after = c.end.ensures.elsewhere in
     let kept = w.went.along.passed.keeps in
@@ -282,9 +282,9 @@ pattern::write_elements-loop-element-preserved g t c =
       placed = leaves of_element in_elements element_in_turn items c.loop-element.element-index x c.loop-element-test.true c.element-item.is a.stored.numbers (seen c.loop-element.place) (seen c.behind_element-place.result) c.behind_element-place.ensures c.loop-element.invariant.placed;
     }
 
-pub pattern::write_elements-returns-in_err-put_changed-in-TextElement-clause-wrote : goal.pattern::write_elements-returns-in_err-put_changed-in-TextElement-clause-wrote
+pub pattern::write_elements-returns-in_err-put_changed-in-TextElement-clause-text : goal.pattern::write_elements-returns-in_err-put_changed-in-TextElement-clause-text
 unfolding state_parts
-pattern::write_elements-returns-in_err-put_changed-in-TextElement-clause-wrote g t c =
+pattern::write_elements-returns-in_err-put_changed-in-TextElement-clause-text g t c =
     let a = state g.B.Context.meant g.B.Context.is_plain g.F.FluentFunction.answer g.C.FluentType.content c.args.scope.now in
     let one = has_one (pattern_view c.args.pattern.now) in
     let items = c.deref-element-items.result.now in
@@ -294,9 +294,9 @@ pattern::write_elements-returns-in_err-put_changed-in-TextElement-clause-wrote g
     let next = next_of items c.loop-element.element-index x c.loop-element-test.true c.element-item.is in
     stops c.in_err-put_changed-in-TextElement.was (search rules) (put (giving a one rest b.budget) (took_same (ap (λ s. s.transform c.in-TextElement.value.now) c.loop-element.invariant.along.passed.keeps.bundle) c.put_changed.ensures.took) (turns (giving_text a one _ rest x _ b.budget next (search rules) (view_text_in x c.in-TextElement.value c.in-TextElement.is)) c.loop-element.invariant.along))
 
-pub pattern::write_elements-returns-in_err-write_placeable-in-Placeable-clause-wrote : goal.pattern::write_elements-returns-in_err-write_placeable-in-Placeable-clause-wrote
+pub pattern::write_elements-returns-in_err-write_placeable-in-Placeable-clause-text : goal.pattern::write_elements-returns-in_err-write_placeable-in-Placeable-clause-text
 unfolding state_parts
-pattern::write_elements-returns-in_err-write_placeable-in-Placeable-clause-wrote g t c =
+pattern::write_elements-returns-in_err-write_placeable-in-Placeable-clause-text g t c =
     let a = state g.B.Context.meant g.B.Context.is_plain g.F.FluentFunction.answer g.C.FluentType.content c.args.scope.now in
     let one = has_one (pattern_view c.args.pattern.now) in
     let items = c.deref-element-items.result.now in
@@ -314,16 +314,16 @@ pattern::write_elements-returns-in_err-write_placeable-in-Placeable-clause-memor
     let texts = view_pattern c.args.pattern.now ∙ ap (λ es. pattern_of (map element_view es)) (sym c.deref-element-items.ensures.value) in
     λ h. absurd (no_placeable items c.loop-element.element-index c.element-item.result _ (subst IsTextAlone texts h) c.loop-element-test.true c.element-item.is (view_placeable_in c.element-item.result c.in-Placeable.expression c.in-Placeable.is))
 
-pub pattern::write_elements-returns-after-loop-element-clause-wrote : goal.pattern::write_elements-returns-after-loop-element-clause-wrote
+pub pattern::write_elements-returns-after-loop-element-clause-text : goal.pattern::write_elements-returns-after-loop-element-clause-text
 unfolding state_parts
-pattern::write_elements-returns-after-loop-element-clause-wrote g t c =
+pattern::write_elements-returns-after-loop-element-clause-text g t c =
     let a = state g.B.Context.meant g.B.Context.is_plain g.F.FluentFunction.answer g.C.FluentType.content c.args.scope.now in
     let one = has_one (pattern_view c.args.pattern.now) in
     ends (turns (giving_end a one _ _ (none_left c.deref-element-items.result.now c.loop-element.element-index c.loop-element-test.false)) c.loop-element.invariant.along)
 
-pub pattern::write_elements-returns-then-dirty-clause-wrote : goal.pattern::write_elements-returns-then-dirty-clause-wrote
+pub pattern::write_elements-returns-then-dirty-clause-text : goal.pattern::write_elements-returns-then-dirty-clause-text
 unfolding state_parts
-pattern::write_elements-returns-then-dirty-clause-wrote g t c =
+pattern::write_elements-returns-then-dirty-clause-text g t c =
     let a = state g.B.Context.meant g.B.Context.is_plain g.F.FluentFunction.answer g.C.FluentType.content c.args.scope.now in
     let one = has_one (pattern_view c.args.pattern.now) in
     ends (turns (giving_struck a one (drop c.loop-element.element-index c.deref-element-items.result.now) _ (search rules)) c.loop-element.invariant.along)

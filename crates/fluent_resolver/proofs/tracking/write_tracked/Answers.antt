@@ -9,4 +9,4 @@ unfolding state_parts
 returns g c = λ x.
     let a = state g.B.Context.meant g.B.Context.is_plain g.F.FluentFunction.answer g.C.FluentType.content c.args.scope.now in
     let p = pattern_view c.args.pattern.now in
-    wrote_as (tracked_at c.references_are_walked.ensures.counts a p x (idle_path c.args.scope.now.path _ c.requires)) c.write_pattern.ensures.wrote
+    wrote_as (tracked_at c.references_are_walked.ensures.counts a p x (idle_path c.args.scope.now.path _ c.requires)) c.write_pattern.ensures.text

@@ -9,4 +9,4 @@ unfolding scope_parts state_parts
 invariant_of-scope g c =
     let old = c.args.scope.now.state in
     let new = c.write_pattern.new.scope in
-    record { idle = idle_kept old.path new.path (table old.ids.now) (table new.ids.now) c.args.scope.now.idle c.write_pattern.ensures.wrote.went.along.passed.keeps.path }
+    record { idle = idle_kept old.path new.path (table old.ids.now) (table new.ids.now) c.args.scope.now.idle c.write_pattern.ensures.text.went.along.passed.keeps.path }

@@ -33,7 +33,7 @@ returns-in-Some-clause-writes g c =
     let a = status of is_plain g.F.FluentFunction.answer g.C.FluentType.content c.new-scope.result in
     let held = ap (option_map (λ e. reported e.now.items)) (sym c.into_errors.ensures ∙ c.in-Some.is) in
     writes_of c.write_pattern-written.ensures.wrote
-    (fresh c.calls_pass_through.ensures a (of c.args.self.now) (arguments_view g.C.FluentType.content c.args.args) (pattern_view c.args.pattern.now)
+    (fresh c.calls_are_walks.ensures a (of c.args.self.now) (arguments_view g.C.FluentType.content c.args.args) (pattern_view c.args.pattern.now)
     begins.bundle begins.environment begins.path begins.budget)
     (search (rules, c.new-scope.ensures.errors))
     (search (rules, held))

@@ -1,0 +1,58 @@
+-- The plural rules of a language, and the bundle that each file has.
+use Rattle.std.specs.Prelude.{ℕ, Bool, true, List, [], ◌∷◌, ◌++◌, map, Option, Some, None, Result, Ok, Err}
+use Rattle.fluent_tree.specs.Tree.{Text, Entry}
+use Rattle.fluent_intl.specs.Languages.{Texts, rules_of}
+use Rattle.fluent_intl.specs.LanguageTable.{cldr_plurals}
+use Rattle.fluent_intl.specs.RuleTree.{Rule, Rules}
+use Rattle.fluent_intl.specs.RuleGrammar.{rules}
+use Rattle.fluent_intl.specs.RuleTexts.{category_of}
+use Rattle.fluent_meaning.specs.Value.{Value, Custom, Plurals, error_value}
+use Rattle.fluent_meaning.specs.Bundle.{Bundle, empty_bundle, after, add_resource, add_builtins}
+use Rattle.fluent_bundle.specs.BundleView.{meant}
+use Rattle.fluent_bundle.specs.declared.bundle.FluentBundle.{FluentBundle}
+use Rattle.fluent_intl.specs.declared.rule_texts.RuleTexts.{RuleTexts}
+use Rattle.fluent_values.specs.declared.formatter.NoFormatter.{NoFormatter}
+use Rattle.fluent_values.specs.declared.function.NoFunction.{NoFunction}
+use Rattle.fluent_values.specs.declared.transform.NoTransform.{NoTransform}
+use Rattle.fluent_values.specs.declared.types.custom.NoCustom.{NoCustom}
+
+-- ---- plural rules
+
+-- what was read, or none
+abbrev pub or_none : Result (List Rule) ℕ → List Rule
+or_none (Ok list) = list
+or_none (Err at) = []
+
+-- the rules that a text has
+abbrev pub rules_in : Text → List Rule
+rules_in text = or_none (rules text)
+
+-- the texts of a language, empty where there are none
+abbrev pub texts_or_none : Option Texts → Texts
+texts_or_none None = record { cardinal = []; ordinal = [] }
+texts_or_none (Some texts) = texts
+
+abbrev pub rules_by : Texts → Rules
+rules_by texts = record { cardinal = rules_in texts.cardinal; ordinal = rules_in texts.ordinal }
+
+-- the rules of a language, by its tag
+abbrev pub language_rules : Text → Rules
+language_rules tag = rules_by (texts_or_none (rules_of cldr_plurals tag))
+
+-- ---- bundles
+
+-- no values and functions of an application, no formatter, no transform
+abbrev pub no_custom : Custom Text
+no_custom = record { text = λ t. []; same = λ s t. true }
+
+abbrev pub bundle_view : FluentBundle RuleTexts NoCustom NoFunction NoFormatter NoTransform → Bundle Text
+bundle_view =
+    meant category_of (λ t. []) (λ s t. true) (λ f vs as'. error_value) (λ g v m. None) (λ x t. t)
+
+-- a bundle with the built-in function alone
+abbrev pub start_by : Plurals → Bundle Text
+start_by plurals = after add_builtins (empty_bundle plurals no_custom)
+
+-- a bundle of a file's entries, with the plural rules of a language
+abbrev pub bundle_of : Text → List Entry → Bundle Text
+bundle_of tag entries = after (add_resource entries) (start_by (category_of (language_rules tag)))

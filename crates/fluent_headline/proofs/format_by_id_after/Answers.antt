@@ -1,0 +1,18 @@
+use Rattle.std.proofs.Common.{rules, ◌≡◌, false, is_ok}
+use Rattle.fluent_headline.specs.ById.{pattern_at}
+use Rattle.fluent_headline.proofs.Nothing.{gives_found_in, gives_found_none, of_ok}
+use Rattle.fluent_headline.proofs.format_by_id_after.Goals as goal
+
+pub returns-in_err-resources : goal.returns-in_err-resources
+returns-in_err-resources g c =
+    let faulted : is_ok c.from_residual.result ≡ false = search rules in
+    gives_found_none _ _ _ _ _ faulted
+
+pub returns-in_err-bundle : goal.returns-in_err-bundle
+returns-in_err-bundle g c =
+    let faulted : is_ok c.from_residual-in_err-bundle.result ≡ false = search rules in
+    gives_found_none _ _ _ _ _ faulted
+
+pub returns : goal.returns
+returns g c =
+    gives_found_in _ _ _ (pattern_at c.args.id.now c.args.attribute) _ _ _ (of_ok _ _ _ c.in_ok-bundle.was c.bundle_over.ensures) c.format_in.ensures

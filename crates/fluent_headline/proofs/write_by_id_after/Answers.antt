@@ -1,0 +1,18 @@
+use Rattle.std.proofs.Common.{rules, ◌≡◌, false, is_ok}
+use Rattle.fluent_headline.specs.ById.{pattern_at}
+use Rattle.fluent_headline.proofs.Nothing.{writes_found_in, writes_found_none, of_ok}
+use Rattle.fluent_headline.proofs.write_by_id_after.Goals as goal
+
+pub returns-in_err-resources-clause-text : goal.returns-in_err-resources-clause-text
+returns-in_err-resources-clause-text g c =
+    let faulted : is_ok c.from_residual.result ≡ false = search rules in
+    writes_found_none _ _ _ _ _ _ faulted
+
+pub returns-in_err-bundle-clause-text : goal.returns-in_err-bundle-clause-text
+returns-in_err-bundle-clause-text g c =
+    let faulted : is_ok c.from_residual-in_err-bundle.result ≡ false = search rules in
+    writes_found_none _ _ _ _ _ _ faulted
+
+pub returns-clause-text : goal.returns-clause-text
+returns-clause-text g c =
+    writes_found_in _ _ _ (pattern_at c.args.id.now c.args.attribute) _ g.W.Write.contents _ _ _ _ (of_ok _ _ _ c.in_ok-bundle.was c.bundle_over.ensures) c.write_in.ensures.text
