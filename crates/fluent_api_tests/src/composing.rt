@@ -1,7 +1,5 @@
 //! What an application composes of the bundle's calls, proved by their contracts alone.
-ghost use Rattle.std.specs.Prelude.{◌≡◌, [], ◌∷◌, IfOk, IsTrue, Some, codes};
-ghost use Rattle.fluent_meaning.specs.Bundle.{after_all, empty_bundle, set_transform, set_formatter, add_function, add_resource};
-ghost use Rattle.fluent_bundle.specs.BundleView.{entries_of, meant};
+ghost use Rattle.std.specs.Prelude.{◌≡◌, IfOk, IsTrue, Some};
 ghost use Rattle.fluent_tree.specs.Tree.{Text};
 ghost use Rattle.fluent_tree.specs.View.{pattern_view};
 ghost use Rattle.fluent_values.specs.Texts.{sole_text};
@@ -11,6 +9,7 @@ use crate::common::{Bundle, read, value_of};
 use crate::given::formats;
 use crate::lists::Bundles;
 use crate::own::{Bracketed, Own, Upper};
+use crate::says::Says;
 use fluent_bundle::ast::Pattern;
 use fluent_bundle::bundle::AddFault;
 use fluent_bundle::{
@@ -32,10 +31,7 @@ fn with_formatter<
     G: FluentFormatter<C, M>,
     T: Transform,
 >(alloc: Global, intls: M, formatter: G) -> FluentBundle<'r, 's, M, C, F, G, T>
-    ensures { let of = meant M.category C.shown C.alike F.answer G.formatted T.changed in
-        let empty = empty_bundle (M.category intls) (record { text = C.shown; same = C.alike }) in
-        of result ≡ after_all (set_formatter (Some (λ v. G.formatted formatter v intls)) ∷ [])
-        empty }
+    ensures { ⟦<FluentBundle<'r, 's, M, C, F, G, T> as Says>⟧.formats intls formatter result }
 {
     let mut bundle = FluentBundle::new(alloc, Vec::new(alloc), intls);
     bundle.set_use_isolating(true);
@@ -59,12 +55,8 @@ fn with_function<
     transform: T,
     resource: &'r FluentResource<'s>,
 ) -> Result<FluentBundle<'r, 's, M, C, F, G, T>, AddFault>
-    ensures { let of = meant M.category C.shown C.alike F.answer G.formatted T.changed in
-        let empty = empty_bundle (M.category intls) (record { text = C.shown; same = C.alike }) in
-        let upper = set_transform (Some (T.changed transform)) in
-        let function = add_function (codes "F") (F.answer function) in
-        let resource = add_resource (entries_of resource.now) in
-        IfOk result (λ b. of b ≡ after_all (upper ∷ function ∷ resource ∷ []) empty) }
+    ensures { IfOk result (⟦<FluentBundle<'r, 's, M, C, F, G, T> as Says>⟧.calls intls
+        transform function resource.now) }
 {
     let mut bundle = FluentBundle::new(alloc, Vec::new(alloc), intls);
     bundle.set_transform(Some(transform));

@@ -41,6 +41,8 @@ mod own;
 #[cfg(test)]
 mod refusing;
 #[cfg(test)]
+mod says;
+#[cfg(test)]
 mod taken;
 #[cfg(test)]
 mod trees;

@@ -1,5 +1,7 @@
 -- What a catalog holds.
-use Rattle.std.specs.Prelude.{List, map}
+use Rattle.std.specs.Prelude.{ℕ, List, map, Option}
+use Rattle.std.specs.List.{slice_get}
+use Rattle.std.specs.Option.{option_and_then}
 use Rattle.fluent_tree.specs.Tree.{Text}
 use Rattle.fluent_bundle.specs.declared.bundle.FluentBundle.{FluentBundle}
 use Rattle.fluent_catalog.specs.declared.catalog.Catalog.{Catalog}
@@ -7,6 +9,10 @@ use Rattle.fluent_catalog.specs.declared.catalog.Catalog.{Catalog}
 -- the tags of its languages, the first that is asked first
 abbrev pub tags_in : {M C F G X : Type 0} → Catalog M C F G X → List Text
 tags_in catalog = map (λ tag. tag.now) catalog.tags.items
+
+-- the tag at a place, if one is given and a language stands there
+abbrev pub tag_in : {M C F G X : Type 0} → Catalog M C F G X → Option ℕ → Option Text
+tag_in catalog place = option_and_then (slice_get (tags_in catalog)) place
 
 -- the bundles of its languages, in the same order
 abbrev pub bundles_in : {M C F G X : Type 0} → Catalog M C F G X → List (FluentBundle M C F G X)

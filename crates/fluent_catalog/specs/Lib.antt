@@ -1,3 +1,5 @@
+pub mod Adding
+pub mod CatalogCalls
 pub mod CatalogView
 pub mod Language
 pub mod Reports

@@ -1,5 +1,7 @@
 -- What is reported of sources, by language.
 use Rattle.std.specs.Prelude.{ℕ, List, [], ◌∷◌, map}
+use Rattle.std.specs.declared.vec.Vec.{Vec}
+use Rattle.std.proofs.Common.{Global}
 use Rattle.fluent_tree.specs.Tree.{Text}
 use Rattle.fluent_syntax.specs.Parsed.{error_range}
 use Rattle.fluent_meaning.specs.Errors.{Error}
@@ -15,6 +17,10 @@ pub data Told : Type 0 where
 abbrev pub report_view : Report → Told
 report_view (of.Unreadable tag errors) = unreadable tag.now (map error_range errors.items)
 report_view (of.Left tag errors) = left tag.now (map error_view errors.items)
+
+-- what a list of reports tells, in order
+abbrev pub told_in : Vec Report Global → List Told
+told_in reports = map report_view reports.items
 
 -- one report where there is anything
 abbrev pub unreadable_in : Text → List (ℕ × ℕ) → List Told

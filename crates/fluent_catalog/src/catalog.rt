@@ -1,14 +1,10 @@
 //! The bundles of several languages, the best first.
 ghost use Rattle.std.specs.Prelude.{◌≡◌, [], ◌∷◌, ◌++◌, map, OnOk, OnErr};
-ghost use Rattle.std.specs.List.{slice_get};
-ghost use Rattle.std.specs.Option.{option_map, option_and_then};
-ghost use Rattle.fluent_resolver.specs.Status.{arguments_view};
-ghost use Rattle.fluent_bundle.specs.BundleView.{meant};
-ghost use Rattle.fluent_chain.specs.Chain.{value_at, attribute_at, first_with, place_with};
-ghost use Rattle.fluent_chain.specs.ChainCalls.{GivesFound, LendsFound};
+ghost use Rattle.std.specs.Option.{option_map};
 ghost use Rattle.fluent_chain.specs.ChainView.{bundles_of};
-ghost use Rattle.fluent_catalog.specs.CatalogView.{bundles_in, tags_in};
+ghost use Rattle.fluent_catalog.specs.CatalogView.{bundles_in, tag_in, tags_in};
 
+use crate::says::Says;
 use fluent_bundle::{
     FluentArgs, FluentBundle, FluentError, FluentFormatter, FluentFunction, FluentType,
     MemoizerKind, Transform,
@@ -113,13 +109,9 @@ impl<
     ) -> Result<CowStr<'t>, AllocError>
     where
         's: 't,
-        ensures text { let of = meant M.category C.shown C.alike F.answer G.formatted T.changed in
-            let args = arguments_view C.content args.entry in
-            let found = first_with (value_at id.now) (map of (bundles_in self.now)) in
-            GivesFound id.now args found result errors.old errors.new }
-        ensures lent { let of = meant M.category C.shown C.alike F.answer G.formatted T.changed in
-            let found = first_with (λ b. value_at id.now (of b)) (bundles_in self.now) in
-            LendsFound id.now found result }
+        ensures text { ⟦<Self as Says>⟧.gives self.now id.now None args.entry result
+            errors.old errors.new }
+        ensures lent { ⟦<Self as Says>⟧.lends self.now id.now None result }
     {
         Chain::of(self.bundles.as_slice()).format_value(id, args, errors)
     }
@@ -139,14 +131,9 @@ impl<
     ) -> Result<CowStr<'t>, AllocError>
     where
         's: 't,
-        ensures text { let of = meant M.category C.shown C.alike F.answer G.formatted T.changed in
-            let args = arguments_view C.content args.entry in
-            let found = first_with (attribute_at id.now name.now) (map of (bundles_in self.now)) in
-            GivesFound id.now args found result errors.old errors.new }
-        ensures lent { let of = meant M.category C.shown C.alike F.answer G.formatted T.changed in
-            let found = first_with (λ b. attribute_at id.now name.now (of b))
-            (bundles_in self.now) in
-            LendsFound id.now found result }
+        ensures text { ⟦<Self as Says>⟧.gives self.now id.now (Some name.entry) args.entry result
+            errors.old errors.new }
+        ensures lent { ⟦<Self as Says>⟧.lends self.now id.now (Some name.entry) result }
     {
         Chain::of(self.bundles.as_slice()).format_attribute(id, name, args, errors)
     }
@@ -154,25 +141,21 @@ impl<
     /// The language that answers for the value of a message. `None` where no language has a value for it, and the id
     /// stands for the text.
     pub fn find_value(&self, id: &str) -> Option<&'s str>
-        ensures { let of = meant M.category C.shown C.alike F.answer G.formatted T.changed in
-            let place = place_with (λ b. value_at id.now (of b)) (bundles_in self.now) in
-            option_map (λ tag. tag.now) result ≡ option_and_then (slice_get (tags_in self.now)) place }
+        ensures { option_map (λ tag. tag.now) result ≡ ⟦<Self as Says>⟧.tag self.now id.now None }
     {
         self.tag_at(Chain::of(self.bundles.as_slice()).find_value(id))
     }
 
     /// The language that answers for an attribute of a message, by the rule of [`Catalog::find_value`].
     pub fn find_attribute(&self, id: &str, name: &str) -> Option<&'s str>
-        ensures { let of = meant M.category C.shown C.alike F.answer G.formatted T.changed in
-            let place = place_with (λ b. attribute_at id.now name.now (of b)) (bundles_in self.now) in
-            option_map (λ tag. tag.now) result ≡ option_and_then (slice_get (tags_in self.now)) place }
+        ensures { option_map (λ tag. tag.now) result ≡ ⟦<Self as Says>⟧.tag self.now id.now (Some name.entry) }
     {
         self.tag_at(Chain::of(self.bundles.as_slice()).find_attribute(id, name))
     }
 
     /// The tag at a place, if there is one.
     fn tag_at(&self, place: Option<usize>) -> Option<&'s str>
-        ensures { option_map (λ tag. tag.now) result ≡ option_and_then (slice_get (tags_in self.now)) place }
+        ensures { option_map (λ tag. tag.now) result ≡ tag_in self.now place }
     {
         match self.tags.as_slice().get(place?) {
             Some(tag) => Some(*tag),

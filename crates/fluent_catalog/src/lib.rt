@@ -4,6 +4,7 @@
 pub mod catalog;
 mod language;
 mod reports;
+mod says;
 
 pub use catalog::Catalog;
 pub use language::{LanguageFault, plurals_for};

@@ -1,10 +1,10 @@
 //! What is wrong with the sources of several languages.
-ghost use Rattle.std.specs.Prelude.{◌≡◌, ◌++◌, map, IfOk, OnOk, OnErr};
+ghost use Rattle.std.specs.Prelude.{◌≡◌, ◌++◌, IfOk, OnOk, OnErr};
 ghost use Rattle.fluent_syntax.specs.Chunks.{junk_ranges};
-ghost use Rattle.fluent_meaning.specs.Bundle.{add_resource, after, answered};
-ghost use Rattle.fluent_bundle.specs.BundleView.{entries_of, meant, IsRead, Kept};
-ghost use Rattle.fluent_catalog.specs.Reports.{left_in, report_view, unreadable_in};
+ghost use Rattle.fluent_bundle.specs.BundleView.{IsRead, Kept};
+ghost use Rattle.fluent_catalog.specs.Reports.{told_in, unreadable_in};
 
+use crate::says::Adds;
 use fluent_bundle::{
     AddFault, FluentBundle, FluentError, FluentFormatter, FluentFunction, FluentResource,
     FluentType, MemoizerKind, ParserError, Transform, TryNewFault,
@@ -33,8 +33,8 @@ pub fn read_source<'s>(
     reports: &mut Vec<Report<'s>>,
 ) -> Result<FluentResource<'s>, AllocError>
     ensures resource { IfOk result (λ resource. IsRead source.now resource) }
-    ensures reports { OnOk result (map report_view reports.new.items
-        ≡ map report_view reports.old.items ++ unreadable_in tag.now (junk_ranges source.now)) }
+    ensures reports { OnOk result (told_in reports.new
+        ≡ told_in reports.old ++ unreadable_in tag.now (junk_ranges source.now)) }
     ensures err { OnErr result (reports.new.items ≡ reports.old.items) }
 {
     match FluentResource::try_new(alloc, source) {
@@ -67,13 +67,12 @@ pub fn add_source<
     resource: &'r FluentResource<'s>,
     reports: &mut Vec<Report<'s>>,
 ) -> Result<(), AllocError>
-    ensures step { let of = meant M.category C.shown C.alike F.answer G.formatted T.changed in
-        OnOk result (of bundle.new ≡ after (add_resource (entries_of resource.now)) (of bundle.old)) }
-    ensures reports { let of = meant M.category C.shown C.alike F.answer G.formatted T.changed in
-        OnOk result (map report_view reports.new.items ≡ map report_view reports.old.items
-        ++ left_in tag.now (answered (add_resource (entries_of resource.now)) (of bundle.old))) }
-    ensures err { let of = meant M.category C.shown C.alike F.answer G.formatted T.changed in
-        OnErr result ((of bundle.new ≡ of bundle.old) × (reports.new.items ≡ reports.old.items)) }
+    ensures step { OnOk result (⟦<FluentBundle<'r, 's, M, C, F, G, T> as Adds>⟧.adds resource.now
+        bundle.old bundle.new) }
+    ensures reports { OnOk result (told_in reports.new ≡ told_in reports.old
+        ++ ⟦<FluentBundle<'r, 's, M, C, F, G, T> as Adds>⟧.left tag.now resource.now bundle.old) }
+    ensures err { OnErr result (⟦<FluentBundle<'r, 's, M, C, F, G, T> as Adds>⟧.same bundle.old bundle.new
+        × (reports.new.items ≡ reports.old.items)) }
     ensures kept { Kept bundle.old bundle.new }
 {
     reports.reserve(1)?;

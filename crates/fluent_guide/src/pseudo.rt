@@ -56,8 +56,8 @@ pub fn accented_bundle<'r, 's>(
     alloc: Global,
     resource: &'r FluentResource<'s>,
 ) -> Result<Accented<'r, 's>, AddFault>
-    ensures { let of = ⟦<Accented<'r, 's> as Context<NoCustom>>⟧.meant in
-        IfOk result (λ b. of b ≡ accented_english (entries_of resource.now)) }
+    ensures { IfOk result (λ b. ⟦<Accented<'r, 's> as Context<NoCustom>>⟧.meant b
+        ≡ accented_english (entries_of resource.now)) }
 {
     let mut bundle = FluentBundle::new(alloc, Vec::new(alloc), EnglishPlurals);
     bundle.set_transform(Some(Pseudo));

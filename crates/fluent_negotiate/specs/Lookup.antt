@@ -1,6 +1,6 @@
 -- The languages that serve somebody, by the look-up of RFC 4647, section 3.4. Language ranges and tags are texts, as
 -- `zh-Hant-CN`; letters are alike in either case, and so are `-` and `_`.
-use Rattle.std.specs.Prelude.{ℕ, Bool, ◌==◌, ◌&&◌, ◌||◌, ◌-◌, not, List, [], ◌∷◌, ◌++◌, length, drop, slice_index, Option, None}
+use Rattle.std.specs.Prelude.{ℕ, Bool, ◌==◌, ◌&&◌, ◌||◌, ◌-◌, not, List, [], ◌∷◌, ◌++◌, length, drop, slice_index, map, Option, None}
 use Rattle.std.specs.List.{filter, filter_map, position_from}
 use Rattle.std.specs.Option.{option_or}
 use Rattle.fluent_text.specs.Parser.{Text}
@@ -42,3 +42,7 @@ each_once (n ∷ more) = n ∷ filter (λ m. not (m == n)) (each_once more)
 -- what serves each range, the one that is wanted most first, and then the default
 abbrev pub negotiated : List Text → List Text → Text → List ℕ
 negotiated requested available default = each_once (filter_map (lookup available) (requested ++ default ∷ []))
+
+-- the same of what holds the ranges and the tags
+abbrev pub served : {R A : Type 0} → (R → Text) → (A → Text) → List R → List A → Text → List ℕ
+served range tag requested available default = negotiated (map range requested) (map tag available) default

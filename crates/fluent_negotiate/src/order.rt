@@ -1,7 +1,7 @@
 //! The languages that serve somebody, in order.
-ghost use Rattle.std.specs.Prelude.{◌≡◌, [], map, IfOk, OnOk, IsOk};
+ghost use Rattle.std.specs.Prelude.{◌≡◌, [], IfOk, OnOk, IsOk};
 ghost use Rattle.fluent_negotiate.specs.Inside.Adding.{with_place};
-ghost use Rattle.fluent_negotiate.specs.Lookup.{negotiated};
+ghost use Rattle.fluent_negotiate.specs.Lookup.{served};
 
 use crate::ranges::lookup;
 use std::alloc::{AllocError, Global};
@@ -22,10 +22,9 @@ pub fn negotiate<R: AsStr, A: AsStr>(
     available: &[A],
     default: &str,
 ) -> Result<Vec<usize>, AllocError>
-    ensures order { let order = negotiated (map R.text requested.now) (map A.text available.now) default.now in
-        IfOk result (λ places. places.items ≡ order) }
-    ensures succeeds { let order = negotiated (map R.text requested.now) (map A.text available.now) default.now in
-        order ≡ [] → IsOk result }
+    ensures order { IfOk result (λ places. places.items
+        ≡ served R.text A.text requested.now available.now default.now) }
+    ensures succeeds { served R.text A.text requested.now available.now default.now ≡ [] → IsOk result }
 {
     let mut places = Vec::new(alloc);
     for range in requested {

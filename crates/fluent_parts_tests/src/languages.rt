@@ -1,6 +1,7 @@
 //! Tests of finding a language's plural rules in a table.
 ghost use Rattle.std.specs.Prelude.{◌≡◌, ◌∷◌, ◌++◌, [], codes};
-ghost use Rattle.fluent_intl.specs.Languages.{rules_of, shortened};
+ghost use Rattle.fluent_intl.specs.Languages.{shortened};
+ghost use Rattle.fluent_parts_tests.specs.Lines.{behind, line, line_rules, rules_in};
 
 use crate::check::{Row, check_rows, is_same};
 use fluent_intl::{LanguageRules, cldr_plurals, rules_for};
@@ -126,19 +127,15 @@ fn languages_have_the_rules_of_their_lines(rt: HostRuntime) {
     check_rows(&rt, rt.alloc(), LANGUAGES);
 }
 
-/// Worked rows of the definitions, on a table with the line `pt`, tab, `a`, tab, `b`.
+/// Worked rows of the definitions, on tables with the line of Portuguese.
 fn rows_hold()
     ensures tags { shortened (codes "pt_PT-x") ≡ codes "pt_PT-x" ∷ codes "pt_PT" ∷ codes "pt" ∷ [] }
-    ensures whole { let row = codes "pt" ++ 9 ∷ codes "a" ++ 9 ∷ codes "b" in
-        rules_of row (codes "PT") ≡ Some (record { cardinal = codes "a"; ordinal = codes "b" }) }
-    ensures fallback { let row = codes "pt" ++ 9 ∷ codes "a" ++ 9 ∷ codes "b" in
-        rules_of (codes "# x" ++ 10 ∷ row) (codes "pt-BR") ≡ rules_of row (codes "pt") }
-    ensures comment { let row = codes "#pt" ++ 9 ∷ codes "a" ++ 9 ∷ codes "b" in
-        rules_of row (codes "#pt") ≡ None }
-    ensures one_tab { rules_of (codes "pt" ++ 9 ∷ codes "a") (codes "pt") ≡ None }
-    ensures first_line { let row = codes "pt" ++ 9 ∷ codes "a" ++ 9 ∷ codes "b" in
-        rules_of (codes "pt" ++ 9 ∷ codes "a" ++ 10 ∷ row) (codes "pt") ≡ None }
-    ensures other { rules_of (codes "pt" ++ 9 ∷ codes "a" ++ 9 ∷ codes "b") (codes "p") ≡ None }
+    ensures whole { rules_in (line "pt") "PT" ≡ Some line_rules }
+    ensures fallback { rules_in (behind (codes "# x") (line "pt")) "pt-BR" ≡ rules_in (line "pt") "pt" }
+    ensures comment { rules_in (line "#pt") "#pt" ≡ None }
+    ensures one_tab { rules_in (codes "pt" ++ 9 ∷ codes "a") "pt" ≡ None }
+    ensures first_line { rules_in (behind (codes "pt" ++ 9 ∷ codes "a") (line "pt")) "pt" ≡ None }
+    ensures other { rules_in (line "pt") "p" ≡ None }
 {}
 
 #[test]

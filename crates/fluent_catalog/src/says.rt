@@ -1,0 +1,83 @@
+//! What the calls say, by what the types of a bundle's parts state. Contracts alone name it.
+ghost use Rattle.std.specs.Prelude.{List, Option, Result};
+ghost use Rattle.std.specs.Borrow.{Bor};
+ghost use Rattle.std.specs.declared.alloc.AllocError.{AllocError as Refused};
+ghost use Rattle.std.specs.declared.borrow.CowStr.{CowStr};
+ghost use Rattle.std.proofs.Common.{Global};
+ghost use Rattle.fluent_tree.specs.Tree.{Text};
+ghost use Rattle.fluent_bundle.specs.declared.resource.FluentResource.{FluentResource};
+ghost use Rattle.fluent_chain.specs.ChainCalls.{Giving};
+ghost use Rattle.fluent_catalog.specs.Reports.{Told};
+
+use crate::catalog::Catalog;
+use fluent_bundle::{
+    FluentBundle, FluentFormatter, FluentFunction, FluentType, MemoizerKind, Transform,
+};
+
+/// Of a message by its id, and of an attribute where a name is given.
+pub(crate) trait Says {
+    /// The type of an application's own values.
+    type Own;
+
+    /// The tag of the first language that has it.
+    ghost tag: { Self → Text → Option (Bor Text) → Option Text };
+
+    /// Its text is given.
+    ghost gives: { Giving Self Self.Own (CowStr Global) };
+
+    /// Lent, where it is one text.
+    ghost lends: { Self → Text → Option (Bor Text) → Result (CowStr Global) Refused → Type 0 };
+}
+
+impl<
+    'r,
+    's: 'r,
+    M: MemoizerKind,
+    C: FluentType,
+    F: FluentFunction<C>,
+    G: FluentFormatter<C, M>,
+    T: Transform,
+> Says for Catalog<'r, 's, M, C, F, G, T> {
+    type Own = C;
+
+    ghost use Rattle.fluent_bundle.specs.BundleView.{meant};
+    ghost use Rattle.fluent_catalog.specs.CatalogCalls as call;
+
+    ghost tag = { call.tag (meant M.category C.shown C.alike F.answer G.formatted T.changed) };
+
+    ghost gives = { call.gives (meant M.category C.shown C.alike F.answer G.formatted T.changed)
+        C.content };
+
+    ghost lends = { call.lends (meant M.category C.shown C.alike F.answer G.formatted T.changed) };
+}
+
+/// Of a source that is added to a bundle, from the bundle before it to the one after it.
+pub(crate) trait Adds {
+    /// It was added.
+    ghost adds: { FluentResource → Self → Self → Type 0 };
+
+    /// What is reported of it, by the tag of its language.
+    ghost left: { Text → FluentResource → Self → List Told };
+
+    /// Bundles mean the same.
+    ghost same: { Self → Self → Type 0 };
+}
+
+impl<
+    'r,
+    's,
+    M: MemoizerKind,
+    C: FluentType,
+    F: FluentFunction<C>,
+    G: FluentFormatter<C, M>,
+    T: Transform,
+> Adds for FluentBundle<'r, 's, M, C, F, G, T> {
+    ghost use Rattle.fluent_bundle.specs.BundleView.{meant};
+    ghost use Rattle.fluent_catalog.specs.Adding as add;
+
+    ghost adds = { add.adds (meant M.category C.shown C.alike F.answer G.formatted T.changed) };
+
+    ghost left = { add.left (meant M.category C.shown C.alike F.answer G.formatted T.changed) };
+
+    ghost same = { add.same (meant M.category C.shown C.alike F.answer G.formatted T.changed) };
+}
