@@ -6,10 +6,11 @@ use Rattle.fluent_intl.specs.LanguageTable.{cldr_plurals}
 use Rattle.fluent_intl.specs.RuleTree.{Rule, Rules}
 use Rattle.fluent_intl.specs.RuleGrammar.{rules}
 use Rattle.fluent_intl.specs.RuleTexts.{category_of}
-use Rattle.fluent_meaning.specs.Value.{Value, Custom, Plurals, error_value}
+use Rattle.fluent_meaning.specs.Value.{Value, Custom, error_value}
 use Rattle.fluent_meaning.specs.Bundle.{Bundle, empty_bundle, after, add_resource, add_builtins}
-use Rattle.fluent_bundle.specs.BundleView.{meant}
+use Rattle.fluent_bundle.specs.BundleView.{meant, entries_of}
 use Rattle.fluent_bundle.specs.declared.bundle.FluentBundle.{FluentBundle}
+use Rattle.fluent_bundle.specs.declared.resource.FluentResource.{FluentResource}
 use Rattle.fluent_intl.specs.declared.rule_texts.RuleTexts.{RuleTexts}
 use Rattle.fluent_values.specs.declared.formatter.NoFormatter.{NoFormatter}
 use Rattle.fluent_values.specs.declared.function.NoFunction.{NoFunction}
@@ -49,10 +50,17 @@ abbrev pub bundle_view : FluentBundle RuleTexts NoCustom NoFunction NoFormatter 
 bundle_view =
     meant category_of (λ t. []) (λ s t. true) (λ f vs as'. error_value) (λ g v m. None) (λ x t. t)
 
--- a bundle with the built-in function alone
-abbrev pub start_by : Plurals → Bundle Text
-start_by plurals = after add_builtins (empty_bundle plurals no_custom)
+-- a bundle with the built-in function alone, and the plural rules of a language
+abbrev pub start_of : Text → Bundle Text
+start_of tag = after add_builtins (empty_bundle (category_of (language_rules tag)) no_custom)
 
--- a bundle of a file's entries, with the plural rules of a language
+-- the same with the entries of a file
 abbrev pub bundle_of : Text → List Entry → Bundle Text
-bundle_of tag entries = after (add_resource entries) (start_by (category_of (language_rules tag)))
+bundle_of tag entries = after (add_resource entries) (start_of tag)
+
+-- the entries of a resource
+abbrev pub adding : FluentResource → Bundle Text → Bundle Text
+adding resource b = after (add_resource (entries_of resource)) b
+
+abbrev pub alone : Text → FluentResource → Bundle Text
+alone tag resource = bundle_of tag (entries_of resource)

@@ -1,12 +1,21 @@
 -- What `show` prints.
-use Rattle.std.specs.Prelude.{ℕ, Bool, true, false, List, [], ◌∷◌, ◌++◌, map, Option, Some, None, is_some}
+use Rattle.std.specs.Prelude.{ℕ, Bool, true, false, List, [], ◌∷◌, ◌++◌, map, Option}
 use Rattle.std.specs.Option.{option_map}
 use Rattle.fluent_tree.specs.Tree.{Text, Entry, Pattern}
 use Rattle.fluent_meaning.specs.Value.{Value, text_value, try_number}
 use Rattle.fluent_meaning.specs.Arguments.{Map, set_all}
 use Rattle.fluent_meaning.specs.Bundle.{Bundle}
 use Rattle.fluent_chain.specs.Chain.{Shown, pattern_at, first_with, shown_of}
-use Rattle.fluent_cli.specs.Language.{bundle_of}
+use Rattle.fluent_bundle.specs.BundleView.{entries_of}
+use Rattle.fluent_chain.specs.ChainView.{bundles_of}
+use Rattle.fluent_chain.specs.declared.chain.Chain.{Chain}
+use Rattle.fluent_intl.specs.declared.rule_texts.RuleTexts.{RuleTexts}
+use Rattle.fluent_values.specs.declared.formatter.NoFormatter.{NoFormatter}
+use Rattle.fluent_values.specs.declared.function.NoFunction.{NoFunction}
+use Rattle.fluent_values.specs.declared.transform.NoTransform.{NoTransform}
+use Rattle.fluent_values.specs.declared.types.custom.NoCustom.{NoCustom}
+use Rattle.fluent_cli.specs.Language.{bundle_of, bundle_view}
+use Rattle.fluent_cli.specs.declared.source.Sources.{Sources}
 use Rattle.fluent_cli.specs.declared.words.Argument.{Argument}
 use Rattle.fluent_cli.specs.declared.words.ShowRequest.{ShowRequest}
 
@@ -36,6 +45,15 @@ shown_by request bundles =
 abbrev pub printed : Shown → Text
 printed shown = shown.text ++ 10 ∷ []
 
--- of files with these entries
-abbrev pub show : ShowRequest → List (List Entry) → Text
-show request files = printed (shown_by request (map (bundle_of request.language.now) files))
+-- of files, by the entries that each has
+abbrev pub show : {A : Type 0} → ShowRequest → (A → List Entry) → List A → Text
+show request entries files =
+    printed (shown_by request (map (λ file. bundle_of request.language.now (entries file)) files))
+
+-- of sources that were read
+abbrev pub show_sources : ShowRequest → Sources → Text
+show_sources request sources = show request entries_of sources.resources.items
+
+-- the text that a chain of the code gives
+abbrev pub given_by : ShowRequest → Chain RuleTexts NoCustom NoFunction NoFormatter NoTransform → Text
+given_by request chain = (shown_by request (map bundle_view (bundles_of chain))).text

@@ -1,9 +1,6 @@
 //! Bundles of sources.
 ghost use Rattle.std.specs.Prelude.{◌≡◌, IfOk, OnOk, map};
-ghost use Rattle.fluent_intl.specs.RuleTexts.{category_of};
-ghost use Rattle.fluent_meaning.specs.Bundle.{after, add_resource};
-ghost use Rattle.fluent_bundle.specs.BundleView.{entries_of};
-ghost use Rattle.fluent_cli.specs.Language.{bundle_of, bundle_view, language_rules, start_by};
+ghost use Rattle.fluent_cli.specs.Language.{adding, alone, bundle_view, language_rules, start_of};
 
 use fluent_bundle::{
     AddFault, FluentBundle, FluentResource, NoCustom, NoFormatter, NoFunction, NoTransform,
@@ -42,8 +39,7 @@ fn plurals_of(alloc: Global, tag: &str) -> Result<RuleTexts, AllocError>
 
 /// A bundle with the built-in function alone.
 fn start<'r, 's>(alloc: Global, tag: &str) -> Result<Bundle<'r, 's>, AllocError>
-    ensures { IfOk result (λ bundle. bundle_view bundle
-        ≡ start_by (category_of (language_rules tag.now))) }
+    ensures { IfOk result (λ bundle. bundle_view bundle ≡ start_of tag.now) }
 {
     let mut bundle = FluentBundle::new(alloc, Vec::new(alloc), plurals_of(alloc, tag)?);
     match bundle.add_builtins() {
@@ -58,8 +54,8 @@ fn add<'r, 's>(
     bundle: &mut Bundle<'r, 's>,
     resource: &'r FluentResource<'s>,
 ) -> Result<(), AllocError>
-    ensures { OnOk result (bundle_view bundle.new
-        ≡ after (add_resource (entries_of resource.now)) (bundle_view bundle.old)) }
+    ensures { OnOk result
+        (bundle_view bundle.new ≡ adding resource.now (bundle_view bundle.old)) }
 {
     match bundle.add_resource(resource) {
         Ok(()) | Err(AddFault::Overriding(_)) => Ok(()),
@@ -73,8 +69,7 @@ fn bundle_alone<'r, 's>(
     tag: &str,
     resource: &'r FluentResource<'s>,
 ) -> Result<Bundle<'r, 's>, AllocError>
-    ensures { IfOk result (λ bundle. bundle_view bundle
-        ≡ bundle_of tag.now (entries_of resource.now)) }
+    ensures { IfOk result (λ bundle. bundle_view bundle ≡ alone tag.now resource.now) }
 {
     let mut bundle = start(alloc, tag)?;
     add(&mut bundle, resource)?;
@@ -100,8 +95,8 @@ pub(crate) fn bundles_of<'r, 's>(
     tag: &str,
     resources: &'r [FluentResource<'s>],
 ) -> Result<Vec<Bundle<'r, 's>>, AllocError>
-    ensures { IfOk result (λ bundles. map bundle_view bundles.items
-        ≡ map (λ r. bundle_of tag.now (entries_of r)) resources.now) }
+    ensures { IfOk result
+        (λ list. map bundle_view list.items ≡ map (alone tag.now) resources.now) }
 {
     let mut bundles = Vec::new(alloc);
     for resource in resources {

@@ -1,4 +1,8 @@
 //! What is wrong with the files of a language.
+
+ghost use Rattle.std.specs.Prelude.{◌≡◌, [], IfOk, OnOk};
+ghost use Rattle.fluent_cli.specs.Answers.{Adds, CountsNone, nothing_found, status_over};
+
 use crate::answer::{Answer, Status};
 use crate::bundle::{Bundle, bundle_of_all};
 use crate::faults::{add_builtin, add_repeated, add_taken, add_unreadable, say_faults, spots_in};
@@ -6,7 +10,7 @@ use crate::linted::add_linted;
 use crate::places::{Places, places_of};
 use crate::plurals::add_pattern;
 use crate::reference::{Side, add_differences};
-use crate::report::{Counts, Finding, put_counts, put_findings, sort};
+use crate::report::{Finding, put_counts, put_findings, sort};
 use crate::source::{Source, Sources};
 use crate::spots::Spots;
 use crate::words::CheckRequest;
@@ -133,13 +137,31 @@ fn texts_of<'s>(
     Ok(texts)
 }
 
-/// The status of a run that found so many.
-fn status_of(counts: Counts) -> Status {
-    if counts.is_zero() {
+/// The status of a run with these findings.
+fn status_of(findings: &[Finding<'_>]) -> Status
+    ensures { result ≡ status_over findings.now }
+{
+    if findings.is_empty() {
         Status::Fine
     } else {
         Status::Found
     }
+}
+
+/// Writes a line for each finding, and behind these a line with their counts.
+fn put_report(
+    alloc: Global,
+    texts: &[Source<'_>],
+    findings: &[Finding<'_>],
+    output: &mut String,
+) -> Result<(), AllocError>
+    ensures { OnOk result (findings.now ≡ [] → Adds nothing_found output.old output.new) }
+{
+    if findings.is_empty() {
+        return output.push_str("0 errors, 0 warnings\n");
+    }
+    let counts = put_findings(alloc, texts, findings, output)?;
+    put_counts(counts, output)
 }
 
 /// Checks sources, each finding on a line, and behind these a line with their counts.
@@ -148,16 +170,17 @@ pub(crate) fn check<'s>(
     request: &CheckRequest<'_>,
     sources: &Sources<'s>,
     references: &Sources<'s>,
-) -> Result<Answer, AllocError> {
+) -> Result<Answer, AllocError>
+    ensures { IfOk result CountsNone }
+{
     let findings = findings_of(alloc, request.language, sources, references)?;
-    let mut output = String::new(alloc);
     let texts = texts_of(alloc, sources, references)?;
-    let counts = put_findings(alloc, texts.as_slice(), findings.as_slice(), &mut output)?;
-    put_counts(counts, &mut output)?;
+    let mut output = String::new(alloc);
+    put_report(alloc, texts.as_slice(), findings.as_slice(), &mut output)?;
     let mut errors = String::new(alloc);
     say_faults(alloc, references, &mut errors)?;
     Ok(Answer {
-        status: status_of(counts),
+        status: status_of(findings.as_slice()),
         output,
         errors,
     })

@@ -21,11 +21,6 @@ pub(crate) struct Counts {
 }
 
 impl Counts {
-    /// Whether there are none.
-    pub(crate) fn is_zero(&self) -> bool {
-        self.errors == 0 && self.warnings == 0
-    }
-
     /// Counts a finding of this weight.
     fn add(&mut self, weight: Weight) {
         match weight {

@@ -1,12 +1,9 @@
 //! A message as an application shows it.
 
-ghost use Rattle.std.specs.Prelude.{◌≡◌, [], IfOk, map, string_bytes, is_some};
-ghost use Rattle.fluent_bundle.specs.BundleView.{entries_of};
-ghost use Rattle.fluent_chain.specs.ChainView.{bundles_of};
+ghost use Rattle.std.specs.Prelude.{◌≡◌, [], IfOk, string_bytes};
 ghost use Rattle.fluent_values.specs.View.{named, value_view};
 ghost use Rattle.fluent_cli.specs.Answers.{status_shown};
-ghost use Rattle.fluent_cli.specs.Language.{bundle_view};
-ghost use Rattle.fluent_cli.specs.Shown.{arguments_of, found_in, show, shown_by, value_of};
+ghost use Rattle.fluent_cli.specs.Shown.{arguments_of, given_by, show_sources, value_of};
 
 use crate::answer::{Answer, Status};
 use crate::bundle::bundles_of;
@@ -66,8 +63,7 @@ fn text_of<'s>(
     request: &ShowRequest<'_>,
     errors: &mut Vec<FluentError>,
 ) -> Result<String, AllocError>
-    ensures { IfOk result (λ text. string_bytes text
-        ≡ (shown_by request.now (map bundle_view (bundles_of texts.now))).text) }
+    ensures { IfOk result (λ text. string_bytes text ≡ given_by request.now texts.now) }
 {
     let args = arguments(alloc, request.arguments.as_slice())?;
     match request.attribute {
@@ -77,9 +73,7 @@ fn text_of<'s>(
 }
 
 /// Whether one of the bundles has what was asked for.
-fn has(texts: &Texts<'_, '_, '_>, request: &ShowRequest<'_>) -> bool
-    ensures { result ≡ is_some (found_in request.now (map bundle_view (bundles_of texts.now))) }
-{
+fn has(texts: &Texts<'_, '_, '_>, request: &ShowRequest<'_>) -> bool {
     match request.attribute {
         Some(name) => texts.has_attribute(request.id, name),
         None => texts.has_value(request.id),
@@ -120,8 +114,8 @@ pub(crate) fn show(
     request: &ShowRequest<'_>,
     sources: &Sources<'_>,
 ) -> Result<Answer, AllocError>
-    ensures { IfOk result (λ answer. string_bytes answer.output
-        ≡ show request.now (map entries_of sources.now.resources.items)) }
+    ensures { IfOk result
+        (λ answer. string_bytes answer.output ≡ show_sources request.now sources.now) }
 {
     let bundles = bundles_of(alloc, request.language, sources.resources.as_slice())?;
     let texts = Chain::of(bundles.as_slice());

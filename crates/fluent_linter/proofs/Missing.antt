@@ -5,7 +5,7 @@ use Rattle.fluent_tree.specs.View.{attribute_of}
 use Rattle.fluent_tree.specs.declared.ast.Identifier.{Identifier}
 use Rattle.fluent_meaning.specs.Number.{is_text}
 use Rattle.fluent_meaning.specs.Bundle.{Entry, a_message, a_term, a_function, number_builtin, Target, unknown, without_value, found, first_of, value_target, message_target, term_target, is_message, is_term}
-use Rattle.fluent_clean.specs.Places.{Place, of_message, of_term, Names}
+use Rattle.fluent_clean.specs.Places.{of_message, of_term, Names}
 use Rattle.fluent_clean.specs.Needs as need
 use Rattle.fluent_clean.specs.Needs.{Need}
 use Rattle.fluent_clean.specs.Clean.{LeadsOn}

@@ -1,7 +1,6 @@
 -- What linting a bundle says.
-use Rattle.std.specs.Prelude.{◌≡◌, ◌⊎◌, ◌-◌, List, [], ◌∷◌, ◌++◌, map}
+use Rattle.std.specs.Prelude.{◌≡◌, ◌-◌, List, [], ◌∷◌, ◌++◌, Result, IfOk}
 use Rattle.std.specs.Borrow.{Bor}
-use Rattle.std.specs.List.{AllByRecursion}
 use Rattle.std.specs.declared.vec.Vec.{Vec}
 use Rattle.std.proofs.Common.{Global}
 use Rattle.fluent_tree.specs.Tree.{Text, Pattern}
@@ -15,6 +14,8 @@ use Rattle.fluent_clean.specs.Clean.{names_of, AreGiven}
 use Rattle.fluent_lint.specs.Asked.{AreAsked, AreDistinct, texts}
 use Rattle.fluent_lint.specs.EntryPlaces as entries
 use Rattle.fluent_lint.specs.Findings.{IsFine}
+use Rattle.fluent_lint.specs.PlaceView.{place_view}
+use Rattle.fluent_lint.specs.declared.place.Place as code
 use Rattle.fluent_bundle.specs.BundleView.{entries_of}
 use Rattle.fluent_bundle.specs.declared.bundle.FluentBundle.{FluentBundle}
 use Rattle.fluent_bundle.specs.declared.resource.FluentResource.{FluentResource}
@@ -37,10 +38,11 @@ pub record Lints (b : Bundle Text) (seen : List Place) (fs : List Finding) : Typ
   pub finds : Finds (names_of b) b.limit seen fs
   pub written : (x : Place) → IsFine (names_of b) b.limit x → NeverFails b x
 
--- of a bundle of the code, by its content
-abbrev pub lints : {M C F G X : Type 0} → (FluentBundle M C F G X → Bundle Text) → FluentBundle M C F G X → List FluentResource → Vec Finding Global → Type 0
-lints of b rs fs = Lints (of b) (places_in rs) fs.items
+-- ---- of a bundle of the code, by its content, where memory was not refused
+
+abbrev pub lints : {M C F G X E : Type 0} → (FluentBundle M C F G X → Bundle Text) → FluentBundle M C F G X → List FluentResource → Result (Vec Finding Global) E → Type 0
+lints of b rs result = IfOk result (λ fs. Lints (of b) (places_in rs) fs.items)
 
 -- what stands at a place asks the arguments for exactly these variables, each of which is listed once
-abbrev pub asks : {M C F G X : Type 0} → (FluentBundle M C F G X → Bundle Text) → FluentBundle M C F G X → Place → Vec (Bor Text) Global → Type 0
-asks of b x names = AreAsked (names_of (of b)) x (texts names.items) × AreDistinct (texts names.items)
+abbrev pub asks : {M C F G X E : Type 0} → (FluentBundle M C F G X → Bundle Text) → FluentBundle M C F G X → code.Place → Result (Vec (Bor Text) Global) E → Type 0
+asks of b x result = IfOk result (λ names. AreAsked (names_of (of b)) (place_view x) (texts names.items) × AreDistinct (texts names.items))

@@ -1,8 +1,13 @@
--- Ids that are defined again.
-use Rattle.std.specs.Prelude.{◌≡◌, ◌⊎◌, ◌<◌, List, Option, Some, None}
-use Rattle.std.specs.List.{slice_get}
+-- What is told of sources: ids that are defined again, and parts that can't be read.
+use Rattle.std.specs.Prelude.{◌≡◌, ◌⊎◌, ◌<◌, List, map, Option, Some, None}
+use Rattle.std.specs.List.{AllByRecursion, slice_get}
 use Rattle.std.specs.Option.{option_and_then}
+use Rattle.std.specs.declared.vec.Vec.{Vec}
+use Rattle.std.proofs.Common.{Global}
 use Rattle.fluent_tree.specs.Tree.{Text, Entry, message_entry, term_entry, junk_entry}
+use Rattle.fluent_tree.specs.declared.errors.ParserError.{ParserError}
+use Rattle.fluent_syntax.specs.Chunks.{junk_ranges}
+use Rattle.fluent_syntax.specs.Parsed.{error_range}
 use Rattle.fluent_bundle.specs.BundleView.{entries_of}
 use Rattle.fluent_bundle.specs.declared.resource.FluentResource.{FluentResource}
 use Rattle.fluent_linter.specs.declared.sources.Definition.{Definition}
@@ -26,3 +31,14 @@ pub record IsTwice (rs : List FluentResource) (t : Twice) : Type 0 where
   pub first : id_at rs t.first ≡ Some t.id.now
   pub again : id_at rs t.again ≡ Some t.id.now
   pub before : IsBefore t.first t.again
+
+abbrev pub AreTwice : List FluentResource → Vec Twice Global → Type 0
+AreTwice rs list = AllByRecursion (IsTwice rs) list.items
+
+-- more are such ones
+abbrev pub KeepsTwice : List FluentResource → Vec Twice Global → Vec Twice Global → Type 0
+KeepsTwice rs old new = AreTwice rs old → AreTwice rs new
+
+-- these are the byte ranges of what can't be read
+abbrev pub AreUnreadable : Text → Vec ParserError Global → Type 0
+AreUnreadable source errors = map error_range errors.items ≡ junk_ranges source

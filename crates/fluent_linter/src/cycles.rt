@@ -2,10 +2,10 @@
 //!
 //! What is found is looked at once more before it is told, so no contract speaks of the search.
 
-ghost use Rattle.std.specs.Prelude.{IfOk, OnOk, IsTrue, ℕ};
+ghost use Rattle.std.specs.Prelude.{IfOk, OnOk, IsTrue};
 ghost use Rattle.fluent_lint.specs.Findings.{views};
 ghost use Rattle.fluent_linter.specs.Findings.{GoRound};
-ghost use Rattle.fluent_linter.specs.Inside.Telling.{AddsTrue};
+ghost use Rattle.fluent_linter.specs.Inside.Telling.{AddsCycles};
 
 use crate::finding::{Finding, Kind};
 use fluent_entries::GetEntry;
@@ -22,14 +22,21 @@ enum State {
     Done,
 }
 
+/// A place of the path that is walked, by its index.
+#[derive(Clone, Copy, Drop)]
+struct Stop {
+    place: usize,
+    /// How many references of it were followed.
+    followed: usize,
+    /// How long the path is to the last place, up to this one, that is on a cycle that was found: 0 where none is.
+    found: usize,
+}
+
 /// A search for cycles among places, by their indexes.
 #[derive(Drop)]
 struct Search {
     states: Vec<State>,
-    /// Whether a place is on a cycle that was found.
-    found: Vec<bool>,
-    /// The path that is walked: places, and how many references of each were followed.
-    path: Vec<(usize, usize)>,
+    path: Vec<Stop>,
     cycles: Vec<Vec<usize>>,
 }
 
@@ -41,8 +48,7 @@ pub(crate) fn add_cycles<'s, F, B: GetEntry<'s, F>>(
     unclean: &[Unclean<'s>],
     findings: &mut Vec<Finding<'s>>,
 ) -> Result<(), AllocError>
-    ensures { OnOk result ((limit : ℕ)
-        → AddsTrue (B.named bundle.now) limit findings.old.items findings.new.items) }
+    ensures { OnOk result (AddsCycles (B.named bundle.now) findings.old findings.new) }
 {
     let edges = edges_of(alloc, unclean)?;
     for cycle in &searched(alloc, &edges)?.cycles {
@@ -59,8 +65,7 @@ fn add_cycle<'s, F, B: GetEntry<'s, F>>(
     places: Vec<Place<'s>>,
     findings: &mut Vec<Finding<'s>>,
 ) -> Result<(), AllocError>
-    ensures { OnOk result ((limit : ℕ)
-        → AddsTrue (B.named bundle.now) limit findings.old.items findings.new.items) }
+    ensures { OnOk result (AddsCycles (B.named bundle.now) findings.old findings.new) }
 {
     if is_cycle(alloc, bundle, &places)? {
         if let Some(first) = places.first() {
@@ -137,14 +142,12 @@ fn edges_of<'s>(alloc: Global, unclean: &[Unclean<'s>]) -> Result<Vec<Vec<usize>
 fn searched(alloc: Global, edges: &[Vec<usize>]) -> Result<Search, AllocError> {
     let mut search = Search {
         states: Vec::new(alloc),
-        found: Vec::new(alloc),
         path: Vec::new(alloc),
         cycles: Vec::new(alloc),
     };
     let mut steps = edges.len();
     for row in edges {
         search.states.push(State::New)?;
-        search.found.push(false)?;
         steps = steps.saturating_add(row.len());
     }
     for root in 0..edges.len() {
@@ -162,10 +165,15 @@ fn searched(alloc: Global, edges: &[Vec<usize>]) -> Result<Search, AllocError> {
 /// Walks on to a place that wasn't met yet.
 fn enter(search: &mut Search, to: usize) -> Result<(), AllocError> {
     let depth = search.path.len();
+    let found = search.path.last().map_or(0, |stop| stop.found);
     if let Some(state) = search.states.get_mut(to) {
         if let State::New = state {
             *state = State::OnPath(depth);
-            search.path.push((to, 0))?;
+            search.path.push(Stop {
+                place: to,
+                followed: 0,
+                found,
+            })?;
         }
     }
     Ok(())
@@ -173,22 +181,28 @@ fn enter(search: &mut Search, to: usize) -> Result<(), AllocError> {
 
 /// Follows the next reference of the last place of the path, or leaves that place.
 fn step(alloc: Global, search: &mut Search, edges: &[Vec<usize>]) -> Result<(), AllocError> {
-    let Some((from, count)) = search.path.pop() else {
+    let Some(mut last) = search.path.pop() else {
         return Ok(());
     };
-    let next = match edges.get(from) {
-        Some(row) => row.get(count),
+    let next = match edges.get(last.place) {
+        Some(row) => row.get(last.followed),
         None => None,
     };
     let Some(to) = next else {
-        if let Some(state) = search.states.get_mut(from) {
+        if let Some(state) = search.states.get_mut(last.place) {
             *state = State::Done;
         }
         return Ok(());
     };
-    search.path.push((from, count.saturating_add(1)))?;
+    last.followed = last.followed.saturating_add(1);
+    search.path.push(last)?;
     match on_path(search, *to) {
-        Some(start) => note(alloc, search, start),
+        Some(start) => {
+            if last.found <= start {
+                note(alloc, search, start)?;
+            }
+            Ok(())
+        }
         None => enter(search, *to),
     }
 }
@@ -201,18 +215,13 @@ fn on_path(search: &Search, place: usize) -> Option<usize> {
     }
 }
 
-/// Notes the path from an index on as a cycle, if none of its places is on one that was found.
+/// Notes the path from an index on as a cycle.
 fn note(alloc: Global, search: &mut Search, start: usize) -> Result<(), AllocError> {
     let mut cycle = Vec::new(alloc);
-    for (place, _) in search.path.iter().skip(start) {
-        if let Some(true) = search.found.get(*place) {
-            return Ok(());
-        }
-        cycle.push(*place)?;
-    }
-    for place in &cycle {
-        if let Some(found) = search.found.get_mut(*place) {
-            *found = true;
+    for i in start..search.path.len() {
+        if let Some(stop) = search.path.get_mut(i) {
+            stop.found = i.saturating_add(1);
+            cycle.push(stop.place)?;
         }
     }
     search.cycles.push(cycle)?;

@@ -1,13 +1,8 @@
 //! Findings, from what was reported of places.
 
-ghost use Rattle.std.specs.Prelude.{IfOk, OnOk, List};
-ghost use Rattle.std.specs.List.{AllByRecursion};
+ghost use Rattle.std.specs.Prelude.{IfOk, OnOk};
 ghost use Rattle.fluent_tree.specs.View.{attribute_of};
-ghost use Rattle.fluent_clean.specs.Places.{Place as Seen};
-ghost use Rattle.fluent_lint.specs.Findings.{Reports};
-ghost use Rattle.fluent_lint.specs.PlaceView.{place_view};
-ghost use Rattle.fluent_linter.specs.Findings.{Finds};
-ghost use Rattle.fluent_linter.specs.Inside.Telling.{AddsCauses, AddsLarge, Makes, MakesMissing, MissesMessage, MissesTerm};
+ghost use Rattle.fluent_linter.specs.Inside.Telling.{AddsFor, AddsLarge, FindsAll, Makes, MakesMissing, MissesMessage, MissesTerm};
 
 use crate::cycles::add_cycles;
 use crate::finding::{Finding, Kind};
@@ -23,9 +18,7 @@ pub(crate) fn findings_of<'s, F, B: GetEntry<'s, F>>(
     report: &Report<'s>,
     limit: u32,
 ) -> Result<Vec<Finding<'s>>, AllocError>
-    ensures { IfOk result (λ findings. (seen : List Seen)
-        → Reports (B.named bundle.now) limit seen report.now
-        → Finds (B.named bundle.now) limit seen findings.items) }
+    ensures { IfOk result (FindsAll (B.named bundle.now) limit report.now) }
 {
     let mut findings = Vec::new(alloc);
     for unclean in &report.unclean {
@@ -43,8 +36,8 @@ fn add_causes<'s, F, B: GetEntry<'s, F>>(
     causes: &[Cause<'s>],
     findings: &mut Vec<Finding<'s>>,
 ) -> Result<(), AllocError>
-    ensures { OnOk result (AddsCauses (B.named bundle.now) (place_view place.now) causes.now
-        findings.old.items findings.new.items) }
+    ensures { OnOk result
+        (AddsFor (B.named bundle.now) place.now causes.now findings.old findings.new) }
 {
     for cause in causes {
         findings.push(Finding {

@@ -1,8 +1,5 @@
 //! The call that lints a bundle.
 
-ghost use Rattle.std.specs.Prelude.{IfOk};
-ghost use Rattle.fluent_lint.specs.PlaceView.{place_view};
-
 use crate::finding::Finding;
 use crate::findings::findings_of;
 use crate::says::Says;
@@ -35,8 +32,7 @@ pub fn lint<
     bundle: &FluentBundle<'r, 's, M, C, F, G, T>,
     resources: &[FluentResource<'s>],
 ) -> Result<Vec<Finding<'s>>, AllocError>
-    ensures { IfOk result
-        (⟦<FluentBundle<'r, 's, M, C, F, G, T> as Says>⟧.lints bundle.now resources.now) }
+    ensures { ⟦<FluentBundle<'r, 's, M, C, F, G, T> as Says>⟧.lints bundle.now resources.now result }
 {
     laws::fine_is_written();
     let places = places_in(alloc, resources)?;
@@ -64,8 +60,7 @@ pub fn variables<
     bundle: &FluentBundle<'r, 's, M, C, F, G, T>,
     place: &Place<'s>,
 ) -> Result<Vec<&'s str>, AllocError>
-    ensures { IfOk result
-        (⟦<FluentBundle<'r, 's, M, C, F, G, T> as Says>⟧.asks bundle.now (place_view place.now)) }
+    ensures { ⟦<FluentBundle<'r, 's, M, C, F, G, T> as Says>⟧.asks bundle.now place.now result }
 {
     variables_of(alloc, bundle, place)
 }

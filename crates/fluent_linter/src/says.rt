@@ -1,10 +1,11 @@
 //! What linting a bundle says, by what the types of its parts state. Contracts alone name it.
-ghost use Rattle.std.specs.Prelude.{List};
+ghost use Rattle.std.specs.Prelude.{List, Result};
 ghost use Rattle.std.specs.Borrow.{Bor};
+ghost use Rattle.std.specs.declared.alloc.AllocError.{AllocError as Refused};
 ghost use Rattle.std.specs.declared.vec.Vec.{Vec};
 ghost use Rattle.std.proofs.Common.{Global};
 ghost use Rattle.fluent_tree.specs.Tree.{Text};
-ghost use Rattle.fluent_clean.specs.Places.{Place};
+ghost use Rattle.fluent_lint.specs.declared.place.Place.{Place};
 ghost use Rattle.fluent_bundle.specs.declared.resource.FluentResource.{FluentResource};
 ghost use Rattle.fluent_linter.specs.declared.finding.Finding.{Finding};
 
@@ -15,10 +16,10 @@ use fluent_bundle::{
 /// Of a bundle.
 pub(crate) trait Says {
     /// Resources have these findings in it.
-    ghost lints: { Self → List FluentResource → Vec Finding Global → Type 0 };
+    ghost lints: { Self → List FluentResource → Result (Vec Finding Global) Refused → Type 0 };
 
     /// What stands at a place of it asks for these variables, each once.
-    ghost asks: { Self → Place → Vec (Bor Text) Global → Type 0 };
+    ghost asks: { Self → Place → Result (Vec (Bor Text) Global) Refused → Type 0 };
 }
 
 impl<

@@ -1,14 +1,11 @@
 //! What is told of sources, without a bundle.
 
-ghost use Rattle.std.specs.Prelude.{◌≡◌, ◌↔◌, IfOk, OnOk, IsTrue, Some, map};
-ghost use Rattle.std.specs.List.{AllByRecursion};
+ghost use Rattle.std.specs.Prelude.{◌≡◌, ◌↔◌, IfOk, OnOk, IsTrue, Some};
 ghost use Rattle.std.specs.Option.{option_map};
 ghost use Rattle.fluent_tree.specs.View.{entry_view};
-ghost use Rattle.fluent_linter.specs.Twice.{IsBefore, IsTwice, id_at, id_of};
+ghost use Rattle.fluent_linter.specs.Twice.{AreTwice, AreUnreadable, IsBefore, KeepsTwice, id_at, id_of};
 ghost use Rattle.fluent_lint.specs.Findings.{views};
 ghost use Rattle.fluent_linter.specs.Lints.{places_in};
-ghost use Rattle.fluent_syntax.specs.Chunks.{junk_ranges};
-ghost use Rattle.fluent_syntax.specs.Parsed.{error_range};
 ghost use Rattle.fluent_bundle.specs.BundleView.{source_in};
 
 use fluent_bundle::{FluentResource, ParserError, TryNewFault, ast};
@@ -56,8 +53,7 @@ pub fn unreadable(
     alloc: Global,
     resource: &FluentResource<'_>,
 ) -> Result<Vec<ParserError>, AllocError>
-    ensures { IfOk result (λ errors. map error_range errors.items
-        ≡ junk_ranges (source_in resource.now)) }
+    ensures { IfOk result (AreUnreadable (source_in resource.now)) }
 {
     match FluentResource::try_new(alloc, resource.source()) {
         Ok(_) => Ok(Vec::new(alloc)),
@@ -75,7 +71,7 @@ pub fn defined_twice<'s>(
     alloc: Global,
     resources: &[FluentResource<'s>],
 ) -> Result<Vec<Twice<'s>>, AllocError>
-    ensures { IfOk result (λ list. AllByRecursion (IsTwice resources.now) list.items) }
+    ensures { IfOk result (AreTwice resources.now) }
 {
     let mut firsts: IndexMap<&'s str, Definition> = IndexMap::new(alloc);
     let mut list = Vec::new(alloc);
@@ -119,8 +115,7 @@ fn add_twice<'s>(
     again: Definition,
     list: &mut Vec<Twice<'s>>,
 ) -> Result<(), AllocError>
-    ensures { OnOk result (AllByRecursion (IsTwice resources.now) list.old.items
-        → AllByRecursion (IsTwice resources.now) list.new.items) }
+    ensures { OnOk result (KeepsTwice resources.now list.old list.new) }
 {
     if defines(resources, first, id) && defines(resources, again, id) && is_before(first, again) {
         list.push(Twice { id, first, again })?;

@@ -1,6 +1,8 @@
 -- How findings are gathered from what was reported.
-use Rattle.std.specs.Prelude.{◌≡◌, ◌⊎◌, ℕ, List, [], ◌∷◌, map}
-use Rattle.fluent_tree.specs.Tree.{Text, Attribute, Pattern}
+use Rattle.std.specs.Prelude.{◌≡◌, ◌⊎◌, ℕ, List, map}
+use Rattle.std.specs.declared.vec.Vec.{Vec}
+use Rattle.std.proofs.Common.{Global}
+use Rattle.fluent_tree.specs.Tree.{Text, Attribute}
 use Rattle.fluent_meaning.specs.Bundle.{message_target, term_target}
 use Rattle.fluent_clean.specs.Places.{Place, Names}
 use Rattle.fluent_clean.specs.Needs.{Need, a_message, a_term}
@@ -11,8 +13,9 @@ use Rattle.fluent_lint.specs.declared.finding.Cause.{Cause}
 use Rattle.fluent_lint.specs.declared.finding.Cause.TheVariants as cause
 use Rattle.fluent_lint.specs.declared.finding.Finding as unclean
 use Rattle.fluent_lint.specs.declared.finding.Large.{Large}
+use Rattle.fluent_lint.specs.declared.finding.Report.{Report}
 use Rattle.fluent_lint.specs.declared.place.Place as code
-use Rattle.fluent_linter.specs.Findings.{Says, Holds}
+use Rattle.fluent_linter.specs.Findings.{Says, Holds, Finds}
 use Rattle.fluent_linter.specs.declared.finding.Finding.{Finding}
 use Rattle.fluent_linter.specs.declared.finding.Kind.{Kind}
 use Rattle.fluent_linter.specs.declared.finding.Kind.TheVariants as kind
@@ -65,3 +68,17 @@ pub record AddsLarge (limit : ℕ) (ls : List Large) (old new : List Finding) : 
   pub kept : (f : Finding) → IsAmong f old → IsAmong f new
   pub told : (l : Large) → IsAmong l ls → (f : Finding) × IsAmong f new × (place_view f.place ≡ place_view l.place)
   pub only : (f : Finding) → IsAmong f new → IsAmong f old ⊎ ((l : Large) × IsAmong l ls × (place_view f.place ≡ place_view l.place) × (f.kind ≡ kind.TooManyPlaceables l.count limit))
+
+-- ---- of the code's lists
+
+-- to old findings, one for each of these causes at a place
+abbrev pub AddsFor : Names Text → code.Place → List Cause → Vec Finding Global → Vec Finding Global → Type 0
+AddsFor named x cs old new = AddsCauses named (place_view x) cs old.items new.items
+
+-- whatever the limit, only true ones
+abbrev pub AddsCycles : Names Text → Vec Finding Global → Vec Finding Global → Type 0
+AddsCycles named old new = (limit : ℕ) → AddsTrue named limit old.items new.items
+
+-- what is found by a report, whichever places it is of
+abbrev pub FindsAll : Names Text → ℕ → Report → Vec Finding Global → Type 0
+FindsAll named limit r fs = (seen : List Place) → lint.Reports named limit seen r → Finds named limit seen fs.items

@@ -1,4 +1,4 @@
-use Rattle.std.proofs.Common.{length, subst, arith}
+use Rattle.std.proofs.Common.{subst, arith}
 use Rattle.fluent_lint.specs.PlaceView.{place_view}
 use Rattle.fluent_linter.specs.Inside.Telling.{AddsCauses, AddsLarge, Gathers}
 use Rattle.fluent_linter.proofs.Telling.{finds, gathers_all, gathers_more}

@@ -1,0 +1,80 @@
+/* Fluent for C: messages of a source, formatted as the proved crates below say.
+
+   Texts are UTF-8, each by where it begins and how many bytes it has; a zero byte is a byte like any other. No pointer is
+   null, also of an empty text or buffer. What is written lies apart from all else that is handed over. A call keeps nothing
+   of what it was given, and calls in several threads at once have nothing in common. Memory is taken by malloc and realloc
+   and given back by free, all of it before a call ends. No call belongs into a signal handler. */
+#ifndef FLUENT_H
+#define FLUENT_H
+#include <stdbool.h>
+#include <stddef.h>
+#include <stdint.h>
+#include <string.h>
+#ifdef __cplusplus
+extern "C" {
+#endif
+
+/* What a call answers. From FLUENT_NO_MEMORY on no buffer is written, and both lengths are 0. */
+enum fluent_status {
+    FLUENT_OK = 0,                    /* the text and the lines of its errors are in their buffers */
+    FLUENT_TOO_SMALL = 1,             /* the lengths are written; a buffer that is too small for its text is as it was */
+    FLUENT_NO_MEMORY = 2,             /* malloc or realloc answered null */
+    FLUENT_SOURCE_NOT_UTF8 = 3,       /* told before any memory is taken */
+    FLUENT_LANGUAGE_NOT_UTF8 = 4,
+    FLUENT_NO_LANGUAGE = 5,           /* the Unicode CLDR has no plural rules for the tag */
+    FLUENT_BAD_RULES = 6,             /* its rules can't be read */
+    FLUENT_ID_NOT_UTF8 = 7,           /* the id, or the name of the attribute */
+    FLUENT_NO_MESSAGE = 8,            /* no such message with a value, or with that attribute */
+    FLUENT_ARGUMENTS_CUT = 9,         /* the arguments are cut short, or begin with no kind of value */
+    FLUENT_ARGUMENTS_NOT_UTF8 = 10    /* the name or the value of one of them */
+};
+
+/* How many bytes a text has, and the lines of its errors. */
+struct fluent_lengths {
+    size_t text;
+    size_t errors;
+};
+
+/* Formats the value of a message of a source, or its attribute where the length of the attribute's name is not 0.
+
+   language    a tag such as "en" or "pt-PT", whose plural rules choose
+   isolate     whether placeables stand between U+2068 and U+2069
+   source      FTL; what can't be read in it is passed over, and so is a message whose id stands in it before
+   arguments   one behind the other, as fluent_put_argument writes them; the last of a repeated name stands
+   out         the text
+   err         a line for each error in it
+   lengths     how many bytes both have, so also how much room they need */
+uint8_t fluent_format_source(const uint8_t *language, size_t language_length, bool isolate, const uint8_t *source,
+                             size_t source_length, const uint8_t *id, size_t id_length, const uint8_t *attribute,
+                             size_t attribute_length, const uint8_t *arguments, size_t arguments_length, uint8_t *out,
+                             size_t out_room, uint8_t *err, size_t err_room, struct fluent_lengths *lengths);
+
+/* The kinds of values: a text, or the text of a number, whose digits are shown as they are written. A text that is no
+   number is taken as a text. */
+enum fluent_kind { FLUENT_TEXT = 't', FLUENT_NUMBER = 'n' };
+
+/* How many bytes an argument takes: its kind, and its name and its value, each behind its length in four bytes, the lowest
+   first. */
+static inline size_t fluent_argument_length(size_t name_length, size_t value_length) {
+    return 9 + name_length + value_length;
+}
+
+static inline uint8_t *fluent_put_sized(uint8_t *at, const void *text, size_t length) {
+    for (int i = 0; i < 4; i++)
+        at[i] = (uint8_t)(length >> 8 * i);
+    memcpy(at + 4, text, length);
+    return at + 4 + length;
+}
+
+/* Writes an argument where fluent_argument_length bytes are free, and gives where the next one goes. Name and value are
+   shorter than 4 gigabytes each. */
+static inline uint8_t *fluent_put_argument(uint8_t *at, enum fluent_kind kind, const void *name, size_t name_length,
+                                           const void *value, size_t value_length) {
+    *at = (uint8_t)kind;
+    return fluent_put_sized(fluent_put_sized(at + 1, name, name_length), value, value_length);
+}
+
+#ifdef __cplusplus
+}
+#endif
+#endif

@@ -1,0 +1,2 @@
+mod Stands
+mod Written

@@ -1,0 +1,117 @@
+//! Arguments in a run of bytes.
+ghost use Rattle.std.specs.Prelude.{◌≡◌, map, IfOk, IfErr};
+ghost use Rattle.fluent_text.specs.Reading.{found};
+ghost use Rattle.fluent_buffers.specs.Arguments as front;
+ghost use Rattle.fluent_buffers.specs.Arguments.{Stops, Are, kind_of};
+ghost use Rattle.fluent_buffers.specs.ArgumentView.{argument_view};
+ghost use Rattle.fluent_buffers.specs.Inside.Raw.{bytes_view, raw_view, TextOf};
+
+use std::alloc::Global;
+use std::str;
+
+/// An argument: a name with a text, or with the text of a number.
+#[derive(Clone, Copy, Debug, Drop)]
+pub struct Argument<'b> {
+    pub name: &'b str,
+    pub value: &'b str,
+    pub is_number: bool,
+}
+
+/// Why bytes are no arguments.
+#[derive(Clone, Copy, Debug, Drop, PartialEq, Eq)]
+pub enum Fault {
+    /// They are cut short, or begin an argument with a byte that stands for no kind of value.
+    Cut,
+    /// A name or a value is not UTF-8.
+    NotText,
+    /// Memory was refused.
+    Memory,
+}
+
+/// An argument before its texts are known to be UTF-8.
+#[derive(Clone, Copy)]
+struct Raw<'b> {
+    name: &'b [u8],
+    value: &'b [u8],
+    is_number: bool,
+}
+
+/// Reads arguments that stand one behind the other.
+///
+/// # Errors
+///
+/// The first [`Fault`] from the front.
+pub fn arguments(alloc: Global, bytes: &[u8]) -> Result<Vec<Argument<'_>>, Fault>
+    ensures ok { IfOk result (λ list. Are (map argument_view list.items) bytes.now) }
+    ensures err { IfErr result (Stops bytes.now) }
+{
+    let mut list = Vec::new(alloc);
+    let mut rest = bytes;
+    while !rest.is_empty() {
+        let Some((raw, behind)) = next(rest) else {
+            return Err(Fault::Cut);
+        };
+        let Some(argument) = text(raw) else {
+            return Err(Fault::NotText);
+        };
+        if list.push(argument).is_err() {
+            return Err(Fault::Memory);
+        }
+        rest = behind;
+    }
+    Ok(list)
+}
+
+/// The argument at the front, and what stands behind it.
+fn next(bytes: &[u8]) -> Option<(Raw<'_>, &[u8])>
+    ensures { found raw_view result ≡ front.argument bytes.now }
+{
+    let (first, bytes) = bytes.split_first()?;
+    let is_number = kind(*first)?;
+    let (name, bytes) = sized(bytes)?;
+    let (value, bytes) = sized(bytes)?;
+    Some((
+        Raw {
+            name,
+            value,
+            is_number,
+        },
+        bytes,
+    ))
+}
+
+/// Whether a value is a number, by the byte of its kind.
+fn kind(byte: u8) -> Option<bool>
+    ensures { result ≡ kind_of byte }
+{
+    match byte {
+        b't' => Some(false),
+        b'n' => Some(true),
+        _ => None,
+    }
+}
+
+/// The bytes at the front that stand behind their length, and what stands behind them.
+fn sized(bytes: &[u8]) -> Option<(&[u8], &[u8])>
+    ensures { found bytes_view result ≡ front.sized bytes.now }
+{
+    let (size, rest) = bytes.split_first_chunk::<4>()?;
+    rest.split_at_checked(u32::from_le_bytes(*size) as usize)
+}
+
+/// An argument whose name and value are UTF-8.
+fn text(raw: Raw<'_>) -> Option<Argument<'_>>
+    ensures { TextOf (raw_view raw.entry) result }
+{
+    let Ok(name) = str::from_utf8(raw.name) else {
+        return None;
+    };
+    let Ok(value) = str::from_utf8(raw.value) else {
+        return None;
+    };
+    Some(Argument {
+        name,
+        value,
+        is_number: raw.is_number,
+    })
+}

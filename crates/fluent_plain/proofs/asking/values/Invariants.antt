@@ -1,0 +1,12 @@
+use Rattle.std.proofs.Common.{◌≡◌, map, drop}
+use Rattle.fluent_meaning.specs.Arguments.{set_all}
+use Rattle.fluent_buffers.specs.ArgumentView.{argument_view}
+use Rattle.fluent_plain.specs.Asked.{arguments_of, named_value}
+use Rattle.fluent_plain.specs.PlainView.{args_view}
+use Rattle.fluent_plain.proofs.asking.values.Given as goal
+
+-- the rest set behind those so far
+abbrev pub invariant-loop-argument : goal.invariant-loop-argument
+invariant-loop-argument l =
+    set_all (map named_value (map argument_view (drop l.argument-index l.list))) (args_view l.args)
+    ≡ arguments_of (map argument_view l.list)

@@ -1,0 +1,64 @@
+-- What a bundle answers.
+use Rattle.std.specs.Prelude.{◌≡◌, List, [], ◌∷◌, ◌++◌, ℕ, Some, None}
+use denote.Triple.Both.{Both}
+use Rattle.std.specs.Borrow.{Bor}
+use Rattle.std.specs.Str.{IsUtf8}
+use Rattle.fluent_tree.specs.Tree.{Text, Pattern}
+use Rattle.fluent_intl.specs.RuleTree.{Rules}
+use Rattle.fluent_meaning.specs.Bundle.{Bundle}
+use Rattle.fluent_meaning.specs.Errors.{Error, error_text}
+use Rattle.fluent_meaning.specs.Result.{formatted, written_pattern}
+use Rattle.fluent_bundle.specs.declared.bundle.FluentBundle.{FluentBundle}
+use Rattle.fluent_values.specs.declared.formatter.NoFormatter.{NoFormatter}
+use Rattle.fluent_values.specs.declared.function.NoFunction.{NoFunction}
+use Rattle.fluent_values.specs.declared.transform.NoTransform.{NoTransform}
+use Rattle.fluent_values.specs.declared.types.custom.NoCustom.{NoCustom}
+use Rattle.fluent_buffers.specs.Arguments.{Argument, Are, Stops}
+use Rattle.fluent_buffers.specs.Buffers.{Given}
+use Rattle.fluent_plain.specs.Asked.{arguments_of, asked_at}
+use Rattle.fluent_plain.specs.PlainView.{bundle_view}
+use Rattle.fluent_plain.specs.declared.answering.FormatFault.{FormatFault}
+use Rattle.fluent_plain.specs.declared.answering.FormatFault.TheVariants as fault
+use Rattle.fluent_plain.specs.declared.answering.Lengths.{Lengths}
+
+-- ---- errors
+
+abbrev pub error_line : Error → Text
+error_line error = error_text error ++ 10 ∷ []
+
+abbrev pub error_lines : List Error → Text
+error_lines [] = []
+error_lines (error ∷ errors) = error_line error ++ error_lines errors
+
+-- ---- what is answered
+
+-- The message is there and the arguments can be read: its text and the lines of its errors were given.
+pub record FormatsIn (bundle : Bundle Text) (id name args out out' err err' : List ℕ) (lengths : Lengths) : Type 0 where
+  pub pattern : Pattern
+  pub all : List Argument
+  pub found : asked_at id name bundle ≡ Some pattern
+  pub read : Are all args
+  pub text : Given (formatted bundle (written_pattern bundle (arguments_of all) pattern).value) out out' lengths.text
+  pub errors : Given (error_lines (written_pattern bundle (arguments_of all) pattern).errors) err err' lengths.errors
+
+-- why nothing is
+abbrev pub NotFormattedIn : Bundle Text → Text → Text → List ℕ → FormatFault → Type 0
+NotFormattedIn bundle id name args fault.NotText = ¬ (IsUtf8 id × IsUtf8 name)
+NotFormattedIn bundle id name args (fault.Arguments f) = Stops args f
+NotFormattedIn bundle id name args fault.NoMessage = asked_at id name bundle ≡ None
+NotFormattedIn bundle id name args fault.Memory = Unit {0}
+
+-- ---- the same of what the code is handed
+
+-- a run of bytes, as a clause has it
+abbrev pub Lent : Type 0
+Lent = Both (Bor (List ℕ)) (Bor (List ℕ))
+
+abbrev pub bytes : Lent → List ℕ
+bytes lent = lent.entry.now
+
+abbrev pub Formats : FluentBundle Rules NoCustom NoFunction NoFormatter NoTransform → Lent → Lent → Lent → List ℕ → List ℕ → List ℕ → List ℕ → Lengths → Type 0
+Formats bundle id name args = FormatsIn (bundle_view bundle) (bytes id) (bytes name) (bytes args)
+
+abbrev pub NotFormatted : FluentBundle Rules NoCustom NoFunction NoFormatter NoTransform → Lent → Lent → Lent → FormatFault → Type 0
+NotFormatted bundle id name args = NotFormattedIn (bundle_view bundle) (bytes id) (bytes name) (bytes args)

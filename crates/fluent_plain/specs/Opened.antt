@@ -1,0 +1,34 @@
+-- A bundle by the tag of a language.
+use Rattle.std.specs.Prelude.{◌≡◌, Bool, true, [], ◌∷◌, Ok, Err}
+use Rattle.std.specs.Str.{IsUtf8}
+use Rattle.fluent_tree.specs.Tree.{Text}
+use Rattle.fluent_intl.specs.LanguageTable.{cldr_plurals}
+use Rattle.fluent_intl.specs.Languages.{rules_of}
+use Rattle.fluent_intl.specs.RuleTexts.{category_of}
+use Rattle.fluent_intl.specs.RuleTree.{Rules}
+use Rattle.fluent_meaning.specs.Bundle.{Bundle, empty_bundle, after_all, add_builtins, set_use_isolating}
+use Rattle.fluent_meaning.specs.Value.{Custom, Plurals}
+use Rattle.fluent_catalog.specs.Language.{HasPlurals}
+use Rattle.fluent_plain.specs.declared.opening.OpenFault.{OpenFault}
+use Rattle.fluent_plain.specs.declared.opening.OpenFault.TheVariants as fault
+
+-- the application has no values of its own
+abbrev pub no_custom : Custom Text
+no_custom = record { text = λ t. []; same = λ s t. true }
+
+-- a bundle with the built-in function alone
+abbrev pub start : Plurals → Bool → Bundle Text
+start plurals on =
+    after_all (set_use_isolating on ∷ add_builtins ∷ []) (empty_bundle plurals no_custom)
+
+-- The same with the rules that the Unicode CLDR has for the tag.
+pub record Opened (tag : Text) (on : Bool) (bundle : Bundle Text) : Type 0 where
+  pub rules : Rules
+  pub has : HasPlurals (rules_of cldr_plurals tag) (Ok rules)
+  pub is : bundle ≡ start (category_of rules) on
+
+-- why there is none
+abbrev pub NotOpened : Text → OpenFault → Type 0
+NotOpened tag fault.NotText = ¬ (IsUtf8 tag)
+NotOpened tag (fault.Language f) = HasPlurals (rules_of cldr_plurals tag) (Err f)
+NotOpened tag fault.Memory = Unit {0}

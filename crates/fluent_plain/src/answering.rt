@@ -1,0 +1,117 @@
+//! What a bundle answers, into buffers of the caller.
+ghost use Rattle.std.specs.Prelude.{◌≡◌, IfOk, IfErr, OnErr, string_bytes};
+ghost use Rattle.fluent_resolver.specs.Status.{reported};
+ghost use Rattle.fluent_plain.specs.Answered.{Formats, NotFormatted, error_line, error_lines};
+ghost use Rattle.fluent_values.specs.View.{error_view};
+ghost use Rattle.fluent_plain.specs.PlainView.{bundle_view};
+ghost use Rattle.fluent_plain.specs.Inside.Shown.{Shows};
+
+use crate::asking::values;
+use crate::opening::Plain;
+use fluent_buffers::{Fault, arguments, put_text};
+use fluent_bundle::{FluentArgs, FluentError, NoCustom};
+use std::alloc::{AllocError, Global};
+use std::borrow::CowStr;
+use std::str;
+
+/// How many bytes a text and the lines of its errors have.
+#[derive(Clone, Copy, Debug, Drop, PartialEq, Eq)]
+#[repr(C)]
+pub struct Lengths {
+    pub text: usize,
+    pub errors: usize,
+}
+
+/// Why nothing was answered.
+#[derive(Clone, Copy, Debug, Drop, PartialEq, Eq)]
+pub enum FormatFault {
+    /// The id or the name of the attribute is not UTF-8.
+    NotText,
+    /// The arguments can't be read.
+    Arguments(Fault),
+    /// There is no such message with a value, or with such an attribute.
+    NoMessage,
+    /// Memory was refused.
+    Memory,
+}
+
+/// Formats the value of a message, or its attribute of a name that is not empty, with arguments that
+/// [`arguments`] reads. Each buffer that is too small is left as it was: the lengths say which room is needed. Of what
+/// went wrong in the text each error has a line.
+///
+/// # Errors
+///
+/// As [`FormatFault`] says: both buffers are as before.
+pub fn format(
+    alloc: Global,
+    bundle: &Plain<'_, '_>,
+    id: &[u8],
+    name: &[u8],
+    args: &[u8],
+    out: &mut [u8],
+    err: &mut [u8],
+) -> Result<Lengths, FormatFault>
+    ensures ok { IfOk result (Formats bundle.now id name args out.old out.new err.old err.new) }
+    ensures err { IfErr result (NotFormatted bundle.now id name args) }
+    ensures left { OnErr result ((out.new ≡ out.old) × (err.new ≡ err.old)) }
+{
+    let (Ok(id), Ok(name)) = (str::from_utf8(id), str::from_utf8(name)) else {
+        return Err(FormatFault::NotText);
+    };
+    let list = match arguments(alloc, args) {
+        Ok(list) => list,
+        Err(fault) => return Err(FormatFault::Arguments(fault)),
+    };
+    let Ok(args) = values(alloc, list.as_slice()) else {
+        return Err(FormatFault::Memory);
+    };
+    match shown(alloc, bundle, id, name, &args) {
+        Ok(Some((text, lines))) => Ok(Lengths {
+            text: put_text(text.as_str(), out),
+            errors: put_text(lines.as_str(), err),
+        }),
+        Ok(None) => Err(FormatFault::NoMessage),
+        Err(AllocError) => Err(FormatFault::Memory),
+    }
+}
+
+/// The text of a value or an attribute, and the lines of its errors.
+fn shown<'r, 's: 'r>(
+    alloc: Global,
+    bundle: &Plain<'r, 's>,
+    id: &str,
+    attribute: &str,
+    args: &FluentArgs<'_, NoCustom>,
+) -> Result<Option<(CowStr<'s>, String)>, AllocError>
+    ensures { IfOk result (Shows (bundle_view bundle.now) id.now attribute.now args.now) }
+{
+    let mut errors = Vec::new(alloc);
+    let text = if attribute.is_empty() {
+        bundle.format_value(id, Some(args), &mut errors)?
+    } else {
+        bundle.format_attribute(id, attribute, Some(args), &mut errors)?
+    };
+    match text {
+        Some(text) => Ok(Some((text, lines(alloc, errors.as_slice())?))),
+        None => Ok(None),
+    }
+}
+
+/// A line for each error.
+fn lines(alloc: Global, errors: &[FluentError]) -> Result<String, AllocError>
+    ensures { IfOk result (λ text. string_bytes text ≡ error_lines (reported errors.now)) }
+{
+    let mut text = String::new(alloc);
+    for error in errors {
+        let line = line(alloc, error)?;
+        text.push_str(line.as_str())?;
+    }
+    Ok(text)
+}
+
+/// The text of an error, and a line feed.
+fn line(alloc: Global, error: &FluentError) -> Result<String, AllocError>
+    ensures { IfOk result (λ text. string_bytes text ≡ error_line (error_view error.now)) }
+{
+    format!(in alloc; "{error}\n")
+}

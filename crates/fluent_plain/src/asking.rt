@@ -1,0 +1,36 @@
+//! What a bundle is asked for, and with which arguments.
+ghost use Rattle.std.specs.Prelude.{◌≡◌, [], map, IfOk};
+ghost use Rattle.fluent_values.specs.View.{value_view};
+ghost use Rattle.fluent_buffers.specs.ArgumentView.{argument_view};
+ghost use Rattle.fluent_plain.specs.Asked.{arguments_of, value_of};
+ghost use Rattle.fluent_plain.specs.PlainView.{args_view};
+
+use fluent_buffers::Argument;
+use fluent_bundle::{FluentArgs, FluentValue, NoCustom};
+use std::alloc::{AllocError, Global};
+use std::borrow::CowStr;
+
+/// The value of an argument.
+fn value<'w>(argument: &Argument<'w>) -> FluentValue<'w, NoCustom>
+    ensures { value_view (λ c. []) result ≡ value_of (argument_view argument.now) }
+{
+    if argument.is_number {
+        FluentValue::try_number(argument.value)
+    } else {
+        FluentValue::String(CowStr::Borrowed(argument.value))
+    }
+}
+
+/// The arguments of a call. The last of a repeated name stands.
+pub(crate) fn values<'w>(
+    alloc: Global,
+    list: &[Argument<'w>],
+) -> Result<FluentArgs<'w, NoCustom>, AllocError>
+    ensures { IfOk result (λ args. args_view args ≡ arguments_of (map argument_view list.now)) }
+{
+    let mut args = FluentArgs::new(alloc);
+    for argument in list {
+        args.set(CowStr::Borrowed(argument.name), value(argument))?;
+    }
+    Ok(args)
+}

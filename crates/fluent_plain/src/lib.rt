@@ -1,0 +1,14 @@
+//! A bundle to which its application adds sources alone, and which it asks by runs of bytes: what stands behind each call
+//! from C.
+#![tactic(auto)]
+
+mod answering;
+mod asking;
+mod opening;
+mod sources;
+mod statuses;
+
+pub use answering::{FormatFault, Lengths, format};
+pub use opening::{OpenFault, Plain, open};
+pub use sources::{SourceFault, format_source};
+pub use statuses::answer;

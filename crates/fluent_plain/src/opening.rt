@@ -1,0 +1,71 @@
+//! A bundle by the tag of a language.
+ghost use Rattle.std.specs.Prelude.{◌≡◌, IfOk, IfErr};
+ghost use Rattle.fluent_intl.specs.RuleTexts.{category_of};
+ghost use Rattle.fluent_plain.specs.Opened.{Opened, NotOpened, start};
+ghost use Rattle.fluent_plain.specs.PlainView.{bundle_view};
+
+use fluent_bundle::{FluentBundle, NoCustom, NoFormatter, NoFunction, NoTransform};
+use fluent_catalog::{LanguageFault, plurals_for};
+use fluent_intl::RuleTexts;
+use std::alloc::{AllocError, Global};
+use std::str;
+
+/// A bundle for which the application adds nothing of its own but sources.
+pub type Plain<'r, 's> = FluentBundle<
+    'r,
+    's,
+    RuleTexts,
+    NoCustom,
+    NoFunction,
+    NoFormatter,
+    NoTransform,
+>;
+
+/// Why no bundle was made.
+#[derive(Clone, Copy, Debug, Drop, PartialEq, Eq)]
+pub enum OpenFault {
+    /// The tag is not UTF-8.
+    NotText,
+    /// The language has no plural rules, or they could not be read.
+    Language(LanguageFault),
+    /// Memory was refused.
+    Memory,
+}
+
+/// A bundle with the plural rules of a language, by its tag, and the built-in function alone.
+///
+/// # Errors
+///
+/// As [`OpenFault`] says.
+pub fn open<'r, 's>(alloc: Global, tag: &[u8], isolate: bool) -> Result<Plain<'r, 's>, OpenFault>
+    ensures ok { IfOk result (λ bundle. Opened tag.now isolate (bundle_view bundle)) }
+    ensures err { IfErr result (NotOpened tag.now) }
+{
+    let Ok(tag) = str::from_utf8(tag) else {
+        return Err(OpenFault::NotText);
+    };
+    match plurals_for(alloc, tag) {
+        Ok(plurals) => match with_plurals(alloc, plurals, isolate) {
+            Ok(bundle) => Ok(bundle),
+            Err(AllocError) => Err(OpenFault::Memory),
+        },
+        Err(fault) => Err(OpenFault::Language(fault)),
+    }
+}
+
+/// A bundle with these plural rules and the built-in function alone.
+fn with_plurals<'r, 's>(
+    alloc: Global,
+    plurals: RuleTexts,
+    isolate: bool,
+) -> Result<Plain<'r, 's>, AllocError>
+    ensures { IfOk result (λ bundle. bundle_view bundle ≡ start (category_of plurals) isolate) }
+{
+    let mut bundle = FluentBundle::new(alloc, Vec::new(alloc), plurals);
+    bundle.set_use_isolating(isolate);
+    match bundle.add_builtins() {
+        Ok(()) => Ok(bundle),
+        // All ids are free, so it is memory that was refused.
+        Err(_) => Err(AllocError),
+    }
+}
