@@ -205,7 +205,7 @@ fn listed<'x>(scope: &'x Scoped<'_, '_, '_, '_>, count: usize) -> &'x [FluentErr
     }
 }
 
-/// Whether a scope that isn't struck opened so many more than before.
+/// Whether a scope within its limit opened so many more than before.
 fn has_opened(scope: &Scoped<'_, '_, '_, '_>, before: u64, more: u64) -> bool {
     let is_more = scope.counts().opened.saturating_sub(before) == more;
     is_more && !scope.dirty()
@@ -270,7 +270,7 @@ fn parts_are_resolved_in_a_scope(rt: HostRuntime) -> Result<(), Fail> {
 
 // ---- the limit
 
-/// A call whose budget is two, and is struck at the third placeable.
+/// A call whose limit is two, which the third placeable reaches.
 fn is_struck<'p, 'r, 's: 'r>(
     rt: &impl Abort,
     alloc: Global,

@@ -7,14 +7,7 @@ use Rattle.fluent_meaning.specs.Arguments.{Map, set_all}
 use Rattle.fluent_meaning.specs.Bundle.{Bundle}
 use Rattle.fluent_chain.specs.Chain.{Shown, pattern_at, first_with, shown_of}
 use Rattle.fluent_bundle.specs.BundleView.{entries_of}
-use Rattle.fluent_chain.specs.ChainView.{bundles_of}
-use Rattle.fluent_chain.specs.declared.chain.Chain.{Chain}
-use Rattle.fluent_intl.specs.declared.rule_texts.RuleTexts.{RuleTexts}
-use Rattle.fluent_values.specs.declared.formatter.NoFormatter.{NoFormatter}
-use Rattle.fluent_values.specs.declared.function.NoFunction.{NoFunction}
-use Rattle.fluent_values.specs.declared.transform.NoTransform.{NoTransform}
-use Rattle.fluent_values.specs.declared.types.custom.NoCustom.{NoCustom}
-use Rattle.fluent_cli.specs.Language.{bundle_of, bundle_view}
+use Rattle.fluent_cli.specs.Language.{bundle_of}
 use Rattle.fluent_cli.specs.declared.source.Sources.{Sources}
 use Rattle.fluent_cli.specs.declared.words.Argument.{Argument}
 use Rattle.fluent_cli.specs.declared.words.ShowRequest.{ShowRequest}
@@ -53,7 +46,3 @@ show request entries files =
 -- of sources that were read
 abbrev pub show_sources : ShowRequest → Sources → Text
 show_sources request sources = show request entries_of sources.resources.items
-
--- the text that a chain of the code gives
-abbrev pub given_by : ShowRequest → Chain RuleTexts NoCustom NoFunction NoFormatter NoTransform → Text
-given_by request chain = (shown_by request (map bundle_view (bundles_of chain))).text

@@ -21,7 +21,7 @@ pub enum Status {
 impl Status {
     /// The exit status of the program.
     pub fn code(self) -> u8
-        ensures { result ≡ code_of self.entry }
+        ensures { result ≡ code_of self }
     {
         match self {
             Status::Fine => 0,

@@ -1,9 +1,11 @@
 //! A message as an application shows it.
 
-ghost use Rattle.std.specs.Prelude.{◌≡◌, [], IfOk, string_bytes};
+ghost use Rattle.std.specs.Prelude.{◌≡◌, [], IfOk, map, string_bytes};
+ghost use Rattle.fluent_chain.specs.ChainView.{bundles_of};
 ghost use Rattle.fluent_values.specs.View.{named, value_view};
 ghost use Rattle.fluent_cli.specs.Answers.{status_shown};
-ghost use Rattle.fluent_cli.specs.Shown.{arguments_of, given_by, show_sources, value_of};
+ghost use Rattle.fluent_cli.specs.Language.{bundle_view};
+ghost use Rattle.fluent_cli.specs.Shown.{arguments_of, show_sources, shown_by, value_of};
 
 use crate::answer::{Answer, Status};
 use crate::bundle::bundles_of;
@@ -63,7 +65,8 @@ fn text_of<'s>(
     request: &ShowRequest<'_>,
     errors: &mut Vec<FluentError>,
 ) -> Result<String, AllocError>
-    ensures { IfOk result (λ text. string_bytes text ≡ given_by request.now texts.now) }
+    ensures { IfOk result (λ text. string_bytes text
+        ≡ (shown_by request.now (map bundle_view (bundles_of texts.now))).text) }
 {
     let args = arguments(alloc, request.arguments.as_slice())?;
     match request.attribute {

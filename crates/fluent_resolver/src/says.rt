@@ -60,7 +60,7 @@ pub(crate) trait Says<C, F, B> {
     /// Of an expression, and its fallback where it leaves the budget struck.
     ghost closed: { Expression → Writing Self C F B };
 
-    /// No memory is refused for a pattern of texts alone, where the bundle changes none and no buffer takes them.
+    /// No allocation fails for a pattern of texts alone, where the bundle changes none and no buffer takes them.
     ghost owes: { Pattern → Result (Unit {0}) Halt → Output Self → State C F B → Type 0 };
 }
 

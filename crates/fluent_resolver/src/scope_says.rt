@@ -145,7 +145,7 @@ pub(crate) trait Writes<C, F, B> {
     /// The text of a pattern.
     ghost whole: { Pattern → Writing Self (Scope C F B) };
 
-    /// No memory is refused for a pattern of texts alone, where the bundle changes none and no buffer takes them.
+    /// No allocation fails for a pattern of texts alone, where the bundle changes none and no buffer takes them.
     ghost owes: { Pattern → Result (Unit {0}) Halt → Output Self → Scope C F B → Type 0 };
 }
 

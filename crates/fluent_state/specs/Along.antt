@@ -174,7 +174,7 @@ pub record Elsewhere {B : Type 0} (s s' : Status B) : Type 0 where
   pub is_plain : s'.is_plain ≡ s.is_plain
   pub spends : Spends s s'
 
--- one was taken from the budget, or it was struck
+-- one was taken from the budget, or the limit was reached
 pub record TakesOne {B : Type 0} (opens : Bool) (s s' : Status B) : Type 0 where
   pub budget : s'.budget ≡ less_one s.budget
   pub errors : s'.errors ≡ s.errors

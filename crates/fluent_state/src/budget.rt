@@ -1,6 +1,6 @@
 //! How many more placeables a call may open, and what it did.
 
-/// How many more placeables may be opened; struck once one more was met.
+/// How many more placeables may be opened, or that the limit was reached, once one more was tried.
 #[derive(Clone, Copy)]
 pub enum Budget {
     Left(u32),

@@ -88,7 +88,7 @@ pub(crate) trait Sees<C, F> {
     /// These errors were added, or none where the answer is no `Ok`.
     ghost reports: { List Error → Getting (Unit {0}) C F Self };
 
-    /// One was taken from the budget, or it was struck.
+    /// One was taken from the budget, or the limit was reached.
     ghost takes_one: { Bool → Step C F Self };
 
     /// A pattern begins, which the path holds where it held none.

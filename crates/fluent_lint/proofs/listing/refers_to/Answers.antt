@@ -12,9 +12,9 @@ use Rattle.fluent_lint.proofs.listing.refers_to.Goals as goal
 
 pub loop-need-preserved : goal.loop-need-preserved
 loop-need-preserved c = λ h. elim (so_far need_view _ _ _ _ c.loop-need-test.true c.need-item.is h.1) [
-    | inl old ↦ c.loop-need.invariant (h.0, old, h.2)
-    | inr same ↦ true≢false (sym (c.is_of_place.ensures.1 (subst (IsOfPlace (place_view c.args.place.now)) same h.2)) ∙ c.if-is_of_place.false)
-  ]
+  | inl old ↦ c.loop-need.invariant (h.0, old, h.2)
+  | inr same ↦ true≢false (sym (c.is_of_place.ensures.1 (subst (IsOfPlace (place_view c.args.place.now)) same h.2)) ∙ c.if-is_of_place.false)
+]
 
 pub returns-then-is_of_place : goal.returns-then-is_of_place
 returns-then-is_of_place c =
