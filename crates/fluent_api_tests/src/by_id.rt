@@ -1,4 +1,4 @@
-//! What a bundle is asked for by id: values and attributes that are there, and what isn't, where memory is refused too.
+//! What a bundle is asked for by id: values and attributes that are there, and what isn't, where an allocation fails too.
 use crate::check::{check, check_same};
 use crate::common::{Args, Bundle, arguments, bundle_of, lines, read};
 use fluent_bundle::{Counting, FluentError, FluentResource, WriteFault};
@@ -79,7 +79,7 @@ fn write(
     }
 }
 
-/// Whether a call gave what a row says, where it is to be refused memory else.
+/// Whether a call gave what a row says, where it is to fail for want of memory else.
 fn is_given(rt: &impl Abort, given: Result<Option<CowStr<'_>>, AllocError>, row: &Row) -> bool {
     match given {
         Ok(Some(text)) => {
@@ -94,7 +94,7 @@ fn is_given(rt: &impl Abort, given: Result<Option<CowStr<'_>>, AllocError>, row:
     }
 }
 
-/// Whether a call says that it wrote what a row has, or that it isn't there, where it is to be refused memory else.
+/// Whether a call says that it wrote what a row has, or that it isn't there, where it is to fail for want of memory else.
 fn is_whole(rt: &impl Abort, answer: Result<bool, WriteFault>, row: &Row) -> bool {
     match answer {
         Ok(is_there) => {
@@ -108,7 +108,7 @@ fn is_whole(rt: &impl Abort, answer: Result<bool, WriteFault>, row: &Row) -> boo
     }
 }
 
-/// That these are the errors, or a beginning of them where a call was refused memory.
+/// That these are the errors, or a beginning of them where a call failed for want of memory.
 fn stand(
     rt: &impl Abort,
     alloc: Global,
@@ -125,7 +125,7 @@ fn stand(
     Ok(())
 }
 
-/// `false` where memory is refused, which leaves a beginning of the errors.
+/// `false` where an allocation fails, which leaves a beginning of the errors.
 fn formats_once(
     rt: &impl Abort,
     alloc: Global,
@@ -158,7 +158,7 @@ fn writes_once(
     Ok(is_whole)
 }
 
-/// That each row is given, a second time where memory is refused at the first.
+/// That each row is given, a second time where an allocation fails at the first.
 fn formats(
     rt: &impl Abort,
     alloc: Global,

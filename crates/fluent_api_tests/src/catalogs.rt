@@ -1,4 +1,4 @@
-//! Texts in two languages, what is wrong with their sources, and plural rules by a tag; where memory is refused too.
+//! Texts in two languages, what is wrong with their sources, and plural rules by a tag; where an allocation fails too.
 use crate::check::{check, check_same};
 use crate::common::{empty, lines};
 use crate::lists::two;
@@ -57,7 +57,7 @@ fn is_shown(rt: &impl Abort, shown: Result<CowStr<'_>, AllocError>, text: &str) 
     }
 }
 
-/// That errors are these lines, or a beginning of them where a call was refused memory.
+/// That errors are these lines, or a beginning of them where a call failed for want of memory.
 fn stand(
     rt: &impl Abort,
     alloc: Global,
@@ -74,7 +74,7 @@ fn stand(
     Ok(())
 }
 
-/// `false` where memory is refused, which leaves a beginning of the errors.
+/// `false` where an allocation fails, which leaves a beginning of the errors.
 fn shows_once(
     rt: &impl Abort,
     alloc: Global,
@@ -159,7 +159,7 @@ fn left_in(
     }
 }
 
-/// Where memory is refused it is read again.
+/// Where an allocation fails it is read again.
 fn read(
     alloc: Global,
     reports: &mut Vec<Report<'static>>,
@@ -170,7 +170,7 @@ fn read(
     }
 }
 
-/// Where memory is refused it is added again.
+/// Where an allocation fails it is added again.
 fn add(
     alloc: Global,
     resource: &FluentResource<'static>,
@@ -202,7 +202,7 @@ fn what_is_wrong_is_reported_by_language(rt: HostRuntime) -> Result<(), Fail> {
     Ok(())
 }
 
-/// Where memory is refused they are asked for again.
+/// Where an allocation fails they are asked for again.
 fn plurals(alloc: Global, tag: &str) -> Result<RuleTexts, LanguageFault> {
     match plurals_for(alloc, tag) {
         Err(LanguageFault::Rules(_)) => plurals_for(alloc, tag),

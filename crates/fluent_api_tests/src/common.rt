@@ -118,7 +118,7 @@ fn lines_once(alloc: Global, errors: &[FluentError]) -> Result<String, AllocErro
     Ok(out)
 }
 
-/// The texts of errors, each with a line feed, written a second time where memory is refused at the first.
+/// The texts of errors, each with a line feed, written a second time where an allocation fails at the first.
 pub fn lines(alloc: Global, errors: &[FluentError]) -> Result<String, AllocError> {
     match lines_once(alloc, errors) {
         Ok(found) => Ok(found),

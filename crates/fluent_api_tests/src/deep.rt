@@ -12,7 +12,7 @@ use std::process::Abort;
 
 type Inline<'s> = InlineExpression<'s>;
 
-/// Each level's text is a front of it, longer by one than that of the level within.
+/// Each level's text is a prefix of it, longer by one than that of the level within.
 const MARKS: &str =
     "......................................................................................................";
 
@@ -20,7 +20,7 @@ const LEVELS: usize = 100;
 
 fn marks<'s>(count: usize) -> &'s str {
     match MARKS.split_at_checked(count) {
-        Some((front, _)) => front,
+        Some((prefix, _)) => prefix,
         None => "too many",
     }
 }

@@ -1,4 +1,4 @@
-//! Calls of one scope: what they write, report and open; and where memory is refused, that environment and path are as
+//! Calls of one scope: what they write, report and open; and where an allocation fails, that environment and path are as
 //! before, so that the same call comes to the whole when it is made again.
 use crate::check::check;
 use crate::common::{Args, Bundle, Scoped, Setting, arguments, bundle_of, lines, read, value_in};
@@ -166,7 +166,7 @@ const ROWS: &[Row] = &[
     ),
 ];
 
-/// Whether a call came to its end, where it is to be refused memory else.
+/// Whether a call came to its end, where it is to fail for want of memory else.
 fn is_whole(rt: &impl Abort, answer: Result<(), WriteFault>, text: &str) -> bool {
     match answer {
         Ok(()) => true,
@@ -197,7 +197,7 @@ fn asks<'p, 's>(
     Ok(is_whole)
 }
 
-/// What stands in the list of a scope, behind so many.
+/// What stands in the list of a scope, after so many.
 fn listed<'x>(scope: &'x Scoped<'_, '_, '_, '_>, count: usize) -> &'x [FluentError] {
     match scope.errors() {
         Some(errors) => errors.get(count..).unwrap_or(&[]),
@@ -271,7 +271,7 @@ fn parts_are_resolved_in_a_scope(rt: HostRuntime) -> Result<(), Fail> {
 // ---- the limit
 
 /// A call whose limit is two, which the third placeable reaches.
-fn is_struck<'p, 'r, 's: 'r>(
+fn is_limit_reached<'p, 'r, 's: 'r>(
     rt: &impl Abort,
     alloc: Global,
     bundle: &'p Bundle<'r, 's>,
@@ -282,19 +282,19 @@ fn is_struck<'p, 'r, 's: 'r>(
     let mut scope = Scope::new(bundle, bundle.ids(), None, Some(errors));
     let answer = scope.track(&mut w, parts.pattern, parts.inline);
     let is_right = is_whole(rt, answer, "a") && scope.dirty() && scope.counts().opened == 2;
-    check(rt, is_right, "a struck limit");
+    check(rt, is_right, "a limit_reached limit");
     let text = "xt\u{2068}1\u{2069}{-t}";
     is_taken(rt, w.into_inner().as_slice(), text, true);
     Ok(())
 }
 
 #[test]
-fn a_scope_strikes_its_limit(rt: HostRuntime) -> Result<(), Fail> {
+fn a_scope_reaches_limit_its_limit(rt: HostRuntime) -> Result<(), Fail> {
     let resource = read(rt.alloc(), SOURCE)?;
     let bundle = bundle_of(rt.alloc(), &[Setting::Limit(2)], &resource)?;
     let parts = parts_of(&bundle).ok_or("no parts")?;
     let mut errors = Vec::new(rt.alloc());
-    is_struck(&rt, rt.alloc(), &bundle, &mut errors, parts)?;
+    is_limit_reached(&rt, rt.alloc(), &bundle, &mut errors, parts)?;
     let lines = "Resolver error: Too many placeables\n";
     Ok(are(&rt, rt.alloc(), errors.as_slice(), lines)?)
 }

@@ -19,6 +19,8 @@ mod deep;
 #[cfg(test)]
 mod errors;
 #[cfg(test)]
+mod failing;
+#[cfg(test)]
 mod formatted;
 #[cfg(test)]
 mod given;
@@ -38,8 +40,6 @@ mod made;
 mod messages;
 #[cfg(test)]
 mod own;
-#[cfg(test)]
-mod refusing;
 #[cfg(test)]
 mod says;
 #[cfg(test)]

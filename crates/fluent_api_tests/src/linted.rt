@@ -1,4 +1,4 @@
-//! What is told of sources before their messages are formatted, also where memory is refused.
+//! What is told of sources before their messages are formatted, also where an allocation fails.
 use crate::check::{check, check_same};
 use crate::common::{Bundle, Setting, bundle_of, read};
 use fluent_bundle::Call;

@@ -9,7 +9,7 @@ use fluent_linter::{
 use std::alloc::{AllocError, Global};
 use std::test::Fail;
 
-/// Each message here has a finding, but for those behind `fine`.
+/// Each message here has a finding, but for those after `fine`.
 const SOURCE: &str = "
 no-message = { nothing }
 no-attribute = { only.text }

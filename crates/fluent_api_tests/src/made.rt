@@ -1,4 +1,4 @@
-//! Calls as values, made in order, also where memory is refused.
+//! Calls as values, made in order, also where an allocation fails.
 use crate::check::check;
 use crate::common::{Bundle, read, value_in};
 use crate::given::formats;

@@ -1,4 +1,4 @@
-//! Messages and attributes that are lent are the same where their contents are.
+//! Messages and attributes that are borrowed are the same where their contents are.
 ghost use Rattle.std.specs.Prelude.{◌≡◌, ◌↔◌, IsTrue};
 ghost use Rattle.fluent_tree.specs.View.{attribute_view};
 ghost use Rattle.fluent_tree.specs.View as tree;

@@ -82,7 +82,7 @@ fn write(
     }
 }
 
-/// Whether a call came to its end, where memory isn't refused.
+/// Whether a call came to its end, where no allocation fails.
 fn is_whole(answer: Result<(), WriteFault>) -> Result<bool, AllocError> {
     match answer {
         Ok(()) => Ok(true),

@@ -38,7 +38,7 @@ pub enum Tree {
 
 // ---- memory
 
-/// Takes memory for lists and boxes, and knows whether any was refused. So what makes parts of a pattern has no exit
+/// Takes memory for lists and boxes, and knows whether any allocation failed. So what makes parts of a pattern has no exit
 /// between them.
 #[derive(Drop)]
 struct Maker {
@@ -90,7 +90,7 @@ fn named_of<'s>(maker: &mut Maker, all: &[Named]) -> Vec<NamedArgument<'s>> {
     list
 }
 
-/// The term `t`; without arguments where memory for them was refused.
+/// The term `t`; without arguments where an allocation for them failed.
 fn term<'s>(maker: &mut Maker, all: &[Named]) -> Inline<'s> {
     let positional = Vec::new(maker.alloc);
     let named = named_of(maker, all);

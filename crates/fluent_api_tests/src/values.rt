@@ -34,7 +34,7 @@ fn write<'r, 's: 'r>(bundle: &Bundle<'r, 's>, w: &mut Counting<Vec<u8>>) -> Resu
     value.write(w, &scope)
 }
 
-/// Whether a value is written as this text, where memory isn't refused.
+/// Whether a value is written as this text, where no allocation fails.
 fn is_written<'r, 's: 'r>(
     alloc: Global,
     bundle: &Bundle<'r, 's>,
@@ -69,7 +69,7 @@ fn is_text(answer: Result<CowStr<'_>, AllocError>, text: &str) -> Result<bool, A
     Ok(answer?.as_str() == text)
 }
 
-fn is_lent<'r, 's: 'r>(bundle: &Bundle<'r, 's>, text: &str) -> Result<bool, AllocError> {
+fn is_borrowed<'r, 's: 'r>(bundle: &Bundle<'r, 's>, text: &str) -> Result<bool, AllocError> {
     let scope = Scope::new(bundle, bundle.ids(), None, None);
     let value: Value = FluentValue::from("a");
     is_text(value.as_string(&scope), text)
@@ -97,7 +97,7 @@ fn values_are_keys_and_have_texts(rt: HostRuntime) -> Result<(), Fail> {
         is_written(rt.alloc(), &bundle, "[a]")?,
         "what is written",
     );
-    check(&rt, is_lent(&bundle, "[a]")?, "what is lent");
+    check(&rt, is_borrowed(&bundle, "[a]")?, "what is borrowed");
     check(&rt, is_given(&bundle, "[a]")?, "what is given");
     Ok(())
 }

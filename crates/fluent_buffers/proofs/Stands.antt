@@ -1,4 +1,4 @@
--- Arguments that stand before a rest, and the one behind them.
+-- Arguments that stand before a rest, and the one after them.
 use Rattle.std.proofs.Common.{◌≡◌, ◌∙◌, List, [], ◌∷◌, ◌++◌, ℕ, map, refl, sym, ap, subst}
 use Rattle.std.specs.Prelude.{Some}
 use Rattle.std.specs.List.{All}

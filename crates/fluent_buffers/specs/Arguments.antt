@@ -1,5 +1,5 @@
 -- Arguments in a run of bytes: of each the kind of its value, `t` for a text and `n` for a number, and then its name and its
--- value, each behind its length, which is four bytes, the lowest first.
+-- value, each after its length, which is four bytes, the lowest first.
 use Rattle.std.specs.Prelude.{◌≡◌, ◌≢◌, ◌==◌, ℕ, Bool, true, false, List, [], ◌∷◌, length, take, drop, Option, Some, None, if◌then◌else◌, nat_lt}
 use Rattle.std.specs.List.{All}
 use Rattle.std.specs.Int.{w32, from_le_bytes}
@@ -30,7 +30,7 @@ kind (c ∷ s) = kind_by (kind_of c) s
 abbrev pub exactly : ℕ → Parser Text
 exactly n s = if nat_lt (length s) n then None else Some (take n s, drop n s)
 
--- a text behind its length
+-- a text after its length
 abbrev pub sized : Parser Text
 sized = exactly 4 >>= (λ size. exactly (from_le_bytes w32 size))
 
@@ -41,9 +41,9 @@ argument = kind >>= (λ k. sized >>= (λ name. sized >>= (λ value.
 abbrev pub AreTexts : Argument → Type 0
 AreTexts a = IsUtf8 a.name × IsUtf8 a.value
 
--- ---- arguments one behind the other
+-- ---- arguments one after the other
 
--- these stand in front of a rest
+-- these stand before a rest
 abbrev pub StandBefore : List Argument → List ℕ → List ℕ → Type 0
 StandBefore [] s rest = s ≡ rest
 StandBefore (a ∷ all) s rest =
@@ -54,7 +54,7 @@ pub record Are (all : List Argument) (bytes : List ℕ) : Type 0 where
   pub whole : StandBefore all bytes []
   pub texts : All AreTexts all
 
--- Behind some arguments there is something, and no argument at its front.
+-- After some arguments there is something, and no argument at its prefix.
 pub record IsCut (bytes : List ℕ) : Type 0 where
   pub all : List Argument
   pub rest : List ℕ
@@ -62,14 +62,14 @@ pub record IsCut (bytes : List ℕ) : Type 0 where
   pub some : rest ≢ []
   pub none : argument rest ≡ None
 
--- Behind some arguments there is one with a name or a value that is no text.
+-- After some arguments there is one with a name or a value that is no text.
 pub record HasNoText (bytes : List ℕ) : Type 0 where
   pub all : List Argument
   pub next : Argument
   pub rest : List ℕ
-  pub behind : List ℕ
+  pub after : List ℕ
   pub before : StandBefore all bytes rest
-  pub some : argument rest ≡ Some (next, behind)
+  pub some : argument rest ≡ Some (next, after)
   pub none : ¬ (AreTexts next)
 
 -- why bytes were not read as arguments

@@ -1,7 +1,7 @@
 //! Arguments in a run of bytes.
 ghost use Rattle.std.specs.Prelude.{◌≡◌, map, IfOk, IfErr};
 ghost use Rattle.fluent_text.specs.Reading.{found};
-ghost use Rattle.fluent_buffers.specs.Arguments as front;
+ghost use Rattle.fluent_buffers.specs.Arguments as prefix;
 ghost use Rattle.fluent_buffers.specs.Arguments.{Stops, Are, kind_of};
 ghost use Rattle.fluent_buffers.specs.ArgumentView.{argument_view};
 ghost use Rattle.fluent_buffers.specs.Inside.Raw.{bytes_view, raw_view, TextOf};
@@ -24,7 +24,7 @@ pub enum Fault {
     Cut,
     /// A name or a value is not UTF-8.
     NotText,
-    /// Memory was refused.
+    /// An allocation failed.
     Memory,
 }
 
@@ -36,11 +36,11 @@ struct Raw<'b> {
     is_number: bool,
 }
 
-/// Reads arguments that stand one behind the other.
+/// Reads arguments that stand one after the other.
 ///
 /// # Errors
 ///
-/// The first [`Fault`] from the front.
+/// The first [`Fault`] from the start.
 pub fn arguments(alloc: Global, bytes: &[u8]) -> Result<Vec<Argument<'_>>, Fault>
     ensures ok { IfOk result (λ list. Are (map argument_view list.items) bytes.now) }
     ensures err { IfErr result (Stops bytes.now) }
@@ -48,7 +48,7 @@ pub fn arguments(alloc: Global, bytes: &[u8]) -> Result<Vec<Argument<'_>>, Fault
     let mut list = Vec::new(alloc);
     let mut rest = bytes;
     while !rest.is_empty() {
-        let Some((raw, behind)) = next(rest) else {
+        let Some((raw, after)) = next(rest) else {
             return Err(Fault::Cut);
         };
         let Some(argument) = text(raw) else {
@@ -57,14 +57,14 @@ pub fn arguments(alloc: Global, bytes: &[u8]) -> Result<Vec<Argument<'_>>, Fault
         if list.push(argument).is_err() {
             return Err(Fault::Memory);
         }
-        rest = behind;
+        rest = after;
     }
     Ok(list)
 }
 
-/// The argument at the front, and what stands behind it.
+/// The argument at the start, and what stands after it.
 fn next(bytes: &[u8]) -> Option<(Raw<'_>, &[u8])>
-    ensures { found raw_view result ≡ front.argument bytes.now }
+    ensures { found raw_view result ≡ prefix.argument bytes.now }
 {
     let (first, bytes) = bytes.split_first()?;
     let is_number = kind(*first)?;
@@ -91,9 +91,9 @@ fn kind(byte: u8) -> Option<bool>
     }
 }
 
-/// The bytes at the front that stand behind their length, and what stands behind them.
+/// The bytes at the start that stand after their length, and what stands after them.
 fn sized(bytes: &[u8]) -> Option<(&[u8], &[u8])>
-    ensures { found bytes_view result ≡ front.sized bytes.now }
+    ensures { found bytes_view result ≡ prefix.sized bytes.now }
 {
     let (size, rest) = bytes.split_first_chunk::<4>()?;
     rest.split_at_checked(u32::from_le_bytes(*size) as usize)

@@ -5,7 +5,7 @@ use Rattle.std.specs.Option.{option_map, option_and_then}
 use Rattle.std.specs.declared.borrow.CowStr.{CowStr}
 use Rattle.std.specs.declared.borrow.CowStr.TheVariants.{Borrowed, Owned}
 use Rattle.std.specs.declared.alloc.AllocError.{AllocError}
-use Rattle.fluent_text.specs.Unescaped.{Lends}
+use Rattle.fluent_text.specs.Unescaped.{Borrows}
 use Rattle.fluent_text.specs.declared.counting.Counting.{Counting}
 use Rattle.fluent_text.specs.declared.counting.WriteFault.{WriteFault}
 use Rattle.fluent_text.specs.declared.counting.WriteFault.TheVariants as fault
@@ -16,9 +16,9 @@ use Rattle.fluent_meaning.specs.Errors.{Error}
 use Rattle.fluent_meaning.specs.Number.{is_text}
 use Rattle.fluent_values.specs.EntryView.{message_content}
 use Rattle.fluent_values.specs.MessageView.{first_named}
-use Rattle.fluent_bundle.specs.ById.{GivesAsked, GivesSome, Lent, LendsSome, TakesNoMemory, WritesAsked}
+use Rattle.fluent_bundle.specs.ById.{GivesAsked, GivesSome, BorrowsAsked, BorrowsSome, TakesNoMemory, WritesAsked}
 use Rattle.fluent_bundle.specs.Formatted.{GivesText}
-use Rattle.fluent_bundle.specs.Free.{LendsText, WritesFree}
+use Rattle.fluent_bundle.specs.PatternsWithoutMemory.{BorrowsText, WritesFree}
 use Rattle.fluent_bundle.specs.Inside.Asked.{pattern_at}
 use Rattle.fluent_bundle.specs.Under.{AddsBeginning, Errors, GivesWhole, GivesWithin, Under, WritesBeginning, WritesWhole, WritesWithin}
 use Rattle.fluent_bundle.specs.declared.bundle.FluentBundle.{FluentBundle}
@@ -68,48 +68,48 @@ gives_none = record { text = tt; adds = tt }
 -- the text of a pattern that is there
 pub gives_asked : {E : Type 0} {asked : Option Pattern} (u : Under) (p : Pattern) (text : CowStr Global) (old new : Errors) → Some p ≡ asked
     → GivesWithin {E = E} u p (Ok text) old new → GivesWhole {E = E} u p (Ok text) old new → AddsBeginning u p old new → GivesAsked {E = E} u asked (Ok (Some text)) old new
-gives_asked {E = E} u p text old new is within whole front =
-    subst (λ o. GivesAsked {E = E} u o (Ok (Some text)) old new) is (record { nothing = tt; within = λ few. gives_some (within few); whole = gives_some whole; front = front })
+gives_asked {E = E} u p text old new is within whole prefix =
+    subst (λ o. GivesAsked {E = E} u o (Ok (Some text)) old new) is (record { nothing = tt; within = λ few. gives_some (within few); whole = gives_some whole; prefix = prefix })
 
 pub gives_refused : {E : Type 0} {asked : Option Pattern} (u : Under) (p : Pattern) (e : E) (old new : Errors) → Some p ≡ asked
     → AddsBeginning u p old new → GivesAsked u asked (Err e) old new
-gives_refused u p e old new is front =
-    subst (λ o. GivesAsked u o (Err e) old new) is (record { nothing = tt; within = λ few. gives_none; whole = gives_none; front = front })
+gives_refused u p e old new is prefix =
+    subst (λ o. GivesAsked u o (Err e) old new) is (record { nothing = tt; within = λ few. gives_none; whole = gives_none; prefix = prefix })
 
 pub gives_nothing : {E : Type 0} {asked : Option Pattern} (u : Under) (old : Errors) → None ≡ asked → GivesAsked {E = E} u asked (Ok None) old old
-gives_nothing {E = E} u old is = subst (λ o. GivesAsked {E = E} u o (Ok None) old old) is (record { nothing = (refl, refl); within = tt; whole = tt; front = tt })
+gives_nothing {E = E} u old is = subst (λ o. GivesAsked {E = E} u o (Ok None) old old) is (record { nothing = (refl, refl); within = tt; whole = tt; prefix = tt })
 
--- it is lent
-lends_some : (text : CowStr Global) (t : Text) → Lends (Ok text) t → LendsSome (Ok (Some text)) t
-lends_some (Borrowed s) t h = h
-lends_some (Owned s) t h = h
+-- it is borrowed
+borrows_some : (text : CowStr Global) (t : Text) → Borrows (Ok text) t → BorrowsSome (Ok (Some text)) t
+borrows_some (Borrowed s) t h = h
+borrows_some (Owned s) t h = h
 
 module _ {M C F G X : Type 0} (b : FluentBundle M C F G X) where
-  pub lends_asked : {asked : Option Pattern} (p : Pattern) (text : CowStr Global) → Some p ≡ asked → LendsText b p (Ok text) → Lent b asked (Ok (Some text))
-  lends_asked p text is h = subst (λ o. Lent b o (Ok (Some text))) is (λ t sole plain bare. lends_some text t (h t sole plain bare))
+  pub borrows_asked : {asked : Option Pattern} (p : Pattern) (text : CowStr Global) → Some p ≡ asked → BorrowsText b p (Ok text) → BorrowsAsked b asked (Ok (Some text))
+  borrows_asked p text is h = subst (λ o. BorrowsAsked b o (Ok (Some text))) is (λ t sole plain bare. borrows_some text t (h t sole plain bare))
 
-  pub lends_refused : {asked : Option Pattern} (p : Pattern) (e : AllocError) → Some p ≡ asked → LendsText b p (Err e) → Lent b asked (Err e)
-  lends_refused p e is h = subst (λ o. Lent b o (Err e)) is (λ t sole plain bare. h t sole plain bare)
+  pub borrows_failed : {asked : Option Pattern} (p : Pattern) (e : AllocError) → Some p ≡ asked → BorrowsText b p (Err e) → BorrowsAsked b asked (Err e)
+  borrows_failed p e is h = subst (λ o. BorrowsAsked b o (Err e)) is (λ t sole plain bare. h t sole plain bare)
 
-  pub lends_nothing : {asked : Option Pattern} → None ≡ asked → Lent b asked (Ok None)
-  lends_nothing is = subst (λ o. Lent b o (Ok None)) is tt
+  pub borrows_nothing : {asked : Option Pattern} → None ≡ asked → BorrowsAsked b asked (Ok None)
+  borrows_nothing is = subst (λ o. BorrowsAsked b o (Ok None)) is tt
 
 -- ---- written
 
 -- the text of a pattern that is there
 pub writes_asked : {W E : Type 0} {asked : Option Pattern} (u : Under) (p : Pattern) (contents : W → Option Text) (w w' : Counting W) (old new : Errors) → Some p ≡ asked
     → WritesWithin {T = Unit {0}} {E = E} u p (Ok tt) contents w w' old new → WritesWhole {T = Unit {0}} {E = E} u p (Ok tt) contents w w' old new → WritesBeginning u p contents w w' old new → WritesAsked {E = E} u asked (Ok true) contents w w' old new
-writes_asked {E = E} u p contents w w' old new is within whole front =
-    subst (λ o. WritesAsked {E = E} u o (Ok true) contents w w' old new) is (record { there = refl; nothing = tt; within = within; whole = whole; front = front })
+writes_asked {E = E} u p contents w w' old new is within whole prefix =
+    subst (λ o. WritesAsked {E = E} u o (Ok true) contents w w' old new) is (record { there = refl; nothing = tt; within = within; whole = whole; prefix = prefix })
 
 pub writes_refused : {W E : Type 0} {asked : Option Pattern} (u : Under) (p : Pattern) (e : E) (contents : W → Option Text) (w w' : Counting W) (old new : Errors) → Some p ≡ asked
     → WritesBeginning u p contents w w' old new → WritesAsked u asked (Err e) contents w w' old new
-writes_refused u p e contents w w' old new is front =
-    subst (λ o. WritesAsked u o (Err e) contents w w' old new) is (record { there = tt; nothing = tt; within = λ few. tt; whole = tt; front = front })
+writes_refused u p e contents w w' old new is prefix =
+    subst (λ o. WritesAsked u o (Err e) contents w w' old new) is (record { there = tt; nothing = tt; within = λ few. tt; whole = tt; prefix = prefix })
 
 pub writes_nothing : {W E : Type 0} {asked : Option Pattern} (u : Under) (contents : W → Option Text) (w : Counting W) (old : Errors) → None ≡ asked → WritesAsked {E = E} u asked (Ok false) contents w w old old
 writes_nothing {E = E} u contents w old is =
-    subst (λ o. WritesAsked {E = E} u o (Ok false) contents w w old old) is (record { there = refl; nothing = (refl, refl, refl); within = tt; whole = tt; front = tt })
+    subst (λ o. WritesAsked {E = E} u o (Ok false) contents w w old old) is (record { there = refl; nothing = (refl, refl, refl); within = tt; whole = tt; prefix = tt })
 
 -- it takes no memory
 module _ {M C F G X : Type 0} (b : FluentBundle M C F G X) where

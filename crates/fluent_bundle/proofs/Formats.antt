@@ -19,9 +19,9 @@ use Rattle.fluent_meaning.specs.Laws.{CallsByThemselves}
 use Rattle.fluent_meaning.specs.Result.{written_pattern, substituted_pattern}
 use Rattle.fluent_bundle.specs.Formatted.{AddsAll, WritesAll, Writes}
 use Rattle.fluent_resolver.specs.Status.{Status, reported, with_errors}
-use Rattle.fluent_resolver.specs.Along.{Walk, Wrote, from_here, given}
+use Rattle.fluent_resolver.specs.WalkProgress.{Walk, Wrote, from_here, given}
 use Rattle.fluent_bundle.specs.Limits.{KeepsLimit}
-use Rattle.fluent_values.specs.Written.{Sink, SinkTook, CountsTell, without_error, writer, at}
+use Rattle.fluent_values.specs.Sinks.{Sink, SinkTook, CountsTell, without_error, writer, at}
 use Rattle.fluent_entries.specs.declared.errors.FluentError.{FluentError}
 use Rattle.fluent_text.specs.declared.counting.Counting.{Counting}
 
@@ -53,16 +53,16 @@ writes_of {r = r} {w = w} {w' = w'} {a = a} {b = b} {all = all} {list = list} {l
     let grew = listed list list' way.passed.added a b way.passed.list before after' in
     record {
       all = by_case r h.went.done;
-      front = record {
-        front = way.taken;
+      prefix = record {
+        prefix = way.taken;
         rest = h.went.left.ran.value;
         whole = text;
         taken = way.held;
-        adds = record { front = way.passed.added; rest = h.went.left.ran.errors; whole = errors; adds = record { added = grew } };
+        adds = record { prefix = way.passed.added; rest = h.went.left.ran.errors; whole = errors; adds = record { added = grew } };
       };
       fault = way.fault;
       beside = way.beside;
-      lent = way.lent;
+      borrowed = way.borrowed;
     }
   where
     by_case : {S : Type 0} (q : Result S Halt) → OnOk q (h.went.left ≡ given [] b.budget) → OnOk q (WritesAll all.value all.errors w.held w'.held list list')
@@ -82,16 +82,16 @@ writes_text {r = r} {t = t} {w = w} {w' = w'} all list is bare k =
     let none_added : AddsAll [] list list = record { added = sym (append-nil (reported list)) } in
     record {
       all = by_case r k.done;
-      front = record {
-        front = k.taken;
+      prefix = record {
+        prefix = k.taken;
         rest = k.left;
         whole = k.begins ∙ sym is;
         taken = k.held;
-        adds = record { front = []; rest = all.errors; whole = refl; adds = none_added };
+        adds = record { prefix = []; rest = all.errors; whole = refl; adds = none_added };
       };
       fault = k.fault;
       beside = k.beside;
-      lent = k.lent;
+      borrowed = k.borrowed;
     }
   where
     by_case : {S : Type 0} (q : Result S Halt) → OnOk q (k.left ≡ []) → OnOk q (WritesAll all.value all.errors w.held w'.held list list)
@@ -109,24 +109,24 @@ pub substituted_of : {T E : Type 0} (r : Result T E) (held held' : Option Text) 
 substituted_of r held held' list list' b args p keeps h few = subst (λ m. OnOk r (WritesAll m.value m.errors held held' list list')) (keeps.within few) h
 
 -- which of writer and buffer takes texts is part of what stands
-which : {W : Type 0} (contents : W → Option Text) (n k : ℕ) (w : Counting W) (s : String Global) (b : Bool) → (at contents n w k s b).lent.1.1 ≡ b
+which : {W : Type 0} (contents : W → Option Text) (n k : ℕ) (w : Counting W) (s : String Global) (b : Bool) → (at contents n w k s b).borrowed.1.1 ≡ b
 which contents n k w s true = refl
 which contents n k w s false = refl
 
-still : {W : Type 0} (contents : W → Option Text) (n n' k k' : ℕ) (w w' : Counting W) (s s' : String Global) (b b' : Bool) → (at contents n' w' k' s' b').lent ≡ (at contents n w k s b).lent → b' ≡ b
+still : {W : Type 0} (contents : W → Option Text) (n n' k k' : ℕ) (w w' : Counting W) (s s' : String Global) (b b' : Bool) → (at contents n' w' k' s' b').borrowed ≡ (at contents n w k s b).borrowed → b' ≡ b
 still contents n n' k k' w w' s s' b b' same = sym (which contents n' k' w' s' b') ∙ ap (λ l. l.1.1) same ∙ which contents n k w s b
 
 abbrev To : {W T : Type 0} → Result T Halt → Ran Text → List FluentError → List FluentError → (W → Option Text) → ℕ → ℕ → ℕ → ℕ → Counting W → Counting W → String Global → String Global → Bool → Type 0
 To r m list list' contents n n' k k' w w' s s' b = Writes r m (at contents n w k s false) (at contents n' w' k' s' b) list list'
 
 by_itself : {W T : Type 0} {r : Result T Halt} {m : Ran Text} {list list' : List FluentError} (contents : W → Option Text) (n n' k k' : ℕ) (w w' : Counting W) (s s' : String Global) → To r m list list' contents n n' k k' w w' s s' false → Writes r m (writer contents w) (writer contents w') list list'
-by_itself contents n n' k k' w w' s s' h = record { all = h.all; front = h.front; fault = h.fault; beside = refl; lent = refl }
+by_itself contents n n' k k' w w' s s' h = record { all = h.all; prefix = h.prefix; fault = h.fault; beside = refl; borrowed = refl }
 
 -- what an output without a buffer wrote, its writer took
 pub written_by : {W T : Type 0} {r : Result T Halt} {m : Ran Text} {list list' : List FluentError} (contents : W → Option Text) (n n' k k' : ℕ) (w w' w'' : Counting W) (s s' : String Global) (b : Bool) → w'' ≡ w' → To r m list list' contents n n' k k' w w' s s' b → Writes r m (writer contents w) (writer contents w'') list list'
 written_by {r = r} {m = m} {list = list} {list' = list'} contents n n' k k' w w' w'' s s' b same h =
     subst (λ v. Writes r m (writer contents w) (writer contents v) list list') (sym same)
-    (by_itself contents n n' k k' w w' s s' (subst (To r m list list' contents n n' k k' w w' s s') (still contents n n' k k' w w' s s' false b h.lent) h))
+    (by_itself contents n n' k k' w w' s s' (subst (To r m list list' contents n n' k k' w w' s s') (still contents n n' k k' w w' s s' false b h.borrowed) h))
 
 -- the same of one that was made to write through
 pub written_through : {W T : Type 0} {r : Result T Halt} {m : Ran Text} {list list' : List FluentError} (contents : W → Option Text) (n n' k k' : ℕ) (w w₀ w' w'' : Counting W) (s s' : String Global) (b₀ b : Bool) → w'' ≡ w' → w₀ ≡ w → b₀ ≡ false → Writes r m (at contents n w₀ k s b₀) (at contents n' w' k' s' b) list list' → Writes r m (writer contents w) (writer contents w'') list list'
@@ -144,7 +144,7 @@ took_in {r = Ok x} contents n n' k k' w w' s s' h = h.all.taken
 took_in {r = Err e} contents n n' k k' w w' s s' h = tt
 
 pub gathered : {W T : Type 0} {r : Result T Halt} {m : Ran Text} {list list' : List FluentError} (contents : W → Option Text) (n n' k k' : ℕ) (w w' : Counting W) (s s' : String Global) (b : Bool) → Into r m list list' contents n n' k k' w w' s s' b → OnOk r (string_bytes s' ≡ string_bytes s ++ m.value)
-gathered {r = r} {m = m} {list = list} {list' = list'} contents n n' k k' w w' s s' b h = took_in contents n n' k k' w w' s s' (subst (Into r m list list' contents n n' k k' w w' s s') (still contents n n' k k' w w' s s' true b h.lent) h)
+gathered {r = r} {m = m} {list = list} {list' = list'} contents n n' k k' w w' s s' b h = took_in contents n n' k k' w w' s s' (subst (Into r m list list' contents n n' k k' w w' s s') (still contents n n' k k' w w' s s' true b h.borrowed) h)
 
 pub adds_all : {T : Type 0} {r : Result T Halt} {m : Ran Text} {w w' : Sink} {list list' : List FluentError} → Writes r m w w' list list' → OnOk r (AddsAll m.errors list list')
 adds_all {r = Ok x} h = h.all.adds

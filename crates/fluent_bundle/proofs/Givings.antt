@@ -20,11 +20,11 @@ pub gives_within : {E : Type 0} (b : Bundle Text) (env : Map (Value Text)) (p : 
     → GivesText (formatted b (written_pattern b env p).value) (written_pattern b env p).errors r list list' → (substituted_pattern b env p).opened ≤ b.limit → GivesText (formatted b (substituted_pattern b env p).value) (substituted_pattern b env p).errors r list list'
 gives_within b env p r list list' keeps h few = subst (λ m. GivesText (formatted b m.value) m.errors r list list') (keeps.within few) h
 
--- where a sole text was lent, there is no transform and no formatter
-pub lent_where : {X Y : Type 0} (o : Option X) (f : Option Y) (p : Pattern) (t : Text) → Some t ≡ (if not (is_some o) && not (is_some f) then sole_text p else None) → (o ≡ None) × (f ≡ None) × (sole_text p ≡ Some t)
-lent_where None None p t h = (refl, refl, sym h)
-lent_where None (Some f) p t h = search (rules, h)
-lent_where (Some x) f p t h = search (rules, h)
+-- where a sole text was borrowed, there is no transform and no formatter
+pub borrowed_where : {X Y : Type 0} (o : Option X) (f : Option Y) (p : Pattern) (t : Text) → Some t ≡ (if not (is_some o) && not (is_some f) then sole_text p else None) → (o ≡ None) × (f ≡ None) × (sole_text p ≡ Some t)
+borrowed_where None None p t h = (refl, refl, sym h)
+borrowed_where None (Some f) p t h = search (rules, h)
+borrowed_where (Some x) f p t h = search (rules, h)
 
 -- of a pattern that is one text nothing else is made there
 pub sole_known : {X Y : Type 0} (o : Option X) (f : Option Y) (p : Pattern) (t : Text) (r : Option Text) → r ≡ (if not (is_some o) && not (is_some f) then sole_text p else None) → sole_text p ≡ Some t → o ≡ None → f ≡ None → r ≡ Some t

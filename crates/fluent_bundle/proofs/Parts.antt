@@ -11,7 +11,7 @@ use Rattle.fluent_meaning.specs.Arguments.{Map}
 use Rattle.fluent_meaning.specs.Bundle.{Bundle}
 use Rattle.fluent_resolver.specs.Status.{reported}
 use Rattle.fluent_entries.specs.declared.errors.FluentError.{FluentError}
-use Rattle.fluent_bundle.specs.Formatted.{AddsAll, AddsFront}
+use Rattle.fluent_bundle.specs.Formatted.{AddsAll, AddsPrefix}
 use Rattle.fluent_bundle.specs.Messages.{attribute_errors, attribute_shown, attribute_texts, errors_of, text_of}
 use Rattle.fluent_bundle.specs.declared.messages.FormattedAttribute.{FormattedAttribute}
 
@@ -23,23 +23,23 @@ adds_none list = record { added = sym (append-nil (reported list)) }
 pub adds_both : (es fs : List Error) (list list' list'' : List FluentError) → AddsAll es list list' → AddsAll fs list' list'' → AddsAll (es ++ fs) list list''
 adds_both es fs list list' list'' h k = record { added = k.added ∙ ap (λ r. r ++ fs) h.added ∙ append_assoc (reported list) es fs }
 
-pub front_of_all : (es : List Error) (list list' : List FluentError) → AddsAll es list list' → AddsFront es list list'
-front_of_all es list list' h = record { front = es; rest = []; whole = append-nil es; adds = h }
+pub prefix_of_all : (es : List Error) (list list' : List FluentError) → AddsAll es list list' → AddsPrefix es list list'
+prefix_of_all es list list' h = record { prefix = es; rest = []; whole = append-nil es; adds = h }
 
-pub front_first : (es fs : List Error) (list list' : List FluentError) → AddsFront es list list' → AddsFront (es ++ fs) list list'
-front_first es fs list list' h = record {
-  front = h.front;
+pub prefix_first : (es fs : List Error) (list list' : List FluentError) → AddsPrefix es list list' → AddsPrefix (es ++ fs) list list'
+prefix_first es fs list list' h = record {
+  prefix = h.prefix;
   rest = h.rest ++ fs;
-  whole = sym (append_assoc h.front h.rest fs) ∙ ap (λ e. e ++ fs) h.whole;
+  whole = sym (append_assoc h.prefix h.rest fs) ∙ ap (λ e. e ++ fs) h.whole;
   adds = h.adds;
 }
 
-pub front_second : (es fs : List Error) (list list' list'' : List FluentError) → AddsAll es list list' → AddsFront fs list' list'' → AddsFront (es ++ fs) list list''
-front_second es fs list list' list'' h k = record {
-  front = es ++ k.front;
+pub prefix_second : (es fs : List Error) (list list' list'' : List FluentError) → AddsAll es list list' → AddsPrefix fs list' list'' → AddsPrefix (es ++ fs) list list''
+prefix_second es fs list list' list'' h k = record {
+  prefix = es ++ k.prefix;
   rest = k.rest;
-  whole = append_assoc es k.front k.rest ∙ ap (λ e. es ++ e) k.whole;
-  adds = adds_both es k.front list list' list'' h k.adds;
+  whole = append_assoc es k.prefix k.rest ∙ ap (λ e. es ++ e) k.whole;
+  adds = adds_both es k.prefix list list' list'' h k.adds;
 }
 
 -- ---- a list up to a place
@@ -87,24 +87,24 @@ module _ (b : Bundle Text) (args : Map (Value Text)) where
       subst (λ es. AddsAll es list list'') (sym (ap (attribute_errors b args) more ∙ errors_then done [] v ∙ ap (λ es. attribute_errors b args done ++ es) (append-nil (errors_of b args v.1))))
       (adds_both (attribute_errors b args done) (errors_of b args v.1) list list' list'' h k)
 
-  pub front_at : (all done left : Attributes) (v : Text × Pattern) (list list' list'' : List FluentError) → all ≡ done ++ v ∷ left → AddsAll (attribute_errors b args done) list list' → AddsFront (errors_of b args v.1) list' list''
-      → AddsFront (attribute_errors b args all) list list''
-  front_at all done left v list list' list'' parts h k =
-      subst (λ es. AddsFront es list list'') (sym (ap (attribute_errors b args) parts ∙ errors_then done left v))
-      (front_second (attribute_errors b args done) (errors_of b args v.1 ++ attribute_errors b args left) list list' list'' h (front_first (errors_of b args v.1) (attribute_errors b args left) list' list'' k))
+  pub prefix_at : (all done left : Attributes) (v : Text × Pattern) (list list' list'' : List FluentError) → all ≡ done ++ v ∷ left → AddsAll (attribute_errors b args done) list list' → AddsPrefix (errors_of b args v.1) list' list''
+      → AddsPrefix (attribute_errors b args all) list list''
+  prefix_at all done left v list list' list'' parts h k =
+      subst (λ es. AddsPrefix es list list'') (sym (ap (attribute_errors b args) parts ∙ errors_then done left v))
+      (prefix_second (attribute_errors b args done) (errors_of b args v.1 ++ attribute_errors b args left) list list' list'' h (prefix_first (errors_of b args v.1) (attribute_errors b args left) list' list'' k))
 
   -- all that is left of a list that was gone over
-  pub front_of_done : (xs : List Attribute) (n : ℕ) (list list' : List FluentError) → length xs ≤ n → AddsAll (attribute_errors b args (map attribute_view (take n xs))) list list' → AddsFront (attribute_errors b args (map attribute_view xs)) list list'
-  front_of_done xs n list list' fits h =
-      subst (λ ys. AddsFront (attribute_errors b args (map attribute_view ys)) list list') (take_all xs n fits) (front_of_all (attribute_errors b args (map attribute_view (take n xs))) list list' h)
+  pub prefix_of_done : (xs : List Attribute) (n : ℕ) (list list' : List FluentError) → length xs ≤ n → AddsAll (attribute_errors b args (map attribute_view (take n xs))) list list' → AddsPrefix (attribute_errors b args (map attribute_view xs)) list list'
+  prefix_of_done xs n list list' fits h =
+      subst (λ ys. AddsPrefix (attribute_errors b args (map attribute_view ys)) list list') (take_all xs n fits) (prefix_of_all (attribute_errors b args (map attribute_view (take n xs))) list list' h)
 
-  -- attributes behind a value
+  -- attributes after a value
   pub parts_all : (es : List Error) (xs ys : List Attribute) (list list' list'' : List FluentError) → xs ≡ ys → AddsAll es list list' → AddsAll (attribute_errors b args (map attribute_view xs)) list' list''
       → AddsAll (es ++ attribute_errors b args (map attribute_view ys)) list list''
   parts_all es xs ys list list' list'' same h k =
       adds_both es (attribute_errors b args (map attribute_view ys)) list list' list'' h (subst (λ zs. AddsAll (attribute_errors b args (map attribute_view zs)) list' list'') same k)
 
-  pub parts_front : (es : List Error) (xs ys : List Attribute) (list list' list'' : List FluentError) → xs ≡ ys → AddsAll es list list' → AddsFront (attribute_errors b args (map attribute_view xs)) list' list''
-      → AddsFront (es ++ attribute_errors b args (map attribute_view ys)) list list''
-  parts_front es xs ys list list' list'' same h k =
-      front_second es (attribute_errors b args (map attribute_view ys)) list list' list'' h (subst (λ zs. AddsFront (attribute_errors b args (map attribute_view zs)) list' list'') same k)
+  pub parts_prefix : (es : List Error) (xs ys : List Attribute) (list list' list'' : List FluentError) → xs ≡ ys → AddsAll es list list' → AddsPrefix (attribute_errors b args (map attribute_view xs)) list' list''
+      → AddsPrefix (es ++ attribute_errors b args (map attribute_view ys)) list list''
+  parts_prefix es xs ys list list' list'' same h k =
+      prefix_second es (attribute_errors b args (map attribute_view ys)) list list' list'' h (subst (λ zs. AddsPrefix (attribute_errors b args (map attribute_view zs)) list' list'') same k)

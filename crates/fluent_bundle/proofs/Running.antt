@@ -67,7 +67,7 @@ module _ {M C F G X : Type 0} (of : FluentBundle M C F G X → Bundle Text) (ask
 
   -- where a call is refused, which takes memory, those before it were made
   pub begun_by : (all cs ds : List (Call F G X)) (d : Call F G X) (a b c : FluentBundle M C F G X) → all ≡ cs ++ d ∷ ds → (TakesNoMemory d → ⊥) → Makes of (ask (intls_in a)) cs a b → (of c ≡ of b) × Kept b c → BegunBy of (ask (intls_in a)) all a c
-  begun_by all cs ds d a b c whole takes h same = record { made = cs; refused = d; left = ds; whole = whole; takes = takes; makes = made_still of (ask (intls_in a)) cs a b c h same.0 same.1 }
+  begun_by all cs ds d a b c whole takes h same = record { made = cs; alloc_failed = d; left = ds; whole = whole; takes = takes; makes = made_still of (ask (intls_in a)) cs a b c h same.0 same.1 }
 
 -- what holds of all holds of each
 of_each : {K : Type 0} (P : K → Type 0) (cs : List K) (d : K) (ds : List K) → All P (cs ++ d ∷ ds) → P d

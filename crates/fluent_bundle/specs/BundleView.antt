@@ -17,7 +17,7 @@ use Rattle.fluent_values.specs.EntryView.{ids, message_content}
 use Rattle.fluent_entries.specs.declared.ids.Ids.{Ids}
 use Rattle.fluent_bundle.specs.declared.resource.FluentResource.{FluentResource}
 use Rattle.fluent_bundle.specs.declared.resource.TryNewFault.{TryNewFault}
-use Rattle.fluent_bundle.specs.declared.resource.TryNewFault.TheVariants as refused
+use Rattle.fluent_bundle.specs.declared.resource.TryNewFault.TheVariants as alloc_failed
 use Rattle.fluent_bundle.specs.declared.bundle.FluentBundle.{FluentBundle}
 use Rattle.fluent_bundle.specs.declared.bundle.AddFault.{AddFault}
 use Rattle.fluent_bundle.specs.declared.bundle.AddFault.TheVariants as fault
@@ -37,8 +37,8 @@ IsRead source r = (source_in r ≡ source) × (entries_of r ≡ entries source)
 -- What reading a source answers: without Junk a resource, with Junk the byte ranges of it beside the resource.
 abbrev pub Tried : Text → Result FluentResource TryNewFault → Type 0
 Tried source (Ok r) = IsRead source r × (junk_ranges source ≡ [])
-Tried source (Err (refused.Parser r errors)) = IsRead source r × (map error_range errors.items ≡ junk_ranges source) × (junk_ranges source ≢ [])
-Tried source (Err refused.Memory) = Unit {0}
+Tried source (Err (alloc_failed.Parser r errors)) = IsRead source r × (map error_range errors.items ≡ junk_ranges source) × (junk_ranges source ≢ [])
+Tried source (Err alloc_failed.Memory) = Unit {0}
 
 -- what the values of an application are, by what their type states
 abbrev pub custom_by : (Text → Text) → (Text → Text → Bool) → Custom Text

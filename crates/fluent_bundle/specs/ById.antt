@@ -15,7 +15,7 @@ use Rattle.fluent_meaning.specs.Result.{formatted, written_pattern, substituted_
 use Rattle.fluent_values.specs.MessageView.{first_named}
 use Rattle.fluent_values.specs.Texts.{sole_text}
 use Rattle.fluent_bundle.specs.BundleView.{formatter_in, message_at, transform_in}
-use Rattle.fluent_bundle.specs.Free.{WritesFree}
+use Rattle.fluent_bundle.specs.PatternsWithoutMemory.{WritesFree}
 use Rattle.fluent_bundle.specs.Under.{AddsAll, AddsBeginning, Errors, Under, WritesBeginning, WritesWhole, WritesWithin}
 use Rattle.fluent_bundle.specs.declared.bundle.FluentBundle.{FluentBundle}
 
@@ -45,21 +45,21 @@ pub record GivesAsked {E : Type 0} (u : Under) (asked : Option Pattern) (result 
   -- with the budget, in every case
   pub whole : IfSome asked (λ p. let means = written_pattern u.bundle u.args p in GivesSome (formatted u.bundle means.value) means.errors result errors errors')
   -- whatever is answered
-  pub front : IfSome asked (λ p. AddsBeginning u p errors errors')
+  pub prefix : IfSome asked (λ p. AddsBeginning u p errors errors')
 
 abbrev pub Finds : {E : Type 0} → Under → (Bundle Text → Option Pattern) → Result (Option (CowStr Global)) E → Errors → Errors → Type 0
 Finds u ask result errors errors' = GivesAsked u (ask u.bundle) result errors errors'
 
--- the answer is this text, lent and not made
-abbrev pub LendsSome : Result (Option (CowStr Global)) AllocError → Text → Type 0
-LendsSome (Ok (Some (Borrowed t))) s = t.now ≡ s
-LendsSome (Ok (Some (Owned t))) s = ⊥
-LendsSome (Ok None) s = ⊥
-LendsSome (Err e) s = ⊥
+-- the answer is this text, borrowed and not made
+abbrev pub BorrowsSome : Result (Option (CowStr Global)) AllocError → Text → Type 0
+BorrowsSome (Ok (Some (Borrowed t))) s = t.now ≡ s
+BorrowsSome (Ok (Some (Owned t))) s = ⊥
+BorrowsSome (Ok None) s = ⊥
+BorrowsSome (Err e) s = ⊥
 
--- one that is one text is lent, where no transform and no formatter is set
-abbrev pub Lent : {M C F G X : Type 0} → FluentBundle M C F G X → Option Pattern → Result (Option (CowStr Global)) AllocError → Type 0
-Lent b asked result = IfSome asked (λ p. (t : Text) → sole_text p ≡ Some t → transform_in b ≡ None → formatter_in b ≡ None → LendsSome result t)
+-- one that is one text is borrowed, where no transform and no formatter is set
+abbrev pub BorrowsAsked : {M C F G X : Type 0} → FluentBundle M C F G X → Option Pattern → Result (Option (CowStr Global)) AllocError → Type 0
+BorrowsAsked b asked result = IfSome asked (λ p. (t : Text) → sole_text p ≡ Some t → transform_in b ≡ None → formatter_in b ≡ None → BorrowsSome result t)
 
 -- ---- what is written of it
 
@@ -73,7 +73,7 @@ pub record WritesAsked {W E : Type 0} (u : Under) (asked : Option Pattern) (resu
   -- with the budget, in every case
   pub whole : IfSome asked (λ p. WritesWhole u p result contents w w' errors errors')
   -- whatever is answered
-  pub front : IfSome asked (λ p. WritesBeginning u p contents w w' errors errors')
+  pub prefix : IfSome asked (λ p. WritesBeginning u p contents w w' errors errors')
 
 abbrev pub WritesFound : {W E : Type 0} → Under → (Bundle Text → Option Pattern) → Result Bool E → (W → Option Text)
     → Counting W → Counting W → Errors → Errors → Type 0

@@ -58,8 +58,8 @@ TakesNoMemory _ = ⊥
 -- From old, the calls before one that takes memory led to new.
 pub record BegunBy {M C F G X : Type 0} (of : FluentBundle M C F G X → Bundle Text) (ask : Call F G X → m.Call Text) (calls : List (Call F G X)) (old new : FluentBundle M C F G X) : Type 0 where
   pub made : List (Call F G X)
-  pub refused : Call F G X
+  pub alloc_failed : Call F G X
   pub left : List (Call F G X)
-  pub whole : calls ≡ made ++ refused ∷ left
-  pub takes : TakesNoMemory refused → ⊥
+  pub whole : calls ≡ made ++ alloc_failed ∷ left
+  pub takes : TakesNoMemory alloc_failed → ⊥
   pub makes : Makes of ask made old new

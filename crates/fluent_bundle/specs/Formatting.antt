@@ -7,7 +7,7 @@ use Rattle.fluent_meaning.specs.Value.{Value}
 use Rattle.fluent_meaning.specs.Arguments.{Map}
 use Rattle.fluent_meaning.specs.Bundle.{Bundle}
 use Rattle.fluent_meaning.specs.Result.{formatted, written_pattern, substituted_pattern}
-use Rattle.fluent_bundle.specs.Formatted.{WritesAll, WritesFront, AddsFront, GivesText}
+use Rattle.fluent_bundle.specs.Formatted.{WritesAll, WritesPrefix, AddsPrefix, GivesText}
 use Rattle.fluent_entries.specs.declared.errors.FluentError.{FluentError}
 
 -- ---- what is written
@@ -28,7 +28,7 @@ WritesWhole b args p result held held' list list' =
 abbrev pub WritesBeginning : Bundle Text → Map (Value Text) → Pattern → Option Text → Option Text → List FluentError → List FluentError → Type 0
 WritesBeginning b args p held held' list list' =
     let means = written_pattern b args p in
-    WritesFront means.value means.errors held held' list list'
+    WritesPrefix means.value means.errors held held' list list'
 
 -- ---- what is answered as a text
 
@@ -46,4 +46,4 @@ GivesWhole b args p result list list' =
 
 -- whatever is answered
 abbrev pub AddsBeginning : Bundle Text → Map (Value Text) → Pattern → List FluentError → List FluentError → Type 0
-AddsBeginning b args p list list' = AddsFront (written_pattern b args p).errors list list'
+AddsBeginning b args p list list' = AddsPrefix (written_pattern b args p).errors list list'

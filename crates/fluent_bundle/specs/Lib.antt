@@ -7,12 +7,12 @@ pub mod BundleView
 pub mod Formatted
 pub mod Formatting
 pub mod Limits
-pub mod Adding
+pub mod AddAnswers
 pub mod Calls
 pub mod Said
 pub mod CallRows
 pub mod Messages
 pub mod Under
-pub mod Free
+pub mod PatternsWithoutMemory
 pub mod ById
 pub mod Inside

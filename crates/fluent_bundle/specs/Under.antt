@@ -20,7 +20,7 @@ use Rattle.fluent_meaning.specs.Result.{written_pattern}
 use Rattle.fluent_meaning.specs.Value.{Value}
 use Rattle.fluent_entries.specs.declared.errors.FluentError.{FluentError}
 use Rattle.fluent_values.specs.MessageView.{content_of}
-use Rattle.fluent_values.specs.Written.{sink}
+use Rattle.fluent_values.specs.Sinks.{sink}
 use Rattle.fluent_values.specs.declared.output.Halt.{Halt}
 use Rattle.fluent_values.specs.declared.output.Output.{Output}
 use Rattle.fluent_bundle.specs.BundleView.{message_at}
@@ -53,8 +53,8 @@ abbrev pub AddsAll : List Error → Errors → Errors → Type 0
 AddsAll all errors errors' = formatted.AddsAll all errors.items errors'.items
 
 -- a beginning of it
-abbrev pub AddsFront : List Error → Errors → Errors → Type 0
-AddsFront all errors errors' = formatted.AddsFront all errors.items errors'.items
+abbrev pub AddsPrefix : List Error → Errors → Errors → Type 0
+AddsPrefix all errors errors' = formatted.AddsPrefix all errors.items errors'.items
 
 -- ---- of a pattern, what is written, by what the writer's type says it holds
 

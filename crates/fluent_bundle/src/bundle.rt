@@ -7,7 +7,7 @@ ghost use Rattle.fluent_intl.specs.Plurals.{english};
 ghost use Rattle.fluent_meaning.specs.Bundle.{empty_bundle};
 ghost use Rattle.fluent_bundle.specs.BundleView.{custom_by, entries_in, formatter_in, intls_in, message_at, message_entry_at, transform_in, AreUndetermined, Kept, KeptBeside};
 ghost use Rattle.fluent_values.specs.MessageView.{entry_seen, message_view};
-ghost use Rattle.fluent_bundle.specs.Adding.{answer_of};
+ghost use Rattle.fluent_bundle.specs.AddAnswers.{answer_of};
 
 use crate::calls::Call;
 use crate::resource::FluentResource;
@@ -32,7 +32,7 @@ const MAX_PLACEABLE_LIMIT: usize = 10_000;
 /// Messages by id, from one resource or many, and the settings under which patterns are resolved.
 ///
 /// It refers to its resources for `'r`; their sources live for `'s`. Two lifetimes, so that a resource made in
-/// a function can be lent to a bundle made there. Its types: `M` chooses plural categories, `C` is a value of
+/// a function can be borrowed by a bundle made there. Its types: `M` chooses plural categories, `C` is a value of
 /// the application's own, `F` a function, `G` a formatter, `T` a transform.
 pub struct FluentBundle<'r, 's, M, C, F, G, T = Box<dyn Transform>> {
     /// The languages of the bundle, which nothing here reads.
@@ -71,7 +71,7 @@ impl<'r, 's: 'r, M: Drop, C, F: Drop, G: Drop, T: Drop> Drop
 pub enum AddFault {
     /// Some ids were there: one error for each entry that was left, in order. All else was added.
     Overriding(Vec<FluentError>),
-    /// Memory was refused, and nothing was added.
+    /// An allocation failed, and nothing was added.
     Memory,
 }
 
@@ -167,7 +167,7 @@ impl<
     /// # Errors
     ///
     /// `Overriding` where an id was there, also from an earlier entry of the same resource: all others are added.
-    /// `Memory` where memory was refused: the bundle is as before.
+    /// `Memory` where an allocation failed: the bundle is as before.
     pub fn add_resource(&mut self, resource: &'r FluentResource<'s>) -> Result<(), AddFault>
         ensures step { ⟦<Self as Says>⟧.answers (Call.AddResource resource.entry)
             self.old self.new result }
@@ -196,7 +196,7 @@ impl<
     ///
     /// # Errors
     ///
-    /// Memory was refused: the bundle is as before.
+    /// An allocation failed: the bundle is as before.
     pub fn add_resource_overriding(
         &mut self,
         resource: &'r FluentResource<'s>,
@@ -213,7 +213,7 @@ impl<
     ///
     /// # Errors
     ///
-    /// `Overriding` with one error where the id was there, `Memory` where memory was refused: the bundle is as
+    /// `Overriding` with one error where the id was there, `Memory` where an allocation failed: the bundle is as
     /// before, and the function is dropped.
     pub fn add_function(&mut self, id: &str, function: F) -> Result<(), AddFault>
         ensures step { ⟦<Self as Says>⟧.answers (Call.AddFunction id.entry function)
@@ -240,7 +240,7 @@ impl<
     ///
     /// # Errors
     ///
-    /// `Overriding` with one error where the id `NUMBER` was there, `Memory` where memory was refused: the bundle
+    /// `Overriding` with one error where the id `NUMBER` was there, `Memory` where an allocation failed: the bundle
     /// is as before.
     pub fn add_builtins(&mut self) -> Result<(), AddFault>
         ensures step { ⟦<Self as Says>⟧.answers Call.AddBuiltins self.old self.new result }
@@ -283,7 +283,7 @@ impl<
     ///
     /// # Errors
     ///
-    /// Memory was refused.
+    /// An allocation failed.
     pub fn new_default(alloc: Global) -> Result<Self, AllocError>
         ensures empty { IfOk result (λ b. ⟦<Self as Says>⟧.of b
             ≡ empty_bundle english (custom_by C.shown C.alike)) }

@@ -7,7 +7,7 @@ ghost use Rattle.fluent_text.specs.Writer.{CountsFault};
 ghost use Rattle.fluent_tree.specs.View.{attribute_of};
 ghost use Rattle.fluent_resolver.specs.FoundView.{IsStored, content_at};
 ghost use Rattle.fluent_bundle.specs.BundleView.{entries_in};
-ghost use Rattle.fluent_bundle.specs.ById.{Finds, Lent, TakesNoMemory, WritesFound, attribute_at, value_at};
+ghost use Rattle.fluent_bundle.specs.ById.{Finds, BorrowsAsked, TakesNoMemory, WritesFound, attribute_at, value_at};
 ghost use Rattle.fluent_bundle.specs.Inside.Asked.{pattern_at};
 
 use crate::bundle::FluentBundle;
@@ -34,11 +34,11 @@ impl<
     /// The text of the value of the message that an id names, as [`FluentBundle::format_pattern`] gives it; what went
     /// wrong is added at the end of the list of errors. `None` where there is no such message, or it has no value:
     /// then nothing is added. The message is looked up once, and what its value refers to by what is kept of it, so this
-    /// is the fastest way to format it. `None`, and a value that is lent, take no memory.
+    /// is the fastest way to format it. `None`, and a value that is borrowed, take no memory.
     ///
     /// # Errors
     ///
-    /// Memory was refused: what was added begins the errors.
+    /// An allocation failed: what was added begins the errors.
     pub fn format_value(
         &self,
         id: &str,
@@ -47,7 +47,7 @@ impl<
     ) -> Result<Option<CowStr<'s>>, AllocError>
         ensures finds { Finds (⟦<Self as Says>⟧.under self.now args.entry) (value_at id.now)
             result errors.old errors.new }
-        ensures lent { Lent self.now (value_at id.now (⟦<Self as Says>⟧.of self.now)) result }
+        ensures borrowed { BorrowsAsked self.now (value_at id.now (⟦<Self as Says>⟧.of self.now)) result }
     {
         self.format_asked(id, &None, args, errors)
     }
@@ -57,7 +57,7 @@ impl<
     ///
     /// # Errors
     ///
-    /// Memory was refused: what was added begins the errors.
+    /// An allocation failed: what was added begins the errors.
     pub fn format_attribute(
         &self,
         id: &str,
@@ -67,7 +67,7 @@ impl<
     ) -> Result<Option<CowStr<'s>>, AllocError>
         ensures finds { Finds (⟦<Self as Says>⟧.under self.now args.entry) (attribute_at id.now name.now)
             result errors.old errors.new }
-        ensures lent { Lent self.now (attribute_at id.now name.now (⟦<Self as Says>⟧.of self.now)) result }
+        ensures borrowed { BorrowsAsked self.now (attribute_at id.now name.now (⟦<Self as Says>⟧.of self.now)) result }
     {
         self.format_asked(id, &Some(Identifier { name }), args, errors)
     }
@@ -127,7 +127,7 @@ impl<
     ) -> Result<Option<CowStr<'s>>, AllocError>
         ensures finds { Finds (⟦<Self as Says>⟧.under self.now args.entry) (pattern_at id.now (attribute_of attribute.now))
             result errors.old errors.new }
-        ensures lent { Lent self.now (pattern_at id.now (attribute_of attribute.now) (⟦<Self as Says>⟧.of self.now)) result }
+        ensures borrowed { BorrowsAsked self.now (pattern_at id.now (attribute_of attribute.now) (⟦<Self as Says>⟧.of self.now)) result }
     {
         match self.target(id, attribute) {
             Some(target) => {

@@ -1,7 +1,7 @@
 //! Calls on a bundle as values, so that what a list of them makes can be said.
 ghost use Rattle.std.specs.Prelude.{◌≡◌, [], ◌∷◌, OnOk, OnErr, IsOk};
 ghost use Rattle.std.specs.List.{All};
-ghost use Rattle.fluent_bundle.specs.Adding.{unless_refused};
+ghost use Rattle.fluent_bundle.specs.AddAnswers.{unless_alloc_failed};
 ghost use Rattle.fluent_bundle.specs.BundleView.{Kept};
 ghost use Rattle.fluent_bundle.specs.Calls.{TakesNoMemory};
 
@@ -41,7 +41,7 @@ impl<
     ///
     /// # Errors
     ///
-    /// Memory was refused, which the setters can't meet: the bundle is as before.
+    /// An allocation failed, which the setters can't meet: the bundle is as before.
     pub fn make(&mut self, call: Call<'r, 's, F, G, T>) -> Result<(), AllocError>
         ensures ok { OnOk result (⟦<Self as Says>⟧.makes (call.entry ∷ []) self.old self.new) }
         ensures err { OnErr result (⟦<Self as Says>⟧.same self.old self.new × Kept
@@ -76,7 +76,7 @@ impl<
     ///
     /// # Errors
     ///
-    /// Memory was refused at one of them, which is no setter: those before it were made, and no other; what the
+    /// An allocation failed at one of them, which is no setter: those before it were made, and no other; what the
     /// others hand over is dropped.
     pub fn make_all(&mut self, calls: Vec<Call<'r, 's, F, G, T>>) -> Result<(), AllocError>
         ensures ok { OnOk result (⟦<Self as Says>⟧.makes calls.entry.items self.old self.new) }
@@ -92,7 +92,7 @@ impl<
 
 /// What an adding call answers where nobody asks what was left.
 fn known(added: Result<(), AddFault>) -> Result<(), AllocError>
-    ensures { result ≡ unless_refused added }
+    ensures { result ≡ unless_alloc_failed added }
 {
     match added {
         Err(AddFault::Memory) => Err(AllocError),

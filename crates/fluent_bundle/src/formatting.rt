@@ -7,12 +7,12 @@ ghost use Rattle.fluent_meaning.specs.Value.{text_value};
 ghost use Rattle.fluent_text.specs.Writer.{failed_in, empty_in, CountsFault};
 ghost use Rattle.fluent_tree.specs.References.{references};
 ghost use Rattle.fluent_tree.specs.View.{pattern_view};
-ghost use Rattle.fluent_entries.specs.Numbered.{IsPlaced};
+ghost use Rattle.fluent_entries.specs.IdNumbers.{IsPlaced};
 ghost use Rattle.fluent_bundle.specs.BundleView.{entries_in, formatter_in, transform_in};
-ghost use Rattle.fluent_bundle.specs.Free.{LendsText, WritesFree};
+ghost use Rattle.fluent_bundle.specs.PatternsWithoutMemory.{BorrowsText, WritesFree};
 ghost use Rattle.fluent_bundle.specs.Under.{AddsBeginning, AddsWhole, Extends, GivesWhole, GivesWithin, IsLimited, IsText, Writes, WritesBeginning, WritesWhole, WritesWithin};
 ghost use Rattle.fluent_values.specs.Texts.{sole_text, is_text, IsTextAlone};
-ghost use Rattle.fluent_values.specs.Written.{CountsTell};
+ghost use Rattle.fluent_values.specs.Sinks.{CountsTell};
 
 use crate::bundle::FluentBundle;
 use crate::laws;
@@ -48,7 +48,7 @@ impl<
     ///
     /// A placeable stands between U+2068 and U+2069 where isolation is on and it is not all of its pattern. A
     /// variable that is missing is an error and shows as its name in braces. One call opens at most as many
-    /// placeables as the bundle's limit (100 where none was set): one more is an error, and of what stands behind
+    /// placeables as the bundle's limit (100 where none was set): one more is an error, and of what stands after
     /// it nothing is written but the fallback of each placeable that is open. Text elements are written as the
     /// transform changes them, and values as the formatter shows them; it is not asked about the whole text.
     ///
@@ -73,7 +73,7 @@ impl<
             (pattern_view pattern.now) result W.contents w.old w.new errors.old errors.new }
 
         // Whatever is answered.
-        ensures front { WritesBeginning (⟦<Self as Says>⟧.under self.now args.entry)
+        ensures prefix { WritesBeginning (⟦<Self as Says>⟧.under self.now args.entry)
             (pattern_view pattern.now) W.contents w.old w.new errors.old errors.new }
         ensures limit { IsLimited (⟦<Self as Says>⟧.under self.now args.entry)
             (pattern_view pattern.now) }
@@ -85,12 +85,12 @@ impl<
     }
 
     /// The text of a pattern, as [`FluentBundle::write_pattern`] writes it, and then as the formatter shows it as a
-    /// value; what went wrong is added at the end of the list of errors. A pattern that is one text is lent and
+    /// value; what went wrong is added at the end of the list of errors. A pattern that is one text is borrowed and
     /// takes no memory, where no transform and no formatter is set.
     ///
     /// # Errors
     ///
-    /// Memory was refused: what was added begins the errors.
+    /// An allocation failed: what was added begins the errors.
     pub fn format_pattern(
         &self,
         pattern: &Pattern<'s>,
@@ -101,11 +101,11 @@ impl<
             (pattern_view pattern.now) result errors.old errors.new }
         ensures whole { GivesWhole (⟦<Self as Says>⟧.under self.now args.entry)
             (pattern_view pattern.now) result errors.old errors.new }
-        ensures front { AddsBeginning (⟦<Self as Says>⟧.under self.now args.entry)
+        ensures prefix { AddsBeginning (⟦<Self as Says>⟧.under self.now args.entry)
             (pattern_view pattern.now) errors.old errors.new }
         ensures limit { IsLimited (⟦<Self as Says>⟧.under self.now args.entry)
             (pattern_view pattern.now) }
-        ensures lent { LendsText self.now (pattern_view pattern.now) result }
+        ensures borrowed { BorrowsText self.now (pattern_view pattern.now) result }
     {
         laws::limits_are_kept();
         self.format_linked(pattern, Place::by_name(), args, errors)
@@ -125,7 +125,7 @@ impl<
             (pattern_view pattern.now) result W.contents w.old w.new errors.old errors.new }
         ensures whole { WritesWhole (⟦<Self as Says>⟧.under self.now args.entry)
             (pattern_view pattern.now) result W.contents w.old w.new errors.old errors.new }
-        ensures front { WritesBeginning (⟦<Self as Says>⟧.under self.now args.entry)
+        ensures prefix { WritesBeginning (⟦<Self as Says>⟧.under self.now args.entry)
             (pattern_view pattern.now) W.contents w.old w.new errors.old errors.new }
         ensures fault { CountsFault w.old w.new result }
         ensures memory { WritesFree self.now (pattern_view pattern.now) result }
@@ -151,9 +151,9 @@ impl<
             (pattern_view pattern.now) result errors.old errors.new }
         ensures whole { GivesWhole (⟦<Self as Says>⟧.under self.now args.entry)
             (pattern_view pattern.now) result errors.old errors.new }
-        ensures front { AddsBeginning (⟦<Self as Says>⟧.under self.now args.entry)
+        ensures prefix { AddsBeginning (⟦<Self as Says>⟧.under self.now args.entry)
             (pattern_view pattern.now) errors.old errors.new }
-        ensures lent { LendsText self.now (pattern_view pattern.now) result }
+        ensures borrowed { BorrowsText self.now (pattern_view pattern.now) result }
     {
         laws::limits_are_kept();
         if let Some(text) = self.sole_text(pattern) {
@@ -237,7 +237,7 @@ impl<
             (IsText (⟦<Self as Says>⟧.under self.now args.entry) (pattern_view pattern.now)) }
         ensures errors { OnOk result (AddsWhole (⟦<Self as Says>⟧.under self.now args.entry)
             (pattern_view pattern.now) errors.old errors.new) }
-        ensures front { AddsBeginning (⟦<Self as Says>⟧.under self.now args.entry)
+        ensures prefix { AddsBeginning (⟦<Self as Says>⟧.under self.now args.entry)
             (pattern_view pattern.now) errors.old errors.new }
     {
         let mut text = String::with_capacity(self.alloc, ROOM)?;
@@ -263,7 +263,7 @@ impl<
             (pattern_view pattern.now) text.old text.new) }
         ensures errors { OnOk result (AddsWhole (⟦<Self as Says>⟧.under self.now args.entry)
             (pattern_view pattern.now) errors.old errors.new) }
-        ensures front { AddsBeginning (⟦<Self as Says>⟧.under self.now args.entry)
+        ensures prefix { AddsBeginning (⟦<Self as Says>⟧.under self.now args.entry)
             (pattern_view pattern.now) errors.old errors.new }
         ensures fault { CountsTell (failed_in unused.old) (empty_in unused.old)
             (failed_in unused.new) (empty_in unused.new) result }

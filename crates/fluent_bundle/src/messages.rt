@@ -1,6 +1,6 @@
 //! A message with all its parts as text.
 ghost use Rattle.std.specs.Prelude.{IfOk, OnOk};
-ghost use Rattle.fluent_bundle.specs.Under.{attributes_errors, message_errors, parts_errors, value_errors, AddsAll, AddsFront, ShowsAttributes, ShowsMessage, ShowsParts, ShowsValue};
+ghost use Rattle.fluent_bundle.specs.Under.{attributes_errors, message_errors, parts_errors, value_errors, AddsAll, AddsPrefix, ShowsAttributes, ShowsMessage, ShowsParts, ShowsValue};
 
 use crate::bundle::FluentBundle;
 use crate::says::Says;
@@ -44,7 +44,7 @@ impl<
     ///
     /// # Errors
     ///
-    /// Memory was refused: what was added begins the errors.
+    /// An allocation failed: what was added begins the errors.
     pub fn format_message(
         &self,
         id: &str,
@@ -56,7 +56,7 @@ impl<
         ensures errors { OnOk result (AddsAll
             (message_errors (⟦<Self as Says>⟧.under self.now args.entry) id.now)
             errors.old errors.new) }
-        ensures front { AddsFront (message_errors (⟦<Self as Says>⟧.under self.now args.entry)
+        ensures prefix { AddsPrefix (message_errors (⟦<Self as Says>⟧.under self.now args.entry)
             id.now) errors.old errors.new }
     {
         match self.get_entry_message(id) {
@@ -80,7 +80,7 @@ impl<
         ensures errors { OnOk result (AddsAll
             (parts_errors (⟦<Self as Says>⟧.under self.now args.entry) message.now)
             errors.old errors.new) }
-        ensures front { AddsFront (parts_errors (⟦<Self as Says>⟧.under self.now args.entry)
+        ensures prefix { AddsPrefix (parts_errors (⟦<Self as Says>⟧.under self.now args.entry)
             message.now) errors.old errors.new }
     {
         let value = self.format_optional(&message.value, args, errors)?;
@@ -100,7 +100,7 @@ impl<
         ensures errors { OnOk result (AddsAll
             (value_errors (⟦<Self as Says>⟧.under self.now args.entry) value.now)
             errors.old errors.new) }
-        ensures front { AddsFront (value_errors (⟦<Self as Says>⟧.under self.now args.entry)
+        ensures prefix { AddsPrefix (value_errors (⟦<Self as Says>⟧.under self.now args.entry)
             value.now) errors.old errors.new }
     {
         match value {
@@ -124,7 +124,7 @@ impl<
         ensures errors { OnOk result (AddsAll
             (attributes_errors (⟦<Self as Says>⟧.under self.now args.entry) attributes.now)
             errors.old errors.new) }
-        ensures front { AddsFront (attributes_errors (⟦<Self as Says>⟧.under self.now args.entry)
+        ensures prefix { AddsPrefix (attributes_errors (⟦<Self as Says>⟧.under self.now args.entry)
             attributes.now) errors.old errors.new }
     {
         let mut texts = Vec::new(self.alloc);

@@ -32,11 +32,11 @@ impl Drop for FluentResource<'_> {
 pub enum TryNewFault<'s> {
     /// Parts of the source can't be read. The resource is whole and usable, with a Junk for each error.
     Parser(FluentResource<'s>, Vec<ParserError>),
-    /// Memory was refused.
+    /// An allocation failed.
     Memory,
 }
 
-/// The entries of a resource from the front.
+/// The entries of a resource from the start.
 pub type Entries<'x, 's> = Iter<'x, ast::Entry<'s>>;
 
 impl<'s> FluentResource<'s> {
@@ -45,7 +45,7 @@ impl<'s> FluentResource<'s> {
     /// # Errors
     ///
     /// `Parser` where the source holds Junk, with the resource and an error for each Junk, in order;
-    /// `Memory` where memory was refused.
+    /// `Memory` where an allocation failed.
     pub fn try_new(alloc: Global, source: &'s str) -> Result<FluentResource<'s>, TryNewFault<'s>>
         ensures { Tried source.now result }
     {

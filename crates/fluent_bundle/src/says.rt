@@ -51,7 +51,7 @@ pub(crate) trait Says {
     /// What a list of calls leads to.
     ghost makes: { List Self.Asks → Self → Self → Type 0 };
 
-    /// What it leads to where memory is refused.
+    /// What it leads to where an allocation fails.
     ghost begins: { List Self.Asks → Self → Self → Type 0 };
 }
 

@@ -10,7 +10,7 @@ use Rattle.fluent_meaning.specs.Bundle.{Bundle}
 use Rattle.fluent_resolver.specs.Status.{arguments_view}
 use Rattle.fluent_bundle.specs.declared.bundle.FluentBundle.{FluentBundle}
 use Rattle.fluent_chain.specs.Chain.{pattern_at, first_with, place_with}
-use Rattle.fluent_chain.specs.ChainCalls.{Giving, GivesFound, LendsFound}
+use Rattle.fluent_chain.specs.ChainCalls.{Giving, GivesFound, BorrowsFound}
 use Rattle.fluent_chain.specs.ChainView.{pattern_of}
 use Rattle.fluent_catalog.specs.CatalogView.{bundles_in, tag_in}
 use Rattle.fluent_catalog.specs.declared.catalog.Catalog.{Catalog}
@@ -27,8 +27,8 @@ module _ {M C F G X : Type 0} (of : FluentBundle M C F G X → Bundle Text) wher
   gives content catalog id name args = GivesFound id (arguments_view content args)
       (first_with (pattern_at id (option_map (λ n. n.now) name)) (map of (bundles_in catalog)))
 
-  -- lent, where it is one text
+  -- borrowed, where it is one text
   abbrev pub lends : Catalog M C F G X → Text → Option (Bor Text)
       → Result (CowStr Global) AllocError → Type 0
   lends catalog id name result =
-      LendsFound id (first_with (pattern_of of id name) (bundles_in catalog)) result
+      BorrowsFound id (first_with (pattern_of of id name) (bundles_in catalog)) result

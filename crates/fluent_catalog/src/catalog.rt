@@ -53,11 +53,11 @@ impl<
         }
     }
 
-    /// Adds a language with the bundle of its texts, which is asked behind those that are there.
+    /// Adds a language with the bundle of its texts, which is asked after those that are there.
     ///
     /// # Errors
     ///
-    /// Memory was refused: the catalog is as before, and the bundle is dropped.
+    /// An allocation failed: the catalog is as before, and the bundle is dropped.
     pub fn push(
         &mut self,
         tag: &'s str,
@@ -96,11 +96,11 @@ impl<
     }
 
     /// The value of the message in the first language where it has one, as [`Chain::format_value`] gives it: where no
-    /// language has a value for it, the id is lent as the text, and nothing is added.
+    /// language has a value for it, the id is borrowed as the text, and nothing is added.
     ///
     /// # Errors
     ///
-    /// Memory was refused: what was added begins the errors.
+    /// An allocation failed: what was added begins the errors.
     pub fn format_value<'t>(
         &self,
         id: &'t str,
@@ -111,7 +111,7 @@ impl<
         's: 't,
         ensures text { ⟦<Self as Says>⟧.gives self.now id.now None args.entry result
             errors.old errors.new }
-        ensures lent { ⟦<Self as Says>⟧.lends self.now id.now None result }
+        ensures borrowed { ⟦<Self as Says>⟧.lends self.now id.now None result }
     {
         Chain::of(self.bundles.as_slice()).format_value(id, args, errors)
     }
@@ -121,7 +121,7 @@ impl<
     ///
     /// # Errors
     ///
-    /// Memory was refused: what was added begins the errors.
+    /// An allocation failed: what was added begins the errors.
     pub fn format_attribute<'t>(
         &self,
         id: &'t str,
@@ -133,7 +133,7 @@ impl<
         's: 't,
         ensures text { ⟦<Self as Says>⟧.gives self.now id.now (Some name.entry) args.entry result
             errors.old errors.new }
-        ensures lent { ⟦<Self as Says>⟧.lends self.now id.now (Some name.entry) result }
+        ensures borrowed { ⟦<Self as Says>⟧.lends self.now id.now (Some name.entry) result }
     {
         Chain::of(self.bundles.as_slice()).format_attribute(id, name, args, errors)
     }

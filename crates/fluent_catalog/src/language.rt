@@ -13,7 +13,7 @@ use std::fmt;
 pub enum LanguageFault {
     /// The Unicode CLDR has none for its tag.
     Unknown,
-    /// They could not be read: of CLDR's rules, only since memory was refused.
+    /// They could not be read: of CLDR's rules, only since an allocation failed.
     Rules(RuleFault),
 }
 
@@ -39,7 +39,7 @@ impl Error for LanguageFault {}
 /// # Errors
 ///
 /// `Unknown` where the Unicode CLDR has no rules for the tag, which takes no memory; `Rules` where they can't be read
-/// or memory was refused.
+/// or an allocation failed.
 pub fn plurals_for(alloc: Global, tag: &str) -> Result<RuleTexts, LanguageFault>
     ensures { HasPlurals (rules_of cldr_plurals tag.now) result }
 {

@@ -25,7 +25,7 @@ pub enum Report<'t> {
 ///
 /// # Errors
 ///
-/// Memory was refused: nothing was added.
+/// An allocation failed: nothing was added.
 pub fn read_source<'s>(
     alloc: Global,
     tag: &'s str,
@@ -52,7 +52,7 @@ pub fn read_source<'s>(
 ///
 /// # Errors
 ///
-/// Memory was refused: the bundle and the list are as before.
+/// An allocation failed: the bundle and the list are as before.
 pub fn add_source<
     'r,
     's,

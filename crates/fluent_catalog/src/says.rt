@@ -1,7 +1,7 @@
 //! What the calls say, by what the types of a bundle's parts state. Contracts alone name it.
 ghost use Rattle.std.specs.Prelude.{List, Option, Result};
 ghost use Rattle.std.specs.Borrow.{Bor};
-ghost use Rattle.std.specs.declared.alloc.AllocError.{AllocError as Refused};
+ghost use Rattle.std.specs.declared.alloc.AllocError.{AllocError as AllocFailed};
 ghost use Rattle.std.specs.declared.borrow.CowStr.{CowStr};
 ghost use Rattle.std.proofs.Common.{Global};
 ghost use Rattle.fluent_tree.specs.Tree.{Text};
@@ -25,8 +25,8 @@ pub(crate) trait Says {
     /// Its text is given.
     ghost gives: { Giving Self Self.Own (CowStr Global) };
 
-    /// Lent, where it is one text.
-    ghost lends: { Self → Text → Option (Bor Text) → Result (CowStr Global) Refused → Type 0 };
+    /// Borrowed, where it is one text.
+    ghost lends: { Self → Text → Option (Bor Text) → Result (CowStr Global) AllocFailed → Type 0 };
 }
 
 impl<

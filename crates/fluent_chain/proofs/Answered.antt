@@ -6,9 +6,9 @@ use Rattle.std.specs.Option.{option_map}
 use Rattle.std.specs.declared.alloc.AllocError.{AllocError}
 use Rattle.std.specs.declared.borrow.CowStr.{CowStr}
 use Rattle.std.specs.declared.borrow.CowStr.TheVariants.{Borrowed, Owned}
-use Rattle.fluent_text.specs.Unescaped.{Lends}
+use Rattle.fluent_text.specs.Unescaped.{Borrows}
 use Rattle.std.specs.Io.KnownBytes.{Appends}
-use Rattle.fluent_text.specs.Taken.{TookFront}
+use Rattle.fluent_text.specs.Taken.{TookPrefix}
 use Rattle.fluent_text.specs.Writer.{writer_in}
 use Rattle.fluent_text.specs.declared.counting.Counting.{Counting}
 use Rattle.fluent_text.specs.declared.counting.WriteFault.{WriteFault}
@@ -18,26 +18,26 @@ use Rattle.fluent_meaning.specs.Arguments.{Map}
 use Rattle.fluent_meaning.specs.Bundle.{Bundle}
 use Rattle.fluent_meaning.specs.Errors.{Error}
 use Rattle.fluent_meaning.specs.Value.{Value}
-use Rattle.fluent_bundle.specs.ById.{GivesAsked, GivesSome, Lent, LendsSome, TakesNoMemory, WritesAsked}
+use Rattle.fluent_bundle.specs.ById.{GivesAsked, GivesSome, BorrowsAsked, BorrowsSome, TakesNoMemory, WritesAsked}
 use Rattle.fluent_bundle.specs.Formatted.{GivesText}
 use Rattle.fluent_bundle.specs.declared.bundle.FluentBundle.{FluentBundle}
 use Rattle.fluent_chain.specs.Chain.{first_with}
-use Rattle.fluent_chain.specs.ChainCalls.{Errors, GivesFound, LendsFound, NeedsNoMemory, WritesFound}
-use Rattle.fluent_chain.proofs.First.{adds_none, answers, front_alone, gives_alone, gives_of, puts_alone, writes_of}
+use Rattle.fluent_chain.specs.ChainCalls.{Errors, GivesFound, BorrowsFound, NeedsNoMemory, WritesFound}
+use Rattle.fluent_chain.proofs.First.{adds_none, answers, prefix_alone, gives_alone, gives_of, puts_alone, writes_of}
 
 -- ---- a text that was given
 
-abbrev Gave : Type 0
-Gave = Result (Option (CowStr Global)) AllocError
+abbrev EvaluatesSilently : Type 0
+EvaluatesSilently = Result (Option (CowStr Global)) AllocError
 
-gives_text : (all : Text) (wrong : List Error) (r : Gave) (text : CowStr Global) (errors errors' : Errors) → r ≡ Ok (Some text)
+gives_text : (all : Text) (wrong : List Error) (r : EvaluatesSilently) (text : CowStr Global) (errors errors' : Errors) → r ≡ Ok (Some text)
     → GivesSome all wrong r errors errors' → GivesText {E = AllocError} all wrong (Ok text) errors.items errors'.items
 gives_text all wrong r text errors errors' is gives =
     let there : GivesSome all wrong (Ok (Some text)) errors errors' = subst (λ q. GivesSome all wrong q errors errors') is gives in
     let same : Some (cow_str_bytes text) ≡ Some all = there.text in
     record { text = cc same; adds = there.adds }
 
-given_none : (all : Text) (r : Gave) → r ≡ Ok None → ¬ (IfOk r (λ t. option_map cow_str_bytes t ≡ Some all))
+given_none : (all : Text) (r : EvaluatesSilently) → r ≡ Ok None → ¬ (IfOk r (λ t. option_map cow_str_bytes t ≡ Some all))
 given_none all r is h =
     let never : None ≡ Some all = subst (λ q. IfOk q (λ t. option_map cow_str_bytes t ≡ Some all)) is h in
     cc
@@ -49,14 +49,14 @@ fails P (Err e) faulted h = h e
 
 module _ {M C F G X : Type 0} (of : FluentBundle M C F G X → Bundle Text) (has : Bundle Text → Option Pattern) (args : Map (Value Text)) where
   -- of a bundle that has none: nothing was added
-  pub gives_nothing : (b : FluentBundle M C F G X) (asked : Option Pattern) (r : Gave) (errors errors' : Errors) → r ≡ Ok None
+  pub gives_nothing : (b : FluentBundle M C F G X) (asked : Option Pattern) (r : EvaluatesSilently) (errors errors' : Errors) → r ≡ Ok None
       → GivesAsked (record { bundle = of b; args = args }) asked r errors errors' → (asked ≡ None) × (errors' ≡ errors)
   gives_nothing b None r errors errors' is gives = (refl, gives.nothing.1)
   gives_nothing b (Some p) r errors errors' is gives = absurd (given_none _ r is gives.whole.text)
 
   module _ (bs : List (FluentBundle M C F G X)) (i : ℕ) (b : FluentBundle M C F G X) (at : slice_get bs i ≡ Some b) (first : first_with (λ a. has (of a)) (drop i bs) ≡ first_with (λ a. has (of a)) bs) where
     -- of one that answered with a text
-    pub gives_here : (id : Text) (asked : Option Pattern) → has (of b) ≡ asked → (r : Gave) (text : CowStr Global) (old errors errors' : Errors) → errors ≡ old → r ≡ Ok (Some text)
+    pub gives_here : (id : Text) (asked : Option Pattern) → has (of b) ≡ asked → (r : EvaluatesSilently) (text : CowStr Global) (old errors errors' : Errors) → errors ≡ old → r ≡ Ok (Some text)
         → GivesAsked (record { bundle = of b; args = args }) asked r errors errors'
         → GivesFound id args (first_with has (map of bs)) (Ok text) old errors'
     gives_here id None none r text old errors errors' same is gives =
@@ -67,11 +67,11 @@ module _ {M C F G X : Type 0} (of : FluentBundle M C F G X → Bundle Text) (has
         (gives_of of has bs (Some (b, p)) (answers (λ a. has (of a)) bs i first b p at some) id args (Ok text) errors errors' (record {
           within = λ few. gives_text _ _ r text errors errors' is (gives.within few);
           whole = gives_text _ _ r text errors errors' is gives.whole;
-          front = gives.front;
+          prefix = gives.prefix;
         }))
 
-    -- of one that was refused memory
-    pub gives_refused : (id : Text) (asked : Option Pattern) → has (of b) ≡ asked → (r : Gave) (e : AllocError) (r' : Result (CowStr Global) AllocError) (old errors errors' : Errors) → errors ≡ old → r ≡ Err e → is_ok r' ≡ false
+    -- of one that failed for want of memory
+    pub gives_refused : (id : Text) (asked : Option Pattern) → has (of b) ≡ asked → (r : EvaluatesSilently) (e : AllocError) (r' : Result (CowStr Global) AllocError) (old errors errors' : Errors) → errors ≡ old → r ≡ Err e → is_ok r' ≡ false
         → GivesAsked (record { bundle = of b; args = args }) asked r errors errors'
         → GivesFound id args (first_with has (map of bs)) r' old errors'
     gives_refused id None none r e r' old errors errors' same is faulted gives =
@@ -83,7 +83,7 @@ module _ {M C F G X : Type 0} (of : FluentBundle M C F G X → Bundle Text) (has
         (λ e'. gives_of of has bs (Some (b, p)) (answers (λ a. has (of a)) bs i first b p at some) id args (Err e') errors errors' (record {
           within = λ few. record { text = tt; adds = tt };
           whole = record { text = tt; adds = tt };
-          front = gives.front;
+          prefix = gives.prefix;
         })))
 
   -- where none is left, the id is given
@@ -94,35 +94,35 @@ module _ {M C F G X : Type 0} (of : FluentBundle M C F G X → Bundle Text) (has
       (gives_of of has bs None none (cow_str_bytes text) args (Ok text) errors errors (record {
         within = λ few. gives_alone text _;
         whole = gives_alone text _;
-        front = adds_none _;
+        prefix = adds_none _;
       }))
 
--- ---- what is lent
+-- ---- what is borrowed
 
-lends_text : (r : Gave) (text : CowStr Global) (t : Text) → r ≡ Ok (Some text) → LendsSome r t → Lends (Ok text) t
-lends_text r (Borrowed s) t is h = subst (λ q. LendsSome q t) is h
-lends_text r (Owned s) t is h = absurd (subst (λ q. LendsSome q t) is h)
+borrows_text : (r : EvaluatesSilently) (text : CowStr Global) (t : Text) → r ≡ Ok (Some text) → BorrowsSome r t → Borrows (Ok text) t
+borrows_text r (Borrowed s) t is h = subst (λ q. BorrowsSome q t) is h
+borrows_text r (Owned s) t is h = absurd (subst (λ q. BorrowsSome q t) is h)
 
 module _ {M C F G X : Type 0} (of : FluentBundle M C F G X → Bundle Text) (has : Bundle Text → Option Pattern) (args : Map (Value Text)) (bs : List (FluentBundle M C F G X)) (i : ℕ) (b : FluentBundle M C F G X) (at : slice_get bs i ≡ Some b) (first : first_with (λ a. has (of a)) (drop i bs) ≡ first_with (λ a. has (of a)) bs) where
-  pub lends_here : (id : Text) (asked : Option Pattern) → has (of b) ≡ asked → (r : Gave) (text : CowStr Global) (errors errors' : Errors) → r ≡ Ok (Some text)
-      → GivesAsked (record { bundle = of b; args = args }) asked r errors errors' → Lent b asked r
-      → LendsFound id (first_with (λ a. has (of a)) bs) (Ok text)
-  lends_here id None none r text errors errors' is gives lent =
+  pub borrows_here : (id : Text) (asked : Option Pattern) → has (of b) ≡ asked → (r : EvaluatesSilently) (text : CowStr Global) (errors errors' : Errors) → r ≡ Ok (Some text)
+      → GivesAsked (record { bundle = of b; args = args }) asked r errors errors' → BorrowsAsked b asked r
+      → BorrowsFound id (first_with (λ a. has (of a)) bs) (Ok text)
+  borrows_here id None none r text errors errors' is gives borrowed =
       let never : Ok (Some text) ≡ Ok None = sym is ∙ gives.nothing.0 in
       cc
-  lends_here id (Some p) some r text errors errors' is gives lent =
-      subst (λ f. LendsFound id f (Ok text)) (answers (λ a. has (of a)) bs i first b p at some)
-      (λ t sole plain bare. lends_text r text t is (lent t sole plain bare))
+  borrows_here id (Some p) some r text errors errors' is gives borrowed =
+      subst (λ f. BorrowsFound id f (Ok text)) (answers (λ a. has (of a)) bs i first b p at some)
+      (λ t sole plain bare. borrows_text r text t is (borrowed t sole plain bare))
 
-  pub lends_refused : (id : Text) (asked : Option Pattern) → has (of b) ≡ asked → (r : Gave) (e : AllocError) (r' : Result (CowStr Global) AllocError) (errors errors' : Errors) → r ≡ Err e → is_ok r' ≡ false
-      → GivesAsked (record { bundle = of b; args = args }) asked r errors errors' → Lent b asked r
-      → LendsFound id (first_with (λ a. has (of a)) bs) r'
-  lends_refused id None none r e r' errors errors' is faulted gives lent =
+  pub borrows_failed : (id : Text) (asked : Option Pattern) → has (of b) ≡ asked → (r : EvaluatesSilently) (e : AllocError) (r' : Result (CowStr Global) AllocError) (errors errors' : Errors) → r ≡ Err e → is_ok r' ≡ false
+      → GivesAsked (record { bundle = of b; args = args }) asked r errors errors' → BorrowsAsked b asked r
+      → BorrowsFound id (first_with (λ a. has (of a)) bs) r'
+  borrows_failed id None none r e r' errors errors' is faulted gives borrowed =
       let never : Err e ≡ Ok None = sym is ∙ gives.nothing.0 in
       cc
-  lends_refused id (Some p) some r e r' errors errors' is faulted gives lent =
-      subst (λ f. LendsFound id f r') (answers (λ a. has (of a)) bs i first b p at some)
-      (λ t sole plain bare. absurd (subst (λ q. LendsSome q t) is (lent t sole plain bare)))
+  borrows_failed id (Some p) some r e r' errors errors' is faulted gives borrowed =
+      subst (λ f. BorrowsFound id f r') (answers (λ a. has (of a)) bs i first b p at some)
+      (λ t sole plain bare. absurd (subst (λ q. BorrowsSome q t) is (borrowed t sole plain bare)))
 
 -- ---- a text that was written
 
@@ -161,7 +161,7 @@ module _ {M C F G X W : Type 0} (of : FluentBundle M C F G X → Bundle Text) (h
         (writes_of of has bs (Some (b, p)) (answers (λ a. has (of a)) bs i first b p at some) id args (Ok u) _ _ errors errors' (record {
           within = λ few. done _ r true is (writes.within few);
           whole = done _ r true is writes.whole;
-          front = writes.front;
+          prefix = writes.prefix;
         }))
 
     -- of one where a fault came
@@ -177,7 +177,7 @@ module _ {M C F G X W : Type 0} (of : FluentBundle M C F G X → Bundle Text) (h
         (writes_of of has bs (Some (b, p)) (answers (λ a. has (of a)) bs i first b p at some) id args (Err e) _ _ errors errors' (record {
           within = λ few. tt;
           whole = tt;
-          front = writes.front;
+          prefix = writes.prefix;
         })))
 
     -- which is no want of memory where none is needed
@@ -193,12 +193,12 @@ module _ {M C F G X W : Type 0} (of : FluentBundle M C F G X → Bundle Text) (h
 
   -- where none is left, the id is written
   pub writes_id : (bs : List (FluentBundle M C F G X)) → None ≡ first_with (λ a. has (of a)) bs → (id piece : Text) (r : Result (Unit {0}) WriteFault) (start w w' : Counting W) (old errors : Errors) → w ≡ start → errors ≡ old → piece ≡ id
-      → OnOk r (Appends (contents (writer_in w)) (contents (writer_in w')) piece) → OnErr r (TookFront (contents (writer_in w)) (contents (writer_in w')) piece)
+      → OnOk r (Appends (contents (writer_in w)) (contents (writer_in w')) piece) → OnErr r (TookPrefix (contents (writer_in w)) (contents (writer_in w')) piece)
       → WritesFound id args (first_with has (map of bs)) r (contents (writer_in start)) (contents (writer_in w')) old errors
-  writes_id bs none id piece r start w w' old errors begun same is whole front =
+  writes_id bs none id piece r start w w' old errors begun same is whole prefix =
       from_start r id _ start w w' old errors errors begun same
       (writes_of of has bs None none id args r _ _ errors errors (record {
         within = λ few. puts_alone r piece id _ _ _ is whole;
         whole = puts_alone r piece id _ _ _ is whole;
-        front = front_alone r piece id _ _ _ is whole front;
+        prefix = prefix_alone r piece id _ _ _ is whole prefix;
       }))

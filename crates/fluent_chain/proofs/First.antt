@@ -7,12 +7,12 @@ use Rattle.std.proofs.Math.Seq.{drop-nil}
 use Rattle.std.proofs.Math.ListN.{drop_of_length-le}
 use Rattle.std.specs.Option.{option_map}
 use Rattle.std.specs.Io.KnownBytes.{Appends}
-use Rattle.fluent_text.specs.Taken.{TookFront}
+use Rattle.fluent_text.specs.Taken.{TookPrefix}
 use Rattle.std.specs.declared.borrow.CowStr.{CowStr}
 use Rattle.fluent_tree.specs.Tree.{Text, Pattern}
 use Rattle.fluent_meaning.specs.Errors.{Error}
 use Rattle.fluent_entries.specs.declared.errors.FluentError.{FluentError}
-use Rattle.fluent_bundle.specs.Formatted.{AddsFront, GivesText, WritesAll, WritesFront}
+use Rattle.fluent_bundle.specs.Formatted.{AddsPrefix, GivesText, WritesAll, WritesPrefix}
 use Rattle.fluent_text.specs.declared.counting.WriteFault.{WriteFault}
 use Rattle.std.specs.declared.alloc.AllocError.{AllocError}
 use Rattle.fluent_meaning.specs.Arguments.{Map}
@@ -74,8 +74,8 @@ writes_of of has as' found is id args result held held' errors errors' writes =
     subst (λ f. WritesFound id args f result held held' errors errors') (sym (first_with-found of has as' found is)) writes
 
 -- nothing is added
-pub adds_none : (list : List FluentError) → AddsFront [] list list
-adds_none list = record { front = []; rest = []; whole = refl; adds = record { added = sym (append-nil _) } }
+pub adds_none : (list : List FluentError) → AddsPrefix [] list list
+adds_none list = record { prefix = []; rest = []; whole = refl; adds = record { added = sym (append-nil _) } }
 
 -- where there is none, a text is answered and nothing is added
 pub gives_alone : {E : Type 0} (text : CowStr Global) (list : List FluentError) → GivesText {E = E} (cow_str_bytes text) [] (Ok text) list list
@@ -86,9 +86,9 @@ pub puts_alone : {T E : Type 0} (r : Result T E) (piece text : Text) (held held'
 puts_alone (Ok x) piece text held held' list same took = record { taken = subst (Appends held held') same took; adds = record { added = sym (append-nil _) } }
 puts_alone (Err e) piece text held held' list same took = tt
 
-pub front_alone : {T E : Type 0} (r : Result T E) (piece text : Text) (held held' : Option Text) (list : List FluentError) → piece ≡ text → OnOk r (Appends held held' piece) → OnErr r (TookFront held held' piece) → WritesFront text [] held held' list list
-front_alone (Ok x) piece text held held' list same took left = record { front = text; rest = []; whole = append-nil text; taken = subst (Appends held held') same took; adds = record { front = []; rest = []; whole = refl; adds = record { added = sym (append-nil _) } } }
-front_alone (Err e) piece text held held' list same took left = record { front = left.0; rest = left.1; whole = sym left.2 ∙ same; taken = left.3; adds = record { front = []; rest = []; whole = refl; adds = record { added = sym (append-nil _) } } }
+pub prefix_alone : {T E : Type 0} (r : Result T E) (piece text : Text) (held held' : Option Text) (list : List FluentError) → piece ≡ text → OnOk r (Appends held held' piece) → OnErr r (TookPrefix held held' piece) → WritesPrefix text [] held held' list list
+prefix_alone (Ok x) piece text held held' list same took left = record { prefix = text; rest = []; whole = append-nil text; taken = subst (Appends held held') same took; adds = record { prefix = []; rest = []; whole = refl; adds = record { added = sym (append-nil _) } } }
+prefix_alone (Err e) piece text held held' list same took left = record { prefix = left.0; rest = left.1; whole = sym left.2 ∙ same; taken = left.3; adds = record { prefix = []; rest = []; whole = refl; adds = record { added = sym (append-nil _) } } }
 
 -- a text that is answered in memory of its own
 pub owned : {D : Type 0} (all : Text) (errors : List Error) (text : CowStr Global) (r : Result (String Global) AllocError) (list list' : List FluentError) → GivesText {E = D} all errors (Ok text) list list' → IfOk r (λ s. string_bytes s ≡ cow_str_bytes text) → GivesOwned all errors r list list'
@@ -135,8 +135,8 @@ module _ {B : Type 0} (test : B → Bool) (bs : List B) (i : ℕ) (b : B) (at : 
   pub place_here : test b ≡ true → Some i ≡ place
   place_here there = sym (ap (λ t. cond t (Some i) (position_from test (i + 1) (drop (suc i) bs))) there) ∙ here
 
-  pub place_behind : test b ≡ false → position_from test (i + 1) (drop (i + 1) bs) ≡ place
-  place_behind gone =
+  pub place_after : test b ≡ false → position_from test (i + 1) (drop (i + 1) bs) ≡ place
+  place_after gone =
       ap (λ n. position_from test (i + 1) (drop n bs)) (add-one i)
       ∙ sym (ap (λ t. cond t (Some i) (position_from test (i + 1) (drop (suc i) bs))) gone) ∙ here
 

@@ -5,7 +5,7 @@ use Rattle.std.specs.declared.alloc.AllocError.{AllocError}
 use Rattle.std.specs.declared.borrow.CowStr.{CowStr}
 use Rattle.std.specs.declared.vec.Vec.{Vec}
 use Rattle.std.proofs.Common.{Global}
-use Rattle.fluent_text.specs.Unescaped.{Lends}
+use Rattle.fluent_text.specs.Unescaped.{Borrows}
 use Rattle.fluent_text.specs.Writer.{writer_in}
 use Rattle.fluent_text.specs.declared.counting.Counting.{Counting}
 use Rattle.fluent_text.specs.declared.counting.WriteFault.{WriteFault}
@@ -20,7 +20,7 @@ use Rattle.fluent_values.specs.Texts.{sole_text, IsTextAlone}
 use Rattle.fluent_values.specs.declared.args.FluentArgs.{FluentArgs}
 use Rattle.fluent_entries.specs.declared.errors.FluentError.{FluentError}
 use Rattle.fluent_bundle.specs.BundleView.{formatter_in, transform_in}
-use Rattle.fluent_bundle.specs.Formatted.{AddsAll, AddsFront, GivesText, WritesAll, WritesFront}
+use Rattle.fluent_bundle.specs.Formatted.{AddsAll, AddsPrefix, GivesText, WritesAll, WritesPrefix}
 use Rattle.fluent_bundle.specs.declared.bundle.FluentBundle.{FluentBundle}
 use Rattle.fluent_chain.specs.Chain.{shown_of, substituted_of, written_of, written_by_substitution, IsWithin}
 use Rattle.fluent_chain.specs.ChainView.{bundle_with, meant_with}
@@ -39,15 +39,15 @@ pub record GivesFound (id : Text) (args : Map (Value Text)) (found : Option (Bun
   -- with the budget, in every case
   pub whole : GivesText (shown_of id args found).text (shown_of id args found).errors result errors.items errors'.items
   -- whatever is answered
-  pub front : AddsFront (shown_of id args found).errors errors.items errors'.items
+  pub prefix : AddsPrefix (shown_of id args found).errors errors.items errors'.items
 
--- What is lent: the id, or a pattern that is one text, of a bundle without transform and formatter.
-abbrev pub LendsFound : {M C F G X : Type 0} → Text
+-- What is borrowed: the id, or a pattern that is one text, of a bundle without transform and formatter.
+abbrev pub BorrowsFound : {M C F G X : Type 0} → Text
     → Option (FluentBundle M C F G X × Pattern) → Result (CowStr Global) AllocError → Type 0
-LendsFound id None result = Lends result id
-LendsFound id (Some found) result =
+BorrowsFound id None result = Borrows result id
+BorrowsFound id (Some found) result =
     (t : Text) → sole_text found.1 ≡ Some t
-    → transform_in found.0 ≡ None → formatter_in found.0 ≡ None → Lends result t
+    → transform_in found.0 ≡ None → formatter_in found.0 ≡ None → Borrows result t
 
 -- ---- the same in memory of its own
 
@@ -59,7 +59,7 @@ pub record GivesOwned (all : Text) (errors : List Error) (result : Result (Strin
 pub record OwnsFound (id : Text) (args : Map (Value Text)) (found : Option (Bundle Text × Pattern)) (result : Result (String Global) AllocError) (errors errors' : Errors) : Type 0 where
   pub within : IsWithin args found → GivesOwned (substituted_of id args found).text (substituted_of id args found).errors result errors.items errors'.items
   pub whole : GivesOwned (shown_of id args found).text (shown_of id args found).errors result errors.items errors'.items
-  pub front : AddsFront (shown_of id args found).errors errors.items errors'.items
+  pub prefix : AddsPrefix (shown_of id args found).errors errors.items errors'.items
 
 -- ---- what is written
 
@@ -69,7 +69,7 @@ pub record WritesFound (id : Text) (args : Map (Value Text)) (found : Option (Bu
   -- with the budget, in every case
   pub whole : OnOk result (WritesAll (written_of id args found).text (written_of id args found).errors held held' errors.items errors'.items)
   -- whatever is answered
-  pub front : WritesFront (written_of id args found).text (written_of id args found).errors held held' errors.items errors'.items
+  pub prefix : WritesPrefix (written_of id args found).text (written_of id args found).errors held held' errors.items errors'.items
 
 -- What takes no memory: the id, or texts alone, of a bundle without transform.
 abbrev pub NeedsNoMemory : {M C F G X : Type 0} → Option (FluentBundle M C F G X × Pattern) → Type 0
@@ -97,7 +97,7 @@ module _ {M C F G X : Type 0} (of : FluentBundle M C F G X → Bundle Text) wher
   writes content W chain id name args result contents w w' = WritesFound id (arguments_view content args) (meant_with of chain id name) result (contents (writer_in w)) (contents (writer_in w'))
 
   abbrev pub lends : Chain M C F G X → Text → Option (Bor Text) → Result (CowStr Global) AllocError → Type 0
-  lends chain id name result = LendsFound id (bundle_with of chain id name) result
+  lends chain id name result = BorrowsFound id (bundle_with of chain id name) result
 
   -- success is owed, as far as memory goes
   abbrev pub owes : Chain M C F G X → Text → Option (Bor Text) → Result (Unit {0}) WriteFault → Type 0

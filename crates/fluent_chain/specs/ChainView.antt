@@ -12,7 +12,7 @@ use Rattle.fluent_chain.specs.declared.chain.Bundles.TheVariants as by
 use Rattle.fluent_chain.specs.declared.chain.Chain.{Chain}
 use Rattle.fluent_chain.specs.declared.chain.Link.{Link}
 
--- the bundles that are lent
+-- the bundles that are borrowed
 abbrev pub linked : {M C F G X : Type 0} → List (Link M C F G X) → List (FluentBundle M C F G X)
 linked links = map (λ link. link.0.now) links
 

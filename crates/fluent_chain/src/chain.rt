@@ -15,7 +15,7 @@ use std::alloc::{AllocError, Global};
 use std::borrow::CowStr;
 use std::io::Write;
 
-/// A bundle of a chain, which is lent.
+/// A bundle of a chain, which is borrowed.
 #[derive(Clone, Copy, Drop)]
 pub struct Link<'b, 'r, 's, M, C, F, G, T = Box<dyn Transform>>(
     pub &'b FluentBundle<'r, 's, M, C, F, G, T>,
@@ -101,11 +101,11 @@ impl<
 
     /// The value of the message in the first bundle where it has one, as [`FluentBundle::format_pattern`] gives it
     /// there; what went wrong in it is added at the end of the list of errors. Where no bundle has a value for it,
-    /// the id is lent as the text, and nothing is added. This, and a value that is lent, take no memory.
+    /// the id is borrowed as the text, and nothing is added. This, and a value that is borrowed, take no memory.
     ///
     /// # Errors
     ///
-    /// Memory was refused: what was added begins the errors.
+    /// An allocation failed: what was added begins the errors.
     pub fn format_value<'t>(
         &self,
         id: &'t str,
@@ -116,17 +116,17 @@ impl<
         's: 't,
         ensures text { ⟦<Self as Says>⟧.gives self.now id.now None args.entry result
             errors.old errors.new }
-        ensures lent { ⟦<Self as Says>⟧.lends self.now id.now None result }
+        ensures borrowed { ⟦<Self as Says>⟧.lends self.now id.now None result }
     {
         self.format(id, None, args, errors)
     }
 
     /// The first attribute of the name in the first bundle where the message has one, by the rule of
-    /// [`Chain::format_value`]: where no bundle has it, the id is lent as the text, and nothing is added.
+    /// [`Chain::format_value`]: where no bundle has it, the id is borrowed as the text, and nothing is added.
     ///
     /// # Errors
     ///
-    /// Memory was refused: what was added begins the errors.
+    /// An allocation failed: what was added begins the errors.
     pub fn format_attribute<'t>(
         &self,
         id: &'t str,
@@ -138,16 +138,16 @@ impl<
         's: 't,
         ensures text { ⟦<Self as Says>⟧.gives self.now id.now (Some name.entry) args.entry result
             errors.old errors.new }
-        ensures lent { ⟦<Self as Says>⟧.lends self.now id.now (Some name.entry) result }
+        ensures borrowed { ⟦<Self as Says>⟧.lends self.now id.now (Some name.entry) result }
     {
         self.format(id, Some(name), args, errors)
     }
 
-    /// The text that [`Chain::format_value`] gives, in memory of its own, so that it is lent from nothing.
+    /// The text that [`Chain::format_value`] gives, in memory of its own, so that it is borrowed from nothing.
     ///
     /// # Errors
     ///
-    /// Memory was refused: what was added begins the errors.
+    /// An allocation failed: what was added begins the errors.
     pub fn format_value_owned(
         &self,
         alloc: Global,
@@ -168,7 +168,7 @@ impl<
     ///
     /// # Errors
     ///
-    /// Memory was refused: what was added begins the errors.
+    /// An allocation failed: what was added begins the errors.
     pub fn format_attribute_owned(
         &self,
         alloc: Global,
@@ -242,7 +242,7 @@ impl<
         's: 't,
         ensures text { ⟦<Self as Says>⟧.gives self.now id.now attribute.entry args.entry result
             errors.old errors.new }
-        ensures lent { ⟦<Self as Says>⟧.lends self.now id.now attribute.entry result }
+        ensures borrowed { ⟦<Self as Says>⟧.lends self.now id.now attribute.entry result }
     {
         for place in 0..self.len() {
             if let Some(bundle) = self.bundle_at(place) {
@@ -322,7 +322,7 @@ impl<
     ) -> Result<Option<CowStr<'s>>, AllocError>
         ensures text { ⟦<Self as Says>⟧.gives_in bundle.now id.now attribute.entry args.entry result
             errors.old errors.new }
-        ensures lent { ⟦<Self as Says>⟧.lends_in bundle.now id.now attribute.entry result }
+        ensures borrowed { ⟦<Self as Says>⟧.borrows_in bundle.now id.now attribute.entry result }
     {
         match attribute {
             None => bundle.format_value(id, args, errors),

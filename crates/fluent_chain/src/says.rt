@@ -1,7 +1,7 @@
 //! What the calls of a chain say, by what the types of its parts state. Contracts alone name it.
 ghost use Rattle.std.specs.Prelude.{ℕ, Bool, Option, Result, String};
 ghost use Rattle.std.specs.Borrow.{Bor};
-ghost use Rattle.std.specs.declared.alloc.AllocError.{AllocError as Refused};
+ghost use Rattle.std.specs.declared.alloc.AllocError.{AllocError as AllocFailed};
 ghost use Rattle.std.specs.declared.borrow.CowStr.{CowStr};
 ghost use Rattle.std.proofs.Common.{Global};
 ghost use Rattle.fluent_text.specs.declared.counting.WriteFault.{WriteFault};
@@ -25,10 +25,10 @@ pub(crate) trait Says {
     /// What a bundle has.
     ghost pattern: { Text → Option (Bor Text) → Self.One → Option Pattern };
 
-    /// What is given, lent, written and owed of it there, where it is there.
+    /// What is given, borrowed, written and owed of it there, where it is there.
     ghost gives_in: { GivingIn Self.One Self.Own };
 
-    ghost lends_in: { Self.One → Text → Option (Bor Text) → Result (Option (CowStr Global)) Refused → Type 0 };
+    ghost borrows_in: { Self.One → Text → Option (Bor Text) → Result (Option (CowStr Global)) AllocFailed → Type 0 };
 
     ghost writes_in: { (W : Type 0) → WritingIn Self.One Self.Own W };
 
@@ -46,8 +46,8 @@ pub(crate) trait Says {
     /// In memory of its own.
     ghost owns: { Giving Self Self.Own (String Global) };
 
-    /// Lent, where it is one text.
-    ghost lends: { Self → Text → Option (Bor Text) → Result (CowStr Global) Refused → Type 0 };
+    /// Borrowed, where it is one text.
+    ghost lends: { Self → Text → Option (Bor Text) → Result (CowStr Global) AllocFailed → Type 0 };
 
     /// Its text is written.
     ghost writes: { (W : Type 0) → Writing Self Self.Own W };
@@ -82,7 +82,7 @@ impl<
     ghost gives_in = { found.gives_in
         (meant M.category C.shown C.alike F.answer G.formatted T.changed) C.content };
 
-    ghost lends_in = { found.lends_in
+    ghost borrows_in = { found.borrows_in
         (meant M.category C.shown C.alike F.answer G.formatted T.changed) };
 
     ghost writes_in = { found.writes_in

@@ -14,7 +14,7 @@ pub enum Status {
     Found,
     /// The words are not of the form that the program takes.
     Usage,
-    /// A file can't be read, or memory was refused.
+    /// A file can't be read, or an allocation failed.
     Fault,
 }
 
@@ -56,7 +56,7 @@ impl Answer {
     ///
     /// # Errors
     ///
-    /// Memory was refused.
+    /// An allocation failed.
     pub fn unreadable(
         alloc: Global,
         name: &str,

@@ -148,7 +148,7 @@ fn status_of(findings: &[Finding<'_>]) -> Status
     }
 }
 
-/// Writes a line for each finding, and behind these a line with their counts.
+/// Writes a line for each finding, and after these a line with their counts.
 fn put_report(
     alloc: Global,
     texts: &[Source<'_>],
@@ -164,7 +164,7 @@ fn put_report(
     put_counts(counts, output)
 }
 
-/// Checks sources, each finding on a line, and behind these a line with their counts.
+/// Checks sources, each finding on a line, and after these a line with their counts.
 pub(crate) fn check<'s>(
     alloc: Global,
     request: &CheckRequest<'_>,

@@ -58,7 +58,7 @@ fn is_of_another(linted: &Linted<'_>) -> bool {
     }
 }
 
-/// Where a place stands, or else the front of the first source.
+/// Where a place stands, or else the prefix of the first source.
 fn found<'s>(places: &Places<'s>, place: &Place<'s>, kind: Kind<'s>) -> Finding<'s> {
     match places.get(place) {
         Some(spot) => Finding {

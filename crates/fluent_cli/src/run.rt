@@ -45,7 +45,7 @@ fn own_files(request: &Request<'_>, files: usize) -> usize
 ///
 /// # Errors
 ///
-/// Memory was refused.
+/// An allocation failed.
 pub fn run<'f>(
     alloc: Global,
     request: &Request<'_>,

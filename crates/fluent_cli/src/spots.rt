@@ -40,14 +40,14 @@ fn names(line: &str, mark: &str, name: &str) -> bool {
     }
 }
 
-/// The line without the blanks at its front.
+/// The line without the blanks at its prefix.
 fn unindented(line: &str) -> &str {
     line.trim_start_matches(' ')
 }
 
 impl<'s> Lines<'s> {
     /// Passes over the lines up to the next that begins so, and over that: where its mark and name stand. No line of a
-    /// pattern begins so, as no text begins with a dot or stands at the front of a line.
+    /// pattern begins so, as no text begins with a dot or stands at the start of a line.
     fn find(&mut self, mark: &str, name: &str) -> LineColumn {
         let mut found = self.next;
         if let Some(rest) = self.source.get(self.next..) {

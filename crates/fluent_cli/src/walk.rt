@@ -1,4 +1,4 @@
-//! Lines and columns of a source's bytes, from the front on.
+//! Lines and columns of a source's bytes, from the start on.
 use fluent_lint::LineColumn;
 
 /// A byte of a source with its line and column.
@@ -10,7 +10,7 @@ pub(crate) struct Walk<'s> {
 }
 
 /// The line and the column of what follows this byte.
-fn behind(byte: u8, at: LineColumn) -> LineColumn {
+fn after(byte: u8, at: LineColumn) -> LineColumn {
     if byte == b'\n' {
         LineColumn {
             line: at.line.saturating_add(1),
@@ -27,7 +27,7 @@ fn behind(byte: u8, at: LineColumn) -> LineColumn {
 }
 
 impl<'s> Walk<'s> {
-    /// The front of a source.
+    /// The prefix of a source.
     pub(crate) fn new(source: &'s str) -> Walk<'s> {
         Walk {
             bytes: source.as_bytes(),
@@ -36,11 +36,11 @@ impl<'s> Walk<'s> {
         }
     }
 
-    /// Goes on to a byte, or stays where that is behind: the line and column there.
+    /// Goes on to a byte, or stays where that is after: the line and column there.
     pub(crate) fn to(&mut self, offset: usize) -> LineColumn {
         if let Some(passed) = self.bytes.get(self.offset..offset) {
             for byte in passed {
-                self.at = behind(*byte, self.at);
+                self.at = after(*byte, self.at);
             }
             self.offset = offset;
         }

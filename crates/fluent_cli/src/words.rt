@@ -26,7 +26,7 @@ pub struct CheckRequest<'w> {
 pub struct ShowRequest<'w> {
     pub language: &'w str,
     pub is_strict: bool,
-    /// The file, and behind it its fallbacks.
+    /// The file, and after it its fallbacks.
     pub files: Vec<&'w str>,
     pub id: &'w str,
     pub attribute: Option<&'w str>,
@@ -60,7 +60,7 @@ impl<'w> Request<'w> {
     ///
     /// # Errors
     ///
-    /// Memory was refused.
+    /// An allocation failed.
     pub fn file_names(&self, alloc: Global) -> Result<Vec<&'w str>, AllocError> {
         let mut names = Vec::new(alloc);
         match self {
@@ -279,11 +279,11 @@ fn asked_to_show<'w>(alloc: Global, matches: &ArgMatches<'w>) -> Result<Asked<'w
     })))
 }
 
-/// What these words ask for, of which the first is the one behind the program's name.
+/// What these words ask for, of which the first is the one after the program's name.
 ///
 /// # Errors
 ///
-/// Memory was refused.
+/// An allocation failed.
 pub fn ask<'w>(alloc: Global, words: &'w [String]) -> Result<Asked<'w>, AllocError> {
     let matches = match command(alloc)?.try_get_matches_from(words) {
         Ok(matches) => matches,

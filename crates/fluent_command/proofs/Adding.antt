@@ -8,8 +8,8 @@ use Rattle.fluent_meaning.specs.Errors.{Error}
 use Rattle.fluent_resolver.specs.Status.{reported}
 use Rattle.fluent_values.specs.View.{error_view}
 use Rattle.fluent_entries.specs.declared.errors.FluentError.{FluentError}
-use Rattle.fluent_bundle.specs.Formatted.{AddsAll, AddsFront}
-use Rattle.fluent_command.specs.Inside.Far.{Added}
+use Rattle.fluent_bundle.specs.Formatted.{AddsAll, AddsPrefix}
+use Rattle.fluent_command.specs.Inside.OutputProgress.{Added}
 
 pub always : {T E P : Type 0} (r : Result T E) → P → OnOk r P
 always (Ok x) p = p
@@ -25,7 +25,7 @@ ok_alike P (Ok x) (Ok y) same p = p
 ok_alike P (Err e) (Ok y) same p = cc
 ok_alike P r (Err e) same p = tt
 
--- errors behind all of others
+-- errors after all of others
 pub adds_then : (xs ys : List Error) (old mid new : List FluentError) → AddsAll xs old mid → AddsAll ys mid new → AddsAll (xs ++ ys) old new
 adds_then xs ys old mid new first second = record { added = second.added ∙ ap (λ w. w ++ ys) first.added ∙ append_assoc (reported old) xs ys }
 
@@ -33,7 +33,7 @@ adds_then xs ys old mid new first second = record { added = second.added ∙ ap 
 pub added_by : {T E : Type 0} (r : Result T E) (errors : List Error) (old new : List FluentError) → reported new ≡ reported old ++ errors → Added r errors old new
 added_by r errors old new h =
     let all : AddsAll errors old new = record { added = h } in
-    record { all = always r all; front = record { front = errors; rest = []; whole = append-nil errors; adds = all } }
+    record { all = always r all; prefix = record { prefix = errors; rest = []; whole = append-nil errors; adds = all } }
 
 -- all at once
 pub added_all : {T E : Type 0} (r : Result T E) (errors : List Error) (old found : List FluentError) → map error_view found ≡ errors → Added r errors old (old ++ found)
@@ -44,7 +44,7 @@ pub added_nothing : {T E : Type 0} (r : Result T E) (errors : List Error) (old n
 added_nothing (Ok x) errors old new faulted same = cc
 added_nothing (Err e) errors old new faulted same = record {
   all = tt;
-  front = record { front = []; rest = errors; whole = refl; adds = record { added = ap reported same ∙ sym (append-nil (reported old)) } };
+  prefix = record { prefix = []; rest = errors; whole = refl; adds = record { added = ap reported same ∙ sym (append-nil (reported old)) } };
 }
 
 module _ {X : Type 0} (f : X → Error) where
@@ -64,8 +64,8 @@ module _ {X : Type 0} (f : X → Error) where
   pub first_added : {T E : Type 0} (e : E) (xs : List X) (i : ℕ) (old new : List FluentError) → reported new ≡ reported old ++ map f (take i xs) → Added {T = T} (Err e) (map f xs) old new
   first_added e xs i old new so_far = record {
     all = tt;
-    front = record {
-      front = map f (take i xs);
+    prefix = record {
+      prefix = map f (take i xs);
       rest = map f (drop i xs);
       whole = sym (map-append f (take i xs) (drop i xs)) ∙ ap (map f) (take-append-drop i xs);
       adds = record { added = so_far };
@@ -77,7 +77,7 @@ pub recast : {T E T' E' : Type 0} (r : Result T E) (r' : Result T' E') (errors e
     → Added r errors old new → Added r' errors' old new
 recast r r' errors errors' old new same e h = record {
   all = subst (λ es. OnOk r' (AddsAll es old new)) e (ok_alike (AddsAll errors old new) r r' same h.all);
-  front = subst (λ es. AddsFront es old new) e h.front;
+  prefix = subst (λ es. AddsPrefix es old new) e h.prefix;
 }
 
 -- a call that was Ok added all of its own
@@ -91,11 +91,11 @@ added_then r r' x xs ys old mid new was first second =
     let all : AddsAll xs old mid = whole_added r x xs old mid was first in
     record {
       all = on_ok_weaker r' (adds_then xs ys old mid new all) second.all;
-      front = record {
-        front = xs ++ second.front.front;
-        rest = second.front.rest;
-        whole = append_assoc xs second.front.front second.front.rest ∙ ap (λ w. xs ++ w) second.front.whole;
-        adds = adds_then xs second.front.front old mid new all second.front.adds;
+      prefix = record {
+        prefix = xs ++ second.prefix.prefix;
+        rest = second.prefix.rest;
+        whole = append_assoc xs second.prefix.prefix second.prefix.rest ∙ ap (λ w. xs ++ w) second.prefix.whole;
+        adds = adds_then xs second.prefix.prefix old mid new all second.prefix.adds;
       };
     }
 
@@ -105,15 +105,15 @@ pub added_short : {T E T' E' : Type 0} (r : Result T E) (r' : Result T' E') (xs 
 added_short r (Ok x) xs ys old new faulted h = cc
 added_short r (Err e) xs ys old new faulted h = record {
   all = tt;
-  front = record {
-    front = h.front.front;
-    rest = h.front.rest ++ ys;
-    whole = sym (append_assoc h.front.front h.front.rest ys) ∙ ap (λ w. w ++ ys) h.front.whole;
-    adds = h.front.adds;
+  prefix = record {
+    prefix = h.prefix.prefix;
+    rest = h.prefix.rest ++ ys;
+    whole = sym (append_assoc h.prefix.prefix h.prefix.rest ys) ∙ ap (λ w. w ++ ys) h.prefix.whole;
+    adds = h.prefix.adds;
   };
 }
 
 -- what a call added that was Ok, whatever is answered later
 pub added_kept : {T E T' E' : Type 0} (r : Result T E) (r' : Result T' E') (x : T) (errors : List Error) (old new : List FluentError) → r ≡ Ok x
     → Added r errors old new → Added r' errors old new
-added_kept r r' x errors old new was h = record { all = always r' (whole_added r x errors old new was h); front = h.front }
+added_kept r r' x errors old new was h = record { all = always r' (whole_added r x errors old new was h); prefix = h.prefix }

@@ -2,7 +2,7 @@
 use Rattle.std.proofs.Common.{◌≡◌, ◌≢◌, ◌∙◌, sym, ap, subst, refl, ℕ, List, inl, inr, Option, Result, Ok, Err}
 use Rattle.std.specs.Io.KnownBytes.{Appends}
 use Rattle.fluent_tree.specs.Tree.{Text}
-use Rattle.fluent_text.specs.Taken.{Faulted, TookFront}
+use Rattle.fluent_text.specs.Taken.{Faulted, TookPrefix}
 use Rattle.fluent_text.specs.declared.counting.WriteFault.{WriteFault}
 use Rattle.fluent_text.specs.declared.counting.WriteFault.TheVariants.{Memory, Writer, Zero}
 use Rattle.fluent_meaning.specs.Errors.{Error}
@@ -12,11 +12,11 @@ use Rattle.fluent_command.specs.Input.{Inlet, ReadFor}
 use Rattle.fluent_command.specs.Outlet.{Outlet, Precedes, Rose, TakesAll}
 use Rattle.fluent_command.specs.Program.{Run, First}
 use Rattle.fluent_command.specs.Inside.Said.{Says, BeganToSay, TookErrors}
-use Rattle.fluent_command.proofs.Taking.{front_short, front_then}
+use Rattle.fluent_command.proofs.Taking.{prefix_short, prefix_then}
 
 -- a writer that faulted took a beginning of the lines
 pub took_fault : (r : Result (Unit {0}) WriteFault) (fault : WriteFault) (errors : List Error) (old new : Option Text) → r ≡ Err fault → ¬ (fault ≡ Memory)
-    → TookFront old new (error_lines errors) → TookErrors r errors old new
+    → TookPrefix old new (error_lines errors) → TookErrors r errors old new
 took_fault r Memory errors old new is not h = absurd (not refl)
 took_fault r (Writer e) errors old new is not h = rw is h
 took_fault r Zero errors old new is not h = rw is h
@@ -25,17 +25,17 @@ took_fault r Zero errors old new is not h = rw is h
 pub began_errors : (fault : WriteFault) (errors : List Error) (ending : Ending) (old new : Option Text) → ¬ (fault ≡ Memory)
     → TookErrors (Err fault) errors old new → BeganToSay errors ending old new
 began_errors Memory errors ending old new not h = absurd (not refl)
-began_errors (Writer e) errors ending old new not h = inl (front_short old new (error_lines errors) (ending_line ending) h)
-began_errors Zero errors ending old new not h = inl (front_short old new (error_lines errors) (ending_line ending) h)
+began_errors (Writer e) errors ending old new not h = inl (prefix_short old new (error_lines errors) (ending_line ending) h)
+began_errors Zero errors ending old new not h = inl (prefix_short old new (error_lines errors) (ending_line ending) h)
 
--- in the ending's line, behind those of all errors
-pub began_all : (errors : List Error) (ending : Ending) (old mid new : Option Text) → Appends old mid (error_lines errors) → TookFront mid new (ending_line ending) → BeganToSay errors ending old new
-began_all errors ending old mid new lines h = inl (front_then old mid new (error_lines errors) (ending_line ending) lines h)
+-- in the ending's line, after those of all errors
+pub began_all : (errors : List Error) (ending : Ending) (old mid new : Option Text) → Appends old mid (error_lines errors) → TookPrefix mid new (ending_line ending) → BeganToSay errors ending old new
+began_all errors ending old mid new lines h = inl (prefix_then old mid new (error_lines errors) (ending_line ending) lines h)
 
--- in the line that says that memory was refused, behind those of the first errors
-pub began_some : (errors : List Error) (ending : Ending) (old mid new : Option Text) → (front : List Error) × Precedes front errors × Appends old mid (error_lines front)
-    → TookFront mid new (ending_line out_of_memory) → BeganToSay errors ending old new
-began_some errors ending old mid new lines h = inr (lines.0, lines.1, front_then old mid new (error_lines lines.0) (ending_line out_of_memory) lines.2 h)
+-- in the line that says that an allocation failed, after those of the first errors
+pub began_some : (errors : List Error) (ending : Ending) (old mid new : Option Text) → (prefix : List Error) × Precedes prefix errors × Appends old mid (error_lines prefix)
+    → TookPrefix mid new (ending_line out_of_memory) → BeganToSay errors ending old new
+began_some errors ending old mid new lines h = inr (lines.0, lines.1, prefix_then old mid new (error_lines lines.0) (ending_line out_of_memory) lines.2 h)
 
 -- ---- the report of a run
 
@@ -68,9 +68,9 @@ reports_begun r errors ending Zero err err' was not began fault =
 pub stopped : (run : Run) (first : First) (errors : List Error) (input input' : Inlet) (out out' err err' : Outlet) (result : ℕ) → exit_status run.ending ≢ 3
     → RanTo run first errors input input' out out' err err' result → result ≡ 3 → IsStopped input input' out out' err err'
 stopped run first errors input input' out out' err err' result never ran three = elim ran.reports [
-  | short is front precedes takes ↦ refused front takes
+  | short is prefix precedes takes ↦ refused prefix takes
   | whole_begun is faults ↦ unsaid faults.rose
-  | short_begun is front precedes faults ↦ unsaid faults.rose
+  | short_begun is prefix precedes faults ↦ unsaid faults.rose
   | whole is takes ↦
       let says : (e : Ending) → ran.ending ≡ e → TakesAll (said errors e) err err' = λ e same. subst (λ w. TakesAll (said errors w) err err') same takes in
       elim ran.ends [

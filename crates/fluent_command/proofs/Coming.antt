@@ -14,7 +14,7 @@ use Rattle.fluent_text.specs.declared.counting.WriteFault.TheVariants.{Memory, W
 use Rattle.fluent_meaning.specs.Errors.{Error}
 use Rattle.fluent_resolver.specs.Status.{reported}
 use Rattle.fluent_entries.specs.declared.errors.FluentError.{FluentError}
-use Rattle.fluent_bundle.specs.Formatted.{AddsAll, AddsFront}
+use Rattle.fluent_bundle.specs.Formatted.{AddsAll, AddsPrefix}
 use Rattle.fluent_meaning.specs.Laws.{Begins}
 use Rattle.fluent_meaning.specs.Value.{Plurals}
 use Rattle.fluent_intl.specs.declared.rule_texts.fault.RuleFault.{RuleFault}
@@ -26,7 +26,7 @@ use Rattle.fluent_command.specs.Ending.{Ending, exit_status, shown, bad_usage, b
 use Rattle.fluent_command.specs.EndingView.{ending_of, ending_of_rules}
 use Rattle.fluent_command.specs.Input.{Inlet, ReadFor}
 use Rattle.fluent_command.specs.Program.{Run, First, only, bundle_of, run_value, run_sources, run_source, run_input, run_by, run_asked, run_of, first_of_source, first_by, first_asked}
-use Rattle.fluent_command.specs.Inside.Far.{Added, Stops, before, behind, Took, TookPart}
+use Rattle.fluent_command.specs.Inside.OutputProgress.{Added, Stops, before, after, Took, TookPart}
 use Rattle.fluent_command.specs.Outlet.{Outlet, TakesAll}
 use Rattle.fluent_command.specs.Outcome.{AreLeft, EndsRun, as_defined, by_reading, by_writing, by_memory, by_memory_read, by_memory_shown}
 use Rattle.fluent_command.specs.declared.input.InputState.{InputState}
@@ -40,8 +40,8 @@ takes_none w = record { taken = Appends-nil w.held; failed = refl; empty = refl 
 added_to_none : (old new : List FluentError) (errors : List Error) → old ≡ [] → AddsAll errors old new → reported new ≡ errors
 added_to_none old new errors none adds = adds.added ∙ ap (λ es. reported es ++ errors) none
 
-began_at_none : (old new : List FluentError) (errors : List Error) → old ≡ [] → AddsFront errors old new → Begins (reported new) errors
-began_at_none old new errors none adds = (adds.rest, sym adds.whole ∙ ap (λ w. w ++ adds.rest) (sym (added_to_none old new adds.front none adds.adds)))
+began_at_none : (old new : List FluentError) (errors : List Error) → old ≡ [] → AddsPrefix errors old new → Begins (reported new) errors
+began_at_none old new errors none adds = (adds.rest, sym adds.whole ∙ ap (λ w. w ++ adds.rest) (sym (added_to_none old new adds.prefix none adds.adds)))
 
 -- ---- of a text that was read to its end
 
@@ -55,30 +55,30 @@ module _ {T : Type 0} (run : Run) (first : First) (out out' : Outlet) (old new :
       let stood = subst (λ w. Faulted out.failed out.empty out'.failed out'.empty w) was fault in
       as_defined ends (added_to_none old new run.errors none errors) (record { taken = text; failed = stood.0; empty = stood.1 })
 
-  -- a call that was stopped with the first errors behind it
-  ends_behind : (r : Result T WriteFault) (fault : WriteFault) (ending : Ending) → r ≡ Err fault → ending ≡ ending_of fault → Took r run.output out.held out'.held → Begins (reported new) run.errors
+  -- a call that was stopped with the first errors after it
+  ends_after : (r : Result T WriteFault) (fault : WriteFault) (ending : Ending) → r ≡ Err fault → ending ≡ ending_of fault → Took r run.output out.held out'.held → Begins (reported new) run.errors
       → run.ending ≡ shown → Begins first.errors (reported new) → (fault ≡ Memory → (first.whole ≡ false) × TookPart run.output out.held out'.held)
       → Faulted out.failed out.empty out'.failed out'.empty r → EndsRun run first AtEnd out out' ending (reported new)
-  ends_behind r Memory ending was ends took begun is firsts part fault =
+  ends_after r Memory ending was ends took begun is firsts part fault =
       let stood = subst (λ w. Faulted out.failed out.empty out'.failed out'.empty w) was fault in
       let some = part refl in
       by_memory_shown ends refl is some.0 firsts begun (some.1.0, some.1.1, record { taken = some.1.2; failed = stood.0; empty = stood.1 })
-  ends_behind r (Writer e) ending was ends took begun is firsts part fault =
-      by_writing ends is firsts begun (record { taken = took.front; rose = inl (subst (λ w. Faulted out.failed out.empty out'.failed out'.empty w) was fault) })
-  ends_behind r Zero ending was ends took begun is firsts part fault =
-      by_writing ends is firsts begun (record { taken = took.front; rose = inr (subst (λ w. Faulted out.failed out.empty out'.failed out'.empty w) was fault) })
+  ends_after r (Writer e) ending was ends took begun is firsts part fault =
+      by_writing ends is firsts begun (record { taken = took.prefix; rose = inl (subst (λ w. Faulted out.failed out.empty out'.failed out'.empty w) was fault) })
+  ends_after r Zero ending was ends took begun is firsts part fault =
+      by_writing ends is firsts begun (record { taken = took.prefix; rose = inr (subst (λ w. Faulted out.failed out.empty out'.failed out'.empty w) was fault) })
 
   -- a call that was stopped
   pub ends_fault : (r : Result T WriteFault) (fault : WriteFault) (ending : Ending) → r ≡ Err fault → ending ≡ ending_of fault → run.ending ≢ not_utf8
       → Took r run.output out.held out'.held → Added r run.errors old new → IfErr r (Stops run first old new out out')
       → Faulted out.failed out.empty out'.failed out'.empty r → EndsRun run first AtEnd out out' ending (reported new)
   ends_fault r fault ending was ends is_text took added stops fault' =
-      let begun = began_at_none old new run.errors none added.front in
+      let begun = began_at_none old new run.errors none added.prefix in
       let stopped : Stops run first old new out out' fault = subst (λ w. IfErr w (Stops run first old new out out')) was stops in
       elim stopped [
         | before m same ↦ by_memory_read (ends ∙ ap ending_of m) refl is_text begun same
-        | behind is others adds part ↦
-            ends_behind r fault ending was ends took begun is (others, added_to_none old new (first.errors ++ others) none adds) part fault'
+        | after is others adds part ↦
+            ends_after r fault ending was ends took begun is (others, added_to_none old new (first.errors ++ others) none adds) part fault'
       ]
 
 -- ---- of no text, or none that was read
@@ -198,7 +198,7 @@ by_rules asked plurals bytes read = sym (ap (λ p. run_by asked p bytes) read)
 pub first_by_rules : (asked : Asked) (plurals : Plurals) (bytes : List ℕ) → plurals_asked asked.options ≡ Some plurals → first_of_source asked plurals bytes ≡ first_asked (Some asked) bytes
 first_by_rules asked plurals bytes read = sym (ap (λ p. first_by asked p bytes) read)
 
--- and such that were not, where memory was refused, or one is none
+-- and such that were not, where an allocation failed, or one is none
 pub ends_unruled : (asked : Asked) (fault : RuleFault) (first : First) (state : InputState) (bytes : List ℕ) (ending : Ending) (out : Outlet) (errors : List FluentError) → errors ≡ []
     → ending ≡ ending_of_rules fault → state ≡ Open → (fault ≢ rule_fault.Memory → plurals_asked asked.options ≡ None)
     → EndsRun (run_asked (Some asked) bytes) first state out out ending (reported errors)

@@ -27,12 +27,12 @@ one_more errors i e within is =
 -- the errors before the one at an index
 pub first_precede : (errors : List FluentError) (i : ℕ) (e : FluentError) → i < length errors → Precedes (reported (take i errors)) (reported errors)
 first_precede errors i e within =
-    let behind = reported (drop (suc i) errors) in
+    let after = reported (drop (suc i) errors) in
     let whole = ap reported (sym (take-append-drop (suc i) errors))
     ∙ map-append error_view (take (suc i) errors) (drop (suc i) errors)
-    ∙ ap (λ es. reported es ++ behind) (take-suc errors i e within)
-    ∙ ap (λ es. es ++ behind) (map-append error_view (take i errors) (get_or errors i e ∷ [])) in
-    (error_view (get_or errors i e), (behind, whole))
+    ∙ ap (λ es. reported es ++ after) (take-suc errors i e within)
+    ∙ ap (λ es. es ++ after) (map-append error_view (take i errors) (get_or errors i e ∷ [])) in
+    (error_view (get_or errors i e), (after, whole))
 
 -- the lines of the first errors, and those of the others
 pub lines_on : (errors : List FluentError) (i : ℕ) → error_lines (reported errors) ≡ error_lines (reported (take i errors)) ++ error_lines (reported (drop i errors))

@@ -5,50 +5,50 @@ use Rattle.std.specs.Io.KnownBytes.{Appends}
 use Rattle.std.proofs.KnownBytes.{Appends-nil, Appends-trans}
 use Rattle.std.proofs.lemmas.Result.{on_ok_weaker}
 use Rattle.fluent_tree.specs.Tree.{Text}
-use Rattle.fluent_text.specs.Taken.{Faulted, TookFront}
+use Rattle.fluent_text.specs.Taken.{Faulted, TookPrefix}
 use Rattle.fluent_text.specs.declared.counting.WriteFault.{WriteFault}
 use Rattle.fluent_text.specs.declared.counting.WriteFault.TheVariants.{Memory, Writer, Zero}
 use Rattle.fluent_meaning.specs.Errors.{Error}
-use Rattle.fluent_bundle.specs.Formatted.{WritesAll, WritesFront}
+use Rattle.fluent_bundle.specs.Formatted.{WritesAll, WritesPrefix}
 use Rattle.fluent_entries.specs.declared.errors.FluentError.{FluentError}
-use Rattle.fluent_command.specs.Inside.Far.{Added, Took}
+use Rattle.fluent_command.specs.Inside.OutputProgress.{Added, Took}
 use Rattle.fluent_command.proofs.Adding.{ok_alike}
 
 -- a beginning of a text is one of more, too
-pub front_short : (old new : Option Text) (s t : Text) → TookFront old new s → TookFront old new (s ++ t)
-front_short old new s t h = (h.0, h.1 ++ t, ap (λ w. w ++ t) h.2 ∙ append_assoc h.0 h.1 t, h.3)
+pub prefix_short : (old new : Option Text) (s t : Text) → TookPrefix old new s → TookPrefix old new (s ++ t)
+prefix_short old new s t h = (h.0, h.1 ++ t, ap (λ w. w ++ t) h.2 ∙ append_assoc h.0 h.1 t, h.3)
 
 -- and a beginning after the whole of another
-pub front_then : (old mid new : Option Text) (s t : Text) → Appends old mid s → TookFront mid new t → TookFront old new (s ++ t)
-front_then old mid new s t whole h = (s ++ h.0, h.1, ap (λ w. s ++ w) h.2 ∙ sym (append_assoc s h.0 h.1), Appends-trans old mid new s h.0 whole h.3)
+pub prefix_then : (old mid new : Option Text) (s t : Text) → Appends old mid s → TookPrefix mid new t → TookPrefix old new (s ++ t)
+prefix_then old mid new s t whole h = (s ++ h.0, h.1, ap (λ w. s ++ w) h.2 ∙ sym (append_assoc s h.0 h.1), Appends-trans old mid new s h.0 whole h.3)
 
 -- what one call of `put` takes
-pub took_put : {T E : Type 0} (r : Result T E) (piece : Text) (old new : Option Text) → OnOk r (Appends old new piece) → OnErr r (TookFront old new piece) → Took r piece old new
-took_put (Ok x) piece old new whole front = record { all = whole; front = (piece, [], sym (append-nil piece), whole) }
-took_put (Err e) piece old new whole front = record { all = tt; front = front }
+pub took_put : {T E : Type 0} (r : Result T E) (piece : Text) (old new : Option Text) → OnOk r (Appends old new piece) → OnErr r (TookPrefix old new piece) → Took r piece old new
+took_put (Ok x) piece old new whole prefix = record { all = whole; prefix = (piece, [], sym (append-nil piece), whole) }
+took_put (Err e) piece old new whole prefix = record { all = tt; prefix = prefix }
 
 -- a call that faulted before it wrote
 pub took_none : {T E : Type 0} (r : Result T E) (text : Text) (held : Option Text) → is_ok r ≡ false → Took r text held held
 took_none (Ok x) text held faulted = cc
-took_none (Err e) text held faulted = record { all = tt; front = ([], text, refl, Appends-nil held) }
+took_none (Err e) text held faulted = record { all = tt; prefix = ([], text, refl, Appends-nil held) }
 
 -- a text after the whole of another
 pub took_then : {T E T' E' : Type 0} (r : Result T E) (r' : Result T' E') (x : T) (s t : Text) (old mid new : Option Text) → r ≡ Ok x
     → Took r s old mid → Took r' t mid new → Took r' (s ++ t) old new
 took_then r r' x s t old mid new was first second =
     let whole : Appends old mid s = subst (λ w. OnOk w (Appends old mid s)) was first.all in
-    record { all = on_ok_weaker r' (Appends-trans old mid new s t whole) second.all; front = front_then old mid new s t whole second.front }
+    record { all = on_ok_weaker r' (Appends-trans old mid new s t whole) second.all; prefix = prefix_then old mid new s t whole second.prefix }
 
 -- a call that faulted took a beginning of more, too
 pub took_short : {T E T' E' : Type 0} (r : Result T E) (r' : Result T' E') (s t : Text) (old new : Option Text) → is_ok r' ≡ false → Took r s old new → Took r' (s ++ t) old new
 took_short r (Ok x) s t old new faulted h = cc
-took_short r (Err e) s t old new faulted h = record { all = tt; front = front_short old new s t h.front }
+took_short r (Err e) s t old new faulted h = record { all = tt; prefix = prefix_short old new s t h.prefix }
 
 -- The same of an answer that is Ok where this one is.
 pub took_recast : {T E T' E' : Type 0} (r : Result T E) (r' : Result T' E') (s t : Text) (old new : Option Text) → is_ok r' ≡ is_ok r → s ≡ t → Took r s old new → Took r' t old new
 took_recast r r' s t old new same e h = record {
   all = subst (λ w. OnOk r' (Appends old new w)) e (ok_alike (Appends old new s) r r' same h.all);
-  front = subst (λ w. TookFront old new w) e h.front;
+  prefix = subst (λ w. TookPrefix old new w) e h.prefix;
 }
 
 -- a fault that is handed on raised the count that it raised
@@ -61,18 +61,18 @@ faulted_on r (Err Memory) e f m f' m' was failed is h = subst (λ w. Faulted f m
 
 -- what a formatting call took
 pub took_written : {T E : Type 0} (r : Result T E) (text : Text) (errors : List Error) (held held' : Option Text) (old new : List FluentError)
-    → OnOk r (WritesAll text errors held held' old new) → WritesFront text errors held held' old new → Took r text held held'
-took_written r text errors held held' old new whole front = record {
+    → OnOk r (WritesAll text errors held held' old new) → WritesPrefix text errors held held' old new → Took r text held held'
+took_written r text errors held held' old new whole prefix = record {
   all = on_ok_weaker r (λ (w : WritesAll text errors held held' old new). w.taken) whole;
-  front = (front.front, front.rest, sym front.whole, front.taken);
+  prefix = (prefix.prefix, prefix.rest, sym prefix.whole, prefix.taken);
 }
 
 -- what it added
 pub added_written : {T E : Type 0} (r : Result T E) (text : Text) (errors : List Error) (held held' : Option Text) (old new : List FluentError)
-    → OnOk r (WritesAll text errors held held' old new) → WritesFront text errors held held' old new → Added r errors old new
-added_written r text errors held held' old new whole front = record {
+    → OnOk r (WritesAll text errors held held' old new) → WritesPrefix text errors held held' old new → Added r errors old new
+added_written r text errors held held' old new whole prefix = record {
   all = on_ok_weaker r (λ (w : WritesAll text errors held held' old new). w.adds) whole;
-  front = front.adds;
+  prefix = prefix.adds;
 }
 
 -- what holds in any case

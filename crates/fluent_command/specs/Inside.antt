@@ -4,6 +4,6 @@ pub mod PluralsView
 pub mod BundleView
 pub mod OneRead
 pub mod Said
-pub mod Far
+pub mod OutputProgress
 pub mod Comes
 pub mod Ends

@@ -33,10 +33,10 @@ pub data EndsRun (run : Run) (first : First) (state : InputState) (out out' : Ou
   by_writing : ending ≡ writing_failed → run.ending ≡ shown → Begins first.errors errors
       → Begins errors run.errors → Faults run.output out out'
       → EndsRun run first state out out' ending errors
-  -- memory was refused, or so it is said, before a read showed the end: nothing was found and written
+  -- an allocation failed, or so it is said, before a read showed the end: nothing was found and written
   by_memory : ending ≡ out_of_memory → state ≡ Open → errors ≡ [] → out' ≡ out
       → EndsRun run first state out out' ending errors
-  -- or behind that, where the input is a text: nothing was written
+  -- or after that, where the input is a text: nothing was written
   by_memory_read : ending ≡ out_of_memory → state ≡ AtEnd → run.ending ≢ not_utf8
       → Begins errors run.errors → out' ≡ out → EndsRun run first state out out' ending errors
   -- or while a text was written in pieces, and before the last: the first errors had been found
@@ -50,14 +50,14 @@ pub data ReportsRun (errors : List Error) (ending : Ending)
   -- all of it
   whole : result ≡ exit_status ending → TakesAll (said errors ending) err err'
       → ReportsRun errors ending err err' result
-  -- that memory was refused for the line of an error, behind the lines before it
-  short : result ≡ 3 → (front : List Error) → Precedes front errors
-      → TakesAll (said front out_of_memory) err err' → ReportsRun errors ending err err' result
+  -- that an allocation failed for the line of an error, after the lines before it
+  short : result ≡ 3 → (prefix : List Error) → Precedes prefix errors
+      → TakesAll (said prefix out_of_memory) err err' → ReportsRun errors ending err err' result
   -- a beginning of the one or the other: a write failed or took nothing
   whole_begun : result ≡ 3 → Faults (said errors ending) err err'
       → ReportsRun errors ending err err' result
-  short_begun : result ≡ 3 → (front : List Error) → Precedes front errors
-      → Faults (said front out_of_memory) err err' → ReportsRun errors ending err err' result
+  short_begun : result ≡ 3 → (prefix : List Error) → Precedes prefix errors
+      → Faults (said prefix out_of_memory) err err' → ReportsRun errors ending err err' result
 
 -- A run that comes to these errors: how it ends, what its reads showed for that, and what is said of it.
 -- Where the words are not of the form, nothing else can stop it, and where a plural rule can't be read,
@@ -81,6 +81,6 @@ pub data IsStopped (input input' : Inlet) (out out' err err' : Outlet) : Type 0 
   -- or on standard error
   unsaid : Rose err.failed err.empty err'.failed err'.empty
       → IsStopped input input' out out' err err'
-  -- memory was refused, as standard error says behind the lines of some errors
+  -- an allocation failed, as standard error says after the lines of some errors
   refused : (errors : List Error) → TakesAll (said errors out_of_memory) err err'
       → IsStopped input input' out out' err err'

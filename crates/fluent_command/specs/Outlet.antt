@@ -2,7 +2,7 @@
 use Rattle.std.specs.Prelude.{◌≡◌, ℕ, ◌⊎◌, List, [], ◌∷◌, ◌++◌, Option}
 use Rattle.std.specs.Io.KnownBytes.{Appends}
 use Rattle.fluent_tree.specs.Tree.{Text}
-use Rattle.fluent_text.specs.Taken.{raised, TookFront}
+use Rattle.fluent_text.specs.Taken.{raised, TookPrefix}
 use Rattle.fluent_text.specs.Writer.{writer_in, failed_in, empty_in}
 use Rattle.fluent_text.specs.declared.counting.Counting.{Counting}
 use Rattle.fluent_meaning.specs.Laws.{Begins}
@@ -18,7 +18,7 @@ outlet contents w = record { held = contents (writer_in w); failed = failed_in w
 
 -- these stand before one of the others: they begin them, and so they do with that one
 abbrev pub Precedes : {A : Type 0} → List A → List A → Type 0
-Precedes {A = A} front all = (x : A) × Begins (front ++ x ∷ []) all
+Precedes {A = A} prefix all = (x : A) × Begins (prefix ++ x ∷ []) all
 
 -- one of two counts went up: that of the writes that failed, or that of those that took nothing
 abbrev pub Rose : ℕ → ℕ → ℕ → ℕ → Type 0
@@ -33,9 +33,9 @@ pub record TakesAll (text : Text) (old new : Outlet) : Type 0 where
 
 -- the same of a beginning of the text that is not all of it
 abbrev pub TakesPart : Text → Outlet → Outlet → Type 0
-TakesPart text old new = (front : Text) × Precedes front text × TakesAll front old new
+TakesPart text old new = (prefix : Text) × Precedes prefix text × TakesAll prefix old new
 
 -- a write failed or took nothing, and it took a beginning of the text
 pub record Faults (text : Text) (old new : Outlet) : Type 0 where
-  pub taken : TookFront old.held new.held text
+  pub taken : TookPrefix old.held new.held text
   pub rose : Rose old.failed old.empty new.failed new.empty

@@ -1,5 +1,5 @@
 -- What the words after the program's name ask for: options in any order, then `ID [NAME=VALUE]..`.
--- An option is `--no-isolate`, or `--cardinal`, `--ordinal` or `--fallback` with its text behind it, each at most once.
+-- An option is `--no-isolate`, or `--cardinal`, `--ordinal` or `--fallback` with its text after it, each at most once.
 use Rattle.std.specs.Prelude.{ℕ, Bool, true, false, ◌&&◌, ◌==◌, nat_eq, nat_lt, if◌then◌else◌, Option, Some, None, List, [], ◌∷◌, map, length, codes}
 use Rattle.std.specs.List.{list_all, starts_with, before_first, after_first}
 use Rattle.std.specs.Option.{option_and_then}
@@ -74,7 +74,7 @@ asked_from options (id ∷ rest) =
 
 -- ---- all words
 
--- by what the next word is, how the words behind it go on, and what it asks for as ID
+-- by what the next word is, how the words after it go on, and what it asks for as ID
 abbrev pub asked_at : Word → Options → (Options → Option Named → Option Asked) → Option Asked
     → Option Asked
 asked_at word.NoIsolate options go id = option_and_then (λ o. go o None) (without_isolation options)

@@ -40,7 +40,7 @@ pub struct Reads<R> {
 /// Why an input was not read to its end.
 #[derive(Clone, Copy)]
 pub(crate) enum ReadFault {
-    /// Memory was refused.
+    /// An allocation failed.
     Memory,
     /// A read failed, also where it was interrupted, or all were made and none showed the end.
     Reading,
@@ -121,7 +121,7 @@ impl<R: Read> Reads<R> {
 ///
 /// # Errors
 ///
-/// `Reading` where a read failed or none of all showed the end, `Memory` where memory was refused. What was read
+/// `Reading` where a read failed or none of all showed the end, `Memory` where an allocation failed. What was read
 /// is lost then.
 pub(crate) fn read_all<R: Read>(alloc: Global, input: &mut Reads<R>) -> Result<Vec<u8>, ReadFault>
     ensures bytes { IfOk result (λ bytes. Consumes (R.remaining (reader_in input.old))

@@ -17,7 +17,7 @@ pub struct Options<'w> {
     pub fallback: Option<&'w str>,
 }
 
-/// An option with a text behind it.
+/// An option with a text after it.
 #[derive(Clone, Copy)]
 pub(crate) enum Named {
     Cardinal,

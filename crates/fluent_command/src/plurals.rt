@@ -48,7 +48,7 @@ impl<'p> MemoizerKind for Plurals<'p> {
 ///
 /// # Errors
 ///
-/// `Syntax` where a text can't be read, `Memory` where memory was refused.
+/// `Syntax` where a text can't be read, `Memory` where an allocation failed.
 pub(crate) fn read_rules(
     alloc: Global,
     options: Options<'_>,

@@ -9,8 +9,8 @@ ghost use Rattle.fluent_resolver.specs.Status.{reported};
 ghost use Rattle.fluent_command.specs.EndingView.{ending_view};
 ghost use Rattle.fluent_command.specs.Outcome.{ReportsRun};
 ghost use Rattle.fluent_command.specs.Outlet.{outlet};
-ghost use Rattle.fluent_command.specs.Inside.Far.{Took};
-ghost use Rattle.fluent_command.specs.Inside.Said.{At, SaysAll, SaysFront, TookErrors, line_of};
+ghost use Rattle.fluent_command.specs.Inside.OutputProgress.{Took};
+ghost use Rattle.fluent_command.specs.Inside.Said.{At, SaysAll, SaysPrefix, TookErrors, line_of};
 
 use fluent_bundle::{Counting, FluentError, WriteFault};
 use fluent_intl::RuleFault;
@@ -31,7 +31,7 @@ pub enum Ending<'w> {
     PluralRule,
     /// The input is no text.
     NotUtf8,
-    /// Memory was refused.
+    /// An allocation failed.
     Memory,
     /// A read failed, or none of all showed the end.
     Reading,
@@ -134,7 +134,7 @@ fn put_ending<E: Write>(ending: Ending<'_>, err: &mut Counting<E>) -> Result<(),
 }
 
 /// Writes the errors and the ending, one a line, and gives the ending that was said. That is the one it was handed,
-/// but where memory is refused for the line of an error: then that is said in place of all that is still to say.
+/// but where an allocation fails for the line of an error: then that is said in place of all that is still to say.
 ///
 /// # Errors
 ///
@@ -146,7 +146,7 @@ pub(crate) fn report<'w, E: Write>(
     err: &mut Counting<E>,
 ) -> Result<Ending<'w>, WriteFault>
     ensures says { At E.contents err.old err.new (SaysAll result errors.now ending.entry) }
-    ensures front { At E.contents err.old err.new (SaysFront result errors.now ending.entry) }
+    ensures prefix { At E.contents err.old err.new (SaysPrefix result errors.now ending.entry) }
     ensures fault { CountsFault err.old err.new result }
     ensures memory { result ≢ Err WriteFault.Memory }
 {

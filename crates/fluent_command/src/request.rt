@@ -56,7 +56,7 @@ impl<'w> Request<'w> {
         Request::after(Options::none(), None, words)
     }
 
-    /// The same behind these options, and, where there is one, behind the word of an option whose text comes next.
+    /// The same after these options, and, where there is one, after the word of an option whose text comes next.
     fn after(
         options: Options<'w>,
         before: Option<Named>,

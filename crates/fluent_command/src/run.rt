@@ -123,7 +123,7 @@ fn run_with<R: Read, W: Write, E: Write>(
 ///
 /// Where the status is not 3, status, output and error text are those that `program` defines for the words and
 /// the bytes of the input. Where it is 3, a read failed or all were made and each gave bytes, a write failed or took
-/// nothing, or the error text says that memory was refused. The output then holds a beginning of what it should; with a
+/// nothing, or the error text says that an allocation failed. The output then holds a beginning of what it should; with a
 /// fallback it holds all or nothing unless a write failed, since its text is made before it is written.
 /// The error text is the lines of the first errors and one that names the cause or, where it was standard error
 /// that failed, a beginning of such lines. Faults of usage are found first, then plural rules that can't be read, and

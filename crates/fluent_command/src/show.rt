@@ -9,7 +9,7 @@ ghost use Rattle.fluent_command.specs.Inside.PluralsView.{plurals_view};
 ghost use Rattle.fluent_command.specs.Inside.BundleView.{args_view, bundle_view};
 ghost use Rattle.fluent_command.specs.Inside.Comes as of;
 ghost use Rattle.fluent_command.specs.Inside.Comes.{words_arguments, Adds, EndsAs, StopsIn, Puts, PutsPart};
-ghost use Rattle.fluent_command.specs.Inside.Far.{Added};
+ghost use Rattle.fluent_command.specs.Inside.OutputProgress.{Added};
 ghost use Rattle.fluent_command.specs.Program.{error_at, junk_errors, adding_errors, start, bundle_of};
 
 use crate::plurals::Plurals;
@@ -91,7 +91,7 @@ fn start<'p, 'r, 's>(
     bundle.set_use_isolating(isolate);
     match bundle.add_builtins() {
         Ok(()) => Ok(bundle),
-        // All ids are free, so it is memory that was refused.
+        // All ids are free, so it is an allocation that failed.
         Err(_) => Err(AllocError),
     }
 }
@@ -298,7 +298,7 @@ fn show_fallback<'w, W: Write>(
 /// # Errors
 ///
 /// What was written and added so far begins what should have been. Before anything is written, all that is wrong with
-/// the sources themselves was added, and with a fallback all errors. Where memory was refused, not all was written,
+/// the sources themselves was added, and with a fallback all errors. Where an allocation failed, not all was written,
 /// and with a fallback nothing.
 pub fn show<'w, W: Write>(
     alloc: Global,

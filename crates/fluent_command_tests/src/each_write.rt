@@ -1,8 +1,8 @@
-//! Each write of a run's output fails in turn: with each kind of error, behind a piece that was taken in part, and with no
+//! Each write of a run's output fails in turn: with each kind of error, after a piece that was taken in part, and with no
 //! byte taken.
 
 use crate::outcome::{expect_outcome, run_over};
-use crate::stopping::{FAULTS, Fault, stops_behind};
+use crate::stopping::{FAULTS, Fault, stops_after};
 use std::alloc::{AllocError, Global};
 use std::process::Abort;
 use std::test::Fail;
@@ -75,7 +75,7 @@ fn output_stops(
     left: u64,
     fault: Fault,
 ) -> Result<bool, Fail> {
-    let out = stops_behind(alloc, left, fault);
+    let out = stops_after(alloc, left, fault);
     let ran = run_over(alloc, row.words, row.source, out, Vec::new(alloc))?;
     let (taken, said) = (ran.out.taken.as_slice(), ran.err.as_slice());
     let mut lines = lines_at(alloc, row, taken.len())?;

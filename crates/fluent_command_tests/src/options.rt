@@ -103,7 +103,7 @@ fn refuses_rules_that_it_cannot_read(rt: HostRuntime) -> Result<(), Fail> {
     Ok(expect_rows(&rt, rt.alloc(), BAD_RULES)?)
 }
 
-const REFUSED: &[Row] = &[
+const FAILED: &[Row] = &[
     (&["--cardinal"], COUNT, (2, "", USAGE)),
     (&["--ordinal"], COUNT, (2, "", USAGE)),
     (&["--fallback"], COUNT, (2, "", USAGE)),
@@ -135,7 +135,7 @@ const REFUSED: &[Row] = &[
 
 #[test]
 fn refuses_options_that_are_not_of_the_form(rt: HostRuntime) -> Result<(), Fail> {
-    Ok(expect_rows(&rt, rt.alloc(), REFUSED)?)
+    Ok(expect_rows(&rt, rt.alloc(), FAILED)?)
 }
 
 const HELLO: &str = "hello = Hi { $name }!";

@@ -109,7 +109,7 @@ pub const USAGE: &str = "usage: fluent_show [--no-isolate] ID [NAME=VALUE]..\n";
 
 pub const NOT_UTF8: &str = "fluent_show: standard input is not UTF-8\n";
 
-const REFUSED: &[Row] = &[
+const FAILED: &[Row] = &[
     (
         &["nope"],
         INTRO,
@@ -138,5 +138,5 @@ const REFUSED: &[Row] = &[
 
 #[test]
 fn refuses_what_it_cannot_show(rt: HostRuntime) -> Result<(), Fail> {
-    Ok(expect_rows(&rt, rt.alloc(), REFUSED)?)
+    Ok(expect_rows(&rt, rt.alloc(), FAILED)?)
 }

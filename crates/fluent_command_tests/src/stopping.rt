@@ -1,4 +1,4 @@
-//! A writer that stops at one of its writes, and counts those that come behind it.
+//! A writer that stops at one of its writes, and counts those that come after it.
 
 use std::alloc::Global;
 use std::io;
@@ -28,7 +28,7 @@ pub struct Stopping {
     left: u64,
     fault: Fault,
     pub has_stopped: bool,
-    /// How many writes came behind.
+    /// How many writes came after.
     pub later: u64,
 }
 
@@ -61,8 +61,8 @@ impl Write for Stopping {
     }
 }
 
-/// A writer that stops so behind so many writes.
-pub fn stops_behind(alloc: Global, left: u64, fault: Fault) -> Stopping {
+/// A writer that stops so after so many writes.
+pub fn stops_after(alloc: Global, left: u64, fault: Fault) -> Stopping {
     Stopping {
         taken: Vec::new(alloc),
         left,

@@ -16,9 +16,9 @@ use Rattle.fluent_links.specs.Slots.{named, flat}
 use Rattle.fluent_entries.specs.EntryView.{filled}
 use Rattle.fluent_entries.specs.EntryView.{by_name}
 
-pub lent_view : {X Y : Type 0} (f : X → Y) (o : Option (Bor X)) → option_map (λ r. f r.now) o ≡ option_map f (option_map (λ r. r.now) o)
-lent_view f None = refl
-lent_view f (Some r) = refl
+pub borrowed_view : {X Y : Type 0} (f : X → Y) (o : Option (Bor X)) → option_map (λ r. f r.now) o ≡ option_map f (option_map (λ r. r.now) o)
+borrowed_view f None = refl
+borrowed_view f (Some r) = refl
 
 pub some_mapped : {X Y : Type 0} (f : X → Y) (o : Option X) → is_some (option_map f o) ≡ is_some o
 some_mapped f None = refl

@@ -19,8 +19,8 @@ use Rattle.fluent_links.specs.Slots.{named, number}
 use Rattle.fluent_links.specs.declared.linked.Linked.{Linked}
 use Rattle.fluent_entries.specs.declared.slot.Slot.{Slot}
 use Rattle.fluent_entries.specs.declared.slot.Kept.{Kept}
-use Rattle.fluent_entries.specs.Linking.{AreKept, AreLinked, AreOf, IsKeptOf, IsLinked, IsValueKept, Keeps, RefersToNothing, attributes_in, attributes_kept, is_bare, is_value_bare, patterns, value_in}
-use Rattle.fluent_entries.specs.Numbered.{Grown, numbers, table}
+use Rattle.fluent_entries.specs.KeptLinks.{AreKept, AreLinked, AreOf, IsKeptOf, IsLinked, IsValueKept, Keeps, RefersToNothing, attributes_in, attributes_kept, is_bare, is_value_bare, patterns, value_in}
+use Rattle.fluent_entries.specs.IdNumbers.{Grown, numbers, table}
 use Rattle.fluent_entries.specs.Texts.{is_text}
 use Rattle.fluent_entries.specs.declared.ids.Ids.{Ids}
 
@@ -227,7 +227,7 @@ module _ {F : Type 0} where
   found_linked None ss t id is h = tt
   found_linked (Some s) ss t id is h = h id s.now (sym is)
 
--- a value that is lent
-pub lent_value : (r : Option (Bor code.Pattern)) (v : Option code.Pattern) → option_copied r ≡ v → option_map (λ p. pattern_view p.now) r ≡ value_view v
-lent_value None v h = ap value_view h
-lent_value (Some p) v h = ap value_view h
+-- a value that is borrowed
+pub borrowed_value : (r : Option (Bor code.Pattern)) (v : Option code.Pattern) → option_copied r ≡ v → option_map (λ p. pattern_view p.now) r ≡ value_view v
+borrowed_value None v h = ap value_view h
+borrowed_value (Some p) v h = ap value_view h

@@ -15,10 +15,10 @@ use Rattle.fluent_meaning.specs.Arguments.{Map, get, set}
 use Rattle.fluent_meaning.specs.Bundle.{add_free, error_if_taken}
 use Rattle.fluent_meaning.specs.Bundle as meaning
 use Rattle.fluent_meaning.specs.Errors.{Error, Kind, overriding}
-use Rattle.fluent_entries.specs.Numbered.{numbers}
+use Rattle.fluent_entries.specs.IdNumbers.{numbers}
 use Rattle.fluent_entries.specs.declared.ids.Ids.{Ids}
 
--- the place that an index from a list's front gives
+-- the place that an index from a list's prefix gives
 placed : (b : Bool) (m n : ℕ) → cond b (Some m) None ≡ Some n → (b ≡ true) × (m ≡ n)
 placed true m n h = (refl, ap (λ o. unwrap_or o m) h)
 placed false m n h = absurd cc

@@ -21,9 +21,9 @@ use Rattle.fluent_meaning.specs.Errors.{Kind, message_kind, overriding, term_kin
 use Rattle.fluent_entries.specs.declared.ids.Ids.{Ids}
 use Rattle.fluent_entries.specs.declared.ready.Ready.{Ready}
 use Rattle.fluent_entries.specs.declared.slot.Kept.{Kept}
-use Rattle.fluent_entries.specs.Linking.{IsKeptOf, patterns}
-use Rattle.fluent_entries.specs.Numbered.{numbers}
-use Rattle.fluent_entries.specs.Adding.{AreMarked, AreReady, HasParts, IsJunk, IsReady, Waits, at_place, given, given_at, given_by, has_number, is_marked}
+use Rattle.fluent_entries.specs.KeptLinks.{IsKeptOf, patterns}
+use Rattle.fluent_entries.specs.IdNumbers.{numbers}
+use Rattle.fluent_entries.specs.WaitingEntries.{AreMarked, AreReady, HasParts, IsJunk, IsReady, Waits, at_place, given, given_at, given_by, has_number, is_marked}
 use Rattle.fluent_entries.proofs.Linking.{still_kept_of}
 use Rattle.fluent_entries.proofs.OneId.{got_set, one_id}
 
@@ -203,9 +203,9 @@ module _ {F : Type 0} (m' : Ids F) (id : Text) (n : ℕ) (at_id : numbers m' id 
     -- so its mark and what it names tell whether it is
     pub is_taken_by : (marks marks' : List Bool) (rs : List Ready) (ks : List (Box Kept)) → AreReady (numbers m') t es rs ks → AreMarked marks rs → marks' ≡ marks → (first now : Map (m.Entry Text)) → now ≡ first
         → (r b : Bool) → r ≡ (is_marked marks' n || is_some (get id now)) → r ≡ b → is_some (get id (set_all (given_by es rs) first)) ≡ b
-    is_taken_by marks marks' rs ks h marked lent first now same r b test is =
+    is_taken_by marks marks' rs ks h marked borrowed first now same r b test is =
         is_taken rs ks h first
         ∙ (ap (λ x. x || is_some (get id first)) (sym (marked n))
         ∙ (ap (λ x. is_marked marks n || is_some (get id x)) (sym same)
-        ∙ (ap (λ ms. is_marked ms n || is_some (get id now)) (sym lent)
+        ∙ (ap (λ ms. is_marked ms n || is_some (get id now)) (sym borrowed)
         ∙ (sym test ∙ is))))

@@ -1,10 +1,10 @@
 pub mod ErrorView
-pub mod Free
+pub mod ErrorsWithoutMemory
 pub mod EntryView
 pub mod MessageView
 pub mod Named
-pub mod Linking
-pub mod Numbered
+pub mod KeptLinks
+pub mod IdNumbers
 pub mod Texts
 pub mod TextRows
-pub mod Adding
+pub mod WaitingEntries

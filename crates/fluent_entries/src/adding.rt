@@ -15,10 +15,10 @@ ghost use Rattle.fluent_entries.specs.ErrorView.{error_view, kind_view};
 ghost use Rattle.fluent_entries.specs.EntryView.{ids, entry_of};
 ghost use Rattle.fluent_entries.specs.declared.slot.Kept.{Kept};
 ghost use Rattle.fluent_entries.specs.Named.{is_named};
-ghost use Rattle.fluent_entries.specs.Linking.{AreKept, IsKeptOf, IsValueKept, attributes_in, patterns, value_in};
+ghost use Rattle.fluent_entries.specs.KeptLinks.{AreKept, IsKeptOf, IsValueKept, attributes_in, patterns, value_in};
 ghost use Rattle.fluent_entries.specs.Texts.{is_text};
-ghost use Rattle.fluent_entries.specs.Numbered.{Grown, numbers, table};
-ghost use Rattle.fluent_entries.specs.Adding.{AreMarked, AreReady, HasParts, IsJunk, Waits, at_place, given, given_at, given_by, has_number, is_marked};
+ghost use Rattle.fluent_entries.specs.IdNumbers.{Grown, numbers, table};
+ghost use Rattle.fluent_entries.specs.WaitingEntries.{AreMarked, AreReady, HasParts, IsJunk, Waits, at_place, given, given_at, given_by, has_number, is_marked};
 
 use crate::entry::Entry;
 use crate::ids::Ids;
@@ -133,7 +133,7 @@ fn parts_of<'r, 's>(entry: &'r ast::Entry<'s>) -> Option<Parts<'r, 's>>
     }
 }
 
-/// Puts an entry behind those that wait, with the number of its id and what is kept of its patterns.
+/// Puts an entry after those that wait, with the number of its id and what is kept of its patterns.
 fn make_ready<'r, 's, F: Drop>(
     alloc: Global,
     known: &mut Ids<'r, 's, F>,
@@ -397,7 +397,7 @@ impl<'r, 's, F: Drop> Ids<'r, 's, F> {
     ///
     /// # Errors
     ///
-    /// Memory was refused: the map is as before.
+    /// An allocation failed: the map is as before.
     pub fn add_entries(
         &mut self,
         alloc: Global,
@@ -423,7 +423,7 @@ impl<'r, 's, F: Drop> Ids<'r, 's, F> {
     ///
     /// # Errors
     ///
-    /// Memory was refused: the map is as before.
+    /// An allocation failed: the map is as before.
     pub fn override_entries(
         &mut self,
         alloc: Global,
@@ -445,7 +445,7 @@ impl<'r, 's, F: Drop> Ids<'r, 's, F> {
     ///
     /// # Errors
     ///
-    /// Memory was refused: the map is as before.
+    /// An allocation failed: the map is as before.
     pub fn add_function(
         &mut self,
         alloc: Global,
@@ -469,7 +469,7 @@ impl<'r, 's, F: Drop> Ids<'r, 's, F> {
     ///
     /// # Errors
     ///
-    /// Memory was refused: the map is as before.
+    /// An allocation failed: the map is as before.
     pub fn add_number(
         &mut self,
         alloc: Global,

@@ -9,7 +9,7 @@ ghost use Rattle.fluent_entries.specs.MessageView.{content_of};
 
 use fluent_tree::ast;
 
-/// What an id names: messages, terms and functions share one map. `Ids::named` lends it.
+/// What an id names: messages, terms and functions share one map. `Ids::named` gives it.
 #[derive(Drop)]
 pub enum Entry<'r, 's, F> {
     /// A message of a resource.

@@ -1,7 +1,7 @@
 //! What is reported beside a text or an added resource.
 ghost use Rattle.std.specs.Prelude.{◌≡◌, IfOk, IsOk};
 ghost use Rattle.fluent_entries.specs.ErrorView.{error_view};
-ghost use Rattle.fluent_entries.specs.Free.{HasNoText};
+ghost use Rattle.fluent_entries.specs.ErrorsWithoutMemory.{HasNoText};
 
 pub mod resolver;
 
@@ -53,7 +53,7 @@ impl FluentError {
     ///
     /// # Errors
     ///
-    /// Memory was refused, which only an error with a text can meet.
+    /// An allocation failed, which only an error with a text can meet.
     pub fn try_clone(&self, alloc: Global) -> Result<FluentError, AllocError>
         ensures same { IfOk result (λ copy. error_view copy ≡ error_view self.now) }
         ensures succeeds { HasNoText self.now → IsOk result }

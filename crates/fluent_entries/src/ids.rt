@@ -2,7 +2,7 @@
 ghost use Rattle.std.proofs.Props.{props};
 ghost use Rattle.fluent_links.specs.Slots.{slots};
 ghost use Rattle.fluent_links.specs.Table.{table as contents};
-ghost use Rattle.fluent_entries.specs.Linking.{AreLinked, content_set};
+ghost use Rattle.fluent_entries.specs.KeptLinks.{AreLinked, content_set};
 ghost use Rattle.fluent_entries.specs.Named.{AreNamed};
 
 use crate::entry::Entry;
@@ -40,9 +40,9 @@ impl<'r, 's, F> Ids<'r, 's, F> {
     ghost use Rattle.fluent_meaning.specs.Arguments.{get};
     ghost use Rattle.fluent_meaning.specs.Bundle.{Function};
     ghost use Rattle.fluent_entries.specs.EntryView.{ids, entry_of};
-    ghost use Rattle.fluent_entries.specs.Linking.{IsLinked};
+    ghost use Rattle.fluent_entries.specs.KeptLinks.{IsLinked};
     ghost use Rattle.fluent_entries.specs.Named.{is_named};
-    ghost use Rattle.fluent_entries.specs.Numbered.{IsNumberOf, numbers, table};
+    ghost use Rattle.fluent_entries.specs.IdNumbers.{IsNumberOf, numbers, table};
 
     /// A map that names nothing. It takes no memory yet.
     pub fn new(alloc: Global) -> Ids<'r, 's, F>
@@ -107,15 +107,15 @@ impl<'r, 's, F: Drop> Ids<'r, 's, F> {
     ghost use Rattle.fluent_meaning.specs.Arguments.{set};
     ghost use Rattle.fluent_meaning.specs.Bundle.{Function};
     ghost use Rattle.fluent_entries.specs.EntryView.{ids, entry_of};
-    ghost use Rattle.fluent_entries.specs.Linking.{IsLinked};
+    ghost use Rattle.fluent_entries.specs.KeptLinks.{IsLinked};
     ghost use Rattle.fluent_entries.specs.Named.{is_named};
-    ghost use Rattle.fluent_entries.specs.Numbered.{Grown, numbers, table};
+    ghost use Rattle.fluent_entries.specs.IdNumbers.{Grown, numbers, table};
 
     /// Makes room for so many more ids, so that their numbers and slots are put where they stay. What ids name stays.
     ///
     /// # Errors
     ///
-    /// Memory was refused.
+    /// An allocation failed.
     pub(crate) fn reserve(&mut self, more: usize) -> Result<(), AllocError>
         ensures grown { Grown self.old self.new }
         ensures same { (answer : F → Function Text) → ids answer self.new ≡ ids answer self.old }

@@ -138,7 +138,7 @@ impl<'m, 's> Eq for FluentAttribute<'m, 's> {
     ghost laws = { equivalent attribute_content attribute_same };
 }
 
-/// The attributes of a message from the front.
+/// The attributes of a message from the start.
 #[derive(Debug, Drop)]
 pub struct Attributes<'m, 's> {
     rest: Iter<'m, ast::Attribute<'s>>,

@@ -1,7 +1,7 @@
 //! Entries that wait to be put into their slots.
 ghost use Rattle.std.specs.Prelude.{◌≡◌, ◌||◌, ◌++◌, ℕ, [], ◌∷◌, IfOk, OnOk, is_some, nat_eq};
 ghost use Rattle.std.specs.Option.{option_to_list};
-ghost use Rattle.fluent_entries.specs.Adding.{is_marked};
+ghost use Rattle.fluent_entries.specs.WaitingEntries.{is_marked};
 ghost use Rattle.fluent_entries.specs.declared.ready.Ready.{Ready};
 
 use crate::slot::Kept;
@@ -37,7 +37,7 @@ impl Waiting {
         })
     }
 
-    /// Puts one more behind them.
+    /// Puts one more after them.
     pub(crate) fn push(
         &mut self,
         place: u32,

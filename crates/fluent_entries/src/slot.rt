@@ -3,7 +3,7 @@ ghost use Rattle.std.specs.Prelude.{◌≡◌, [], IfOk, List, None, Option, ℕ
 ghost use Rattle.std.specs.List.{list_all};
 ghost use Rattle.std.specs.Option.{option_map};
 ghost use Rattle.fluent_tree.specs.Tree.{Pattern, Text};
-ghost use Rattle.fluent_entries.specs.Linking.{IsLinked, Keeps, attributes_in, attributes_kept, is_bare, is_value_bare, value_in, value_kept};
+ghost use Rattle.fluent_entries.specs.KeptLinks.{IsLinked, Keeps, attributes_in, attributes_kept, is_bare, is_value_bare, value_in, value_kept};
 
 use crate::entry::Entry;
 use fluent_links::Linked;
@@ -18,7 +18,7 @@ pub struct Kept {
 
 /// What an id names, with what is kept of its patterns where one of them refers to anything.
 ///
-/// Most entries are texts and variables. What is kept stands behind a box, so that their slots have 40 bytes in place
+/// Most entries are texts and variables. What is kept stands after a box, so that their slots have 40 bytes in place
 /// of 88.
 #[derive(Drop)]
 pub struct Slot<'r, 's, F> {

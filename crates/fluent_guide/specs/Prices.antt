@@ -4,7 +4,7 @@ use Rattle.fluent_tree.specs.Tree.{Text}
 use Rattle.fluent_intl.specs.Decimal.{decimal_text}
 use Rattle.fluent_meaning.specs.Value.{Value, number_value}
 
--- the digits of a number with the code of its currency behind them, if it has one
+-- the digits of a number with the code of its currency after them, if it has one
 abbrev pub with_code : Text → Option Text → Option Text
 with_code digits (Some code) = Some (digits ++ (codes " " ++ code))
 with_code digits None = None

@@ -9,7 +9,7 @@ use fluent_bundle::{
 use std::alloc::{AllocError, Global};
 use std::borrow::CowStr;
 
-/// Shows a number that has a currency with the currency's code behind it.
+/// Shows a number that has a currency with the currency's code after it.
 #[derive(Clone, Copy, Drop)]
 pub struct Prices;
 

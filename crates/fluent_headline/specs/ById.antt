@@ -34,14 +34,14 @@ pub record GivesFound (b : Bundle Text) (args : Map (Value Text)) (asked : Optio
   -- with the budget, in every case
   pub whole : IfSome asked (λ p. let means = written_pattern b args p in GivesSome (formatted b means.value) means.errors result errors errors')
   -- whatever is answered
-  pub front : IfSome asked (λ p. AddsBeginning b args p errors.items errors'.items)
+  pub prefix : IfSome asked (λ p. AddsBeginning b args p errors.items errors'.items)
 
 pub record WritesFound (b : Bundle Text) (args : Map (Value Text)) (asked : Option Pattern) (result : Result Bool WriteFault) (held held' : Option Text) (errors errors' : Errors) : Type 0 where
   pub there : IfOk result (λ answer. answer ≡ is_some asked)
   pub nothing : IfNone asked ((held' ≡ held) × (errors' ≡ errors))
   pub within : IfSome asked (λ p. WritesWithin b args p result held held' errors.items errors'.items)
   pub whole : IfSome asked (λ p. WritesWhole b args p result held held' errors.items errors'.items)
-  pub front : IfSome asked (λ p. WritesBeginning b args p held held' errors.items errors'.items)
+  pub prefix : IfSome asked (λ p. WritesBeginning b args p held held' errors.items errors'.items)
 
 -- ---- of a plural source, calls, arguments, an id, and the name of an attribute, if one is given
 

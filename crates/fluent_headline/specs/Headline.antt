@@ -54,12 +54,12 @@ pub record Gives (b : Bundle Text) (args : Map (Value Text)) (p : Pattern) (resu
   -- with the budget, in every case
   pub whole : GivesWhole b args p result errors.items errors'.items
   -- whatever is answered
-  pub front : AddsBeginning b args p errors.items errors'.items
+  pub prefix : AddsBeginning b args p errors.items errors'.items
 
 pub record Writes (b : Bundle Text) (args : Map (Value Text)) (p : Pattern) (result : Result (Unit {0}) WriteFault) (held held' : Option Text) (errors errors' : Errors) : Type 0 where
   pub within : WritesWithin b args p result held held' errors.items errors'.items
   pub whole : WritesWhole b args p result held held' errors.items errors'.items
-  pub front : WritesBeginning b args p held held' errors.items errors'.items
+  pub prefix : WritesBeginning b args p held held' errors.items errors'.items
 
 -- ---- of a plural source, calls, arguments and a pattern
 

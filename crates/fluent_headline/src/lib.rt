@@ -187,7 +187,7 @@ pub fn write_after<
 ///
 /// # Errors
 ///
-/// Memory was refused: what was added begins the errors.
+/// An allocation failed: what was added begins the errors.
 pub fn format_after<
     's,
     M: MemoizerKind,
@@ -316,7 +316,7 @@ pub fn write_by_id_after<
 ///
 /// # Errors
 ///
-/// Memory was refused: what was added begins the errors.
+/// An allocation failed: what was added begins the errors.
 pub fn format_by_id_after<
     's,
     M: MemoizerKind,

@@ -14,5 +14,5 @@ whole_below size small = div_below size (10 ^ 18) (2 ^ 64) (omega arith) small
 pub length-whole-le : (n : ℕ) → n < 2 ^ 64 → length (decimal n) ≤ 20
 length-whole-le n small = length-decimal-le 20 n (omega arith) (omega (arith, small)) small
 
-pub length-places : (f k : ℕ) (behind : List ℕ) → length (map (place_digit f) (range_with_len 1 k) ++ behind) ≡ k + length behind
-length-places f k behind = omega (arith, length-append (map (place_digit f) (range_with_len 1 k)) behind, length-map-range_with_len (place_digit f) 1 k)
+pub length-places : (f k : ℕ) (after : List ℕ) → length (map (place_digit f) (range_with_len 1 k) ++ after) ≡ k + length after
+length-places f k after = omega (arith, length-append (map (place_digit f) (range_with_len 1 k)) after, length-map-range_with_len (place_digit f) 1 k)

@@ -86,16 +86,16 @@ quotient_before f i rest p le is =
     let e : 18 - (i - 1) ≡ 18 - i + 1 = omega arith in
     ap (λ n. n / 10) is ∙ sym (next_quotient f (18 - i)) ∙ ap (λ j. f / 10 ^ j) (sym e)
 
--- the last place moves to the text behind it
-pub last_place_onto : (f i rest : ℕ) (behind : List ℕ) → 0 < i → rest ≡ f / 10 ^ (18 - i)
-    → map (place_digit f) (range_with_len 1 i) ++ behind ≡ map (place_digit f) (range_with_len 1 (i - 1)) ++ (48 + rest % 10) ∷ behind
-last_place_onto f i rest behind p is =
+-- the last place moves to the text after it
+pub last_place_onto : (f i rest : ℕ) (after : List ℕ) → 0 < i → rest ≡ f / 10 ^ (18 - i)
+    → map (place_digit f) (range_with_len 1 i) ++ after ≡ map (place_digit f) (range_with_len 1 (i - 1)) ++ (48 + rest % 10) ∷ after
+last_place_onto f i rest after p is =
     let e : i ≡ i - 1 + 1 = omega arith in
     let j : 1 + (i - 1) ≡ i = omega arith in
-    ap (λ n. map (place_digit f) (range_with_len 1 n) ++ behind) e
-    ∙ ap (λ ds. ds ++ behind) (map-range_with_len_more (place_digit f) 1 (i - 1) i j)
-    ∙ append_assoc (map (place_digit f) (range_with_len 1 (i - 1))) (place_digit f i ∷ []) behind
-    ∙ ap (λ d. map (place_digit f) (range_with_len 1 (i - 1)) ++ (48 + d % 10) ∷ behind) (sym is)
+    ap (λ n. map (place_digit f) (range_with_len 1 n) ++ after) e
+    ∙ ap (λ ds. ds ++ after) (map-range_with_len_more (place_digit f) 1 (i - 1) i j)
+    ∙ append_assoc (map (place_digit f) (range_with_len 1 (i - 1))) (place_digit f i ∷ []) after
+    ∙ ap (λ d. map (place_digit f) (range_with_len 1 (i - 1)) ++ (48 + d % 10) ∷ after) (sym is)
 
 -- the digits of a fraction, and their value
 

@@ -46,8 +46,8 @@ refuse_whole t e other n places h =
       | inr w ↦ none_some _ (sym e ∙ ap (position is_point) w.2 ∙ point_at w.0 w.1 w.3)
     ]
 
-pub front_of : (t before after : List ℕ) (at : ℕ) → length before ≡ at → t ≡ before ++ 46 ∷ after → take at t ≡ before
-front_of t before after at l e = ap (take at) e ∙ take_at before (46 ∷ after) at l
+pub prefix_of : (t before after : List ℕ) (at : ℕ) → length before ≡ at → t ≡ before ++ 46 ∷ after → take at t ≡ before
+prefix_of t before after at l e = ap (take at) e ∙ take_at before (46 ∷ after) at l
 
 pub back_of : (t before after : List ℕ) (at : ℕ) → length before ≡ at → t ≡ before ++ 46 ∷ after → drop (at + 1) t ≡ after
 back_of t before after at l e = ap (drop (at + 1)) (e ∙ sym (append_assoc before (46 ∷ []) after)) ∙ drop_at (before ++ 46 ∷ []) after (at + 1) (omega (arith, length-append before (46 ∷ []), l))
@@ -61,7 +61,7 @@ refuse_pointed t at e other n places h =
       | inl w ↦ none_some _ (sym (no_point t w.0) ∙ e)
       | inr w ↦
           let l : length w.0 ≡ at = some_same _ _ (sym (sym e ∙ ap (position is_point) w.2 ∙ point_at w.0 w.1 w.3)) in
-          let f : w.0 ≡ take at t = sym (front_of t w.0 w.1 at l w.2) in
+          let f : w.0 ≡ take at t = sym (prefix_of t w.0 w.1 at l w.2) in
           let b : w.1 ≡ drop (at + 1) t = sym (back_of t w.0 w.1 at l w.2) in
           other (subst (AllDigits 10) f w.3) (subst (AllDigits 10) b w.4)
           (subst (λ x. 0 < length (take at t) + length x) b (subst (λ x. 0 < length x + length w.1) f w.5))

@@ -34,7 +34,7 @@ same_after (c ∷ a) (d ∷ b) m n all_a all_b l e =
 same_digits : (a b : List ℕ) → AllDigits 10 a → AllDigits 10 b → length a ≡ length b → digits_value 10 a ≡ digits_value 10 b → a ≡ b
 same_digits a b all_a all_b l e = (same_after a b 0 0 all_a all_b l e).1
 
--- digits without a 0 in front that could be left out are those of their number
+-- digits without a 0 at the start that could be left out are those of their number
 plain_whole : (ds : List ℕ) → AllDigits 10 ds → 0 < length ds → (get_or ds 0 0 ≡ 48 → IsInRange 48 57 (get_or ds 1 0) → ⊥) → digits_value 10 ds < 2 ^ 64 → decimal (digits_value 10 ds) ≡ ds
 plain_whole ds all some plain small =
     decimal-digits_value (numerals_by_value (AllDigits 10) tells_digits) ds all some (λ e. elim (cases_lt 1 (length ds)) [
@@ -58,10 +58,10 @@ plain_places ds all le =
     same_digits ds (map (place_digit f) (range_with_len 1 (length ds))) all (places_digits f (length ds)) (sym (length-map-range_with_len (place_digit f) 1 (length ds)))
     (sym (places_value f (length ds) small le ∙ value))
 
-front_plain : (before after : List ℕ) → IsPlain (before ++ 46 ∷ after) → (0 < length before) × (get_or before 0 0 ≡ 48 → IsInRange 48 57 (get_or before 1 0) → ⊥)
-front_plain [] after h = absurd (omega (arith, h.0.0))
-front_plain (c ∷ []) after h = (omega arith, λ e r. omega (arith, r.0))
-front_plain (c ∷ d ∷ ds) after h = (omega arith, h.1)
+prefix_plain : (before after : List ℕ) → IsPlain (before ++ 46 ∷ after) → (0 < length before) × (get_or before 0 0 ≡ 48 → IsInRange 48 57 (get_or before 1 0) → ⊥)
+prefix_plain [] after h = absurd (omega (arith, h.0.0))
+prefix_plain (c ∷ []) after h = (omega arith, λ e r. omega (arith, r.0))
+prefix_plain (c ∷ d ∷ ds) after h = (omega arith, h.1)
 
 alone_is : (t : List ℕ) → AllDigits 10 t → 0 < length t → digits_value 10 t < 2 ^ 64 → IsPlain t
     → t ≡ decimal (digits_value 10 t * 10 ^ 18 / 10 ^ 18) ++ point_text (digits_value 10 t * 10 ^ 18 % 10 ^ 18) None
@@ -76,8 +76,8 @@ pointed_is before after n all_before all_after small le is plain =
     let less = part_small (digits_value 10 after) (length after) (digits_value-lt 10 after all_after) le in
     let whole : n / 10 ^ 18 ≡ digits_value 10 before = ap (λ m. m / 10 ^ 18) is ∙ div-mul-add (digits_value 10 before) (10 ^ 18) (digits_value 10 after * 10 ^ (18 - length after)) less in
     let part : n % 10 ^ 18 ≡ digits_value 10 after * 10 ^ (18 - length after) = ap (λ m. m % 10 ^ 18) is ∙ mod-mul-add (digits_value 10 before) (10 ^ 18) (digits_value 10 after * 10 ^ (18 - length after)) less in
-    let front = front_plain before after plain in
-    let first : before ≡ decimal (n / 10 ^ 18) = sym (plain_whole before all_before front.0 front.1 small) ∙ ap decimal (sym whole) in
+    let prefix = prefix_plain before after plain in
+    let first : before ≡ decimal (n / 10 ^ 18) = sym (plain_whole before all_before prefix.0 prefix.1 small) ∙ ap decimal (sym whole) in
     let second : after ≡ map (place_digit (n % 10 ^ 18)) (range_with_len 1 (length after)) = plain_places after all_after le ∙ ap (λ f. map (place_digit f) (range_with_len 1 (length after))) (sym part) in
     ap (λ x. x ++ 46 ∷ after) first ∙ ap (λ x. decimal (n / 10 ^ 18) ++ 46 ∷ x) second
 
@@ -202,7 +202,7 @@ digits_plain w f places small = (
   ],
 )
 
--- where a digit stands in front there is no sign
+-- where a digit stands at the start there is no sign
 unsigned_text : (n : ℕ) (minimum : Option ℕ) (t : List ℕ) → ReadsUnsigned t n (text_places (n % 10 ^ 18) minimum) → IsPlain t → IsText (pos n) minimum t
 unsigned_text n minimum t h plain =
     let a : (get_or t 0 0 == 45) ≡ false = other (get_or t 0 0) 45 (omega arith) plain.0 in

@@ -115,7 +115,7 @@ pub row_refused :
 unfolding p.many_from p.byte p.run1 g.symbol g.word g.digits g.named g.value g.range_end g.range g.next_range g.range_list g.operand g.divisor g.unequal g.comparison g.relation g.and_relation g.and_group g.or_group g.condition g.keyword g.samples g.rule g.line g.rules_from g.rules
 row_refused = (refl, refl, refl, refl, refl, refl, refl, refl, refl, refl, refl, refl, refl, refl, refl, refl)
 
--- the first of the rules that can't be read, behind its blanks
+-- the first of the rules that can't be read, after its blanks
 pub row_place :
     (g.rules (codes "other:\n  one: n\ntwo") ≡ Err 9)
     × (g.rules (codes "other:@ a ; \tone n = 1; two") ≡ Err 13)

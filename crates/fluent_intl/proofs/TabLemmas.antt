@@ -18,8 +18,8 @@ none_passes p xs at_end = list_any_none p xs (λ k d below. fails_before_first p
 pub rules_of_one_tab : (line texts : List ℕ) → texts ≡ after_first is_tab line → position_or_len is_tab texts ≡ length texts → rules_in line ≡ None
 rules_of_one_tab line texts cut at_end = let none = rw cut at (none_passes is_tab texts at_end) in rw none refl
 
--- a line with two tabs has those between them and behind them
+-- a line with two tabs has those between them and after them
 pub rules_of_two_tabs : (line texts cardinal ordinal : List ℕ) → texts ≡ after_first is_tab line → position_or_len is_tab texts < length texts
     → cardinal ≡ before_first is_tab texts → ordinal ≡ after_first is_tab texts → rules_in line ≡ Some (record { cardinal = cardinal; ordinal = ordinal })
-rules_of_two_tabs line texts cardinal ordinal cut inside front back =
-    let some = rw cut at (some_passes is_tab texts inside) in rw (front, back, cut, some) refl
+rules_of_two_tabs line texts cardinal ordinal cut inside prefix back =
+    let some = rw cut at (some_passes is_tab texts inside) in rw (prefix, back, cut, some) refl

@@ -2,7 +2,7 @@
 use Rattle.std.proofs.Common.{◌≡◌, ℕ, zero, suc, ◌<◌, List, [], ◌∷◌, ◌++◌, map, Some, true, length, get_or, take, drop, if◌then◌else◌, refl, arith}
 use Rattle.fluent_intl.specs.Languages.{Texts, is_separator, shortened, rules_at, first_rules}
 
--- behind the last separator stands one subtag, so before it stands the tag without that
+-- after the last separator stands one subtag, so before it stands the tag without that
 pub shortened_before : (tag : List ℕ) (k : ℕ) → k < length tag → is_separator (get_or tag k 0) ≡ true
     → shortened (drop (suc k) tag) ≡ drop (suc k) tag ∷ [] → shortened tag ≡ tag ∷ shortened (take k tag)
 shortened_before [] k below ends one = absurd (omega arith)

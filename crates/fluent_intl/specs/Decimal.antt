@@ -29,7 +29,7 @@ ReadsUnsigned text n places =
     × (digits_value 10 before < 2 ^ 64) × (length after ≤ 18)
     × (n ≡ digits_value 10 before * 10 ^ 18 + digits_value 10 after * 10 ^ (18 - length after)) × (places ≡ Some (length after)))
 
--- The text is the number z with this count of digits after its point: the syntax's NumberLiteral, and beside it a `+` in front and a point with no digit on one side.
+-- The text is the number z with this count of digits after its point: the syntax's NumberLiteral, and beside it a `+` at the start and a point with no digit on one side.
 abbrev pub Reads : List ℕ → ℤ → Option ℕ → Type 0
 Reads text z places = (n : ℕ) × ReadsUnsigned (without_leading_sign text) n places × (z ≡ signed (starts_with_minus text) n)
 
@@ -42,7 +42,7 @@ abbrev pub text_places : ℕ → Option ℕ → Option ℕ
 text_places fraction None = if significant_places fraction == 0 then None else Some (significant_places fraction)
 text_places fraction (Some minimum) = Some (max (significant_places fraction) (min minimum 18))
 
--- a digit stands in front, and no digit after a 0 in front
+-- a digit stands at the start, and no digit after a 0 at the start
 abbrev pub IsPlain : List ℕ → Type 0
 IsPlain text = IsInRange 48 57 (slice_index text 0) × (slice_index text 0 ≡ 48 → ¬ IsInRange 48 57 (slice_index text 1))
 

@@ -57,7 +57,7 @@ named name = do
   w ← word
   provided (bytes_eq w name)
 
--- the parts that come next, behind those before them
+-- the parts that come next, after those before them
 abbrev pub more : {A : Type 0} → Parser A → List A → Parser (List A)
 more p found = λ s. many_from push p (length s) found s
 
@@ -202,7 +202,7 @@ rule = do
   skip samples
   pure (rule_of category when)
 
--- rule?, with nothing behind it
+-- rule?, with nothing after it
 unfoldable pub line : Parser (Option Rule)
 line = do
   r ← optional rule
@@ -212,14 +212,14 @@ line = do
 
 -- ---- texts
 
-abbrev pub in_front : ℕ → List Text → List Text
-in_front c [] = (c ∷ []) ∷ []
-in_front c (l ∷ ls) = (c ∷ l) ∷ ls
+abbrev pub prepended : ℕ → List Text → List Text
+prepended c [] = (c ∷ []) ∷ []
+prepended c (l ∷ ls) = (c ∷ l) ∷ ls
 
 -- what stands between the `;` and LF of a text: no rule holds one of these
 abbrev pub lines : Text → List Text
 lines [] = [] ∷ []
-lines (c ∷ cs) = if is_of_line c 0 then in_front c (lines cs) else [] ∷ lines cs
+lines (c ∷ cs) = if is_of_line c 0 then prepended c (lines cs) else [] ∷ lines cs
 
 -- one line before the others
 abbrev pub before : Option Rule → Result (List Rule) ℕ → Result (List Rule) ℕ

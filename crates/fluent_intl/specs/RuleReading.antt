@@ -66,7 +66,7 @@ abbrev pub listed : Option Rule → List Rule
 listed None = []
 listed (Some r) = r ∷ []
 
--- memory is refused only where a keyword stands
+-- an allocation fails only where a keyword stands
 abbrev pub AsksAtKeyword : Stop → List ℕ → Type 0
 AsksAtKeyword Absent s = Unit {0}
 AsksAtKeyword Memory s = keyword s ≢ None
@@ -75,7 +75,7 @@ AsksAtKeyword Memory s = keyword s ≢ None
 abbrev pub IsRuleless : Read (Option Rule) → Type 0
 IsRuleless r = (rest : List ℕ) × (r ≡ Some (None, rest))
 
--- memory is refused only where a line is more than blanks
+-- an allocation fails only where a line is more than blanks
 abbrev pub AsksForRule : Stop → Read (Option Rule) → Type 0
 AsksForRule Absent r = Unit {0}
 AsksForRule Memory r = ¬ IsRuleless r

@@ -88,10 +88,10 @@ fn is_same_tag(a: &[u8], b: &[u8]) -> bool
 
 /// The tag without its last subtag, unless it has just one.
 fn parent(tag: &[u8]) -> Option<&[u8]>
-    ensures shorter { IfSome result (λ front. length front.now < length tag.now) }
+    ensures shorter { IfSome result (λ prefix. length prefix.now < length tag.now) }
     ensures steps { MatchOption result
         (shortened tag.now ≡ tag.now ∷ [])
-        (λ front. shortened tag.now ≡ tag.now ∷ shortened front.now) }
+        (λ prefix. shortened tag.now ≡ tag.now ∷ shortened prefix.now) }
 {
     for end in (0..tag.len()).rev() {
         if is_separator(tag[end]) {

@@ -50,7 +50,7 @@ impl FluentNumber {
     ///
     /// # Errors
     ///
-    /// Memory was refused.
+    /// An allocation failed.
     pub fn as_string(&self, alloc: Global) -> Result<CowStr<'static>, AllocError>
         ensures bytes { IfOk result (λ text. cow_str_bytes text
             ≡ decimal_text self.now.value self.now.options.minimum_fraction_digits) }

@@ -1,4 +1,4 @@
--- A rule reads the same where what stands behind its part of a text is taken away.
+-- A rule reads the same where what stands after its part of a text is taken away.
 use Rattle.std.proofs.Common.{◌≡◌, ◌==◌, ℕ, zero, suc, ◌+◌, ◌-◌, ◌<◌, ◌≤◌, Bool, true, false, List, [], ◌∷◌, ◌++◌, length, take, drop, Some, None, if◌then◌else◌, refl, sym, ap, ◌∙◌, subst, append_assoc, nat_lt, arith, length-append, length-drop, ◌⊎◌, inl, inr}
 use Rattle.std.proofs.lemmas.Bool.{cases_Bool}
 use Rattle.std.proofs.lemmas.Bool.Decides.{nat_tests}
@@ -8,13 +8,13 @@ use Rattle.fluent_syntax.specs.Expressions.{provided, taken, source_of}
 use Rattle.fluent_text.specs.Facts.Turns.{more as a_turn}
 use Rattle.fluent_text.specs.Facts.Runs.{run_len-le}
 use Rattle.fluent_syntax.specs.Facts.Chunked.{taken_is}
-use Rattle.fluent_syntax.specs.Facts.Fronts.{TakesTo, Takes, takes-bind, takes-pure, takes-or, takes-all, takes-many, takes-run, takes-run1, takes-byte, takes-source_of}
-use Rattle.fluent_laws.specs.FrontLaws.{ReadByFrontAlone}
+use Rattle.fluent_syntax.specs.Facts.Prefixes.{TakesTo, Takes, takes-bind, takes-pure, takes-or, takes-all, takes-many, takes-run, takes-run1, takes-byte, takes-source_of}
+use Rattle.fluent_laws.specs.PrefixLaws.{ReadByPrefixAlone}
 use Rattle.fluent_laws.proofs.Near.{is_read, none_of, none_left, nothing_left}
 use Rattle.fluent_laws.proofs.Known.{lefts, values, both, taken_one, takes-provided, unread}
 use Rattle.fluent_laws.proofs.Leads.{first_read}
 
--- a fact of the text that a rule leaves of its own, and of what stands behind that
+-- a fact of the text that a rule leaves of its own, and of what stands after that
 abbrev pub Seam : Type 1
 Seam = List ℕ → List ℕ → Type 0
 
@@ -42,13 +42,13 @@ pub alone-bind : {A B : Type 0} (at of : Seam) (p : Parser A) (f : A → Parser 
 alone-bind at of p f h k link = record {
   alone = λ s x v w here e.
       let (q, g, j) = first_read (p (s ++ w)) f (x, v ++ w) e in
-      let fr : (u : List ℕ) × (q.1 ≡ u ++ (v ++ w)) = subst (TakesTo q.1) j ((k q.0).takes.front q.1) in
+      let fr : (u : List ℕ) × (q.1 ≡ u ++ (v ++ w)) = subst (TakesTo q.1) j ((k q.0).takes.prefix q.1) in
       let t = fr.0 ++ v in
       let z : q.1 ≡ t ++ w = fr.1 ∙ sym (append_assoc fr.0 v w) in
       let before : f q.0 (t ++ w) ≡ Some (x, v ++ w) = ap (f q.0) (sym z) ∙ j in
       let second : f q.0 t ≡ Some (x, v) = (k q.0).alone t x v w here before in
-      let front : p s ≡ Some (q.0, t) = h.alone s q.0 t w (link q.0 x t v w before second here) (g ∙ ap (λ r. Some (q.0, r)) z) in
-      ap (λ r. and_then r f) front ∙ second;
+      let prefix : p s ≡ Some (q.0, t) = h.alone s q.0 t w (link q.0 x t v w before second here) (g ∙ ap (λ r. Some (q.0, r)) z) in
+      ap (λ r. and_then r f) prefix ∙ second;
   takes = takes-bind p f h.takes (λ a. (k a).takes);
 }
 
@@ -100,7 +100,7 @@ pub lasts-ignore : {A : Type 0} (p : Parser A) → Lasts p → Lasts (ignore p)
 lasts-ignore p h = lasts-map (λ _. tt) p h
 
 -- a rule that ends by itself
-pub lasts-closed : {A : Type 0} (p : Parser A) → ((s : List ℕ) → ReadByFrontAlone p s) → Lasts p
+pub lasts-closed : {A : Type 0} (p : Parser A) → ((s : List ℕ) → ReadByPrefixAlone p s) → Lasts p
 lasts-closed {A = A} p h = record { lasts = λ s w e. by s w e (p s) refl }
   where
     by : (s w : List ℕ) → p (s ++ w) ≡ None → (r : Read A) → p s ≡ r → r ≡ None
@@ -109,7 +109,7 @@ lasts-closed {A = A} p h = record { lasts = λ s w e. by s w e (p s) refl }
         let (u, f, more) = h s z.0 z.1 g in
         absurd (is_read (z.0, z.1 ++ w) (sym (more (z.1 ++ w)) ∙ (ap p (sym (append_assoc u z.1 w) ∙ ap (λ t. t ++ w) (sym f)) ∙ e)))
 
-pub alone-closed : {A : Type 0} (p : Parser A) → ((s : List ℕ) → ReadByFrontAlone p s) → Takes p → Alone Any p
+pub alone-closed : {A : Type 0} (p : Parser A) → ((s : List ℕ) → ReadByPrefixAlone p s) → Takes p → Alone Any p
 alone-closed p h k = record {
   alone = λ s x v w here e.
       let (u, f, more) = h (s ++ w) x (v ++ w) e in
@@ -148,7 +148,7 @@ turns {A = A} {B = B} at add p h enters (suc n) acc y s v w here rest e = by (p 
         → ((b : B) (t : List ℕ) → many_from add p n b (t ++ w) ≡ Some (y, v ++ w) → Turned at add p b y t v w) → Turned at add p acc y s v w
     gone q false l g e others = stayed at add p acc y s v w here rest e
     gone q true l g e others =
-        let fr : (u : List ℕ) × (q.1 ≡ u ++ (v ++ w)) = subst (TakesTo q.1) e ((takes-many add p n (add acc q.0) h.takes).front q.1) in
+        let fr : (u : List ℕ) × (q.1 ≡ u ++ (v ++ w)) = subst (TakesTo q.1) e ((takes-many add p n (add acc q.0) h.takes).prefix q.1) in
         let t = fr.0 ++ v in
         let z : q.1 ≡ t ++ w = fr.1 ∙ sym (append_assoc fr.0 v w) in
         let more = others (add acc q.0) t (ap (many_from add p n (add acc q.0)) (sym z) ∙ e) in
@@ -292,7 +292,7 @@ alone-plain c h = alone-weaker (Still c) Any (run c) (plain-still c h) (alone-ru
 pub alone-plain1 : (c : ℕ → ℕ → Bool) → Plain c → Alone Any (run1 c)
 alone-plain1 c h = alone-weaker (Still c) Any (run1 c) (plain-still c h) (alone-run1 c (plain-easy c h))
 
--- none passes at the front, if none passes before what follows
+-- none passes at the start, if none passes before what follows
 no_run : (c : ℕ → ℕ → Bool) → Plain c → (s w : List ℕ) → run_len c (s ++ w) ≡ 0 → run_len c s ≡ 0
 no_run c h [] w e = refl
 no_run c h (a ∷ s) w e =
@@ -326,7 +326,7 @@ alone-source_of {A = A} at p h = record { alone = λ s x v w here e. by s x v w 
     by s x v w here (Some q) g e =
         let z : q.1 ≡ v ++ w = lefts (take (length (s ++ w) - length q.1) (s ++ w)) x q.1 (v ++ w) e in
         let one : p s ≡ Some (q.0, v) = h.alone s q.0 v w here (g ∙ ap (λ r. Some (q.0, r)) z) in
-        let fr : (u : List ℕ) × (s ≡ u ++ v) = subst (TakesTo s) one (h.takes.front s) in
+        let fr : (u : List ℕ) × (s ≡ u ++ v) = subst (TakesTo s) one (h.takes.prefix s) in
         let whole : s ++ w ≡ fr.0 ++ q.1 = ap (λ t. t ++ w) fr.1 ∙ (append_assoc fr.0 v w ∙ ap (λ t. fr.0 ++ t) (sym z)) in
         let x_is : fr.0 ≡ x = sym (taken_is (s ++ w) fr.0 q.1 whole) ∙ values (take (length (s ++ w) - length q.1) (s ++ w)) x q.1 (v ++ w) e in
         ap (taken s) one ∙ both (take (length s - length v) s) x v v (taken_is s fr.0 v fr.1 ∙ x_is) refl

@@ -18,8 +18,8 @@ use Rattle.fluent_laws.proofs.KnownEntries.{starts-message, starts-term, entry_b
 use Rattle.fluent_laws.proofs.Solid.{SolidTo, solid-part}
 use Rattle.fluent_laws.proofs.AlonePieces.{alone-blank_block}
 use Rattle.fluent_laws.proofs.AloneEntries.{break_here, alone-entry}
-use Rattle.fluent_laws.specs.ReadLaws.{TreeOfFront}
-use Rattle.fluent_laws.specs.FrontLaws.{EndsEntry, line_breaks, nothing_more, entry_line}
+use Rattle.fluent_laws.specs.ReadLaws.{TreeOfPrefix}
+use Rattle.fluent_laws.specs.PrefixLaws.{EndsEntry, line_breaks, nothing_more, entry_line}
 use Rattle.fluent_syntax.specs.Entries as n
 use Rattle.fluent_syntax.specs.Entries.{entry}
 use Rattle.fluent_laws.proofs.ChunkLaws.{IsRead, read-many, read-then}
@@ -29,7 +29,7 @@ use Rattle.fluent_laws.proofs.AloneRules.{over, skip_some}
 
 -- a text is over, or a line of the whole ends before it
 abbrev LineBefore : List ℕ → List ℕ → Type 0
-LineBefore s t = (t ≡ []) ⊎ ((front : List ℕ) × (s ≡ front ++ 10 ∷ t))
+LineBefore s t = (t ≡ []) ⊎ ((prefix : List ℕ) × (s ≡ prefix ++ 10 ∷ t))
 
 fed : (t : List ℕ) → run_len is_inside t ≡ 0 → (z : Unit {0} × List ℕ) → skip (byte 10) t ≡ Some z → (t ≡ []) × (z.1 ≡ []) ⊎ (t ≡ 10 ∷ z.1)
 unfolding byte
@@ -81,16 +81,16 @@ line_shorter [] z e = absurd (is_read z (sym e))
 line_shorter (c ∷ s) z e =
     elim (line_before (c ∷ s) z (line_of (c ∷ s) (length (c ∷ s) == 0 || may_begin_entry c) z e)) [
       | inl none ↦ omega (arith, ap length none)
-      | inr (front, f) ↦ omega (arith, ap length f, length-append front (10 ∷ z.1))
+      | inr (prefix, f) ↦ omega (arith, ap length f, length-append prefix (10 ∷ z.1))
     ]
 
-line_behind : (whole s : List ℕ) (z : Unit {0} × List ℕ) → LineBefore whole s → junk_line s ≡ Some z → LineBefore whole z.1
+line_after : (whole s : List ℕ) (z : Unit {0} × List ℕ) → LineBefore whole s → junk_line s ≡ Some z → LineBefore whole z.1
 unfolding junk_line
-line_behind whole s z (inl none) e = absurd (omega (arith, line_shorter s z e, ap length none))
-line_behind whole s z (inr (front, f)) e =
+line_after whole s z (inl none) e = absurd (omega (arith, line_shorter s z e, ap length none))
+line_after whole s z (inr (prefix, f)) e =
     elim (line_before s z (line_of s (length s == 0 || may_begin_entry (first s)) z e)) [
       | inl none ↦ inl none
-      | inr (line, g) ↦ inr (front ++ 10 ∷ line, f ∙ (ap (λ t. front ++ 10 ∷ t) g ∙ sym (append_assoc front (10 ∷ line) (10 ∷ z.1))))
+      | inr (line, g) ↦ inr (prefix ++ 10 ∷ line, f ∙ (ap (λ t. prefix ++ 10 ∷ t) g ∙ sym (append_assoc prefix (10 ∷ line) (10 ∷ z.1))))
     ]
 
 junk_turns : (whole : List ℕ) (n k : ℕ) (s : List ℕ) (z : ℕ × List ℕ) → length s ≤ n → LineBefore whole s → many_from one_more junk_line n k s ≡ Some z → LineBefore whole z.1 × JunkEnds z.1
@@ -101,7 +101,7 @@ junk_turns whole (suc n) k s z l h e = by (junk_line s) refl e (λ m t j g f. ju
   where
     gone : (q : Unit {0} × List ℕ) (b : Bool) → nat_lt (length q.1) (length s) ≡ b → junk_line s ≡ Some q → go_on one_more (many_from one_more junk_line n) k s q b ≡ Some z
         → ((m : ℕ) (t : List ℕ) → length t ≤ n → LineBefore whole t → many_from one_more junk_line n m t ≡ Some z → LineBefore whole z.1 × JunkEnds z.1) → LineBefore whole z.1 × JunkEnds z.1
-    gone q true j g f others = others (one_more k q.0) q.1 (omega (arith, line_shorter s q g, l)) (line_behind whole s q h g) f
+    gone q true j g f others = others (one_more k q.0) q.1 (omega (arith, line_shorter s q g, l)) (line_after whole s q h g) f
     gone q false j g f others = let less = line_shorter s q g in absurd (grind (arith, nat_tests))
 
     by : (r : Read (Unit {0})) → junk_line s ≡ r → turn one_more (many_from one_more junk_line n) k s r ≡ Some z
@@ -118,18 +118,18 @@ junk_read s z e =
     let same : r.1 ≡ z.1 = lefts tt z.0 r.1 z.1 j in
     (subst (LineBefore s) same k.0, subst JunkEnds same k.1)
 
--- what Junk takes ends with a line feed, if anything stands behind it
+-- what Junk takes ends with a line feed, if anything stands after it
 abbrev Fed : List ℕ → Type 0
-Fed u = (front : List ℕ) × (u ≡ front ++ 10 ∷ [])
+Fed u = (prefix : List ℕ) × (u ≡ prefix ++ 10 ∷ [])
 
 junk_fed : (u w : List ℕ) (x : Unit {0}) → junk (u ++ w) ≡ Some (x, w) → (w ≡ []) ⊎ (Fed u × (may_begin_entry (first w) ≡ true))
 junk_fed u w x e =
     let (before, ends) = junk_read (u ++ w) (x, w) e in
     elim before [
       | inl none ↦ inl none
-      | inr (front, f) ↦ elim ends [
+      | inr (prefix, f) ↦ elim ends [
         | inl none ↦ inl none
-        | inr may ↦ inr ((front, append_cancel_right u (front ++ 10 ∷ []) w (f ∙ sym (append_assoc front (10 ∷ []) w))), may)
+        | inr may ↦ inr ((prefix, append_cancel_right u (prefix ++ 10 ∷ []) w (f ∙ sym (append_assoc prefix (10 ∷ []) w))), may)
       ]
     ]
 
@@ -143,11 +143,11 @@ blank_line_is s = by (run_len is_space s) refl
     by zero e = rw e refl
     by (suc n) e = let some : (run_len is_space s == 0) ≡ false = grind (arith, nat_tests) in rw some refl
 
-spaces_short : (front t : List ℕ) → run_len is_space (front ++ 10 ∷ t) ≤ length front
+spaces_short : (prefix t : List ℕ) → run_len is_space (prefix ++ 10 ∷ t) ≤ length prefix
 spaces_short [] t = omega arith
-spaces_short (c ∷ front) t =
+spaces_short (c ∷ prefix) t =
     elim (cases_Bool (c == 32)) [
-      | inl space ↦ rw space (omega (arith, spaces_short front t))
+      | inl space ↦ rw space (omega (arith, spaces_short prefix t))
       | inr other ↦ rw other (omega arith)
     ]
 
@@ -170,9 +170,9 @@ line_end_on t w z some e none =
 
 -- a blank line that ends with a line feed is one before whatever follows
 blank_on : (u w : List ℕ) (z : Unit {0} × List ℕ) → Fed u → blank_line u ≡ Some z → blank_line (u ++ w) ≡ None → ⊥
-blank_on u w z (front, f) e none =
-    let short : run_len is_space u ≤ length front = subst (λ t. run_len is_space t ≤ length front) (sym f) (spaces_short front []) in
-    let less : run_len is_space u < length u = omega (arith, short, ap length f, length-append front (10 ∷ [])) in
+blank_on u w z (prefix, f) e none =
+    let short : run_len is_space u ≤ length prefix = subst (λ t. run_len is_space t ≤ length prefix) (sym f) (spaces_short prefix []) in
+    let less : run_len is_space u < length u = omega (arith, short, ap length f, length-append prefix (10 ∷ [])) in
     let some : 0 < length (drop (run_len is_space u) u) = omega (arith, less, length-drop (run_len is_space u) u) in
     let there : blank_line (u ++ w) ≡ line_end (drop (run_len is_space u) u ++ w) = blank_line_is (u ++ w) ∙ ap line_end (ap (λ k. drop k (u ++ w)) (spaces_on u w less) ∙ drop-append-le (run_len is_space u) u w (run_len-le is_space u)) in
     line_end_on (drop (run_len is_space u) u) w z some (sym (blank_line_is u) ∙ e) (sym there ∙ none)
@@ -242,11 +242,11 @@ last [] = 0
 last (c ∷ []) = c
 last (b ∷ c ∷ s) = last (c ∷ s)
 
-last_is : (front : List ℕ) (c : ℕ) → last (front ++ c ∷ []) ≡ c
+last_is : (prefix : List ℕ) (c : ℕ) → last (prefix ++ c ∷ []) ≡ c
 unfolding last
 last_is [] c = refl
 last_is (a ∷ []) c = refl
-last_is (a ∷ b ∷ front) c = last_is (b ∷ front) c
+last_is (a ∷ b ∷ prefix) c = last_is (b ∷ prefix) c
 
 break_read : (t : List ℕ) → (t ≡ 10 ∷ []) ⊎ (t ≡ 13 ∷ 10 ∷ []) → line_break t ≡ Some (tt, [])
 unfolding line_break byte
@@ -255,8 +255,8 @@ break_read t (inr pair) = ap line_break pair
 
 -- what ends with a line feed ends with nothing else
 fed_solid : (u : List ℕ) → Fed u → SolidTo u [] → ⊥
-fed_solid u (front, f) (most, c, g, solid) =
-    let same : c ≡ 10 = sym (last_is most c) ∙ (ap last (sym g ∙ f) ∙ last_is front 10) in
+fed_solid u (prefix, f) (most, c, g, solid) =
+    let same : c ≡ 10 = sym (last_is most c) ∙ (ap last (sym g ∙ f) ∙ last_is prefix 10) in
     true_false (c == 10) (ap (λ k. k == 10) same) solid
 
 -- an entry with its line break is one before what may begin the next
@@ -345,7 +345,7 @@ comment_junk [] w o e none =
     let z : w ≡ 35 ∷ q.1 = taken_one 35 refl w q.1 f in
     elim (line_before q.1 (tt, w) g) [
       | inl over ↦ absurd (omega (arith, ap length (sym over ∙ z)))
-      | inr (front, h) ↦ absurd (omega (arith, ap length h, ap length z, length-append front (10 ∷ w)))
+      | inr (prefix, h) ↦ absurd (omega (arith, ap length h, ap length z, length-append prefix (10 ∷ w)))
     ]
 comment_junk (c ∷ u) w o e none =
     let z : c ≡ 35 = eqb-true c 35 (starts-comment.start (c ∷ (u ++ w)) (tt, w) e) in
@@ -371,16 +371,16 @@ same_part u w o x y (inr (none, inl (blank, g))) (inr (bare, inr (junked, i))) =
 same_part u w o x y (inr (none, inr (junked, g))) (inr (bare, inl (blank, i))) = absurd (blank_junk u o w blank junked)
 same_part u w o x y (inr (none, inr (junked, g))) (inr (bare, inr (other, i))) = sym g ∙ i
 
-part_tree : TreeOfFront part
-part_tree front one other x y e f = same_part front one other x y (part_read (front ++ one) one x e) (part_read (front ++ other) other y f)
+part_tree : TreeOfPrefix part
+part_tree prefix one other x y e f = same_part prefix one other x y (part_read (prefix ++ one) one x e) (part_read (prefix ++ other) other y f)
 
 -- with its bytes
 bytes_of : (s : List ℕ) (r : Read Part) (x : Chunk) (t : List ℕ) → part s ≡ r → with_bytes s r ≡ Some (x, t) → (y : Part) × (part s ≡ Some (y, t)) × ((record { bytes = take (length s - length t) s; part = y }) ≡ x)
 bytes_of s None x t e f = absurd (is_read (x, t) (sym f))
 bytes_of s (Some p) x t e f = let z : p.1 ≡ t = lefts _ x p.1 t f in (p.0, e ∙ ap (λ r. Some (p.0, r)) z, ap (λ r. record { bytes = take (length s - length r) s; part = p.0 }) (sym z) ∙ values _ x p.1 t f)
 
-pub chunk_tree : TreeOfFront chunk
-chunk_tree front one other x y e f =
-    let (p, g, h) = bytes_of (front ++ one) (part (front ++ one)) x one refl e in
-    let (q, i, j) = bytes_of (front ++ other) (part (front ++ other)) y other refl f in
-    sym h ∙ (ap (λ b. record { bytes = b; part = p }) (taken_is (front ++ one) front one refl ∙ sym (taken_is (front ++ other) front other refl)) ∙ (ap (λ z. record { bytes = take (length (front ++ other) - length other) (front ++ other); part = z }) (part_tree front one other p q g i) ∙ j))
+pub chunk_tree : TreeOfPrefix chunk
+chunk_tree prefix one other x y e f =
+    let (p, g, h) = bytes_of (prefix ++ one) (part (prefix ++ one)) x one refl e in
+    let (q, i, j) = bytes_of (prefix ++ other) (part (prefix ++ other)) y other refl f in
+    sym h ∙ (ap (λ b. record { bytes = b; part = p }) (taken_is (prefix ++ one) prefix one refl ∙ sym (taken_is (prefix ++ other) prefix other refl)) ∙ (ap (λ z. record { bytes = take (length (prefix ++ other) - length other) (prefix ++ other); part = z }) (part_tree prefix one other p q g i) ∙ j))

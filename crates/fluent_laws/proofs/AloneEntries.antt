@@ -1,4 +1,4 @@
--- Variants, selects, attributes, messages, terms and entries read the same where what stands behind them is taken away.
+-- Variants, selects, attributes, messages, terms and entries read the same where what stands after them is taken away.
 use Rattle.std.proofs.Common.{◌≡◌, ◌==◌, ◌||◌, ℕ, Bool, true, false, List, [], ◌∷◌, ◌++◌, length, Some, None, refl, sym, ap, ◌∙◌, subst, arith, eqb-true, ◌⊎◌, inl, inr}
 use Rattle.std.proofs.lemmas.Bool.Decides.{nat_tests}
 use Rattle.fluent_tree.specs.Tree.{Text, Inline, Expression, inline, Key, Variant, Pattern, select, variants_of, name_key, number_key, message_entry, term_entry}
@@ -16,7 +16,7 @@ use Rattle.fluent_laws.proofs.KnownRules.{is}
 use Rattle.fluent_laws.proofs.KnownPatterns.{block_rest, placeable_rest, text_piece, block_piece, hole_piece, words_some, no_element, ends_pattern, leads-variant, leads-default, variant_line, over, others, selects, leads-selects, many_first}
 use Rattle.fluent_laws.proofs.KnownEntries.{leads-attribute, attributes_from, value_element, starts-message, starts-term}
 use Rattle.fluent_laws.proofs.Alone.{Seam, Any, Whole, Alone, alone-any, alone-bind, alone-then, alone-pure, alone-map, alone-provided, alone-or, way-clash, Rests, alone-many, alone-byte}
-use Rattle.fluent_laws.proofs.AloneRules.{nowhere, way-starts, alone-identifier, alone-spaces, alone-line_end, alone-behind, alone-behind_byte, is_over, alone-number_literal}
+use Rattle.fluent_laws.proofs.AloneRules.{nowhere, way-starts, alone-identifier, alone-spaces, alone-line_end, alone-after, alone-after_byte, is_over, alone-number_literal}
 use Rattle.fluent_laws.proofs.AloneInlines.{free, Free, whole_free, alone-inline}
 use Rattle.fluent_laws.proofs.AlonePieces.{B, braced, NoCut, Over, alone-pattern}
 
@@ -77,7 +77,7 @@ break_over m t w (inr (inr pair)) = (
   inr (unread (pattern_element (B m) t) (λ z f. lone_break m (13 ∷ 10 ∷ []) refl refl refl z (ap (pattern_element (B m)) (sym pair) ∙ f))),
 )
 
--- nothing is behind its blanks
+-- nothing is after its blanks
 break_next : (t : List ℕ) → IsBreak t → next t ≡ 0
 unfolding next
 break_next t (inl none) = ap next none
@@ -115,8 +115,8 @@ pub alone-variant_key : Alone Any variant_key
 unfolding variant_key
 alone-variant_key =
     alone-then Any (byte 91) _ (alone-byte 91 refl) (λ _.
-    alone-behind Any may_start_key (key_inside >>= (λ key. skip blank >> (byte 93 >> pure key))) (starts-bind may_start_key key_inside _ starts-key_inside) (λ c e. grind (arith, nat_tests))
-    (alone-then Any key_inside _ alone-key_inside (λ key. alone-behind_byte Any 93 (pure key) refl refl refl (alone-pure Any key))))
+    alone-after Any may_start_key (key_inside >>= (λ key. skip blank >> (byte 93 >> pure key))) (starts-bind may_start_key key_inside _ starts-key_inside) (λ c e. grind (arith, nat_tests))
+    (alone-then Any key_inside _ alone-key_inside (λ key. alone-after_byte Any 93 (pure key) refl refl refl (alone-pure Any key))))
 
 starts-variant_key : Starts (is 91) variant_key
 unfolding variant_key
@@ -129,8 +129,8 @@ alone-key_and_spaces : Alone Any key_and_spaces
 alone-key_and_spaces = alone-then Any variant_key _ alone-variant_key (λ key. alone-then Any (skip blank_inline) _ alone-spaces (λ _. alone-pure Any key))
 
 alone-star : (default : Bool) → Alone Any (skip blank >> (star default >> key_and_spaces))
-alone-star true = alone-behind_byte Any 42 key_and_spaces refl refl refl alone-key_and_spaces
-alone-star false = alone-behind Any (is 91) key_and_spaces (starts-bind (is 91) variant_key _ starts-variant_key) (is_over 91 refl) alone-key_and_spaces
+alone-star true = alone-after_byte Any 42 key_and_spaces refl refl refl alone-key_and_spaces
+alone-star false = alone-after Any (is 91) key_and_spaces (starts-bind (is 91) variant_key _ starts-variant_key) (is_over 91 refl) alone-key_and_spaces
 
 pub alone-variant_head : (default : Bool) → Alone Any (variant_head default)
 unfolding variant_head
@@ -150,14 +150,14 @@ default_over m t w z e = let (q, f) = variant_line (level m) true t z e in line_
 no_variant : (m : ℕ) (t : List ℕ) (c : ℕ) → next t ≡ c → (c == 91) ≡ false → Rests (variant (level m) false) t
 no_variant m t c e f = inr (unread (variant (level m) false t) (λ z g. true_false (next t == 91) ((leads-variant (level m)).lead t z g) (ap (λ k. k == 91) e ∙ f)))
 
--- variants behind others
+-- variants after others
 abbrev Variants_over : ℕ → Seam
 Variants_over m v w = Over m v w × Rests (variant (level m) false) v
 
 alone-variants : (m : ℕ) (before : List Variant) → Alone (Variants_over m) (λ s. many_from push (variant (level m) false) (length s) before s)
 alone-variants m before = alone-many (Over m) push (variant (level m) false) before (alone-variant m false) (λ a s v w e g less here. variant_over m s w (a, v) g)
 
--- the line end behind variants
+-- the line end after variants
 break_of : (all : List Variant) (t : List ℕ) (z : List Variant × List ℕ) → over all t ≡ Some z → z.1 ≡ [] → IsBreak t
 break_of all t z e none = let (q, f, g) = first_read (line_end t) (λ _. pure all) z e in break_here t q f (lefts all z.0 q.1 z.1 g ∙ none)
 
@@ -191,7 +191,7 @@ alone-variant_list m =
 
 alone-arrow : Alone Any arrow
 unfolding arrow
-alone-arrow = alone-behind_byte Any 45 (byte 62 >> skip blank_inline) refl refl refl (alone-then Any (byte 62) _ (alone-byte 62 refl) (λ _. alone-spaces))
+alone-arrow = alone-after_byte Any 45 (byte 62 >> skip blank_inline) refl refl refl (alone-then Any (byte 62) _ (alone-byte 62 refl) (λ _. alone-spaces))
 
 alone-selects : (m : ℕ) (x : Inline) → Alone Whole (selects (level m) x)
 alone-selects m x = alone-then Whole arrow _ alone-arrow (λ _. alone-map Whole (λ vs. select x (variants_of vs)) (variant_list (level m)) (alone-variant_list m))
@@ -206,7 +206,7 @@ alone-select m =
     alone-bind Free Whole (selector (level m)) (selects (level m)) (alone-selector m) (alone-selects m)
     (λ a x t v w e g here. ap free (eqb-true (next t) 45 ((leads-selects (level m) a).lead t (x, v) g)))
 
--- where an expression stands alone, no arrow is behind it
+-- where an expression stands alone, no arrow is after it
 no_arrow : (m : ℕ) (t : List ℕ) (y z : Expression × List ℕ) → select_expression (level m) t ≡ Some y → (inline_expression (level m) >>= alone) t ≡ Some z → z.1 ≡ [] → ⊥
 unfolding next
 no_arrow m t y z e f none =
@@ -214,8 +214,8 @@ no_arrow m t y z e f none =
     let (p, c, d) = first_read (inline_expression (level m) t) (λ x. provided (is_selector x) >> pure x) q a in
     let (r, i, j) = first_read (inline_expression (level m) t) alone z f in
     let before : q.1 ≡ p.1 = sym (lefts p.0 q.0 p.1 q.1 (kept (is_selector p.0) p.0 p.1 q d).1) in
-    let behind : r.1 ≡ z.1 = lefts (inline r.0) z.0 r.1 z.1 (kept (stands_alone r.0) (inline r.0) r.1 z j).1 in
-    fails_at 45 (is 0) (next q.1) ((leads-selects (level m) q.0).lead q.1 y b) refl (ap (λ k. next k == 0) (before ∙ (lefts p.0 r.0 p.1 r.1 (sym c ∙ i) ∙ (behind ∙ none))))
+    let after : r.1 ≡ z.1 = lefts (inline r.0) z.0 r.1 z.1 (kept (stands_alone r.0) (inline r.0) r.1 z j).1 in
+    fails_at 45 (is 0) (next q.1) ((leads-selects (level m) q.0).lead q.1 y b) refl (ap (λ k. next k == 0) (before ∙ (lefts p.0 r.0 p.1 r.1 (sym c ∙ i) ∙ (after ∙ none))))
 
 alone-inline_alone : (m : ℕ) → Alone Whole (inline_expression (level m) >>= alone)
 alone-inline_alone m =
@@ -242,7 +242,7 @@ pub alone-attribute : Alone (Over 100) attribute
 unfolding attribute
 alone-attribute =
     alone-then (Over 100) line_end _ alone-line_end (λ _.
-    alone-behind_byte (Over 100) 46 (name_of_value >>= (λ id. value >>= (λ v. pure (id, v)))) refl refl refl
+    alone-after_byte (Over 100) 46 (name_of_value >>= (λ id. value >>= (λ v. pure (id, v)))) refl refl refl
     (alone-then (Over 100) name_of_value _ alone-name_of_value (λ id. alone-map (Over 100) (λ v. (id, v)) value alone-value)))
 
 attribute_over : (t w : List ℕ) (z : (Text × Pattern) × List ℕ) → attribute t ≡ Some z → Over 100 t w

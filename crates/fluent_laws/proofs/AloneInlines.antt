@@ -1,4 +1,4 @@
--- Inline expressions and arguments read the same where what stands behind them is taken away.
+-- Inline expressions and arguments read the same where what stands after them is taken away.
 use Rattle.std.proofs.Common.{◌≡◌, ◌==◌, ◌&&◌, ℕ, Bool, true, List, [], ◌++◌, Some, None, refl, ap, ◌∙◌, arith, eqb-true, inl, inr}
 use Rattle.std.specs.Prelude.{not}
 use Rattle.std.proofs.lemmas.Bool.Decides.{nat_tests}
@@ -11,11 +11,11 @@ use Rattle.fluent_laws.proofs.Leads.{first_read, either_read, true_false, fails_
 use Rattle.fluent_laws.proofs.KnownRules.{is, from_nested, from_variable, from_term, from_message, from_function, is_variable, is_term, may_start_literal, may_start_argument, starts-term, starts-variable, starts-message, starts-literal, second_none, no_quote, shuts_literal, starts-nested, starts-from_variable, starts-from_term, starts-from_function, starts-argument, message_alone, no_point, named_read, same_read, function_read, leads-comma}
 use Rattle.fluent_laws.proofs.KnownPatterns.{firm}
 use Rattle.fluent_laws.proofs.Alone.{Seam, Any, Whole, Alone, alone-weaker, alone-any, alone-bind, alone-then, alone-pure, alone-map, Way, alone-or, lasts-map, Rests, Enters, alone-many}
-use Rattle.fluent_laws.proofs.AloneRules.{nowhere, way-starts, alone-identifier, Blankless, alone-blanks, no_blank, alone-behind, alone-behind_byte, alone-literal, lasts-number_literal, alone-message_reference, alone-variable_reference, alone-braces, alone-function, alone-term_reference, no_blanks}
+use Rattle.fluent_laws.proofs.AloneRules.{nowhere, way-starts, alone-identifier, Blankless, alone-blanks, no_blank, alone-after, alone-after_byte, alone-literal, lasts-number_literal, alone-message_reference, alone-variable_reference, alone-braces, alone-function, alone-term_reference, no_blanks}
 
 -- ---- inline expressions
 
--- neither a call nor a value is behind the blanks that are left
+-- neither a call nor a value is after the blanks that are left
 abbrev pub free : ℕ → Bool
 free n = not (n == 40) && not (n == 58)
 
@@ -65,8 +65,8 @@ pub alone-named_argument : Alone Any named_argument
 unfolding named_argument
 alone-named_argument =
     alone-then Any identifier _ alone-identifier (λ name.
-    alone-behind_byte Any 58 (skip blank >> (literal >>= (λ v. pure (name, v)))) refl refl refl
-    (alone-behind Any may_start_literal (literal >>= (λ v. pure (name, v))) (leads name) (λ c e. grind (arith, nat_tests)) (alone-map Any (λ v. (name, v)) literal alone-literal)))
+    alone-after_byte Any 58 (skip blank >> (literal >>= (λ v. pure (name, v)))) refl refl refl
+    (alone-after Any may_start_literal (literal >>= (λ v. pure (name, v))) (leads name) (λ c e. grind (arith, nat_tests)) (alone-map Any (λ v. (name, v)) literal alone-literal)))
   where
     leads : (name : Text) → Starts {A = Text × Inline} may_start_literal (literal >>= (λ v. pure (name, v)))
     leads name = record { start = λ t z e. let (q, f, g) = first_read (literal t) (λ v. pure (name, v)) z e in starts-literal.start t q f }
@@ -95,7 +95,7 @@ alone-argument n =
 
 alone-comma : Alone Blankless comma
 unfolding comma
-alone-comma = alone-behind_byte Blankless 44 (skip blank) refl refl refl alone-blanks
+alone-comma = alone-after_byte Blankless 44 (skip blank) refl refl refl alone-blanks
 
 free_comma : (c : ℕ) → (c == 44) ≡ true → free c ≡ true
 free_comma c e = ap free (eqb-true c 44 e)

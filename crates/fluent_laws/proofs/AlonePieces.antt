@@ -1,4 +1,4 @@
--- Elements of patterns read the same where what stands behind them is taken away, but for the note of what follows.
+-- Elements of patterns read the same where what stands after them is taken away, but for the note of what follows.
 use Rattle.std.proofs.Common.{◌≡◌, ◌==◌, ◌&&◌, ℕ, zero, suc, ◌+◌, ◌-◌, ◌<◌, ◌≤◌, Bool, true, false, List, [], ◌∷◌, ◌++◌, length, Option, Some, None, if◌then◌else◌, refl, sym, ap, ◌∙◌, subst, append_assoc, nat_lt, arith, length-append, eqb-true, inl, inr}
 use Rattle.std.specs.Prelude.{unwrap_or, replicate}
 use Rattle.std.proofs.lemmas.Bool.{cases_Bool}
@@ -8,13 +8,13 @@ use Rattle.fluent_syntax.specs.Facts.OneLine.{no_words, some_words}
 use Rattle.fluent_tree.specs.Tree.{Expression, placeable, pattern_of}
 use Rattle.fluent_text.specs.Parser.{Read, Parser, ◌>>=◌, ◌<$>◌, ◌<|>◌, and_then, otherwise, pure, skip, optional, many_from, turn, go_on, count, one_more, run_len, run1, byte, first}
 use Rattle.fluent_text.specs.Lexical.{is_text, blank_inline, line_break, line_end, blank_line, blank_block}
-use Rattle.fluent_syntax.specs.Layout.{Words, Piece, line, words, hole, lines, elements, smaller, indent_in, smallest_indent, common_indent, starts_line, joined, dedented, feed, trim_front, trim_last}
+use Rattle.fluent_syntax.specs.Layout.{Words, Piece, line, words, hole, lines, elements, smaller, indent_in, smallest_indent, common_indent, starts_line, joined, dedented, feed, trim_start, trim_last}
 use Rattle.fluent_syntax.specs.Pieces.{follows, words_after, inline_text, is_indented, indented_text, block_text, indent, block_placeable, pattern_element, pieces, pattern}
 use Rattle.fluent_syntax.specs.Expressions.{level}
 use Rattle.fluent_laws.specs.ReadLaws.{taken_words, taken_piece}
 use Rattle.fluent_text.specs.Facts.Turns.{more as a_turn}
-use Rattle.fluent_syntax.specs.Facts.Fronts.{TakesTo, Takes, takes-bind, takes-map, takes-or, takes-if, takes-many, takes-all, no_longer}
-use Rattle.fluent_syntax.specs.Facts.LexicalFronts.{takes-words_after, takes-blank_inline, more_lines, takes-more_lines}
+use Rattle.fluent_syntax.specs.Facts.Prefixes.{TakesTo, Takes, takes-bind, takes-map, takes-or, takes-if, takes-many, takes-all, no_longer}
+use Rattle.fluent_syntax.specs.Facts.LexicalPrefixes.{takes-words_after, takes-blank_inline, more_lines, takes-more_lines}
 use Rattle.fluent_laws.proofs.Near.{is_read, none_of}
 use Rattle.fluent_laws.proofs.Known.{lefts, values, both, unread}
 use Rattle.fluent_laws.proofs.Leads.{first_read, either_read, true_false}
@@ -59,13 +59,13 @@ by-bind : {A B : Type 0} (g : List ℕ → B → B) (at of : Seam) (p : Parser A
 by-bind g at of p f h k link = record {
   alone_by = λ s x v w here e.
       let (q, i, j) = first_read (p (s ++ w)) f (x, v ++ w) e in
-      let fr : (u : List ℕ) × (q.1 ≡ u ++ (v ++ w)) = subst (TakesTo q.1) j ((k q.0).takes_by.front q.1) in
+      let fr : (u : List ℕ) × (q.1 ≡ u ++ (v ++ w)) = subst (TakesTo q.1) j ((k q.0).takes_by.prefix q.1) in
       let t = fr.0 ++ v in
       let z : q.1 ≡ t ++ w = fr.1 ∙ sym (append_assoc fr.0 v w) in
       let before : f q.0 (t ++ w) ≡ Some (x, v ++ w) = ap (f q.0) (sym z) ∙ j in
       let second : f q.0 t ≡ Some (g v x, v) = (k q.0).alone_by t x v w here before in
-      let front : p s ≡ Some (q.0, t) = h.alone s q.0 t w (link q.0 x t v w before second here) (i ∙ ap (λ r. Some (q.0, r)) z) in
-      ap (λ r. and_then r f) front ∙ second;
+      let prefix : p s ≡ Some (q.0, t) = h.alone s q.0 t w (link q.0 x t v w before second here) (i ∙ ap (λ r. Some (q.0, r)) z) in
+      ap (λ r. and_then r f) prefix ∙ second;
   takes_by = takes-bind p f h.takes (λ a. (k a).takes_by);
 }
 
@@ -109,7 +109,7 @@ noted i u = (λ s. Some (follows 10 s, s)) >>= (λ fed. pure (record { indent = 
 
 by-noted : (i : Option ℕ) (u : List ℕ) → AloneBy hushed NoCut (noted i u)
 unfolding noted
-by-noted i u = record { alone_by = λ s x v w here e. at s x v w e; takes_by = record { front = λ s. ([], refl) } }
+by-noted i u = record { alone_by = λ s x v w here e. at s x v w e; takes_by = record { prefix = λ s. ([], refl) } }
   where
     by : (s : List ℕ) (x : Words) (v w : List ℕ) → ◌≡◌ {A = Read Words} (Some (record { indent = i; bytes = u; fed = follows 10 (s ++ w) }, s ++ w)) (Some (x, v ++ w)) → hushed s (record { indent = i; bytes = u; fed = follows 10 (s ++ w) }) ≡ record { indent = i; bytes = u; fed = follows 10 s } → noted i u s ≡ Some (hushed v x, v)
     by s x v w e f =
@@ -317,9 +317,9 @@ lines_on r = refl
 break_left : {A : Type 0} (f : ℕ → Parser A) (r : List ℕ) (x : A) (t : List ℕ) → ((k : ℕ) → Takes (f k)) → (blank_block >>= f) (13 ∷ 10 ∷ r) ≡ Some (x, t) → length t ≤ length r
 break_left f r x t h e =
     let (q, i, j) = first_read (blank_block (13 ∷ 10 ∷ r)) f (x, t) e in
-    let before : length q.1 ≤ length r = no_longer r q.0 q.1 (subst (TakesTo r) (sym (lines_on r) ∙ i) (takes-more_lines.front r)) in
-    let behind : length t ≤ length q.1 = no_longer q.1 x t (subst (TakesTo q.1) j ((h q.0).front q.1)) in
-    omega (arith, before, behind)
+    let before : length q.1 ≤ length r = no_longer r q.0 q.1 (subst (TakesTo r) (sym (lines_on r) ∙ i) (takes-more_lines.prefix r)) in
+    let after : length t ≤ length q.1 = no_longer q.1 x t (subst (TakesTo q.1) j ((h q.0).prefix q.1)) in
+    omega (arith, before, after)
 
 takes-block_rest : (ends : ℕ) → Takes (block_rest ends)
 takes-block_rest ends = takes-bind blank_inline _ takes-blank_inline (λ n. takes-map (λ w. (ends, w)) (indented_text n) (takes-if is_indented (words_after (Some n)) (takes-words_after (Some n))))
@@ -379,7 +379,7 @@ module _ (n : ℕ) (w : List ℕ) where
           → ((b : List Piece) (t : List ℕ) → many_from ◌++◌ element k b (t ++ w) ≡ Some (y, v ++ w) → Turned b y t v) → Turned acc y s v
       gone q false l g e others = stayed acc y s v here e
       gone q true l g e others =
-          let fr : (u : List ℕ) × (q.1 ≡ u ++ (v ++ w)) = subst (TakesTo q.1) e ((takes-many ◌++◌ element k (acc ++ q.0) (by-element n).takes_by).front q.1) in
+          let fr : (u : List ℕ) × (q.1 ≡ u ++ (v ++ w)) = subst (TakesTo q.1) e ((takes-many ◌++◌ element k (acc ++ q.0) (by-element n).takes_by).prefix q.1) in
           let t = fr.0 ++ v in
           let z : q.1 ≡ t ++ w = fr.1 ∙ sym (append_assoc fr.0 v w) in
           let more = others (acc ++ q.0) t (ap (many_from ◌++◌ element k (acc ++ q.0)) (sym z) ∙ e) in
@@ -400,21 +400,21 @@ module _ (n : ℕ) (w : List ℕ) where
       by None g e others = stayed acc y s v here e
       by (Some q) g e others = gone q (nat_lt (length q.1) (length (s ++ w))) refl g e others
 
-abbrev from_front : ℕ → List Piece → Parser (List Piece)
-from_front n front = λ s. many_from ◌++◌ (pattern_element (B n)) (length s) front s
+abbrev from_start : ℕ → List Piece → Parser (List Piece)
+from_start n prefix = λ s. many_from ◌++◌ (pattern_element (B n)) (length s) prefix s
 
 by-pieces : (n : ℕ) → AloneBy quiet_at (Over n) (pieces (B n))
 unfolding pieces
 by-pieces n = record {
   alone_by = λ s y v w here e.
-      let (q, i, j) = first_read (pattern_element (B n) (s ++ w)) (from_front n) (y, v ++ w) e in
-      let fr : (u : List ℕ) × (q.1 ≡ u ++ (v ++ w)) = subst (TakesTo q.1) j ((takes-many ◌++◌ (pattern_element (B n)) (length q.1) q.0 (by-element n).takes_by).front q.1) in
+      let (q, i, j) = first_read (pattern_element (B n) (s ++ w)) (from_start n) (y, v ++ w) e in
+      let fr : (u : List ℕ) × (q.1 ≡ u ++ (v ++ w)) = subst (TakesTo q.1) j ((takes-many ◌++◌ (pattern_element (B n)) (length q.1) q.0 (by-element n).takes_by).prefix q.1) in
       let t = fr.0 ++ v in
       let z : q.1 ≡ t ++ w = fr.1 ∙ sym (append_assoc fr.0 v w) in
       let more = turns n w (length q.1) q.0 y t v here (ap (many_from ◌++◌ (pattern_element (B n)) (length q.1) q.0) (sym z) ∙ j) in
       let one : pattern_element (B n) s ≡ Some (quiet_at t q.0, t) = (by-element n).alone_by s q.0 t w more.1 (i ∙ ap (λ r. Some (q.0, r)) z) in
-      ap (λ r. and_then r (from_front n)) one ∙ more.0 (length t) (omega arith);
-  takes_by = takes-bind (pattern_element (B n)) (from_front n) (by-element n).takes_by (λ front. takes-all ◌++◌ (pattern_element (B n)) front (by-element n).takes_by);
+      ap (λ r. and_then r (from_start n)) one ∙ more.0 (length t) (omega arith);
+  takes_by = takes-bind (pattern_element (B n)) (from_start n) (by-element n).takes_by (λ prefix. takes-all ◌++◌ (pattern_element (B n)) prefix (by-element n).takes_by);
 }
 
 -- ---- the layout doesn't look at the note of the last words
@@ -451,7 +451,7 @@ indent_same (p ∷ q ∷ ps) = ap (smaller (indent_in p)) (indent_same (q ∷ ps
 
 elements_same : (v : List ℕ) (ps : List Piece) → elements (quiet_at v ps) ≡ elements ps
 unfolding elements
-elements_same [] ps = ap (λ m. trim_last (trim_front (lines (unwrap_or m 0) (quieted ps)))) (indent_same ps) ∙ ap (λ es. trim_last (trim_front es)) (lines_same (common_indent ps) ps)
+elements_same [] ps = ap (λ m. trim_last (trim_start (lines (unwrap_or m 0) (quieted ps)))) (indent_same ps) ∙ ap (λ es. trim_last (trim_start es)) (lines_same (common_indent ps) ps)
 elements_same (a ∷ v) ps = refl
 
 pub alone-pattern : (n : ℕ) → Alone (Over n) (pattern (B n))

@@ -1,4 +1,4 @@
--- Names, blanks, literals, references and arguments read the same where what stands behind them is taken away.
+-- Names, blanks, literals, references and arguments read the same where what stands after them is taken away.
 use Rattle.std.proofs.Common.{◌≡◌, ◌==◌, ℕ, zero, suc, ◌+◌, ◌-◌, ◌<◌, Bool, true, false, List, [], ◌∷◌, ◌++◌, length, take, drop, Some, None, if◌then◌else◌, refl, sym, ap, ◌∙◌, nat_lt, arith, length-append, length-drop, eqb-true, inl, inr}
 use Rattle.std.proofs.lemmas.Bool.{cases_Bool}
 use Rattle.std.proofs.lemmas.Bool.Decides.{nat_tests}
@@ -7,19 +7,19 @@ use Rattle.fluent_tree.specs.Tree.{no_call, call, no_attribute, attribute, strin
 use Rattle.fluent_text.specs.Parser.{Read, Parser, ◌>>=◌, ◌>>◌, ◌<$>◌, ◌<|>◌, and_then, otherwise, pure, ignore, skip, count, one_more, many_from, run_len, run, run1, byte, first}
 use Rattle.fluent_text.specs.Lexical.{is_letter, is_space, is_digit, is_quoted, is_identifier_byte, identifier, blank_inline, at_end, line_break, line_end, blank_turn, blank}
 use Rattle.fluent_syntax.specs.Expressions.{level, taken, source_of, hex_digit, hex_digits, escape, quoted_turn, digits, number_parts, string_literal, number_literal, literal, attribute_access, message_reference, is_function_name, function_reference, optional_call, term_reference, variable_reference}
-use Rattle.fluent_syntax.specs.Facts.Fronts.{takes-nothing, takes-test, takes-drop}
-use Rattle.fluent_syntax.specs.Facts.LexicalFronts.{takes-identifier, takes-at_end, takes-blanks}
+use Rattle.fluent_syntax.specs.Facts.Prefixes.{takes-nothing, takes-test, takes-drop}
+use Rattle.fluent_syntax.specs.Facts.LexicalPrefixes.{takes-identifier, takes-at_end, takes-blanks}
 use Rattle.fluent_laws.proofs.Near.{is_read}
-use Rattle.fluent_laws.proofs.Known.{Behind, lefts, taken_one}
+use Rattle.fluent_laws.proofs.Known.{After, lefts, taken_one}
 use Rattle.fluent_laws.proofs.Leads.{first_read, true_false, end_read, Starts, starts-bind, starts-byte, starts-number_literal, may_start_number}
 use Rattle.fluent_laws.proofs.KnownRules.{is}
-use Rattle.fluent_laws.proofs.KnownPatterns.{firm, placeable_by_front, call_by_front}
+use Rattle.fluent_laws.proofs.KnownPatterns.{firm, placeable_by_prefix, call_by_prefix}
 use Rattle.std.specs.Char.{is_ascii_hexdigit}
 use Rattle.fluent_laws.proofs.NearStrings.{to_quote, no_turn}
 use Rattle.fluent_laws.proofs.Alone.{one, Seam, Any, Alone, alone-weaker, alone-any, alone-bind, alone-then, alone-pure, alone-map, alone-provided, Way, alone-or, Lasts, way-lasts, way-clash, lasts-map, lasts-ignore, lasts-closed, alone-closed, Rests, Enters, alone-many, enters-any, alone-byte, lasts-byte, lasts-next, Easy, Still, alone-run1, Plain, alone-plain, alone-plain1, lasts-run1, none_run1, alone-source_of}
 
 -- where nothing follows
-abbrev pub nowhere : Behind
+abbrev pub nowhere : After
 nowhere = record { may = λ w. Unit {0}; here = []; holds = tt }
 
 -- ---- what is read alone is read before whatever follows
@@ -163,7 +163,7 @@ alone-blanks = record { alone = λ s x v w here e. by s x v w here (ignore blank
         let z : s ≡ v = append_cancel_right s v w (lefts tt x (s ++ w) (v ++ w) g) in
         ap (skip blank) z ∙ none_blank v none
 
--- ---- what stands behind blanks
+-- ---- what stands after blanks
 
 -- a byte above the space
 abbrev pub over : ℕ → Bool
@@ -183,15 +183,15 @@ blankless : {A : Type 0} (P : ℕ → Bool) (p : Parser A) (t : List ℕ) (z : A
 blankless P p t z h f e = inr (no_blank t (f (first t) (h.start t z e)))
 
 -- blanks, and what begins with such a byte
-pub alone-behind : {B : Type 0} (at : Seam) (P : ℕ → Bool) (p : Parser B) → Starts P p → ((c : ℕ) → P c ≡ true → over c ≡ true) → Alone at p → Alone at (skip blank >> p)
-alone-behind at P p h f k = alone-bind Blankless at (skip blank) (λ _. p) alone-blanks (λ _. k) (λ a x t v w e g here. blankless P p t (x, v) h f g)
+pub alone-after : {B : Type 0} (at : Seam) (P : ℕ → Bool) (p : Parser B) → Starts P p → ((c : ℕ) → P c ≡ true → over c ≡ true) → Alone at p → Alone at (skip blank >> p)
+alone-after at P p h f k = alone-bind Blankless at (skip blank) (λ _. p) alone-blanks (λ _. k) (λ a x t v w e g here. blankless P p t (x, v) h f g)
 
 pub is_over : (c : ℕ) → over c ≡ true → (n : ℕ) → is c n ≡ true → over n ≡ true
 is_over c e n g = ap over (eqb-true n c g) ∙ e
 
 -- the same, where the first is one byte
-pub alone-behind_byte : {B : Type 0} (at : Seam) (c : ℕ) (p : Parser B) → (0 == c) ≡ false → (c == c) ≡ true → over c ≡ true → Alone at p → Alone at (skip blank >> (byte c >> p))
-alone-behind_byte at c p some same o k = alone-behind at (is c) (byte c >> p) (starts-bind (is c) (byte c) _ (starts-byte (is c) c some same)) (is_over c o) (alone-then at (byte c) _ (alone-byte c some) (λ _. k))
+pub alone-after_byte : {B : Type 0} (at : Seam) (c : ℕ) (p : Parser B) → (0 == c) ≡ false → (c == c) ≡ true → over c ≡ true → Alone at p → Alone at (skip blank >> (byte c >> p))
+alone-after_byte at c p some same o k = alone-after at (is c) (byte c >> p) (starts-bind (is c) (byte c) _ (starts-byte (is c) c some same)) (is_over c o) (alone-then at (byte c) _ (alone-byte c some) (λ _. k))
 
 -- ---- strings
 
@@ -235,7 +235,7 @@ starts-escape : Starts (is 92) escape
 unfolding escape
 starts-escape = starts-c 92 _ refl refl
 
--- a text of a string goes on behind it, and a carriage return isn't all of that
+-- a text of a string goes on after it, and a carriage return isn't all of that
 abbrev Quoted : Seam
 Quoted v w = (0 < length v) × ((v ≡ 13 ∷ []) → ⊥)
 
@@ -355,10 +355,10 @@ unfolding variable_reference
 alone-variable_reference = alone-map Any variable (byte 36 >> identifier) (alone-then Any (byte 36) _ (alone-byte 36 refl) (λ _. alone-identifier))
 
 pub alone-braces : (n : ℕ) → Alone Any (level n).braces
-alone-braces n = alone-closed (level n).braces (placeable_by_front n) (firm nowhere n).braces.takes
+alone-braces n = alone-closed (level n).braces (placeable_by_prefix n) (firm nowhere n).braces.takes
 
 pub alone-brackets : (n : ℕ) → Alone Any (level n).brackets
-alone-brackets n = alone-closed (level n).brackets (call_by_front n) (firm nowhere n).brackets.takes
+alone-brackets n = alone-closed (level n).brackets (call_by_prefix n) (firm nowhere n).brackets.takes
 
 pub alone-function : (n : ℕ) → Alone Any (function_reference (level n))
 unfolding function_reference
@@ -368,7 +368,7 @@ alone-call : (n : ℕ) → Alone Any (optional_call (level n))
 unfolding optional_call
 alone-call n =
     alone-or Any (call <$> (level n).brackets) (pure no_call) (alone-map Any call (level n).brackets (alone-brackets n)) (alone-pure Any no_call)
-    (way-lasts Any (call <$> (level n).brackets) (pure no_call) (lasts-map call (level n).brackets (lasts-closed (level n).brackets (call_by_front n))))
+    (way-lasts Any (call <$> (level n).brackets) (pure no_call) (lasts-map call (level n).brackets (lasts-closed (level n).brackets (call_by_prefix n))))
 
 pub alone-term_reference : (n : ℕ) → Alone Any (term_reference (level n))
 unfolding term_reference

@@ -64,7 +64,7 @@ at_read : (P : Type 0) (s : List ℕ) (r : Read Chunk) → chunk s ≡ r → IsR
 at_read P s None e h k = absurd h
 at_read P s (Some p) e h k = k p.0 p.1 e
 
--- what holds whatever the chunk at the front is
+-- what holds whatever the chunk at the start is
 pub by_chunk : (P : Type 0) (s : List ℕ) → ((c : Chunk) (rest : List ℕ) → chunk s ≡ Some (c, rest) → P) → P
 by_chunk P s k = at_read P s (chunk s) refl (read-with_bytes s (part s) (read-part s)) k
 

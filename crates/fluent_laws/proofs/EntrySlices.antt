@@ -8,8 +8,8 @@ use Rattle.fluent_syntax.specs.Entries as n
 use Rattle.fluent_syntax.specs.Entries.{value, name_of_value, attribute, value_first, attributes_alone, entry}
 use Rattle.fluent_syntax.specs.Chunks.{comment_line, junk, Part, part, entry_part, blank_part, junk_part, part_entry, Chunk, with_bytes, chunks, entries_of}
 use Rattle.fluent_laws.specs.SliceLaws.{IsSlice, SlicesOfPattern, SlicesOfAttributes, SlicesOfValue, SlicesOfEntry, AllSlices}
-use Rattle.fluent_syntax.specs.Facts.Fronts.{takes-byte}
-use Rattle.fluent_syntax.specs.Facts.LexicalFronts.{takes-line_end, takes-blanks, takes-spaces, takes-blank_block}
+use Rattle.fluent_syntax.specs.Facts.Prefixes.{takes-byte}
+use Rattle.fluent_syntax.specs.Facts.LexicalPrefixes.{takes-line_end, takes-blanks, takes-spaces, takes-blank_block}
 use Rattle.fluent_laws.proofs.Slices.{EndOf, later, slice_here, Gives, Ended, Within, within-bind, within-then, within-pure, within-map, within-or, within-all}
 use Rattle.fluent_laws.proofs.TreeSlices.{slice-identifier, slice-pattern_at}
 use Rattle.fluent_syntax.specs.Facts.Chunked.{CutsTo, chunk-cuts, takes-comment_line, takes-junk, chunks-none, chunks-next, chunk_shorter}

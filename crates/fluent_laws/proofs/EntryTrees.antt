@@ -10,8 +10,8 @@ use Rattle.fluent_syntax.specs.Entries.{value, name_of_value, attribute, value_f
 use Rattle.fluent_syntax.specs.Chunks.{comment_line, junk, Part, part, entry_part, blank_part, junk_part, part_entry, Chunk, with_bytes, chunks, entries_of}
 use Rattle.fluent_syntax.specs.WellFormed.{IsWellFormedPattern, AreWellFormedAttributes, IsWellFormedValue, IsWellFormedEntry}
 use Rattle.fluent_laws.specs.TreeLaws.{AllWellFormed}
-use Rattle.fluent_syntax.specs.Facts.Fronts.{takes-byte}
-use Rattle.fluent_syntax.specs.Facts.LexicalFronts.{takes-line_end, takes-blanks, takes-blank_block}
+use Rattle.fluent_syntax.specs.Facts.Prefixes.{takes-byte}
+use Rattle.fluent_syntax.specs.Facts.LexicalPrefixes.{takes-line_end, takes-blanks, takes-blank_block}
 use Rattle.fluent_syntax.specs.Facts.Sound.{Holds, Sound, sound-bind, sound-read, sound-then, sound-pure, sound-map, sound-or, sound-all}
 use Rattle.fluent_syntax.specs.Facts.Trees.{sound-braces, sound-pattern}
 use Rattle.fluent_syntax.specs.Facts.Rules.{takes-name_of_value}

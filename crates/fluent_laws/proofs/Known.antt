@@ -1,17 +1,17 @@
--- What a rule reads of a text whatever stands behind it.
+-- What a rule reads of a text whatever stands after it.
 use Rattle.std.proofs.Common.{◌≡◌, ◌==◌, ℕ, zero, suc, ◌-◌, ◌<◌, ◌≤◌, Bool, true, false, List, [], ◌∷◌, ◌++◌, length, Some, None, if◌then◌else◌, refl, sym, ap, ◌∙◌, subst, append_assoc, nat_lt, arith, length-append, eqb-true}
 use Rattle.std.proofs.lemmas.Bool.Decides.{nat_tests}
 use Rattle.std.proofs.lemmas.List.{append_cancel_right}
 use Rattle.fluent_text.specs.Parser.{Read, Parser, ◌>>=◌, ◌>>◌, ◌<$>◌, ◌<|>◌, and_then, otherwise, pure, many_from, turn, go_on, byte}
 use Rattle.fluent_syntax.specs.Expressions.{provided}
-use Rattle.fluent_syntax.specs.Facts.Fronts.{TakesTo, Takes, takes-many, takes-bind, takes-pure, takes-map, takes-nothing, takes-byte, takes-or, takes-all}
+use Rattle.fluent_syntax.specs.Facts.Prefixes.{TakesTo, Takes, takes-many, takes-bind, takes-pure, takes-map, takes-nothing, takes-byte, takes-or, takes-all}
 use Rattle.fluent_text.specs.Facts.Turns.{more as a_turn}
-use Rattle.fluent_laws.proofs.Near.{closes, shows, Alike2, behind_front, NearTo, Near, Shuts, is_read, none_left}
+use Rattle.fluent_laws.proofs.Near.{closes, shows, Alike2, after_prefix, NearTo, Near, Shuts, is_read, none_left}
 
--- ---- the texts that may stand behind
+-- ---- the texts that may stand after
 
 -- one that does, and all that may
-pub record Behind : Type 1 where
+pub record After : Type 1 where
   pub may : List ℕ → Type 0
   pub here : List ℕ
   pub holds : may here
@@ -63,34 +63,34 @@ taken_one c some (a ∷ t) r e = by (a == c) refl e
     by true g e = ap (λ x. x ∷ t) (eqb-true a c g) ∙ ap (λ x. c ∷ x) (lefts tt tt t r e)
     by false g e = absurd (is_read (tt, r) (sym e))
 
-byte_at_front : (c : ℕ) (t : List ℕ) → byte c (c ∷ t) ≡ Some (tt, t)
+byte_at_prefix : (c : ℕ) (t : List ℕ) → byte c (c ∷ t) ≡ Some (tt, t)
 unfolding byte
-byte_at_front c t = let e : (c == c) ≡ true = grind (arith, nat_tests) in rw e refl
+byte_at_prefix c t = let e : (c == c) ≡ true = grind (arith, nat_tests) in rw e refl
 
 near_takes : {A : Type 0} (p : Parser A) (s : List ℕ) (r : Read A) → NearTo p s r → TakesTo s r
 near_takes p s None h = tt
 near_takes p s (Some q) (u, e, more) = (u, e)
 
 pub takes-provided : {A : Type 0} (b : Bool) (p : Parser A) → Takes p → Takes (provided b >> p)
-takes-provided true p h = record { front = λ s. h.front s }
-takes-provided false p h = record { front = λ s. tt }
+takes-provided true p h = record { prefix = λ s. h.prefix s }
+takes-provided false p h = record { prefix = λ s. tt }
 
-module _ (T : Behind) where
-  -- ---- texts behind which no rule looks
+module _ (T : After) where
+  -- ---- texts after which no rule looks
 
   -- whichever of the texts follows, the same shows
   abbrev pub Closed : List ℕ → Type 0
   Closed v = (w w' : List ℕ) → T.may w → T.may w' → Alike2 (v ++ w) (v ++ w')
 
-  pub closed_behind : (s u v : List ℕ) → s ≡ u ++ v → Closed v → Closed s
-  closed_behind s u v e h = λ w w' i i'.
+  pub closed_after : (s u v : List ℕ) → s ≡ u ++ v → Closed v → Closed s
+  closed_after s u v e h = λ w w' i i'.
       ap (λ t. shows (t ++ w)) e
-      ∙ (ap shows (append_assoc u v w) ∙ (behind_front u (v ++ w) (v ++ w') (h w w' i i') ∙ (ap shows (sym (append_assoc u v w')) ∙ ap (λ t. shows (t ++ w')) (sym e))))
+      ∙ (ap shows (append_assoc u v w) ∙ (after_prefix u (v ++ w) (v ++ w') (h w w' i i') ∙ (ap shows (sym (append_assoc u v w')) ∙ ap (λ t. shows (t ++ w')) (sym e))))
 
   pub closed_one : (c : ℕ) (s : List ℕ) → closes c ≡ true → Closed (c ∷ s)
   closed_one c s e = λ w w' i i'. rw e refl
 
-  -- the same front before the same text
+  -- the same prefix before the same text
   pub cut : (s u v : List ℕ) → s ++ T.here ≡ u ++ (v ++ T.here) → s ≡ u ++ v
   cut s u v e = append_cancel_right s (u ++ v) T.here (e ∙ sym (append_assoc u v T.here))
 
@@ -126,12 +126,12 @@ module _ (T : Behind) where
       → (s : List ℕ) (x : B) (v : List ℕ) → of v → (r : Read A) → p (s ++ T.here) ≡ r → and_then r f ≡ Some (x, v ++ T.here) → Known (p >>= f) s x v
   bound at of p f h k t link s x v here None e g = absurd (is_read (x, v ++ T.here) (sym g))
   bound at of p f h k t link s x v here (Some q) e g =
-      let fr : (u : List ℕ) × (q.1 ≡ u ++ (v ++ T.here)) = subst (TakesTo q.1) g ((t q.0).front q.1) in
+      let fr : (u : List ℕ) × (q.1 ≡ u ++ (v ++ T.here)) = subst (TakesTo q.1) g ((t q.0).prefix q.1) in
       let v1 = fr.0 ++ v in
       let z : q.1 ≡ v1 ++ T.here = fr.1 ∙ sym (append_assoc fr.0 v T.here) in
       let second : Known (f q.0) v1 x v = (k q.0).settled v1 x v here (ap (f q.0) (sym z) ∙ g) in
-      let front : Known p s q.0 v1 = h.settled s q.0 v1 (link q.0 x v1 fr.0 v refl second here) (e ∙ ap (λ r. Some (q.0, r)) z) in
-      λ w' i. ap (λ r. and_then r f) (front w' i) ∙ second w' i
+      let prefix : Known p s q.0 v1 = h.settled s q.0 v1 (link q.0 x v1 fr.0 v refl second here) (e ∙ ap (λ r. Some (q.0, r)) z) in
+      λ w' i. ap (λ r. and_then r f) (prefix w' i) ∙ second w' i
 
   pub settled-bind : {A B : Type 0} (at of : List ℕ → Type 0) (p : Parser A) (f : A → Parser B) → Settled at p → ((a : A) → Settled of (f a)) → ((a : A) → Takes (f a))
       → ((a : A) (x : B) (v1 u v : List ℕ) → v1 ≡ u ++ v → Known (f a) v1 x v → of v → at v1) → Settled of (p >>= f)
@@ -139,7 +139,7 @@ module _ (T : Behind) where
 
   -- the same, where the first needs what the second leaves to be closed alone
   pub settled-then : {A B : Type 0} (of : List ℕ → Type 0) (p : Parser A) (f : A → Parser B) → Settled Closed p → ((a : A) → Settled of (f a)) → ((a : A) → Takes (f a)) → ((v : List ℕ) → of v → Closed v) → Settled of (p >>= f)
-  settled-then of p f h k t c = settled-bind Closed of p f h k t (λ a x v1 u v e known here. closed_behind v1 u v e (c v here))
+  settled-then of p f h k t c = settled-bind Closed of p f h k t (λ a x v1 u v e known here. closed_after v1 u v e (c v here))
 
   pub settled-pure : {A : Type 0} (at : List ℕ → Type 0) (x : A) → Settled at (pure x)
   settled-pure at x = record { settled = λ s y v here e. λ w' i. both x y (s ++ w') (v ++ w') (values x y (s ++ T.here) (v ++ T.here) e) (ap (λ t. t ++ w') (append_cancel_right s v T.here (lefts x y (s ++ T.here) (v ++ T.here) e))) }
@@ -193,8 +193,8 @@ module _ (T : Behind) where
   -- a rule whose first bytes say that it doesn't read
   pub way-shut : {A : Type 0} (at : List ℕ → Type 0) (p q : Parser A) → Shuts p → Takes q → ((v : List ℕ) → at v → Closed v) → Gives_way at p q
   way-shut at p q h t c = λ s x v here e known.
-      let fr : (u : List ℕ) × (s ++ T.here ≡ u ++ (v ++ T.here)) = subst (TakesTo (s ++ T.here)) (known T.here T.holds) (t.front (s ++ T.here)) in
-      λ w' i. h.shut (s ++ T.here) (s ++ w') (closed_behind s fr.0 v (cut s fr.0 v fr.1) (c v here) T.here w' T.holds i) e
+      let fr : (u : List ℕ) × (s ++ T.here ≡ u ++ (v ++ T.here)) = subst (TakesTo (s ++ T.here)) (known T.here T.holds) (t.prefix (s ++ T.here)) in
+      λ w' i. h.shut (s ++ T.here) (s ++ w') (closed_after s fr.0 v (cut s fr.0 v fr.1) (c v here) T.here w' T.holds i) e
 
   pub way-clash : {A : Type 0} (at ends : List ℕ → Type 0) (p q : Parser A) → ((v w : List ℕ) → T.may w → at v → ends (v ++ w)) → Clash ends p q → Gives_way at p q
   way-clash at ends p q k c = λ s x v here e known. λ w' i. never p (s ++ w') (λ y g. c (s ++ w') y x (v ++ w') g (known w' i) (k v w' i here))
@@ -221,7 +221,7 @@ module _ (T : Behind) where
       let z : t ≡ v1 ++ T.here = g ∙ sym (append_assoc u v T.here) in
       let more = others v1 z in
       let known : Known p s a v1 = h.settled s a v1 more.1 (e ∙ ap (λ r. Some (a, r)) z) in
-      let fr : (u1 : List ℕ) × (s ++ T.here ≡ u1 ++ (v1 ++ T.here)) = subst (TakesTo (s ++ T.here)) (known T.here T.holds) (k.front (s ++ T.here)) in
+      let fr : (u1 : List ℕ) × (s ++ T.here ≡ u1 ++ (v1 ++ T.here)) = subst (TakesTo (s ++ T.here)) (known T.here T.holds) (k.prefix (s ++ T.here)) in
       let less : length v1 < length s = omega (arith, shorter, ap length z, length-append v1 T.here, length-append s T.here) in (
         λ w' m i room.
             let l : length (v1 ++ w') < length (s ++ w') = omega (arith, less, length-append v1 w', length-append s w') in
@@ -239,7 +239,7 @@ module _ (T : Behind) where
       gone : (q : A × List ℕ) (b : Bool) → nat_lt (length q.1) (length (s ++ T.here)) ≡ b → p (s ++ T.here) ≡ Some q → go_on add (many_from add p n) acc (s ++ T.here) q b ≡ Some (y, v ++ T.here)
           → ((b : B) (t : List ℕ) → many_from add p n b (t ++ T.here) ≡ Some (y, v ++ T.here) → KnownMany at add p b t y v) → KnownMany at add p acc s y v
       gone q true l g e others =
-          let fr : (u : List ℕ) × (q.1 ≡ u ++ (v ++ T.here)) = subst (TakesTo q.1) e ((takes-many add p n (add acc q.0) k).front q.1) in
+          let fr : (u : List ℕ) × (q.1 ≡ u ++ (v ++ T.here)) = subst (TakesTo q.1) e ((takes-many add p n (add acc q.0) k).prefix q.1) in
           went at add p acc y s q.0 q.1 v h k enters g (grind (arith, nat_tests)) fr.0 fr.1 (λ v1 z. others (add acc q.0) v1 (ap (many_from add p n (add acc q.0)) (sym z) ∙ e))
       gone q false l g e others = stayed at add p acc y s v here stops e
 
@@ -260,11 +260,11 @@ module _ (T : Behind) where
   shutting : {A B : Type 0} (p : Parser A) (f : A → Parser B) → Takes p → ((a : A) → Takes (f a)) → ((a : A) → Closing (f a)) → (s : List ℕ) (x : B) (v : List ℕ) (r : Read A) → p (s ++ T.here) ≡ r → and_then r f ≡ Some (x, v ++ T.here) → Closed s
   shutting p f h k c s x v None e g = absurd (is_read (x, v ++ T.here) (sym g))
   shutting p f h k c s x v (Some q) e g =
-      let fr : (u : List ℕ) × (q.1 ≡ u ++ (v ++ T.here)) = subst (TakesTo q.1) g ((k q.0).front q.1) in
+      let fr : (u : List ℕ) × (q.1 ≡ u ++ (v ++ T.here)) = subst (TakesTo q.1) g ((k q.0).prefix q.1) in
       let v1 = fr.0 ++ v in
       let z : q.1 ≡ v1 ++ T.here = fr.1 ∙ sym (append_assoc fr.0 v T.here) in
-      let er : (u : List ℕ) × (s ++ T.here ≡ u ++ (v1 ++ T.here)) = subst (TakesTo (s ++ T.here)) (e ∙ ap (λ r. Some (q.0, r)) z) (h.front (s ++ T.here)) in
-      closed_behind s er.0 v1 (cut s er.0 v1 er.1) ((c q.0).closing v1 x v (ap (f q.0) (sym z) ∙ g))
+      let er : (u : List ℕ) × (s ++ T.here ≡ u ++ (v1 ++ T.here)) = subst (TakesTo (s ++ T.here)) (e ∙ ap (λ r. Some (q.0, r)) z) (h.prefix (s ++ T.here)) in
+      closed_after s er.0 v1 (cut s er.0 v1 er.1) ((c q.0).closing v1 x v (ap (f q.0) (sym z) ∙ g))
 
   pub closing-bind : {A B : Type 0} (p : Parser A) (f : A → Parser B) → Takes p → ((a : A) → Takes (f a)) → ((a : A) → Closing (f a)) → Closing (p >>= f)
   closing-bind p f h k c = record { closing = λ s x v e. shutting p f h k c s x v (p (s ++ T.here)) refl e }
@@ -281,28 +281,28 @@ module _ (T : Behind) where
   pub settled-byte : (c : ℕ) → (0 == c) ≡ false → Settled Anywhere (byte c)
   settled-byte c some = record {
     settled = λ s x v here e. λ w' i.
-        ap (λ t. byte c (t ++ w')) (one_more c s v (taken_one c some (s ++ T.here) (v ++ T.here) e)) ∙ byte_at_front c (v ++ w');
+        ap (λ t. byte c (t ++ w')) (one_more c s v (taken_one c some (s ++ T.here) (v ++ T.here) e)) ∙ byte_at_prefix c (v ++ w');
   }
 
-  behind_byte : {A : Type 0} (c : ℕ) → (0 == c) ≡ false → closes c ≡ true → (f : Unit {0} → Parser A) → Takes (f tt) → (s : List ℕ) (x : A) (v : List ℕ) (r : Read (Unit {0})) → byte c (s ++ T.here) ≡ r → and_then r f ≡ Some (x, v ++ T.here) → Closed s
-  behind_byte c some e f k s x v None g z = absurd (is_read (x, v ++ T.here) (sym z))
-  behind_byte c some e f k s x v (Some q) g z =
-      let fr : (u : List ℕ) × (q.1 ≡ u ++ (v ++ T.here)) = subst (TakesTo q.1) z (k.front q.1) in
+  after_byte : {A : Type 0} (c : ℕ) → (0 == c) ≡ false → closes c ≡ true → (f : Unit {0} → Parser A) → Takes (f tt) → (s : List ℕ) (x : A) (v : List ℕ) (r : Read (Unit {0})) → byte c (s ++ T.here) ≡ r → and_then r f ≡ Some (x, v ++ T.here) → Closed s
+  after_byte c some e f k s x v None g z = absurd (is_read (x, v ++ T.here) (sym z))
+  after_byte c some e f k s x v (Some q) g z =
+      let fr : (u : List ℕ) × (q.1 ≡ u ++ (v ++ T.here)) = subst (TakesTo q.1) z (k.prefix q.1) in
       let v1 = fr.0 ++ v in
       let b : s ++ T.here ≡ c ∷ (v1 ++ T.here) = taken_one c some (s ++ T.here) q.1 g ∙ ap (λ t. c ∷ t) (fr.1 ∙ sym (append_assoc fr.0 v T.here)) in
       subst Closed (sym (one_more c s v1 b)) (closed_one c v1 e)
 
   pub closing-byte : {A : Type 0} (c : ℕ) → (0 == c) ≡ false → closes c ≡ true → (p : Parser A) → Takes p → Closing (byte c >> p)
-  closing-byte c some e p k = record { closing = λ s x v z. behind_byte c some e (λ _. p) k s x v (byte c (s ++ T.here)) refl z }
+  closing-byte c some e p k = record { closing = λ s x v z. after_byte c some e (λ _. p) k s x v (byte c (s ++ T.here)) refl z }
 
-  -- ---- both: the rule takes a front, and leaves such a text whatever follows
+  -- ---- both: the rule takes a prefix, and leaves such a text whatever follows
 
   pub record Fixed {A : Type 0} (at : List ℕ → Type 0) (p : Parser A) : Type 0 where
     pub fixed : Settled at p
     pub takes : Takes p
 
   pub fixed-near : {A : Type 0} (p : Parser A) → Near p → Fixed Closed p
-  fixed-near p h = record { fixed = settled-near p h; takes = record { front = λ s. near_takes p s (p s) (h.near s) } }
+  fixed-near p h = record { fixed = settled-near p h; takes = record { prefix = λ s. near_takes p s (p s) (h.near s) } }
 
   pub fixed-weaker : {A : Type 0} (at of : List ℕ → Type 0) (p : Parser A) → ((v : List ℕ) → of v → at v) → Fixed at p → Fixed of p
   fixed-weaker at of p f h = record { fixed = weaker at of p f h.fixed; takes = h.takes }
@@ -341,6 +341,6 @@ module _ (T : Behind) where
   pub fixed-many : {A B : Type 0} (at : List ℕ → Type 0) (add : B → A → B) (p : Parser A) (acc : B) → Fixed at p → Enters at p → Fixed (λ v. at v × Stops p v) (λ s. many_from add p (length s) acc s)
   fixed-many at add p acc h enters = record { fixed = settled-many at add p acc h.fixed h.takes enters; takes = takes-all add p acc h.takes }
 
-  -- what is closed stays so behind whatever is read
+  -- what is closed stays so after whatever is read
   pub enters-closed : {A : Type 0} (p : Parser A) → Enters Closed p
-  enters-closed p = λ a s u v e known c. closed_behind s u v e c
+  enters-closed p = λ a s u v e known c. closed_after s u v e c

@@ -1,4 +1,4 @@
--- Patterns, attributes, messages, terms and entries are read by the front that they take, before what ends them.
+-- Patterns, attributes, messages, terms and entries are read by the prefix that they take, before what ends them.
 use Rattle.std.proofs.Common.{◌≡◌, ◌==◌, ◌||◌, ◌&&◌, ℕ, zero, suc, ◌+◌, ◌<◌, Bool, true, false, List, [], ◌∷◌, ◌++◌, length, take, drop, Some, None, if◌then◌else◌, refl, sym, ap, ◌∙◌, subst, append_assoc, nat_lt, arith, eqb-true, ◌⊎◌, inl, inr}
 use Rattle.std.specs.Prelude.{not}
 use Rattle.std.proofs.lemmas.Bool.{cases_Bool}
@@ -11,15 +11,15 @@ use Rattle.fluent_syntax.specs.Pieces.{words_after, is_indented, indented_text, 
 use Rattle.fluent_syntax.specs.Expressions.{level}
 use Rattle.fluent_syntax.specs.Entries as n
 use Rattle.fluent_syntax.specs.Entries.{value, name_of_value, attribute, value_first, attributes_alone, entry}
-use Rattle.fluent_laws.specs.FrontLaws.{behind_spaces, ends_indented, ends_flush, no_pattern, nothing_more, line_breaks, EndsBy, EndsPattern, EndsMessage, EndsEntry, ReadBefore, entry_line, EntryReadBefore}
-use Rattle.fluent_syntax.specs.Facts.Fronts.{TakesTo}
-use Rattle.fluent_syntax.specs.Facts.LexicalFronts.{takes-line_break}
+use Rattle.fluent_laws.specs.PrefixLaws.{after_spaces, ends_indented, ends_flush, no_pattern, nothing_more, line_breaks, EndsBy, EndsPattern, EndsMessage, EndsEntry, ReadBefore, entry_line, EntryReadBefore}
+use Rattle.fluent_syntax.specs.Facts.Prefixes.{TakesTo}
+use Rattle.fluent_syntax.specs.Facts.LexicalPrefixes.{takes-line_break}
 use Rattle.fluent_laws.proofs.Near.{closes, is_read, near-byte}
 use Rattle.fluent_laws.proofs.NearRules.{near-line_end, near-blanks, near-name_of_value}
-use Rattle.fluent_laws.proofs.Known.{Behind, closed_one, taken_one, Closed, closed_behind, cut, Known, Stops, Anywhere, lefts, Clash, way-clash, never, Enters, Fixed, fixed-near, fixed-bind, fixed-then, fixed-map, fixed-or, fixed-many}
+use Rattle.fluent_laws.proofs.Known.{After, closed_one, taken_one, Closed, closed_after, cut, Known, Stops, Anywhere, lefts, Clash, way-clash, never, Enters, Fixed, fixed-near, fixed-bind, fixed-then, fixed-map, fixed-or, fixed-many}
 use Rattle.fluent_laws.proofs.Leads.{first_read, either_read, true_false, fails_at, is_blank, next, next_is, Keeps, keep_of, keeps-bind, keeps-line_break, keeps-count, keeps-blank_line, keeps-blanks, keeps-line_end, pair_read, end_read, no_byte, line_end_text, spaces_next, Leads, leads-bind, leads-keep, leads-byte, Starts, starts-bind, starts-byte, starts-identifier, clash-start}
 use Rattle.fluent_laws.proofs.KnownRules.{is}
-use Rattle.fluent_laws.proofs.KnownPatterns.{Braces, braces_of, firm, NoElement, fixed-pattern, no_element, many_first, spaced, line_behind, spaces_behind, text_first, words_some, indented_read, text_piece, block_piece, hole_piece, brace_leads, leads-block_placeable}
+use Rattle.fluent_laws.proofs.KnownPatterns.{Braces, braces_of, firm, NoElement, fixed-pattern, no_element, many_first, spaced, line_after, spaces_after, text_first, words_some, indented_read, text_piece, block_piece, hole_piece, brace_leads, leads-block_placeable}
 
 is_feed : ℕ → ℕ → Bool
 is_feed c after = c == 10 || (c == 13 && after == 10)
@@ -87,9 +87,9 @@ unfolding quiet
 quiet_brace true c e f = fails_at 123 ends_indented c e refl f
 quiet_brace false c e f = fails_at 123 (λ c. not (c == 123)) c e refl f
 
--- the first byte of a line behind its spaces, and whether a pattern goes on with it
+-- the first byte of a line after its spaces, and whether a pattern goes on with it
 record IsLine (line : List ℕ) : Type 0 where
-  byte_behind : next line ≡ first (behind_spaces line)
+  byte_after : next line ≡ first (after_spaces line)
   still : quiet (indented false line) (next line) ≡ true
 
 solid_end : (c d : ℕ) → ends_indented c ≡ true → is_blank c d ≡ false
@@ -97,7 +97,7 @@ solid_end c d e = grind (arith, nat_tests)
 
 line_flush : (line : List ℕ) → (first line == 32) ≡ false → ends_flush (first line) ≡ true → IsLine line
 unfolding quiet is_feed next indented
-line_flush [] e f = record { byte_behind = refl; still = refl }
+line_flush [] e f = record { byte_after = refl; still = refl }
 line_flush (c ∷ s) e f =
     let solid : is_blank c (first s) ≡ false = grind (arith, nat_tests) in
     let feed : is_feed c (first s) ≡ false = grind (arith, nat_tests) in
@@ -107,15 +107,15 @@ line_flush (c ∷ s) e f =
     let flush : indented false (c ∷ s) ≡ false = indented_solid false (c ∷ s) some e feed in
     let q : quiet false c ≡ true = grind (arith, nat_tests) in
     record {
-      byte_behind = at ∙ ap (λ k. first (drop k (c ∷ s))) (sym none);
+      byte_after = at ∙ ap (λ k. first (drop k (c ∷ s))) (sym none);
       still = ap (λ i. quiet i (next (c ∷ s))) flush ∙ (ap (quiet false) at ∙ q);
     }
 
-line_behind_spaces : (line rest : List ℕ) → rest ≡ behind_spaces line → (first line == 32) ≡ true → ends_indented (first rest) ≡ true → IsLine line
+line_after_spaces : (line rest : List ℕ) → rest ≡ after_spaces line → (first line == 32) ≡ true → ends_indented (first rest) ≡ true → IsLine line
 unfolding quiet is_feed
-line_behind_spaces [] rest g e f = absurd (true_false false e refl)
-line_behind_spaces (a ∷ line) [] g e f = absurd (true_false false f refl)
-line_behind_spaces (a ∷ line) (c ∷ s) g e f =
+line_after_spaces [] rest g e f = absurd (true_false false e refl)
+line_after_spaces (a ∷ line) [] g e f = absurd (true_false false f refl)
+line_after_spaces (a ∷ line) (c ∷ s) g e f =
     let solid : is_blank c (first s) ≡ false = solid_end c (first s) f in
     let space : (c == 32) ≡ false = grind (arith, nat_tests) in
     let feed : is_feed c (first s) ≡ false = grind (arith, nat_tests) in
@@ -124,14 +124,14 @@ line_behind_spaces (a ∷ line) (c ∷ s) g e f =
     let spaces : 0 < run_len is_space (a ∷ line) = rw e (omega arith) in
     let in_ : indented false (a ∷ line) ≡ true = indented_spaces false (a ∷ line) spaces ∙ (ap (indented true) (sym g) ∙ indented_solid true (c ∷ s) some space feed) in
     record {
-      byte_behind = at ∙ ap first g;
+      byte_after = at ∙ ap first g;
       still = ap (λ i. quiet i (next (a ∷ line))) in_ ∙ (ap ends_indented at ∙ f);
     }
 
 is_line : (line : List ℕ) → no_pattern line ≡ true → IsLine line
 is_line line e =
     elim (cases_Bool (first line == 32)) [
-      | inl space ↦ let e2 = rw space at e in line_behind_spaces line (behind_spaces line) refl space e2
+      | inl space ↦ let e2 = rw space at e in line_after_spaces line (after_spaces line) refl space e2
       | inr flush ↦ let e2 = rw flush at e in line_flush line flush e2
     ]
 
@@ -148,7 +148,7 @@ record Ended (test : List ℕ → Bool) (t : List ℕ) : Type 0 where
   line : List ℕ
   tested : test line ≡ true
   broken : Broken t
-  byte_behind : next t ≡ first (behind_spaces line)
+  byte_after : next t ≡ first (after_spaces line)
   textless : run_len is_text t ≡ 0
   still : quiet (indented false t) (next t) ≡ true
 
@@ -204,8 +204,8 @@ unfolding spaced
 indented_line b s q e = by (blank_inline s) refl
   where
     by : (r : Read ℕ) → blank_inline s ≡ r → indented b s ≡ indented false q.1
-    by None f = indented_end b s q (line_behind s q None f e)
-    by (Some z) f = indented_inline b s z f ∙ indented_end true z.1 q (line_behind s q (Some z) f e)
+    by None f = indented_end b s q (line_after s q None f e)
+    by (Some z) f = indented_inline b s z f ∙ indented_end true z.1 q (line_after s q (Some z) f e)
 
 indented_many : (n k : ℕ) (s : List ℕ) (q : ℕ × List ℕ) → many_from one_more blank_line n k s ≡ Some q → indented false s ≡ indented false q.1
 unfolding many_from
@@ -230,7 +230,7 @@ indented_block b s q e =
     let (m, g, l) = first_read (count blank_line z.1) _ q k in
     indented_line b s z f ∙ (indented_many (length z.1) 0 z.1 m g ∙ ap (indented false) (lefts (m.0 + 1) q.0 m.1 q.1 l))
 
--- the line breaks behind a line
+-- the line breaks after a line
 indented_breaks : (b : Bool) (s : List ℕ) (q : ℕ × List ℕ) → line_breaks s ≡ Some q → indented b s ≡ indented false q.1
 unfolding line_breaks
 indented_breaks b s q e =
@@ -246,7 +246,7 @@ block_indented s z e =
     let (t, i, j) = first_read (indented_text p.0 p.1) _ z l in
     let (m, w) = indented_read p.0 p.1 (is_indented p.1) t i in
     let some = words_some (Some p.0) p.1 t w in
-    indented_block false s q f ∙ (indented_inline false q.1 p g ∙ indented_solid true p.1 (text_some p.1 some) (spaces_behind q.1 p g) (solid_text (first p.1) (first (drop 1 p.1)) (text_first p.1 some)))
+    indented_block false s q f ∙ (indented_inline false q.1 p g ∙ indented_solid true p.1 (text_some p.1 some) (spaces_after q.1 p g) (solid_text (first p.1) (first (drop 1 p.1)) (text_first p.1 some)))
 
 ended : (test : List ℕ → Bool) → ((line : List ℕ) → test line ≡ true → no_pattern line ≡ true) → (t : List ℕ) → EndsBy test t → Ended test t
 unfolding line_breaks line_break
@@ -263,14 +263,14 @@ ended test f t h =
       line = h.1;
       tested = h.3;
       broken = b;
-      byte_behind = same ∙ l.byte_behind;
+      byte_after = same ∙ l.byte_after;
       textless = broken_text t b;
       still = ap (λ i. quiet i (next t)) side ∙ (ap (quiet (indented false h.1)) same ∙ l.still);
     }
 
 -- ---- what is read whatever of such texts follows
 
-module _ (T : Behind) where
+module _ (T : After) where
   -- ---- where no pattern goes on
 
   none_goes_on : (b : Parser Expression) → (Braces T) b → (t : List ℕ) (z : List Piece × List ℕ) → pattern_element b t ≡ Some z → run_len is_text t ≡ 0 → (i : Bool) → indented false t ≡ i → quiet i (next t) ≡ true → ⊥
@@ -319,7 +319,7 @@ module _ (T : Behind) where
       (no_element T) B braced t y f (line_end_text t q g) (ap ends_indented (eqb-true (next t) 46 (leads-attribute.lead t z e)))
 
   enters-attribute : (Enters T) ((NoElement T) B) attribute
-  enters-attribute = λ a s u v e known here. ((closed_behind T) s u v e here.0, λ w i. never (pattern_element B) (s ++ w) (λ y f. attribute_ends (s ++ w) (a, v ++ w) y (known w i) f))
+  enters-attribute = λ a s u v e known here. ((closed_after T) s u v e here.0, λ w i. never (pattern_element B) (s ++ w) (λ y f. attribute_ends (s ++ w) (a, v ++ w) y (known w i) f))
 
   -- ---- messages and terms
 
@@ -332,7 +332,7 @@ module _ (T : Behind) where
 
   before_attributes : {X : Type 0} (found : List (Text × Pattern)) (g : List (Text × Pattern) → X) (x : X) (v1 u v : List ℕ) → v1 ≡ u ++ v → (Known T) (g <$> attributes_from found) v1 x v → NoMore v → (NoElement T) B v1
   before_attributes found g x v1 u v e known here = (
-    (closed_behind T) v1 u v e here.0.0,
+    (closed_after T) v1 u v e here.0.0,
     λ w i. never (pattern_element B) (v1 ++ w) (λ y f.
         let (q, j, k) = first_read (attributes_from found (v1 ++ w)) (λ o. pure (g o)) (x, v ++ w) (known w i) in
         elim (many_first push attribute (length (v1 ++ w)) found (v1 ++ w) q j) [
@@ -392,9 +392,9 @@ module _ (T : Behind) where
   break_known s v (inl pair) = λ w i. ap (λ t. line_break (t ++ w)) pair
   break_known s v (inr feed) = λ w i. ap (λ t. line_break (t ++ w)) feed
 
-  break_front : (s v : List ℕ) → line_break (s ++ T.here) ≡ Some (tt, v ++ T.here) → (s ≡ 13 ∷ 10 ∷ v) ⊎ (s ≡ 10 ∷ v)
+  break_prefix : (s v : List ℕ) → line_break (s ++ T.here) ≡ Some (tt, v ++ T.here) → (s ≡ 13 ∷ 10 ∷ v) ⊎ (s ≡ 10 ∷ v)
   unfolding line_break
-  break_front s v e =
+  break_prefix s v e =
       elim (either_read ((byte 13 >> byte 10) (s ++ T.here)) (byte 10) (s ++ T.here) (tt, v ++ T.here) e) [
         | inl pair ↦ inl ((cut T) s (13 ∷ 10 ∷ []) v (pair_read (s ++ T.here) (tt, v ++ T.here) pair))
         | inr feed ↦ inr ((cut T) s (10 ∷ []) v (taken_one 10 refl (s ++ T.here) (v ++ T.here) feed))
@@ -402,7 +402,7 @@ module _ (T : Behind) where
 
   fixed-line_break : (Fixed T) NoMoreLines line_break
   fixed-line_break = record {
-    fixed = record { settled = λ s x v here e. break_known s v (break_front s v e) };
+    fixed = record { settled = λ s x v here e. break_known s v (break_prefix s v e) };
     takes = takes-line_break;
   }
 
@@ -412,7 +412,7 @@ module _ (T : Behind) where
       (fixed-bind T) NoMore NoMoreLines (n.message <|> n.term) with_break fixed-part (λ e. (fixed-map T) NoMoreLines (λ _. e) line_break fixed-line_break)
       (λ e x v1 u v g known here.
       let (q, i, k) = first_read (line_break (v1 ++ T.here)) (λ _. pure e) (x, v ++ T.here) (known T.here T.holds) in
-      elim (break_front v1 v (i ∙ ap (λ t. Some (tt, t)) (lefts e x q.1 (v ++ T.here) k))) [
+      elim (break_prefix v1 v (i ∙ ap (λ t. Some (tt, t)) (lefts e x q.1 (v ++ T.here) k))) [
         | inl pair ↦ subst NoMore (sym pair) here.1
         | inr feed ↦ subst NoMore (sym feed) here.0
       ])
@@ -427,31 +427,31 @@ module _ (T : Behind) where
       let e : (w : List ℕ) → T.may w → Ended nothing_more (brk ++ w) = λ w i. ended nothing_more (λ line g. (both_true (no_pattern line) _ g).0) (brk ++ w) (f w i) in (
         (c, λ w i. never (pattern_element B) (brk ++ w) (λ z g. ended_element B braced nothing_more (brk ++ w) (e w i) z g)),
         λ w i. never attribute (brk ++ w) (λ z g.
-            let point = no_dot (first (behind_spaces (e w i).line)) (both_true (no_pattern (e w i).line) _ (e w i).tested).1 in
-            true_false (next (brk ++ w) == 46) (leads-attribute.lead (brk ++ w) z g) (ap (λ c. c == 46) (e w i).byte_behind ∙ point)),
+            let point = no_dot (first (after_spaces (e w i).line)) (both_true (no_pattern (e w i).line) _ (e w i).tested).1 in
+            true_false (next (brk ++ w) == 46) (leads-attribute.lead (brk ++ w) z g) (ap (λ c. c == 46) (e w i).byte_after ∙ point)),
       )
 
 -- ---- the laws
 
 -- a rule that leaves what begins by a line break, and one that holds for such texts
-abbrev Ends : {A : Type 0} → (List ℕ → Type 0) → ((T : Behind) → List ℕ → Type 0) → Parser A → Type 1
-Ends ends at p = ((T : Behind) → Fixed T (at T) p) × ((T : Behind) (brk : List ℕ) → Closed T brk → ((w : List ℕ) → T.may w → ends (brk ++ w)) → at T brk)
+abbrev Ends : {A : Type 0} → (List ℕ → Type 0) → ((T : After) → List ℕ → Type 0) → Parser A → Type 1
+Ends ends at p = ((T : After) → Fixed T (at T) p) × ((T : After) (brk : List ℕ) → Closed T brk → ((w : List ℕ) → T.may w → ends (brk ++ w)) → at T brk)
 
-by_break : {A : Type 0} (ends : List ℕ → Type 0) (at : (T : Behind) → List ℕ → Type 0) (p : Parser A) → Ends ends at p → (s : List ℕ) (x : A) (brk r : List ℕ) → ((T : Behind) → Closed T brk) → ends (brk ++ r) → p s ≡ Some (x, brk ++ r)
-    → (front : List ℕ) × (s ≡ front ++ (brk ++ r)) × ((w : List ℕ) → ends (brk ++ w) → p (front ++ (brk ++ w)) ≡ Some (x, brk ++ w))
+by_break : {A : Type 0} (ends : List ℕ → Type 0) (at : (T : After) → List ℕ → Type 0) (p : Parser A) → Ends ends at p → (s : List ℕ) (x : A) (brk r : List ℕ) → ((T : After) → Closed T brk) → ends (brk ++ r) → p s ≡ Some (x, brk ++ r)
+    → (prefix : List ℕ) × (s ≡ prefix ++ (brk ++ r)) × ((w : List ℕ) → ends (brk ++ w) → p (prefix ++ (brk ++ w)) ≡ Some (x, brk ++ w))
 by_break ends at p h s x brk r c here e =
-    let T : Behind = record { may = λ w. ends (brk ++ w); here = r; holds = here } in
+    let T : After = record { may = λ w. ends (brk ++ w); here = r; holds = here } in
     let fixed = h.0 T in
-    let fr : (u : List ℕ) × (s ≡ u ++ (brk ++ r)) = subst (TakesTo s) e (fixed.takes.front s) in
+    let fr : (u : List ℕ) × (s ≡ u ++ (brk ++ r)) = subst (TakesTo s) e (fixed.takes.prefix s) in
     let u = fr.0 in
     let known = fixed.fixed.settled (u ++ brk) x brk (h.1 T brk (c T) (λ w i. i)) (ap p (append_assoc u brk r ∙ sym fr.1) ∙ e) in
     (u, fr.1, λ w i. ap p (sym (append_assoc u brk w)) ∙ known w i)
 
-closed_feed : (T : Behind) → Closed T (10 ∷ [])
+closed_feed : (T : After) → Closed T (10 ∷ [])
 unfolding closes
 closed_feed T = closed_one T 10 [] refl
 
-closed_pair : (T : Behind) → Closed T (13 ∷ 10 ∷ [])
+closed_pair : (T : After) → Closed T (13 ∷ 10 ∷ [])
 closed_pair T = λ w w' i i'. refl
 
 not_pair : (t : List ℕ) (r q : List ℕ) → t ≡ 13 ∷ q → first t ≡ first (10 ∷ r) → ⊥
@@ -460,9 +460,9 @@ not_pair t r q e f = absurd (omega (arith, sym (ap first e) ∙ f))
 not_feed : (t : List ℕ) (r q : List ℕ) → t ≡ 10 ∷ q → first t ≡ first (13 ∷ r) → ⊥
 not_feed t r q e f = absurd (omega (arith, sym (ap first e) ∙ f))
 
-read_before : {A : Type 0} (ends : List ℕ → Type 0) (at : (T : Behind) → List ℕ → Type 0) (p : Parser A) → Ends ends at p → ((t : List ℕ) → ends t → Broken t) → (s : List ℕ) → ReadBefore ends p s
-read_before ends at p h breaks s x behind e here =
-    elim (breaks behind here) [
+read_before : {A : Type 0} (ends : List ℕ → Type 0) (at : (T : After) → List ℕ → Type 0) (p : Parser A) → Ends ends at p → ((t : List ℕ) → ends t → Broken t) → (s : List ℕ) → ReadBefore ends p s
+read_before ends at p h breaks s x past e here =
+    elim (breaks past here) [
       | inl (r, feed) ↦
           let (u, f, more) = by_break ends at p h s x (10 ∷ []) r closed_feed (subst ends feed here) (e ∙ ap (λ t. Some (x, t)) feed) in (
             u,
@@ -492,7 +492,7 @@ message_breaks t h = (ended nothing_more (λ line e. (both_true (no_pattern line
 pub pattern_before : (n : ℕ) (s : List ℕ) → ReadBefore EndsPattern (pattern (level n).braces) s
 pattern_before n s =
     let b = (level n).braces in
-    let h : (T : Behind) → Braces T b = λ T. braces_of T (level n) (firm T n) in
+    let h : (T : After) → Braces T b = λ T. braces_of T (level n) (firm T n) in
     read_before EndsPattern (λ T. NoElement T b) (pattern b) (λ T. fixed-pattern T b (h T), λ T brk c f. ended_pattern T b (h T) brk c f) pattern_breaks s
 
 pub attribute_before : (s : List ℕ) → ReadBefore EndsPattern attribute s
@@ -518,10 +518,10 @@ with_line_end s z e =
     ap (λ r. and_then r (λ e. line_end >> pure e)) f ∙ (ap (λ r. and_then (otherwise r at_end q.1) (λ _. pure q.0)) g ∙ l)
 
 pub entry_before : (s : List ℕ) → EntryReadBefore s
-entry_before s x behind e here =
-    let T : Behind = record { may = EndsEntry; here = behind; holds = here } in
+entry_before s x past e here =
+    let T : After = record { may = EndsEntry; here = past; holds = here } in
     let fixed = fixed-entry_line T in
-    let fr : (u : List ℕ) × (s ≡ u ++ behind) = subst (TakesTo s) e (fixed.takes.front s) in
+    let fr : (u : List ℕ) × (s ≡ u ++ past) = subst (TakesTo s) e (fixed.takes.prefix s) in
     let feed = ended_message T (10 ∷ []) (closed_feed T) (λ w i. i) in
     let pair = ended_message T (13 ∷ 10 ∷ []) (closed_pair T) (λ w i. (i.0, i.1, pair_breaks w ∙ i.2, i.3)) in
     (fr.0, fr.1, λ other i. with_line_end (fr.0 ++ other) (x, other) (fixed.fixed.settled fr.0 x [] (feed, pair) (ap entry_line (sym fr.1) ∙ e) other i))

@@ -1,4 +1,4 @@
--- Patterns, variants and placeables are read by the front that they take, whatever stands behind it.
+-- Patterns, variants and placeables are read by the prefix that they take, whatever stands after it.
 use Rattle.std.proofs.Common.{◌≡◌, ◌==◌, ◌||◌, ◌&&◌, ℕ, zero, suc, ◌+◌, Bool, true, false, List, [], ◌∷◌, ◌++◌, length, take, drop, Option, Some, None, if◌then◌else◌, refl, sym, ap, ◌∙◌, subst, arith, eqb-true, ◌⊎◌, inl, inr}
 use Rattle.std.specs.Prelude.{not, unwrap_or}
 use Rattle.std.proofs.lemmas.Bool.{cases_Bool}
@@ -9,11 +9,11 @@ use Rattle.fluent_text.specs.Lexical.{is_text, is_space, blank_inline, line_end,
 use Rattle.fluent_syntax.specs.Layout.{Words, Piece, line, words, hole, elements}
 use Rattle.fluent_syntax.specs.Pieces.{words_after, inline_text, is_indented, indented_text, block_text, indent, block_placeable, pattern_element, pieces, pattern}
 use Rattle.fluent_syntax.specs.Expressions.{Level, level, provided, inline_expression, variant_key, star, variant_head, variant, variant_list, is_selector, arrow, selector, select_expression, stands_alone, alone, expression, inline_placeable}
-use Rattle.fluent_laws.specs.FrontLaws.{ReadByFrontAlone}
-use Rattle.fluent_syntax.specs.Facts.Fronts.{TakesTo}
+use Rattle.fluent_laws.specs.PrefixLaws.{ReadByPrefixAlone}
+use Rattle.fluent_syntax.specs.Facts.Prefixes.{TakesTo}
 use Rattle.fluent_laws.proofs.Near.{closes, Near, Shuts, near-byte, near-then, near-pure, near-map, near-or, near-if, sees_first, shuts-map, shuts-run1, is_read}
 use Rattle.fluent_laws.proofs.NearRules.{heedless-text, near-words_after, near-variant_head, near-line_end, near-blank_inline, near-blanks, near-spaces, shuts-blank_inline, shuts-bind}
-use Rattle.fluent_laws.proofs.Known.{Behind, Closed, closed_behind, Stops, Anywhere, kept, lefts, Clash, way-shut, way-clash, never, Enters, enters-closed, Closing, closing-bind, Fixed, fixed-near, fixed-weaker, fixed-any, fixed-bind, fixed-then, fixed-map, fixed-sift, fixed-byte, fixed-refuse, fixed-or, fixed-many}
+use Rattle.fluent_laws.proofs.Known.{After, Closed, closed_after, Stops, Anywhere, kept, lefts, Clash, way-shut, way-clash, never, Enters, enters-closed, Closing, closing-bind, Fixed, fixed-near, fixed-weaker, fixed-any, fixed-bind, fixed-then, fixed-map, fixed-sift, fixed-byte, fixed-refuse, fixed-or, fixed-many}
 use Rattle.fluent_laws.proofs.Leads.{first_read, either_read, true_false, fails_at, is_blank, next, next_first, keep_of, keeps-bind, keeps-pure, keeps-blanks, keeps-blank_inline, keeps-blank_block, keeps-indent, keeps-line_end, line_end_text, line_end_brace, Leads, leads-bind, leads-keep, leads-byte, Starts, starts-bind, starts-byte}
 use Rattle.fluent_syntax.specs.Facts.OneLine.{no_blank_inline, stops}
 use Rattle.fluent_laws.proofs.KnownRules.{Ahead, End, is, ends_inline, ahead, way-end, Firm, closed_end, closed_closed, inline_end, fixed-inline, closed_by, fixed-closed_by, closing-closed_by, leads-closed_by, fixed-call_arguments, leads-call_arguments}
@@ -47,16 +47,16 @@ near-indent : Near indent
 unfolding indent
 near-indent = near-map _ (optional blank_inline) (near-or (Some <$> blank_inline) (pure None) (near-map Some blank_inline near-blank_inline) (shuts-map Some blank_inline shuts-blank_inline) (near-pure None))
 
--- what is left behind spaces
+-- what is left after spaces
 unfoldable pub spaced : List ℕ → Read ℕ → List ℕ
 spaced s None = s
 spaced s (Some q) = q.1
 
 -- a blank line begins with spaces, or none
-pub line_behind : (s : List ℕ) (y : Unit {0} × List ℕ) (r : Read ℕ) → blank_inline s ≡ r → blank_line s ≡ Some y → line_end (spaced s r) ≡ Some y
+pub line_after : (s : List ℕ) (y : Unit {0} × List ℕ) (r : Read ℕ) → blank_inline s ≡ r → blank_line s ≡ Some y → line_end (spaced s r) ≡ Some y
 unfolding blank_line spaced
-line_behind s y None e f = sym (ap (λ b. and_then (otherwise (and_then b (λ _. pure (tt {0}))) (pure (tt {0})) s) (λ _. line_end)) e) ∙ f
-line_behind s y (Some q) e f = sym (ap (λ b. and_then (otherwise (and_then b (λ _. pure (tt {0}))) (pure (tt {0})) s) (λ _. line_end)) e) ∙ f
+line_after s y None e f = sym (ap (λ b. and_then (otherwise (and_then b (λ _. pure (tt {0}))) (pure (tt {0})) s) (λ _. line_end)) e) ∙ f
+line_after s y (Some q) e f = sym (ap (λ b. and_then (otherwise (and_then b (λ _. pure (tt {0}))) (pure (tt {0})) s) (λ _. line_end)) e) ∙ f
 
 abbrev pub block_rest : ℕ → Parser (ℕ × Words)
 block_rest ends = blank_inline >>= (λ n. indented_text n >>= (λ w. pure (ends, w)))
@@ -67,16 +67,16 @@ unfolding spaced
 text_line ends s y z e f =
     let (q, g, k) = first_read (blank_inline s) _ z e in
     let (t, i, j) = first_read (indented_text q.0 q.1) _ z k in
-    line_end_words (Some q.0) q.1 y t (line_behind s y (Some q) g f) (indented_read q.0 q.1 (is_indented q.1) t i).1
+    line_end_words (Some q.0) q.1 y t (line_after s y (Some q) g f) (indented_read q.0 q.1 (is_indented q.1) t i).1
 
 abbrev pub placeable_rest : Parser Expression → ℕ → Parser (List Piece)
 placeable_rest b ends = indent >>= (λ w. b >>= (λ x. pure (line ends ∷ words w ∷ hole x ∷ [])))
 
 -- what an indent leaves
-indent_behind : (s : List ℕ) (r : Read ℕ) (z : Words × List ℕ) → blank_inline s ≡ r → indent s ≡ Some z → spaced s r ≡ z.1
+indent_after : (s : List ℕ) (r : Read ℕ) (z : Words × List ℕ) → blank_inline s ≡ r → indent s ≡ Some z → spaced s r ≡ z.1
 unfolding indent spaced
-indent_behind s None z e f = lefts _ z.0 s z.1 (sym (ap (λ b. and_then (otherwise (and_then b (λ x. pure (Some x))) (pure None) s) (λ n. pure (record { indent = Some (unwrap_or n 0); bytes = []; fed = false }))) e) ∙ f)
-indent_behind s (Some q) z e f = lefts _ z.0 q.1 z.1 (sym (ap (λ b. and_then (otherwise (and_then b (λ x. pure (Some x))) (pure None) s) (λ n. pure (record { indent = Some (unwrap_or n 0); bytes = []; fed = false }))) e) ∙ f)
+indent_after s None z e f = lefts _ z.0 s z.1 (sym (ap (λ b. and_then (otherwise (and_then b (λ x. pure (Some x))) (pure None) s) (λ n. pure (record { indent = Some (unwrap_or n 0); bytes = []; fed = false }))) e) ∙ f)
+indent_after s (Some q) z e f = lefts _ z.0 q.1 z.1 (sym (ap (λ b. and_then (otherwise (and_then b (λ x. pure (Some x))) (pure None) s) (λ n. pure (record { indent = Some (unwrap_or n 0); bytes = []; fed = false }))) e) ∙ f)
 
 abbrev pub text_piece : Parser (List Piece)
 text_piece = (λ w. words w ∷ []) <$> inline_text
@@ -98,7 +98,7 @@ no_lines s z e n =
     let (q, f, k) = first_read (blank_line s) _ z e in
     let c : first s ≡ 123 = eqb-true (first s) 123 n in
     let none : blank_inline s ≡ None = no_blank_inline s (ap (λ b. b == 32) c) in
-    true_false (first s == 123) n (line_end_brace s q (line_behind s q None none f))
+    true_false (first s == 123) n (line_end_brace s q (line_after s q None none f))
 
 -- an indented text begins with no brace
 text_brace : (s : List ℕ) → (run_len is_text s == 0) ≡ false → (first s == 123) ≡ false
@@ -109,7 +109,7 @@ text_brace (a ∷ s) e =
       | inr other ↦ other
     ]
 
--- with these no pattern goes on behind blanks: `}`, `[`, `*` and `.`
+-- with these no pattern goes on after blanks: `}`, `[`, `*` and `.`
 abbrev pub ends_pattern : ℕ → Bool
 ends_pattern n = (n == 125 || n == 91) || (n == 42 || n == 46)
 
@@ -129,15 +129,15 @@ no_space (a ∷ s) e =
       | inr other ↦ other
     ]
 
-run_behind : (s : List ℕ) (b : Bool) (z : List ℕ × List ℕ) → ◌≡◌ {A = Read (List ℕ)} (if b then None else run is_space s) (Some z) → drop (run_len is_space s) s ≡ z.1
-run_behind s true z e = absurd (is_read z (sym e))
-run_behind s false z e = lefts (take (run_len is_space s) s) z.0 (drop (run_len is_space s) s) z.1 e
+run_after : (s : List ℕ) (b : Bool) (z : List ℕ × List ℕ) → ◌≡◌ {A = Read (List ℕ)} (if b then None else run is_space s) (Some z) → drop (run_len is_space s) s ≡ z.1
+run_after s true z e = absurd (is_read z (sym e))
+run_after s false z e = lefts (take (run_len is_space s) s) z.0 (drop (run_len is_space s) s) z.1 e
 
-pub spaces_behind : (s : List ℕ) (z : ℕ × List ℕ) → blank_inline s ≡ Some z → (first z.1 == 32) ≡ false
+pub spaces_after : (s : List ℕ) (z : ℕ × List ℕ) → blank_inline s ≡ Some z → (first z.1 == 32) ≡ false
 unfolding blank_inline run1
-spaces_behind s z e =
+spaces_after s z e =
     let (q, f, k) = first_read (run1 is_space s) (λ x. pure (length x)) z e in
-    let same : drop (run_len is_space s) s ≡ z.1 = run_behind s (run_len is_space s == 0) q f ∙ lefts (length q.0) z.0 q.1 z.1 k in
+    let same : drop (run_len is_space s) s ≡ z.1 = run_after s (run_len is_space s == 0) q f ∙ lefts (length q.0) z.0 q.1 z.1 k in
     no_space z.1 (ap (run_len is_space) (sym same) ∙ stops is_space s)
 
 solid_text : (c d : ℕ) → is_text c d ≡ true → (c == 32) ≡ false → is_blank c d ≡ false
@@ -160,13 +160,13 @@ brace_leads b h = record {
       ap (λ n. n == 123) (next_first t (ap (λ n. is_blank n (first (drop 1 t))) c)) ∙ h.start t z e;
 }
 
-block_behind : (s : List ℕ) (z : (ℕ × Words) × List ℕ) → block_text s ≡ Some z → ends_pattern (next s) ≡ true → ⊥
+block_after : (s : List ℕ) (z : (ℕ × Words) × List ℕ) → block_text s ≡ Some z → ends_pattern (next s) ≡ true → ⊥
 unfolding block_text
-block_behind s z e here =
+block_after s z e here =
     let (q, f, k) = first_read (blank_block s) _ z e in
     let (p, g, l) = first_read (blank_inline q.1) _ z k in
     let (t, i, j) = first_read (indented_text p.0 p.1) _ z l in
-    text_next p.0 p.1 t i (spaces_behind q.1 p g) (ap ends_pattern (sym (keep_of blank_block s q keeps-blank_block f ∙ keep_of blank_inline q.1 p keeps-blank_inline g)) ∙ here)
+    text_next p.0 p.1 t i (spaces_after q.1 p g) (ap ends_pattern (sym (keep_of blank_block s q keeps-blank_block f ∙ keep_of blank_inline q.1 p keeps-blank_inline g)) ∙ here)
 
 leads-key : Leads (is 91) variant_key
 unfolding variant_key
@@ -253,8 +253,8 @@ clash-select g = λ t y x r e f here.
     let (q, a, b) = first_read (selector g t) (selects g) y e in
     let (p, c, d) = first_read (inline_expression g t) (λ x. provided (is_selector x) >> pure x) q a in
     let (z, i, j) = first_read (inline_expression g t) alone (x, r) f in
-    let behind : q.1 ≡ r = sym (lefts p.0 q.0 p.1 q.1 (kept (is_selector p.0) p.0 p.1 q d).1) ∙ (lefts p.0 z.0 p.1 z.1 (sym c ∙ i) ∙ lefts (inline z.0) x z.1 r (kept (stands_alone z.0) (inline z.0) z.1 (x, r) j).1) in
-    fails_at 45 (is 125) (next q.1) ((leads-selects g q.0).lead q.1 y b) refl (ap (λ s. next s == 125) behind ∙ here)
+    let after : q.1 ≡ r = sym (lefts p.0 q.0 p.1 q.1 (kept (is_selector p.0) p.0 p.1 q d).1) ∙ (lefts p.0 z.0 p.1 z.1 (sym c ∙ i) ∙ lefts (inline z.0) x z.1 r (kept (stands_alone z.0) (inline z.0) z.1 (x, r) j).1) in
+    fails_at 45 (is 125) (next q.1) ((leads-selects g q.0).lead q.1 y b) refl (ap (λ s. next s == 125) after ∙ here)
 
 starts-placeable : (g : Level) → Starts (is 123) (inline_placeable g)
 unfolding inline_placeable
@@ -262,10 +262,10 @@ starts-placeable g = starts-bind (is 123) (byte 123) _ (starts-byte (is 123) 123
 
 -- ---- what is read whatever follows
 
-module _ (T : Behind) where
+module _ (T : After) where
   -- ---- texts of lines
 
-  -- blank lines, behind which none follows
+  -- blank lines, after which none follows
   fixed-lines : (Fixed T) (λ v. (Closed T) v × (Stops T) blank_line v) blank_block
   unfolding blank_block
   fixed-lines =
@@ -279,31 +279,31 @@ module _ (T : Behind) where
   fixed-block_text =
       (fixed-bind T) (λ v. (Closed T) v × (Stops T) blank_line v) (Closed T) blank_block block_rest fixed-lines
       (λ ends. (fixed-then T) (Closed T) blank_inline _ ((fixed-near T) blank_inline near-blank_inline) (λ n. (fixed-map T) (Closed T) (λ w. (ends, w)) (indented_text n) ((fixed-near T) (indented_text n) (near-indented n))) (closed_closed T))
-      (λ ends x v1 u v e known c. ((closed_behind T) v1 u v e c, λ w i. never blank_line (v1 ++ w) (λ y f. text_line ends (v1 ++ w) y (x, v ++ w) (known w i) f)))
+      (λ ends x v1 u v e known c. ((closed_after T) v1 u v e c, λ w i. never blank_line (v1 ++ w) (λ y f. text_line ends (v1 ++ w) y (x, v ++ w) (known w i) f)))
 
   -- ---- block placeables
 
   abbrev pub Braces : Parser Expression → Type 0
   Braces b = (Fixed T) Anywhere b × Starts (is 123) b
 
-  -- where a placeable is behind an indent
-  brace_behind : (b : Parser Expression) → Braces b → (ends : ℕ) (s : List ℕ) (z : List Piece × List ℕ) → placeable_rest b ends s ≡ Some z → (first (spaced s (blank_inline s)) == 123) ≡ true
-  brace_behind b h ends s z e =
+  -- where a placeable is after an indent
+  brace_after : (b : Parser Expression) → Braces b → (ends : ℕ) (s : List ℕ) (z : List Piece × List ℕ) → placeable_rest b ends s ≡ Some z → (first (spaced s (blank_inline s)) == 123) ≡ true
+  brace_after b h ends s z e =
       let (q, f, k) = first_read (indent s) _ z e in
       let (x, i, j) = first_read (b q.1) _ z k in
-      ap (λ t. first t == 123) (indent_behind s (blank_inline s) q refl f) ∙ h.1.start q.1 x i
+      ap (λ t. first t == 123) (indent_after s (blank_inline s) q refl f) ∙ h.1.start q.1 x i
 
   pub placeable_line : (b : Parser Expression) → Braces b → (ends : ℕ) (s : List ℕ) (y : Unit {0} × List ℕ) (z : List Piece × List ℕ) → placeable_rest b ends s ≡ Some z → blank_line s ≡ Some y → ⊥
   placeable_line b h ends s y z e f =
       let t = spaced s (blank_inline s) in
-      true_false (first t == 123) (brace_behind b h ends s z e) (line_end_brace t y (line_behind s y (blank_inline s) refl f))
+      true_false (first t == 123) (brace_after b h ends s z e) (line_end_brace t y (line_after s y (blank_inline s) refl f))
 
   fixed-block_placeable : (b : Parser Expression) → Braces b → (Fixed T) (Closed T) (block_placeable b)
   unfolding block_placeable
   fixed-block_placeable b h =
       (fixed-bind T) (λ v. (Closed T) v × (Stops T) blank_line v) (Closed T) blank_block (placeable_rest b) fixed-lines
       (λ ends. (fixed-then T) (Closed T) indent _ ((fixed-near T) indent near-indent) (λ w. (fixed-any T) (Closed T) _ ((fixed-map T) Anywhere (λ x. line ends ∷ words w ∷ hole x ∷ []) b h.0)) (closed_closed T))
-      (λ ends x v1 u v e known c. ((closed_behind T) v1 u v e c, λ w i. never blank_line (v1 ++ w) (λ y f. placeable_line b h ends (v1 ++ w) y (x, v ++ w) (known w i) f)))
+      (λ ends x v1 u v e known c. ((closed_after T) v1 u v e c, λ w i. never blank_line (v1 ++ w) (λ y f. placeable_line b h ends (v1 ++ w) y (x, v ++ w) (known w i) f)))
 
   -- ---- elements of patterns
 
@@ -319,7 +319,7 @@ module _ (T : Behind) where
   text_and_brace b h m n s y z e f =
       let (q, g, k) = first_read (blank_inline s) _ y e in
       let (t, i, j) = first_read (indented_text q.0 q.1) _ y k in
-      let brace : (first q.1 == 123) ≡ true = ap (λ r. first (spaced s r) == 123) (sym g) ∙ brace_behind b h n s z f in
+      let brace : (first q.1 == 123) ≡ true = ap (λ r. first (spaced s r) == 123) (sym g) ∙ brace_after b h n s z f in
       true_false (first q.1 == 123) brace (text_brace q.1 (words_some (Some q.0) q.1 t (indented_read q.0 q.1 (is_indented q.1) t i).1))
 
   pub clash-block : (b : Parser Expression) → Braces b → Clash Anywhere block_piece (hole_piece b <|> block_placeable b)
@@ -368,7 +368,7 @@ module _ (T : Behind) where
       elim (either_read (text_piece t) (block_piece <|> (hole_piece b <|> block_placeable b)) t z e) [
         | inl text ↦ let (q, f, k) = first_read (inline_text t) _ z text in true_false (run_len is_text t == 0) (ap (λ m. m == 0) n) (words_some None t q f)
         | inr others ↦ elim (either_read (block_piece t) (hole_piece b <|> block_placeable b) t z others) [
-          | inl block ↦ let (q, f, k) = first_read (block_text t) _ z block in block_behind t q f here
+          | inl block ↦ let (q, f, k) = first_read (block_text t) _ z block in block_after t q f here
           | inr more ↦ elim (either_read (hole_piece b t) (block_placeable b) t z more) [
             | inl held ↦ fails_at 123 ends_pattern (next t) ((leads-bind (is 123) b _ (brace_leads b h.1)).lead t z held) refl here
             | inr low ↦ fails_at 123 ends_pattern (next t) ((leads-block_placeable b h).lead t z low) refl here
@@ -383,7 +383,7 @@ module _ (T : Behind) where
   fixed-pieces : (b : Parser Expression) → Braces b → (Fixed T) (NoElement b) (pieces b)
   unfolding pieces
   fixed-pieces b h =
-      (fixed-then T) (NoElement b) (pattern_element b) _ (fixed-element b h) (λ front. (fixed-many T) (Closed T) ◌++◌ (pattern_element b) front (fixed-element b h) ((enters-closed T) (pattern_element b))) (λ v here. here.0)
+      (fixed-then T) (NoElement b) (pattern_element b) _ (fixed-element b h) (λ prefix. (fixed-many T) (Closed T) ◌++◌ (pattern_element b) prefix (fixed-element b h) ((enters-closed T) (pattern_element b))) (λ v here. here.0)
 
   pub fixed-pattern : (b : Parser Expression) → Braces b → (Fixed T) (NoElement b) (pattern b)
   fixed-pattern b h = (fixed-map T) (NoElement b) (λ ps. pattern_of (elements ps)) (pieces b) (fixed-pieces b h)
@@ -406,7 +406,7 @@ module _ (T : Behind) where
 
   enters-variant : (g : Level) → (Enters T) AtEnd (variant g false)
   enters-variant g = λ a s u v e known here.
-      at_end s ((closed_behind T) s u v e here.0) (λ w i. variant_line g false (s ++ w) (a, v ++ w) (known w i)) ((inline_end T) 91 ends_pattern (λ n k. grind (arith, nat_tests)) s ((ahead T) (is 91) (variant g false) s a v (leads-variant g) known))
+      at_end s ((closed_after T) s u v e here.0) (λ w i. variant_line g false (s ++ w) (a, v ++ w) (known w i)) ((inline_end T) 91 ends_pattern (λ n k. grind (arith, nat_tests)) s ((ahead T) (is 91) (variant g false) s a v (leads-variant g) known))
 
   fixed-over : (all : List Variant) → (Fixed T) (Closed T) (over all)
   fixed-over all = (fixed-near T) (over all) (near-then line_end (pure all) near-line_end (near-pure all))
@@ -417,14 +417,14 @@ module _ (T : Behind) where
       (λ all. (fixed-weaker T) (Closed T) ((End T) (is 125)) (over all) ((closed_end T) (is 125)) (fixed-over all))
       (λ all x v1 u v e known here.
       let n : (w : List ℕ) → T.may w → (next (v1 ++ w) == 125) ≡ true = λ w i. ap (λ k. k == 125) (over_next all (v1 ++ w) (x, v ++ w) (known w i)) ∙ here.1 w i in (
-        at_end v1 ((closed_behind T) v1 u v e here.0) (λ w i. over_line all (v1 ++ w) (x, v ++ w) (known w i)) (λ w i. ap ends_pattern (eqb-true (next (v1 ++ w)) 125 (n w i))),
+        at_end v1 ((closed_after T) v1 u v e here.0) (λ w i. over_line all (v1 ++ w) (x, v ++ w) (known w i)) (λ w i. ap ends_pattern (eqb-true (next (v1 ++ w)) 125 (n w i))),
         λ w i. never (variant g false) (v1 ++ w) (λ y f. fails_at 91 (is 125) (next (v1 ++ w)) ((leads-variant g).lead (v1 ++ w) y f) refl (n w i)),
       ))
 
   fixed-from_default : (g : Level) → (Firm T) g → (before : List Variant) → (Fixed T) ((End T) (is 125)) (variant g true >>= others g before)
   fixed-from_default g h before =
       (fixed-bind T) AtEnd ((End T) (is 125)) (variant g true) (others g before) (fixed-variant g h true) (fixed-others g h before)
-      (λ d x v1 u v e known here. at_end v1 ((closed_behind T) v1 u v e here.0) (λ w i. others_line g before d (v1 ++ w) (x, v ++ w) (known w i)) (λ w i. others_next g before d (v1 ++ w) (x, v ++ w) (known w i) (here.1 w i)))
+      (λ d x v1 u v e known here. at_end v1 ((closed_after T) v1 u v e here.0) (λ w i. others_line g before d (v1 ++ w) (x, v ++ w) (known w i)) (λ w i. others_next g before d (v1 ++ w) (x, v ++ w) (known w i) (here.1 w i)))
 
   fixed-variant_list : (g : Level) → (Firm T) g → (Fixed T) ((End T) (is 125)) (variant_list g)
   unfolding variant_list
@@ -432,7 +432,7 @@ module _ (T : Behind) where
       (fixed-bind T) (λ v. AtEnd v × (Stops T) (variant g false) v) ((End T) (is 125)) _ (λ before. variant g true >>= others g before) ((fixed-many T) AtEnd push (variant g false) [] (fixed-variant g h false) (enters-variant g)) (fixed-from_default g h)
       (λ before x v1 u v e known here.
       let n : (w : List ℕ) → T.may w → (next (v1 ++ w) == 42) ≡ true = (ahead T) (is 42) (variant g true >>= others g before) v1 x v (leads-bind (is 42) (variant g true) _ (leads-default g)) known in (
-        at_end v1 ((closed_behind T) v1 u v e here.0) (λ w i. default_line g before (v1 ++ w) (x, v ++ w) (known w i)) (λ w i. ap ends_pattern (eqb-true (next (v1 ++ w)) 42 (n w i))),
+        at_end v1 ((closed_after T) v1 u v e here.0) (λ w i. default_line g before (v1 ++ w) (x, v ++ w) (known w i)) (λ w i. ap ends_pattern (eqb-true (next (v1 ++ w)) 42 (n w i))),
         λ w i. never (variant g false) (v1 ++ w) (λ y f. fails_at 91 (is 42) (next (v1 ++ w)) ((leads-variant g).lead (v1 ++ w) y f) refl (n w i)),
       ))
 
@@ -442,7 +442,7 @@ module _ (T : Behind) where
   fixed-select g h =
       (fixed-bind T) ((End T) ends_inline) ((End T) (is 125)) (selector g) (selects g) ((fixed-sift T) ((End T) ends_inline) is_selector (λ x. x) (inline_expression g) ((fixed-inline T) g h))
       (λ x. (fixed-then T) ((End T) (is 125)) arrow _ ((fixed-near T) arrow near-arrow) (λ _. (fixed-map T) ((End T) (is 125)) (λ vs. select x (variants_of vs)) (variant_list g) (fixed-variant_list g h)) ((closed_end T) (is 125)))
-      (λ x y v1 u v e known here. ((closed_behind T) v1 u v e here.0, (inline_end T) 45 ends_inline (λ n k. grind (arith, nat_tests)) v1 ((ahead T) (is 45) (selects g x) v1 y v (leads-selects g x) known)))
+      (λ x y v1 u v e known here. ((closed_after T) v1 u v e here.0, (inline_end T) 45 ends_inline (λ n k. grind (arith, nat_tests)) v1 ((ahead T) (is 45) (selects g x) v1 y v (leads-selects g x) known)))
 
   fixed-alone : (g : Level) → (Firm T) g → (Fixed T) ((End T) (is 125)) (inline_expression g >>= alone)
   fixed-alone g h =
@@ -494,19 +494,19 @@ module _ (T : Behind) where
 -- ---- the laws
 
 -- whatever follows
-abbrev any : List ℕ → Behind
+abbrev any : List ℕ → After
 any t = record { may = λ w. Unit {0}; here = t; holds = tt }
 
-by_front_alone : {A : Type 0} (p : Parser A) → ((T : Behind) → Fixed T Anywhere p) → (s : List ℕ) → ReadByFrontAlone p s
-by_front_alone p h s x behind e =
-    let fixed = h (any behind) in
-    let fr : (u : List ℕ) × (s ≡ u ++ behind) = subst (TakesTo s) e (fixed.takes.front s) in
+by_prefix_alone : {A : Type 0} (p : Parser A) → ((T : After) → Fixed T Anywhere p) → (s : List ℕ) → ReadByPrefixAlone p s
+by_prefix_alone p h s x after e =
+    let fixed = h (any after) in
+    let fr : (u : List ℕ) × (s ≡ u ++ after) = subst (TakesTo s) e (fixed.takes.prefix s) in
     (fr.0, fr.1, λ other. fixed.fixed.settled fr.0 x [] tt (ap p (sym fr.1) ∙ e) other tt)
 
-pub placeable_by_front : (n : ℕ) (s : List ℕ) → ReadByFrontAlone (level n).braces s
-placeable_by_front n s = by_front_alone (level n).braces (λ T. (firm T n).braces) s
+pub placeable_by_prefix : (n : ℕ) (s : List ℕ) → ReadByPrefixAlone (level n).braces s
+placeable_by_prefix n s = by_prefix_alone (level n).braces (λ T. (firm T n).braces) s
 
-pub call_by_front : (n : ℕ) (s : List ℕ) → ReadByFrontAlone (level n).brackets s
-call_by_front n s = by_front_alone (level n).brackets (λ T. (firm T n).brackets) s
+pub call_by_prefix : (n : ℕ) (s : List ℕ) → ReadByPrefixAlone (level n).brackets s
+call_by_prefix n s = by_prefix_alone (level n).brackets (λ T. (firm T n).brackets) s
 
-pub ruleset rules_by_front_alone = (placeable_by_front, call_by_front)
+pub ruleset rules_by_prefix_alone = (placeable_by_prefix, call_by_prefix)

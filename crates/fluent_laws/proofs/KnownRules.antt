@@ -1,4 +1,4 @@
--- Inline expressions and call arguments are read by the front that they take, whatever stands behind it.
+-- Inline expressions and call arguments are read by the prefix that they take, whatever stands after it.
 use Rattle.std.proofs.Common.{◌≡◌, ◌==◌, ◌||◌, ℕ, Bool, true, false, List, [], ◌++◌, drop, Some, None, refl, sym, ap, ◌∙◌, subst, arith, eqb-true, inl, inr}
 use Rattle.std.proofs.lemmas.Bool.{cases_Bool}
 use Rattle.std.proofs.lemmas.Bool.Decides.{nat_tests}
@@ -6,15 +6,15 @@ use Rattle.fluent_tree.specs.Tree.{Text, Inline, Arguments, no_call, call, no_at
 use Rattle.fluent_text.specs.Parser.{Read, Parser, ◌>>=◌, ◌>>◌, ◌<$>◌, ◌<|>◌, and_then, otherwise, pure, skip, byte, first}
 use Rattle.fluent_text.specs.Lexical.{is_letter, identifier, blank}
 use Rattle.fluent_syntax.specs.Expressions.{Level, provided, string_literal, number_literal, literal, attribute_access, message_reference, is_function_name, function_reference, optional_call, term_reference, inline_expression, named_argument, Argument, positional, by_name, argument, Gathered, add, is_well_formed, arguments_of, comma, argument_comma, last_argument, argument_list, call_arguments, variable_reference}
-use Rattle.fluent_syntax.specs.Facts.Fronts.{TakesTo, takes-then, takes-pure, takes-byte}
-use Rattle.fluent_syntax.specs.Facts.LexicalFronts.{takes-blanks}
+use Rattle.fluent_syntax.specs.Facts.Prefixes.{TakesTo, takes-then, takes-pure, takes-byte}
+use Rattle.fluent_syntax.specs.Facts.LexicalPrefixes.{takes-blanks}
 use Rattle.fluent_laws.proofs.Near.{closes, Near, near-byte, near-then, near-pure, shuts-map, is_read}
 use Rattle.fluent_laws.proofs.NearRules.{near-identifier, near-attribute_access, near-message_reference, near-variable_reference, near-blanks, shuts-number_literal}
 use Rattle.fluent_laws.proofs.NearStrings.{near-literal, near-named_argument}
-use Rattle.fluent_laws.proofs.Known.{Behind, Closed, closed_behind, cut, Known, Stops, Anywhere, lefts, Clash, Gives_way, way-clash, never, enters-closed, Closing, closing-bind, closing-byte, closing-provided, Fixed, fixed-near, fixed-weaker, fixed-any, fixed-bind, fixed-then, fixed-pure, fixed-map, fixed-provided, fixed-byte, fixed-or, fixed-many}
+use Rattle.fluent_laws.proofs.Known.{After, Closed, closed_after, cut, Known, Stops, Anywhere, lefts, Clash, Gives_way, way-clash, never, enters-closed, Closing, closing-bind, closing-byte, closing-provided, Fixed, fixed-near, fixed-weaker, fixed-any, fixed-bind, fixed-then, fixed-pure, fixed-map, fixed-provided, fixed-byte, fixed-or, fixed-many}
 use Rattle.fluent_laws.proofs.Leads.{first_read, either_read, true_false, fails_at, is_blank, next, next_first, keeps-blanks, Leads, leads-bind, leads-keep, leads-byte, Starts, starts-bind, starts-or, starts-byte, starts-weaker, starts-identifier, starts-number_literal, may_start_number, clash-start}
 
--- ---- what rules begin with, and what stands behind
+-- ---- what rules begin with, and what stands after
 
 abbrev pub is : ℕ → ℕ → Bool
 is c n = n == c
@@ -77,7 +77,7 @@ no_point c t e f =
       | inr other ↦ other
     ]
 
--- a name and what stands behind it
+-- a name and what stands after it
 abbrev named_by : (g : Level) → Text → Parser Inline
 named_by g id = attribute_access >>= (λ a. pure (message id a))
 
@@ -88,9 +88,9 @@ message_alone g s id t x r e n f =
     lefts (message id no_attribute) x t r (sym (ap (λ z. otherwise z (from_term g) s) m) ∙ f)
 
 -- what a function takes
-call_behind : (g : Level) (id : Text) (b : Bool) (t : List ℕ) (z : Inline × List ℕ) → (provided b >> (g.brackets >>= (λ a. pure (function id a)))) t ≡ Some z → (q : Arguments × List ℕ) × (g.brackets t ≡ Some q)
-call_behind g id true t z e = let (q, f, k) = first_read (g.brackets t) (λ a. pure (function id a)) z e in (q, f)
-call_behind g id false t z e = absurd (is_read z (sym e))
+call_after : (g : Level) (id : Text) (b : Bool) (t : List ℕ) (z : Inline × List ℕ) → (provided b >> (g.brackets >>= (λ a. pure (function id a)))) t ≡ Some z → (q : Arguments × List ℕ) × (g.brackets t ≡ Some q)
+call_after g id true t z e = let (q, f, k) = first_read (g.brackets t) (λ a. pure (function id a)) z e in (q, f)
+call_after g id false t z e = absurd (is_read z (sym e))
 
 -- a literal that isn't read there is read nowhere
 pub shuts_literal : (s t : List ℕ) → (first t == 34) ≡ false → (number <$> number_literal) t ≡ None → literal t ≡ None
@@ -145,7 +145,7 @@ near-comma : Near comma
 unfolding comma
 near-comma = near-then (skip blank) _ near-blanks (near-then (byte 44) (skip blank) (near-byte 44 refl) near-blanks)
 
--- a closing bracket behind blanks, and what it gives
+-- a closing bracket after blanks, and what it gives
 abbrev pub closed_by : {A : Type 0} → ℕ → A → Parser A
 closed_by c x = skip blank >> (byte c >> pure x)
 
@@ -168,13 +168,13 @@ leads-call_arguments g = leads-keep (is 40) (skip blank) _ keeps-blanks (λ _. l
 
 -- ---- what is read whatever follows
 
-module _ (T : Behind) where
-  -- ---- what stands behind
+module _ (T : After) where
+  -- ---- what stands after
 
   abbrev pub Ahead : (ℕ → Bool) → List ℕ → Type 0
   Ahead P v = (w : List ℕ) → T.may w → P (next (v ++ w)) ≡ true
 
-  -- a text behind which no rule looks, and the first byte behind its blanks
+  -- a text after which no rule looks, and the first byte after its blanks
   abbrev pub End : (ℕ → Bool) → List ℕ → Type 0
   End P v = (Closed T) v × Ahead P v
 
@@ -261,7 +261,7 @@ module _ (T : Behind) where
   unfolding function_reference
   function_read g h s z e =
       let (q, f, k) = first_read (identifier s) _ z e in
-      let (a, b) = call_behind g q.0 (is_function_name q.0) q.1 z k in
+      let (a, b) = call_after g q.0 (is_function_name q.0) q.1 z k in
       (q, f, h.bracket.lead q.1 a b)
 
   clash-function : (g : Level) → Firm g → Clash (λ r. ends_inline (next r) ≡ true) (function_reference g) (from_message g)
@@ -280,8 +280,8 @@ module _ (T : Behind) where
   way-literal : (g : Level) → Firm g → (Gives_way T) (End ends_inline) literal (from_function g)
   unfolding literal
   way-literal g h = λ s x v here e known.
-      let fr : (u : List ℕ) × (s ++ T.here ≡ u ++ (v ++ T.here)) = subst (TakesTo (s ++ T.here)) (known T.here T.holds) ((fixed-from_function g h).takes.front (s ++ T.here)) in
-      let c : (Closed T) s = (closed_behind T) s fr.0 v ((cut T) s fr.0 v fr.1) here.0 in
+      let fr : (u : List ℕ) × (s ++ T.here ≡ u ++ (v ++ T.here)) = subst (TakesTo (s ++ T.here)) (known T.here T.holds) ((fixed-from_function g h).takes.prefix (s ++ T.here)) in
+      let c : (Closed T) s = (closed_after T) s fr.0 v ((cut T) s fr.0 v fr.1) here.0 in
       λ w' i. shuts_literal (s ++ T.here) (s ++ w') (no_quote (first (s ++ w')) ((starts-from_function g h).start (s ++ w') (x, v ++ w') (known w' i)))
       ((shuts-map number number_literal shuts-number_literal).shut (s ++ T.here) (s ++ w') (c T.here w' T.holds i) (second_none ((string <$> string_literal) (s ++ T.here)) (number <$> number_literal) (s ++ T.here) e))
 
@@ -340,7 +340,7 @@ module _ (T : Behind) where
   unfolding argument_comma
   fixed-argument_comma g h =
       (fixed-bind T) (End ends_inline) (Closed T) (argument g) _ (fixed-argument g h) (λ a. (fixed-near T) (comma >> pure a) (near-then comma (pure a) near-comma (near-pure a)))
-      (λ a x v1 u v e known c. ((closed_behind T) v1 u v e c, inline_end 44 ends_inline (λ n k. grind (arith, nat_tests)) v1 (ahead (is 44) (comma >> pure a) v1 x v (leads-comma a) known)))
+      (λ a x v1 u v e known c. ((closed_after T) v1 u v e c, inline_end 44 ends_inline (λ n k. grind (arith, nat_tests)) v1 (ahead (is 44) (comma >> pure a) v1 x v (leads-comma a) known)))
 
   clash-last : (g : Level) → Firm g → (before : Gathered) → Clash (λ r. (next r == 41) ≡ true) (add before <$> argument g) (pure before)
   clash-last g h before = λ t y x r e f here.
@@ -366,7 +366,7 @@ module _ (T : Behind) where
   unfolding argument_list
   fixed-argument_list g h =
       (fixed-bind T) (λ v. (Closed T) v × (Stops T) (argument_comma g) v) (End (is 41)) _ (last_argument g) ((fixed-many T) (Closed T) add (argument_comma g) ([], [], true) (fixed-argument_comma g h) ((enters-closed T) (argument_comma g))) (fixed-last g h)
-      (λ before x v1 u v e known here. ((closed_behind T) v1 u v e here.0, λ w i. never (argument_comma g) (v1 ++ w) (λ y f. clash-comma g h before (v1 ++ w) y x (v ++ w) f (known w i) (here.1 w i))))
+      (λ before x v1 u v e known here. ((closed_after T) v1 u v e here.0, λ w i. never (argument_comma g) (v1 ++ w) (λ y f. clash-comma g h before (v1 ++ w) y x (v ++ w) f (known w i) (here.1 w i))))
 
   -- ---- what closes
 

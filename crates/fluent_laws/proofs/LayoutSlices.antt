@@ -4,9 +4,9 @@ use Rattle.std.specs.Prelude.{replicate, unwrap_or}
 use Rattle.std.specs.List.{prefix_len}
 use Rattle.std.proofs.lemmas.List.{replicate-append-replicate}
 use Rattle.fluent_tree.specs.Tree.{Text, Element, text, placeable, pattern_of}
-use Rattle.fluent_syntax.specs.Layout.{Words, Piece, line, words, hole, common_indent, dedented, feed, unless_empty, starts_line, joined, lines, is_feed, trim_front, trim_spaces, trimmed, trim_last, elements}
+use Rattle.fluent_syntax.specs.Layout.{Words, Piece, line, words, hole, common_indent, dedented, feed, unless_empty, starts_line, joined, lines, is_feed, trim_start, trim_spaces, trimmed, trim_last, elements}
 use Rattle.fluent_laws.specs.SliceLaws.{IsSlice, SlicesOfExpression, SlicesOfElement, SlicesOfPattern}
-use Rattle.fluent_laws.proofs.Slices.{slice_end, slice_front, slice_take}
+use Rattle.fluent_laws.proofs.Slices.{slice_end, slice_prefix, slice_take}
 
 abbrev pub OfElements : Text → List Element → Type 0
 OfElements w es = SlicesOfPattern w (pattern_of es)
@@ -23,7 +23,7 @@ blanks n = replicate n 32
 abbrev pub spaces : Words → Text
 spaces x = blanks (unwrap_or x.indent 0)
 
--- Words stand in the source behind their spaces and before their line feed. Where lines end, there is a line feed.
+-- Words stand in the source after their spaces and before their line feed. Where lines end, there is a line feed.
 abbrev pub OfPiece : Text → Piece → Type 0
 OfPiece w (line k) = IsSlice w (10 ∷ [])
 OfPiece w (words x) = IsSlice w (spaces x ++ (x.bytes ++ ending x.fed))
@@ -59,8 +59,8 @@ unless w (b ∷ bs) h = (h, tt)
 split : (m j k : ℕ) → m + j ≡ k → blanks k ≡ blanks m ++ blanks j
 split m j k e = ap blanks (sym e) ∙ sym (replicate-append-replicate m j 32)
 
-behind : (m j k : ℕ) (t e : Text) → m + j ≡ k → blanks k ++ (t ++ e) ≡ blanks m ++ ((blanks j ++ t) ++ e)
-behind m j k t e n =
+after : (m j k : ℕ) (t e : Text) → m + j ≡ k → blanks k ++ (t ++ e) ≡ blanks m ++ ((blanks j ++ t) ++ e)
+after m j k t e n =
     ap (λ r. r ++ (t ++ e)) (split m j k n)
     ∙ (append_assoc (blanks m) (blanks j) (t ++ e) ∙ ap (λ r. blanks m ++ r) (sym (append_assoc (blanks j) t e)))
 
@@ -68,14 +68,14 @@ behind m j k t e n =
 left : (w : Text) (common : ℕ) (x : Words) → OfPiece w (words x) → IsSlice w (dedented common x ++ ending x.fed)
 left w common x h =
     let k = unwrap_or x.indent 0 in
-    slice_end w _ (blanks (k - (k - common))) _ h (behind (k - (k - common)) (k - common) k x.bytes (ending x.fed) (omega arith))
+    slice_end w _ (blanks (k - (k - common))) _ h (after (k - (k - common)) (k - common) k x.bytes (ending x.fed) (omega arith))
 
 -- ---- lines
 
 join : (w t : Text) (fed starts : Bool) (es : List Element) → IsSlice w (t ++ ending fed) → OfElements w es → OfElements w (joined t (fed && starts) es)
 join w t true true es s h = (s, dropped w 1 es h)
-join w t true false es s h = append w (unless_empty t) es (unless w t (slice_front w _ t (10 ∷ []) s refl)) h
-join w t false starts es s h = append w (unless_empty t) es (unless w t (slice_front w _ t [] s refl)) h
+join w t true false es s h = append w (unless_empty t) es (unless w t (slice_prefix w _ t (10 ∷ []) s refl)) h
+join w t false starts es s h = append w (unless_empty t) es (unless w t (slice_prefix w _ t [] s refl)) h
 
 by_lines : (w : Text) (common : ℕ) (ps : List Piece) → OfPieces w ps → OfElements w (lines common ps)
 unfolding lines
@@ -99,4 +99,4 @@ pub slices_laid_out : (w : Text) (ps : List Piece) → OfPieces w ps → OfEleme
 unfolding elements
 slices_laid_out w ps h =
     let whole = lines (common_indent ps) ps in
-    trim_end w (trim_front whole) (dropped w (prefix_len is_feed whole) whole (by_lines w (common_indent ps) ps h))
+    trim_end w (trim_start whole) (dropped w (prefix_len is_feed whole) whole (by_lines w (common_indent ps) ps h))

@@ -1,4 +1,4 @@
--- The first byte behind spaces and line ends, and the bytes with which rules begin.
+-- The first byte after spaces and line ends, and the bytes with which rules begin.
 use Rattle.std.proofs.Common.{◌≡◌, ◌==◌, ◌||◌, ◌&&◌, ℕ, zero, suc, ◌+◌, Bool, true, false, List, [], ◌∷◌, length, take, drop, Some, None, if◌then◌else◌, refl, sym, ap, ◌∙◌, subst, nat_lt, arith, eqb-true, ◌⊎◌, inl, inr}
 use Rattle.std.proofs.lemmas.Bool.{cases_Bool}
 use Rattle.std.proofs.lemmas.Bool.Decides.{nat_tests}
@@ -33,7 +33,7 @@ true_false b e f = subst Holds (sym e ∙ f) tt
 pub fails_at : (c : ℕ) (P : ℕ → Bool) (n : ℕ) → (n == c) ≡ true → P c ≡ false → P n ≡ true → ⊥
 fails_at c P n e f g = true_false (P n) g (ap P (eqb-true n c e) ∙ f)
 
--- ---- behind blanks
+-- ---- after blanks
 
 abbrev pub is_blank : ℕ → ℕ → Bool
 is_blank c after = (c == 32 || c == 10) || (c == 13 && after == 10)
@@ -218,7 +218,7 @@ line_end_brace s q e =
       | inr (inr over) ↦ ap (λ t. first t == 123) (no_byte s over)
     ]
 
--- ---- the first byte behind blanks, where a rule reads
+-- ---- the first byte after blanks, where a rule reads
 
 pub record Leads {A : Type 0} (P : ℕ → Bool) (p : Parser A) : Type 0 where
   pub lead : (t : List ℕ) (z : A × List ℕ) → p t ≡ Some z → P (next t) ≡ true

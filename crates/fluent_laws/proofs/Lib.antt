@@ -6,8 +6,8 @@ mod Leads
 mod KnownRules
 mod KnownPatterns
 mod KnownEntries
-mod FrontLaws
-mod RuleFronts
+mod PrefixLaws
+mod RulePrefixes
 mod ChunkLaws
 mod EntryTrees
 mod Slices
@@ -15,7 +15,7 @@ mod LayoutSlices
 mod PieceSlices
 mod TreeSlices
 mod EntrySlices
-mod FrontRows
+mod PrefixRows
 mod Alone
 mod AloneRules
 mod AloneInlines

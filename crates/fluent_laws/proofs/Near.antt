@@ -1,4 +1,4 @@
--- A rule is read by the front that it takes and what shows of the text behind it: two bytes, or a closing bracket or a line feed alone.
+-- A rule is read by the prefix that it takes and what shows of the text after it: two bytes, or a closing bracket or a line feed alone.
 use Rattle.std.proofs.Common.{◌≡◌, ◌==◌, ◌||◌, ℕ, zero, suc, ◌+◌, ◌-◌, ◌<◌, ◌≤◌, Bool, true, false, List, [], ◌∷◌, ◌++◌, length, take, drop, Some, None, if◌then◌else◌, refl, sym, ap, ◌∙◌, subst, append_assoc, nat_lt, take-append-drop, arith, length-append, inl, inr}
 use Rattle.std.proofs.lemmas.Bool.{cases_Bool}
 use Rattle.std.proofs.lemmas.Bool.Decides.{nat_tests}
@@ -9,11 +9,11 @@ use Rattle.fluent_syntax.specs.Facts.Chunked.{taken_is}
 
 -- ---- what shows of a text
 
--- `)`, `}` or a line feed: no rule looks behind it
+-- `)`, `}` or a line feed: no rule looks after it
 unfoldable pub closes : ℕ → Bool
 closes c = (c == 41 || c == 125) || c == 10
 
--- the first two bytes, or one behind which no rule looks
+-- the first two bytes, or one after which no rule looks
 abbrev pub shows : List ℕ → List ℕ
 shows [] = []
 shows (a ∷ s) = if closes a then a ∷ [] else a ∷ take 1 s
@@ -51,11 +51,11 @@ take1_of : (s : List ℕ) → take 1 (shows s) ≡ take 1 s
 take1_of [] = refl
 take1_of (a ∷ s) = elim (cases_Bool (closes a)) [ inl shut ↦ rw shut refl | inr clear ↦ rw clear refl ]
 
--- behind the same front
-pub behind_front : (u s t : List ℕ) → Alike2 s t → Alike2 (u ++ s) (u ++ t)
-behind_front [] s t e = e
-behind_front (a ∷ []) s t e = ap (λ w. if closes a then a ∷ [] else a ∷ w) (sym (take1_of s) ∙ (ap (take 1) e ∙ take1_of t))
-behind_front (a ∷ b ∷ u) s t e = refl
+-- after the same prefix
+pub after_prefix : (u s t : List ℕ) → Alike2 s t → Alike2 (u ++ s) (u ++ t)
+after_prefix [] s t e = e
+after_prefix (a ∷ []) s t e = ap (λ w. if closes a then a ∷ [] else a ∷ w) (sym (take1_of s) ∙ (ap (take 1) e ∙ take1_of t))
+after_prefix (a ∷ b ∷ u) s t e = refl
 
 -- the same two bytes show the same
 shows_two : (s : List ℕ) → shows (take 2 s) ≡ shows s
@@ -81,13 +81,13 @@ pub record Shuts {A : Type 0} (p : Parser A) : Type 0 where
 
 pub after : {A B : Type 0} (p : Parser A) (f : A → Parser B) (s : List ℕ) (a : A) (t : List ℕ) (r : Read B) → NearTo p s (Some (a, t)) → NearTo (f a) t r → NearTo (p >>= f) s r
 after p f s a t None h k = tt
-after p f s a t (Some q) (u, e, more) (v, g, behind) = (
+after p f s a t (Some q) (u, e, more) (v, g, past) = (
   u ++ v,
   e ∙ (ap (λ x. u ++ x) g ∙ sym (append_assoc u v q.1)),
   λ o same.
       ap (λ z. and_then (p z) f) (append_assoc u v o)
-      ∙ (ap (λ z. and_then z f) (more (v ++ o) (behind_front v o q.1 same ∙ ap shows (sym g)))
-      ∙ behind o same),
+      ∙ (ap (λ z. and_then z f) (more (v ++ o) (after_prefix v o q.1 same ∙ ap shows (sym g)))
+      ∙ past o same),
 )
 
 bound : {A B : Type 0} (p : Parser A) (f : A → Parser B) (s : List ℕ) (r : Read A) → NearTo p s r → ((x : A) → Near (f x)) → NearTo (p >>= f) s (and_then r f)
@@ -109,7 +109,7 @@ near-map f p h = near-bind p (λ x. pure (f x)) h (λ x. near-pure (f x))
 second_read : {A : Type 0} (p q : Parser A) (s : List ℕ) (r : Read A) → p s ≡ None → Shuts p → NearTo q s r → NearTo (p <|> q) s r
 second_read p q s None n c h = tt
 second_read p q s (Some x) n c (u, e, more) =
-    (u, e, λ o same. ap (λ z. otherwise z q (u ++ o)) (c.shut s (u ++ o) (ap shows e ∙ sym (behind_front u o x.1 same)) n) ∙ more o same)
+    (u, e, λ o same. ap (λ z. otherwise z q (u ++ o)) (c.shut s (u ++ o) (ap shows e ∙ sym (after_prefix u o x.1 same)) n) ∙ more o same)
 
 chosen : {A : Type 0} (p q : Parser A) (s : List ℕ) (r : Read A) → p s ≡ r → NearTo p s r → Shuts p → Near q → NearTo (p <|> q) s (otherwise r q s)
 chosen p q s None n h c k = second_read p q s (q s) n c (k.near s)
@@ -164,7 +164,7 @@ pub record Sees (b : List ℕ → Bool) : Type 0 where
 tested : {A : Type 0} (b : List ℕ → Bool) (p : Parser A) (s : List ℕ) (r : Read A) → b s ≡ true → Sees b → NearTo p s r → NearTo (λ s. if b s then p s else None) s r
 tested b p s None e v h = tt
 tested b p s (Some q) e v (u, g, more) =
-    (u, g, λ o same. ap (λ w. if w then p (u ++ o) else None) (v.sees (u ++ o) s (behind_front u o q.1 same ∙ ap shows (sym g)) ∙ e) ∙ more o same)
+    (u, g, λ o same. ap (λ w. if w then p (u ++ o) else None) (v.sees (u ++ o) s (after_prefix u o q.1 same ∙ ap shows (sym g)) ∙ e) ∙ more o same)
 
 pub near-if : {A : Type 0} (b : List ℕ → Bool) (p : Parser A) → Sees b → Near p → Near (λ s. if b s then p s else None)
 near-if {A = A} b p v h = record { near = λ s. by (b s) s refl }
@@ -182,7 +182,7 @@ shuts-if b p v h = record { shut = λ s t same e. by (b s) s t same refl e }
 
 -- ---- runs
 
--- behind such a byte nothing is looked at
+-- after such a byte nothing is looked at
 pub record Heedless (c : ℕ → ℕ → Bool) : Type 0 where
   pub heedless : (a m n : ℕ) → closes a ≡ true → c a m ≡ c a n
 
@@ -211,7 +211,7 @@ run_same c h (a ∷ s) o same =
           let n : 1 + run_len c s ≡ suc (run_len c s) = omega arith in
           let same2 : Alike2 o (drop (run_len c s) s) = same ∙ ap (λ k. shows (drop k (a ∷ s))) (ap (λ v. if v then 1 + run_len c s else 0) pass ∙ n) in
           let u = take (run_len c s) s in
-          let f : first (u ++ o) ≡ first s = one_seen (u ++ o) s (behind_front u o (drop (run_len c s) s) same2 ∙ ap shows (take-append-drop (run_len c s) s)) in
+          let f : first (u ++ o) ≡ first s = one_seen (u ++ o) s (after_prefix u o (drop (run_len c s) s) same2 ∙ ap shows (take-append-drop (run_len c s) s)) in
           let more = run_same c h s o same2 in
           let m : 1 + run_len c (u ++ o) ≡ suc (run_len c (u ++ o)) = omega arith in
           rw (pass, n, f, pass, m) (ap (grown a) more)
@@ -234,7 +234,7 @@ near-unless {A = A} b p v h = record { near = λ s. by (b s) s refl (p s) (h.nea
     passed : (s : List ℕ) (r : Read A) → b s ≡ false → NearTo p s r → NearTo (λ s. if b s then None else p s) s r
     passed s None e n = tt
     passed s (Some q) e (u, g, more) =
-        (u, g, λ o same. ap (λ w. if w then None else p (u ++ o)) (v.sees (u ++ o) s (behind_front u o q.1 same ∙ ap shows (sym g)) ∙ e) ∙ more o same)
+        (u, g, λ o same. ap (λ w. if w then None else p (u ++ o)) (v.sees (u ++ o) s (after_prefix u o q.1 same ∙ ap shows (sym g)) ∙ e) ∙ more o same)
 
     by : (w : Bool) (s : List ℕ) → b s ≡ w → (r : Read A) → NearTo p s r → NearTo (λ s. if b s then None else p s) s (if w then None else r)
     by true s e r n = tt
@@ -268,8 +268,8 @@ shuts-run1 c h = record { shut = λ s t same e. by (run_len c s == 0) s t same r
 pub sees_first : (b : ℕ → Bool) → Sees (λ s. b (first s))
 sees_first b = record { sees = λ s t same. ap b (one_seen s t same) }
 
-abbrev pub behind_one : List ℕ → Read (Unit {0})
-behind_one s = Some (tt, drop 1 s)
+abbrev pub after_one : List ℕ → Read (Unit {0})
+after_one s = Some (tt, drop 1 s)
 
 -- that is not 0
 pub near-byte : (c : ℕ) → (0 == c) ≡ false → Near (byte c)
@@ -288,9 +288,9 @@ pub shuts-byte : (c : ℕ) → Shuts (byte c)
 unfolding byte
 shuts-byte c = record { shut = λ s t same e. by (first s == c) s t same refl e }
   where
-    by : (w : Bool) (s t : List ℕ) → Alike2 s t → (first s == c) ≡ w → (if w then behind_one s else None) ≡ None → (if first t == c then behind_one t else None) ≡ None
+    by : (w : Bool) (s t : List ℕ) → Alike2 s t → (first s == c) ≡ w → (if w then after_one s else None) ≡ None → (if first t == c then after_one t else None) ≡ None
     by true s t same e n = absurd (is_read (tt, drop 1 s) n)
-    by false s t same e n = ap (λ w. if w then behind_one t else None) (ap (λ x. x == c) (sym (one_seen s t same)) ∙ e)
+    by false s t same e n = ap (λ w. if w then after_one t else None) (ap (λ x. x == c) (sym (one_seen s t same)) ∙ e)
 
 -- ---- repetitions
 
@@ -332,7 +332,7 @@ one_more_turn add p acc s a t q l (u, e, more) (v, g, others) =
   where
     gone : (o : List ℕ) (m : ℕ) → Alike2 o q.1 → length ((u ++ v) ++ o) ≤ m → (u ++ v) ++ o ≡ u ++ (v ++ o) → many_from add p m acc ((u ++ v) ++ o) ≡ Some (q.0, o)
     gone o m same room z =
-        let reads : p (u ++ (v ++ o)) ≡ Some (a, v ++ o) = more (v ++ o) (behind_front v o q.1 same ∙ ap shows (sym g)) in
+        let reads : p (u ++ (v ++ o)) ≡ Some (a, v ++ o) = more (v ++ o) (after_prefix v o q.1 same ∙ ap shows (sym g)) in
         let some : 0 < length u = omega (arith, ap length e, length-append u t) in
         let whole : length ((u ++ v) ++ o) ≡ length u + length (v ++ o) = ap length z ∙ length-append u (v ++ o) in
         let shorter : length (v ++ o) < length (u ++ (v ++ o)) = omega (arith, length-append u (v ++ o)) in

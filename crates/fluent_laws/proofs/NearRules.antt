@@ -1,4 +1,4 @@
--- The rules that hold no other are read by their front and the two bytes behind it.
+-- The rules that hold no other are read by their prefix and the two bytes after it.
 use Rattle.std.proofs.Common.{◌≡◌, ◌==◌, ◌-◌, length, ℕ, List, [], ◌∷◌, take, drop, true, false, Bool, Option, Some, None, refl, sym, ap, ◌∙◌, if◌then◌else◌, arith, eqb-true}
 use Rattle.std.proofs.lemmas.Bool.Decides.{nat_tests}
 use Rattle.std.specs.Char.{is_ascii_digit}
@@ -11,9 +11,9 @@ use Rattle.fluent_syntax.specs.Pieces.{follows, words_after}
 use Rattle.fluent_syntax.specs.Entries.{name_of_value}
 use Rattle.fluent_syntax.specs.Chunks.{may_begin_entry, rest_of_line, comment_line, junk_line, junk}
 use Rattle.fluent_laws.proofs.ChunkLaws.{IsRead, read-many, read-then, read-otherwise}
-use Rattle.fluent_laws.proofs.Near.{closes, Heedless, Alike2, one_seen, two_seen, end_seen, Near, Shuts, Sees, near-bind, near-pure, near-then, near-map, near-or, near-ignore, near-skip, near-if, near-unless, near-run, near-run1, near-byte, near-count, near-source_of, shuts-map, shuts-ignore, shuts-or, shuts-if, shuts-run1, shuts-byte, sees_first, is_read, behind_one}
+use Rattle.fluent_laws.proofs.Near.{closes, Heedless, Alike2, one_seen, two_seen, end_seen, Near, Shuts, Sees, near-bind, near-pure, near-then, near-map, near-or, near-ignore, near-skip, near-if, near-unless, near-run, near-run1, near-byte, near-count, near-source_of, shuts-map, shuts-ignore, shuts-or, shuts-if, shuts-run1, shuts-byte, sees_first, is_read, after_one}
 
--- ---- runs that look at no byte behind a closing bracket
+-- ---- runs that look at no byte after a closing bracket
 
 no_return : (a : ℕ) → closes a ≡ true → (a == 13) ≡ false
 unfolding closes
@@ -62,11 +62,11 @@ shuts-next : {A : Type 0} (c : ℕ) (q : Parser A) → closes c ≡ false → Sh
 unfolding byte
 shuts-next {A = A} c q clear h = record { shut = λ s t same e. by (first s == c) s t same refl e }
   where
-    by : (w : Bool) (s t : List ℕ) → Alike2 s t → (first s == c) ≡ w → and_then (if w then behind_one s else None) (λ _. q) ≡ None → and_then (if first t == c then behind_one t else None) (λ _. q) ≡ None
+    by : (w : Bool) (s t : List ℕ) → Alike2 s t → (first s == c) ≡ w → and_then (if w then after_one s else None) (λ _. q) ≡ None → and_then (if first t == c then after_one t else None) (λ _. q) ≡ None
     by true s t same e n =
-        ap (λ w. and_then (if w then behind_one t else None) (λ _. q)) (ap (λ x. x == c) (sym (one_seen s t same)) ∙ e)
+        ap (λ w. and_then (if w then after_one t else None) (λ _. q)) (ap (λ x. x == c) (sym (one_seen s t same)) ∙ e)
         ∙ h.shut_first (drop 1 s) (drop 1 t) (two_seen s t (ap closes (eqb-true (first s) c e) ∙ clear) same) n
-    by false s t same e n = ap (λ w. and_then (if w then behind_one t else None) (λ _. q)) (ap (λ x. x == c) (sym (one_seen s t same)) ∙ e)
+    by false s t same e n = ap (λ w. and_then (if w then after_one t else None) (λ _. q)) (ap (λ x. x == c) (sym (one_seen s t same)) ∙ e)
 
 -- ---- lines and blanks
 
@@ -93,9 +93,9 @@ first-byte : (c : ℕ) → ShutsFirst (byte c)
 unfolding byte
 first-byte c = record { shut_first = λ s t same e. by (first s == c) s t same refl e }
   where
-    by : (w : Bool) (s t : List ℕ) → first s ≡ first t → (first s == c) ≡ w → (if w then behind_one s else None) ≡ None → (if first t == c then behind_one t else None) ≡ None
+    by : (w : Bool) (s t : List ℕ) → first s ≡ first t → (first s == c) ≡ w → (if w then after_one s else None) ≡ None → (if first t == c then after_one t else None) ≡ None
     by true s t same e n = absurd (is_read (tt, drop 1 s) n)
-    by false s t same e n = ap (λ w. if w then behind_one t else None) (ap (λ x. x == c) (sym same) ∙ e)
+    by false s t same e n = ap (λ w. if w then after_one t else None) (ap (λ x. x == c) (sym same) ∙ e)
 
 shuts-pair : Shuts (byte 13 >> byte 10)
 unfolding closes
@@ -282,7 +282,7 @@ unfolding byte
 shuts-second {A = A} {B = B} c p f clear h k = record { shut = λ s t same e. by (first s == c) s t same refl e }
   where
     skipped : Bool → List ℕ → Read (Unit {0})
-    skipped w s = otherwise (and_then (if w then behind_one s else None) (λ _. pure (tt {0}))) (pure (tt {0})) s
+    skipped w s = otherwise (and_then (if w then after_one s else None) (λ _. pure (tt {0}))) (pure (tt {0})) s
 
     by : (w : Bool) (s t : List ℕ) → Alike2 s t → (first s == c) ≡ w → and_then (skipped w s) (λ _. p >>= f) ≡ None → and_then (skipped (first t == c) t) (λ _. p >>= f) ≡ None
     by true s t same e n =

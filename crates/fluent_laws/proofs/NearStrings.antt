@@ -1,11 +1,11 @@
--- Literals and named arguments are read by their front and the two bytes behind it.
+-- Literals and named arguments are read by their prefix and the two bytes after it.
 use Rattle.std.proofs.Common.{◌≡◌, ◌==◌, length, ℕ, zero, suc, List, [], ◌∷◌, ◌++◌, drop, true, false, Bool, Some, None, refl, sym, ap, ◌∙◌, if◌then◌else◌, arith, eqb-true}
 use Rattle.std.specs.Char.{is_ascii_hexdigit}
 use Rattle.fluent_tree.specs.Tree.{string, number}
 use Rattle.fluent_text.specs.Parser.{Read, Parser, ◌>>=◌, ◌>>◌, ◌<$>◌, ◌<|>◌, and_then, otherwise, pure, ignore, skip, count, one_more, many_from, first, byte, run1}
 use Rattle.fluent_text.specs.Lexical.{is_quoted, identifier, blank}
 use Rattle.fluent_syntax.specs.Expressions.{taken, source_of, hex_digit, hex_digits, escape, quoted_turn, string_literal, number_literal, number_parts, digits, literal, named_argument}
-use Rattle.fluent_laws.proofs.Near.{shows, one_seen, end_seen, behind_front, Near, NearTo, ShutsAt, NearMany, after, near_turns, near-bind, near-map, near-pure, near-then, near-or, near-ignore, near-if, near-run1, near-byte, shuts-ignore, shuts-run1, shuts-byte, sees_first, is_read, behind_one, sourced}
+use Rattle.fluent_laws.proofs.Near.{shows, one_seen, end_seen, after_prefix, Near, NearTo, ShutsAt, NearMany, after, near_turns, near-bind, near-map, near-pure, near-then, near-or, near-ignore, near-if, near-run1, near-byte, shuts-ignore, shuts-run1, shuts-byte, sees_first, is_read, after_one, sourced}
 use Rattle.fluent_laws.proofs.NearRules.{heedless-quoted, near-identifier, near-blanks, near-number_literal}
 
 -- ---- where what follows reads at some places alone
@@ -36,7 +36,7 @@ sourced_at at p s (Some q) h = λ here. sourced p s (Some q) (h here)
 second_at : {A : Type 0} (at : List ℕ → Type 0) (p q : Parser A) (s : List ℕ) (r : Read A) → q s ≡ r → p s ≡ None → ShutsAt at p → ReadsAt at q → NearTo q s r → NearTo (p <|> q) s r
 second_at at p q s None g n c k h = tt
 second_at at p q s (Some x) g n c k (u, e, more) =
-    (u, e, λ o same. ap (λ z. otherwise z q (u ++ o)) (c.shut_at s (u ++ o) (k s x g) (ap shows e ∙ sym (behind_front u o x.1 same)) n) ∙ more o same)
+    (u, e, λ o same. ap (λ z. otherwise z q (u ++ o)) (c.shut_at s (u ++ o) (k s x g) (ap shows e ∙ sym (after_prefix u o x.1 same)) n) ∙ more o same)
 
 chosen_at : {A : Type 0} (at : List ℕ → Type 0) (p q : Parser A) (s : List ℕ) (r : Read A) → p s ≡ r → NearTo p s r → ShutsAt at p → ReadsAt at q → Near q → NearTo (p <|> q) s (otherwise r q s)
 chosen_at at p q s None n h c k m = second_at at p q s (q s) refl n c k (m.near s)
@@ -49,22 +49,22 @@ reads-byte : {A : Type 0} (c : ℕ) (p : Parser A) → ReadsAt (λ t. first t �
 unfolding byte
 reads-byte {A = A} c p t q e = by (first t == c) refl e
   where
-    by : (w : Bool) → (first t == c) ≡ w → and_then (if w then behind_one t else None) (λ _. p) ≡ Some q → first t ≡ c
+    by : (w : Bool) → (first t == c) ≡ w → and_then (if w then after_one t else None) (λ _. p) ≡ Some q → first t ≡ c
     by true g e = eqb-true (first t) c g
     by false g e = absurd (is_read q (sym e))
 
 -- ---- escapes
 
-near-one : Near behind_one
+near-one : Near after_one
 near-one = record { near = at }
   where
-    at : (s : List ℕ) → NearTo behind_one s (behind_one s)
+    at : (s : List ℕ) → NearTo after_one s (after_one s)
     at [] = ([], refl, λ o same. ap (λ x. Some (tt {0}, drop 1 x)) (end_seen o same) ∙ ap (λ x. Some (tt {0}, x)) (sym (end_seen o same)))
     at (a ∷ s) = (a ∷ [], refl, λ o same. refl)
 
 near-hex_digit : Near hex_digit
 unfolding hex_digit
-near-hex_digit = near-if (λ s. is_ascii_hexdigit (first s)) behind_one (sees_first is_ascii_hexdigit) near-one
+near-hex_digit = near-if (λ s. is_ascii_hexdigit (first s)) after_one (sees_first is_ascii_hexdigit) near-one
 
 near-hex_digits : (n : ℕ) → Near (hex_digits n)
 unfolding hex_digits

@@ -11,10 +11,10 @@ use Rattle.fluent_syntax.specs.Layout.{Words, Piece, line, words, hole}
 use Rattle.fluent_syntax.specs.Layout as y
 use Rattle.fluent_syntax.specs.Pieces.{follows, words_after, is_indented, indented_text, block_text, indent, block_placeable, pattern_element, pieces, pattern}
 use Rattle.fluent_laws.specs.SliceLaws.{IsSlice, SlicesOfExpression, SlicesOfPattern}
-use Rattle.fluent_syntax.specs.Facts.Fronts.{takes-byte}
+use Rattle.fluent_syntax.specs.Facts.Prefixes.{takes-byte}
 use Rattle.fluent_text.specs.Facts.Runs.{run_len-le}
-use Rattle.fluent_syntax.specs.Facts.LexicalFronts.{takes-spaces, more_lines, takes-more_lines}
-use Rattle.fluent_laws.proofs.Slices.{EndOf, later, slice_here, Gives, gives-bind, gives-or, gives-so, Behind, gives-takes, Ended, Within, within-bind, within-map, within-or, within-all}
+use Rattle.fluent_syntax.specs.Facts.LexicalPrefixes.{takes-spaces, more_lines, takes-more_lines}
+use Rattle.fluent_laws.proofs.Slices.{EndOf, later, slice_here, Gives, gives-bind, gives-or, gives-so, After, gives-takes, Ended, Within, within-bind, within-map, within-or, within-all}
 use Rattle.fluent_laws.proofs.LayoutSlices.{ending, blanks, spaces, OfPiece, OfPieces, pieces_append, slices_laid_out}
 
 -- ---- line ends
@@ -41,7 +41,7 @@ fed-line_break : (w s : Text) → EndOf w s → Gives (Fed w) (line_break s)
 unfolding line_break
 fed-line_break w s o =
     gives-or (Fed w) ((byte 13 >> byte 10) s) (byte 10) s
-    (gives-bind (Behind s) (Fed w) (byte 13 s) (λ _. byte 10) (gives-takes s (byte 13) (takes-byte 13)) (λ x t q. fed-byte w t (later w s q.0 t o q.1)))
+    (gives-bind (After s) (Fed w) (byte 13 s) (λ _. byte 10) (gives-takes s (byte 13) (takes-byte 13)) (λ x t q. fed-byte w t (later w s q.0 t o q.1)))
     (fed-byte w s o)
 
 fed-at_end : (w s : Text) → EndOf w s → Gives (Fed w) (at_end s)
@@ -57,13 +57,13 @@ fed-line_end w s o = gives-or (Fed w) (line_break s) at_end s (fed-line_break w 
 
 fed-blank_line : (w s : Text) → EndOf w s → Gives (Fed w) (blank_line s)
 unfolding blank_line
-fed-blank_line w s o = gives-bind (Behind s) (Fed w) (skip blank_inline s) (λ _. line_end) (gives-takes s (skip blank_inline) takes-spaces) (λ x t q. fed-line_end w t (later w s q.0 t o q.1))
+fed-blank_line w s o = gives-bind (After s) (Fed w) (skip blank_inline s) (λ _. line_end) (gives-takes s (skip blank_inline) takes-spaces) (λ x t q. fed-line_end w t (later w s q.0 t o q.1))
 
 fed-blank_block : (w s : Text) → EndOf w s → Gives (Fed w) (blank_block s)
 unfolding blank_block more_lines
 fed-blank_block w s o =
     gives-bind (Fed w) (Fed w) (blank_line s) (λ _. more_lines) (fed-blank_line w s o) (λ x t q.
-    gives-so (Behind t) (Fed w) (more_lines t) (gives-takes t more_lines takes-more_lines) (λ n r k. (later w t k.0 r q.0 k.1, λ m. q.1 (omega (arith, ap length k.1, length-append k.0 r)))))
+    gives-so (After t) (Fed w) (more_lines t) (gives-takes t more_lines takes-more_lines) (λ n r k. (later w t k.0 r q.0 k.1, λ m. q.1 (omega (arith, ap length k.1, length-append k.0 r)))))
 
 -- ---- spaces
 
@@ -108,7 +108,7 @@ joins : (s b t u r e rest : Text) → s ≡ b ++ t → t ≡ u ++ r → r ≡ e 
 joins s b t u r e rest h k l =
     h ∙ (ap (λ x. b ++ x) (k ∙ (ap (λ x. u ++ x) l ∙ sym (append_assoc u e rest))) ∙ sym (append_assoc b (u ++ e) rest))
 
--- words behind the spaces of their line
+-- words after the spaces of their line
 words_here : (w s t : Text) (n : Option ℕ) → EndOf w s → s ≡ blanks (unwrap_or n 0) ++ t → Gives (Ended w (OfWords w)) (words_after n t)
 unfolding words_after run1
 words_here w s t n o e = tested (run_len is_text t == 0)
@@ -185,8 +185,8 @@ slice-pieces : (w : Text) (braces : Parser Expression) → Within w (SlicesOfExp
 unfolding pieces
 slice-pieces w braces h none =
     let P = OfPieces w in
-    within-bind w P P (pattern_element braces) _ (slice-element w braces h none) (λ front k.
-    within-all w P P ◌++◌ (pattern_element braces) front (slice-element w braces h none) (λ ps qs a b. pieces_append w ps qs a b) k)
+    within-bind w P P (pattern_element braces) _ (slice-element w braces h none) (λ prefix k.
+    within-all w P P ◌++◌ (pattern_element braces) prefix (slice-element w braces h none) (λ ps qs a b. pieces_append w ps qs a b) k)
 
 pub slice-pattern : (w : Text) (braces : Parser Expression) → Within w (SlicesOfExpression w) braces → braces [] ≡ None → Within w (SlicesOfPattern w) (pattern braces)
 slice-pattern w braces h none = within-map w (OfPieces w) (SlicesOfPattern w) (λ ps. pattern_of (y.elements ps)) (pieces braces) (slice-pieces w braces h none) (λ ps k. slices_laid_out w ps k)

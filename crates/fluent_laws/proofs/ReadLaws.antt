@@ -9,7 +9,7 @@ use Rattle.fluent_syntax.specs.Expressions.{level, digits, string_literal, numbe
 use Rattle.fluent_syntax.specs.Entries as n
 use Rattle.fluent_syntax.specs.Entries.{name_of_value, attribute, entry}
 use Rattle.fluent_syntax.specs.Chunks.{comment_line, junk_line, junk}
-use Rattle.fluent_laws.specs.ReadLaws.{TreeOfFront, taken_words, taken_piece, text_taken, block_taken, element_taken}
+use Rattle.fluent_laws.specs.ReadLaws.{TreeOfPrefix, taken_words, taken_piece, text_taken, block_taken, element_taken}
 use Rattle.fluent_laws.proofs.Known.{lefts, values}
 use Rattle.fluent_laws.proofs.Leads.{first_read}
 use Rattle.fluent_laws.proofs.Alone.{Seam, Any, Whole, Alone}
@@ -19,98 +19,98 @@ use Rattle.fluent_laws.proofs.AlonePieces.{NoCut, Over, AloneBy, quieted, quiet_
 use Rattle.fluent_laws.proofs.AloneChunks.{chunk_tree}
 use Rattle.fluent_laws.proofs.AloneEntries.{alone-variant_key, alone-variant_head, alone-expression, alone-name_of_value, alone-variant, alone-variant_list, alone-select, alone-attribute, ended_whole, alone-message, alone-term, alone-entry}
 
--- both trees are the one that is read of the front alone
-by_alone : {A : Type 0} (at : Seam) (p : Parser A) → Alone at p → ((v w : List ℕ) → Whole v w → at v w) → TreeOfFront p
-by_alone at p h f front one other x y e g = values x y [] [] (sym (h.alone front x [] one (f [] one refl) e) ∙ h.alone front y [] other (f [] other refl) g)
+-- both trees are the one that is read of the prefix alone
+by_alone : {A : Type 0} (at : Seam) (p : Parser A) → Alone at p → ((v w : List ℕ) → Whole v w → at v w) → TreeOfPrefix p
+by_alone at p h f prefix one other x y e g = values x y [] [] (sym (h.alone prefix x [] one (f [] one refl) e) ∙ h.alone prefix y [] other (f [] other refl) g)
 
-by_any : {A : Type 0} (p : Parser A) → Alone Any p → TreeOfFront p
+by_any : {A : Type 0} (p : Parser A) → Alone Any p → TreeOfPrefix p
 by_any p h = by_alone Any p h (λ v w here. tt)
 
-by_whole : {A : Type 0} (p : Parser A) → Alone Whole p → TreeOfFront p
+by_whole : {A : Type 0} (p : Parser A) → Alone Whole p → TreeOfPrefix p
 by_whole p h = by_alone Whole p h (λ v w here. here)
 
--- A tree without its note is that of the tree that is read of the front alone.
-record OfFront {A B : Type 0} (g : List ℕ → A → A) (f : A → B) (p : Parser A) (front : List ℕ) (x : B) : Type 0 where
+-- A tree without its note is that of the tree that is read of the prefix alone.
+record OfPrefix {A B : Type 0} (g : List ℕ → A → A) (f : A → B) (p : Parser A) (prefix : List ℕ) (x : B) : Type 0 where
   tree : A
-  alone : p front ≡ Some (g [] tree, [])
+  alone : p prefix ≡ Some (g [] tree, [])
   shown : f (g [] tree) ≡ x
 
-of_front : {A B : Type 0} (g : List ℕ → A → A) (f : A → B) (p : Parser A) → AloneBy g NoCut p → ((x : A) → f (g [] x) ≡ f x) → (front w : List ℕ) (x : B) → (f <$> p) (front ++ w) ≡ Some (x, w) → OfFront g f p front x
-of_front g f p h same front w x e =
-    let (q, i, j) = first_read (p (front ++ w)) (λ z. pure (f z)) (x, w) e in
+of_prefix : {A B : Type 0} (g : List ℕ → A → A) (f : A → B) (p : Parser A) → AloneBy g NoCut p → ((x : A) → f (g [] x) ≡ f x) → (prefix w : List ℕ) (x : B) → (f <$> p) (prefix ++ w) ≡ Some (x, w) → OfPrefix g f p prefix x
+of_prefix g f p h same prefix w x e =
+    let (q, i, j) = first_read (p (prefix ++ w)) (λ z. pure (f z)) (x, w) e in
     record {
       tree = q.0;
-      alone = h.alone_by front q.0 [] w (λ z. absurd (omega (arith, ap length z))) (i ∙ ap (λ r. Some (q.0, r)) (lefts (f q.0) x q.1 w j));
+      alone = h.alone_by prefix q.0 [] w (λ z. absurd (omega (arith, ap length z))) (i ∙ ap (λ r. Some (q.0, r)) (lefts (f q.0) x q.1 w j));
       shown = same q.0 ∙ values (f q.0) x q.1 w j;
     }
 
-by_note : {A B : Type 0} (g : List ℕ → A → A) (f : A → B) (p : Parser A) → AloneBy g NoCut p → ((x : A) → f (g [] x) ≡ f x) → TreeOfFront (f <$> p)
-by_note g f p h same front one other x y e i =
-    let a = of_front g f p h same front one x e in
-    let b = of_front g f p h same front other y i in
+by_note : {A B : Type 0} (g : List ℕ → A → A) (f : A → B) (p : Parser A) → AloneBy g NoCut p → ((x : A) → f (g [] x) ≡ f x) → TreeOfPrefix (f <$> p)
+by_note g f p h same prefix one other x y e i =
+    let a = of_prefix g f p h same prefix one x e in
+    let b = of_prefix g f p h same prefix other y i in
     sym a.shown ∙ (ap f (values (g [] a.tree) (g [] b.tree) [] [] (sym a.alone ∙ b.alone)) ∙ b.shown)
 
 -- ---- names, lines and blanks
 
-pub identifier_tree : TreeOfFront identifier
+pub identifier_tree : TreeOfPrefix identifier
 identifier_tree = by_any identifier alone-identifier
 
-pub blank_inline_tree : TreeOfFront blank_inline
+pub blank_inline_tree : TreeOfPrefix blank_inline
 blank_inline_tree = by_any blank_inline alone-blank_inline
 
-pub line_end_tree : TreeOfFront line_end
-line_end_tree = λ front one other x y e f. refl
+pub line_end_tree : TreeOfPrefix line_end
+line_end_tree = λ prefix one other x y e f. refl
 
-pub blank_block_tree : TreeOfFront blank_block
+pub blank_block_tree : TreeOfPrefix blank_block
 blank_block_tree = by_alone _ blank_block alone-blank_block (λ v w here. (tt, inl here))
 
-pub blank_tree : TreeOfFront blank
-blank_tree = λ front one other x y e f. refl
+pub blank_tree : TreeOfPrefix blank
+blank_tree = λ prefix one other x y e f. refl
 
 -- ---- literals and references
 
-pub string_tree : TreeOfFront string_literal
+pub string_tree : TreeOfPrefix string_literal
 string_tree = by_any string_literal alone-string_literal
 
-pub number_tree : TreeOfFront number_literal
+pub number_tree : TreeOfPrefix number_literal
 number_tree = by_any number_literal alone-number_literal
 
-pub literal_tree : TreeOfFront literal
+pub literal_tree : TreeOfPrefix literal
 literal_tree = by_any literal alone-literal
 
-pub digits_tree : TreeOfFront digits
+pub digits_tree : TreeOfPrefix digits
 digits_tree = by_any digits alone-digits
 
-pub accessor_tree : TreeOfFront attribute_access
+pub accessor_tree : TreeOfPrefix attribute_access
 accessor_tree = by_any attribute_access alone-attribute_access
 
-pub variable_tree : TreeOfFront variable_reference
+pub variable_tree : TreeOfPrefix variable_reference
 variable_tree = by_any variable_reference alone-variable_reference
 
-pub message_reference_tree : TreeOfFront message_reference
+pub message_reference_tree : TreeOfPrefix message_reference
 message_reference_tree = by_any message_reference alone-message_reference
 
-pub function_tree : (m : ℕ) → TreeOfFront (function_reference (level m))
+pub function_tree : (m : ℕ) → TreeOfPrefix (function_reference (level m))
 function_tree m = by_any (function_reference (level m)) (alone-function m)
 
-pub term_reference_tree : (m : ℕ) → TreeOfFront (term_reference (level m))
+pub term_reference_tree : (m : ℕ) → TreeOfPrefix (term_reference (level m))
 term_reference_tree m = by_any (term_reference (level m)) (alone-term_reference m)
 
-pub inline_expression_tree : (m : ℕ) → TreeOfFront (inline_expression (level m))
+pub inline_expression_tree : (m : ℕ) → TreeOfPrefix (inline_expression (level m))
 inline_expression_tree m = by_alone _ (inline_expression (level m)) (alone-inline m) whole_free
 
 -- ---- arguments
 
-pub named_argument_tree : TreeOfFront named_argument
+pub named_argument_tree : TreeOfPrefix named_argument
 named_argument_tree = by_any named_argument alone-named_argument
 
-pub argument_tree : (m : ℕ) → TreeOfFront (argument (level m))
+pub argument_tree : (m : ℕ) → TreeOfPrefix (argument (level m))
 argument_tree m = by_alone _ (argument (level m)) (alone-argument m) whole_free
 
-pub argument_list_tree : (m : ℕ) → TreeOfFront (argument_list (level m))
+pub argument_list_tree : (m : ℕ) → TreeOfPrefix (argument_list (level m))
 argument_list_tree m = by_whole (argument_list (level m)) (alone-argument_list m)
 
-pub call_arguments_tree : (m : ℕ) → TreeOfFront (level m).brackets
+pub call_arguments_tree : (m : ℕ) → TreeOfPrefix (level m).brackets
 call_arguments_tree m = by_any (level m).brackets (alone-brackets m)
 
 -- ---- patterns
@@ -118,15 +118,15 @@ call_arguments_tree m = by_any (level m).brackets (alone-brackets m)
 over_whole : (m : ℕ) (v w : List ℕ) → Whole v w → Over m v w
 over_whole m v w here = (λ e. absurd (omega (arith, ap length (sym here ∙ e))), inl here)
 
-pub inline_text_tree : TreeOfFront text_taken
+pub inline_text_tree : TreeOfPrefix text_taken
 unfolding text_taken
 inline_text_tree = by_note hushed taken_words inline_text (by-words_after _) (λ x. refl)
 
-pub block_text_tree : TreeOfFront block_taken
+pub block_text_tree : TreeOfPrefix block_taken
 unfolding block_taken
 block_text_tree = by_note hushed_block (λ p. (p.0, taken_words p.1)) block_text by-block_text (λ x. refl)
 
-pub block_placeable_tree : (m : ℕ) → TreeOfFront (block_placeable (level m).braces)
+pub block_placeable_tree : (m : ℕ) → TreeOfPrefix (block_placeable (level m).braces)
 block_placeable_tree m = by_any (block_placeable (level m).braces) (alone-block_placeable m)
 
 shown_once : (p : Piece) → taken_piece (taken_piece p) ≡ taken_piece p
@@ -139,60 +139,60 @@ shown_quieted [] = refl
 shown_quieted (p ∷ []) = ap (λ q. q ∷ []) (shown_once p)
 shown_quieted (p ∷ q ∷ ps) = ap (λ qs. taken_piece p ∷ qs) (shown_quieted (q ∷ ps))
 
-pub pattern_element_tree : (m : ℕ) → TreeOfFront (element_taken (level m).braces)
+pub pattern_element_tree : (m : ℕ) → TreeOfPrefix (element_taken (level m).braces)
 unfolding element_taken
 pattern_element_tree m = by_note quiet_at (λ ps. map taken_piece ps) (pattern_element (level m).braces) (by-element m) shown_quieted
 
-pub pattern_tree : (m : ℕ) → TreeOfFront (pattern (level m).braces)
+pub pattern_tree : (m : ℕ) → TreeOfPrefix (pattern (level m).braces)
 pattern_tree m = by_alone _ (pattern (level m).braces) (alone-pattern m) (over_whole m)
 
 -- ---- placeables, variants and selects
 
-pub placeable_tree : (m : ℕ) → TreeOfFront (level m).braces
+pub placeable_tree : (m : ℕ) → TreeOfPrefix (level m).braces
 placeable_tree m = by_any (level m).braces (alone-braces m)
 
-pub variant_key_tree : TreeOfFront variant_key
+pub variant_key_tree : TreeOfPrefix variant_key
 variant_key_tree = by_any variant_key alone-variant_key
 
-pub variant_head_tree : (default : Bool) → TreeOfFront (variant_head default)
+pub variant_head_tree : (default : Bool) → TreeOfPrefix (variant_head default)
 variant_head_tree default = by_any (variant_head default) (alone-variant_head default)
 
-pub variant_tree : (m : ℕ) (default : Bool) → TreeOfFront (variant (level m) default)
+pub variant_tree : (m : ℕ) (default : Bool) → TreeOfPrefix (variant (level m) default)
 variant_tree m default = by_alone _ (variant (level m) default) (alone-variant m default) (over_whole m)
 
-pub variant_list_tree : (m : ℕ) → TreeOfFront (variant_list (level m))
+pub variant_list_tree : (m : ℕ) → TreeOfPrefix (variant_list (level m))
 variant_list_tree m = by_whole (variant_list (level m)) (alone-variant_list m)
 
-pub select_tree : (m : ℕ) → TreeOfFront (select_expression (level m))
+pub select_tree : (m : ℕ) → TreeOfPrefix (select_expression (level m))
 select_tree m = by_whole (select_expression (level m)) (alone-select m)
 
-pub expression_tree : (m : ℕ) → TreeOfFront (expression (level m))
+pub expression_tree : (m : ℕ) → TreeOfPrefix (expression (level m))
 expression_tree m = by_whole (expression (level m)) (alone-expression m)
 
 -- ---- entries
 
-pub name_of_value_tree : TreeOfFront name_of_value
+pub name_of_value_tree : TreeOfPrefix name_of_value
 name_of_value_tree = by_any name_of_value alone-name_of_value
 
-pub attribute_tree : TreeOfFront attribute
+pub attribute_tree : TreeOfPrefix attribute
 attribute_tree = by_alone _ attribute alone-attribute (over_whole 100)
 
-pub message_tree : TreeOfFront n.message
+pub message_tree : TreeOfPrefix n.message
 message_tree = by_alone _ n.message alone-message ended_whole
 
-pub term_tree : TreeOfFront n.term
+pub term_tree : TreeOfPrefix n.term
 term_tree = by_alone _ n.term alone-term ended_whole
 
-pub entry_tree : TreeOfFront entry
+pub entry_tree : TreeOfPrefix entry
 entry_tree = by_whole entry alone-entry
 
-pub comment_tree : TreeOfFront comment_line
-comment_tree = λ front one other x y e f. refl
+pub comment_tree : TreeOfPrefix comment_line
+comment_tree = λ prefix one other x y e f. refl
 
-pub junk_line_tree : TreeOfFront junk_line
-junk_line_tree = λ front one other x y e f. refl
+pub junk_line_tree : TreeOfPrefix junk_line
+junk_line_tree = λ prefix one other x y e f. refl
 
-pub junk_tree : TreeOfFront junk
-junk_tree = λ front one other x y e f. refl
+pub junk_tree : TreeOfPrefix junk
+junk_tree = λ prefix one other x y e f. refl
 
 pub ruleset rules_by_tree = (literal_tree, variant_head_tree, expression_tree, name_of_value_tree, identifier_tree, blank_inline_tree, line_end_tree, blank_block_tree, blank_tree, string_tree, number_tree, digits_tree, accessor_tree, variable_tree, message_reference_tree, function_tree, term_reference_tree, inline_expression_tree, named_argument_tree, argument_tree, argument_list_tree, call_arguments_tree, inline_text_tree, block_text_tree, block_placeable_tree, pattern_element_tree, pattern_tree, placeable_tree, variant_key_tree, variant_tree, variant_list_tree, select_tree, attribute_tree, message_tree, term_tree, entry_tree, comment_tree, junk_line_tree, junk_tree, chunk_tree)

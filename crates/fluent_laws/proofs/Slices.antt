@@ -4,7 +4,7 @@ use Rattle.fluent_tree.specs.Tree.{Text}
 use Rattle.fluent_text.specs.Parser.{Read, Parser, ◌>>=◌, ◌>>◌, ◌<$>◌, ◌<|>◌, and_then, otherwise, pure, refuse, many_from, turn, go_on, run, run_len}
 use Rattle.fluent_syntax.specs.Expressions.{provided, taken, source_of}
 use Rattle.fluent_laws.specs.SliceLaws.{IsSlice}
-use Rattle.fluent_syntax.specs.Facts.Fronts.{TakesTo, Takes}
+use Rattle.fluent_syntax.specs.Facts.Prefixes.{TakesTo, Takes}
 
 -- ---- slices
 
@@ -35,8 +35,8 @@ slice_take w t n h = slice_of w t (take n t) h ([], drop n t, sym (take-append-d
 pub slice_end : (w t f u : Text) → IsSlice w t → t ≡ f ++ u → IsSlice w u
 slice_end w t f u h e = slice_of w t u h (f, [], e ∙ ap (λ x. f ++ x) (sym (append-nil u)))
 
-pub slice_front : (w t u r : Text) → IsSlice w t → t ≡ u ++ r → IsSlice w u
-slice_front w t u r h e = slice_of w t u h ([], r, e)
+pub slice_prefix : (w t u r : Text) → IsSlice w t → t ≡ u ++ r → IsSlice w u
+slice_prefix w t u r h e = slice_of w t u h ([], r, e)
 
 -- ---- what is read, with the text after it
 
@@ -57,14 +57,14 @@ pub gives-so : {A : Type 0} (Q P : A → Text → Type 0) (r : Read A) → Gives
 gives-so Q P None h k = tt
 gives-so Q P (Some p) h k = k p.0 p.1 h
 
--- it is behind a front
-abbrev pub Behind : {A : Type 0} → Text → A → Text → Type 0
-Behind s x t = (u : Text) × (s ≡ u ++ t)
+-- it is after a prefix
+abbrev pub After : {A : Type 0} → Text → A → Text → Type 0
+After s x t = (u : Text) × (s ≡ u ++ t)
 
-pub gives-takes : {A : Type 0} (s : Text) (p : Parser A) → Takes p → Gives (Behind s) (p s)
-gives-takes s p h = by_read (p s) (h.front s)
+pub gives-takes : {A : Type 0} (s : Text) (p : Parser A) → Takes p → Gives (After s) (p s)
+gives-takes s p h = by_read (p s) (h.prefix s)
   where
-    by_read : {A : Type 0} (r : Read A) → TakesTo s r → Gives (Behind s) r
+    by_read : {A : Type 0} (r : Read A) → TakesTo s r → Gives (After s) r
     by_read None k = tt
     by_read (Some q) k = k
 
@@ -81,7 +81,7 @@ within-bind w Q P p f h k = record { each = λ s o. gives-bind (Ended w Q) (Ende
 
 -- a part of which nothing is said
 pub within-any : {A : Type 0} (w : Text) (p : Parser A) → Takes p → Within w (λ x. Unit {0}) p
-within-any w p h = record { each = λ s o. gives-so (Behind s) (Ended w (λ x. Unit {0})) (p s) (gives-takes s p h) (λ x t q. (later w s q.0 t o q.1, tt)) }
+within-any w p h = record { each = λ s o. gives-so (After s) (Ended w (λ x. Unit {0})) (p s) (gives-takes s p h) (λ x t q. (later w s q.0 t o q.1, tt)) }
 
 pub within-then : {A B : Type 0} (w : Text) (P : B → Type 0) (p : Parser A) (q : Parser B) → Takes p → Within w P q → Within w P (p >> q)
 within-then w P p q h k = within-bind w (λ x. Unit {0}) P p (λ _. q) (within-any w p h) (λ _ _. k)
@@ -142,7 +142,7 @@ slice-run w c = record { each = run_slice w c }
 
 -- what a part takes
 pub slice-source_of : {A : Type 0} (w : Text) (p : Parser A) → Takes p → Within w (IsSlice w) (source_of p)
-slice-source_of {A = A} w p h = record { each = λ s o. by_read s o (p s) (h.front s) }
+slice-source_of {A = A} w p h = record { each = λ s o. by_read s o (p s) (h.prefix s) }
   where
     by_read : (s : Text) → EndOf w s → (r : Read A) → TakesTo s r → Gives (Ended w (IsSlice w)) (taken s r)
     by_read s o None k = tt

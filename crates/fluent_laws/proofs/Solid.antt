@@ -10,8 +10,8 @@ use Rattle.fluent_syntax.specs.Pieces.{follows, words_after, inline_text, is_ind
 use Rattle.fluent_syntax.specs.Expressions.{level, expression, inline_placeable}
 use Rattle.fluent_syntax.specs.Entries as n
 use Rattle.fluent_syntax.specs.Entries.{value, name_of_value, attribute, value_first, attributes_alone}
-use Rattle.fluent_syntax.specs.Facts.Fronts.{TakesTo, Takes, takes-byte}
-use Rattle.fluent_syntax.specs.Facts.LexicalFronts.{takes-blanks, takes-blank_inline, takes-blank_block, takes-line_end}
+use Rattle.fluent_syntax.specs.Facts.Prefixes.{TakesTo, Takes, takes-byte}
+use Rattle.fluent_syntax.specs.Facts.LexicalPrefixes.{takes-blanks, takes-blank_inline, takes-blank_block, takes-line_end}
 use Rattle.fluent_laws.proofs.Near.{is_read}
 use Rattle.fluent_laws.proofs.Known.{lefts, taken_one}
 use Rattle.fluent_laws.proofs.Leads.{first_read, either_read}
@@ -21,7 +21,7 @@ use Rattle.fluent_laws.proofs.AloneEntries.{alone-expression, alone-name_of_valu
 
 -- a byte that is no line feed stands last before what is left
 abbrev pub SolidTo : List ℕ → List ℕ → Type 0
-SolidTo s t = (front : List ℕ) × (c : ℕ) × (s ≡ front ++ c ∷ t) × ((c == 10) ≡ false)
+SolidTo s t = (prefix : List ℕ) × (c : ℕ) × (s ≡ prefix ++ c ∷ t) × ((c == 10) ≡ false)
 
 pub record Solid {A : Type 0} (p : Parser A) : Type 0 where
   pub solid : (s : List ℕ) (z : A × List ℕ) → p s ≡ Some z → SolidTo s z.1
@@ -30,18 +30,18 @@ pub record Solid {A : Type 0} (p : Parser A) : Type 0 where
 record Stays {A : Type 0} (p : Parser A) : Type 0 where
   stay : (s : List ℕ) (z : A × List ℕ) → p s ≡ Some z → (s ≡ z.1) ⊎ SolidTo s z.1
 
-behind : (u s t : List ℕ) → SolidTo s t → SolidTo (u ++ s) t
-behind u s t (front, c, e, f) = (u ++ front, c, ap (λ r. u ++ r) e ∙ sym (append_assoc u front (c ∷ t)), f)
+after : (u s t : List ℕ) → SolidTo s t → SolidTo (u ++ s) t
+after u s t (prefix, c, e, f) = (u ++ prefix, c, ap (λ r. u ++ r) e ∙ sym (append_assoc u prefix (c ∷ t)), f)
 
 further : (s t r : List ℕ) → SolidTo s t → SolidTo t r → SolidTo s r
-further s t r (front, c, e, f) h = subst (λ q. SolidTo q r) (sym (e ∙ sym (append_assoc front (c ∷ []) t))) (behind (front ++ c ∷ []) t r h)
+further s t r (prefix, c, e, f) h = subst (λ q. SolidTo q r) (sym (e ∙ sym (append_assoc prefix (c ∷ []) t))) (after (prefix ++ c ∷ []) t r h)
 
 solid-last : {A B : Type 0} (p : Parser A) (f : A → Parser B) → Takes p → ((a : A) → Solid (f a)) → Solid (p >>= f)
 solid-last p f h k = record {
   solid = λ s z e.
       let (q, i, j) = first_read (p s) f z e in
-      let fr : (u : List ℕ) × (s ≡ u ++ q.1) = subst (TakesTo s) i (h.front s) in
-      subst (λ r. SolidTo r z.1) (sym fr.1) (behind fr.0 q.1 z.1 ((k q.0).solid q.1 z j));
+      let fr : (u : List ℕ) × (s ≡ u ++ q.1) = subst (TakesTo s) i (h.prefix s) in
+      subst (λ r. SolidTo r z.1) (sym fr.1) (after fr.0 q.1 z.1 ((k q.0).solid q.1 z j));
 }
 
 solid-first : {A B : Type 0} (p : Parser A) (f : A → Parser B) → Solid p → ((a : A) → Stays (f a)) → Solid (p >>= f)
@@ -109,7 +109,7 @@ run_solid (a ∷ s) l =
   where
     by : (a == 10) ≡ false → (k : ℕ) → run_len is_text s ≡ k → (0 < run_len is_text s → SolidTo s (drop (run_len is_text s) s)) → SolidTo (a ∷ s) (drop (run_len is_text s) s)
     by none zero e more = ([], a, ap (λ k. a ∷ drop k s) (sym e), none)
-    by none (suc k) e more = behind (a ∷ []) s (drop (run_len is_text s) s) (more (omega (arith, e)))
+    by none (suc k) e more = after (a ∷ []) s (drop (run_len is_text s) s) (more (omega (arith, e)))
 
 text_solid : (s : List ℕ) (b : Bool) (z : List ℕ × List ℕ) → (run_len is_text s == 0) ≡ b → (if b then None else run is_text s) ≡ Some z → SolidTo s z.1
 text_solid s true z e f = absurd (is_read z (sym f))
@@ -153,7 +153,7 @@ solid-element m =
 
 solid-pieces : (m : ℕ) → Solid (pieces (B m))
 unfolding pieces
-solid-pieces m = solid-first (pattern_element (B m)) _ (solid-element m) (λ front. stays-all ◌++◌ (pattern_element (B m)) front (solid-element m))
+solid-pieces m = solid-first (pattern_element (B m)) _ (solid-element m) (λ prefix. stays-all ◌++◌ (pattern_element (B m)) prefix (solid-element m))
 
 solid-value : Solid value
 unfolding value

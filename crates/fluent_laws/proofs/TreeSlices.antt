@@ -6,9 +6,9 @@ use Rattle.fluent_text.specs.Lexical.{is_letter, is_identifier_byte, identifier,
 use Rattle.fluent_syntax.specs.Pieces.{pattern}
 use Rattle.fluent_syntax.specs.Expressions.{Level, level, quoted_turn, string_literal, number_parts, number_literal, literal, attribute_access, message_reference, is_function_name, function_reference, optional_call, term_reference, inline_expression, named_argument, Argument, positional, by_name, argument, Gathered, add, is_well_formed, arguments_of, comma, argument_comma, last_argument, argument_list, call_arguments, key_inside, variant_key, star, variant_head, variant, variant_list, is_selector, arrow, selector, select_expression, stands_alone, alone, expression, inline_placeable, variable_reference}
 use Rattle.fluent_laws.specs.SliceLaws.{IsSlice, SlicesOfKey, SlicesOfAttribute, SlicesOfPattern, SlicesOfExpression, SlicesOfVariants, SlicesOfInline, SlicesOfCall, SlicesOfArguments, SlicesOfInlines, SlicesOfNameds}
-use Rattle.fluent_syntax.specs.Facts.Fronts.{takes-byte, takes-count}
+use Rattle.fluent_syntax.specs.Facts.Prefixes.{takes-byte, takes-count}
 use Rattle.fluent_syntax.specs.Facts.Literals.{takes-quoted_turn, takes-number_parts}
-use Rattle.fluent_syntax.specs.Facts.LexicalFronts.{takes-blanks, takes-spaces, takes-line_end, takes-star, takes-comma, takes-arrow}
+use Rattle.fluent_syntax.specs.Facts.LexicalPrefixes.{takes-blanks, takes-spaces, takes-line_end, takes-star, takes-comma, takes-arrow}
 use Rattle.fluent_laws.proofs.Slices.{Within, within-bind, within-then, within-pure, within-map, within-refuse, within-or, within-if, within-provided, within-all, slice-run, slice-source_of}
 use Rattle.fluent_laws.proofs.PieceSlices.{slice-pattern}
 

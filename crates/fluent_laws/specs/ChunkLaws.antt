@@ -14,7 +14,7 @@ MadeOfChunks source = bytes_of (chunks source) ≡ source
 abbrev pub NoneEmpty : Text → Type 0
 NoneEmpty source = All (λ c. 0 < length c.bytes) (chunks source)
 
--- ranges between two offsets: none is empty, and none begins before the one in front of it ends
+-- ranges between two offsets: none is empty, and none begins before the one before it ends
 abbrev pub InOrder : ℕ → ℕ → List (ℕ × ℕ) → Type 0
 InOrder low high [] = low ≤ high
 InOrder low high (r ∷ rs) = (low ≤ r.0) × (r.0 < r.1) × InOrder r.1 high rs

@@ -1,4 +1,4 @@
-pub mod FrontLaws
+pub mod PrefixLaws
 pub mod ChunkLaws
 pub mod TreeLaws
 pub mod SliceLaws

@@ -5,9 +5,9 @@ use Rattle.fluent_text.specs.Parser.{Parser, ◌<$>◌}
 use Rattle.fluent_syntax.specs.Layout.{Words, Piece, line, words, hole}
 use Rattle.fluent_syntax.specs.Pieces.{inline_text, block_text, pattern_element}
 
--- Where a rule takes the same front of two texts, whatever stands behind it in each, it reads the same tree from both.
-abbrev pub TreeOfFront : {A : Type 0} → Parser A → Type 0
-TreeOfFront {A = A} rule = (front one other : Text) (x y : A) → rule (front ++ one) ≡ Some (x, one) → rule (front ++ other) ≡ Some (y, other) → x ≡ y
+-- Where a rule takes the same prefix of two texts, whatever stands after it in each, it reads the same tree from both.
+abbrev pub TreeOfPrefix : {A : Type 0} → Parser A → Type 0
+TreeOfPrefix {A = A} rule = (prefix one other : Text) (x y : A) → rule (prefix ++ one) ≡ Some (x, one) → rule (prefix ++ other) ≡ Some (y, other) → x ≡ y
 
 -- ---- what texts take
 

@@ -3,9 +3,9 @@ use Rattle.std.specs.Prelude.{◌≡◌, Option, Some, None, All, [], ◌∷◌,
 use Rattle.fluent_tree.specs.Tree.{Text, Key, name_key, number_key, Attribute, no_attribute, attribute, Pattern, nothing, more, Element, text, placeable, Expression, inline, select, Variants, no_variants, variant, Inline, string, number, function, message, term, variable, nested, Call, no_call, call, Arguments, arguments, Inlines, no_inlines, argument, Nameds, no_nameds, named_argument, Attributes, Entry, message_entry, term_entry, junk_entry}
 use Rattle.fluent_syntax.specs.Chunks.{entries}
 
--- a text stands in the source, between a front and a rest
+-- a text stands in the source, between a prefix and a rest
 abbrev pub IsSlice : Text → Text → Type 0
-IsSlice source t = (front : Text) × (rest : Text) × (source ≡ front ++ (t ++ rest))
+IsSlice source t = (prefix : Text) × (rest : Text) × (source ≡ prefix ++ (t ++ rest))
 
 abbrev pub SlicesOfKey : Text → Key → Type 0
 SlicesOfKey source (name_key t) = IsSlice source t

@@ -7,10 +7,10 @@ ghost use Rattle.fluent_syntax.specs.Chunks.{chunk, comment_line, junk, junk_lin
 ghost use Rattle.fluent_syntax.specs.Entries as entries;
 ghost use Rattle.fluent_syntax.specs.Entries.{attribute, entry, name_of_value};
 ghost use Rattle.fluent_syntax.specs.Expressions.{argument, argument_list, attribute_access, digits, expression, function_reference, inline_expression, level, literal, message_reference, named_argument, number_literal, select_expression, string_literal, term_reference, variant, variant_head, variant_key, variant_list, variable_reference};
-ghost use Rattle.fluent_laws.specs.FrontLaws.{EndsMessage, EndsPattern, EntryReadBefore, ReadBefore, ReadByFront, ReadByFrontAlone, ReadFromThereOn, TakesFront};
+ghost use Rattle.fluent_laws.specs.PrefixLaws.{EndsMessage, EndsPattern, EntryReadBefore, ReadBefore, ReadByPrefix, ReadByPrefixAlone, ReadFromThereOn, TakesPrefix};
 ghost use Rattle.fluent_text.specs.Lexical.{blank, blank_block, blank_inline, identifier, line_end};
 ghost use Rattle.fluent_syntax.specs.Pieces.{block_placeable, block_text, inline_text, pattern, pattern_element};
-ghost use Rattle.fluent_laws.specs.ReadLaws.{TreeOfFront, block_taken, element_taken, text_taken};
+ghost use Rattle.fluent_laws.specs.ReadLaws.{TreeOfPrefix, block_taken, element_taken, text_taken};
 ghost use Rattle.fluent_laws.specs.SliceLaws.{AllSlices};
 ghost use Rattle.fluent_laws.specs.TreeLaws.{AllWellFormed};
 
@@ -50,144 +50,144 @@ pub fn texts_are_slices(source: &str)
     let _ = source;
 }
 
-/// What is read at a place depends on the text from there on alone: chunks behind other chunks are those of their own bytes.
-#[tactic(auto, using(crate::proofs::FrontLaws::read_from_there_on))]
+/// What is read at a place depends on the text from there on alone: chunks after other chunks are those of their own bytes.
+#[tactic(auto, using(crate::proofs::PrefixLaws::read_from_there_on))]
 pub fn read_from_there_on(source: &str)
     ensures { ReadFromThereOn source.now }
 {
     let _ = source;
 }
 
-/// Each rule of the grammar takes a front of a text, at whatever depth: what it leaves is the text's end. A depth counts
+/// Each rule of the grammar takes a prefix of a text, at whatever depth: what it leaves is the text's end. A depth counts
 /// the placeables and argument lists that may stand in one another.
-#[tactic(auto, using(crate::proofs::RuleFronts::rule_fronts))]
-pub fn rules_take_a_front(source: &str)
-    ensures identifier { TakesFront identifier source.now }
-    ensures blank_inline { TakesFront blank_inline source.now }
-    ensures line_end { TakesFront line_end source.now }
-    ensures blank_block { TakesFront blank_block source.now }
-    ensures blank { TakesFront blank source.now }
-    ensures string { TakesFront string_literal source.now }
-    ensures number { TakesFront number_literal source.now }
-    ensures digits { TakesFront digits source.now }
-    ensures accessor { TakesFront attribute_access source.now }
-    ensures variable { TakesFront variable_reference source.now }
-    ensures message_reference { TakesFront message_reference source.now }
-    ensures function_reference { (depth : ℕ) → TakesFront
+#[tactic(auto, using(crate::proofs::RulePrefixes::rule_prefixes))]
+pub fn rules_take_a_prefix(source: &str)
+    ensures identifier { TakesPrefix identifier source.now }
+    ensures blank_inline { TakesPrefix blank_inline source.now }
+    ensures line_end { TakesPrefix line_end source.now }
+    ensures blank_block { TakesPrefix blank_block source.now }
+    ensures blank { TakesPrefix blank source.now }
+    ensures string { TakesPrefix string_literal source.now }
+    ensures number { TakesPrefix number_literal source.now }
+    ensures digits { TakesPrefix digits source.now }
+    ensures accessor { TakesPrefix attribute_access source.now }
+    ensures variable { TakesPrefix variable_reference source.now }
+    ensures message_reference { TakesPrefix message_reference source.now }
+    ensures function_reference { (depth : ℕ) → TakesPrefix
         (function_reference (level depth)) source.now }
-    ensures term_reference { (depth : ℕ) → TakesFront (term_reference (level depth)) source.now }
-    ensures inline_expression { (depth : ℕ) → TakesFront
+    ensures term_reference { (depth : ℕ) → TakesPrefix (term_reference (level depth)) source.now }
+    ensures inline_expression { (depth : ℕ) → TakesPrefix
         (inline_expression (level depth)) source.now }
-    ensures named_argument { TakesFront named_argument source.now }
-    ensures argument { (depth : ℕ) → TakesFront (argument (level depth)) source.now }
-    ensures argument_list { (depth : ℕ) → TakesFront (argument_list (level depth)) source.now }
-    ensures call_arguments { (depth : ℕ) → TakesFront (level depth).brackets source.now }
-    ensures variant_key { TakesFront variant_key source.now }
+    ensures named_argument { TakesPrefix named_argument source.now }
+    ensures argument { (depth : ℕ) → TakesPrefix (argument (level depth)) source.now }
+    ensures argument_list { (depth : ℕ) → TakesPrefix (argument_list (level depth)) source.now }
+    ensures call_arguments { (depth : ℕ) → TakesPrefix (level depth).brackets source.now }
+    ensures variant_key { TakesPrefix variant_key source.now }
     ensures variant { (depth : ℕ) (default : Bool) →
-        TakesFront (variant (level depth) default) source.now }
-    ensures variant_list { (depth : ℕ) → TakesFront (variant_list (level depth)) source.now }
-    ensures select { (depth : ℕ) → TakesFront (select_expression (level depth)) source.now }
-    ensures placeable { (depth : ℕ) → TakesFront (level depth).braces source.now }
-    ensures inline_text { TakesFront inline_text source.now }
-    ensures block_text { TakesFront block_text source.now }
-    ensures block_placeable { (depth : ℕ) → TakesFront
+        TakesPrefix (variant (level depth) default) source.now }
+    ensures variant_list { (depth : ℕ) → TakesPrefix (variant_list (level depth)) source.now }
+    ensures select { (depth : ℕ) → TakesPrefix (select_expression (level depth)) source.now }
+    ensures placeable { (depth : ℕ) → TakesPrefix (level depth).braces source.now }
+    ensures inline_text { TakesPrefix inline_text source.now }
+    ensures block_text { TakesPrefix block_text source.now }
+    ensures block_placeable { (depth : ℕ) → TakesPrefix
         (block_placeable (level depth).braces) source.now }
-    ensures pattern_element { (depth : ℕ) → TakesFront
+    ensures pattern_element { (depth : ℕ) → TakesPrefix
         (pattern_element (level depth).braces) source.now }
-    ensures pattern { (depth : ℕ) → TakesFront (pattern (level depth).braces) source.now }
-    ensures attribute { TakesFront attribute source.now }
-    ensures message { TakesFront entries.message source.now }
-    ensures term { TakesFront entries.term source.now }
-    ensures entry { TakesFront entry source.now }
-    ensures comment { TakesFront comment_line source.now }
-    ensures junk_line { TakesFront junk_line source.now }
-    ensures junk { TakesFront junk source.now }
+    ensures pattern { (depth : ℕ) → TakesPrefix (pattern (level depth).braces) source.now }
+    ensures attribute { TakesPrefix attribute source.now }
+    ensures message { TakesPrefix entries.message source.now }
+    ensures term { TakesPrefix entries.term source.now }
+    ensures entry { TakesPrefix entry source.now }
+    ensures comment { TakesPrefix comment_line source.now }
+    ensures junk_line { TakesPrefix junk_line source.now }
+    ensures junk { TakesPrefix junk source.now }
 {
     let _ = source;
 }
 
 /// The tree that a rule of the grammar reads is said by the bytes that it takes, at whatever depth: where it takes the
-/// same front of two texts, whatever stands behind it in each, both trees are equal. Whether it takes that front, what
-/// stands behind it may decide. Lines of text and elements of patterns also note whether a line feed follows them at
+/// same prefix of two texts, whatever stands after it in each, both trees are equal. Whether it takes that prefix, what
+/// stands after it may decide. Lines of text and elements of patterns also note whether a line feed follows them at
 /// once; the law is of what they take, and the tree of a pattern has no such note. Line ends, blanks, comments and Junk
 /// lines read no tree. What a chunk is, an entry, a comment, blank lines or Junk, is its tree.
 #[tactic(auto, using(crate::proofs::ReadLaws::rules_by_tree))]
 pub fn read_what_is_taken()
-    ensures identifier { TreeOfFront identifier }
-    ensures blank_inline { TreeOfFront blank_inline }
-    ensures line_end { TreeOfFront line_end }
-    ensures blank_block { TreeOfFront blank_block }
-    ensures blank { TreeOfFront blank }
-    ensures string { TreeOfFront string_literal }
-    ensures number { TreeOfFront number_literal }
-    ensures literal { TreeOfFront literal }
-    ensures digits { TreeOfFront digits }
-    ensures accessor { TreeOfFront attribute_access }
-    ensures variable { TreeOfFront variable_reference }
-    ensures message_reference { TreeOfFront message_reference }
-    ensures function_reference { (depth : ℕ) → TreeOfFront (function_reference (level depth)) }
-    ensures term_reference { (depth : ℕ) → TreeOfFront (term_reference (level depth)) }
-    ensures inline_expression { (depth : ℕ) → TreeOfFront (inline_expression (level depth)) }
-    ensures named_argument { TreeOfFront named_argument }
-    ensures argument { (depth : ℕ) → TreeOfFront (argument (level depth)) }
-    ensures argument_list { (depth : ℕ) → TreeOfFront (argument_list (level depth)) }
-    ensures call_arguments { (depth : ℕ) → TreeOfFront (level depth).brackets }
-    ensures variant_key { TreeOfFront variant_key }
-    ensures before_variant { (default : Bool) → TreeOfFront (variant_head default) }
-    ensures variant { (depth : ℕ) (default : Bool) → TreeOfFront (variant (level depth) default) }
-    ensures variant_list { (depth : ℕ) → TreeOfFront (variant_list (level depth)) }
-    ensures select { (depth : ℕ) → TreeOfFront (select_expression (level depth)) }
-    ensures expression { (depth : ℕ) → TreeOfFront (expression (level depth)) }
-    ensures placeable { (depth : ℕ) → TreeOfFront (level depth).braces }
-    ensures inline_text { TreeOfFront text_taken }
-    ensures block_text { TreeOfFront block_taken }
-    ensures block_placeable { (depth : ℕ) → TreeOfFront (block_placeable (level depth).braces) }
-    ensures pattern_element { (depth : ℕ) → TreeOfFront (element_taken (level depth).braces) }
-    ensures pattern { (depth : ℕ) → TreeOfFront (pattern (level depth).braces) }
-    ensures before_value { TreeOfFront name_of_value }
-    ensures attribute { TreeOfFront attribute }
-    ensures message { TreeOfFront entries.message }
-    ensures term { TreeOfFront entries.term }
-    ensures entry { TreeOfFront entry }
-    ensures comment { TreeOfFront comment_line }
-    ensures junk_line { TreeOfFront junk_line }
-    ensures junk { TreeOfFront junk }
-    ensures chunk { TreeOfFront chunk }
+    ensures identifier { TreeOfPrefix identifier }
+    ensures blank_inline { TreeOfPrefix blank_inline }
+    ensures line_end { TreeOfPrefix line_end }
+    ensures blank_block { TreeOfPrefix blank_block }
+    ensures blank { TreeOfPrefix blank }
+    ensures string { TreeOfPrefix string_literal }
+    ensures number { TreeOfPrefix number_literal }
+    ensures literal { TreeOfPrefix literal }
+    ensures digits { TreeOfPrefix digits }
+    ensures accessor { TreeOfPrefix attribute_access }
+    ensures variable { TreeOfPrefix variable_reference }
+    ensures message_reference { TreeOfPrefix message_reference }
+    ensures function_reference { (depth : ℕ) → TreeOfPrefix (function_reference (level depth)) }
+    ensures term_reference { (depth : ℕ) → TreeOfPrefix (term_reference (level depth)) }
+    ensures inline_expression { (depth : ℕ) → TreeOfPrefix (inline_expression (level depth)) }
+    ensures named_argument { TreeOfPrefix named_argument }
+    ensures argument { (depth : ℕ) → TreeOfPrefix (argument (level depth)) }
+    ensures argument_list { (depth : ℕ) → TreeOfPrefix (argument_list (level depth)) }
+    ensures call_arguments { (depth : ℕ) → TreeOfPrefix (level depth).brackets }
+    ensures variant_key { TreeOfPrefix variant_key }
+    ensures before_variant { (default : Bool) → TreeOfPrefix (variant_head default) }
+    ensures variant { (depth : ℕ) (default : Bool) → TreeOfPrefix (variant (level depth) default) }
+    ensures variant_list { (depth : ℕ) → TreeOfPrefix (variant_list (level depth)) }
+    ensures select { (depth : ℕ) → TreeOfPrefix (select_expression (level depth)) }
+    ensures expression { (depth : ℕ) → TreeOfPrefix (expression (level depth)) }
+    ensures placeable { (depth : ℕ) → TreeOfPrefix (level depth).braces }
+    ensures inline_text { TreeOfPrefix text_taken }
+    ensures block_text { TreeOfPrefix block_taken }
+    ensures block_placeable { (depth : ℕ) → TreeOfPrefix (block_placeable (level depth).braces) }
+    ensures pattern_element { (depth : ℕ) → TreeOfPrefix (element_taken (level depth).braces) }
+    ensures pattern { (depth : ℕ) → TreeOfPrefix (pattern (level depth).braces) }
+    ensures before_value { TreeOfPrefix name_of_value }
+    ensures attribute { TreeOfPrefix attribute }
+    ensures message { TreeOfPrefix entries.message }
+    ensures term { TreeOfPrefix entries.term }
+    ensures entry { TreeOfPrefix entry }
+    ensures comment { TreeOfPrefix comment_line }
+    ensures junk_line { TreeOfPrefix junk_line }
+    ensures junk { TreeOfPrefix junk }
+    ensures chunk { TreeOfPrefix chunk }
 {}
 
-/// These rules take a front of a text, and what they read depends on that front and the two bytes behind it alone. Two,
-/// since a carriage return is text or begins a line end by the byte behind it, and a point belongs to a number by the
-/// digit behind it.
-#[tactic(auto, using(crate::proofs::FrontLaws::rules_by_front))]
-pub fn read_by_front(source: &str)
-    ensures identifier { ReadByFront identifier source.now }
-    ensures before_value { ReadByFront name_of_value source.now }
-    ensures before_variant { ReadByFront (variant_head false) source.now }
-    ensures before_default { ReadByFront (variant_head true) source.now }
-    ensures variable { ReadByFront variable_reference source.now }
-    ensures message { ReadByFront message_reference source.now }
-    ensures literal { ReadByFront literal source.now }
-    ensures named_argument { ReadByFront named_argument source.now }
-    ensures text { ReadByFront inline_text source.now }
-    ensures blank { ReadByFront blank source.now }
-    ensures comment { ReadByFront comment_line source.now }
-    ensures junk { ReadByFront junk source.now }
+/// These rules take a prefix of a text, and what they read depends on that prefix and the two bytes after it alone. Two,
+/// since a carriage return is text or begins a line end by the byte after it, and a point belongs to a number by the
+/// digit after it.
+#[tactic(auto, using(crate::proofs::PrefixLaws::rules_by_prefix))]
+pub fn read_by_prefix(source: &str)
+    ensures identifier { ReadByPrefix identifier source.now }
+    ensures before_value { ReadByPrefix name_of_value source.now }
+    ensures before_variant { ReadByPrefix (variant_head false) source.now }
+    ensures before_default { ReadByPrefix (variant_head true) source.now }
+    ensures variable { ReadByPrefix variable_reference source.now }
+    ensures message { ReadByPrefix message_reference source.now }
+    ensures literal { ReadByPrefix literal source.now }
+    ensures named_argument { ReadByPrefix named_argument source.now }
+    ensures text { ReadByPrefix inline_text source.now }
+    ensures blank { ReadByPrefix blank source.now }
+    ensures comment { ReadByPrefix comment_line source.now }
+    ensures junk { ReadByPrefix junk source.now }
 {
     let _ = source;
 }
 
-/// Placeables and call arguments, at whatever depth, take a front of a text, and what they read depends on that front
+/// Placeables and call arguments, at whatever depth, take a prefix of a text, and what they read depends on that prefix
 /// alone: each ends with its own closing brace or bracket.
-#[tactic(auto, using(crate::proofs::KnownPatterns::rules_by_front_alone))]
-pub fn read_by_front_alone(source: &str)
-    ensures placeable { (depth : ℕ) → ReadByFrontAlone (level depth).braces source.now }
-    ensures call_arguments { (depth : ℕ) → ReadByFrontAlone (level depth).brackets source.now }
+#[tactic(auto, using(crate::proofs::KnownPatterns::rules_by_prefix_alone))]
+pub fn read_by_prefix_alone(source: &str)
+    ensures placeable { (depth : ℕ) → ReadByPrefixAlone (level depth).braces source.now }
+    ensures call_arguments { (depth : ℕ) → ReadByPrefixAlone (level depth).brackets source.now }
 {
     let _ = source;
 }
 
-/// Patterns, attributes, messages, terms and entries take a front of a text, and what they read depends on that front
-/// alone, as long as what stands behind it ends them: a line break, blank lines, and then the end of the text or a line
+/// Patterns, attributes, messages, terms and entries take a prefix of a text, and what they read depends on that prefix
+/// alone, as long as what stands after it ends them: a line break, blank lines, and then the end of the text or a line
 /// that can't belong to them. An entry takes the line break; before the others it stays the same one.
 #[tactic(auto, using(crate::proofs::KnownEntries::rules_before))]
 pub fn read_before_an_end(source: &str)

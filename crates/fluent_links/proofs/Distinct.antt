@@ -54,7 +54,7 @@ any_mapped : (t : Pattern → Bool) (ks : List Stored) → list_any t (map conte
 any_mapped t [] = refl
 any_mapped t (k ∷ ks) = ap (λ b. t (content k) || b) (any_mapped t ks)
 
--- the contents behind an insertion
+-- the contents after an insertion
 pub stored_in : (ks : List Stored) (k : Stored) → map content (if list_any (alike k) ks then ks else ks ++ k ∷ []) ≡ with_class (content k) (map content ks)
 stored_in ks k = by (list_any (alike k) ks) ∙ sym (ap (λ b. if b then map content ks else map content ks ++ content k ∷ []) (any_mapped (λ q. is_yes (pattern_same (content k) q)) ks))
   where

@@ -13,7 +13,7 @@ use Rattle.fluent_tree.specs.declared.ast.PatternElement.{PatternElement}
 use Rattle.fluent_tree.specs.declared.ast.Variant.{Variant, out-Variant}
 use Rattle.fluent_links.specs.Hashed.{HasherInput, hashed, hashed_element, hashed_end, hashed_inline, hashed_key, hashed_kind, hashed_named, hashed_positional, hashed_variants}
 
--- parts in turn, and the end behind them
+-- parts in turn, and the end after them
 module _ {P : Type 0} (all : List P → HasherInput) (one : P → HasherInput) (each : (x : P) (xs : List P) → all (x ∷ xs) ≡ one x ++ all xs) (ends : all [] ≡ hashed_end) where
   fed_more : {S : Type 0} (write : S → List ℕ → S) (xs : List P) (i : ℕ) (x : P) (old new whole : S) → i < length xs → x ≡ get_or xs i x → fold write old (all (drop i xs)) ≡ whole → new ≡ fold write old (one x) → fold write new (all (drop (i + 1) xs)) ≡ whole
   fed_more write xs i x old new whole h is e fed =

@@ -8,8 +8,8 @@ use Rattle.fluent_tree.specs.References.{AreSome, Reference, references}
 use Rattle.fluent_links.specs.Classes.{HasClass, with_class}
 use Rattle.fluent_links.specs.Linked.{IsClassOf, are_some, with_referring}
 use Rattle.fluent_links.specs.Links.{id_of, KeepsNumbers}
-use Rattle.fluent_links.specs.Linking.{AppendsLinks, SlotsOfFront, with_slots}
-use Rattle.fluent_links.specs.Numbered.{AreNumbers, keeps_numbers}
+use Rattle.fluent_links.specs.LinkGrowth.{AppendsLinks, SlotsOfPrefix, with_slots}
+use Rattle.fluent_links.specs.LinkNumbers.{AreNumbers, keeps_numbers}
 use Rattle.fluent_links.specs.PlaceSteps.{IsInTurn, here}
 use Rattle.fluent_links.specs.Slots.{number, named, with_slot}
 use Rattle.fluent_links.proofs.Slotted.{number_kept, named_new}
@@ -41,17 +41,17 @@ names_kept a b rs h q = ap (named q) h ∙ (slots_keep rs a).1 q
 slots_on : {X : Type 0} (a b c : Entries X) (xs ys : List Reference) → b ≡ with_slots xs a → c ≡ with_slots ys b → c ≡ with_slots (xs ++ ys) a
 slots_on a b c xs ys first second = second ∙ (ap (with_slots ys) first ∙ sym (fold-append (λ ss r. with_slot (id_of r) ss) a xs ys))
 
-pub begins_all : {X : Type 0} (a b : Entries X) (rs : List Reference) → b ≡ with_slots rs a → SlotsOfFront a b rs
+pub begins_all : {X : Type 0} (a b : Entries X) (rs : List Reference) → b ≡ with_slots rs a → SlotsOfPrefix a b rs
 begins_all a b rs h = (rs, [], sym (append-nil rs), h)
 
-pub begins_more : {X : Type 0} (a b : Entries X) (xs ys : List Reference) → SlotsOfFront a b xs → SlotsOfFront a b (xs ++ ys)
+pub begins_more : {X : Type 0} (a b : Entries X) (xs ys : List Reference) → SlotsOfPrefix a b xs → SlotsOfPrefix a b (xs ++ ys)
 begins_more a b xs ys h = (h.0, h.1 ++ ys, ap (λ rs. rs ++ ys) h.2 ∙ append_assoc h.0 h.1 ys, h.3)
 
-pub begins_on : {X : Type 0} (a b c : Entries X) (xs ys : List Reference) → b ≡ with_slots xs a → SlotsOfFront b c ys → SlotsOfFront a c (xs ++ ys)
+pub begins_on : {X : Type 0} (a b c : Entries X) (xs ys : List Reference) → b ≡ with_slots xs a → SlotsOfPrefix b c ys → SlotsOfPrefix a c (xs ++ ys)
 begins_on a b c xs ys first h = (xs ++ h.0, h.1, ap (λ rs. xs ++ rs) h.2 ∙ sym (append_assoc xs h.0 h.1), slots_on a b c xs h.0 first h.3)
 
-pub begins_as : {X : Type 0} (a b : Entries X) (xs ys : List Reference) → xs ≡ ys → SlotsOfFront a b xs → SlotsOfFront a b ys
-begins_as a b xs ys same h = subst (λ rs. SlotsOfFront a b rs) same h
+pub begins_as : {X : Type 0} (a b : Entries X) (xs ys : List Reference) → xs ≡ ys → SlotsOfPrefix a b xs → SlotsOfPrefix a b ys
+begins_as a b xs ys same h = subst (λ rs. SlotsOfPrefix a b rs) same h
 
 numbers_push : (number : Text → Option ℕ) (rs : List Reference) (r : Reference) (ls : List ℕ) (l : ℕ) → AreNumbers number rs ls → number (id_of r) ≡ Some l → AreNumbers number (rs ++ r ∷ []) (ls ++ l ∷ [])
 numbers_push number rs r ls l h at =
@@ -94,7 +94,7 @@ module _ {P : Type 0} (f : P → List Reference) (L : List P → List Reference)
       ∙ (sym (both (take i xs) (drop i xs)) ∙ ap L (take-append-drop i xs))
 
   -- after a part that was begun
-  pub begins_next : {X : Type 0} (xs : List P) (i : ℕ) (x : P) → i < length xs → x ≡ get_or xs i x → (a b c : Entries X) (ls ls' : List ℕ) → AppendsLinks a b ls ls' (L (take i xs)) → SlotsOfFront b c (f x) → SlotsOfFront a c (L xs)
+  pub begins_next : {X : Type 0} (xs : List P) (i : ℕ) (x : P) → i < length xs → x ≡ get_or xs i x → (a b c : Entries X) (ls ls' : List ℕ) → AppendsLinks a b ls ls' (L (take i xs)) → SlotsOfPrefix b c (f x) → SlotsOfPrefix a c (L xs)
   begins_next xs i x h is a b c ls ls' first second =
       begins_as a c (L (take i xs) ++ (f x ++ L (drop (i + 1) xs))) (L xs) (next_left xs i x h is)
       (begins_on a b c (L (take i xs)) (f x ++ L (drop (i + 1) xs)) first.0 (begins_more b c (f x) (L (drop (i + 1) xs)) second))

@@ -78,6 +78,6 @@ row_key = refl
 pub row_default : AreFedApart (choose ((name_key (codes "k"), pattern_of [], true) ∷ []) ∷ []) (choose ((name_key (codes "k"), pattern_of [], false) ∷ []) ∷ [])
 row_default = refl
 
--- `x` within a variant and behind its select: where a value ends, and where variants end
+-- `x` within a variant and after its select: where a value ends, and where variants end
 pub row_select : AreFedApart (choose ((name_key (codes "k"), pattern_of (say "x" ∷ []), true) ∷ []) ∷ []) (choose ((name_key (codes "k"), pattern_of [], true) ∷ []) ∷ say "x" ∷ [])
 row_select = refl

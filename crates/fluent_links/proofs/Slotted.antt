@@ -23,7 +23,7 @@ use Rattle.fluent_links.specs.Slots.{number, named, flat, slot_at, with_slot}
 pub by_number : {X : Type 0} (ss : List (Text × Option X)) (id : Text) (n : ℕ) → number ss id ≡ Some n → slot_at n ss ≡ named id ss
 by_number ss id n h = ap flat (sym ((Found-position (bytes_eq id) ss n h).value ∙ slice_get-map (λ e. e.1) ss n))
 
--- the place that an index from a list's front gives
+-- the place that an index from a list's prefix gives
 placed : (b : Bool) (m n : ℕ) → cond b (Some m) None ≡ Some n → (b ≡ true) × (m ≡ n)
 placed true m n h = (refl, ap (λ o. unwrap_or o m) h)
 placed false m n h = absurd cc
@@ -50,7 +50,7 @@ module _ {X : Type 0} (ss : List (Text × Option X)) (id : Text) (x : Option X) 
       ∙ ap (λ n. cond (nat_lt n (length (ks ++ id ∷ []))) (Some n) None) here
       ∙ ap (λ b. cond b (Some (position_or_len (bytes_eq id) ks)) None) (lt-ltb _ _ within)
 
-  -- and the number of its id is the place behind the others
+  -- and the number of its id is the place after the others
   pub number_new : number ss id ≡ None → number (ss ++ (id, x) ∷ []) id ≡ Some (length ss)
   number_new none = number_placed ∙ ap Some (Missing-position (bytes_eq id) ss none).or_len
 
@@ -121,11 +121,11 @@ module _ {K X : Type 0} (key : K → Text) where
       ∙ (elim (bytes_eq id q) as (λ b. cond b (Some w) rest ≡ cond b (Some w) (cond b (Some v) rest)) [ true ↦ refl | false ↦ refl ])
       ∙ ap (λ b. cond (bytes_eq id q) (Some w) (cond b (Some v) rest)) (sym same)
 
-  set_behind : (b : Bool) (id q k : Text) (w v : X) (rest rest' : Option X) → bytes_eq id k ≡ false → bytes_eq q k ≡ b → rest' ≡ cond (bytes_eq id q) (Some w) rest
+  set_after : (b : Bool) (id q k : Text) (w v : X) (rest rest' : Option X) → bytes_eq id k ≡ false → bytes_eq q k ≡ b → rest' ≡ cond (bytes_eq id q) (Some w) rest
       → cond b (Some v) rest' ≡ cond (bytes_eq id q) (Some w) (cond b (Some v) rest)
-  set_behind true id q k w v rest rest' other at more =
+  set_after true id q k w v rest rest' other at more =
       sym (ap (λ b. cond b (Some w) (Some v)) (ap (bytes_eq id) ((bytes_eq-Decides q k).0 at) ∙ other))
-  set_behind false id q k w v rest rest' other at more = more
+  set_after false id q k w v rest rest' other at more = more
 
   -- the value at the first place of an id is what the id names, and other ids name what they named
   pub set_at : (es : List (K × X)) (n : ℕ) (w : X) (id q : Text) → position_or_len (bytes_eq id) (keys_of (seen es)) ≡ n → n < length es
@@ -143,7 +143,7 @@ module _ {K X : Type 0} (key : K → Text) where
       by true is later = let none : 0 ≡ suc n = sym (ap (λ b. cond (not b) (1 + position_or_len (bytes_eq id) (keys_of (seen es))) 0) is) ∙ first in absurd (omega arith)
       by false is later =
           let rest : 1 + position_or_len (bytes_eq id) (keys_of (seen es)) ≡ suc n = sym (ap (λ b. cond (not b) (1 + position_or_len (bytes_eq id) (keys_of (seen es))) 0) is) ∙ first in
-          set_behind (bytes_eq q (key e.0)) id q (key e.0) w e.1 (lookup (bytes_eq q) (seen es)) (lookup (bytes_eq q) (seen (set_value_at es n w))) is refl
+          set_after (bytes_eq q (key e.0)) id q (key e.0) w e.1 (lookup (bytes_eq q) (seen es)) (lookup (bytes_eq q) (seen (set_value_at es n w))) is refl
           (later (omega (arith, rest)))
 
 -- the same of slots

@@ -15,6 +15,6 @@ HasClass table c p = slice_get table c ≡ Some p
 abbrev pub Grows : List Pattern → List Pattern → Type 0
 Grows before after = (c : ℕ) (p : Pattern) → HasClass before c p → HasClass after c p
 
--- with a content that may be new, behind the others
+-- with a content that may be new, after the others
 abbrev pub with_class : Pattern → List Pattern → List Pattern
 with_class p table = if list_any (λ q. is_yes (pattern_same p q)) table then table else table ++ p ∷ []

@@ -1,4 +1,4 @@
--- What of a pattern is hashed: each part behind a byte for its kind, and 255, which is no kind, where a list ends. A
+-- What of a pattern is hashed: each part after a byte for its kind, and 255, which is no kind, where a list ends. A
 -- text ends by 255 too, which no UTF-8 has. So what is fed can be read back in one way, and contents that differ feed
 -- different bytes.
 use Rattle.std.specs.Prelude.{ℕ, List, [], ◌++◌}
@@ -9,7 +9,7 @@ use Rattle.fluent_tree.specs.Tree.{Text, Key, name_key, number_key, Attribute, n
 abbrev pub HasherInput : Type 0
 HasherInput = List (List ℕ)
 
--- a name or a literal, behind its kind
+-- a name or a literal, after its kind
 abbrev pub hashed_kind : ℕ → Text → HasherInput
 hashed_kind kind t = fed.u8 kind ++ fed.str t
 

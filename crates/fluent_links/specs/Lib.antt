@@ -9,6 +9,6 @@ pub mod Content
 pub mod Classes
 pub mod Table
 pub mod ClassLaws
-pub mod Numbered
-pub mod Linking
+pub mod LinkNumbers
+pub mod LinkGrowth
 pub mod Linked

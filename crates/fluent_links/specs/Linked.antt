@@ -4,7 +4,7 @@ use Rattle.fluent_tree.specs.Tree.{Text, Pattern}
 use Rattle.fluent_tree.specs.References.{Reference, references}
 use Rattle.fluent_links.specs.Links.{KeepsNumbers}
 use Rattle.fluent_links.specs.Classes.{HasClass, Grows, with_class}
-use Rattle.fluent_links.specs.Numbered.{AreNumbers, keeps_numbers}
+use Rattle.fluent_links.specs.LinkNumbers.{AreNumbers, keeps_numbers}
 use Rattle.fluent_links.specs.declared.linked.Linked.{Linked}
 
 abbrev pub class_of : Linked → Option ℕ

@@ -16,12 +16,12 @@ abbrev pub next : Links → Links
 next [] = []
 next (l ∷ ls) = ls
 
--- the links behind these references
-abbrev pub behind : List Reference → Links → Links
-behind [] p = p
-behind (r ∷ rs) p = behind rs (next p)
+-- the links after these references
+abbrev pub past : List Reference → Links → Links
+past [] p = p
+past (r ∷ rs) p = past rs (next p)
 
--- links whose front are the numbers of these references, as far as there are links
+-- links whose prefix are the numbers of these references, as far as there are links
 abbrev pub IsBefore : (Text → Option ℕ) → List Reference → Links → Type 0
 IsBefore number rs [] = Unit {0}
 IsBefore number [] (l ∷ ls) = Unit {0}

@@ -2,30 +2,30 @@
 use Rattle.std.specs.Prelude.{◌≡◌, ℕ, List, [], ◌∷◌, ◌++◌, Option, Some, IfSome, refl}
 use Rattle.fluent_tree.specs.Tree.{Text}
 use Rattle.fluent_tree.specs.References.{Reference}
-use Rattle.fluent_links.specs.Links.{Links, next, behind, id_of, IsBefore, KeepsNumbers}
+use Rattle.fluent_links.specs.Links.{Links, next, past, id_of, IsBefore, KeepsNumbers}
 use Rattle.fluent_links.specs.Places.{first_of}
 
 -- a place before two parts is before the first
-pub front : (number : Text → Option ℕ) (xs ys : List Reference) (p : Links) → IsBefore number (xs ++ ys) p → IsBefore number xs p
-front number xs ys [] h = tt
-front number [] ys (l ∷ ls) h = tt
-front number (x ∷ xs) ys (l ∷ ls) h = (h.0, front number xs ys ls h.1)
+pub prefix : (number : Text → Option ℕ) (xs ys : List Reference) (p : Links) → IsBefore number (xs ++ ys) p → IsBefore number xs p
+prefix number xs ys [] h = tt
+prefix number [] ys (l ∷ ls) h = tt
+prefix number (x ∷ xs) ys (l ∷ ls) h = (h.0, prefix number xs ys ls h.1)
 
--- and behind the first it is before the second
-pub back : (number : Text → Option ℕ) (xs ys : List Reference) (p : Links) → IsBefore number (xs ++ ys) p → IsBefore number ys (behind xs p)
+-- and after the first it is before the second
+pub back : (number : Text → Option ℕ) (xs ys : List Reference) (p : Links) → IsBefore number (xs ++ ys) p → IsBefore number ys (past xs p)
 back number [] ys p h = h
 back number (x ∷ xs) ys [] h = back number xs ys [] tt
 back number (x ∷ xs) ys (l ∷ ls) h = back number xs ys ls h.1
 
 -- two parts are passed over one by one
-pub behind_append : (xs ys : List Reference) (p : Links) → behind (xs ++ ys) p ≡ behind ys (behind xs p)
-behind_append [] ys p = refl
-behind_append (x ∷ xs) ys p = behind_append xs ys (next p)
+pub after_append : (xs ys : List Reference) (p : Links) → past (xs ++ ys) p ≡ past ys (past xs p)
+after_append [] ys p = refl
+after_append (x ∷ xs) ys p = after_append xs ys (next p)
 
 -- where no links are left nothing is passed over
-pub behind_last : (rs : List Reference) → behind rs [] ≡ []
-behind_last [] = refl
-behind_last (r ∷ rs) = behind_last rs
+pub after_last : (rs : List Reference) → past rs [] ≡ []
+after_last [] = refl
+after_last (r ∷ rs) = after_last rs
 
 -- the next number is that of the next reference
 pub first_is : (number : Text → Option ℕ) (r : Reference) (rs : List Reference) (p : Links) → IsBefore number (r ∷ rs) p → IfSome (first_of p) (λ n. number (id_of r) ≡ Some n)

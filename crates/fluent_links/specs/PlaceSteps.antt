@@ -11,8 +11,8 @@ use Rattle.fluent_tree.specs.declared.ast.Variant.{Variant}
 use Rattle.fluent_tree.specs.declared.ast.InlineExpression.{InlineExpression}
 use Rattle.fluent_tree.specs.declared.ast.NamedArgument as of_the_argument
 use Rattle.fluent_tree.specs.declared.ast.NamedArgument.{NamedArgument}
-use Rattle.fluent_links.specs.Links.{Links, behind, IsBefore}
-use Rattle.fluent_links.specs.PlaceLaws.{front, back, behind_append}
+use Rattle.fluent_links.specs.Links.{Links, past, IsBefore}
+use Rattle.fluent_links.specs.PlaceLaws.{prefix, back, after_append}
 
 -- what each part of a list refers to, and what the list does
 
@@ -68,16 +68,16 @@ module _ {X : Type 0} (f : X → List Reference) (L : List X → List Reference)
   here = ap L (drop_more xs i x h ∙ ap (λ y. y ∷ drop (i + 1) xs) (sym is)) ∙ step x (drop (i + 1) xs)
 
   -- it was passed over
-  pub passed : (p q r : Links) → q ≡ behind (f x) p → behind (L (drop i xs)) p ≡ r → behind (L (drop (i + 1) xs)) q ≡ r
+  pub passed : (p q r : Links) → q ≡ past (f x) p → past (L (drop i xs)) p ≡ r → past (L (drop (i + 1) xs)) q ≡ r
   passed p q r at kept =
-      ap (behind (L (drop (i + 1) xs))) at
-      ∙ (sym (behind_append (f x) (L (drop (i + 1) xs)) p)
-      ∙ (ap (λ rs. behind rs p) (sym here) ∙ kept))
+      ap (past (L (drop (i + 1) xs))) at
+      ∙ (sym (after_append (f x) (L (drop (i + 1) xs)) p)
+      ∙ (ap (λ rs. past rs p) (sym here) ∙ kept))
 
   -- it may be entered
   pub enters : (number : Text → Option ℕ) (p : Links) → IsBefore number (L (drop i xs)) p → IsBefore number (f x) p
-  enters number p at = front number (f x) (L (drop (i + 1) xs)) p (subst (λ rs. IsBefore number rs p) here at)
+  enters number p at = prefix number (f x) (L (drop (i + 1) xs)) p (subst (λ rs. IsBefore number rs p) here at)
 
-  -- behind it stand the others
-  pub leaves : (number : Text → Option ℕ) (p q : Links) → q ≡ behind (f x) p → IsBefore number (L (drop i xs)) p → IsBefore number (L (drop (i + 1) xs)) q
-  leaves number p q is_behind at = subst (λ q. IsBefore number (L (drop (i + 1) xs)) q) (sym is_behind) (back number (f x) (L (drop (i + 1) xs)) p (subst (λ rs. IsBefore number rs p) here at))
+  -- after it stand the others
+  pub leaves : (number : Text → Option ℕ) (p q : Links) → q ≡ past (f x) p → IsBefore number (L (drop i xs)) p → IsBefore number (L (drop (i + 1) xs)) q
+  leaves number p q is_after at = subst (λ q. IsBefore number (L (drop (i + 1) xs)) q) (sym is_after) (back number (f x) (L (drop (i + 1) xs)) p (subst (λ rs. IsBefore number rs p) here at))

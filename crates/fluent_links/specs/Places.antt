@@ -1,7 +1,7 @@
 -- What a place sees of the links.
 use Rattle.std.specs.Prelude.{◌≡◌, ℕ, List, [], ◌∷◌, Option, Some, None}
 use Rattle.fluent_tree.specs.References.{Reference}
-use Rattle.fluent_links.specs.Links.{Links, behind}
+use Rattle.fluent_links.specs.Links.{Links, past}
 use Rattle.fluent_links.specs.declared.place.Place.{Place}
 
 -- the links from a place on
@@ -15,4 +15,4 @@ first_of (l ∷ ls) = Some l
 
 -- these links, without those of the references
 abbrev pub Passes : List ℕ → List ℕ → List Reference → Type 0
-Passes before after rs = after ≡ behind rs before
+Passes before after rs = after ≡ past rs before

@@ -33,11 +33,11 @@ impl<'r, 's> Classes<'r, 's> {
     ///
     /// # Errors
     ///
-    /// Memory was refused, or there are 2^32 classes: no content is added.
+    /// An allocation failed, or there are 2^32 classes: no content is added.
     pub fn class_of(&mut self, pattern: &'r Pattern<'s>) -> Result<u32, AllocError>
         ensures class { IfOk result (λ c. HasClass (table self.new) c (pattern_view pattern.now)) }
         ensures kept { Grows (table self.old) (table self.new) }
-        ensures refused { OnErr result (table self.new ≡ table self.old) }
+        ensures alloc_failed { OnErr result (table self.new ≡ table self.old) }
         ensures stored { OnOk result (table self.new
             ≡ with_class (pattern_view pattern.now) (table self.old)) }
     {

@@ -1,4 +1,4 @@
-//! What of a pattern is hashed: each part behind a byte for its kind, and a byte where each list ends.
+//! What of a pattern is hashed: each part after a byte for its kind, and a byte where each list ends.
 ghost use Rattle.std.specs.Prelude.{◌≡◌, fold};
 ghost use Rattle.fluent_tree.specs.View.{arguments_view, attribute_of, call_view, element_view, expression_view, inline_view, key_view, pattern_view};
 ghost use Rattle.fluent_tree.specs.References.{inlines_view, nameds_view, variants_view};
@@ -100,7 +100,7 @@ fn hash_inline<H: Hasher>(inline: &InlineExpression<'_>, state: &mut H)
     }
 }
 
-/// A name or a literal, behind its kind.
+/// A name or a literal, after its kind.
 fn hash_kind<H: Hasher>(kind: u8, text: &str, state: &mut H)
     ensures { state.new ≡ fold H.write state.old (hashed_kind kind text.now) }
 {

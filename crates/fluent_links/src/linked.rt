@@ -6,7 +6,7 @@ ghost use Rattle.fluent_tree.specs.View.{pattern_view};
 ghost use Rattle.fluent_tree.specs.References.{references};
 ghost use Rattle.fluent_links.specs.Links.{IsBefore, KeepsNumbers};
 ghost use Rattle.fluent_links.specs.Classes.{Grows};
-ghost use Rattle.fluent_links.specs.Linking.{SlotsOfFront, with_slots};
+ghost use Rattle.fluent_links.specs.LinkGrowth.{SlotsOfPrefix, with_slots};
 ghost use Rattle.fluent_links.specs.Places.{seen};
 ghost use Rattle.fluent_links.specs.Slots.{named, number, slots as slots_of};
 ghost use Rattle.fluent_links.specs.Table.{table};
@@ -46,12 +46,12 @@ impl Linked {
     }
 
     /// Links a pattern that is going to be stored: each id that it refers to gets a number, and the pattern its class,
-    /// where there are such ids. One that refers to nothing has none, takes no memory, and is never refused. What ids
+    /// where there are such ids. One that refers to nothing has none, takes no memory, and never fails. What ids
     /// name stays.
     ///
     /// # Errors
     ///
-    /// Memory was refused, or there are 2^32 numbers or classes: each id still has its number and each content its
+    /// An allocation failed, or there are 2^32 numbers or classes: each id still has its number and each content its
     /// class, and the call can be made again.
     pub fn link<'r, 's, X: Drop>(
         alloc: Global,
@@ -74,9 +74,9 @@ impl Linked {
         ensures classless { references (pattern_view pattern.now) ≡ [] →
             IfOk result (λ l. class_of l ≡ None) }
         // The first references may have slots, but no content is stored.
-        ensures begun { OnErr result (SlotsOfFront (slots_of slots.old) (slots_of slots.new)
+        ensures begun { OnErr result (SlotsOfPrefix (slots_of slots.old) (slots_of slots.new)
             (references (pattern_view pattern.now))) }
-        ensures refused { OnErr result (table classes.new ≡ table classes.old) }
+        ensures alloc_failed { OnErr result (table classes.new ≡ table classes.old) }
     {
         let mut links = Vec::new(alloc);
         link_pattern(&mut links, slots, pattern)?;

@@ -3,7 +3,7 @@ ghost use Rattle.std.specs.Prelude.{◌≡◌, [], ◌∷◌, OnErr, OnOk};
 ghost use Rattle.fluent_tree.specs.View.{arguments_view, call_view, element_view, expression_view, inline_view, pattern_view};
 ghost use Rattle.fluent_tree.specs.References.{AreSome, Reference, in_arguments, in_call, in_element, in_expression, in_inline, in_named, in_positional, in_variants, inlines_view, nameds_view, references, variants_view};
 ghost use Rattle.fluent_links.specs.Links.{id_of};
-ghost use Rattle.fluent_links.specs.Linking.{AppendsLinks, SlotsOfFront};
+ghost use Rattle.fluent_links.specs.LinkGrowth.{AppendsLinks, SlotsOfPrefix};
 ghost use Rattle.fluent_links.specs.Slots.{slots as slots_of};
 
 use crate::slots::Slots;
@@ -22,7 +22,7 @@ fn link_one<'s, X: Drop>(
     ensures ok { OnOk result ((r : Reference) → id_of r ≡ id.now →
         AppendsLinks (slots_of slots.old) (slots_of slots.new) links.old.items links.new.items (r ∷ [])) }
     ensures err { OnErr result ((r : Reference) → id_of r ≡ id.now →
-        SlotsOfFront (slots_of slots.old) (slots_of slots.new) (r ∷ [])) }
+        SlotsOfPrefix (slots_of slots.old) (slots_of slots.new) (r ∷ [])) }
 {
     links.push(slots.number_of(CowStr::Borrowed(id))?)?;
     Ok(())
@@ -37,9 +37,9 @@ pub fn link_pattern<'s, X: Drop>(
 ) -> Result<(), AllocError>
     ensures ok { OnOk result (AppendsLinks (slots_of slots.old) (slots_of slots.new)
         links.old.items links.new.items (references (pattern_view pattern.now))) }
-    ensures err { OnErr result (SlotsOfFront (slots_of slots.old) (slots_of slots.new)
+    ensures err { OnErr result (SlotsOfPrefix (slots_of slots.old) (slots_of slots.new)
         (references (pattern_view pattern.now))) }
-    ensures refused { OnErr result (AreSome (references (pattern_view pattern.now))) }
+    ensures alloc_failed { OnErr result (AreSome (references (pattern_view pattern.now))) }
 {
     for element in &pattern.elements {
         link_element(links, slots, element)?;
@@ -55,9 +55,9 @@ fn link_element<'s, X: Drop>(
 ) -> Result<(), AllocError>
     ensures ok { OnOk result (AppendsLinks (slots_of slots.old) (slots_of slots.new)
         links.old.items links.new.items (in_element (element_view element.now))) }
-    ensures err { OnErr result (SlotsOfFront (slots_of slots.old) (slots_of slots.new)
+    ensures err { OnErr result (SlotsOfPrefix (slots_of slots.old) (slots_of slots.new)
         (in_element (element_view element.now))) }
-    ensures refused { OnErr result (AreSome (in_element (element_view element.now))) }
+    ensures alloc_failed { OnErr result (AreSome (in_element (element_view element.now))) }
 {
     match element {
         PatternElement::TextElement { .. } => Ok(()),
@@ -73,9 +73,9 @@ fn link_expression<'s, X: Drop>(
 ) -> Result<(), AllocError>
     ensures ok { OnOk result (AppendsLinks (slots_of slots.old) (slots_of slots.new)
         links.old.items links.new.items (in_expression (expression_view expression.now))) }
-    ensures err { OnErr result (SlotsOfFront (slots_of slots.old) (slots_of slots.new)
+    ensures err { OnErr result (SlotsOfPrefix (slots_of slots.old) (slots_of slots.new)
         (in_expression (expression_view expression.now))) }
-    ensures refused { OnErr result (AreSome (in_expression (expression_view expression.now))) }
+    ensures alloc_failed { OnErr result (AreSome (in_expression (expression_view expression.now))) }
 {
     match expression {
         Expression::Inline(inline) => link_inline(links, slots, inline),
@@ -95,9 +95,9 @@ fn link_variants<'s, X: Drop>(
 ) -> Result<(), AllocError>
     ensures ok { OnOk result (AppendsLinks (slots_of slots.old) (slots_of slots.new)
         links.old.items links.new.items (in_variants (variants_view variants.now))) }
-    ensures err { OnErr result (SlotsOfFront (slots_of slots.old) (slots_of slots.new)
+    ensures err { OnErr result (SlotsOfPrefix (slots_of slots.old) (slots_of slots.new)
         (in_variants (variants_view variants.now))) }
-    ensures refused { OnErr result (AreSome (in_variants (variants_view variants.now))) }
+    ensures alloc_failed { OnErr result (AreSome (in_variants (variants_view variants.now))) }
 {
     for variant in variants {
         link_pattern(links, slots, &variant.value)?;
@@ -113,9 +113,9 @@ fn link_inline<'s, X: Drop>(
 ) -> Result<(), AllocError>
     ensures ok { OnOk result (AppendsLinks (slots_of slots.old) (slots_of slots.new)
         links.old.items links.new.items (in_inline (inline_view inline.now))) }
-    ensures err { OnErr result (SlotsOfFront (slots_of slots.old) (slots_of slots.new)
+    ensures err { OnErr result (SlotsOfPrefix (slots_of slots.old) (slots_of slots.new)
         (in_inline (inline_view inline.now))) }
-    ensures refused { OnErr result (AreSome (in_inline (inline_view inline.now))) }
+    ensures alloc_failed { OnErr result (AreSome (in_inline (inline_view inline.now))) }
 {
     match inline {
         InlineExpression::FunctionReference { id, arguments } => {
@@ -144,9 +144,9 @@ fn link_call<'s, X: Drop>(
 ) -> Result<(), AllocError>
     ensures ok { OnOk result (AppendsLinks (slots_of slots.old) (slots_of slots.new)
         links.old.items links.new.items (in_call (call_view arguments.now))) }
-    ensures err { OnErr result (SlotsOfFront (slots_of slots.old) (slots_of slots.new)
+    ensures err { OnErr result (SlotsOfPrefix (slots_of slots.old) (slots_of slots.new)
         (in_call (call_view arguments.now))) }
-    ensures refused { OnErr result (AreSome (in_call (call_view arguments.now))) }
+    ensures alloc_failed { OnErr result (AreSome (in_call (call_view arguments.now))) }
 {
     match arguments {
         Some(arguments) => link_arguments(links, slots, arguments),
@@ -162,9 +162,9 @@ fn link_arguments<'s, X: Drop>(
 ) -> Result<(), AllocError>
     ensures ok { OnOk result (AppendsLinks (slots_of slots.old) (slots_of slots.new)
         links.old.items links.new.items (in_arguments (arguments_view arguments.now))) }
-    ensures err { OnErr result (SlotsOfFront (slots_of slots.old) (slots_of slots.new)
+    ensures err { OnErr result (SlotsOfPrefix (slots_of slots.old) (slots_of slots.new)
         (in_arguments (arguments_view arguments.now))) }
-    ensures refused { OnErr result (AreSome (in_arguments (arguments_view arguments.now))) }
+    ensures alloc_failed { OnErr result (AreSome (in_arguments (arguments_view arguments.now))) }
 {
     link_positional(links, slots, &arguments.positional)?;
     link_named(links, slots, &arguments.named)?;
@@ -179,9 +179,9 @@ fn link_positional<'s, X: Drop>(
 ) -> Result<(), AllocError>
     ensures ok { OnOk result (AppendsLinks (slots_of slots.old) (slots_of slots.new)
         links.old.items links.new.items (in_positional (inlines_view positional.now))) }
-    ensures err { OnErr result (SlotsOfFront (slots_of slots.old) (slots_of slots.new)
+    ensures err { OnErr result (SlotsOfPrefix (slots_of slots.old) (slots_of slots.new)
         (in_positional (inlines_view positional.now))) }
-    ensures refused { OnErr result (AreSome (in_positional (inlines_view positional.now))) }
+    ensures alloc_failed { OnErr result (AreSome (in_positional (inlines_view positional.now))) }
 {
     for argument in positional {
         link_inline(links, slots, argument)?;
@@ -197,9 +197,9 @@ fn link_named<'s, X: Drop>(
 ) -> Result<(), AllocError>
     ensures ok { OnOk result (AppendsLinks (slots_of slots.old) (slots_of slots.new)
         links.old.items links.new.items (in_named (nameds_view named.now))) }
-    ensures err { OnErr result (SlotsOfFront (slots_of slots.old) (slots_of slots.new)
+    ensures err { OnErr result (SlotsOfPrefix (slots_of slots.old) (slots_of slots.new)
         (in_named (nameds_view named.now))) }
-    ensures refused { OnErr result (AreSome (in_named (nameds_view named.now))) }
+    ensures alloc_failed { OnErr result (AreSome (in_named (nameds_view named.now))) }
 {
     for argument in named {
         link_inline(links, slots, &argument.value)?;

@@ -9,7 +9,7 @@ use fluent_tree::ast::{
     CallArguments, Expression, InlineExpression, NamedArgument, Pattern, PatternElement, Variant,
 };
 
-/// The links behind one reference.
+/// The links after one reference.
 pub fn pass_one(links: &[u32]) -> &[u32]
     ensures { result.now ≡ next links.now }
 {
@@ -19,7 +19,7 @@ pub fn pass_one(links: &[u32]) -> &[u32]
     }
 }
 
-/// The links behind a pattern.
+/// The links after a pattern.
 #[cycle(passing)]
 pub fn pass_pattern<'b>(links: &'b [u32], pattern: &Pattern<'_>) -> &'b [u32]
     ensures { Passes links.entry.now result.now (references (pattern_view pattern.now)) }
@@ -31,7 +31,7 @@ pub fn pass_pattern<'b>(links: &'b [u32], pattern: &Pattern<'_>) -> &'b [u32]
     links
 }
 
-/// The links behind an element of a pattern.
+/// The links after an element of a pattern.
 #[cycle(passing)]
 pub fn pass_element<'b>(links: &'b [u32], element: &PatternElement<'_>) -> &'b [u32]
     ensures { Passes links.entry.now result.now (in_element (element_view element.now)) }
@@ -42,12 +42,12 @@ pub fn pass_element<'b>(links: &'b [u32], element: &PatternElement<'_>) -> &'b [
     }
 }
 
-/// The links behind what stands between the braces of a placeable.
+/// The links after what stands between the braces of a placeable.
 #[cycle(passing)]
 pub fn pass_expression<'b>(links: &'b [u32], expression: &Expression<'_>) -> &'b [u32]
     ensures { Passes links.entry.now result.now (in_expression (expression_view expression.now)) }
 {
-    // Behind the last link no part is walked, which saves up to a tenth of the instructions where selects are passed
+    // After the last link no part is walked, which saves up to a tenth of the instructions where selects are passed
     // that refer to nothing.
     if links.is_empty() {
         return links;
@@ -60,7 +60,7 @@ pub fn pass_expression<'b>(links: &'b [u32], expression: &Expression<'_>) -> &'b
     }
 }
 
-/// The links behind these variants.
+/// The links after these variants.
 #[cycle(passing)]
 #[inline(never)]
 pub fn pass_variants<'b>(links: &'b [u32], variants: &[Variant<'_>]) -> &'b [u32]
@@ -73,7 +73,7 @@ pub fn pass_variants<'b>(links: &'b [u32], variants: &[Variant<'_>]) -> &'b [u32
     links
 }
 
-/// The links behind an inline expression.
+/// The links after an inline expression.
 #[cycle(passing)]
 pub fn pass_inline<'b>(links: &'b [u32], inline: &InlineExpression<'_>) -> &'b [u32]
     ensures { Passes links.entry.now result.now (in_inline (inline_view inline.now)) }
@@ -94,7 +94,7 @@ pub fn pass_inline<'b>(links: &'b [u32], inline: &InlineExpression<'_>) -> &'b [
     }
 }
 
-/// The links behind the arguments of a function or a term.
+/// The links after the arguments of a function or a term.
 #[cycle(passing)]
 #[inline(never)]
 pub fn pass_arguments<'b>(links: &'b [u32], arguments: &CallArguments<'_>) -> &'b [u32]
@@ -106,7 +106,7 @@ pub fn pass_arguments<'b>(links: &'b [u32], arguments: &CallArguments<'_>) -> &'
     )
 }
 
-/// The links behind positional arguments.
+/// The links after positional arguments.
 #[cycle(passing)]
 pub fn pass_positional<'b>(links: &'b [u32], positional: &[InlineExpression<'_>]) -> &'b [u32]
     ensures { Passes links.entry.now result.now (in_positional (inlines_view positional.now)) }

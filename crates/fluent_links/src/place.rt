@@ -2,7 +2,7 @@
 ghost use Rattle.std.specs.Prelude.{◌≡◌, []};
 ghost use Rattle.fluent_tree.specs.View.{arguments_view, call_view, element_view, expression_view, inline_view, pattern_view};
 ghost use Rattle.fluent_tree.specs.References.{in_arguments, in_call, in_element, in_expression, in_inline, in_positional, in_variants, inlines_view, references, variants_view};
-ghost use Rattle.fluent_links.specs.Links.{behind, next};
+ghost use Rattle.fluent_links.specs.Links.{past, next};
 ghost use Rattle.fluent_links.specs.Places.{first_of, seen};
 
 use crate::passing::{
@@ -42,72 +42,72 @@ impl<'b> Place<'b> {
         self.links.first().copied()
     }
 
-    /// Behind one reference.
+    /// After one reference.
     pub fn after_one(self) -> Self
         ensures { seen result ≡ next (seen self.entry) }
     {
         Place::from_links(pass_one(self.links))
     }
 
-    /// Behind a pattern.
-    pub fn behind_pattern(self, pattern: &Pattern<'_>) -> Self
-        ensures { seen result ≡ behind (references (pattern_view pattern.now)) (seen self.entry) }
+    /// After a pattern.
+    pub fn after_pattern(self, pattern: &Pattern<'_>) -> Self
+        ensures { seen result ≡ past (references (pattern_view pattern.now)) (seen self.entry) }
     {
         Place::from_links(pass_pattern(self.links, pattern))
     }
 
-    /// Behind an element of a pattern.
-    pub fn behind_element(self, element: &PatternElement<'_>) -> Self
-        ensures { seen result ≡ behind (in_element (element_view element.now)) (seen self.entry) }
+    /// After an element of a pattern.
+    pub fn after_element(self, element: &PatternElement<'_>) -> Self
+        ensures { seen result ≡ past (in_element (element_view element.now)) (seen self.entry) }
     {
         Place::from_links(pass_element(self.links, element))
     }
 
-    /// Behind what stands between the braces of a placeable.
-    pub fn behind_expression(self, expression: &Expression<'_>) -> Self
+    /// After what stands between the braces of a placeable.
+    pub fn after_expression(self, expression: &Expression<'_>) -> Self
         ensures { seen result
-            ≡ behind (in_expression (expression_view expression.now)) (seen self.entry) }
+            ≡ past (in_expression (expression_view expression.now)) (seen self.entry) }
     {
         Place::from_links(pass_expression(self.links, expression))
     }
 
-    /// Behind all of these variants.
-    pub fn behind_variants(self, variants: &[Variant<'_>]) -> Self
+    /// After all of these variants.
+    pub fn after_variants(self, variants: &[Variant<'_>]) -> Self
         ensures { seen result
-            ≡ behind (in_variants (variants_view variants.now)) (seen self.entry) }
+            ≡ past (in_variants (variants_view variants.now)) (seen self.entry) }
     {
         Place::from_links(pass_variants(self.links, variants))
     }
 
-    /// Behind an inline expression.
-    pub fn behind_inline(self, inline: &InlineExpression<'_>) -> Self
-        ensures { seen result ≡ behind (in_inline (inline_view inline.now)) (seen self.entry) }
+    /// After an inline expression.
+    pub fn after_inline(self, inline: &InlineExpression<'_>) -> Self
+        ensures { seen result ≡ past (in_inline (inline_view inline.now)) (seen self.entry) }
     {
         Place::from_links(pass_inline(self.links, inline))
     }
 
-    /// Behind the arguments of a term, which may have none.
-    pub fn behind_call(self, arguments: &Option<Box<CallArguments<'_>>>) -> Self
-        ensures { seen result ≡ behind (in_call (call_view arguments.now)) (seen self.entry) }
+    /// After the arguments of a term, which may have none.
+    pub fn after_call(self, arguments: &Option<Box<CallArguments<'_>>>) -> Self
+        ensures { seen result ≡ past (in_call (call_view arguments.now)) (seen self.entry) }
     {
         match arguments {
-            Some(arguments) => self.behind_arguments(arguments),
+            Some(arguments) => self.after_arguments(arguments),
             None => self,
         }
     }
 
-    /// Behind positional arguments.
-    pub fn behind_positional(self, positional: &[InlineExpression<'_>]) -> Self
+    /// After positional arguments.
+    pub fn after_positional(self, positional: &[InlineExpression<'_>]) -> Self
         ensures { seen result
-            ≡ behind (in_positional (inlines_view positional.now)) (seen self.entry) }
+            ≡ past (in_positional (inlines_view positional.now)) (seen self.entry) }
     {
         Place::from_links(pass_positional(self.links, positional))
     }
 
-    /// Behind the arguments of a function or a term.
-    pub fn behind_arguments(self, arguments: &CallArguments<'_>) -> Self
+    /// After the arguments of a function or a term.
+    pub fn after_arguments(self, arguments: &CallArguments<'_>) -> Self
         ensures { seen result
-            ≡ behind (in_arguments (arguments_view arguments.now)) (seen self.entry) }
+            ≡ past (in_arguments (arguments_view arguments.now)) (seen self.entry) }
     {
         Place::from_links(pass_arguments(self.links, arguments))
     }

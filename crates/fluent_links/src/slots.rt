@@ -63,7 +63,7 @@ impl<'s, X: Drop> Slots<'s, X> {
     ///
     /// # Errors
     ///
-    /// Memory was refused, or there are 2^32 numbers: no slot is added.
+    /// An allocation failed, or there are 2^32 numbers: no slot is added.
     pub fn number_of(&mut self, id: CowStr<'s>) -> Result<u32, AllocError>
         ensures number { IfOk result (λ n.
             number_in (slots self.new) (cow_str_bytes id.entry) ≡ Some n) }
@@ -89,7 +89,7 @@ impl<'s, X: Drop> Slots<'s, X> {
     ///
     /// # Errors
     ///
-    /// Memory was refused.
+    /// An allocation failed.
     #[tactic(auto, unfolding(crate::specs::Slots::slots))]
     pub fn reserve(&mut self, more: usize) -> Result<(), AllocError>
         ensures slots { slots self.new ≡ slots self.old }

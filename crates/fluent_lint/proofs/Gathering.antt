@@ -12,7 +12,7 @@ use Rattle.fluent_clean.specs.Clean.{IsAmong, AsksFor, itself, by_message}
 use Rattle.fluent_lint.specs.Asked.{AsksForAt, AreAsked, AreDistinct}
 use Rattle.fluent_lint.specs.PlaceView.{pattern_in, place_view}
 use Rattle.fluent_lint.specs.Inside.Reached.{Adds, IsReference, NotesOf, NotedAt, needs_there, needs_at, IsThrough, Gathered}
-use Rattle.fluent_lint.proofs.Growing.{all_map, front, last_of, wider, at_last}
+use Rattle.fluent_lint.proofs.Growing.{all_map, prefix, last_of, wider, at_last}
 use Rattle.fluent_lint.specs.NeedsView.{need_view}
 use Rattle.fluent_lint.specs.declared.listing.Need as code
 use Rattle.fluent_lint.specs.declared.place.Place as places
@@ -26,9 +26,9 @@ got_self (x ∷ xs) (suc i) d h = got_self xs i d (omega arith)
 
 -- ---- one that is added
 
-pub adds_front : {A : Type 0} (x : A) (old new : List A) → Adds x old new → (rest : List A) × (new ≡ old ++ rest)
-adds_front x old new (inl h) = ([], h.1 ∙ sym (append-nil old))
-adds_front x old new (inr h) = (x ∷ [], h.1)
+pub adds_prefix : {A : Type 0} (x : A) (old new : List A) → Adds x old new → (rest : List A) × (new ≡ old ++ rest)
+adds_prefix x old new (inl h) = ([], h.1 ∙ sym (append-nil old))
+adds_prefix x old new (inr h) = (x ∷ [], h.1)
 
 pub adds_kept : {A : Type 0} (x y : A) (old new : List A) → Adds x old new → IsAmong y old → IsAmong y new
 adds_kept x y old new (inl h) among = subst (IsAmong y) (sym h.1) among
@@ -57,7 +57,7 @@ adds_distinct x old new (inr h) d = subst AreDistinct (sym h.1) (distinct_snoc x
 
 pub notes_none : (xs : List Place) (vs : List Text) → NotesOf [] xs xs vs vs
 notes_none xs vs = record {
-  front = ([], sym (append-nil xs));
+  prefix = ([], sym (append-nil xs));
   reached = λ x h. inl h;
   named = λ v h. inl h;
   kept = λ v h. h;
@@ -71,7 +71,7 @@ later_reference ns n x h = (h.0, h.1, wider (a_message h.0 h.1) n ns h.2, h.3)
 
 pub notes_variable : (ns : List Need) (v : Text) (xs xs' : List Place) (vs vs' vs'' : List Text) → NotesOf ns xs xs' vs vs' → Adds v vs' vs'' → NotesOf (ns ++ a_variable v ∷ []) xs xs' vs vs''
 notes_variable ns v xs xs' vs vs' vs'' h adds = record {
-  front = h.front;
+  prefix = h.prefix;
   reached = λ x among. elim (h.reached x among) [ inl old ↦ inl old | inr new ↦ inr (later_reference ns (a_variable v) x new) ];
   named = λ w among. elim (adds_only v w vs' vs'' adds among) [
     | inl there ↦ elim (h.named w there) [ inl old ↦ inl old | inr new ↦ inr (wider (a_variable w) (a_variable v) ns new) ]
@@ -88,8 +88,8 @@ notes_variable ns v xs xs' vs vs' vs'' h adds = record {
 
 pub notes_message : (ns : List Need) (m : Text) (a : Attribute) (xs xs' xs'' : List Place) (vs vs' : List Text) → NotesOf ns xs xs' vs vs' → Adds (of_message m a) xs' xs'' → NotesOf (ns ++ a_message m a ∷ []) xs xs'' vs vs'
 notes_message ns m a xs xs' xs'' vs vs' h adds =
-    let more = adds_front (of_message m a) xs' xs'' adds in record {
-      front = (h.front.0 ++ more.0, more.1 ∙ (ap (λ l. l ++ more.0) h.front.1 ∙ append_assoc xs h.front.0 more.0));
+    let more = adds_prefix (of_message m a) xs' xs'' adds in record {
+      prefix = (h.prefix.0 ++ more.0, more.1 ∙ (ap (λ l. l ++ more.0) h.prefix.1 ∙ append_assoc xs h.prefix.0 more.0));
       reached = λ x among. elim (adds_only (of_message m a) x xs' xs'' adds among) [
         | inl there ↦ elim (h.reached x there) [ inl old ↦ inl old | inr new ↦ inr (later_reference ns (a_message m a) x new) ]
         | inr same ↦ inr (m, a, at_last (a_message m a) ns, same)
@@ -108,7 +108,7 @@ notes_message ns m a xs xs' xs'' vs vs' h adds =
 
 pub notes_other : (ns : List Need) (n : Need) (xs xs' : List Place) (vs vs' : List Text) → ((m : Text) (a : Attribute) → a_message m a ≡ n → ⊥) → ((v : Text) → a_variable v ≡ n → ⊥) → NotesOf ns xs xs' vs vs' → NotesOf (ns ++ n ∷ []) xs xs' vs vs'
 notes_other ns n xs xs' vs vs' no_message no_variable h = record {
-  front = h.front;
+  prefix = h.prefix;
   reached = λ x among. elim (h.reached x among) [ inl old ↦ inl old | inr new ↦ inr (later_reference ns n x new) ];
   named = λ w among. elim (h.named w among) [ inl old ↦ inl old | inr new ↦ inr (wider (a_variable w) n ns new) ];
   kept = h.kept;
@@ -131,7 +131,7 @@ pub notes_default : (ns : List Need) (xs xs' : List Place) (vs vs' : List Text) 
 notes_default ns xs xs' vs vs' = notes_other ns a_default xs xs' vs vs' (λ m b e. absurd cc) (λ v e. absurd cc)
 
 pub notes_next : (list : List code.Need) (i : ℕ) (n : code.Need) (xs xs' : List Place) (vs vs' : List Text) → i < length list → n ≡ get_or list i n → NotesOf (map need_view (take i list) ++ need_view n ∷ []) xs xs' vs vs' → NotesOf (map need_view (take (i + 1) list)) xs xs' vs vs'
-notes_next list i n xs xs' vs vs' h is notes = subst (λ ns. NotesOf ns xs xs' vs vs') (sym (front need_view list i n h is)) notes
+notes_next list i n xs xs' vs vs' h is notes = subst (λ ns. NotesOf ns xs xs' vs vs') (sym (prefix need_view list i n h is)) notes
 
 -- ---- where nothing stands
 
@@ -172,7 +172,7 @@ next_all P f (z ∷ zs) rest (suc i) x h is all p = (all.0, next_all P f zs rest
 pub gathered_more : {A : Type 0} (f : A → Place) (named : Names Text) (from : Place) (i : ℕ) (xs : List A) (y : A) (xs' : List Place) (vs vs' : List Text) → i < length xs → y ≡ get_or xs i y
     → Gathered named from i (map f xs) vs → NotedAt named (f y) (map f xs) xs' vs vs' → IsAmong (f y) (map f xs) → Gathered named from (i + 1) xs' vs'
 gathered_more f named from i xs y xs' vs vs' h is old notes here =
-    let longer : (x : Place) → IsAmong x (map f xs) → IsAmong x xs' = λ x among. subst (IsAmong x) (sym notes.front.1) (in_front x (map f xs) notes.front.0 among) in
+    let longer : (x : Place) → IsAmong x (map f xs) → IsAmong x xs' = λ x among. subst (IsAmong x) (sym notes.prefix.1) (prepended x (map f xs) notes.prefix.0 among) in
     let asks_here : (v : Text) → AsksForAt named (f y) v → AsksForAt named from v = old.leads (f y) here in record {
       started = longer from old.started;
       leads = λ x among v asks. elim (notes.reached x among) [
@@ -183,15 +183,15 @@ gathered_more f named from i xs y xs' vs vs' h is old notes here =
         | inl there ↦ old.told v there
         | inr new ↦ asks_here v (asks_itself named (f y) v (place_target named (f y)) refl new)
       ];
-      through = rw add-one (subst (λ l. AllByRecursion (IsThrough named xs' vs') (take (suc i) l)) (sym notes.front.1)
-          (next_all (IsThrough named xs' vs') f xs notes.front.0 i y h is (all_map _ _ (take i (map f xs)) (λ x t. (λ z r. longer z (t.0 z r), λ v r. notes.kept v (t.1 v r))) old.through) (notes.messages, notes.variables)));
+      through = rw add-one (subst (λ l. AllByRecursion (IsThrough named xs' vs') (take (suc i) l)) (sym notes.prefix.1)
+          (next_all (IsThrough named xs' vs') f xs notes.prefix.0 i y h is (all_map _ _ (take i (map f xs)) (λ x t. (λ z r. longer z (t.0 z r), λ v r. notes.kept v (t.1 v r))) old.through) (notes.messages, notes.variables)));
       distinct = notes.distinct old.distinct;
     }
   where
-    in_front : (x : Place) (ys rest : List Place) → IsAmong x ys → IsAmong x (ys ++ rest)
-    in_front x [] rest among = absurd among
-    in_front x (z ∷ zs) rest (inl same) = inl same
-    in_front x (z ∷ zs) rest (inr later) = inr (in_front x zs rest later)
+    prepended : (x : Place) (ys rest : List Place) → IsAmong x ys → IsAmong x (ys ++ rest)
+    prepended x [] rest among = absurd among
+    prepended x (z ∷ zs) rest (inl same) = inl same
+    prepended x (z ∷ zs) rest (inr later) = inr (prepended x zs rest later)
 
 -- ---- at the end
 

@@ -67,8 +67,8 @@ all_got P xs i x at all p = rw add-one (got_next P xs i x at all p)
 
 -- ---- those so far, with one more
 
-pub front : {A B : Type 0} (f : A → B) (xs : List A) (i : ℕ) (x : A) → i < length xs → x ≡ get_or xs i x → map f (take (i + 1) xs) ≡ map f (take i xs) ++ f x ∷ []
-front f xs i x h is = ap (map f) (take_more xs i x h) ∙ (map-append f (take i xs) (get_or xs i x ∷ []) ∙ ap (λ u. map f (take i xs) ++ f u ∷ []) (sym is))
+pub prefix : {A B : Type 0} (f : A → B) (xs : List A) (i : ℕ) (x : A) → i < length xs → x ≡ get_or xs i x → map f (take (i + 1) xs) ≡ map f (take i xs) ++ f x ∷ []
+prefix f xs i x h is = ap (map f) (take_more xs i x h) ∙ (map-append f (take i xs) (get_or xs i x ∷ []) ∙ ap (λ u. map f (take i xs) ++ f u ∷ []) (sym is))
 
 pub last_of : {B : Type 0} (x y : B) (ys : List B) → IsAmong x (ys ++ y ∷ []) → IsAmong x ys ⊎ (x ≡ y)
 last_of x y [] (inl here) = inr here
@@ -86,13 +86,13 @@ at_last y [] = inl refl
 at_last y (z ∷ zs) = inr (at_last y zs)
 
 pub so_far : {A B : Type 0} (f : A → B) (xs : List A) (i : ℕ) (x : A) (y : B) → i < length xs → x ≡ get_or xs i x → IsAmong y (map f (take (i + 1) xs)) → IsAmong y (map f (take i xs)) ⊎ (y ≡ f x)
-so_far f xs i x y h is among = last_of y (f x) (map f (take i xs)) (subst (IsAmong y) (front f xs i x h is) among)
+so_far f xs i x y h is among = last_of y (f x) (map f (take i xs)) (subst (IsAmong y) (prefix f xs i x h is) among)
 
 pub further : {A B : Type 0} (f : A → B) (xs : List A) (i : ℕ) (x : A) (y : B) → i < length xs → x ≡ get_or xs i x → IsAmong y (map f (take i xs)) → IsAmong y (map f (take (i + 1) xs))
-further f xs i x y h is among = subst (IsAmong y) (sym (front f xs i x h is)) (wider y (f x) (map f (take i xs)) among)
+further f xs i x y h is among = subst (IsAmong y) (sym (prefix f xs i x h is)) (wider y (f x) (map f (take i xs)) among)
 
 pub this_one : {A B : Type 0} (f : A → B) (xs : List A) (i : ℕ) (x : A) → i < length xs → x ≡ get_or xs i x → IsAmong (f x) (map f (take (i + 1) xs))
-this_one f xs i x h is = subst (IsAmong (f x)) (sym (front f xs i x h is)) (at_last (f x) (map f (take i xs)))
+this_one f xs i x h is = subst (IsAmong (f x)) (sym (prefix f xs i x h is)) (at_last (f x) (map f (take i xs)))
 
 pub no_items : {A : Type 0} (xs : List A) → length xs ≡ 0 → xs ≡ []
 no_items [] h = refl

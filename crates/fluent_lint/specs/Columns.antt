@@ -25,14 +25,14 @@ abbrev pub has_feed : List ℕ → Bool
 has_feed [] = false
 has_feed (b ∷ bs) = is_feed b || has_feed bs
 
--- what stands behind the last line feed, or all where there is none
-abbrev pub behind_last : List ℕ → List ℕ
-behind_last [] = []
-behind_last (b ∷ bs) = if has_feed bs then behind_last bs else (if is_feed b then bs else b ∷ bs)
+-- what stands after the last line feed, or all where there is none
+abbrev pub after_last : List ℕ → List ℕ
+after_last [] = []
+after_last (b ∷ bs) = if has_feed bs then after_last bs else (if is_feed b then bs else b ∷ bs)
 
 -- the line and the column of what follows these bytes
-abbrev pub line_behind : List ℕ → ℕ
-line_behind bs = 1 + feeds bs
+abbrev pub line_after : List ℕ → ℕ
+line_after bs = 1 + feeds bs
 
-abbrev pub column_behind : List ℕ → ℕ
-column_behind bs = 1 + characters (behind_last bs)
+abbrev pub column_after : List ℕ → ℕ
+column_after bs = 1 + characters (after_last bs)

@@ -16,6 +16,6 @@ need_view variants.Default = a_default
 abbrev pub needs_view : Vec code.Need Global → List Need
 needs_view list = map need_view list.items
 
--- the new list is the old one with these behind it
+-- the new list is the old one with these after it
 abbrev pub AddsNeeds : Vec code.Need Global → Vec code.Need Global → List Need → Type 0
 AddsNeeds old new these = needs_view new ≡ needs_view old ++ these

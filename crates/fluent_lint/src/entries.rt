@@ -15,7 +15,7 @@ use std::alloc::{AllocError, Global};
 ///
 /// # Errors
 ///
-/// Memory was refused.
+/// An allocation failed.
 pub fn places_of<'s>(alloc: Global, entries: &[Entry<'s>]) -> Result<Vec<Place<'s>>, AllocError>
     ensures { IfOk result (λ places. views places.items ≡ places_in (map entry_view entries.now)) }
 {

@@ -1,6 +1,6 @@
 //! Where a byte stands in a text.
 ghost use Rattle.std.specs.Prelude.{◌≡◌, take};
-ghost use Rattle.fluent_lint.specs.Columns.{column_behind, line_behind};
+ghost use Rattle.fluent_lint.specs.Columns.{column_after, line_after};
 
 /// A line and a column, each counted from 1. A column counts characters.
 #[derive(Clone, Copy, Drop)]
@@ -10,23 +10,23 @@ pub struct LineColumn {
 }
 
 /// The line and the column of the byte at an offset, as the one of what can't be read: the line feeds before it plus
-/// one, and the characters since the last of them plus one. Behind the end it is those of the end.
+/// one, and the characters since the last of them plus one. After the end it is those of the end.
 pub fn position(source: &str, offset: usize) -> LineColumn
-    ensures line { result.line ≡ line_behind (take offset source.now) }
-    ensures column { result.column ≡ column_behind (take offset source.now) }
+    ensures line { result.line ≡ line_after (take offset source.now) }
+    ensures column { result.column ≡ column_after (take offset source.now) }
 {
     let bytes = source.as_bytes();
     if offset < bytes.len() {
-        position_behind(&bytes[..offset])
+        position_after(&bytes[..offset])
     } else {
-        position_behind(bytes)
+        position_after(bytes)
     }
 }
 
-/// Where what stands behind these bytes is.
-fn position_behind(before: &[u8]) -> LineColumn
-    ensures line { result.line ≡ line_behind before.now }
-    ensures column { result.column ≡ column_behind before.now }
+/// Where what stands after these bytes is.
+fn position_after(before: &[u8]) -> LineColumn
+    ensures line { result.line ≡ line_after before.now }
+    ensures column { result.column ≡ column_after before.now }
 {
     let mut line: usize = 1;
     let mut column: usize = 1;

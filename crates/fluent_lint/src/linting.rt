@@ -30,7 +30,7 @@ pub(crate) enum Step<'s> {
 ///
 /// # Errors
 ///
-/// Memory was refused.
+/// An allocation failed.
 pub fn lint_places<'s, F, B: GetEntry<'s, F>>(
     alloc: Global,
     bundle: &B,

@@ -32,7 +32,7 @@ pub enum Need<'t, 's> {
 ///
 /// # Errors
 ///
-/// Memory was refused.
+/// An allocation failed.
 pub fn needs<'t, 's>(
     alloc: Global,
     pattern: &'t Pattern<'s>,
@@ -48,7 +48,7 @@ pub fn needs<'t, 's>(
 ///
 /// # Errors
 ///
-/// Memory was refused.
+/// An allocation failed.
 pub fn refers_to<'s>(
     alloc: Global,
     pattern: &Pattern<'s>,

@@ -1,4 +1,4 @@
-//! An order of places in which each stands behind those that it refers to.
+//! An order of places in which each stands after those that it refers to.
 //!
 //! The order says which place is worth looking at next. What is found doesn't rest on it, so no contract speaks of it.
 
@@ -15,7 +15,7 @@ struct Edges {
     waiting: Vec<usize>,
 }
 
-/// The places of a table, each behind those that it refers to; none that is on a cycle, or refers to such a one.
+/// The places of a table, each after those that it refers to; none that is on a cycle, or refers to such a one.
 pub(crate) fn in_order<'s, F, B: GetEntry<'s, F>>(
     alloc: Global,
     bundle: &B,
@@ -37,7 +37,7 @@ pub(crate) fn in_order<'s, F, B: GetEntry<'s, F>>(
     Ok(order)
 }
 
-/// Puts those behind a place that waited for it alone.
+/// Puts those after a place that waited for it alone.
 fn free(edges: &mut Edges, place: usize, order: &mut Vec<usize>) -> Result<(), AllocError> {
     let Some(from) = edges.from.get(place) else {
         return Ok(());

@@ -19,7 +19,7 @@ use std::alloc::{AllocError, Global};
 ///
 /// # Errors
 ///
-/// Memory was refused.
+/// An allocation failed.
 pub fn variables_of<'s, F, B: GetEntry<'s, F>>(
     alloc: Global,
     bundle: &B,

@@ -26,7 +26,7 @@ id_at rs d = option_and_then (λ r. option_and_then id_of (slice_get (entries_of
 abbrev pub IsBefore : Definition → Definition → Type 0
 IsBefore a b = (a.resource < b.resource) ⊎ ((a.resource ≡ b.resource) × (a.entry < b.entry))
 
--- Both entries have the id, one behind the other.
+-- Both entries have the id, one after the other.
 pub record IsTwice (rs : List FluentResource) (t : Twice) : Type 0 where
   pub first : id_at rs t.first ≡ Some t.id.now
   pub again : id_at rs t.again ≡ Some t.id.now

@@ -18,7 +18,7 @@ use std::alloc::{AllocError, Global};
 ///
 /// # Errors
 ///
-/// Memory was refused.
+/// An allocation failed.
 pub fn lint<
     'r,
     's: 'r,
@@ -46,7 +46,7 @@ pub fn lint<
 ///
 /// # Errors
 ///
-/// Memory was refused.
+/// An allocation failed.
 pub fn variables<
     'r,
     's: 'r,

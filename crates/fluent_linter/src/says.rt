@@ -1,7 +1,7 @@
 //! What linting a bundle says, by what the types of its parts state. Contracts alone name it.
 ghost use Rattle.std.specs.Prelude.{List, Result};
 ghost use Rattle.std.specs.Borrow.{Bor};
-ghost use Rattle.std.specs.declared.alloc.AllocError.{AllocError as Refused};
+ghost use Rattle.std.specs.declared.alloc.AllocError.{AllocError as AllocFailed};
 ghost use Rattle.std.specs.declared.vec.Vec.{Vec};
 ghost use Rattle.std.proofs.Common.{Global};
 ghost use Rattle.fluent_tree.specs.Tree.{Text};
@@ -16,10 +16,10 @@ use fluent_bundle::{
 /// Of a bundle.
 pub(crate) trait Says {
     /// Resources have these findings in it.
-    ghost lints: { Self → List FluentResource → Result (Vec Finding Global) Refused → Type 0 };
+    ghost lints: { Self → List FluentResource → Result (Vec Finding Global) AllocFailed → Type 0 };
 
     /// What stands at a place of it asks for these variables, each once.
-    ghost asks: { Self → Place → Result (Vec (Bor Text) Global) Refused → Type 0 };
+    ghost asks: { Self → Place → Result (Vec (Bor Text) Global) AllocFailed → Type 0 };
 }
 
 impl<

@@ -48,7 +48,7 @@ pub(crate) fn places_in<'s>(
 ///
 /// # Errors
 ///
-/// Memory was refused.
+/// An allocation failed.
 pub fn unreadable(
     alloc: Global,
     resource: &FluentResource<'_>,
@@ -66,7 +66,7 @@ pub fn unreadable(
 ///
 /// # Errors
 ///
-/// Memory was refused.
+/// An allocation failed.
 pub fn defined_twice<'s>(
     alloc: Global,
     resources: &[FluentResource<'s>],

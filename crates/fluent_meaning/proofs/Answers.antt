@@ -8,8 +8,8 @@ use Rattle.fluent_meaning.specs.Value.{Value, Custom, same, text_value, number_v
 use Rattle.fluent_meaning.specs.Arguments.{Map, get, set_all}
 use Rattle.fluent_meaning.specs.Bundle.{Bundle, term_target}
 use Rattle.fluent_meaning.specs.Walk.{Environment, local, inner, has_one, Steps, follow, elements, written, resolved, local_of, named, deep}
-use Rattle.fluent_meaning.specs.Meaning.{Budget, left, struck, Ran, within_budget, opening, unless_struck, ran, run, depth_of}
-use Rattle.fluent_meaning.specs.Users.{IsLiteral, AreLiteral, IsClosed, strikes_in}
+use Rattle.fluent_meaning.specs.Meaning.{Budget, left, limit_reached, Ran, within_budget, opening, unless_limit_reached, ran, run, depth_of}
+use Rattle.fluent_meaning.specs.Users.{IsLiteral, AreLiteral, IsClosed, reaches_limit_in}
 use Rattle.fluent_meaning.proofs.Related.{Relation, IsReported, elements_related}
 
 -- ---- none and error
@@ -73,32 +73,32 @@ module _ {C : Type 0} (S : Steps) (b : Bundle C) (below : Environment C → List
   unfolding elements
   term_same t a c h = ap (λ m. S.bind m (λ l. follow S b below env (local l) path (term t a c) t (term_target (get t b.ids) a))) (local_same c h)
 
--- ---- the strike's error
+-- ---- the limit's error
 
--- whether the limit was struck
-abbrev pub is_struck : Budget → ℕ
-is_struck (left n) = 0
-is_struck struck = 1
+-- whether the limit was reached
+abbrev pub is_limit_reached : Budget → ℕ
+is_limit_reached (left n) = 0
+is_limit_reached limit_reached = 1
 
-strikes_join : (es fs : List Error) → strikes_in (es ++ fs) ≡ strikes_in es + strikes_in fs
-strikes_join [] fs = omega arith
-strikes_join (e ∷ es) fs = omega (arith, strikes_join es fs)
+reaches_limit_join : (es fs : List Error) → reaches_limit_in (es ++ fs) ≡ reaches_limit_in es + reaches_limit_in fs
+reaches_limit_join [] fs = omega arith
+reaches_limit_join (e ∷ es) fs = omega (arith, reaches_limit_join es fs)
 
--- the strike's error comes where the budget goes from a number to struck, and nowhere else
+-- the limit's error comes where the budget goes from a number to the limit, and nowhere else
 abbrev Once : {A : Type 0} → (Budget → Ran A) → Type 0
-Once m = (b : Budget) → strikes_in (m b).errors + is_struck b ≡ is_struck (m b).budget
+Once m = (b : Budget) → reaches_limit_in (m b).errors + is_limit_reached b ≡ is_limit_reached (m b).budget
 
 once_bind : {A B : Type 0} (m : Budget → Ran A) (f : A → Budget → Ran B) → Once m → ((x : A) → Once (f x)) → Once (within_budget.bind m f)
-once_bind m f h j b = omega (arith, h b, j (m b).value (m b).budget, strikes_join (m b).errors (f (m b).value (m b).budget).errors)
+once_bind m f h j b = omega (arith, h b, j (m b).value (m b).budget, reaches_limit_join (m b).errors (f (m b).value (m b).budget).errors)
 
-once_element : (m n : Budget → Ran Text) → Once m → Once n → Once (unless_struck m n)
-once_element m n h j (left x) = omega (arith, h (left x), j (m (left x)).budget, strikes_join (m (left x)).errors (n (m (left x)).budget).errors)
-once_element m n h j struck = omega arith
+once_element : (m n : Budget → Ran Text) → Once m → Once n → Once (unless_limit_reached m n)
+once_element m n h j (left x) = omega (arith, h (left x), j (m (left x)).budget, reaches_limit_join (m (left x)).errors (n (m (left x)).budget).errors)
+once_element m n h j limit_reached = omega arith
 
 once_opens : (marked : Bool) (t : Text) (m : Budget → Ran Text) → Once m → Once (opening marked t m)
 once_opens marked t m h (left zero) = omega arith
 once_opens marked t m h (left (suc n)) = h (left n)
-once_opens marked t m h struck = omega arith
+once_opens marked t m h limit_reached = omega arith
 
 once_fails : {A : Type 0} (e : ResolverError) (x : A) → IsReported e → Once (within_budget.fails e x)
 once_fails (lost r) x i b = omega arith
@@ -107,8 +107,8 @@ once_fails missing_default x i b = omega arith
 once_fails cyclic x i b = omega arith
 once_fails too_many_placeables x i b = absurd i
 
-abbrev strikes_once : Relation within_budget within_budget
-strikes_once = record {
+abbrev reaches_limit_once : Relation within_budget within_budget
+reaches_limit_once = record {
   At = λ m n. Once m;
   Part = λ m n. Once m;
   In = λ m n. Once m;
@@ -130,12 +130,12 @@ module _ {C : Type 0} (b : Bundle C) where
   deep_once : (g : ℕ) (env : Environment C) (path : List Pattern) (p : Pattern) → Once (deep within_budget b g env path p)
   deep_once zero env path p budget = omega arith
   deep_once (suc g) env path p budget =
-      elements_related within_budget within_budget strikes_once b (deep within_budget b g) (deep within_budget b g) env (λ q. ⊤) (λ q. ⊤) (λ a id q e. tt) (λ a id q e. tt) (λ q p' u. tt) (λ env' path' q u k e. deep_once g env' _ q) (inner path p) (has_one p) p tt budget
+      elements_related within_budget within_budget reaches_limit_once b (deep within_budget b g) (deep within_budget b g) env (λ q. ⊤) (λ q. ⊤) (λ a id q e. tt) (λ a id q e. tt) (λ q p' u. tt) (λ env' path' q u k e. deep_once g env' _ q) (inner path p) (has_one p) p tt budget
 
-  struck_at_most : (x : Budget) → is_struck x ≤ 1
-  struck_at_most (left n) = omega arith
-  struck_at_most struck = omega arith
+  limit_reached_at_most : (x : Budget) → is_limit_reached x ≤ 1
+  limit_reached_at_most (left n) = omega arith
+  limit_reached_at_most limit_reached = omega arith
 
-  pub run_once : (env : Environment C) (path : List Pattern) (p : Pattern) (budget : Budget) → strikes_in (run b env path p budget).errors ≤ 1
+  pub run_once : (env : Environment C) (path : List Pattern) (p : Pattern) (budget : Budget) → reaches_limit_in (run b env path p budget).errors ≤ 1
   unfolding ran
-  run_once env path p budget = omega (arith, deep_once (depth_of budget) env path p budget, struck_at_most (run b env path p budget).budget)
+  run_once env path p budget = omega (arith, deep_once (depth_of budget) env path p budget, limit_reached_at_most (run b env path p budget).budget)

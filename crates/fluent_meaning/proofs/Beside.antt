@@ -7,7 +7,7 @@ use Rattle.fluent_meaning.specs.Value.{Value}
 use Rattle.fluent_meaning.specs.Arguments.{Map}
 use Rattle.fluent_meaning.specs.Bundle.{Bundle}
 use Rattle.fluent_meaning.specs.Walk.{Environment, application, is_on, inner, go, expression, called, whole}
-use Rattle.fluent_meaning.specs.Meaning.{Budget, left, struck, Ran, after_errors, after_text, closed, within_budget, unless_struck, opening, run}
+use Rattle.fluent_meaning.specs.Meaning.{Budget, left, limit_reached, Ran, after_errors, after_text, closed, within_budget, unless_limit_reached, opening, run}
 use Rattle.fluent_meaning.specs.Work.{Worked, work_element, work_opens, with_work, work}
 use Rattle.fluent_meaning.specs.Result.{tracked, maybe_tracked, arguments_of, written_pattern}
 use Rattle.fluent_meaning.proofs.Counted.{work_step}
@@ -17,14 +17,14 @@ use Rattle.fluent_meaning.proofs.Worked.{work_is_run}
 abbrev Same : {A : Type 0} → (Budget → Worked A) → (Budget → Ran A) → Type 0
 Same m k = (b : Budget) → (m b).ran ≡ k b
 
-same_element : (m n : Budget → Worked Text) (k l : Budget → Ran Text) → Same m k → Same n l → Same (work_element m n) (unless_struck k l)
+same_element : (m n : Budget → Worked Text) (k l : Budget → Ran Text) → Same m k → Same n l → Same (work_element m n) (unless_limit_reached k l)
 same_element m n k l h j (left x) = ap (after_text (m (left x)).ran) (j (m (left x)).ran.budget) ∙ ap (λ r. after_text r (l r.budget)) (h (left x))
-same_element m n k l h j struck = refl
+same_element m n k l h j limit_reached = refl
 
 same_opens : (marked : Bool) (t : Text) (m : Budget → Worked Text) (k : Budget → Ran Text) → Same m k → Same (work_opens marked t m) (opening marked t k)
 same_opens marked t m k h (left zero) = refl
 same_opens marked t m k h (left (suc n)) = ap (closed marked t) (h (left n))
-same_opens marked t m k h struck = refl
+same_opens marked t m k h limit_reached = refl
 
 same_bind : {A B : Type 0} (m : Budget → Worked A) (k : Budget → Ran A) (f : A → Budget → Worked B) (g : A → Budget → Ran B) → Same m k → ((x : A) → Same (f x) (g x)) → Same (with_work.bind m f) (within_budget.bind k g)
 same_bind m k f g h j b = ap (after_errors (m b).ran.errors) (j (m b).ran.value (m b).ran.budget) ∙ ap (λ r. after_errors r.errors (g r.value r.budget)) (h b)

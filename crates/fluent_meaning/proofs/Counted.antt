@@ -4,7 +4,7 @@ use Rattle.std.specs.Bool.{⊤}
 use Rattle.fluent_tree.specs.Tree.{Text, Pattern}
 use Rattle.fluent_meaning.specs.Bundle.{Bundle}
 use Rattle.fluent_meaning.specs.Walk.{Environment, has_one, inner, whole, deep}
-use Rattle.fluent_meaning.specs.Meaning.{Budget, left, struck, at_most, after_errors, after_text, closed}
+use Rattle.fluent_meaning.specs.Meaning.{Budget, left, limit_reached, at_most, after_errors, after_text, closed}
 use Rattle.fluent_meaning.specs.Work.{Worked, together, work_element, work_opens, with_work, worked, work}
 use Rattle.fluent_meaning.proofs.Related.{Relation, elements_related}
 
@@ -16,14 +16,14 @@ opens_alike n marked t m k h (left zero) u = (refl, omega arith)
 opens_alike n marked t m k h (left (suc b)) u =
     let here = h (left b) (omega (arith, u)) in
     (ap (λ (w : Worked Text). record w { ran = closed marked t w.ran; opened = w.opened + 1 }) here.0, omega (arith, here.1))
-opens_alike n marked t m k h struck u = (refl, omega arith)
+opens_alike n marked t m k h limit_reached u = (refl, omega arith)
 
 element_alike : (n : ℕ) (m k m' k' : Budget → Worked Text) → Alike n m m' → Alike n k k' → Alike n (work_element m k) (work_element m' k')
 element_alike n m k m' k' h j (left b) u =
     let here = h (left b) u in
     let then = j (m (left b)).ran.budget (omega (arith, u, here.1)) in
     (ap (λ v. together (m (left b)) v (after_text (m (left b)).ran v.ran)) then.0 ∙ ap (λ w. together w (k' w.ran.budget) (after_text w.ran (k' w.ran.budget).ran)) here.0, omega (arith, here.1, then.1))
-element_alike n m k m' k' h j struck u = (refl, omega arith)
+element_alike n m k m' k' h j limit_reached u = (refl, omega arith)
 
 bind_alike : (n : ℕ) {A B : Type 0} (m k : Budget → Worked A) (f g : A → Budget → Worked B) → Alike n m k → ((x : A) → Alike n (f x) (g x)) → Alike n (with_work.bind m f) (with_work.bind k g)
 bind_alike n m k f g h j b u =

@@ -1,7 +1,7 @@
 pub mod Related
 pub mod Budgets
 pub mod Deeper
-pub mod Strikes
+pub mod ReachesLimit
 pub mod Limits
 pub mod Worked
 pub mod Counted

@@ -7,7 +7,7 @@ use Rattle.fluent_tree.specs.Tree.{Text, Attribute, no_attribute, attribute}
 use Rattle.fluent_tree.specs.Fallback.{dotted, in_braces}
 use Rattle.fluent_intl.specs.Decimal.{text_places, place_digit, point_text, decimal_text}
 use Rattle.fluent_meaning.specs.Meaning.{first_mark, last_mark}
-use Rattle.fluent_meaning.specs.Marks.{at_front, marks, cut_off, is_whole, IsBalanced, IsBalancedAttribute}
+use Rattle.fluent_meaning.specs.Marks.{at_start, marks, cut_off, is_whole, IsBalanced, IsBalancedAttribute}
 
 and_left : (a b : Bool) → (a && b) ≡ true → a ≡ true
 and_left true b h = refl
@@ -21,19 +21,19 @@ not_true : (a : Bool) → not a ≡ true → a ≡ false
 not_true true h = absurd cc
 not_true false h = refl
 
-front_one : (last a : ℕ) (t : Text) → (a == 0xe2) ≡ false → at_front last (a ∷ t) ≡ false
-front_one last a [] h = refl
-front_one last a (b ∷ []) h = refl
-front_one last a (b ∷ c ∷ t) h = ap (λ x. x && b == 0x81 && c == last) h
+prefix_one : (last a : ℕ) (t : Text) → (a == 0xe2) ≡ false → at_start last (a ∷ t) ≡ false
+prefix_one last a [] h = refl
+prefix_one last a (b ∷ []) h = refl
+prefix_one last a (b ∷ c ∷ t) h = ap (λ x. x && b == 0x81 && c == last) h
 
-front_two : (last a b : ℕ) (t : Text) → (a == 0xe2 && b == 0x81) ≡ false → at_front last (a ∷ b ∷ t) ≡ false
-front_two last a b [] h = refl
-front_two last a b (c ∷ t) h = ap (λ x. x && c == last) h
+prefix_two : (last a b : ℕ) (t : Text) → (a == 0xe2 && b == 0x81) ≡ false → at_start last (a ∷ b ∷ t) ≡ false
+prefix_two last a b [] h = refl
+prefix_two last a b (c ∷ t) h = ap (λ x. x && c == last) h
 
-front_append : (last a : ℕ) (s t : Text) → cut_off (a ∷ s) ≡ false → at_front last (a ∷ (s ++ t)) ≡ at_front last (a ∷ s)
-front_append last a [] t h = front_one last a t h
-front_append last a (b ∷ []) t h = front_two last a b t h
-front_append last a (b ∷ c ∷ s) t h = refl
+prefix_append : (last a : ℕ) (s t : Text) → cut_off (a ∷ s) ≡ false → at_start last (a ∷ (s ++ t)) ≡ at_start last (a ∷ s)
+prefix_append last a [] t h = prefix_one last a t h
+prefix_append last a (b ∷ []) t h = prefix_two last a b t h
+prefix_append last a (b ∷ c ∷ s) t h = refl
 
 cut_one : (a : ℕ) (t : Text) → (a == 0xe2) ≡ false → cut_off (a ∷ t) ≡ false
 cut_one a [] h = h
@@ -50,8 +50,8 @@ marks_append : (last : ℕ) (s t : Text) → is_whole s ≡ true → marks last 
 marks_append last [] t h = omega arith
 marks_append last (a ∷ s) t h =
     let rest = marks_append last s t (and_right (not (cut_off (a ∷ s))) (is_whole s) h) in
-    let front = ap {B = ℕ} (λ x. (if x then 1 else 0)) (front_append last a s t (not_true _ (and_left _ _ h))) in
-    omega (arith, rest, front)
+    let prefix = ap {B = ℕ} (λ x. (if x then 1 else 0)) (prefix_append last a s t (not_true _ (and_left _ _ h))) in
+    omega (arith, rest, prefix)
 
 pub whole_append : (s t : Text) → is_whole s ≡ true → is_whole t ≡ true → is_whole (s ++ t) ≡ true
 whole_append [] t h j = j
@@ -82,7 +82,7 @@ small (b ∷ t) h =
     let rest = small t h.1 in
     let other = no_mark b h.0 in
     record {
-      balanced = ap (λ x. (if x then 1 else 0) + marks 0xa8 t) (front_one 0xa8 b t other) ∙ ap (λ n. 0 + n) rest.balanced ∙ sym (ap (λ x. (if x then 1 else 0) + marks 0xa9 t) (front_one 0xa9 b t other));
+      balanced = ap (λ x. (if x then 1 else 0) + marks 0xa8 t) (prefix_one 0xa8 b t other) ∙ ap (λ n. 0 + n) rest.balanced ∙ sym (ap (λ x. (if x then 1 else 0) + marks 0xa9 t) (prefix_one 0xa9 b t other));
       whole = ap (λ x. not x && is_whole t) (cut_one b t other) ∙ rest.whole;
     }
 

@@ -10,7 +10,7 @@ use Rattle.fluent_meaning.specs.Value.{Value, text_value, number_value, custom_v
 use Rattle.fluent_meaning.specs.Arguments.{Map, get, set_all, number_function}
 use Rattle.fluent_meaning.specs.Bundle.{Bundle, Entry, a_message, a_term, a_function, number_builtin, Function, Target, unknown, without_value, found, message_target, term_target, function_found, unless_formatted, shown, goes_to, stored}
 use Rattle.fluent_meaning.specs.Walk.{Environment, application, local, variables, is_on, inner, has_one, is_marked, loses_as, go, follow, missing, variable_text, variable_value, answer_text, function_text, function_value, elements, part, expression, matched, default_of, written, resolved, local_of, called, positional, named, deep}
-use Rattle.fluent_meaning.specs.Meaning.{Budget, left, struck, Ran, ending, first_mark, last_mark, within_budget, opening, unless_struck, ran}
+use Rattle.fluent_meaning.specs.Meaning.{Budget, left, limit_reached, Ran, ending, first_mark, last_mark, within_budget, opening, unless_limit_reached, ran}
 use Rattle.fluent_meaning.specs.Result.{written_pattern}
 use Rattle.fluent_meaning.specs.Users.{last_of}
 use Rattle.fluent_tree.specs.Tree.{Inlines, no_inlines, argument}
@@ -55,12 +55,12 @@ opens_balanced marked t m h j (left (suc n)) =
   where
     end : (x : Budget) → IsBalanced (ending t x)
     end (left k) = empty
-    end struck = braced t h
-opens_balanced marked t m h j struck = empty
+    end limit_reached = braced t h
+opens_balanced marked t m h j limit_reached = empty
 
-element_balanced : (m n : Budget → Ran Text) → Writes m → Writes n → Writes (unless_struck m n)
+element_balanced : (m n : Budget → Ran Text) → Writes m → Writes n → Writes (unless_limit_reached m n)
 element_balanced m n h j (left x) = joined _ _ (h (left x)) (j (m (left x)).budget)
-element_balanced m n h j struck = empty
+element_balanced m n h j limit_reached = empty
 
 module _ {C : Type 0} (b : Bundle C) (quiet : BringsNoMarks b) where
   abbrev IsQuietValue : Value C → Type 0

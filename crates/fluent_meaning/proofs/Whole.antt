@@ -1,4 +1,4 @@
--- A text of characters ends in no front of a mark.
+-- A text of characters ends in no prefix of a mark.
 use lib.Dec.{ltb}
 use lib.Utf8.{encode, encodes, next}
 use Rattle.std.proofs.Common.{◌≡◌, ℕ, ◌/◌, ◌==◌, ◌<◌, ◌&&◌, not, List, [], ◌∷◌, Bool, true, false, cond, refl, subst, ap, ◌∙◌, arith}

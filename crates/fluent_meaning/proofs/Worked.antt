@@ -9,10 +9,10 @@ use Rattle.fluent_meaning.specs.Value.{Value, text_value, number_value, custom_v
 use Rattle.fluent_meaning.specs.Arguments.{Map, get, set_all}
 use Rattle.fluent_meaning.specs.Bundle.{Bundle, Function, Target, unknown, without_value, found, message_target, term_target, function_found, goes_to, stored}
 use Rattle.fluent_meaning.specs.Walk.{Environment, application, local, variables, is_on, inner, has_one, loses_as, go, follow, missing, variable_text, variable_value, answer_text, function_text, function_value, as_value, elements, expression, matched, default_of, written, resolved, called, positional, named, deep}
-use Rattle.fluent_meaning.specs.Meaning.{Budget, left, struck, at_most, Ran, after_errors, after_text, closed, strike, nothing_more, within_budget, unless_struck, opening, ran, run}
+use Rattle.fluent_meaning.specs.Meaning.{Budget, left, limit_reached, at_most, Ran, after_errors, after_text, closed, at_limit, nothing_more, within_budget, unless_limit_reached, opening, ran, run}
 use Rattle.fluent_meaning.specs.Work.{Worked, counting, work_element, work_opens, with_work, worked, work, nodes, inline_nodes, arguments_nodes, positional_nodes, named_nodes, largest, largest_variant, variants_largest, inline_variants, arguments_variants, positional_variants, named_variants, largest_of, most_nodes}
 use Rattle.fluent_meaning.proofs.Related.{Relation, elements_related}
-use Rattle.fluent_meaning.proofs.Budgets.{deep_struck}
+use Rattle.fluent_meaning.proofs.Budgets.{deep_limit_reached}
 use Rattle.fluent_meaning.proofs.Deeper.{Stands, message_is_stored, term_is_stored}
 
 -- ---- the counted run is the run
@@ -20,14 +20,14 @@ use Rattle.fluent_meaning.proofs.Deeper.{Stands, message_is_stored, term_is_stor
 abbrev Same : {A : Type 0} → (Budget → Worked A) → (Budget → Ran A) → Type 0
 Same m k = (b : Budget) → (m b).ran ≡ k b
 
-same_element : (m n : Budget → Worked Text) (k l : Budget → Ran Text) → Same m k → Same n l → Same (work_element m n) (unless_struck k l)
+same_element : (m n : Budget → Worked Text) (k l : Budget → Ran Text) → Same m k → Same n l → Same (work_element m n) (unless_limit_reached k l)
 same_element m n k l h j (left x) = ap (after_text (m (left x)).ran) (j (m (left x)).ran.budget) ∙ ap (λ r. after_text r (l r.budget)) (h (left x))
-same_element m n k l h j struck = refl
+same_element m n k l h j limit_reached = refl
 
 same_opens : (marked : Bool) (t : Text) (m : Budget → Worked Text) (k : Budget → Ran Text) → Same m k → Same (work_opens marked t m) (opening marked t k)
 same_opens marked t m k h (left zero) = refl
 same_opens marked t m k h (left (suc n)) = ap (closed marked t) (h (left n))
-same_opens marked t m k h struck = refl
+same_opens marked t m k h limit_reached = refl
 
 same_bind : {A B : Type 0} (m : Budget → Worked A) (k : Budget → Ran A) (f : A → Budget → Worked B) (g : A → Budget → Ran B) → Same m k → ((x : A) → Same (f x) (g x)) → Same (with_work.bind m f) (within_budget.bind k g)
 same_bind m k f g h j b = ap (after_errors (m b).ran.errors) (j (m b).ran.value (m b).ran.budget) ∙ ap (λ r. after_errors r.errors (g r.value r.budget)) (h b)
@@ -60,7 +60,7 @@ module _ {C : Type 0} (b : Bundle C) where
   pub work_is_run : (env : Environment C) (path : List Pattern) (p : Pattern) (budget : Budget) → (work b env path p budget).ran ≡ run b env path p budget
   unfolding ran worked
   work_is_run env path p (left n) = deep_counts (suc n) env path p (left n)
-  work_is_run env path p struck = deep_counts 1 env path p struck ∙ deep_struck b 1 env path p
+  work_is_run env path p limit_reached = deep_counts 1 env path p limit_reached ∙ deep_limit_reached b 1 env path p
 
 -- ---- bounds
 
@@ -98,10 +98,10 @@ bounded_element E L m n h j (left x) =
       longest = omega (arith, here.opened, here.longest, then.longest);
       entered = omega (arith, here.entered, then.entered, add-mul (m (left x)).opened (n (m (left x)).ran.budget).opened E);
     }
-bounded_element E L m n h j struck = idle E L 0 struck nothing_more (omega arith)
+bounded_element E L m n h j limit_reached = idle E L 0 limit_reached nothing_more (omega arith)
 
 bounded_opens : (E L k : ℕ) (marked : Bool) (t : Text) (m : Budget → Worked Text) → k ≤ E → Bounded E (L + 1) k m → Bounded E L 0 (work_opens marked t m)
-bounded_opens E L k marked t m h j (left zero) = idle E L 0 (left 0) strike (omega arith)
+bounded_opens E L k marked t m h j (left zero) = idle E L 0 (left 0) at_limit (omega arith)
 bounded_opens E L k marked t m h j (left (suc n)) =
     let here = j (left n) in
     record {
@@ -109,7 +109,7 @@ bounded_opens E L k marked t m h j (left (suc n)) =
       longest = omega (arith, here.longest);
       entered = omega (arith, h, here.entered, add-mul (m (left n)).opened 1 E);
     }
-bounded_opens E L k marked t m h j struck = idle E L 0 struck nothing_more (omega arith)
+bounded_opens E L k marked t m h j limit_reached = idle E L 0 limit_reached nothing_more (omega arith)
 
 bounded_enters : (E L k : ℕ) (m : Budget → Worked Text) → Bounded E L k m → Bounded E L (k + 1) (with_work.enters L m)
 bounded_enters E L k m h b = record { opened = (h b).opened; longest = omega (arith, (h b).longest); entered = omega (arith, (h b).entered) }

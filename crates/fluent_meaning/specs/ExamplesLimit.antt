@@ -35,11 +35,11 @@ limited n es = bundle (set_placeable_limit n ∷ add_builtins ∷ add_resource e
 abbrev pub usual : List t.Entry → Bundle NoCustom
 usual es = bundle (add_builtins ∷ add_resource es ∷ [])
 
--- where the limit of 100 strikes, and what follows
+-- where the limit of 100 is reached, and what follows
 pub record Hundred : Type 0 where
-  pub struck_at_the_end : MessageGives (usual long) [] "m" (many 100 "a") (too_many ∷ [])
-  pub not_struck : MessageGives (usual long) [] "hundred" (many 100 "a") []
-  pub struck_below : MessageGives (usual long) [] "n" (codes "x" ++ (many 99 "a" ++ codes "{m}")) (too_many ∷ [])
+  pub limit_reached_at_the_end : MessageGives (usual long) [] "m" (many 100 "a") (too_many ∷ [])
+  pub not_limit_reached : MessageGives (usual long) [] "hundred" (many 100 "a") []
+  pub limit_reached_below : MessageGives (usual long) [] "n" (codes "x" ++ (many 99 "a" ++ codes "{m}")) (too_many ∷ [])
   pub within_below : MessageGives (usual long) [] "o" (codes "x" ++ (many 99 "a" ++ codes "y")) []
   pub arguments_go_on : MessageGives (usual long) [] "z" (codes "NUMBER(){NUMBER()}") (too_many ∷ unknown_variable "q" ∷ [])
   pub nested_fallback : MessageGives (usual long) [] "q" (codes "x" ++ (F ++ (many 99 "a" ++ (codes "{m}" ++ P)))) (too_many ∷ [])

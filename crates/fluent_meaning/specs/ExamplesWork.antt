@@ -1,4 +1,4 @@
--- Worked examples: what is meant without a limit, what stands at the strike, the work of a run and the sizes that bound it, and the calls of a scope.
+-- Worked examples: what is meant without a limit, what stands at the limit, the work of a run and the sizes that bound it, and the calls of a scope.
 use Prim.Native.String.{String}
 use Rattle.std.specs.Prelude.{◌≡◌, ℕ, List, [], ◌∷◌, ◌++◌, map, Some, None, codes}
 use Rattle.fluent_tree.specs.Tree as t
@@ -7,8 +7,8 @@ use Rattle.fluent_meaning.specs.Errors.{Error, resolver_error, too_many_placeabl
 use Rattle.fluent_meaning.specs.Value.{error_value}
 use Rattle.fluent_meaning.specs.Bundle.{Bundle, add_resource, add_function, stored}
 use Rattle.fluent_meaning.specs.Walk.{application, local}
-use Rattle.fluent_meaning.specs.Meaning.{Budget, Outcome, Ran, left, struck, meaning}
-use Rattle.fluent_meaning.specs.Strike.{Until, passed, stopped, up_to_strike}
+use Rattle.fluent_meaning.specs.Meaning.{Budget, Outcome, Ran, left, limit_reached, meaning}
+use Rattle.fluent_meaning.specs.Limit.{Until, passed, stopped, up_to_limit}
 use Rattle.fluent_meaning.specs.Work.{work, nodes, largest, most_nodes}
 use Rattle.fluent_meaning.specs.Result.{tracked, maybe_tracked, arguments_of}
 use Rattle.fluent_meaning.specs.Examples.{NoCustom, say, put, var, str, num, msg, own, own_with, fun, named, case, default, choose, times, entry, private, bundle, value_of, with, words, whole, first_argument, F, P}
@@ -54,13 +54,13 @@ pub record Substituted : Type 0 where
   pub arguments_in_order : means small (value_of small "two_arguments") ≡ outcome (codes "FIRST()") (missing ∷ without "r" ∷ []) 1
   pub each_stored_once : means chain (pattern_of (put (msg "a") ∷ [])) ≡ outcome (codes "x") [] 4
 
--- ---- up to the strike
+-- ---- up to the limit
 
 abbrev pub stops : String → ℕ → Until Text
-stops id n = up_to_strike small (application []) [] (value_of small id) n
+stops id n = up_to_limit small (application []) [] (value_of small id) n
 
--- the text before the strike, the errors before it, and what closes the open placeables, innermost first
-pub record Strikes : Type 0 where
+-- the text before the limit, the errors before it, and what closes the open placeables, innermost first
+pub record ReachesLimit : Type 0 where
   pub all_opened : stops "n" 4 ≡ passed (codes "xaaay") [] 0
   pub some_left : stops "n" 6 ≡ passed (codes "xaaay") [] 2
   pub below : stops "n" 3 ≡ stopped (codes "xaa") [] (codes "{m}")
@@ -81,15 +81,15 @@ abbrev pub counts : String → ℕ → ℕ × (ℕ × ℕ)
 counts id n = let w = work small (application []) [] (value_of small id) (left n) in (w.opened, (w.longest, w.entered))
 
 pub record Counts : Type 0 where
-  pub not_struck : counts "n" 10 ≡ (4, (2, 2))
-  pub struck_below : counts "n" 3 ≡ (3, (2, 2))
-  pub struck_at_once : counts "n" 0 ≡ (0, (1, 1))
+  pub not_limit_reached : counts "n" 10 ≡ (4, (2, 2))
+  pub limit_reached_below : counts "n" 3 ≡ (3, (2, 2))
+  pub limit_reached_at_once : counts "n" 0 ≡ (0, (1, 1))
   pub one_below_the_other : counts "nested" 10 ≡ (5, (3, 3))
   pub one_after_the_other : counts "twice" 10 ≡ (2, (2, 3))
   pub variant : counts "select" 10 ≡ (5, (2, 3))
   pub default_variant : counts "default" 10 ≡ (5, (2, 3))
-  pub beside_the_run : (work small (application []) [] (value_of small "n") (left 3)).ran ≡ result (codes "xaa{m}") (resolver_error too_many_placeables ∷ []) struck
-  pub after_the_strike : counts "again" 1 ≡ (1, (2, 3))
+  pub beside_the_run : (work small (application []) [] (value_of small "n") (left 3)).ran ≡ result (codes "xaa{m}") (resolver_error too_many_placeables ∷ []) limit_reached
+  pub after_the_limit : counts "again" 1 ≡ (1, (2, 3))
 
 -- ---- sizes
 
@@ -159,8 +159,8 @@ pub record Scopes : Type 0 where
   pub then_on_the_path : tracks (value "n" ∷ []) "foo" 5 ≡ result (codes "{foo}") (resolver_error cyclic ∷ []) (left 4)
   pub below_the_path : tracks (value "n" ∷ []) "nested" 5 ≡ result (codes "u" ++ (F ++ (codes "{n}" ++ P))) (resolver_error cyclic ∷ []) (left 4)
   pub within : maybe_tracks [] "n" "m" (left 5) ≡ result (codes "aaa") [] (left 2)
-  pub struck_there : maybe_tracks [] "n" "m" (left 2) ≡ result (codes "aa{m}") (resolver_error too_many_placeables ∷ []) struck
-  pub struck_before : maybe_tracks [] "n" "m" struck ≡ result (codes "{m}") [] struck
+  pub limit_reached_there : maybe_tracks [] "n" "m" (left 2) ≡ result (codes "aa{m}") (resolver_error too_many_placeables ∷ []) limit_reached
+  pub limit_reached_before : maybe_tracks [] "n" "m" limit_reached ≡ result (codes "{m}") [] limit_reached
   pub under_itself : maybe_tracks [] "foo" "foo" (left 5) ≡ result (codes "{foo}") (resolver_error cyclic ∷ []) (left 5)
   pub under_another : maybe_tracks (value "n" ∷ []) "foo" "foo" (left 5) ≡ result (codes "{foo}") (resolver_error cyclic ∷ []) (left 4)
   pub of_a_term : maybe_tracked small (local (with "v" (whole 1))) [] (value "n") (inline (var "v")) (left 5) ≡ result (codes "1") [] (left 5)

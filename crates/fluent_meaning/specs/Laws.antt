@@ -7,8 +7,8 @@ use Rattle.fluent_meaning.specs.Value.{Value}
 use Rattle.fluent_meaning.specs.Arguments.{Map}
 use Rattle.fluent_meaning.specs.Bundle.{Bundle, stored}
 use Rattle.fluent_meaning.specs.Walk.{Environment, application, is_on, inner, go, expression, called, whole}
-use Rattle.fluent_meaning.specs.Meaning.{Budget, left, struck, at_most, closed, Outcome, Ran, nothing_more, within_budget, run, substituted, meaning}
-use Rattle.fluent_meaning.specs.Strike.{Until, passed, stopped, up_to_strike}
+use Rattle.fluent_meaning.specs.Meaning.{Budget, left, limit_reached, at_most, closed, Outcome, Ran, nothing_more, within_budget, run, substituted, meaning}
+use Rattle.fluent_meaning.specs.Limit.{Until, passed, stopped, up_to_limit}
 use Rattle.fluent_meaning.specs.Work.{with_work, work, most_nodes}
 use Rattle.fluent_meaning.specs.Result.{written_pattern, tracked, maybe_tracked, arguments_of}
 
@@ -28,18 +28,18 @@ pub record CallsByThemselves (C : Type 0) : Type 0 where
   pub arguments : (b : Bundle C) (env : Environment C) (path : List Pattern) (a : Arguments) (budget : Budget) → arguments_of b env path a budget ≡ (called with_work b (work b) env path a budget).ran
   pub pattern : (b : Bundle C) (args : Map (Value C)) (p : Pattern) → written_pattern b args p ≡ (whole with_work b (work b) (application args) [] p (left b.limit)).ran
 
--- A run never adds to its budget, and struck stays struck.
+-- A run never adds to its budget, and a limit that was reached stays so.
 pub record NeverAdds (C : Type 0) : Type 0 where
   pub less : (b : Bundle C) (env : Environment C) (path : List Pattern) (p : Pattern) (budget : Budget) → at_most (run b env path p budget).budget ≤ at_most budget
-  pub stays : (b : Bundle C) (env : Environment C) (path : List Pattern) (p : Pattern) → run b env path p struck ≡ nothing_more
+  pub stays : (b : Bundle C) (env : Environment C) (path : List Pattern) (p : Pattern) → run b env path p limit_reached ≡ nothing_more
 
 -- From the count of stored patterns plus one on, every depth gives the same outcome by substitution.
 abbrev pub IsSettled : Type 0 → Type 0
 IsSettled C = (b : Bundle C) (n : ℕ) (env : Environment C) (path : List Pattern) (p : Pattern) → length (stored b) < n → substituted b n env path p ≡ meaning b env path p
 
--- The budget is struck exactly where more is opened than the limit.
-abbrev pub StrikesBeyond : Type 0 → Type 0
-StrikesBeyond C = (b : Bundle C) (env : Environment C) (path : List Pattern) (p : Pattern) (limit : ℕ) → (run b env path p (left limit)).budget ≡ struck ↔ limit < (meaning b env path p).opened
+-- The limit is reached exactly where more is opened than the limit.
+abbrev pub ReachesLimitBeyond : Type 0 → Type 0
+ReachesLimitBeyond C = (b : Bundle C) (env : Environment C) (path : List Pattern) (p : Pattern) (limit : ℕ) → (run b env path p (left limit)).budget ≡ limit_reached ↔ limit < (meaning b env path p).opened
 
 -- Where no more is opened, text and errors are the same, and what is left is the limit less what was opened.
 abbrev pub SameWithin : Type 0 → Type 0
@@ -49,22 +49,22 @@ SameWithin C = (b : Bundle C) (env : Environment C) (path : List Pattern) (p : P
 abbrev pub Begins : {A : Type 0} → List A → List A → Type 0
 Begins {A} xs ys = (rest : List A) × (ys ≡ xs ++ rest)
 
--- A run was struck: its text is the text at the strike, some text, and what closes the opened placeables; its errors are those before the strike, the strike's, and some more.
+-- A run reached the limit: its text is the text at the limit, some text, and what closes the opened placeables; its errors are those before the limit, the limit's, and some more.
 pub record Stops (t : Text) (es : List Error) (closing : Text) (r : Ran Text) : Type 0 where
-  pub budget : r.budget ≡ struck
+  pub budget : r.budget ≡ limit_reached
   pub more : List Error
   pub errors : r.errors ≡ es ++ resolver_error too_many_placeables ∷ more
   pub middle : Text
   pub text : r.value ≡ t ++ (middle ++ closing)
 
--- The text at the strike and the errors before it begin both meanings.
-abbrev pub IsStrikeOf : Until Text → Outcome Text → Ran Text → Type 0
-IsStrikeOf (passed x es n) o r = ⊥
-IsStrikeOf (stopped t es closing) o r = Begins t o.value × Begins es o.errors × Stops t es closing r
+-- The text at the limit and the errors before it begin both meanings.
+abbrev pub IsLimitOf : Until Text → Outcome Text → Ran Text → Type 0
+IsLimitOf (passed x es n) o r = ⊥
+IsLimitOf (stopped t es closing) o r = Begins t o.value × Begins es o.errors × Stops t es closing r
 
-abbrev pub StrikeBeginsBoth : Type 0 → Type 0
-StrikeBeginsBoth C = (b : Bundle C) (env : Environment C) (path : List Pattern) (p : Pattern) (limit : ℕ) → limit < (meaning b env path p).opened →
-    IsStrikeOf (up_to_strike b env path p limit) (meaning b env path p) (run b env path p (left limit))
+abbrev pub LimitBeginsBoth : Type 0 → Type 0
+LimitBeginsBoth C = (b : Bundle C) (env : Environment C) (path : List Pattern) (p : Pattern) (limit : ℕ) → limit < (meaning b env path p).opened →
+    IsLimitOf (up_to_limit b env path p limit) (meaning b env path p) (run b env path p (left limit))
 
 -- A run with a limit opens at most so many placeables, its path grows by at most so many patterns, and each opened placeable enters at most as many patterns as its expression has nodes.
 pub record IsBounded {C : Type 0} (b : Bundle C) (env : Environment C) (path : List Pattern) (p : Pattern) (limit : ℕ) : Type 0 where

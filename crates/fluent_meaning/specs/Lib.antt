@@ -5,7 +5,7 @@ pub mod Arguments
 pub mod Bundle
 pub mod Walk
 pub mod Meaning
-pub mod Strike
+pub mod Limit
 pub mod Work
 pub mod Result
 pub mod Laws

@@ -8,22 +8,22 @@ use Rattle.fluent_meaning.specs.Arguments.{Map, get}
 use Rattle.fluent_meaning.specs.Bundle.{Bundle, a_function, Function, stored}
 use Rattle.fluent_meaning.specs.Result.{written_pattern}
 
--- a mark with this last byte stands at the front
-abbrev pub at_front : ℕ → Text → Bool
-at_front last (a ∷ b ∷ c ∷ t) = a == 0xe2 && b == 0x81 && c == last
-at_front last _ = false
+-- a mark with this last byte stands at the start
+abbrev pub at_start : ℕ → Text → Bool
+at_start last (a ∷ b ∷ c ∷ t) = a == 0xe2 && b == 0x81 && c == last
+at_start last _ = false
 
 -- how often a mark with this last byte stands in a text
 abbrev pub marks : ℕ → Text → ℕ
 marks last [] = 0
-marks last (b ∷ t) = (if at_front last (b ∷ t) then 1 else 0) + marks last t
+marks last (b ∷ t) = (if at_start last (b ∷ t) then 1 else 0) + marks last t
 
 abbrev pub cut_off : Text → Bool
 cut_off (a ∷ []) = a == 0xe2
 cut_off (a ∷ b ∷ []) = a == 0xe2 && b == 0x81
 cut_off _ = false
 
--- no front of a mark stands at the end, as in every UTF-8 text
+-- no prefix of a mark stands at the end, as in every UTF-8 text
 abbrev pub is_whole : Text → Bool
 is_whole [] = true
 is_whole (b ∷ t) = not (cut_off (b ∷ t)) && is_whole t

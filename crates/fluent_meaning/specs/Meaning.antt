@@ -34,16 +34,16 @@ by_substitution = record {
   enters = λ length m. m;
 }
 
--- ---- WITH A BUDGET: how many placeables may still be opened, or struck, once one more was tried
+-- ---- WITH A BUDGET: how many placeables may still be opened, or that the limit was reached, once one more was tried
 
 pub data Budget : Type 0 where
   left : ℕ → Budget
-  struck : Budget
+  limit_reached : Budget
 
 -- how many may still be opened
 abbrev pub at_most : Budget → ℕ
 at_most (left n) = n
-at_most struck = 0
+at_most limit_reached = 0
 
 pub record Ran (A : Type 0) : Type 0 where
   pub value : A
@@ -56,30 +56,30 @@ after_errors es r = record { value = r.value; errors = es ++ r.errors; budget = 
 abbrev pub after_text : Ran Text → Ran Text → Ran Text
 after_text m r = record { value = m.value ++ r.value; errors = m.errors ++ r.errors; budget = r.budget }
 
--- a placeable that was open ends with its fallback in braces where the limit was struck in it
+-- a placeable that was open ends with its fallback in braces where the limit was reached in it
 abbrev pub ending : Text → Budget → Text
 ending fallback (left n) = []
-ending fallback struck = in_braces fallback
+ending fallback limit_reached = in_braces fallback
 
 abbrev pub closed : Bool → Text → Ran Text → Ran Text
 closed marked fallback r = record { value = first_mark marked ++ (r.value ++ (ending fallback r.budget ++ last_mark marked)); errors = r.errors; budget = r.budget }
 
-abbrev pub strike : Ran Text
-strike = record { value = []; errors = resolver_error too_many_placeables ∷ []; budget = struck }
+abbrev pub at_limit : Ran Text
+at_limit = record { value = []; errors = resolver_error too_many_placeables ∷ []; budget = limit_reached }
 
 abbrev pub nothing_more : Ran Text
-nothing_more = record { value = []; errors = []; budget = struck }
+nothing_more = record { value = []; errors = []; budget = limit_reached }
 
--- at 0 the limit is struck; else one less is left for the expression
+-- at 0 the limit is reached; else one less is left for the expression
 abbrev pub opening : Bool → Text → (Budget → Ran Text) → Budget → Ran Text
-opening marked fallback m (left zero) = strike
+opening marked fallback m (left zero) = at_limit
 opening marked fallback m (left (suc n)) = closed marked fallback (m (left n))
-opening marked fallback m struck = nothing_more
+opening marked fallback m limit_reached = nothing_more
 
--- a pattern gives nothing more once the limit was struck
-abbrev pub unless_struck : (Budget → Ran Text) → (Budget → Ran Text) → Budget → Ran Text
-unless_struck m rest (left n) = let r = m (left n) in after_text r (rest r.budget)
-unless_struck m rest struck = nothing_more
+-- a pattern gives nothing more once the limit was reached
+abbrev pub unless_limit_reached : (Budget → Ran Text) → (Budget → Ran Text) → Budget → Ran Text
+unless_limit_reached m rest (left n) = let r = m (left n) in after_text r (rest r.budget)
+unless_limit_reached m rest limit_reached = nothing_more
 
 abbrev pub within_budget : Steps
 within_budget = record {
@@ -87,7 +87,7 @@ within_budget = record {
   give = λ x b. record { value = x; errors = []; budget = b };
   fails = λ e x b. record { value = x; errors = resolver_error e ∷ []; budget = b };
   bind = λ m f b. let r = m b in after_errors r.errors (f r.value r.budget);
-  element = unless_struck;
+  element = unless_limit_reached;
   opens = opening;
   enters = λ length m b. m b;
 }
@@ -111,7 +111,7 @@ ran = deep within_budget
 -- each reference stands in a placeable, so none is deeper than the budget
 abbrev pub depth_of : Budget → ℕ
 depth_of (left n) = suc n
-depth_of struck = 0
+depth_of limit_reached = 0
 
 abbrev pub run : {C : Type 0} → Bundle C → Environment C → List Pattern → Pattern → Budget → Ran Text
 run b env path p budget = ran b (depth_of budget) env path p budget

@@ -26,7 +26,7 @@ formatted b t = unless_formatted (b.formatter (text_value t)) t
 abbrev pub tracked : {C : Type 0} → Bundle C → Environment C → List Pattern → Pattern → Inline → Budget → Ran Text
 tracked b env path p x = go within_budget b (run b) env (is_on path p) env path x p
 
--- the expression of a placeable of a pattern, with its fallback where it leaves the budget struck
+-- the expression of a placeable of a pattern, with its fallback where the limit is reached after it
 abbrev pub maybe_tracked : {C : Type 0} → Bundle C → Environment C → List Pattern → Pattern → Expression → Budget → Ran Text
 maybe_tracked b env path p e budget = closed false (fallback_of e) (expression within_budget b (run b) env (inner path p) e budget)
 

@@ -14,7 +14,7 @@ use Rattle.fluent_intl.specs.declared.operands.PluralOperands.{PluralOperands}
 use Rattle.fluent_intl.specs.declared.plurals.PluralRuleType.{PluralRuleType}
 use Rattle.fluent_meaning.specs.Meaning as meanings
 use Rattle.fluent_meaning.specs.Walk.{Environment, written}
-use Rattle.fluent_meaning.specs.Meaning.{Budget, left, struck, Outcome, Ran, by_substitution, within_budget, run, substituted, meaning}
+use Rattle.fluent_meaning.specs.Meaning.{Budget, left, limit_reached, Outcome, Ran, by_substitution, within_budget, run, substituted, meaning}
 use Rattle.fluent_meaning.specs.Result.{written_pattern}
 
 -- ---- arguments
@@ -103,24 +103,24 @@ pub record TermsAreClosed (C : Type 0) : Type 0 where
   pub substituted : (b : Bundle C) (n : ℕ) (env env' : Environment C) (path : List Pattern) (id : Text) (a : Attribute) (c : Call) → IsClosed c →
       written by_substitution b (meanings.substituted b n) env path (term id a c) ≡ written by_substitution b (meanings.substituted b n) env' path (term id a c)
 
--- ---- the strike
+-- ---- the limit
 
-abbrev pub is_strike : Error → ℕ
-is_strike (resolver_error too_many_placeables) = 1
-is_strike (resolver_error (lost r)) = 0
-is_strike (resolver_error (errors.no_value id)) = 0
-is_strike (resolver_error missing_default) = 0
-is_strike (resolver_error cyclic) = 0
-is_strike (overriding kind id) = 0
-is_strike (parser_error start end) = 0
+abbrev pub is_limit : Error → ℕ
+is_limit (resolver_error too_many_placeables) = 1
+is_limit (resolver_error (lost r)) = 0
+is_limit (resolver_error (errors.no_value id)) = 0
+is_limit (resolver_error missing_default) = 0
+is_limit (resolver_error cyclic) = 0
+is_limit (overriding kind id) = 0
+is_limit (parser_error start end) = 0
 
-abbrev pub strikes_in : List Error → ℕ
-strikes_in [] = 0
-strikes_in (e ∷ es) = is_strike e + strikes_in es
+abbrev pub reaches_limit_in : List Error → ℕ
+reaches_limit_in [] = 0
+reaches_limit_in (e ∷ es) = is_limit e + reaches_limit_in es
 
--- The strike's error comes at most once in a run.
-abbrev pub StrikesOnce : Type 0 → Type 0
-StrikesOnce C = (b : Bundle C) (env : Environment C) (path : List Pattern) (p : Pattern) (budget : Budget) → strikes_in (run b env path p budget).errors ≤ 1
+-- The limit's error comes at most once in a run.
+abbrev pub ReachesLimitOnce : Type 0 → Type 0
+ReachesLimitOnce C = (b : Bundle C) (env : Environment C) (path : List Pattern) (p : Pattern) (budget : Budget) → reaches_limit_in (run b env path p budget).errors ≤ 1
 
 -- ---- bundles that answer alike
 

@@ -3,7 +3,7 @@ use Rattle.std.specs.Prelude.{ℕ, zero, suc, ◌+◌, max, List, [], ◌∷◌,
 use Rattle.fluent_tree.specs.Tree.{Text, Pattern, nothing, more, text, placeable, Expression, inline, select, Variants, no_variants, variant, Inline, string, number, function, message, term, variable, nested, no_call, call, Arguments, arguments, Inlines, no_inlines, argument, Nameds, no_nameds, named_argument}
 use Rattle.fluent_meaning.specs.Bundle.{Bundle, stored}
 use Rattle.fluent_meaning.specs.Walk.{Environment, Steps, deep}
-use Rattle.fluent_meaning.specs.Meaning.{Budget, left, struck, at_most, Ran, after_errors, after_text, closed, strike, nothing_more, within_budget}
+use Rattle.fluent_meaning.specs.Meaning.{Budget, left, limit_reached, at_most, Ran, after_errors, after_text, closed, at_limit, nothing_more, within_budget}
 
 -- a run beside its counts
 pub record Worked (A : Type 0) : Type 0 where
@@ -21,12 +21,12 @@ together m k r = record { ran = r; opened = m.opened + k.opened; longest = max m
 
 abbrev pub work_element : (Budget → Worked Text) → (Budget → Worked Text) → Budget → Worked Text
 work_element m rest (left n) = let w = m (left n) in let v = rest w.ran.budget in together w v (after_text w.ran v.ran)
-work_element m rest struck = counting 0 0 0 nothing_more
+work_element m rest limit_reached = counting 0 0 0 nothing_more
 
 abbrev pub work_opens : Bool → Text → (Budget → Worked Text) → Budget → Worked Text
-work_opens marked fallback m (left zero) = counting 0 0 0 strike
+work_opens marked fallback m (left zero) = counting 0 0 0 at_limit
 work_opens marked fallback m (left (suc n)) = let w = m (left n) in record w { ran = closed marked fallback w.ran; opened = w.opened + 1 }
-work_opens marked fallback m struck = counting 0 0 0 nothing_more
+work_opens marked fallback m limit_reached = counting 0 0 0 nothing_more
 
 -- the budgeted meaning with its counts
 abbrev pub with_work : Steps

@@ -40,10 +40,10 @@ pub fn limits()
     ensures others { limits.Limits }
 {}
 
-/// What is meant without a limit, what stands at the strike, the work of a run and the sizes that bound it, and the calls of a scope.
+/// What is meant without a limit, what stands at the limit, the work of a run and the sizes that bound it, and the calls of a scope.
 pub fn work_and_scopes()
     ensures substituted { work.Substituted }
-    ensures strikes { work.Strikes }
+    ensures reaches_limit { work.ReachesLimit }
     ensures counts { work.Counts }
     ensures sizes { work.Sizes }
     ensures scopes { work.Scopes }

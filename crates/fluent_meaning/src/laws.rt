@@ -7,19 +7,19 @@ ghost use Rattle.std.specs.Prelude.{◌≡◌, true};
 ghost use Rattle.fluent_meaning.specs.Value.{Value};
 ghost use Rattle.fluent_meaning.specs.Bundle.{Entry};
 ghost use Rattle.fluent_meaning.specs.Marks.{MarksAreBalanced, TextsAreWhole, is_whole};
-ghost use Rattle.fluent_meaning.specs.Users.{IsMap, MeansOneThing, AddingKeeps, LastWins, CutsAlike, NothingIsSame, TermsAreClosed, StrikesOnce, AlikeGiveTheSame, ReadsAsDefined};
-ghost use Rattle.fluent_meaning.specs.Laws.{RunsByItself, CountsByItself, CallsByThemselves, NeverAdds, IsSettled, StrikesBeyond, SameWithin, StrikeBeginsBoth, WorkIsBounded};
+ghost use Rattle.fluent_meaning.specs.Users.{IsMap, MeansOneThing, AddingKeeps, LastWins, CutsAlike, NothingIsSame, TermsAreClosed, ReachesLimitOnce, AlikeGiveTheSame, ReadsAsDefined};
+ghost use Rattle.fluent_meaning.specs.Laws.{RunsByItself, CountsByItself, CallsByThemselves, NeverAdds, IsSettled, ReachesLimitBeyond, SameWithin, LimitBeginsBoth, WorkIsBounded};
 
 /// The work of each run is bounded by its limit.
 pub fn work_is_bounded<C>()
     ensures { WorkIsBounded C }
 {}
 
-/// Where the budget is struck, and what the meanings have in common.
+/// Where the limit is reached, and what the meanings have in common.
 pub fn meanings_agree<C>()
-    ensures beyond { StrikesBeyond C }
+    ensures beyond { ReachesLimitBeyond C }
     ensures within { SameWithin C }
-    ensures begins { StrikeBeginsBoth C }
+    ensures begins { LimitBeginsBoth C }
 {}
 
 /// The substitution meaning is settled.
@@ -47,7 +47,7 @@ pub fn users_rely_on<C>()
     ensures cuts { CutsAlike C }
     ensures values { NothingIsSame C }
     ensures terms { TermsAreClosed C }
-    ensures strikes { StrikesOnce C }
+    ensures reaches_limit { ReachesLimitOnce C }
     ensures alike { AlikeGiveTheSame C }
 {}
 
@@ -56,7 +56,7 @@ pub fn marks_are_balanced<C>()
     ensures { MarksAreBalanced C }
 {}
 
-/// No text of characters ends in the front of a mark.
+/// No text of characters ends in the prefix of a mark.
 pub fn texts_are_whole()
     ensures { TextsAreWhole }
 {}

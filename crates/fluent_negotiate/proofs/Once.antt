@@ -7,7 +7,7 @@ use Rattle.std.specs.Prelude.{not, ◌||◌}
 use Rattle.std.specs.List.{filter, filter_map, list_any}
 use Rattle.fluent_text.specs.Parser.{Text}
 use Rattle.fluent_negotiate.specs.Lookup.{each_once}
-use Rattle.fluent_negotiate.specs.Inside.Adding.{with_place}
+use Rattle.fluent_negotiate.specs.Inside.PlaceAmong.{with_place}
 
 -- the numbers but this one
 abbrev without : ℕ → List ℕ → List ℕ
@@ -21,7 +21,7 @@ any-without x p apart (m ∷ xs) = ⊎_elim
     (λ other. rw other.0 (ap (λ b. (m == p) || b) (any-without x p apart xs)))
     (eqb_tells m x)
 
--- a number behind them, unless it is there
+-- a number after them, unless it is there
 push_same : (x : ℕ) (b : Bool) (xs : List ℕ) → without x (if b then xs else xs ++ x ∷ []) ≡ without x xs
 push_same x true xs = refl
 push_same x false xs =
@@ -67,9 +67,9 @@ module _ (h : Text → Option ℕ) where
   pub some_before : {R : Type 0} (text : R → Text) (rs : List R) (i : ℕ) (r : R) (last : Text) (p : ℕ) → i < length rs → get_or rs i r ≡ r → h (text r) ≡ Some p
       → each_once (filter_map h (map text rs ++ last ∷ [])) ≡ [] → ⊥
   some_before text rs i r last p below at is none =
-      let front : map text (take (i + 1) rs) ≡ map text (take i rs) ++ text r ∷ [] = map_more text rs i r below ∙ ap (λ q. map text (take i rs) ++ text q ∷ []) at in
+      let prefix : map text (take (i + 1) rs) ≡ map text (take i rs) ++ text r ∷ [] = map_more text rs i r below ∙ ap (λ q. map text (take i rs) ++ text q ∷ []) at in
       let halves : map text rs ≡ (map text (take i rs) ++ text r ∷ []) ++ map text (drop (i + 1) rs) =
-      ap (map text) (sym (take-append-drop (i + 1) rs)) ∙ map-append text (take (i + 1) rs) (drop (i + 1) rs) ∙ ap (λ ts. ts ++ map text (drop (i + 1) rs)) front in
+      ap (map text) (sym (take-append-drop (i + 1) rs)) ∙ map-append text (take (i + 1) rs) (drop (i + 1) rs) ∙ ap (λ ts. ts ++ map text (drop (i + 1) rs)) prefix in
       let whole : map text rs ++ last ∷ [] ≡ map text (take i rs) ++ (text r ∷ (map text (drop (i + 1) rs) ++ last ∷ [])) =
       rw halves (simp append_assoc) in
       some_number (map text (take i rs)) (text r) (map text (drop (i + 1) rs) ++ last ∷ []) p is (rw whole at none)

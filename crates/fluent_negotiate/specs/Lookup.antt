@@ -8,7 +8,7 @@ use Rattle.fluent_intl.specs.Languages.{is_separator, same_tag, shortened}
 
 -- ---- what is tried for a range
 
--- whether the last subtag is a single letter or digit: one byte, at the front or behind a separator
+-- whether the last subtag is a single letter or digit: one byte, at the start or after a separator
 abbrev pub ends_in_single : Text → Bool
 ends_in_single tag =
     let n = length tag in
@@ -16,7 +16,7 @@ ends_in_single tag =
 
 -- the range, and what is left of it as its last subtag is taken off again and again, but for what ends in a single letter or digit
 abbrev pub tried : Text → List Text
-tried range = range ∷ filter (λ front. not (ends_in_single front)) (drop 1 (shortened range))
+tried range = range ∷ filter (λ prefix. not (ends_in_single prefix)) (drop 1 (shortened range))
 
 -- ---- which language serves it
 

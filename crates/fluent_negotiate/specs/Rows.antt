@@ -18,7 +18,7 @@ Orders available requested default places = negotiated (map codes requested) (ma
 pub record Trials : Type 0 where
   pub rfc : Tries "zh-Hant-CN-x-private1-private2" ("zh-Hant-CN-x-private1-private2" ∷ "zh-Hant-CN-x-private1" ∷ "zh-Hant-CN" ∷ "zh-Hant" ∷ "zh" ∷ [])
   pub one_subtag : Tries "en" ("en" ∷ [])
-  -- a single letter or digit goes with the subtag behind it, and so do two of them
+  -- a single letter or digit goes with the subtag after it, and so do two of them
   pub digit : Tries "en-1-abc" ("en-1-abc" ∷ "en" ∷ [])
   pub two_singles : Tries "en-a-b-abc" ("en-a-b-abc" ∷ "en" ∷ [])
   pub private : Tries "x-private" ("x-private" ∷ [])

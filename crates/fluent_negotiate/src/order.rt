@@ -1,6 +1,6 @@
 //! The languages that serve somebody, in order.
 ghost use Rattle.std.specs.Prelude.{◌≡◌, [], IfOk, OnOk, IsOk};
-ghost use Rattle.fluent_negotiate.specs.Inside.Adding.{with_place};
+ghost use Rattle.fluent_negotiate.specs.Inside.PlaceAmong.{with_place};
 ghost use Rattle.fluent_negotiate.specs.Lookup.{served};
 
 use crate::ranges::lookup;
@@ -15,7 +15,7 @@ use std::convert::AsStr;
 ///
 /// # Errors
 ///
-/// Memory was refused.
+/// An allocation failed.
 pub fn negotiate<R: AsStr, A: AsStr>(
     alloc: Global,
     requested: &[R],
@@ -40,7 +40,7 @@ pub fn negotiate<R: AsStr, A: AsStr>(
     Ok(places)
 }
 
-/// Adds a place behind the others, unless it stands among them.
+/// Adds a place after the others, unless it stands among them.
 fn add_place(places: &mut Vec<usize>, place: usize) -> Result<(), AllocError>
     ensures { OnOk result (places.new.items ≡ with_place places.old.items place) }
 {

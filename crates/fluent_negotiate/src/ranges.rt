@@ -10,7 +10,7 @@ use std::convert::AsStr;
 ///
 /// The language whose tag is the range serves it, and where there is none, one for what is left when the last subtag is
 /// taken off, and again: `de-CH-1996` is served by `de-CH-1996`, `de-CH` or `de`, whichever is there first in this order.
-/// A single letter or digit goes with the subtag behind it. In tags and ranges letters are alike in either case, and so
+/// A single letter or digit goes with the subtag after it. In tags and ranges letters are alike in either case, and so
 /// are `-` and `_`. `*` is no language's tag, so nothing serves it.
 ///
 /// It takes no memory, and goes over the languages once for each subtag.

@@ -6,10 +6,10 @@ ghost use Rattle.fluent_negotiate.specs.Lookup.{ends_in_single, tried};
 /// A range without its last subtag, nor a single letter or digit that would stand last then; `None` where nothing is
 /// left.
 pub(crate) fn cut(range: &[u8]) -> Option<&[u8]>
-    ensures shorter { IfSome result (λ front. length front.now < length range.now) }
+    ensures shorter { IfSome result (λ prefix. length prefix.now < length range.now) }
     ensures steps { MatchOption result
         (tried range.now ≡ range.now ∷ [])
-        (λ front. tried range.now ≡ range.now ∷ tried front.now) }
+        (λ prefix. tried range.now ≡ range.now ∷ tried prefix.now) }
 {
     for end in (0..range.len()).rev() {
         if is_separator(range[end]) && !ends_in_single(&range[..end]) {

@@ -11,9 +11,9 @@ line tag = codes tag ++ 9 ∷ codes "a" ++ 9 ∷ codes "b"
 abbrev pub line_rules : Texts
 line_rules = record { cardinal = codes "a"; ordinal = codes "b" }
 
--- a line behind another one
-abbrev pub behind : List ℕ → List ℕ → List ℕ
-behind first more = first ++ 10 ∷ more
+-- a line after another one
+abbrev pub after : List ℕ → List ℕ → List ℕ
+after first more = first ++ 10 ∷ more
 
 -- the rules of a language in a table
 abbrev pub rules_in : List ℕ → String → Option Texts

@@ -1,4 +1,4 @@
-//! Arguments: each call once, also where memory is refused.
+//! Arguments: each call once, also where an allocation fails.
 use crate::common::{Given, MANY, Named, arguments, many, nth_name, value};
 use fluent_values::FluentArgs;
 use fluent_values::types::{FluentValue, NoCustom};
@@ -31,29 +31,29 @@ fn is_given(found: Option<&FluentValue<'_, NoCustom>>, given: Given) -> bool {
     }
 }
 
-/// That a pair that arguments lend is the one of a row.
-fn is_lent(pair: Option<(&str, &FluentValue<'_, NoCustom>)>, row: &Named) -> bool {
+/// That a pair that arguments give is the one of a row.
+fn is_borrowed(pair: Option<(&str, &FluentValue<'_, NoCustom>)>, row: &Named) -> bool {
     match pair {
         Some((name, value)) => name == row.0 && is_given(Some(value), row.1),
         None => false,
     }
 }
 
-/// That arguments lend these pairs, and then none, however often they are asked.
+/// That arguments give these pairs, and then none, however often they are asked.
 fn lend(args: &FluentArgs<'_, NoCustom>, rows: &[Named]) -> bool {
-    let mut lent = args.iter();
+    let mut borrowed = args.iter();
     for row in rows {
-        if !is_lent(lent.next(), row) {
+        if !is_borrowed(borrowed.next(), row) {
             return false;
         }
     }
-    lent.next().is_none() && lent.next().is_none()
+    borrowed.next().is_none() && borrowed.next().is_none()
 }
 
 /// That a pair that arguments give is the one of a row.
 fn is_given_away(pair: Option<(CowStr<'_>, FluentValue<'_, NoCustom>)>, row: &Named) -> bool {
     match pair {
-        Some((name, value)) => is_lent(Some((name.as_str(), &value)), row),
+        Some((name, value)) => is_borrowed(Some((name.as_str(), &value)), row),
         None => false,
     }
 }
@@ -116,7 +116,7 @@ fn has(args: &FluentArgs<'_, NoCustom>, name: &str, given: Given) -> bool {
 }
 
 /// A refused `set` leaves the arguments as they were, and succeeds when it is repeated; that of a name which is there
-/// is never refused.
+/// never fails.
 fn is_set(
     rt: &impl Abort,
     alloc: Global,

@@ -1,7 +1,7 @@
 //! Tests of finding a language's plural rules in a table.
 ghost use Rattle.std.specs.Prelude.{◌≡◌, ◌∷◌, ◌++◌, [], codes};
 ghost use Rattle.fluent_intl.specs.Languages.{shortened};
-ghost use Rattle.fluent_parts_tests.specs.Lines.{behind, line, line_rules, rules_in};
+ghost use Rattle.fluent_parts_tests.specs.Lines.{after, line, line_rules, rules_in};
 
 use crate::check::{Row, check_rows, is_same};
 use fluent_intl::{LanguageRules, cldr_plurals, rules_for};
@@ -131,10 +131,10 @@ fn languages_have_the_rules_of_their_lines(rt: HostRuntime) {
 fn rows_hold()
     ensures tags { shortened (codes "pt_PT-x") ≡ codes "pt_PT-x" ∷ codes "pt_PT" ∷ codes "pt" ∷ [] }
     ensures whole { rules_in (line "pt") "PT" ≡ Some line_rules }
-    ensures fallback { rules_in (behind (codes "# x") (line "pt")) "pt-BR" ≡ rules_in (line "pt") "pt" }
+    ensures fallback { rules_in (after (codes "# x") (line "pt")) "pt-BR" ≡ rules_in (line "pt") "pt" }
     ensures comment { rules_in (line "#pt") "#pt" ≡ None }
     ensures one_tab { rules_in (codes "pt" ++ 9 ∷ codes "a") "pt" ≡ None }
-    ensures first_line { rules_in (behind (codes "pt" ++ 9 ∷ codes "a") (line "pt")) "pt" ≡ None }
+    ensures first_line { rules_in (after (codes "pt" ++ 9 ∷ codes "a") (line "pt")) "pt" ≡ None }
     ensures other { rules_in (line "pt") "p" ≡ None }
 {}
 

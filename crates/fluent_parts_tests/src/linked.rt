@@ -64,7 +64,7 @@ fn is_linked(linked: &Linked, class: Option<u32>, numbers: &[u32]) -> bool {
     place.first().is_none() && linked.class() == class
 }
 
-/// Links a pattern, again where memory is refused.
+/// Links a pattern, again where an allocation fails.
 fn link<'r>(
     alloc: Global,
     slots: &mut Slots<'static, u8>,
@@ -77,7 +77,7 @@ fn link<'r>(
     }
 }
 
-/// Whether the value of a message is linked so, behind what was linked before.
+/// Whether the value of a message is linked so, after what was linked before.
 fn links<'r>(
     alloc: Global,
     slots: &mut Slots<'static, u8>,
@@ -141,7 +141,7 @@ n = { $v ->\n    [k] x\n   *[l] y\n }
 
 const CLASSES: &[u32] = &[0, 1, 2, 3, 4, 5, 6, 7, 8, 9, 10, 0, 8, 9];
 
-/// The class of a pattern, asked again where memory is refused.
+/// The class of a pattern, asked again where an allocation fails.
 fn class_of<'r>(
     classes: &mut Classes<'r, 'static>,
     pattern: &'r Pattern<'static>,

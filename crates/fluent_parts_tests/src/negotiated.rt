@@ -16,7 +16,7 @@ const ORDERS: &[Order] = &[
     (&["en-GB", "*", "zh"], &[0]),
 ];
 
-/// Where memory is refused it is asked again.
+/// Where an allocation fails it is asked again.
 fn order(alloc: Global, requested: &[&str]) -> Result<Vec<usize>, AllocError> {
     match negotiate(alloc, requested, &TAGS, "en") {
         Ok(places) => Ok(places),

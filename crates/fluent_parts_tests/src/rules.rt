@@ -38,7 +38,7 @@ const CATEGORIES: &[Category] = &[
     ("", "1", PluralCategory::OTHER),
 ];
 
-/// The rules of two texts. Where memory is refused it is asked again.
+/// The rules of two texts. Where an allocation fails it is asked again.
 fn read(alloc: Global, cardinal: &str, ordinal: &str) -> Result<RuleTexts, RuleFault> {
     match RuleTexts::parse(alloc, cardinal, ordinal) {
         Err(RuleFault::Memory) => RuleTexts::parse(alloc, cardinal, ordinal),
@@ -133,7 +133,7 @@ const TEXTS: &[FaultText] = &[
     (RuleFault::Memory, "out of memory"),
 ];
 
-/// What a fault says. Where memory is refused it is asked again.
+/// What a fault says. Where an allocation fails it is asked again.
 fn text_of(alloc: Global, fault: RuleFault) -> Result<String, AllocError> {
     match fault.to_string(alloc) {
         Err(AllocError) => fault.to_string(alloc),

@@ -77,14 +77,14 @@ fn copies_are_the_same(rt: HostRuntime) -> Result<(), Fail> {
     Ok(())
 }
 
-/// That a copy of a text that is lent is lent.
-fn stays_lent(alloc: Global) -> Result<bool, AllocError> {
+/// That a copy of a text that is borrowed is borrowed.
+fn stays_borrowed(alloc: Global) -> Result<bool, AllocError> {
     let copy = value_at(0).try_clone(alloc)?;
     Ok(matches!(copy, FluentValue::String(CowStr::Borrowed(_))))
 }
 
 #[test]
-fn lent_texts_stay_lent(rt: HostRuntime) -> Result<(), Fail> {
-    assert!(rt; stays_lent(rt.alloc())?);
+fn borrowed_texts_stay_borrowed(rt: HostRuntime) -> Result<(), Fail> {
+    assert!(rt; stays_borrowed(rt.alloc())?);
     Ok(())
 }

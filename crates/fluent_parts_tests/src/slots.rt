@@ -5,7 +5,7 @@ use std::alloc::AllocError;
 use std::borrow::CowStr;
 use std::process::Abort;
 
-/// The number of an id, asked again where memory is refused.
+/// The number of an id, asked again where an allocation fails.
 fn number_of<'s>(slots: &mut Slots<'s, u8>, id: &'s str) -> Result<u32, AllocError> {
     match slots.number_of(CowStr::Borrowed(id)) {
         Err(AllocError) => slots.number_of(CowStr::Borrowed(id)),
@@ -70,7 +70,7 @@ fn adds_an_empty_slot(slots: &mut Slots<'static, u8>) -> bool {
     put_and_add(slots) && hold(slots, (Some(7), None))
 }
 
-/// Makes room, again where memory is refused.
+/// Makes room, again where an allocation fails.
 fn make_room(slots: &mut Slots<'static, u8>, more: usize) -> bool {
     slots.reserve(more).is_ok() || slots.reserve(more).is_ok()
 }

@@ -63,29 +63,29 @@ fn made<'s>(i: usize) -> Row<'s> {
     }
 }
 
-/// Of strings, lent and owned.
-fn given<'s>(alloc: Global, i: usize, lent: &'s String) -> Result<Row<'s>, AllocError> {
+/// Of strings, borrowed and owned.
+fn given<'s>(alloc: Global, i: usize, borrowed: &'s String) -> Result<Row<'s>, AllocError> {
     let value = match i {
-        0 => FluentValue::from(lent),
+        0 => FluentValue::from(borrowed),
         1 => FluentValue::from(Some(CowStr::Borrowed("a"))),
         _ => FluentValue::from(Some(String::from_str(alloc, "a")?)),
     };
     Ok((value, "\"a\""))
 }
 
-fn row<'s>(alloc: Global, i: usize, lent: &'s String) -> Result<Row<'s>, AllocError> {
+fn row<'s>(alloc: Global, i: usize, borrowed: &'s String) -> Result<Row<'s>, AllocError> {
     match i {
         0..4 => Ok(read(i)),
         4..12 => Ok(made(i - 4)),
-        _ => given(alloc, i - 12, lent),
+        _ => given(alloc, i - 12, borrowed),
     }
 }
 
 #[test]
 fn values_are_made_of_texts_and_numbers(rt: HostRuntime) -> Result<(), Fail> {
-    let lent = String::from_str(rt.alloc(), "a")?;
+    let borrowed = String::from_str(rt.alloc(), "a")?;
     for i in 0..15 {
-        let (value, text) = row(rt.alloc(), i, &lent)?;
+        let (value, text) = row(rt.alloc(), i, &borrowed)?;
         assert!(rt; is_shown(rt.alloc(), &value, text)?, "{text}");
     }
     Ok(())

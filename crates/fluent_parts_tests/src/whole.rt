@@ -80,7 +80,7 @@ impl Row for Taken {
 }
 
 // A whole number that is put in and taken out as its own type is itself, by the public contracts alone: it is put in by
-// value first, and then lent.
+// value first, and then borrowed.
 
 fn again_i8(x: i8) -> i8
     ensures { result ≡ x }

@@ -31,7 +31,7 @@ pub enum FormatFault {
     Arguments(Fault),
     /// There is no such message with a value, or with such an attribute.
     NoMessage,
-    /// Memory was refused.
+    /// An allocation failed.
     Memory,
 }
 

@@ -1,4 +1,4 @@
-//! A bundle to which its application adds sources alone, and which it asks by runs of bytes: what stands behind each call
+//! A bundle to which its application adds sources alone, and which it asks by runs of bytes: what stands after each call
 //! from C.
 #![tactic(auto)]
 

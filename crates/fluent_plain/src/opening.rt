@@ -28,7 +28,7 @@ pub enum OpenFault {
     NotText,
     /// The language has no plural rules, or they could not be read.
     Language(LanguageFault),
-    /// Memory was refused.
+    /// An allocation failed.
     Memory,
 }
 
@@ -65,7 +65,7 @@ fn with_plurals<'r, 's>(
     bundle.set_use_isolating(isolate);
     match bundle.add_builtins() {
         Ok(()) => Ok(bundle),
-        // All ids are free, so it is memory that was refused.
+        // All ids are free, so it is an allocation that failed.
         Err(_) => Err(AllocError),
     }
 }

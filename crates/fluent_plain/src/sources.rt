@@ -21,7 +21,7 @@ pub enum SourceFault {
     Open(OpenFault),
     /// The bundle of the source answers nothing.
     Format(FormatFault),
-    /// Memory was refused.
+    /// An allocation failed.
     Memory,
 }
 

@@ -9,11 +9,11 @@ use Rattle.fluent_meaning.specs.Errors as errors
 use Rattle.fluent_meaning.specs.Bundle.{Bundle, goes_to}
 use Rattle.fluent_meaning.specs.Value.{Value, error_value, text_value}
 use Rattle.fluent_meaning.specs.Walk.{Environment, application, local, variables, has_one, loses_as, missing, variable_text, variable_value, elements, part, expression, matched, default_of, written, resolved}
-use Rattle.fluent_meaning.specs.Meaning.{Budget, left, struck, Ran, after_errors, after_text, closed}
+use Rattle.fluent_meaning.specs.Meaning.{Budget, left, limit_reached, Ran, after_errors, after_text, closed}
 use Rattle.fluent_meaning.specs.Work.{Worked, together, work_element, work_opens, with_work}
 use Rattle.fluent_links.specs.Linked.{are_some}
-use Rattle.fluent_entries.specs.Linking.{RefersToNothing}
-use Rattle.fluent_state.specs.Along.{Below}
+use Rattle.fluent_entries.specs.KeptLinks.{RefersToNothing}
+use Rattle.fluent_state.specs.WalkProgress.{Below}
 use Rattle.fluent_state.specs.Facts.Cases.{entering}
 
 -- alike but for the longest path, which is at most so long in both
@@ -57,14 +57,14 @@ in_turn n m k f g h j (left x) =
     subst (λ (r : Ran Text). Alike n v (g r.budget)) here (j (m (left x)).ran.budget) in
     both n (m (left x)) (k (left x)) v (g (k (left x)).ran.budget) _ _ (h (left x)) next
     (ap (λ (r : Ran Text). after_text r v.ran) here ∙ ap (λ (r : Ran Text). after_text (k (left x)).ran r) next.ran)
-in_turn n m k f g h j struck = short n _ (omega arith)
+in_turn n m k f g h j limit_reached = short n _ (omega arith)
 
 opens_alike : (n : ℕ) (marked : Bool) (t : Text) (m k : Budget → Worked Text) → AreAlike n m k → AreAlike n (work_opens marked t m) (work_opens marked t k)
 opens_alike n marked t m k h (left zero) = short n _ (omega arith)
 opens_alike n marked t m k h (left (suc x)) =
     let here = h (left x) in
     record { ran = ap (closed marked t) here.ran; opened = ap (λ n. n + 1) here.opened; entered = here.entered; first = here.first; second = here.second }
-opens_alike n marked t m k h struck = short n _ (omega arith)
+opens_alike n marked t m k h limit_reached = short n _ (omega arith)
 
 enters_alike : (n l j : ℕ) (m k : Budget → Worked Text) → l ≤ n → j ≤ n → AreAlike n m k → AreAlike n (with_work.enters l m) (with_work.enters j k)
 enters_alike n l j m k small less h b =

@@ -7,8 +7,8 @@ use Rattle.fluent_tree.specs.declared.ast.NamedArgument.{NamedArgument}
 use Rattle.fluent_tree.specs.declared.ast.PatternElement.{PatternElement}
 use Rattle.fluent_meaning.specs.Arguments.{get}
 use Rattle.fluent_meaning.specs.Bundle.{Bundle, message_target, term_target}
-use Rattle.fluent_meaning.specs.Meaning.{Budget, left, struck, at_most}
-use Rattle.fluent_state.specs.Along.{can_open, less_one, TakesOne, Elsewhere}
+use Rattle.fluent_meaning.specs.Meaning.{Budget, left, limit_reached, at_most}
+use Rattle.fluent_state.specs.WalkProgress.{can_open, less_one, TakesOne, Elsewhere}
 use Rattle.fluent_resolver.specs.Sizes.{size, element_size, inline_size, inlines_size, nameds_size, variants_size, bound, IsBelow}
 use Rattle.fluent_state.specs.Choice.{first_default, choice}
 use Rattle.fluent_state.specs.Status.{Status, Keeps}
@@ -68,7 +68,7 @@ falls_to {x = x} h k = subst (λ t. x < t) h k
 pub opens_less : (b : Budget) → can_open b ≡ true → at_most b ≡ 1 + at_most (less_one b)
 opens_less (left zero) h = search rules
 opens_less (left (suc n)) h = omega arith
-opens_less struck h = search rules
+opens_less limit_reached h = search rules
 
 -- WHAT A LIST HOLDS IS SMALLER
 

@@ -13,10 +13,10 @@ use Rattle.fluent_meaning.specs.Meaning.{Budget, ending}
 use Rattle.fluent_meaning.specs.Walk.{inner, elements, whole}
 use Rattle.fluent_meaning.specs.Work.{Worked, with_work, work}
 use Rattle.fluent_meaning.specs.Laws.{CallsByThemselves, CountsByItself}
-use Rattle.fluent_state.specs.Along.{Walk, Went, Wrote, walked, from_here, given, lost_of, Elsewhere}
+use Rattle.fluent_state.specs.WalkProgress.{Walk, WritesUntil, Wrote, walked, from_here, given, lost_of, Elsewhere}
 use Rattle.fluent_state.specs.Status.{Status}
 use Rattle.fluent_resolver.specs.Tracking.{Runs, are_none, called_run, calling, closes, losing, lost_run, maybe_tracks, tracks}
-use Rattle.fluent_values.specs.Written.{Sink}
+use Rattle.fluent_values.specs.Sinks.{Sink}
 use Rattle.fluent_values.specs.declared.output.Halt.{Halt}
 use Rattle.fluent_state.specs.Facts.Cases.{entering, loses_is, sequence}
 use Rattle.fluent_resolver.proofs.Steps.{expressing, wholing}
@@ -48,7 +48,7 @@ tracked_at law a p x none =
 
 -- the same walk
 pub wrote_as : {T K : Type 0} {r : Result T Halt} {walk walk' : Walk Text} {w w' : Sink} {a b : Status K} → from_here a walk ≡ from_here a walk' → Wrote r walk w w' a b → Wrote r walk' w w' a b
-wrote_as {r = r} {w = w} {w' = w'} {a = a} {b = b} same h = record { went = subst (λ all. Went r all (given [] b.budget) w w' a b) same h.went }
+wrote_as {r = r} {w = w} {w' = w'} {a = a} {b = b} same h = record { went = subst (λ all. WritesUntil r all (given [] b.budget) w w' a b) same h.went }
 
 -- WHICH RUNS
 

@@ -17,17 +17,17 @@ use Rattle.fluent_meaning.specs.Arguments.{Map, get, set, set_all}
 use Rattle.fluent_meaning.specs.Bundle.{Bundle, Function, Target, unknown, without_value, found, goes_to, term_target, function_found}
 use Rattle.fluent_meaning.specs.Value.{Value}
 use Rattle.fluent_meaning.specs.Errors.{resolver_error, cyclic}
-use Rattle.fluent_meaning.specs.Meaning.{Budget, struck}
+use Rattle.fluent_meaning.specs.Meaning.{Budget, limit_reached}
 use Rattle.fluent_meaning.specs.Walk.{Environment, is_on, inner, go, whole, local_of, local, elements, part, expression, positional, named, follow, has_one, function_value, called}
 use Rattle.fluent_meaning.specs.Work.{Worked, with_work, work}
 use Rattle.fluent_meaning.specs.Laws.{CountsByItself}
-use Rattle.fluent_state.specs.Along.{Below, Walk, walked, from_here, given, mapping, Elsewhere, StartsPattern, EndsPattern, Enters, Leaves}
+use Rattle.fluent_state.specs.WalkProgress.{Below, Walk, walked, from_here, given, mapping, Elsewhere, StartsPattern, EndsPattern, Enters, Leaves}
 use Rattle.fluent_state.specs.Choice.{choice, choosing, first_default}
 use Rattle.fluent_state.specs.Status.{Status}
 use Rattle.fluent_values.specs.View.{value_view}
 use Rattle.fluent_values.specs.declared.types.value.FluentValue.{FluentValue}
 use Rattle.fluent_values.specs.declared.types.value.FluentValue.TheVariants as values
-use Rattle.fluent_state.specs.Facts.Cases.{sequence, prepend, and_then, elements_end, elements_struck, elements_more, part_text, positional_none, positional_more, named_none, named_more, given_first, tells, loses_is, expression_inline, expression_select, chosen, chosen_is, meant, entering, go_cyclic, go_entered, inner_longer, whole_is, written_term, written_function, and_then_is, mapping_then, then_give, called_is}
+use Rattle.fluent_state.specs.Facts.Cases.{sequence, prepend, and_then, elements_end, elements_limit_reached, elements_more, part_text, positional_none, positional_more, named_none, named_more, given_first, tells, loses_is, expression_inline, expression_select, chosen, chosen_is, meant, entering, go_cyclic, go_entered, inner_longer, whole_is, written_term, written_function, and_then_is, mapping_then, then_give, called_is}
 use Rattle.fluent_resolver.proofs.Bare.{entering_bare}
 use Rattle.fluent_state.specs.Facts.Views.{view_pattern, view_named, view_in, view_arguments}
 use Rattle.fluent_entries.specs.Texts.{IsTextAlone}
@@ -42,19 +42,19 @@ giving a one es b = walked a (λ s f env path. elements with_work s f env path o
 pub giving_all : {K : Type 0} (a : Status K) (one : Bool) (p : of_pattern.Pattern) (b : Budget) → walked a (λ s f env path. elements with_work s f env path one (pattern_view p)) b ≡ giving a one p.elements.items b
 giving_all a one p b = ap (λ q. walked a (λ s f env path. elements with_work s f env path one q) b) (view_pattern p)
 
-giving_next : {K : Type 0} (a : Status K) (one : Bool) (es rest : List PatternElement) (e : PatternElement) (b : Budget) → es ≡ e ∷ rest → (b ≡ struck → ⊥) → giving a one es b ≡ sequence (walked a (λ s f env path. part with_work s f env path one (element_view e)) b) (giving a one rest)
+giving_next : {K : Type 0} (a : Status K) (one : Bool) (es rest : List PatternElement) (e : PatternElement) (b : Budget) → es ≡ e ∷ rest → (b ≡ limit_reached → ⊥) → giving a one es b ≡ sequence (walked a (λ s f env path. part with_work s f env path one (element_view e)) b) (giving a one rest)
 giving_next a one es rest e b h n =
     ap (λ es. giving a one es b) h
     ∙ elements_more a.bundle (work a.bundle) a.environment a.path one (element_view e) (pattern_of (map element_view rest)) b n
 
-pub giving_text : {K : Type 0} (a : Status K) (one : Bool) (es rest : List PatternElement) (e : PatternElement) (t : Text) (b : Budget) → es ≡ e ∷ rest → (b ≡ struck → ⊥) → element_view e ≡ text t → giving a one es b ≡ prepend (a.bundle.transform t) (giving a one rest b)
+pub giving_text : {K : Type 0} (a : Status K) (one : Bool) (es rest : List PatternElement) (e : PatternElement) (t : Text) (b : Budget) → es ≡ e ∷ rest → (b ≡ limit_reached → ⊥) → element_view e ≡ text t → giving a one es b ≡ prepend (a.bundle.transform t) (giving a one rest b)
 giving_text a one es rest e t b h n is =
     giving_next a one es rest e b h n
     ∙ ap (λ v. sequence (walked a (λ s f env path. part with_work s f env path one v) b) (giving a one rest)) is
     ∙ ap (λ m. sequence m (giving a one rest)) (part_text a.bundle (work a.bundle) a.environment a.path one t b)
     ∙ given_first (a.bundle.transform t) b (giving a one rest)
 
-pub giving_placeable : {K : Type 0} (a : Status K) (one : Bool) (es rest : List PatternElement) (e : PatternElement) (x : Expression) (b : Budget) → es ≡ e ∷ rest → (b ≡ struck → ⊥) → element_view e ≡ placeable x → giving a one es b ≡ sequence (walked a (λ s f env path. part with_work s f env path one (placeable x)) b) (giving a one rest)
+pub giving_placeable : {K : Type 0} (a : Status K) (one : Bool) (es rest : List PatternElement) (e : PatternElement) (x : Expression) (b : Budget) → es ≡ e ∷ rest → (b ≡ limit_reached → ⊥) → element_view e ≡ placeable x → giving a one es b ≡ sequence (walked a (λ s f env path. part with_work s f env path one (placeable x)) b) (giving a one rest)
 giving_placeable a one es rest e x b h n is =
     giving_next a one es rest e b h n
     ∙ ap (λ v. sequence (walked a (λ s f env path. part with_work s f env path one v) b) (giving a one rest)) is
@@ -62,10 +62,10 @@ giving_placeable a one es rest e x b h n is =
 pub giving_end : {K : Type 0} (a : Status K) (one : Bool) (es : List PatternElement) (b : Budget) → es ≡ [] → giving a one es b ≡ given [] b
 giving_end a one es b h = ap (λ es. giving a one es b) h ∙ elements_end a.bundle (work a.bundle) a.environment a.path one b
 
-pub giving_struck : {K : Type 0} (a : Status K) (one : Bool) (es : List PatternElement) (b : Budget) → b ≡ struck → giving a one es b ≡ given [] b
-giving_struck a one es b h =
+pub giving_limit_reached : {K : Type 0} (a : Status K) (one : Bool) (es : List PatternElement) (b : Budget) → b ≡ limit_reached → giving a one es b ≡ given [] b
+giving_limit_reached a one es b h =
     ap (giving a one es) h
-    ∙ elements_struck a.bundle (work a.bundle) a.environment a.path one (pattern_of (map element_view es))
+    ∙ elements_limit_reached a.bundle (work a.bundle) a.environment a.path one (pattern_of (map element_view es))
     ∙ ap (given []) (sym h)
 
 -- ARGUMENTS

@@ -1,6 +1,6 @@
 pub use Rattle.fluent_state.specs.FoundView
 pub use Rattle.fluent_state.specs.Status
-pub use Rattle.fluent_state.specs.Along
+pub use Rattle.fluent_state.specs.WalkProgress
 pub mod ScopeView
 pub mod Tracking
 pub mod Said

@@ -21,13 +21,13 @@ use Rattle.fluent_meaning.specs.Value.{Value}
 use Rattle.fluent_meaning.specs.Walk as walk
 use Rattle.fluent_meaning.specs.Walk.{has_one, is_on}
 use Rattle.fluent_meaning.specs.Work.{with_work}
-use Rattle.fluent_state.specs.Along.{Gave, Walk, Wrote, mapping}
+use Rattle.fluent_state.specs.WalkProgress.{EvaluatesSilently, Walk, Wrote, mapping}
 use Rattle.fluent_state.specs.FoundView.{content_at, found_view}
 use Rattle.fluent_state.specs.Status.{state, state_parts}
 use Rattle.fluent_state.specs.declared.found.Found.{Found}
 use Rattle.fluent_state.specs.declared.found.Target.{Target}
 use Rattle.fluent_state.specs.declared.state.State.{State}
-use Rattle.fluent_values.specs.Written.{beside, writer}
+use Rattle.fluent_values.specs.Sinks.{beside, writer}
 use Rattle.fluent_values.specs.declared.output.Halt.{Halt}
 use Rattle.fluent_values.specs.declared.output.Halt.TheVariants as halt
 use Rattle.fluent_values.specs.declared.output.Output.{Output}
@@ -103,7 +103,7 @@ WritingBeside W C F B = Result (Unit {0}) Halt → Counting W → Counting W →
 
 module _ {C F B : Type 0} (meant : B → Bundle Text) (is_plain : B → Bool) (answer : F → Function Text) (content : C → Text) where
   abbrev pub gives : {A T W : Type 0} → (W → Option Text) → (T → A) → Walk A → Giving T W C F B
-  gives contents see walk result w w' s s' = Gave result see walk (writer contents w) (writer contents w') (state meant is_plain answer content s) (state meant is_plain answer content s')
+  gives contents see walk result w w' s s' = EvaluatesSilently result see walk (writer contents w) (writer contents w') (state meant is_plain answer content s) (state meant is_plain answer content s')
 
   abbrev pub writes_beside : {W : Type 0} → (W → Option Text) → Walk Text → WritingBeside W C F B
   writes_beside contents walk result w w' text text' s s' = Wrote result walk (beside contents w text) (beside contents w' text') (state meant is_plain answer content s) (state meant is_plain answer content s')

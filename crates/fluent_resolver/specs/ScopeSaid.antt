@@ -15,11 +15,11 @@ use Rattle.fluent_entries.specs.declared.errors.FluentError.{FluentError}
 use Rattle.fluent_entries.specs.declared.ids.Ids.{Ids}
 use Rattle.fluent_meaning.specs.Bundle.{Bundle, Function}
 use Rattle.fluent_meaning.specs.Errors.{Error, ResolverError, resolver_error}
-use Rattle.fluent_state.specs.Along.{Got, IsAtStart, ReportsIfOk, Walk, Wrote}
+use Rattle.fluent_state.specs.WalkProgress.{Evaluates, IsAtStart, ReportsIfOk, Walk, Wrote}
 use Rattle.fluent_resolver.specs.ScopeView.{bundle_in, status}
 use Rattle.fluent_state.specs.Status.{arguments_view as given_arguments, reported, with_ids}
 use Rattle.fluent_resolver.specs.declared.scope.Scope.{Scope}
-use Rattle.fluent_values.specs.Written.{sink, without_error, writer}
+use Rattle.fluent_values.specs.Sinks.{sink, without_error, writer}
 use Rattle.fluent_values.specs.declared.args.FluentArgs.{FluentArgs}
 use Rattle.fluent_values.specs.declared.output.Halt.{Halt}
 use Rattle.fluent_values.specs.declared.output.Halt.TheVariants as halt
@@ -56,7 +56,7 @@ module _ {C F B : Type 0} (meant : B → Bundle Text) (is_plain : B → Bool) (a
   writes contents walk result w w' s s' = Wrote result walk (sink contents w) (sink contents w') (status meant is_plain answer content s) (status meant is_plain answer content s')
 
   abbrev pub gets : {A T : Type 0} → (T → A) → Walk A → Result T AllocError → Scope C F B → Scope C F B → Type 0
-  gets see walk result s s' = Got result see walk (status meant is_plain answer content s) (status meant is_plain answer content s')
+  gets see walk result s s' = Evaluates result see walk (status meant is_plain answer content s) (status meant is_plain answer content s')
 
   abbrev pub reports : ResolverError → Result (Unit {0}) AllocError → Scope C F B → Scope C F B → Type 0
   reports error result s s' = ReportsIfOk result (resolver_error error ∷ []) (status meant is_plain answer content s) (status meant is_plain answer content s')

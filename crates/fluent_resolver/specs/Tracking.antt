@@ -9,14 +9,14 @@ use Rattle.fluent_meaning.specs.Walk.{Environment, is_on, inner, go, loses, expr
 use Rattle.fluent_meaning.specs.Meaning.{Budget, Ran, closed}
 use Rattle.fluent_meaning.specs.Result.{arguments_of}
 use Rattle.fluent_meaning.specs.Work.{with_work}
-use Rattle.fluent_state.specs.Along.{Walk, from_here, lost_of}
+use Rattle.fluent_state.specs.WalkProgress.{Walk, from_here, lost_of}
 use Rattle.fluent_state.specs.Status.{Status}
 
 -- the pattern that an expression refers to
 abbrev pub tracks : Pattern → Inline → Walk Text
 tracks p x b below env path = go with_work b below env (is_on path p) env path x p
 
--- an expression, and its fallback where it leaves the budget struck
+-- an expression, and its fallback where the limit is reached after it
 abbrev pub closes : Expression → Walk Text
 closes e b below env path n = let w = expression with_work b below env path e n in record w { ran = closed false (fallback_of e) w.ran }
 

@@ -6,8 +6,8 @@ ghost use Rattle.fluent_tree.specs.References.{in_arguments, in_call, in_inline,
 ghost use Rattle.fluent_tree.specs.Tree.{function};
 ghost use Rattle.fluent_tree.specs.View.{inline_view, arguments_view, call_view};
 ghost use Rattle.fluent_meaning.specs.Walk.{positional};
-ghost use Rattle.fluent_entries.specs.Numbered.{IsPlaced};
-ghost use Rattle.fluent_values.specs.Written.{writer};
+ghost use Rattle.fluent_entries.specs.IdNumbers.{IsPlaced};
+ghost use Rattle.fluent_values.specs.Sinks.{writer};
 
 use crate::inline_expression::write_inline;
 use crate::says::Gives;
@@ -131,8 +131,8 @@ pub(crate) fn resolve_call<'p, 's, W: Write, C: FluentType, F: FluentFunction<C>
     ensures { ⟦<W as Gives<C, F, B>>⟧.call arguments.now result w.old w.new scope.old scope.new }
 {
     let positional = resolve_positional(scope, w, &arguments.positional, place)?;
-    let behind = place.behind_positional(&arguments.positional);
-    let named = resolve_named(scope, w, &arguments.named, behind)?;
+    let after = place.after_positional(&arguments.positional);
+    let named = resolve_named(scope, w, &arguments.named, after)?;
     Ok((positional, named))
 }
 
@@ -153,7 +153,7 @@ fn resolve_positional<'p, 's, W: Write, C: FluentType, F: FluentFunction<C>, B: 
     for argument in arguments {
         let value = resolve(scope, w, argument, place)?;
         push_value(&mut values, value)?;
-        place = place.behind_inline(argument);
+        place = place.after_inline(argument);
     }
     Ok(values)
 }
@@ -175,7 +175,7 @@ fn resolve_named<'p, 's, W: Write, C: FluentType, F: FluentFunction<C>, B: Conte
     for argument in arguments {
         let value = resolve(scope, w, &argument.value, place)?;
         values.set(CowStr::Borrowed(argument.name.name), value)?;
-        place = place.behind_inline(&argument.value);
+        place = place.after_inline(&argument.value);
     }
     let args = values.finish(scope.bundle.allocator())?;
     Ok(args)

@@ -3,7 +3,7 @@
 
 ghost use Rattle.fluent_tree.specs.References.{in_expression};
 ghost use Rattle.fluent_tree.specs.View.{expression_view};
-ghost use Rattle.fluent_entries.specs.Numbered.{IsPlaced};
+ghost use Rattle.fluent_entries.specs.IdNumbers.{IsPlaced};
 ghost use Rattle.fluent_resolver.specs.Said.{in_select};
 
 use crate::inline_expression::write_inline;

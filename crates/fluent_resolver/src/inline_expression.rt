@@ -7,7 +7,7 @@ ghost use Rattle.fluent_tree.specs.Tree.{function, term};
 ghost use Rattle.fluent_tree.specs.View.{inline_view, arguments_view};
 ghost use Rattle.fluent_meaning.specs.Walk.{written, follow, go};
 ghost use Rattle.fluent_state.specs.FoundView.{IsLed, IsStored, content_at, found_view};
-ghost use Rattle.fluent_entries.specs.Numbered.{IsPlaced};
+ghost use Rattle.fluent_entries.specs.IdNumbers.{IsPlaced};
 ghost use Rattle.fluent_resolver.specs.Said.{term_view};
 ghost use Rattle.fluent_resolver.specs.Sizes.{size, IsBelow};
 

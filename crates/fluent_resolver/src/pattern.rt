@@ -4,9 +4,9 @@
 ghost use Rattle.std.specs.Prelude.{◌≢◌};
 ghost use Rattle.fluent_tree.specs.References.{references};
 ghost use Rattle.fluent_tree.specs.View.{pattern_view};
-ghost use Rattle.fluent_meaning.specs.Meaning.{struck};
+ghost use Rattle.fluent_meaning.specs.Meaning.{limit_reached};
 ghost use Rattle.fluent_meaning.specs.Walk.{has_one, is_marked};
-ghost use Rattle.fluent_entries.specs.Numbered.{IsPlaced};
+ghost use Rattle.fluent_entries.specs.IdNumbers.{IsPlaced};
 ghost use Rattle.fluent_resolver.specs.Said.{in_shown};
 ghost use Rattle.fluent_state.specs.Status.{budget_view, state_parts};
 
@@ -64,7 +64,7 @@ pub(crate) fn write_elements<'p, 's, W: Write, C: FluentType, F: FluentFunction<
                 scope, out, one, expression, place,
             )?,
         }
-        place = place.behind_element(element);
+        place = place.after_element(element);
     }
     Ok(())
 }
@@ -78,7 +78,7 @@ fn write_placeable<'p, 's, W: Write, C: FluentType, F: FluentFunction<C>, B: Con
     expression: &'p Expression<'s>,
     place: Place<'p>,
 ) -> Result<(), Halt>
-    requires left { budget_view scope.old.budget ≢ struck }
+    requires left { budget_view scope.old.budget ≢ limit_reached }
     requires placed { IsPlaced scope.old.ids.now (in_shown expression.now) place }
     ensures { ⟦<W as Says<C, F, B>>⟧.part one expression.now result out.old out.new scope.old scope.new }
 {

@@ -57,7 +57,7 @@ pub(crate) trait Says<C, F, B> {
     /// Of an expression, in a pattern that stands on the path for it where that is empty.
     ghost maybe_tracked: { Pattern → Expression → Writing Self C F B };
 
-    /// Of an expression, and its fallback where it leaves the budget struck.
+    /// Of an expression, and its fallback where the limit is reached after it.
     ghost closed: { Expression → Writing Self C F B };
 
     /// No allocation fails for a pattern of texts alone, where the bundle changes none and no buffer takes them.

@@ -2,7 +2,7 @@
 #![tactic(auto, unfolding(crate::specs::ScopeView::scope_parts, fluent_state::specs::Status::state_parts))]
 
 ghost use Rattle.std.specs.Prelude.{◌≡◌, true};
-ghost use Rattle.fluent_state.specs.Trail.{is_idle};
+ghost use Rattle.fluent_state.specs.PathContents.{is_idle};
 
 use crate::scope_says::Tells;
 use fluent_entries::Ids;
@@ -32,7 +32,7 @@ impl<'errors, 'p, 'r, 's, 'args, C: FluentType, F: FluentFunction<C>, B: Context
     B,
 > {
     ghost use Rattle.std.specs.Prelude.{◌≡◌, ◌↔◌, IfNone, IsOk, IsTrue};
-    ghost use Rattle.fluent_meaning.specs.Meaning.{struck};
+    ghost use Rattle.fluent_meaning.specs.Meaning.{limit_reached};
     ghost use Rattle.fluent_values.specs.View.{resolver_error_view};
     ghost use Rattle.fluent_resolver.specs.ScopeSaid.{listed};
     ghost use Rattle.fluent_resolver.specs.ScopeView.{bundle_in, counts_in, errors_in, scope_parts};
@@ -83,7 +83,7 @@ impl<'errors, 'p, 'r, 's, 'args, C: FluentType, F: FluentFunction<C>, B: Context
 
     /// Whether a placeable past the limit was met.
     pub fn dirty(&self) -> bool
-        ensures { IsTrue result ↔ ((⟦<Self as Tells>⟧.at self.now).budget ≡ struck) }
+        ensures { IsTrue result ↔ ((⟦<Self as Tells>⟧.at self.now).budget ≡ limit_reached) }
     {
         self.state.dirty()
     }
@@ -99,7 +99,7 @@ impl<'errors, 'p, 'r, 's, 'args, C: FluentType, F: FluentFunction<C>, B: Context
     ///
     /// # Errors
     ///
-    /// Memory was refused, which only a list can meet: it is as before.
+    /// An allocation failed, which only a list can meet: it is as before.
     pub fn add_error(&mut self, error: ResolverError) -> Result<(), AllocError>
         ensures added { ⟦<Self as Tells>⟧.reports (resolver_error_view error) result
             self.old self.new }

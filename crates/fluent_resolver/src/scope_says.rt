@@ -1,7 +1,7 @@
 //! What the calls of a scope say, by what the types of its parts state. Contracts alone name it.
 ghost use Rattle.std.specs.Prelude.{Option, Result};
 ghost use Rattle.std.specs.Borrow.{Bor};
-ghost use Rattle.std.specs.declared.alloc.AllocError.{AllocError as Refused};
+ghost use Rattle.std.specs.declared.alloc.AllocError.{AllocError as AllocFailed};
 ghost use Rattle.std.specs.declared.vec.Vec.{Vec};
 ghost use Rattle.std.proofs.Common.{Global};
 ghost use Rattle.fluent_tree.specs.declared.ast.CallArguments.{CallArguments};
@@ -41,11 +41,11 @@ pub(crate) trait Tells {
         Self → Type 0 };
 
     /// The error was added, or none where the answer is no `Ok`.
-    ghost reports: { ResolverError → Result (Unit {0}) Refused → Self → Self → Type 0 };
+    ghost reports: { ResolverError → Result (Unit {0}) AllocFailed → Self → Self → Type 0 };
 
     /// The values of a call's arguments.
     ghost called: { Option (Bor CallArguments) →
-        Result (Vec (FluentValue Self.Own) Global × FluentArgs Self.Own) Refused →
+        Result (Vec (FluentValue Self.Own) Global × FluentArgs Self.Own) AllocFailed →
         Self → Self → Type 0 };
 
     /// Their walk from here is the one that their meaning says.

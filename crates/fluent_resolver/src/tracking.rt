@@ -6,7 +6,7 @@ ghost use Rattle.fluent_tree.specs.View.{arguments_view, inline_view};
 ghost use Rattle.fluent_meaning.specs.Errors.{reference_of};
 ghost use Rattle.fluent_resolver.specs.ScopeSaid.{given_view};
 ghost use Rattle.fluent_resolver.specs.ScopeView.{bundle_in};
-ghost use Rattle.fluent_state.specs.Trail.{is_idle};
+ghost use Rattle.fluent_state.specs.PathContents.{is_idle};
 ghost use Rattle.fluent_resolver.specs.Tracking.{are_none};
 
 use crate::arguments::resolve_call;
@@ -45,7 +45,7 @@ impl<'p, 's, C: FluentType, F: FluentFunction<C>, B: Context<C>> Scope<
     ///
     /// `Writer` where a write failed, `Zero` where a write of a nonempty piece took no byte, `Memory` where memory
     /// was refused. Then what was written begins the text, and what was added begins the errors. Bundle, environment
-    /// and path are as before, a limit that was struck stays so, and no count falls, whatever is answered.
+    /// and path are as before, a limit that was reached stays so, and no count falls, whatever is answered.
     pub fn track<W: Write>(
         &mut self,
         w: &mut Counting<W>,
@@ -65,14 +65,14 @@ impl<'p, 's, C: FluentType, F: FluentFunction<C>, B: Context<C>> Scope<
     }
 
     /// Writes the expression of a placeable of a pattern, which stands on the path for it where that is empty, and
-    /// the expression's fallback in braces where the limit on placeables was struck. It writes no marks, and by
+    /// the expression's fallback in braces where the limit on placeables was reached. It writes no marks, and by
     /// itself takes nothing from the budget; the pattern counts as one that was entered.
     ///
     /// # Errors
     ///
     /// `Writer` where a write failed, `Zero` where a write of a nonempty piece took no byte, `Memory` where memory
     /// was refused. Then what was written begins the text, and what was added begins the errors. Bundle, environment
-    /// and path are as before, a limit that was struck stays so, and no count falls, whatever is answered.
+    /// and path are as before, a limit that was reached stays so, and no count falls, whatever is answered.
     pub fn maybe_track<W: Write>(
         &mut self,
         w: &mut Counting<W>,
@@ -98,7 +98,7 @@ impl<'p, 's, C: FluentType, F: FluentFunction<C>, B: Context<C>> Scope<
     ///
     /// `Writer` where a write failed, `Zero` where a write of a nonempty piece took no byte, `Memory` where memory
     /// was refused, which only a reference can meet. Then what was written begins the text, and what was added begins
-    /// the errors. Bundle, environment and path are as before, a limit that was struck stays so, and no count falls,
+    /// the errors. Bundle, environment and path are as before, a limit that was reached stays so, and no count falls,
     /// whatever is answered.
     pub fn write_ref_error<W: Write>(
         &mut self,
@@ -122,8 +122,8 @@ impl<'p, 's, C: FluentType, F: FluentFunction<C>, B: Context<C>> Scope<
     ///
     /// # Errors
     ///
-    /// Memory was refused: what was added begins the errors. Bundle, environment and path are as before, a limit that
-    /// was struck stays so, and no count falls, whatever is answered.
+    /// An allocation failed: what was added begins the errors. Bundle, environment and path are as before, a limit that
+    /// was reached stays so, and no count falls, whatever is answered.
     pub fn get_arguments(
         &mut self,
         arguments: Option<&'p CallArguments<'s>>,
@@ -185,7 +185,7 @@ fn write_maybe_tracked<'p, 's, W: Write, C: FluentType, F: FluentFunction<C>, B:
     written
 }
 
-/// Writes an expression, and its fallback in braces where it leaves the budget struck.
+/// Writes an expression, and its fallback in braces where the limit is reached after it.
 fn write_closed<'p, 's, W: Write, C: FluentType, F: FluentFunction<C>, B: Context<C>>(
     scope: &mut State<'_, 'p, '_, 's, '_, C, F, B>,
     out: &mut Output<W>,

@@ -3,7 +3,7 @@
 
 ghost use Rattle.std.specs.Prelude.{IfOk};
 ghost use Rattle.fluent_state.specs.ChosenView.{BeginsAt};
-ghost use Rattle.fluent_entries.specs.Numbered.{IsPlaced, numbers};
+ghost use Rattle.fluent_entries.specs.IdNumbers.{IsPlaced, numbers};
 ghost use Rattle.fluent_resolver.specs.Said.{in_select};
 
 use crate::arguments::resolve;
@@ -33,7 +33,7 @@ pub(crate) fn choose_variant<'p, 's, W: Write, C: FluentType, F: FluentFunction<
 {
     match selector {
         InlineExpression::VariableReference { id } => {
-            let place = place.behind_inline(selector);
+            let place = place.after_inline(selector);
             Ok(choose_by_variable(scope, selector, id, variants, place)?)
         }
         _ => choose_by_value(scope, w, selector, variants, place),
@@ -55,10 +55,5 @@ fn choose_by_value<'p, 's, W: Write, C: FluentType, F: FluentFunction<C>, B: Con
     ensures placed { IfOk result (λ chosen. BeginsAt (numbers scope.old.ids.now) chosen) }
 {
     let value = resolve(scope, w, selector, place)?;
-    Ok(choose(
-        scope.bundle,
-        &value,
-        variants,
-        place.behind_inline(selector),
-    ))
+    Ok(choose(scope.bundle, &value, variants, place.after_inline(selector)))
 }

@@ -3,7 +3,7 @@
 
 ghost use Rattle.fluent_tree.specs.References.{references};
 ghost use Rattle.fluent_tree.specs.View.{pattern_view};
-ghost use Rattle.fluent_entries.specs.Numbered.{IsPlaced};
+ghost use Rattle.fluent_entries.specs.IdNumbers.{IsPlaced};
 ghost use Rattle.fluent_resolver.specs.ScopeView.{scope_parts};
 
 use crate::pattern::write_pattern as write_in;

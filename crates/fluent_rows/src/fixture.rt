@@ -31,7 +31,7 @@ pub struct Told {
     pub text: String,
     pub formatted: Option<String>,
     pub errors: String,
-    /// Whether the writer is full behind the text, so that it and the errors begin those of the whole.
+    /// Whether the writer is full after the text, so that it and the errors begin those of the whole.
     pub is_full: bool,
 }
 

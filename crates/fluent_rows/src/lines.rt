@@ -5,7 +5,7 @@
 pub enum Sign {
     /// `#=`: a call and its text.
     Call,
-    /// `#<`: a call to a writer that is full behind a text.
+    /// `#<`: a call to a writer that is full after a text.
     Full,
     /// `#+`: the next line of a text.
     More,
@@ -57,14 +57,14 @@ pub enum Line<'s> {
     Source,
     /// A comment of the source, or an empty line.
     Blank,
-    /// A directive with what stands behind its sign and a blank.
+    /// A directive with what stands after its sign and a blank.
     Directive(Sign, &'s str),
     /// A directive that says nothing known.
     Unknown,
 }
 
-/// What stands behind a word that ends a line or has a blank behind it.
-pub fn behind<'s>(line: &'s str, word: &str) -> Option<&'s str> {
+/// What stands after a word that ends a line or has a blank after it.
+pub fn after<'s>(line: &'s str, word: &str) -> Option<&'s str> {
     let rest = line.strip_prefix(word)?;
     if rest.is_empty() {
         Some(rest)
@@ -82,7 +82,7 @@ fn is_comment(line: &str) -> bool {
 /// The directive of a line that begins with `#` and is no comment.
 fn directive(line: &str) -> Line<'_> {
     for (word, sign) in SIGNS {
-        if let Some(rest) = behind(line, *word) {
+        if let Some(rest) = after(line, *word) {
             return Line::Directive(*sign, rest);
         }
     }

@@ -5,7 +5,7 @@ use crate::settings::{Setting, Settings, setting_of};
 use crate::texts::{around_bar, first_word, unescaped};
 use std::alloc::{AllocError, Global};
 
-/// Where a line stands: its number, its first byte, and the first behind it.
+/// Where a line stands: its number, its first byte, and the first after it.
 #[derive(Clone, Copy, Drop)]
 struct Place {
     number: usize,
@@ -34,10 +34,10 @@ struct Reader<'s> {
 
 /// The part of a text between two places; empty where they are none.
 fn between(text: &str, start: usize, end: usize) -> &str {
-    let Some((front, _)) = text.split_at_checked(end) else {
+    let Some((prefix, _)) = text.split_at_checked(end) else {
         return "";
     };
-    match front.split_at_checked(start) {
+    match prefix.split_at_checked(start) {
         Some((_, part)) => part,
         None => "",
     }

@@ -82,7 +82,7 @@ impl<'n> Report<'n> {
         Ok(())
     }
 
-    /// The same of something behind so many bytes.
+    /// The same of something after so many bytes.
     pub fn holds_at(
         &mut self,
         is_right: bool,

@@ -139,14 +139,14 @@ pub fn setting_of(words: &str) -> Option<Setting<'_>> {
 pub struct Settings<'s> {
     pub is_isolating: bool,
     pub has_builtins: bool,
-    /// Whether functions are added behind the resources.
+    /// Whether functions are added after the resources.
     pub are_last: bool,
     /// Whether letters are made upper case.
     pub is_upper: bool,
     pub formatter: Option<Shows>,
     pub limit: Option<usize>,
     pub rules: Rules<'s>,
-    /// The first of the fixture's functions that are added, and the first behind them.
+    /// The first of the fixture's functions that are added, and the first after them.
     pub functions: (usize, usize),
     pub is_cut: bool,
     pub is_replaced: bool,
@@ -169,7 +169,7 @@ fn with_ordinal<'s>(rules: Rules<'s>, text: &'s str) -> Rules<'s> {
 }
 
 impl<'s> Settings<'s> {
-    /// Those that hold where nothing is set, with no functions behind so many.
+    /// Those that hold where nothing is set, with no functions after so many.
     pub fn unset(functions: usize) -> Settings<'s> {
         Settings {
             is_isolating: true,

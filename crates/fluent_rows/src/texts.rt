@@ -1,8 +1,8 @@
 //! Texts of directives: words, quotes and escapes.
-use crate::lines::behind;
+use crate::lines::after;
 use std::alloc::{AllocError, Global};
 
-/// The character that an escape stands for, and what stands behind it; the backslash is left out.
+/// The character that an escape stands for, and what stands after it; the backslash is left out.
 fn escaped(text: &str) -> Option<(char, &str)> {
     if let Some(digits) = text.strip_prefix("u{") {
         let (digits, rest) = digits.split_once('}')?;
@@ -23,10 +23,10 @@ pub fn unescaped(alloc: Global, text: &str) -> Result<Option<String>, AllocError
     let mut out = String::new(alloc);
     let mut rest = text;
     for _ in 0..=text.len() {
-        let Some((front, escape)) = rest.split_once('\\') else {
+        let Some((prefix, escape)) = rest.split_once('\\') else {
             break;
         };
-        out.push_str(front)?;
+        out.push_str(prefix)?;
         let Some((sign, others)) = escaped(escape) else {
             return Ok(None);
         };
@@ -58,7 +58,7 @@ impl Quotes {
     }
 }
 
-/// The first word of a text, up to a blank that stands outside of quotes, and what stands behind that.
+/// The first word of a text, up to a blank that stands outside of quotes, and what stands after that.
 pub fn first_word(text: &str) -> (&str, &str) {
     let mut quotes = Quotes::default();
     for (at, byte) in text.bytes().enumerate() {
@@ -71,17 +71,17 @@ pub fn first_word(text: &str) -> (&str, &str) {
     (text, "")
 }
 
-/// What stands before and behind the bar at a place, if one stands there.
+/// What stands before and after the bar at a place, if one stands there.
 fn split_at_bar(text: &str, at: usize) -> Option<(&str, &str)> {
-    let (front, rest) = text.split_at_checked(at)?;
-    if front.is_empty() || front.ends_with(' ') {
-        Some((front, behind(rest, "|")?))
+    let (prefix, rest) = text.split_at_checked(at)?;
+    if prefix.is_empty() || prefix.ends_with(' ') {
+        Some((prefix, after(rest, "|")?))
     } else {
         None
     }
 }
 
-/// What stands before and behind the first bar between blanks that stands outside of quotes.
+/// What stands before and after the first bar between blanks that stands outside of quotes.
 pub fn around_bar(text: &str) -> Option<(&str, &str)> {
     let mut quotes = Quotes::default();
     for (at, byte) in text.bytes().enumerate() {

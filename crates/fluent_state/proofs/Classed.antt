@@ -9,9 +9,9 @@ use Rattle.fluent_tree.specs.References.{references}
 use Rattle.fluent_links.specs.Classes.{AreDistinct, HasClass}
 use Rattle.fluent_links.specs.ClassLaws.{same_class}
 use Rattle.fluent_links.specs.Linked.{are_some}
-use Rattle.fluent_entries.specs.Linking.{RefersToNothing}
+use Rattle.fluent_entries.specs.KeptLinks.{RefersToNothing}
 use Rattle.fluent_meaning.specs.Walk.{is_on}
-use Rattle.fluent_state.specs.Trail.{AreReferring, content_of, contents, is_referring}
+use Rattle.fluent_state.specs.PathContents.{AreReferring, content_of, contents, is_referring}
 
 -- the parts of a test of all
 pub first_refers : (table : List Pattern) (c : ℕ) (cs : List ℕ) → AreReferring table (c ∷ cs) → is_referring table c ≡ true

@@ -5,7 +5,7 @@ use Rattle.fluent_tree.specs.Tree.{Key, Pattern, Text, Variants, variants_of}
 use Rattle.fluent_tree.specs.View.{key_view, pattern_view, variant_view}
 use Rattle.fluent_tree.specs.declared.ast.Variant as of_the_variant
 use Rattle.fluent_tree.specs.declared.ast.Variant.{Variant}
-use Rattle.fluent_links.specs.Links.{IsBefore, Links, behind}
+use Rattle.fluent_links.specs.Links.{IsBefore, Links, past}
 use Rattle.fluent_links.specs.PlaceSteps.{enters, in_variant_list, leaves, of_variant, variant_in_turn}
 use Rattle.fluent_links.specs.Places.{seen}
 use Rattle.fluent_links.specs.declared.place.Place.{Place}
@@ -20,9 +20,9 @@ module _ (number : Text → Option ℕ) (vs : List Variant) (i : ℕ) (v : Varia
       subst (λ x. IsBefore number (references x) (seen c.place)) (sym same)
       (subst (λ q. IsBefore number (of_variant v) (seen q)) (sym at) (enters of_variant in_variant_list variant_in_turn vs i v h is number (seen p) before))
 
-  -- the others begin behind it
-  pub begins_behind : (p q : Links) → q ≡ behind (of_variant v) p → IsBefore number (in_variant_list (drop i vs)) p → IsBefore number (in_variant_list (drop (i + 1) vs)) q
-  begins_behind p q at before = leaves of_variant in_variant_list variant_in_turn vs i v h is number p q at before
+  -- the others begin after it
+  pub begins_after : (p q : Links) → q ≡ past (of_variant v) p → IsBefore number (in_variant_list (drop i vs)) p → IsBefore number (in_variant_list (drop (i + 1) vs)) q
+  begins_after p q at before = leaves of_variant in_variant_list variant_in_turn vs i v h is number p q at before
 
 -- ---- which variant is chosen
 

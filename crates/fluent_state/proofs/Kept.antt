@@ -9,12 +9,12 @@ use Rattle.fluent_meaning.specs.Bundle.{first_of, found}
 use Rattle.fluent_meaning.specs.Number.{is_text}
 use Rattle.fluent_state.specs.Facts.Lists.{next_of}
 
--- the first behind so many is the one at that place
-pub first_behind : {X : Type 0} (xs : List X) (i : ℕ) → slice_get (drop i xs) 0 ≡ slice_get xs i
-first_behind [] zero = refl
-first_behind [] (suc i) = refl
-first_behind (x ∷ xs) zero = refl
-first_behind (x ∷ xs) (suc i) = first_behind xs i
+-- the first after so many is the one at that place
+pub first_after : {X : Type 0} (xs : List X) (i : ℕ) → slice_get (drop i xs) 0 ≡ slice_get xs i
+first_after [] zero = refl
+first_after [] (suc i) = refl
+first_after (x ∷ xs) zero = refl
+first_after (x ∷ xs) (suc i) = first_after xs i
 
 -- the pattern of the attribute at a place
 pub pattern_at : (xs : List Attribute) (i : ℕ) (x : Attribute) → i < length xs → x ≡ get_or xs i x → slice_get (map (λ a. pattern_view a.value) xs) i ≡ Some (pattern_view x.value)
@@ -22,12 +22,12 @@ pattern_at [] i x h is = absurd (omega arith)
 pattern_at (y ∷ ys) zero x h is = ap (λ x. Some (pattern_view x.value)) (sym is)
 pattern_at (y ∷ ys) (suc i) x h is = pattern_at ys i x (omega (arith, h)) is
 
--- what is lent is what it is lent from
-pub lent_from : {X : Type 0} (o : Option (Bor X)) (p : Option X) (b : Bor X) → option_copied o ≡ p → o ≡ Some b → p ≡ Some b.now
-lent_from o p b copied is = sym copied ∙ ap option_copied is
+-- what is borrowed is what it is borrowed from
+pub borrowed_from : {X : Type 0} (o : Option (Bor X)) (p : Option X) (b : Bor X) → option_copied o ≡ p → o ≡ Some b → p ≡ Some b.now
+borrowed_from o p b copied is = sym copied ∙ ap option_copied is
 
-pub lent_none : {X : Type 0} (o : Option (Bor X)) (p : Option X) → option_copied o ≡ p → o ≡ None → p ≡ None
-lent_none o p copied is = sym copied ∙ ap option_copied is
+pub borrowed_none : {X : Type 0} (o : Option (Bor X)) (p : Option X) → option_copied o ≡ p → o ≡ None → p ≡ None
+borrowed_none o p copied is = sym copied ∙ ap option_copied is
 
 pub value_is : {X : Type 0} (x y : X) → Some x ≡ Some y → x ≡ y
 value_is x y h = ap (λ o. unwrap_or o x) h

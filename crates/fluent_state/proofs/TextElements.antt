@@ -4,7 +4,7 @@ use Rattle.fluent_tree.specs.Tree.{Text, Expression, text, placeable, more, patt
 use Rattle.fluent_tree.specs.View.{element_view}
 use Rattle.fluent_tree.specs.declared.ast.PatternElement.{PatternElement}
 use Rattle.fluent_entries.specs.Texts.{texts_of}
-use Rattle.fluent_values.specs.Written.{Sink, SinkTook}
+use Rattle.fluent_values.specs.Sinks.{Sink, SinkTook}
 use Rattle.fluent_state.specs.Facts.Lists.{next_of, none_left}
 use Rattle.fluent_values.specs.Facts.Took.{appends_none, took_same, took_whole}
 
@@ -22,6 +22,6 @@ placeable_next es i e x h is p = sym (
     ap (λ es. texts_of (pattern_of (map element_view es))) (next_of es i e h is)
     ∙ ap (λ v. texts_of (more v (pattern_of (map element_view (drop (i + 1) es))))) p)
 
--- behind the last element nothing is left to take
+-- after the last element nothing is left to take
 pub none_to_take : (es : List PatternElement) (i : ℕ) (w : Sink) → length es ≤ i → SinkTook {T = Unit {0}} (Ok tt) (texts_from es i) w w
 none_to_take es i w h = took_same (sym (ap (λ es. texts_of (pattern_of (map element_view es))) (none_left es i h))) (took_whole [] w w (appends_none w.held) (refl, refl) refl refl)

@@ -7,7 +7,7 @@ use Rattle.fluent_meaning.specs.Number.{is_text, same_number}
 use Rattle.fluent_meaning.specs.Value.{Value, text_value, number_value}
 use Rattle.fluent_meaning.specs.Walk.{resolved}
 use Rattle.fluent_meaning.specs.Work.{with_work}
-use Rattle.fluent_state.specs.Along.{Walk, mapping}
+use Rattle.fluent_state.specs.WalkProgress.{Walk, mapping}
 
 -- the first default
 abbrev pub first_default : Variants → Option Pattern

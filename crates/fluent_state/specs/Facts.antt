@@ -4,6 +4,6 @@ pub mod Views
 pub mod Lists
 pub mod Lookups
 pub mod Passing
-pub mod Along
+pub mod WritesUpTo
 pub mod Values
 pub mod Trails

@@ -13,8 +13,8 @@ use Rattle.fluent_links.specs.declared.linked.Linked.{Linked}
 use Rattle.fluent_meaning.specs.Arguments.{get}
 use Rattle.fluent_meaning.specs.Bundle.{Function, Target, unknown, without_value, found, message_target, term_target}
 use Rattle.fluent_entries.specs.EntryView.{entry_of, ids as ids_of}
-use Rattle.fluent_entries.specs.Numbered.{numbers, table}
-use Rattle.fluent_entries.specs.Linking.{RefersToNothing}
+use Rattle.fluent_entries.specs.IdNumbers.{numbers, table}
+use Rattle.fluent_entries.specs.KeptLinks.{RefersToNothing}
 use Rattle.fluent_entries.specs.declared.ids.Ids.{Ids}
 use Rattle.fluent_entries.specs.declared.slot.Slot.{Slot}
 use Rattle.fluent_state.specs.declared.found.Found.{Found}

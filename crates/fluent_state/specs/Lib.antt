@@ -1,8 +1,8 @@
 pub mod Gathered
 pub mod FoundView
-pub mod Trail
+pub mod PathContents
 pub mod Status
-pub mod Along
+pub mod WalkProgress
 pub mod Choice
 pub mod ChosenView
 pub mod Said

@@ -18,12 +18,12 @@ use Rattle.fluent_meaning.specs.Walk as walk
 use Rattle.fluent_meaning.specs.Work.{with_work}
 use Rattle.fluent_entries.specs.EntryView.{ids as ids_of}
 use Rattle.fluent_entries.specs.declared.ids.Ids.{Ids}
-use Rattle.fluent_state.specs.Along.{EndsPattern, Enters, Got, IsAtStart, Leaves, ReportsIfOk, StartsPattern, TakesOne, Walk, Wrote}
+use Rattle.fluent_state.specs.WalkProgress.{EndsPattern, Enters, Evaluates, IsAtStart, Leaves, ReportsIfOk, StartsPattern, TakesOne, Walk, Wrote}
 use Rattle.fluent_state.specs.Choice.{choosing}
 use Rattle.fluent_state.specs.Status.{arguments_view, state, with_ids}
 use Rattle.fluent_state.specs.declared.state.State.{State}
 use Rattle.fluent_values.specs.View.{named, value_view}
-use Rattle.fluent_values.specs.Written.{SinkTook, sink}
+use Rattle.fluent_values.specs.Sinks.{SinkTook, sink}
 use Rattle.fluent_values.specs.declared.args.FluentArgs.{FluentArgs}
 use Rattle.fluent_values.specs.declared.output.Halt.{Halt}
 use Rattle.fluent_values.specs.declared.output.Output.{Output}
@@ -82,7 +82,7 @@ module _ {C F B : Type 0} (meant : B → Bundle Text) (is_plain : B → Bool) (a
   writes contents walk result w w' s s' = Wrote result walk (sink contents w) (sink contents w') (state meant is_plain answer content s) (state meant is_plain answer content s')
 
   abbrev pub gets : {A T : Type 0} → (T → A) → Walk A → Getting T C F B
-  gets see walk result s s' = Got result see walk (state meant is_plain answer content s) (state meant is_plain answer content s')
+  gets see walk result s s' = Evaluates result see walk (state meant is_plain answer content s) (state meant is_plain answer content s')
 
   abbrev pub reports : {T : Type 0} → List Error → Getting T C F B
   reports errors result s s' = ReportsIfOk result errors (state meant is_plain answer content s) (state meant is_plain answer content s')

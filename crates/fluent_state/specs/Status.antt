@@ -11,10 +11,10 @@ use Rattle.fluent_meaning.specs.Value.{Value}
 use Rattle.fluent_meaning.specs.Arguments.{Map}
 use Rattle.fluent_meaning.specs.Bundle.{Bundle, Entry, Function}
 use Rattle.fluent_meaning.specs.Walk.{Environment, application, local}
-use Rattle.fluent_meaning.specs.Meaning.{Budget, left, struck, at_most}
+use Rattle.fluent_meaning.specs.Meaning.{Budget, left, limit_reached, at_most}
 use Rattle.fluent_entries.specs.EntryView.{ids}
-use Rattle.fluent_entries.specs.Numbered.{numbers, table}
-use Rattle.fluent_state.specs.Trail.{on_path}
+use Rattle.fluent_entries.specs.IdNumbers.{numbers, table}
+use Rattle.fluent_state.specs.PathContents.{on_path}
 use Rattle.fluent_values.specs.View.{error_view, named}
 use Rattle.fluent_values.specs.declared.args.FluentArgs.{FluentArgs}
 use Rattle.fluent_entries.specs.declared.errors.FluentError.{FluentError}
@@ -47,7 +47,7 @@ with_errors (Some l) es = Some (l ++ es)
 -- how many more placeables may be opened
 abbrev pub budget_view : budgets.Budget → Budget
 budget_view (budget.Left n) = left n
-budget_view budget.Struck = struck
+budget_view budget.LimitReached = limit_reached
 
 -- ---- what was counted
 
@@ -132,10 +132,10 @@ status_of meant is_plain answer content of =
 abbrev pub state : {C F B : Type 0} → (B → Bundle Text) → (B → Bool) → (F → Function Text) → (C → Text) → State C F B → Status B
 state meant is_plain answer content s = status_of meant is_plain answer content (state_parts s)
 
--- What was opened was taken from the budget: both together are what they were, struck stays struck, and no count falls.
+-- What was opened was taken from the budget: both together are what they were, a limit that was reached stays so, and no count falls.
 pub record Spends {B : Type 0} (s s' : Status B) : Type 0 where
   pub together : counted (s'.tally.opened + at_most s'.budget) ≡ counted (s.tally.opened + at_most s.budget)
-  pub stays_struck : s.budget ≡ struck → s'.budget ≡ struck
+  pub stays_reached : s.budget ≡ limit_reached → s'.budget ≡ limit_reached
   pub opened : s.tally.opened ≤ s'.tally.opened
   pub longest : s.tally.longest ≤ s'.tally.longest
   pub entered : s.tally.entered ≤ s'.tally.entered

@@ -4,7 +4,7 @@
 #[derive(Clone, Copy)]
 pub enum Budget {
     Left(u32),
-    Struck,
+    LimitReached,
 }
 
 /// What a call did: placeables opened, the longest path, patterns entered. Each stands still at the largest number.

@@ -4,10 +4,10 @@ ghost use Rattle.std.specs.Prelude.{◌≡◌, ◌∷◌, [], IfSome, IsTrue, Op
 ghost use Rattle.fluent_tree.specs.References.{a_function, a_message, a_term};
 ghost use Rattle.fluent_tree.specs.View.{attribute_view, pattern_view, value_view as optional_view};
 ghost use Rattle.fluent_meaning.specs.Bundle.{Function, value_target, first_of};
-ghost use Rattle.fluent_entries.specs.Linking.{IsLinked};
+ghost use Rattle.fluent_entries.specs.KeptLinks.{IsLinked};
 ghost use Rattle.fluent_entries.specs.Named.{is_named};
 ghost use Rattle.fluent_state.specs.FoundView.{IsLed, IsLedAmong, IsLedAs, IsMessage, IsNamed, IsStoredAs, IsTerm, content_at, found_view};
-ghost use Rattle.fluent_entries.specs.Numbered.{IsNumberOf, IsPlaced, numbers, table};
+ghost use Rattle.fluent_entries.specs.IdNumbers.{IsNumberOf, IsPlaced, numbers, table};
 
 use crate::says::Answers;
 use fluent_entries::{Entry, Ids, Slot};
@@ -177,13 +177,13 @@ fn first_of<'p, 's>(
         if attribute.id.name == name {
             return Found::Pattern(Target::of(&attribute.value, kept.first()));
         }
-        kept = behind_first(kept);
+        kept = after_first(kept);
     }
     Found::Unknown
 }
 
 /// All but the first.
-fn behind_first(kept: &[Linked]) -> &[Linked]
+fn after_first(kept: &[Linked]) -> &[Linked]
     ensures { result.now ≡ drop 1 kept.now }
 {
     match kept.split_first() {

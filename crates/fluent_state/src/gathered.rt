@@ -41,7 +41,7 @@ impl<'a, C: FluentType> Gathered<'a, C> {
     ///
     /// # Errors
     ///
-    /// Memory was refused.
+    /// An allocation failed.
     #[inline(always)]
     pub fn set(&mut self, name: CowStr<'a>, value: FluentValue<'a, C>) -> Result<(), AllocError>
         ensures { OnOk result (gathered C.content self.new
@@ -60,7 +60,7 @@ impl<'a, C: FluentType> Gathered<'a, C> {
     ///
     /// # Errors
     ///
-    /// Memory was refused.
+    /// An allocation failed.
     #[inline(always)]
     pub fn finish(self, alloc: Global) -> Result<FluentArgs<'a, C>, AllocError>
         ensures { IfOk result (λ args. named C.content args ≡ gathered C.content self.entry) }

@@ -4,7 +4,7 @@
 ghost use Rattle.std.specs.Prelude.{◌≡◌, ◌≢◌, ◌∷◌, [], Err, IsOk, None, false};
 ghost use Rattle.fluent_tree.specs.View.{inline_view};
 ghost use Rattle.fluent_meaning.specs.Errors.{resolver_error, no_value, reference_of};
-ghost use Rattle.fluent_state.specs.Along.{lost_of};
+ghost use Rattle.fluent_state.specs.WalkProgress.{lost_of};
 
 use crate::fallback::put_in_braces;
 use crate::says::{Says, Sees};

@@ -1,5 +1,5 @@
 //! The patterns that are being written, each referred to by the one before it.
-#![tactic(auto, unfolding(crate::specs::Trail::on_path, crate::specs::Trail::classes_on, crate::specs::Trail::is_idle))]
+#![tactic(auto, unfolding(crate::specs::PathContents::on_path, crate::specs::PathContents::classes_on, crate::specs::PathContents::is_idle))]
 
 use fluent_tree::ast::Pattern;
 use smallvec::SmallVec;
@@ -22,7 +22,7 @@ impl<'p, 's> Path<'p, 's> {
     ghost use Rattle.fluent_tree.specs.View.{pattern_view};
     ghost use Rattle.fluent_meaning.specs.Walk.{is_on, inner};
     ghost use Rattle.fluent_state.specs.Status.{counted};
-    ghost use Rattle.fluent_state.specs.Trail.{IsPut, IsTakenOff, StayReferring, StayReferringWith, Tells, classes_on, is_idle, on_path};
+    ghost use Rattle.fluent_state.specs.PathContents.{IsPut, IsTakenOff, StayReferring, StayReferringWith, Tells, classes_on, is_idle, on_path};
 
     /// No pattern. It keeps the allocator and takes no memory yet.
     pub(crate) fn new(alloc: Global) -> Path<'p, 's>
@@ -108,7 +108,7 @@ impl<'p, 's> Path<'p, 's> {
     ///
     /// # Errors
     ///
-    /// Memory was refused: the path is as before.
+    /// An allocation failed: the path is as before.
     #[inline(always)]
     pub(crate) fn enter(
         &mut self,
@@ -120,7 +120,7 @@ impl<'p, 's> Path<'p, 's> {
         ensures bare { IfOk result (λ put. OnFalse put (class ≡ None)) }
         ensures others { IfOk result (λ put. OnFalse put ((table : List Content) →
             on_path table self.old ≢ [])) }
-        ensures refused { OnErr result (self.new ≡ self.old) }
+        ensures alloc_failed { OnErr result (self.new ≡ self.old) }
         ensures classes { StayReferringWith (pattern_view pattern.now) class self.old self.new }
     {
         if self.bottom.is_none() {

@@ -1,4 +1,4 @@
-//! What stands round a placeable: its marks, and its fallback where the limit was struck.
+//! What stands round a placeable: its marks, and its fallback where the limit was reached.
 
 ghost use Rattle.std.specs.Prelude.{◌≡◌};
 ghost use Rattle.fluent_tree.specs.Fallback.{fallback, fallback_of};
@@ -70,7 +70,7 @@ pub fn put_last_mark<W: Write>(out: &mut Output<W>, marked: bool) -> Result<(), 
     }
 }
 
-/// A placeable that was open where the limit was struck ends with its fallback.
+/// A placeable that was open where the limit was reached ends with its fallback.
 pub fn put_ending<W: Write>(
     out: &mut Output<W>,
     expression: &Expression,
@@ -80,7 +80,7 @@ pub fn put_ending<W: Write>(
 {
     match budget {
         Budget::Left(_) => Ok(()),
-        Budget::Struck => put_in_braces(out, shown_part(expression)),
+        Budget::LimitReached => put_in_braces(out, shown_part(expression)),
     }
 }
 

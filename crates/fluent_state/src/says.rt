@@ -1,7 +1,7 @@
 //! What the calls of this crate say, by what the types of their parts state. Contracts alone name it.
 ghost use Rattle.std.specs.Prelude.{Bool, List, Option, Result};
 ghost use Rattle.std.specs.Borrow.{Bor};
-ghost use Rattle.std.specs.declared.alloc.AllocError.{AllocError as Refused};
+ghost use Rattle.std.specs.declared.alloc.AllocError.{AllocError as AllocFailed};
 ghost use Rattle.fluent_tree.specs.Tree.{Text};
 ghost use Rattle.fluent_tree.specs.declared.ast.InlineExpression.{InlineExpression};
 ghost use Rattle.fluent_tree.specs.declared.ast.Pattern.{Pattern};
@@ -62,7 +62,7 @@ impl<W: Write, C: FluentType, F: FluentFunction<C>, B: Context<C>> Says<C, F, B>
 pub(crate) trait Answers<C> {
     /// What one of this id answers to these arguments, if there is one.
     ghost answers: { Ids Self → Text → List (FluentValue C) → FluentArgs C →
-        Result (Option (FluentValue C)) Refused → Type 0 };
+        Result (Option (FluentValue C)) AllocFailed → Type 0 };
 }
 
 impl<C: FluentType, F: FluentFunction<C>> Answers<C> for F {

@@ -1,8 +1,8 @@
 //! What one formatting call carries while it resolves patterns.
 #![tactic(auto, unfolding(crate::specs::Status::state_parts))]
 
-ghost use Rattle.fluent_entries.specs.Numbered.{table};
-ghost use Rattle.fluent_state.specs.Trail.{AreReferring, classes_on};
+ghost use Rattle.fluent_entries.specs.IdNumbers.{table};
+ghost use Rattle.fluent_state.specs.PathContents.{AreReferring, classes_on};
 
 use crate::budget::{Budget, Counts};
 use crate::environment::Environment;
@@ -61,14 +61,14 @@ impl<'errors, 'p, 'r, 's, 'args, C: FluentType, F: FluentFunction<C>, B: Context
 > {
     ghost use Rattle.std.specs.Prelude.{◌≡◌, ◌↔◌, ◌∷◌, [], IfNone, IsOk, IsTrue, true};
     ghost use Rattle.fluent_meaning.specs.Errors.{resolver_error};
-    ghost use Rattle.fluent_meaning.specs.Meaning.{struck};
+    ghost use Rattle.fluent_meaning.specs.Meaning.{limit_reached};
     ghost use Rattle.fluent_values.specs.View.{resolver_error_view};
     ghost use Rattle.fluent_state.specs.Status.{budget_view, state_parts};
     ghost use Rattle.fluent_meaning.specs.Walk.{is_on};
-    ghost use Rattle.fluent_state.specs.Along.{can_open};
+    ghost use Rattle.fluent_state.specs.WalkProgress.{can_open};
     ghost use Rattle.fluent_tree.specs.View.{pattern_view};
     ghost use Rattle.fluent_links.specs.Linked.{IsClassOf};
-    ghost use Rattle.fluent_state.specs.Trail.{is_idle};
+    ghost use Rattle.fluent_state.specs.PathContents.{is_idle};
 
     /// The state in which a call begins, with the whole budget of its bundle, whose ids it is handed too. Errors
     /// are added at the end of the list, if there is one. Without arguments each variable is missing. It takes no
@@ -118,16 +118,16 @@ impl<'errors, 'p, 'r, 's, 'args, C: FluentType, F: FluentFunction<C>, B: Context
 
     /// Whether a placeable past the limit was met.
     pub fn dirty(&self) -> bool
-        ensures { IsTrue result ↔ ((⟦<B as Sees<C, F>>⟧.at self.now).budget ≡ struck) }
+        ensures { IsTrue result ↔ ((⟦<B as Sees<C, F>>⟧.at self.now).budget ≡ limit_reached) }
     {
-        matches!(self.budget, Budget::Struck)
+        matches!(self.budget, Budget::LimitReached)
     }
 
     /// Adds an error at the end of the list, if there is one.
     ///
     /// # Errors
     ///
-    /// Memory was refused, which only a list can meet: it is as before.
+    /// An allocation failed, which only a list can meet: it is as before.
     pub fn add_error(&mut self, error: ResolverError) -> Result<(), AllocError>
         ensures added { ⟦<B as Sees<C, F>>⟧.reports (resolver_error (resolver_error_view error) ∷ []) result
             self.old self.new }
@@ -142,7 +142,7 @@ impl<'errors, 'p, 'r, 's, 'args, C: FluentType, F: FluentFunction<C>, B: Context
         }
     }
 
-    /// Takes one from the budget, or strikes it where none is left.
+    /// Takes one from the budget, or notes that the limit is reached where none is left.
     pub fn take_one(&mut self) -> bool
         ensures opens { result ≡ can_open (budget_view self.old.budget) }
         ensures takes { ⟦<B as Sees<C, F>>⟧.takes_one result self.old self.new }
@@ -154,7 +154,7 @@ impl<'errors, 'p, 'r, 's, 'args, C: FluentType, F: FluentFunction<C>, B: Context
                 true
             }
             _ => {
-                self.budget = Budget::Struck;
+                self.budget = Budget::LimitReached;
                 false
             }
         }
@@ -192,7 +192,7 @@ impl<'errors, 'p, 'r, 's, 'args, C: FluentType, F: FluentFunction<C>, B: Context
     ///
     /// # Errors
     ///
-    /// Memory was refused: path and counts are as before.
+    /// An allocation failed: path and counts are as before.
     #[inline(always)]
     pub fn enter(
         &mut self,

@@ -63,7 +63,7 @@ pub fn resolve_variable<'p, C: FluentType, F: FluentFunction<C>, B: Context<C>>(
             None => Ok(FluentValue::Error),
         },
         Environment::Application(args) => match argument(*args, id.name) {
-            Some(value) => lent(alloc, value),
+            Some(value) => borrowed(alloc, value),
             None => {
                 report_lost(scope, inline)?;
                 Ok(FluentValue::Error)
@@ -88,7 +88,7 @@ pub(crate) fn argument<'p, 'args, C: FluentType>(
 
 /// A copy of a value that borrows its text.
 #[inline(always)]
-fn lent<'v, C: FluentType>(
+fn borrowed<'v, C: FluentType>(
     alloc: Global,
     value: &'v FluentValue<'_, C>,
 ) -> Result<FluentValue<'v, C>, AllocError>

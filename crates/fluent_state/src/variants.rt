@@ -112,7 +112,7 @@ fn first_like<'p, 's>(
         if is_like(word, number, &variant.key) {
             return Some(Chosen::of(variant, at));
         }
-        at = at.behind_pattern(&variant.value);
+        at = at.after_pattern(&variant.value);
     }
     first_default(variants, place)
 }
@@ -151,7 +151,7 @@ fn first_default<'p, 's>(variants: &'p [Variant<'s>], place: Place<'p>) -> Optio
         if variant.default {
             return Some(Chosen::of(variant, at));
         }
-        at = at.behind_pattern(&variant.value);
+        at = at.after_pattern(&variant.value);
     }
     None
 }

@@ -133,12 +133,12 @@ colon s r c d v id e b n k = rw (e, b, n, k) (valued (literal v))
     valued (Some p) = refl
 
 -- a comma
-behind_comma : (c : ℕ) → (c == 44) ≡ true → (32 < c) × ((c == 46) ≡ false) × ((c == 58) ≡ false) × ((c == 40) ≡ false)
-behind_comma c e = (grind (arith, nat_tests), grind (arith, nat_tests), grind (arith, nat_tests), grind (arith, nat_tests))
+after_comma : (c : ℕ) → (c == 44) ≡ true → (32 < c) × ((c == 46) ≡ false) × ((c == 58) ≡ false) × ((c == 40) ≡ false)
+after_comma c e = (grind (arith, nat_tests), grind (arith, nat_tests), grind (arith, nat_tests), grind (arith, nat_tests))
 
 pub message_before : (n : ℕ) (s r : List ℕ) (id : Text) → identifier s ≡ Some (id, r) → (first r == 44) ≡ true → argument (level n) s ≡ Some (positional (message id no_attribute), r)
 message_before n s r id e c =
-    let other = behind_comma (first r) c in
+    let other = after_comma (first r) c in
     let blanks = no_spaces r other.0 in
     let read = (bare_message s r id e other.1).reads (level n) (no_brackets n r r blanks (no_byte 40 r other.3)) in
     plain_at (level n) s r r id e blanks (no_byte 58 r other.2) ∙ (sym (reference_at (level n) s r id e) ∙ rw read refl)

@@ -123,9 +123,9 @@ pub bare_term : (s t r : List ℕ) (id : Text) → byte 45 s ≡ Some (tt, t) �
 bare_term s t r id b e d =
     let other = dash_else (first s) (byte_is 45 s t b) in
     let none = no_name s other.1 in
-    let behind = letter_else (first t) (name_letter t r id e) in
+    let after = letter_else (first t) (name_letter t r id e) in
     record {
-      reads = λ g c. term_at g s t r id (no_literal s other.0 (no_negative s t b behind.2)) (no_function g s none) (no_message s none) b e (no_access r d) c;
+      reads = λ g c. term_at g s t r id (no_literal s other.0 (no_negative s t b after.2)) (no_function g s none) (no_message s none) b e (no_access r d) c;
       stands = refl;
     }
 

@@ -18,7 +18,7 @@ drop_spaces (b ∷ s) (suc n) (suc m) w h l =
     let e : suc n - suc m ≡ n - m = omega arith in
     rw e (drop_spaces s n m (omega arith) (λ k i. h (suc k) (omega arith)) (omega arith))
 
--- a place behind spaces
+-- a place after spaces
 pub boundary-spaces : (s : List ℕ) (n m : ℕ) → IsUtf8 s → n ≤ length s → ((k : ℕ) → k < n → get_or s k 0 ≡ 32) → m ≤ n → IsCharBoundary s m
 boundary-spaces s n zero u w h l = IsCharBoundary-start s u
 boundary-spaces s n (suc m) u w h l =

@@ -43,9 +43,9 @@ popped view old new (y ∷ ys) n len e h =
     let z : n - 1 ≡ length (backwards ys) = omega arith in
     ap (map view) e ∙ (sym (take-map view (n - 1) old) ∙ (ap (take (n - 1)) h ∙ (ap (λ k. take k (backwards ys ++ y ∷ [])) z ∙ take-append_seam (backwards ys) (y ∷ []))))
 
--- an element is added behind
-pub pushed_front : {A B : Type 0} (view : A → B) (old new : List A) (x : A) (y : B) (more : List B) → map view old ≡ backwards more → new ≡ old ++ x ∷ [] → view x ≡ y → map view new ≡ backwards (y ∷ more)
-pushed_front view old new x y more h e seen = ap (map view) e ∙ (map-append view old (x ∷ []) ∙ (ap (λ w. w ++ view x ∷ []) h ∙ ap (λ w. backwards more ++ w ∷ []) seen))
+-- an element is added after
+pub pushed_prefix : {A B : Type 0} (view : A → B) (old new : List A) (x : A) (y : B) (more : List B) → map view old ≡ backwards more → new ≡ old ++ x ∷ [] → view x ≡ y → map view new ≡ backwards (y ∷ more)
+pushed_prefix view old new x y more h e seen = ap (map view) e ∙ (map-append view old (x ∷ []) ∙ (ap (λ w. w ++ view x ∷ []) h ∙ ap (λ w. backwards more ++ w ∷ []) seen))
 
 pub trim_last-is : (xs : List Element) (x : Element) → trim_last (xs ++ x ∷ []) ≡ xs ++ trimmed x
 trim_last-is [] x = refl
@@ -56,17 +56,17 @@ pub length-backwards : {A : Type 0} (xs : List A) → length (backwards xs) ≡ 
 length-backwards [] = refl
 length-backwards (x ∷ xs) = length-append (backwards xs) (x ∷ []) ∙ (ap (λ n. n + 1) (length-backwards xs) ∙ add-one (length xs))
 
--- what is dropped from the last of a list is dropped from its front
-pub trimmed_behind : {A : Type 0} (p : A → Bool) (xs ys : List A) → ys ≡ backwards xs → reverse (without_last p ys) ≡ drop (prefix_len p xs) xs
-trimmed_behind p xs ys e =
+-- what is dropped from the last of a list is dropped from its prefix
+pub trimmed_after : {A : Type 0} (p : A → Bool) (xs ys : List A) → ys ≡ backwards xs → reverse (without_last p ys) ≡ drop (prefix_len p xs) xs
+trimmed_after p xs ys e =
     let n = prefix_len p xs in
     let same : suffix_len p ys ≡ n = ap (λ w. prefix_len p (reverse w)) e ∙ ap (prefix_len p) (backwards-reverse xs) in
     let parts : ys ≡ backwards (drop n xs) ++ backwards (take n xs) = e ∙ (ap backwards (sym (take-append-drop n xs)) ∙ backwards-append (take n xs) (drop n xs)) in
     let total : length ys ≡ length xs = ap length e ∙ length-backwards xs in
-    let behind : length (backwards (drop n xs)) ≡ length xs - n = length-backwards (drop n xs) ∙ length-drop n xs in
+    let after : length (backwards (drop n xs)) ≡ length xs - n = length-backwards (drop n xs) ∙ length-drop n xs in
     let k : length ys - suffix_len p ys ≡ length (backwards (drop n xs)) = omega arith in
-    let front : without_last p ys ≡ backwards (drop n xs) = ap (λ m. take m ys) k ∙ (ap (take (length (backwards (drop n xs)))) parts ∙ take-append_seam (backwards (drop n xs)) (backwards (take n xs))) in
-    ap reverse front ∙ backwards-reverse (drop n xs)
+    let prefix : without_last p ys ≡ backwards (drop n xs) = ap (λ m. take m ys) k ∙ (ap (take (length (backwards (drop n xs)))) parts ∙ take-append_seam (backwards (drop n xs)) (backwards (take n xs))) in
+    ap reverse prefix ∙ backwards-reverse (drop n xs)
 
 -- the last element is taken off and put back trimmed
 pub trimmed_last : {A : Type 0} (view : A → Element) (old new newer : List A) (x y : A) (x' y' : Element) → old ≡ new ++ x ∷ [] → newer ≡ new ++ y ∷ [] → view x ≡ x' → view y ≡ y' → y' ∷ [] ≡ trimmed x' → map view newer ≡ trim_last (map view old)
@@ -81,7 +81,7 @@ trimmed_away view old new x x' e vx t =
     sym (append-nil (map view new)) ∙ (ap (λ w. map view new ++ w) t ∙ (sym (trim_last-is (map view new) x') ∙ ap trim_last (sym whole)))
 
 -- a list up to its last element
-up_to_last : {A : Type 0} (xs : List A) (x : A) (i : ℕ) → i ≡ length xs - 1 → slice_get xs i ≡ Some x → (front : List A) × (xs ≡ front ++ x ∷ [])
+up_to_last : {A : Type 0} (xs : List A) (x : A) (i : ℕ) → i ≡ length xs - 1 → slice_get xs i ≡ Some x → (prefix : List A) × (xs ≡ prefix ++ x ∷ [])
 up_to_last [] x i e h = absurd (cc)
 up_to_last (y ∷ []) x zero e h = ([], cc)
 up_to_last (y ∷ []) x (suc i) e h = absurd (omega arith)

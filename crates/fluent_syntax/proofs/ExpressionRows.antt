@@ -9,7 +9,7 @@ use Rattle.fluent_syntax.specs.Layout as y
 use Rattle.fluent_syntax.specs.Expressions as e
 use Rattle.fluent_syntax.specs.Expressions.{level}
 
--- a string literal, and what stands behind the placeable
+-- a string literal, and what stands after the placeable
 pub row_string : (level 100).braces (codes "{ \"x\" }}") ≡ Some (inline (string (codes "x")), codes "}")
 unfolding p.many_from p.byte p.run1 e.hex_digit e.hex_digits e.escape e.quoted_turn e.string_literal e.digits e.number_parts e.number_literal e.literal e.attribute_access e.message_reference e.function_reference e.optional_call e.term_reference e.inline_expression e.named_argument e.argument e.comma e.argument_comma e.argument_list e.call_arguments e.key_inside e.variant_key e.variant_head e.variant e.variant_list e.arrow e.expression e.inline_placeable e.level l.identifier l.blank_inline l.line_break l.line_end l.blank_turn l.blank e.variable_reference t.words_after t.block_text t.indent t.block_placeable t.pattern_element t.pieces y.lines y.elements l.blank_line l.blank_block
 row_string = refl
@@ -34,7 +34,7 @@ pub row_number : (level 100).braces (codes "{ -007.50 }") ≡ Some (inline (numb
 unfolding p.many_from p.byte p.run1 e.hex_digit e.hex_digits e.escape e.quoted_turn e.string_literal e.digits e.number_parts e.number_literal e.literal e.attribute_access e.message_reference e.function_reference e.optional_call e.term_reference e.inline_expression e.named_argument e.argument e.comma e.argument_comma e.argument_list e.call_arguments e.key_inside e.variant_key e.variant_head e.variant e.variant_list e.arrow e.expression e.inline_placeable e.level l.identifier l.blank_inline l.line_break l.line_end l.blank_turn l.blank e.variable_reference t.words_after t.block_text t.indent t.block_placeable t.pattern_element t.pieces y.lines y.elements l.blank_line l.blank_block
 row_number = refl
 
--- a point wants digits behind it
+-- a point wants digits after it
 pub row_number_point : (level 100).braces (codes "{ 7. }") ≡ None
 unfolding p.many_from p.byte p.run1 e.hex_digit e.hex_digits e.escape e.quoted_turn e.string_literal e.digits e.number_parts e.number_literal e.literal e.attribute_access e.message_reference e.function_reference e.optional_call e.term_reference e.inline_expression e.named_argument e.argument e.comma e.argument_comma e.argument_list e.call_arguments e.key_inside e.variant_key e.variant_head e.variant e.variant_list e.arrow e.expression e.inline_placeable e.level l.identifier l.blank_inline l.line_break l.line_end l.blank_turn l.blank e.variable_reference t.words_after t.block_text t.indent t.block_placeable t.pattern_element t.pieces y.lines y.elements l.blank_line l.blank_block
 row_number_point = refl
@@ -69,12 +69,12 @@ pub row_function : (level 100).braces (codes "{ FUN-1_A\n ( ) }") ≡ Some (inli
 unfolding p.many_from p.byte p.run1 e.hex_digit e.hex_digits e.escape e.quoted_turn e.string_literal e.digits e.number_parts e.number_literal e.literal e.attribute_access e.message_reference e.function_reference e.optional_call e.term_reference e.inline_expression e.named_argument e.argument e.comma e.argument_comma e.argument_list e.call_arguments e.key_inside e.variant_key e.variant_head e.variant e.variant_list e.arrow e.expression e.inline_placeable e.level l.identifier l.blank_inline l.line_break l.line_end l.blank_turn l.blank e.variable_reference t.words_after t.block_text t.indent t.block_placeable t.pattern_element t.pieces y.lines y.elements l.blank_line l.blank_block
 row_function = refl
 
--- arguments by place and by name, and a comma behind the last
+-- arguments by place and by name, and a comma after the last
 pub row_call : (level 100).braces (codes "{ F($a, m.at, { 7 }, n: \"3\",) }x") ≡ Some (inline (function (codes "F") (arguments (argument (variable (codes "a")) (argument (message (codes "m") (attribute (codes "at"))) (argument (nested (inline (number (codes "7")))) no_inlines))) (named_argument (codes "n") (string (codes "3")) no_nameds))), codes "x")
 unfolding p.many_from p.byte p.run1 e.hex_digit e.hex_digits e.escape e.quoted_turn e.string_literal e.digits e.number_parts e.number_literal e.literal e.attribute_access e.message_reference e.function_reference e.optional_call e.term_reference e.inline_expression e.named_argument e.argument e.comma e.argument_comma e.argument_list e.call_arguments e.key_inside e.variant_key e.variant_head e.variant e.variant_list e.arrow e.expression e.inline_placeable e.level l.identifier l.blank_inline l.line_break l.line_end l.blank_turn l.blank e.variable_reference t.words_after t.block_text t.indent t.block_placeable t.pattern_element t.pieces y.lines y.elements l.blank_line l.blank_block
 row_call = refl
 
--- no positional argument behind a named one
+-- no positional argument after a named one
 pub row_positional_last : (level 100).braces (codes "{ F(a, b: 1, c) }") ≡ None
 unfolding p.many_from p.byte p.run1 e.hex_digit e.hex_digits e.escape e.quoted_turn e.string_literal e.digits e.number_parts e.number_literal e.literal e.attribute_access e.message_reference e.function_reference e.optional_call e.term_reference e.inline_expression e.named_argument e.argument e.comma e.argument_comma e.argument_list e.call_arguments e.key_inside e.variant_key e.variant_head e.variant e.variant_list e.arrow e.expression e.inline_placeable e.level l.identifier l.blank_inline l.line_break l.line_end l.blank_turn l.blank e.variable_reference t.words_after t.block_text t.indent t.block_placeable t.pattern_element t.pieces y.lines y.elements l.blank_line l.blank_block
 row_positional_last = refl

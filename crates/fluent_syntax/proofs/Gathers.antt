@@ -20,9 +20,9 @@ last_comma : (g : Level) (s : List ℕ) (x : Argument) (after : List ℕ) → ar
 unfolding argument_comma
 last_comma g s x after e h = rw (e, h)
 
-next_comma : (g : Level) (s : List ℕ) (x : Argument) (after behind : List ℕ) → argument g s ≡ Some (x, after) → comma after ≡ Some (tt, behind) → argument_comma g s ≡ Some (x, behind)
+next_comma : (g : Level) (s : List ℕ) (x : Argument) (after past : List ℕ) → argument g s ≡ Some (x, after) → comma after ≡ Some (tt, past) → argument_comma g s ≡ Some (x, past)
 unfolding argument_comma
-next_comma g s x after behind e h = rw (e, h)
+next_comma g s x after past e h = rw (e, h)
 
 -- no argument follows
 pub gathers-none : (g : Level) (k : ℕ) (before : Gathered) (s : List ℕ) → 0 < k → argument g s ≡ None → gathers g k before s ≡ Some (before, s)
@@ -35,14 +35,14 @@ unfolding gathers
 gathers-last g k before s x after room e h = rw (none add (argument_comma g) k before s room (last_comma g s x after e h), e)
 
 -- the same where argument and comma take nothing
-pub gathers-empty : (g : Level) (k : ℕ) (before : Gathered) (s : List ℕ) (x : Argument) (after behind : List ℕ) → 0 < k → argument g s ≡ Some (x, after) → comma after ≡ Some (tt, behind) → length s ≤ length behind → gathers g k before s ≡ Some (add before x, after)
+pub gathers-empty : (g : Level) (k : ℕ) (before : Gathered) (s : List ℕ) (x : Argument) (after past : List ℕ) → 0 < k → argument g s ≡ Some (x, after) → comma after ≡ Some (tt, past) → length s ≤ length past → gathers g k before s ≡ Some (add before x, after)
 unfolding gathers
-gathers-empty g k before s x after behind room e h le = rw (empty add (argument_comma g) k before s x behind room (next_comma g s x after behind e h) le, e)
+gathers-empty g k before s x after past room e h le = rw (empty add (argument_comma g) k before s x past room (next_comma g s x after past e h) le, e)
 
 -- an argument and a comma follow
-pub gathers-more : (g : Level) (k j : ℕ) (before : Gathered) (s : List ℕ) (x : Argument) (after behind : List ℕ) → k ≡ suc j → argument g s ≡ Some (x, after) → comma after ≡ Some (tt, behind) → length behind < length s → gathers g k before s ≡ gathers g j (add before x) behind
+pub gathers-more : (g : Level) (k j : ℕ) (before : Gathered) (s : List ℕ) (x : Argument) (after past : List ℕ) → k ≡ suc j → argument g s ≡ Some (x, after) → comma after ≡ Some (tt, past) → length past < length s → gathers g k before s ≡ gathers g j (add before x) past
 unfolding gathers
-gathers-more g k j before s x after behind k1 e h lt = ap (λ r. and_then r (last_argument g)) (more add (argument_comma g) k j before s x behind k1 (next_comma g s x after behind e h) lt)
+gathers-more g k j before s x after past k1 e h lt = ap (λ r. and_then r (last_argument g)) (more add (argument_comma g) k j before s x past k1 (next_comma g s x after past e h) lt)
 
 pub gathers-done : (g : Level) (k : ℕ) (before : Gathered) (s : List ℕ) → k ≡ 0 → gathers g k before s ≡ last_argument g before s
 unfolding gathers

@@ -1,4 +1,4 @@
--- The smallest indent, from the front.
+-- The smallest indent, from the start.
 use Rattle.std.proofs.Common.{◌≡◌, ℕ, ◌+◌, ◌<◌, min, map, List, length, get_or, drop, Option, Some, None, refl, ap, arith}
 use Rattle.std.proofs.lemmas.List.{drop_more}
 use Rattle.fluent_syntax.specs.Layout.{smaller, smallest_indent, indent_in}

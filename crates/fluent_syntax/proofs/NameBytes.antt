@@ -24,9 +24,9 @@ same_is true b e = sym e
 same_is false true e = e
 same_is false false e = refl
 
-and_front : (a b : Bool) → (a && b) ≡ true → a ≡ true
-and_front true b e = refl
-and_front false b e = e
+and_prefix : (a b : Bool) → (a && b) ≡ true → a ≡ true
+and_prefix true b e = refl
+and_prefix false b e = e
 
 and_back : (a b : Bool) → (a && b) ≡ true → b ≡ true
 and_back true b e = e
@@ -40,7 +40,7 @@ below (suc n) k e h =
       | inl less ↦ below n k (and_back (same (in_table n) (is_identifier_byte n 0)) (agree n) e) less
       | inr last ↦
           let same_k : k ≡ n = omega arith in
-          rw same_k (same_is (in_table n) (is_identifier_byte n 0) (and_front (same (in_table n) (is_identifier_byte n 0)) (agree n) e))
+          rw same_k (same_is (in_table n) (is_identifier_byte n 0) (and_prefix (same (in_table n) (is_identifier_byte n 0)) (agree n) e))
     ]
 
 pub name_bytes : (k : ℕ) → k < 256 → in_table k ≡ is_identifier_byte k 0

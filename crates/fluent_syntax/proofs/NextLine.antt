@@ -1,4 +1,4 @@
--- A line end with no blank line behind it.
+-- A line end with no blank line after it.
 use Rattle.std.proofs.Common.{◌≡◌, ◌==◌, ℕ, ◌<◌, Bool, true, false, List, length, Some, None, refl, sym, arith, inl, inr, not}
 use Rattle.std.proofs.lemmas.Bool.{cases_Bool, cases_lt}
 use Rattle.std.proofs.lemmas.Bool.Decides.{nat_tests}

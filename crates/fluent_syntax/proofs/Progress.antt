@@ -1,4 +1,4 @@
--- How far a pattern was read: the pieces that stand behind others.
+-- How far a pattern was read: the pieces that stand after others.
 use Rattle.std.proofs.Common.{◌≡◌, ◌==◌, ℕ, zero, suc, ◌+◌, ◌-◌, ◌<◌, ◌≤◌, Bool, true, false, nat_lt, List, [], ◌∷◌, ◌++◌, length, map, take, drop, Some, None, refl, sym, ap, ◌∙◌, subst, arith, inl, inr, append-nil, append_assoc, length-append, length-take, length-drop}
 use Rattle.std.proofs.lemmas.Bool.{cases_Bool}
 use Rattle.std.proofs.lemmas.Bool.Decides.{nat_tests}
@@ -14,8 +14,8 @@ use Rattle.fluent_syntax.specs.Progress.{goes_on, Reached, ended, piece_of, Plai
 use Rattle.fluent_text.specs.Facts.Runs.{run_len-le}
 use Rattle.fluent_text.specs.Facts.Turns.{more}
 use Rattle.fluent_syntax.specs.Facts.OneLine.{stops, stays, not_placeable, no_words, some_words, no_feed}
-use Rattle.fluent_syntax.specs.Facts.Fronts.{Takes, takes-bind, takes-then, takes-byte, takes-pure, takes-if, Lessens, Eats, eats-bind, eats-then, eats-map, eats-or, eats-byte, eats-run1}
-use Rattle.fluent_syntax.specs.Facts.LexicalFronts.{takes-blanks, takes-blank_inline, takes-words_after, takes-indent}
+use Rattle.fluent_syntax.specs.Facts.Prefixes.{Takes, takes-bind, takes-then, takes-byte, takes-pure, takes-if, Lessens, Eats, eats-bind, eats-then, eats-map, eats-or, eats-byte, eats-run1}
+use Rattle.fluent_syntax.specs.Facts.LexicalPrefixes.{takes-blanks, takes-blank_inline, takes-words_after, takes-indent}
 use Rattle.fluent_syntax.specs.Facts.Rules.{eats-blank_block}
 use Rattle.fluent_syntax.specs.Facts.Sound.{takes-sound}
 use Rattle.fluent_syntax.specs.WellFormed.{IsWellFormed}
@@ -274,7 +274,7 @@ takes-braces n = takes-sound (λ e. IsWellFormed e n) (level n).braces (sound-br
 
 eats-words : Eats (words_after None)
 unfolding words_after
-eats-words = eats-bind (run1 is_text) _ (eats-run1 is_text) (λ u. takes-bind (λ s. Some (follows 10 s, s)) _ (record { front = λ s. ([], refl) }) (λ fed. takes-pure (record { indent = None; bytes = u; fed = fed })))
+eats-words = eats-bind (run1 is_text) _ (eats-run1 is_text) (λ u. takes-bind (λ s. Some (follows 10 s, s)) _ (record { prefix = λ s. ([], refl) }) (λ fed. takes-pure (record { indent = None; bytes = u; fed = fed })))
 
 eats-block_text : Eats block_text
 unfolding block_text

@@ -74,7 +74,7 @@ text_to s m within none hit last = sym (run_len-is is_text s m (omega arith) eac
           | inr at ↦ let e : suc j ≡ m = omega arith in ap (λ k. is_text (get_or s j 0) (get_or s k 0)) e ∙ last j e
         ]
 
--- it stands at the front
+-- it stands at the start
 pub text_none : (s : List ℕ) (m : ℕ) → m ≡ 0 → m < length s → Before s m → is_byte3 10 123 125 (get_or s m 0) ≡ true → m ≡ run_len is_text s
 text_none s m z within none hit = text_to s m within none hit (λ j e. absurd (omega arith))
 
@@ -102,7 +102,7 @@ brace_stops d = refl
 feed_stops : (d : ℕ) → is_text 10 d ≡ false
 feed_stops d = refl
 
--- the front is no text
+-- the prefix is no text
 pub text_never : (s : List ℕ) (k : ℕ) → first s ≡ k → ((d : ℕ) → is_text k d ≡ false) → 0 ≡ run_len is_text s
 text_never [] k e stop = refl
 text_never (c ∷ cs) k e stop = let at : is_text c (first cs) ≡ false = ap (λ b. is_text b (first cs)) e ∙ stop (first cs) in rw at refl

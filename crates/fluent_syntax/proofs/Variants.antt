@@ -5,8 +5,8 @@ use Rattle.fluent_text.specs.Parser.{skip, byte, pure, many_from, run1}
 use Rattle.fluent_text.specs.Lexical.{blank, blank_inline, blank_turn, line_end, line_break}
 use Rattle.fluent_syntax.specs.Pieces.{pattern}
 use Rattle.fluent_syntax.specs.Expressions.{level, star, variant, variant_head, variant_key}
-use Rattle.fluent_syntax.specs.Facts.Fronts.{Takes, takes-bind, takes-then, takes-pure, Eats, Lessens, eats-bind, eats-then}
-use Rattle.fluent_syntax.specs.Facts.LexicalFronts.{takes-blanks, takes-spaces, takes-star, takes-variant_key}
+use Rattle.fluent_syntax.specs.Facts.Prefixes.{Takes, takes-bind, takes-then, takes-pure, Eats, Lessens, eats-bind, eats-then}
+use Rattle.fluent_syntax.specs.Facts.LexicalPrefixes.{takes-blanks, takes-spaces, takes-star, takes-variant_key}
 use Rattle.fluent_syntax.specs.Facts.Rules.{eats-line_end}
 use Rattle.fluent_syntax.specs.Facts.Sound.{takes-sound}
 use Rattle.fluent_syntax.specs.Facts.Trees.{OfPattern, sound-pattern, sound-braces}

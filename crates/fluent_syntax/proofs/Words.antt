@@ -10,14 +10,14 @@ use Rattle.fluent_text.specs.Lexical.{is_space, is_text}
 use Rattle.fluent_syntax.specs.Pieces.{follows, words_after}
 use Rattle.fluent_text.specs.Facts.Runs.{boundary-wide, run_len-le, run_len-passes, within_from_byte}
 
--- the end of a text behind an indent
-pub boundary-behind : (line text : List ℕ) (n m len : ℕ) → text ≡ drop n line → n ≤ length line → m ≡ n → IsUtf8 text → len ≡ run_len is_text text → IsCharBoundary line (m + len)
-boundary-behind line text n m len e w em u l =
+-- the end of a text after an indent
+pub boundary-after : (line text : List ℕ) (n m len : ℕ) → text ≡ drop n line → n ≤ length line → m ≡ n → IsUtf8 text → len ≡ run_len is_text text → IsCharBoundary line (m + len)
+boundary-after line text n m len e w em u l =
     let b = boundary-wide is_text text (λ c d h. grind (arith, nat_tests)) in
     let P : List ℕ → Type 0 = λ x. IsCharBoundary x len in
     rw em (IsCharBoundary-from_rest line n len w (subst P e (rw l b)))
 
--- the place after a line feed that follows a front of the line
+-- the place after a line feed that follows a prefix of the line
 pub boundary-feed : (line whole rest : List ℕ) (k : ℕ) → IsUtf8 line → k ≤ length line → whole ≡ take k line → rest ≡ drop k line → get_or rest 0 0 ≡ 10 → IsCharBoundary line (length whole + 1)
 boundary-feed line whole rest k u w ew er h =
     let lw : length whole ≡ k = ap length ew ∙ length-take-le k line w in
@@ -27,12 +27,12 @@ boundary-feed line whole rest k u w ew er h =
     let some : 0 < get_or line k 0 = omega arith in
     rw lw (IsCharBoundary-after_ascii line k u (within_from_byte line k some) (omega arith))
 
-pub indent_is : (s front rest : List ℕ) → run is_space s ≡ Some (front, rest) → IsIndent s (length front) rest
-indent_is s front rest e =
-    let both : ◌≡◌ {A = List ℕ × List ℕ} (take (run_len is_space s) s, drop (run_len is_space s) s) (front, rest) = cc in
-    let f : take (run_len is_space s) s ≡ front = ap (λ p. p.0) both in
+pub indent_is : (s prefix rest : List ℕ) → run is_space s ≡ Some (prefix, rest) → IsIndent s (length prefix) rest
+indent_is s prefix rest e =
+    let both : ◌≡◌ {A = List ℕ × List ℕ} (take (run_len is_space s) s, drop (run_len is_space s) s) (prefix, rest) = cc in
+    let f : take (run_len is_space s) s ≡ prefix = ap (λ p. p.0) both in
     let r : drop (run_len is_space s) s ≡ rest = ap (λ p. p.1) both in
-    let l : length front ≡ run_len is_space s = ap length (sym f) ∙ length-take-le (run_len is_space s) s (run_len-le is_space s) in
+    let l : length prefix ≡ run_len is_space s = ap length (sym f) ∙ length-take-le (run_len is_space s) s (run_len-le is_space s) in
     record {
       len = l;
       within = omega (arith, run_len-le is_space s);

@@ -1,7 +1,7 @@
 -- Facts of the grammar, proved, for the proofs of this crate and of those above. No contract cites them.
-pub mod Fronts
+pub mod Prefixes
 pub mod Literals
-pub mod LexicalFronts
+pub mod LexicalPrefixes
 pub mod Sound
 pub mod LayoutTrees
 pub mod Trees

@@ -14,7 +14,7 @@ pub record Words : Type 0 where
   -- a line feed follows it directly
   pub fed : Bool
 
--- What a pattern takes, in order: so many line ends, text of a line, a placeable. A placeable that begins a line stands behind empty words with its indent.
+-- What a pattern takes, in order: so many line ends, text of a line, a placeable. A placeable that begins a line stands after empty words with its indent.
 pub data Piece : Type 0 where
   line : ℕ → Piece
   words : Words → Piece
@@ -74,9 +74,9 @@ abbrev pub is_feed : Element → Bool
 is_feed (text u) = bytes_eq u (10 ∷ [])
 is_feed (placeable x) = false
 
--- without the line feeds at the front
-abbrev pub trim_front : List Element → List Element
-trim_front xs = drop (prefix_len is_feed xs) xs
+-- without the line feeds at the start
+abbrev pub trim_start : List Element → List Element
+trim_start xs = drop (prefix_len is_feed xs) xs
 
 -- without those at the end that pass
 abbrev pub without_last : {A : Type 0} → (A → Bool) → List A → List A
@@ -97,7 +97,7 @@ trim_last (x ∷ []) = trimmed x
 trim_last (x ∷ y ∷ zs) = x ∷ trim_last (y ∷ zs)
 
 unfoldable pub elements : List Piece → List Element
-elements ps = trim_last (trim_front (lines (common_indent ps) ps))
+elements ps = trim_last (trim_start (lines (common_indent ps) ps))
 
 -- a code type may stand for words
 abbrev pub words_code : Coded Words

@@ -1,6 +1,6 @@
 pub mod Classes
 pub mod Reading
-pub mod Adding
+pub mod Pushing
 pub mod Layout
 pub mod Slice
 pub mod PieceView

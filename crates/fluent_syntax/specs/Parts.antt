@@ -7,7 +7,7 @@ use Rattle.fluent_syntax.specs.Pieces.{pattern}
 use Rattle.fluent_syntax.specs.Expressions.{Level, source_of, quoted_turn, literal, term_reference, attribute_access, provided, is_function_name, key_inside, star}
 use Rattle.fluent_syntax.specs.Entries.{name_of_value, value}
 
--- the quotes: what stands behind the first
+-- the quotes: what stands after the first
 abbrev pub quoted_text : Parser Text
 quoted_text = do
   t ← source_of (count quoted_turn)

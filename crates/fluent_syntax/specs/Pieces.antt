@@ -8,7 +8,7 @@ use Rattle.fluent_syntax.specs.Layout.{Words, Piece, line, words, hole, elements
 abbrev pub follows : ℕ → List ℕ → Bool
 follows c s = first s == c
 
--- text_char+, behind what stands before it on its line
+-- text_char+, after what stands before it on its line
 unfoldable pub words_after : Option ℕ → Parser Words
 words_after indent = do
   u ← run1 is_text
@@ -62,8 +62,8 @@ module _ (inline_placeable : Parser Expression) where
   -- Pattern ::= PatternElement+
   unfoldable pub pieces : Parser (List Piece)
   pieces = do
-    front ← pattern_element
-    (λ s. many_from ◌++◌ pattern_element (length s) front s)
+    prefix ← pattern_element
+    (λ s. many_from ◌++◌ pattern_element (length s) prefix s)
 
   -- with its text as the layout has it
   abbrev pub pattern : Parser Pattern

@@ -35,7 +35,7 @@ abbrev pub ended : List Piece → Parser (List Piece)
 ended [] = λ s. None
 ended (p ∷ ps) = λ s. Some (p ∷ ps, s)
 
--- an element that no line end stands behind, as a piece
+-- an element that no line end stands after, as a piece
 abbrev pub piece_of : Element → Piece
 piece_of (text u) = words (record { indent = None; bytes = u; fed = false })
 piece_of (placeable x) = hole x
@@ -50,7 +50,7 @@ Plain (placeable x ∷ es) = Plain es
 abbrev pub InLine : ℕ → List ℕ → List Element → List ℕ → Type 0
 InLine n whole es s = Reached n whole (map piece_of es) s × Plain es
 
--- what the elements of a pattern's first line say: they are the pattern but for the spaces at its end, or the pattern may go on behind them
+-- what the elements of a pattern's first line say: they are the pattern but for the spaces at its end, or the pattern may go on after them
 abbrev pub IsFirstLine : ℕ → List ℕ → List Element → Line → Type 0
 IsFirstLine n whole es (Whole rest) = (ps : List Piece) × (pieces (level n).braces whole ≡ ended ps rest.now) × (elements ps ≡ trim_last es) × (length ps ≡ length es)
 IsFirstLine n whole es (Open rest) = Reached n whole (map piece_of es) rest.now
@@ -62,7 +62,7 @@ text_pieces = ((λ w. words w ∷ []) <$> inline_text) <|> ((λ p. line p.0 ∷ 
 abbrev pub hole_pieces : ℕ → Parser (List Piece)
 hole_pieces n = ((λ x. hole x ∷ []) <$> (level n).braces) <|> block_placeable (level n).braces
 
--- the pieces that were read, one at least, stand behind those that were there
+-- the pieces that were read, one at least, stand after those that were there
 abbrev pub PushesPieces : Result (Bor (List ℕ)) Stop → List Piece → List Piece → Read (List Piece) → Type 0
 PushesPieces (Ok rest) old new r = (q : Piece) × (qs : List Piece) × (r ≡ Some (q ∷ qs, rest.now)) × (new ≡ old ++ q ∷ qs)
 PushesPieces (Err Absent) old new r = (r ≡ None) × (new ≡ old)

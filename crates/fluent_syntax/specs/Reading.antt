@@ -19,7 +19,7 @@ all view v = map view v.items
 abbrev pub text_view : Bor (List ℕ) → List ℕ
 text_view t = t.now
 
--- n spaces stand at the front of the line, and the rest after them
+-- n spaces stand at the start of the line, and the rest after them
 pub record IsIndent (line : List ℕ) (n : ℕ) (rest : List ℕ) : Type 0 where
   pub len : n ≡ run_len is_space line
   pub within : n ≤ length line

@@ -3,7 +3,7 @@ use crate::check::{Row, check_rows};
 use crate::shown::is_tree;
 use std::alloc::{AllocError, Global};
 
-/// What stands in front, what opens, what stands inside, what closes, what stands behind.
+/// What stands at the start, what opens, what stands inside, what closes, what stands after.
 type Nest = &'static [&'static str];
 
 /// Puts a text that opens and closes so many times.

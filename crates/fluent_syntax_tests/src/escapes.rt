@@ -38,10 +38,10 @@ fn is_written(alloc: Global, text: &str, meaning: &str) -> Result<bool, AllocErr
     }
 }
 
-/// That the text that is made is the meaning, lent where there is no backslash.
+/// That the text that is made is the meaning, borrowed where there is no backslash.
 fn is_made(made: &CowStr<'_>, text: &str, meaning: &str) -> bool {
-    let lent = matches!(made, CowStr::Borrowed(_));
-    is_same(made.as_str(), meaning) && lent != text.contains('\\')
+    let borrowed = matches!(made, CowStr::Borrowed(_));
+    is_same(made.as_str(), meaning) && borrowed != text.contains('\\')
 }
 
 fn is_meant(alloc: Global, text: &str, meaning: &str) -> Result<bool, AllocError> {

@@ -80,7 +80,7 @@ fn are_listed(list: &Result<Vec<Reference<'_>>, AllocError>, these: &[Reference]
     }
 }
 
-/// What a pattern refers to, asked again where memory is refused.
+/// What a pattern refers to, asked again where an allocation fails.
 fn listed<'s>(alloc: Global, pattern: &Pattern<'s>) -> Result<Vec<Reference<'s>>, AllocError> {
     match references(alloc, pattern) {
         Err(AllocError) => references(alloc, pattern),
@@ -98,7 +98,7 @@ fn refers_to(alloc: Global, found: &Found, these: &[Reference]) -> bool {
     }
 }
 
-/// A source as it is read, again where memory is refused.
+/// A source as it is read, again where an allocation fails.
 fn read_again(alloc: Global, source: &'static str) -> Found<'static> {
     match read(alloc, source) {
         Err(AllocError) => read(alloc, source),

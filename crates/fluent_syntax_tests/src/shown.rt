@@ -8,7 +8,7 @@ use fluent_syntax::ast::{
 };
 use std::alloc::{AllocError, Global};
 
-/// A text that grows, and whether memory for a part of it was refused.
+/// A text that grows, and whether an allocation for a part of it failed.
 #[derive(Drop)]
 struct Text {
     text: String,
@@ -21,7 +21,7 @@ fn put(out: &mut Text, text: &str) {
     }
 }
 
-/// Puts texts, one behind the other.
+/// Puts texts, one after the other.
 fn add(out: &mut Text, texts: &[&str]) {
     for text in texts {
         put(out, *text);
@@ -182,7 +182,7 @@ fn inline(out: &mut Text, inline: &InlineExpression) {
     }
 }
 
-/// A name behind its sign, with the attribute.
+/// A name after its sign, with the attribute.
 fn name(out: &mut Text, sign: &str, id: &Identifier, attribute: &Option<Identifier>) {
     match attribute {
         Some(a) => add(out, &[sign, id.name, ".", a.name]),

@@ -1,4 +1,4 @@
-pub mod Front
+pub mod Prefix
 mod Hexadecimal
 mod Unescapes
 mod EscapeRows

@@ -26,17 +26,17 @@ hex_number (suc k) n = hex_digit >>= (λ d. hex_number k (n * 16 + d))
 unfoldable pub numbered : ℕ → Parser Text
 numbered k = character <$> hex_number k 0
 
--- the same behind a letter
-abbrev pub numbered_behind : ℕ → ℕ → Parser Text
-numbered_behind letter k = byte letter >> numbered k
+-- the same after a letter
+abbrev pub numbered_after : ℕ → ℕ → Parser Text
+numbered_after letter k = byte letter >> numbered k
 
--- What stands behind a backslash: another one, a quote, `u` and 4 digits, `U` and 6. Where it is none of these, nothing is taken, and the backslash alone is replaced.
+-- What stands after a backslash: another one, a quote, `u` and 4 digits, `U` and 6. Where it is none of these, nothing is taken, and the backslash alone is replaced.
 unfoldable pub escape : Parser Text
 escape =
     (byte 92 >> pure (92 ∷ []))
     <|> (byte 34 >> pure (34 ∷ []))
-    <|> numbered_behind 117 4
-    <|> numbered_behind 85 6
+    <|> numbered_after 117 4
+    <|> numbered_after 85 6
     <|> pure replacement
 
 -- a run of text without a backslash, or a backslash with what it begins

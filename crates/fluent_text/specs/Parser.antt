@@ -91,12 +91,12 @@ first s = slice_index s 0
 unfoldable pub byte : ℕ → Parser (Unit {0})
 byte c = λ s. if first s == c then Some (tt, drop 1 s) else None
 
--- how many bytes at the front pass, each with the byte after it (0 at the end)
+-- how many bytes at the start pass, each with the byte after it (0 at the end)
 abbrev pub run_len : (ℕ → ℕ → Bool) → List ℕ → ℕ
 run_len p [] = 0
 run_len p (c ∷ cs) = cond (p c (first cs)) (1 + run_len p cs) 0
 
--- the longest front whose bytes pass, which may be empty
+-- the longest prefix whose bytes pass, which may be empty
 abbrev pub run : (ℕ → ℕ → Bool) → Parser (List ℕ)
 run p = λ s. Some (take (run_len p s) s, drop (run_len p s) s)
 

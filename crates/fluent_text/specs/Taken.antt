@@ -15,13 +15,13 @@ took_nothing (Ok zero) [] = false
 took_nothing (Ok (suc n)) piece = false
 took_nothing (Err e) piece = false
 
--- of a piece some front was taken
-abbrev pub TookFront : Option (List ℕ) → Option (List ℕ) → List ℕ → Type 0
-TookFront old new piece = (front : List ℕ) × (rest : List ℕ) × (piece ≡ front ++ rest) × Appends old new front
+-- of a piece some prefix was taken
+abbrev pub TookPrefix : Option (List ℕ) → Option (List ℕ) → List ℕ → Type 0
+TookPrefix old new piece = (prefix : List ℕ) × (rest : List ℕ) × (piece ≡ prefix ++ rest) × Appends old new prefix
 
--- of a piece some was left, behind a front that was taken
+-- of a piece some was left, after a prefix that was taken
 abbrev pub LeftSome : Option (List ℕ) → Option (List ℕ) → List ℕ → Type 0
-LeftSome old new piece = (front : List ℕ) × (rest : List ℕ) × (rest ≢ []) × (piece ≡ front ++ rest) × Appends old new front
+LeftSome old new piece = (prefix : List ℕ) × (rest : List ℕ) × (rest ≢ []) × (piece ≡ prefix ++ rest) × Appends old new prefix
 
 -- which count a fault raised, from the counts before and after
 abbrev pub Faulted : {T : Type 0} → ℕ → ℕ → ℕ → ℕ → Result T WriteFault → Type 0

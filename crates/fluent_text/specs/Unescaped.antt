@@ -12,8 +12,8 @@ abbrev pub bytes_of : Unescaped → Text
 bytes_of (Plain t) = t.now
 bytes_of (Character c) = encode_utf8 c
 
--- the answer is this text, lent and not made
-abbrev pub Lends : Result (CowStr Global) AllocError → Text → Type 0
-Lends (Ok (Borrowed t)) s = t.now ≡ s
-Lends (Ok (Owned t)) s = ⊥
-Lends (Err e) s = ⊥
+-- the answer is this text, borrowed and not made
+abbrev pub Borrows : Result (CowStr Global) AllocError → Text → Type 0
+Borrows (Ok (Borrowed t)) s = t.now ≡ s
+Borrows (Ok (Owned t)) s = ⊥
+Borrows (Err e) s = ⊥

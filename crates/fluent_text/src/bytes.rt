@@ -1,4 +1,4 @@
-//! The bytes at the front of a quoted text.
+//! The bytes at the start of a quoted text.
 ghost use Rattle.std.specs.Prelude.{◌≡◌, ◌+◌, ◌<◌, ◌≤◌, Some, length, slice_index, IfSome};
 ghost use Rattle.fluent_text.specs.Parser as parser;
 ghost use Rattle.fluent_text.specs.Reading.{passed};

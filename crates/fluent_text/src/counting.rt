@@ -20,7 +20,7 @@ pub struct Counting<W> {
     empty: u64,
 }
 
-/// Why a text was not written whole. What the writer took until then is a front of the text.
+/// Why a text was not written whole. What the writer took until then is a prefix of the text.
 #[derive(Debug, Drop)]
 pub enum WriteFault {
     /// There was no memory.

@@ -5,9 +5,9 @@ ghost use Rattle.std.specs.Io.KnownBytes.{Appends};
 ghost use Rattle.std.specs.Cow.{cow_str_bytes};
 ghost use Rattle.std.specs.List.{All};
 ghost use Rattle.fluent_text.specs.Escapes as spec;
-ghost use Rattle.fluent_text.specs.Unescaped.{bytes_of, Lends};
+ghost use Rattle.fluent_text.specs.Unescaped.{bytes_of, Borrows};
 ghost use Rattle.fluent_text.specs.Reading.{found};
-ghost use Rattle.fluent_text.specs.Taken.{LeftSome, TookFront, ByWriter};
+ghost use Rattle.fluent_text.specs.Taken.{LeftSome, TookPrefix, ByWriter};
 ghost use Rattle.fluent_text.specs.Writer.{writer_in, CountsFault};
 
 use crate::bytes::{byte_at, eat, split_plain};
@@ -27,14 +27,14 @@ enum Unescaped<'s> {
 ///
 /// `\\` and `\"` give their second character, `\u` with four and `\U` with six hexadecimal digits
 /// the character of that number, or U+FFFD where there is none. A backslash that begins no escape
-/// gives U+FFFD, and what stands behind it is text.
+/// gives U+FFFD, and what stands after it is text.
 ///
 /// The one error is a fault of the writer: `Writer` with its error, or `Zero` where a write took no byte.
 /// After it the writer has taken a beginning of that text, but not the whole, and nothing is written any more.
 pub fn unescape_unicode<W: Write>(w: &mut Counting<W>, text: &str) -> Result<(), WriteFault>
     ensures whole { OnOk result (Appends (W.contents (writer_in w.old)) (W.contents (writer_in w.new))
         (spec.unescaped text.now)) }
-    ensures front { OnErr result (TookFront (W.contents (writer_in w.old)) (W.contents (writer_in w.new))
+    ensures prefix { OnErr result (TookPrefix (W.contents (writer_in w.old)) (W.contents (writer_in w.new))
         (spec.unescaped text.now)) }
     ensures left { OnErr result (LeftSome (W.contents (writer_in w.old)) (W.contents (writer_in w.new))
         (spec.unescaped text.now)) }
@@ -55,7 +55,7 @@ pub fn unescape_unicode<W: Write>(w: &mut Counting<W>, text: &str) -> Result<(),
 fn put_part<W: Write>(w: &mut Counting<W>, part: Unescaped) -> Result<(), WriteFault>
     ensures whole { OnOk result (Appends (W.contents (writer_in w.old)) (W.contents (writer_in w.new))
         (bytes_of part.entry)) }
-    ensures front { OnErr result (TookFront (W.contents (writer_in w.old)) (W.contents (writer_in w.new))
+    ensures prefix { OnErr result (TookPrefix (W.contents (writer_in w.old)) (W.contents (writer_in w.new))
         (bytes_of part.entry)) }
     ensures left { OnErr result (LeftSome (W.contents (writer_in w.old)) (W.contents (writer_in w.new))
         (bytes_of part.entry)) }
@@ -70,17 +70,17 @@ fn put_part<W: Write>(w: &mut Counting<W>, part: Unescaped) -> Result<(), WriteF
 
 /// A quoted text with its escapes resolved, as `unescape_unicode` writes it.
 ///
-/// Where the text has no backslash, the answer is the text itself, lent: no memory is taken, and the call succeeds.
+/// Where the text has no backslash, the answer is the text itself, borrowed: no memory is taken, and the call succeeds.
 /// Elsewhere the answer is a new text, and the one error is that there was no memory for it.
 pub fn unescape_unicode_to_string<'s>(
     alloc: Global,
     text: &'s str,
 ) -> Result<CowStr<'s>, AllocError>
     ensures text { IfOk result (λ c. cow_str_bytes c ≡ spec.unescaped text.now) }
-    ensures lent { All (λ c. c ≢ 92) text.now → Lends result text.now }
+    ensures borrowed { All (λ c. c ≢ 92) text.now → Borrows result text.now }
 {
-    let (plain, behind) = split_plain(text);
-    if behind.is_empty() {
+    let (plain, after) = split_plain(text);
+    if after.is_empty() {
         return Ok(CowStr::Borrowed(plain));
     }
     Ok(CowStr::Owned(resolved(alloc, text)?))
@@ -111,7 +111,7 @@ fn push_part(out: &mut String, part: Unescaped) -> Result<(), AllocError>
     Ok(())
 }
 
-/// The part at the front, and what follows it.
+/// The part at the start, and what follows it.
 #[tactic(auto, unfolding(crate::specs::Escapes::part, crate::specs::Parser::run1))]
 fn next_part<'s>(text: &'s str) -> Option<(Unescaped<'s>, &'s str)>
     ensures gives { found bytes_of result ≡ spec.part text.now }
@@ -124,7 +124,7 @@ fn next_part<'s>(text: &'s str) -> Option<(Unescaped<'s>, &'s str)>
     Some(escape(eat(text, b'\\')?))
 }
 
-/// What stands behind a backslash means, and what follows it.
+/// What stands after a backslash means, and what follows it.
 #[tactic(auto, unfolding(crate::specs::Escapes::escape))]
 fn escape<'s>(text: &'s str) -> (Unescaped<'s>, &'s str)
     ensures gives { spec.escape text.now ≡ Some (bytes_of result.0, result.1.now) }
@@ -145,13 +145,13 @@ fn escape<'s>(text: &'s str) -> (Unescaped<'s>, &'s str)
     (Unescaped::Character(char::REPLACEMENT_CHARACTER), text)
 }
 
-/// The character of so many hexadecimal digits behind a letter.
+/// The character of so many hexadecimal digits after a letter.
 #[tactic(auto, unfolding(crate::specs::Escapes::numbered))]
 fn numbered(text: &str, letter: u8, count: usize) -> Option<(char, &str)>
     requires some { 0 < letter }
     requires ascii { letter < 128 }
     requires digits { count ≤ 6 }
-    ensures gives { found encode_utf8 result ≡ spec.numbered_behind letter count text.now }
+    ensures gives { found encode_utf8 result ≡ spec.numbered_after letter count text.now }
     ensures shorter { IfSome result (λ p. length p.1.now ≤ length text.now) }
 {
     let (number, rest) = hex_number(eat(text, letter)?, count)?;
@@ -168,7 +168,7 @@ fn character(number: u32) -> char
     }
 }
 
-/// The number of so many hexadecimal digits at the front.
+/// The number of so many hexadecimal digits at the start.
 #[tactic(auto, using(crate::proofs::Hexadecimal::hex_turns))]
 fn hex_number(text: &str, count: usize) -> Option<(u32, &str)>
     requires { count ≤ 6 }

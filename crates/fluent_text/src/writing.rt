@@ -2,7 +2,7 @@
 
 ghost use Rattle.std.specs.Prelude.{◌≡◌, ◌≢◌, OnOk, OnErr};
 ghost use Rattle.std.specs.Io.KnownBytes.{Appends};
-ghost use Rattle.fluent_text.specs.Taken.{LeftSome, TookFront};
+ghost use Rattle.fluent_text.specs.Taken.{LeftSome, TookPrefix};
 ghost use Rattle.fluent_text.specs.Writer.{writer_in, CountsFault};
 
 use crate::counting::{Counting, WriteFault};
@@ -10,13 +10,13 @@ use std::io::Write;
 
 /// Writes the whole piece by single writes, each with what the one before it left.
 ///
-/// A write that fails or takes nothing ends it, and is the one that raised a count; the writer took a front of the piece
+/// A write that fails or takes nothing ends it, and is the one that raised a count; the writer took a prefix of the piece
 /// then, and something is left. It takes no memory.
 #[inline(always)]
 pub fn put<W: Write>(w: &mut Counting<W>, piece: &[u8]) -> Result<(), WriteFault>
     ensures whole { OnOk result (Appends (W.contents (writer_in w.old))
         (W.contents (writer_in w.new)) piece.now) }
-    ensures front { OnErr result (TookFront (W.contents (writer_in w.old))
+    ensures prefix { OnErr result (TookPrefix (W.contents (writer_in w.old))
         (W.contents (writer_in w.new)) piece.now) }
     ensures left { OnErr result (LeftSome (W.contents (writer_in w.old))
         (W.contents (writer_in w.new)) piece.now) }

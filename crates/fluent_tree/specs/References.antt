@@ -79,7 +79,7 @@ inlines_view xs = inlines_of (map inline_view xs)
 abbrev pub nameds_view : List of_named.NamedArgument → Nameds
 nameds_view ns = nameds_of (map named_view ns)
 
--- the new list is the old one with these behind it
+-- the new list is the old one with these after it
 abbrev pub AddsReferences : Vec code.Reference Global → Vec code.Reference Global → List Reference → Type 0
 AddsReferences old new these = references_view new ≡ references_view old ++ these
 

@@ -72,7 +72,7 @@ pub enum Expression<'s> {
     },
 }
 
-/// An expression other than a select. Arguments stand behind a `Box`, since few references have any: an element of a
+/// An expression other than a select. Arguments stand after a `Box`, since few references have any: an element of a
 /// pattern has 104 bytes so, and 144 else.
 #[cycle(tree)]
 #[derive(Debug, Drop)]

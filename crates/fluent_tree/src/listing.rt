@@ -20,10 +20,10 @@ pub enum Reference<'s> {
 
 /// Lists what a pattern refers to, in the order of the tree and as often as it stands there: a reference before what
 /// stands in its arguments, positional ones before named ones, a select's selector before its variants. Of what is
-/// referred to it looks at nothing. The ids are lent by the source.
+/// referred to it looks at nothing. The ids are borrowed from the source.
 ///
-/// Memory is taken for the list alone, and none where the pattern refers to nothing: that call is never refused. Where
-/// memory is refused, nothing is left of the list, and the call can be made again.
+/// Memory is taken for the list alone, and none where the pattern refers to nothing: that call never fails. Where
+/// an allocation fails, nothing is left of the list, and the call can be made again.
 pub fn references<'s>(
     alloc: Global,
     pattern: &Pattern<'s>,
@@ -40,7 +40,7 @@ pub fn references<'s>(
 fn add_pattern<'s>(list: &mut Vec<Reference<'s>>, pattern: &Pattern<'s>) -> Result<(), AllocError>
     ensures added { OnOk result
         (AddsReferences list.old list.new (references (pattern_view pattern.now))) }
-    ensures refused { OnErr result (AreSome (references (pattern_view pattern.now))) }
+    ensures alloc_failed { OnErr result (AreSome (references (pattern_view pattern.now))) }
 {
     for element in &pattern.elements {
         if let PatternElement::Placeable { expression } = element {
@@ -57,7 +57,7 @@ fn add_expression<'s>(
 ) -> Result<(), AllocError>
     ensures added { OnOk result
         (AddsReferences list.old list.new (in_expression (expression_view expression.now))) }
-    ensures refused { OnErr result (AreSome (in_expression (expression_view expression.now))) }
+    ensures alloc_failed { OnErr result (AreSome (in_expression (expression_view expression.now))) }
 {
     match expression {
         Expression::Inline(inline) => add_inline(list, inline),
@@ -75,7 +75,7 @@ fn add_variants<'s>(
 ) -> Result<(), AllocError>
     ensures added { OnOk result
         (AddsReferences list.old list.new (in_variants (variants_view variants.now))) }
-    ensures refused { OnErr result (AreSome (in_variants (variants_view variants.now))) }
+    ensures alloc_failed { OnErr result (AreSome (in_variants (variants_view variants.now))) }
 {
     for variant in variants {
         add_pattern(list, &variant.value)?;
@@ -90,7 +90,7 @@ fn add_inline<'s>(
 ) -> Result<(), AllocError>
     ensures added { OnOk result
         (AddsReferences list.old list.new (in_inline (inline_view inline.now))) }
-    ensures refused { OnErr result (AreSome (in_inline (inline_view inline.now))) }
+    ensures alloc_failed { OnErr result (AreSome (in_inline (inline_view inline.now))) }
 {
     match inline {
         InlineExpression::FunctionReference { id, arguments } => {
@@ -122,7 +122,7 @@ fn add_arguments<'s>(
 ) -> Result<(), AllocError>
     ensures added { OnOk result
         (AddsReferences list.old list.new (in_arguments (arguments_view arguments.now))) }
-    ensures refused { OnErr result (AreSome (in_arguments (arguments_view arguments.now))) }
+    ensures alloc_failed { OnErr result (AreSome (in_arguments (arguments_view arguments.now))) }
 {
     add_positional(list, &arguments.positional)?;
     add_named(list, &arguments.named)
@@ -135,7 +135,7 @@ fn add_positional<'s>(
 ) -> Result<(), AllocError>
     ensures added { OnOk result
         (AddsReferences list.old list.new (in_positional (inlines_view positional.now))) }
-    ensures refused { OnErr result (AreSome (in_positional (inlines_view positional.now))) }
+    ensures alloc_failed { OnErr result (AreSome (in_positional (inlines_view positional.now))) }
 {
     for argument in positional {
         add_inline(list, argument)?;
@@ -150,7 +150,7 @@ fn add_named<'s>(
 ) -> Result<(), AllocError>
     ensures added { OnOk result
         (AddsReferences list.old list.new (in_named (nameds_view named.now))) }
-    ensures refused { OnErr result (AreSome (in_named (nameds_view named.now))) }
+    ensures alloc_failed { OnErr result (AreSome (in_named (nameds_view named.now))) }
 {
     for argument in named {
         add_inline(list, &argument.value)?;

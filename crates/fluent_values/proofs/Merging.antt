@@ -9,7 +9,7 @@ use Rattle.fluent_meaning.specs.Number.{as_count, is_text}
 use Rattle.fluent_meaning.specs.Value.{Value, text_value, number_value, custom_value, no_value, error_value}
 use Rattle.fluent_meaning.specs.Arguments.{Map, merge, merge_one}
 use Rattle.fluent_values.specs.Merging.{currency_by, with_currency, with_one, with_rest}
-use Rattle.fluent_values.specs.Facts.Ordered.{bytes_cmp, front_of, rest_of, not_below_itself}
+use Rattle.fluent_values.specs.Facts.Ordered.{bytes_cmp, prefix_of, rest_of, not_below_itself}
 
 -- ---- the chain of tests on a name, with the tests as variables
 
@@ -110,7 +110,7 @@ looked_up (e ∷ es) s o =
     by : (b : Bool) → is_eq (bytes_cmp name e.0) ≡ b → currency_by (find bytes_cmp name es) (merge_one e.0 e.1 o).currency ≡ currency_by (cond b (Some e.1) (find bytes_cmp name es)) o.currency
     by true j =
         let mine = same_test e.0 name true j in
-        let none = subst (λ k. find bytes_cmp k es ≡ None) ((bytes_decides e.0 name).0 mine) (not_below_itself e.0 es (front_of _ _ s)) in
+        let none = subst (λ k. find bytes_cmp k es ≡ None) ((bytes_decides e.0 name).0 mine) (not_below_itself e.0 es (prefix_of _ _ s)) in
         ap (λ f. currency_by f (merge_one e.0 e.1 o).currency) none
         ∙ step e.0 e.1 o ∙ ap (λ c. if c then by_text e.1 o.currency else o.currency) mine
     by false j =

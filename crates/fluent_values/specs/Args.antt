@@ -18,9 +18,9 @@ use Rattle.fluent_values.specs.declared.args.ArgsIntoIter.{ArgsIntoIter}
 abbrev pub pair_view : {C : Type 0} → (C → Text) → CowStr Global × FluentValue C → Text × Value Text
 pair_view content p = (cow_str_bytes p.0, value_view content p.1)
 
--- the same of one that is lent
-abbrev pub lent_view : {C : Type 0} → (C → Text) → Bor Text × Bor (FluentValue C) → Text × Value Text
-lent_view content p = (p.0.now, value_view content p.1.now)
+-- the same of one that is borrowed
+abbrev pub borrowed_view : {C : Type 0} → (C → Text) → Bor Text × Bor (FluentValue C) → Text × Value Text
+borrowed_view content p = (p.0.now, value_view content p.1.now)
 
 -- what an iterator has left to give
 unfoldable pub shown_left : {C : Type 0} → (C → Text) → ArgsIter C → Map (Value Text)

@@ -11,7 +11,7 @@ use Rattle.fluent_intl.specs.Options.{default_options}
 use Rattle.fluent_intl.specs.declared.number.FluentNumber.{FluentNumber}
 use Rattle.fluent_meaning.specs.Value.{Value, text_value, number_value}
 use Rattle.fluent_meaning.specs.Arguments.{Map}
-use Rattle.fluent_values.specs.Free.{IsTextless, IsLent, IsTextGiven, AsksForCurrency}
+use Rattle.fluent_values.specs.ValuesWithoutMemory.{IsTextless, IsBorrowed, IsTextGiven, AsksForCurrency}
 use Rattle.fluent_values.specs.declared.types.custom.NoCustom.{NoCustom}
 use Rattle.fluent_values.specs.declared.types.value.FluentValue.{FluentValue}
 use Rattle.fluent_values.specs.declared.types.value.FluentValue.TheVariants as values
@@ -50,14 +50,14 @@ pub record Textless : Type 0 where
   pub not_custom : (x : NoCustom) → IsTextless (custom x) → ⊥
 
 -- a copy of a value, whose text may stay borrowed
-pub record Lent : Type 0 where
-  pub of_none : IsLent none
-  pub of_error : IsLent error
-  pub plain : (n : FluentNumber) → n.options.currency ≡ None → IsLent (number n)
-  pub of_borrowed : (t : Bor Text) → IsLent (borrowed t)
-  pub not_currency : (n : FluentNumber) (code : Owned Global) → n.options.currency ≡ Some code → IsLent (number n) → ⊥
-  pub not_owned : (s : Owned Global) → IsLent (owned s) → ⊥
-  pub not_custom : (x : NoCustom) → IsLent (custom x) → ⊥
+pub record BorrowedTexts : Type 0 where
+  pub of_none : IsBorrowed none
+  pub of_error : IsBorrowed error
+  pub plain : (n : FluentNumber) → n.options.currency ≡ None → IsBorrowed (number n)
+  pub of_borrowed : (t : Bor Text) → IsBorrowed (borrowed t)
+  pub not_currency : (n : FluentNumber) (code : Owned Global) → n.options.currency ≡ Some code → IsBorrowed (number n) → ⊥
+  pub not_owned : (s : Owned Global) → IsBorrowed (owned s) → ⊥
+  pub not_custom : (x : NoCustom) → IsBorrowed (custom x) → ⊥
 
 -- ---- contents
 

@@ -62,7 +62,7 @@ impl<'a, C: FluentType> FluentArgs<'a, C> {
     ///
     /// # Errors
     ///
-    /// Memory was refused, which an iterator that gives nothing can't meet.
+    /// An allocation failed, which an iterator that gives nothing can't meet.
     pub fn try_from_iter<I: Iterator<Item = (CowStr<'a>, FluentValue<'a, C>)>>(
         alloc: Global,
         pairs: I,
@@ -95,7 +95,7 @@ impl<'a, C: FluentType> FluentArgs<'a, C> {
     ///
     /// # Errors
     ///
-    /// Memory was refused, which only a new name can meet: the arguments are as before, and the pair is
+    /// An allocation failed, which only a new name can meet: the arguments are as before, and the pair is
     /// dropped.
     #[inline(always)]
     pub fn set(&mut self, name: CowStr<'a>, value: FluentValue<'a, C>) -> Result<(), AllocError>
@@ -138,7 +138,7 @@ impl<'a, C: FluentType> FluentArgs<'a, C> {
     }
 }
 
-/// Puts an item at a place among others. Behind all of them it is pushed, which moves it once less.
+/// Puts an item at a place among others. After all of them it is pushed, which moves it once less.
 #[inline(always)]
 fn insert_at<X: Drop>(items: &mut Vec<X>, at: usize, item: X) -> Result<(), AllocError>
     requires { at ≤ length items.old.items }
@@ -153,7 +153,7 @@ fn insert_at<X: Drop>(items: &mut Vec<X>, at: usize, item: X) -> Result<(), Allo
     Ok(())
 }
 
-/// The names of arguments with their values, lent in the order of the names' bytes.
+/// The names of arguments with their values, borrowed in the order of the names' bytes.
 #[derive(Drop)]
 pub struct ArgsIter<'x, 'a, C> {
     inner: slice::Iter<'x, (CowStr<'a>, FluentValue<'a, C>)>,
@@ -163,9 +163,9 @@ impl<'x, 'a, C: FluentType> Iterator for ArgsIter<'x, 'a, C> {
     type Item = (&'x str, &'x FluentValue<'a, C>);
 
     ghost use Rattle.std.specs.Iterator.{YieldsFirstBy, item_count};
-    ghost use Rattle.fluent_values.specs.Args.{lent_view, shown_left};
+    ghost use Rattle.fluent_values.specs.Args.{borrowed_view, shown_left};
 
-    ghost next_gives = { YieldsFirstBy (lent_view C.content) (shown_left C.content) };
+    ghost next_gives = { YieldsFirstBy (borrowed_view C.content) (shown_left C.content) };
 
     ghost remaining = { item_count (shown_left C.content) };
 

@@ -2,7 +2,7 @@
 ghost use Rattle.std.specs.Prelude.{◌≡◌, map, IfOk, OnErr};
 ghost use Rattle.fluent_meaning.specs.Arguments.{number_function};
 ghost use Rattle.fluent_values.specs.View.{value_view, named};
-ghost use Rattle.fluent_values.specs.Free.{AsksForCurrency};
+ghost use Rattle.fluent_values.specs.ValuesWithoutMemory.{AsksForCurrency};
 
 use crate::args::FluentArgs;
 use crate::types::{FluentType, FluentValue, MergeArgs};
@@ -13,7 +13,7 @@ use std::alloc::{AllocError, Global};
 ///
 /// # Errors
 ///
-/// Memory was refused, which only a currency can meet, of the number or of the arguments.
+/// An allocation failed, which only a currency can meet, of the number or of the arguments.
 #[allow(non_snake_case)]
 pub fn NUMBER<'a, C: FluentType>(
     alloc: Global,

@@ -44,7 +44,7 @@ pub trait Context<C: FluentType> {
     ///
     /// # Errors
     ///
-    /// Memory was refused.
+    /// An allocation failed.
     fn change<'t>(&self, text: &'t str) -> Result<CowStr<'t>, AllocError>
         ensures text { IfOk result (λ changed. cow_str_bytes changed
             ≡ (meant self.now).transform text.now) }
@@ -54,7 +54,7 @@ pub trait Context<C: FluentType> {
     ///
     /// # Errors
     ///
-    /// Memory was refused.
+    /// An allocation failed.
     fn formatted(&self, value: &FluentValue<'_, C>) -> Result<Option<String>, AllocError>
         ensures answer { IfOk result (λ text. option_map string_bytes text
             ≡ (meant self.now).formatter (value_view C.content value.now)) }

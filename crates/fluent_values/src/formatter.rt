@@ -18,7 +18,7 @@ pub trait FluentFormatter<C: FluentType, M>: Drop {
     ///
     /// # Errors
     ///
-    /// Memory was refused.
+    /// An allocation failed.
     fn format<'a>(
         &self,
         alloc: Global,

@@ -21,7 +21,7 @@ pub trait FluentFunction<C: FluentType>: Drop {
     ///
     /// # Errors
     ///
-    /// Memory was refused.
+    /// An allocation failed.
     fn call<'a>(
         &self,
         alloc: Global,

@@ -1,9 +1,9 @@
 //! Rows of definitions.
-ghost use Rattle.fluent_values.specs.FreeRows.{Currencies, Lent, Textless};
+ghost use Rattle.fluent_values.specs.FreeRows.{Currencies, BorrowedTexts, Textless};
 
 /// Which values are copied without memory, and when NUMBER takes some.
 pub fn what_takes_no_memory()
     ensures textless { Textless }
-    ensures lent { Lent }
+    ensures borrowed { BorrowedTexts }
     ensures currencies { Currencies }
 {}

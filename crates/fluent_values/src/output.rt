@@ -1,7 +1,7 @@
 //! Where the text of a formatting call goes, and why it may stop.
 ghost use Rattle.std.specs.Prelude.{◌≡◌, ◌≢◌, Err, false};
 ghost use Rattle.fluent_text.specs.Escapes.{unescaped};
-ghost use Rattle.fluent_values.specs.Written.{halt_of, sink, without_error, SinkTook};
+ghost use Rattle.fluent_values.specs.Sinks.{halt_of, sink, without_error, SinkTook};
 
 use fluent_text::{Counting, WriteFault, put, unescape_unicode, unescape_unicode_to_string};
 use std::alloc::{AllocError, Global};

@@ -4,7 +4,7 @@ ghost use Rattle.std.specs.Cow.{cow_str_bytes};
 ghost use Rattle.fluent_meaning.specs.Bundle.{shown};
 ghost use Rattle.fluent_meaning.specs.Value.{matches, value_text};
 ghost use Rattle.fluent_values.specs.View.{value_view};
-ghost use Rattle.fluent_values.specs.Written.{sink, writer, without_error, SinkTook};
+ghost use Rattle.fluent_values.specs.Sinks.{sink, writer, without_error, SinkTook};
 
 use crate::context::{Context, HasBundle};
 use crate::output::{Halt, Output, put_text, with_error};
@@ -107,7 +107,7 @@ impl<'v, C: FluentType> FluentValue<'v, C> {
     ///
     /// # Errors
     ///
-    /// Memory was refused.
+    /// An allocation failed.
     pub fn as_string<S: HasBundle<C>>(&self, scope: &S) -> Result<CowStr<'v>, AllocError>
         ensures { IfOk result (λ text. cow_str_bytes text
             ≡ shown (S.Bundle.meant (S.bundle_of scope.now)) (value_view C.content self.now)) }
@@ -124,7 +124,7 @@ impl<'v, C: FluentType> FluentValue<'v, C> {
     ///
     /// # Errors
     ///
-    /// Memory was refused.
+    /// An allocation failed.
     pub fn into_string<S: HasBundle<C>>(self, scope: &S) -> Result<CowStr<'v>, AllocError>
         ensures { IfOk result (λ text. cow_str_bytes text
             ≡ shown (S.Bundle.meant (S.bundle_of scope.now)) (value_view C.content self.entry)) }

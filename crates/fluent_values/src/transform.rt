@@ -13,7 +13,7 @@ pub trait Transform: Drop {
     ///
     /// # Errors
     ///
-    /// Memory was refused.
+    /// An allocation failed.
     fn transform(&self, alloc: Global, text: &str) -> Result<String, AllocError>
         ensures { IfOk result (λ made. string_bytes made ≡ changed self.now text.now) };
 }

@@ -8,8 +8,8 @@ use std::alloc::{AllocError, Global};
 
 /// The part of a source between two places.
 pub fn part_of<'x>(source: &'x str, start: usize, end: usize) -> Option<&'x str> {
-    let (front, _) = source.split_at_checked(end)?;
-    let (_, part) = front.split_at_checked(start)?;
+    let (prefix, _) = source.split_at_checked(end)?;
+    let (_, part) = prefix.split_at_checked(start)?;
     Some(part)
 }
 
@@ -21,7 +21,7 @@ fn is_line_start(bytes: &[u8], place: usize) -> bool {
     }
 }
 
-/// Whether reading begins anew at a place behind Junk: at the end of the text, or where a line begins with `#`, `-` or
+/// Whether reading begins anew at a place after Junk: at the end of the text, or where a line begins with `#`, `-` or
 /// an ASCII letter.
 fn is_new_start(bytes: &[u8], place: usize) -> bool {
     match bytes.get(place) {
@@ -33,7 +33,7 @@ fn is_new_start(bytes: &[u8], place: usize) -> bool {
     }
 }
 
-/// Whether a range is that of Junk which begins there: a line and all behind it up to the first new start.
+/// Whether a range is that of Junk which begins there: a line and all after it up to the first new start.
 fn reaches_to_its_end(bytes: &[u8], range: &ParserError) -> bool {
     for place in range.start.saturating_add(1)..range.end {
         if is_new_start(bytes, place) {

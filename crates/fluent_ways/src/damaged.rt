@@ -58,8 +58,8 @@ fn count(text: &[u8], part: &[u8]) -> usize {
 /// Whether each U+2068 of a text has its U+2069, and the limit is reported once at most.
 fn is_well(written: &Written) -> bool {
     let text = written.0.as_slice();
-    let strikes = count(written.1.as_str().as_bytes(), b"Too many placeables");
-    count(text, &[0xe2, 0x81, 0xa8]) == count(text, &[0xe2, 0x81, 0xa9]) && strikes <= 1
+    let reaches_limit = count(written.1.as_str().as_bytes(), b"Too many placeables");
+    count(text, &[0xe2, 0x81, 0xa8]) == count(text, &[0xe2, 0x81, 0xa9]) && reaches_limit <= 1
 }
 
 /// Whether a pattern gives a text, with arguments and without.
@@ -168,8 +168,8 @@ fn hold_cut(
 ) -> Result<(), AllocError> {
     let source = damaged.part.source;
     for at in 0..source.len() {
-        if let Some((front, _)) = source.split_at_checked(at) {
-            let is_right = answer_in(alloc, damaged, front, report)?;
+        if let Some((prefix, _)) = source.split_at_checked(at) {
+            let is_right = answer_in(alloc, damaged, prefix, report)?;
             report.holds_at(is_right, "the source that is cut", at)?;
         }
     }
@@ -183,12 +183,12 @@ fn replaced(
     at: usize,
     sign: &str,
 ) -> Result<Option<String>, AllocError> {
-    let Some((front, rest)) = source.split_at_checked(at) else {
+    let Some((prefix, rest)) = source.split_at_checked(at) else {
         return Ok(None);
     };
     let mut signs = rest.chars();
     let _replaced = signs.next();
-    let mut out = String::from_str(alloc, front)?;
+    let mut out = String::from_str(alloc, prefix)?;
     out.push_str(sign)?;
     out.push_str(signs.as_str())?;
     Ok(Some(out))

@@ -3,7 +3,7 @@ use crate::bundles::{Bundle, all, pattern_in, read_all};
 use crate::damaged;
 use crate::objects::{Formatter, Function, Plurals, Star, Upper};
 use crate::values::{Args, arguments};
-use crate::ways::{are_told, call_by_id, call_for, finds_nothing, hold, stops_behind};
+use crate::ways::{are_told, call_by_id, call_for, finds_nothing, hold, stops_after};
 use fluent_bundle::ast::Pattern;
 use fluent_chain::{Chain, Link};
 use fluent_rows::fixture::{Fixture, Row, Told, Wanted};
@@ -72,8 +72,8 @@ fn gives<'s>(
     let asked = call_for(bundle, pattern, args);
     let by_id = call_by_id(bundle, row.id, row.attribute, args);
     if told.is_full {
-        stops_behind(alloc, &asked, told, report)?;
-        return stops_behind(alloc, &by_id, told, report);
+        stops_after(alloc, &asked, told, report)?;
+        return stops_after(alloc, &by_id, told, report);
     }
     hold(alloc, &asked, told, report)?;
     hold(alloc, &by_id, told, report)?;

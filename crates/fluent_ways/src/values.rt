@@ -49,7 +49,7 @@ fn number_of<'s>(alloc: Global, words: &'s str) -> Result<Option<Value<'s>>, All
     }
 }
 
-/// A value by the word behind an at sign.
+/// A value by the word after an at sign.
 fn object_of<'s>(alloc: Global, word: &'s str) -> Result<Option<Value<'s>>, AllocError> {
     match word.strip_prefix("number:") {
         Some(words) => number_of(alloc, words),
@@ -104,11 +104,11 @@ pub fn arguments<'s>(alloc: Global, words: &'s str) -> Result<Option<Args<'s>>, 
         if rest.is_empty() {
             break;
         }
-        let (word, behind) = first_word(rest);
+        let (word, after) = first_word(rest);
         if !set(alloc, &mut args, word)? {
             return Ok(None);
         }
-        rest = behind;
+        rest = after;
     }
     Ok(Some(args))
 }

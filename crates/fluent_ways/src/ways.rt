@@ -194,12 +194,12 @@ fn is_one_fault(how: How, end: End, failed: u64, empty: u64) -> bool {
     }
 }
 
-/// That a full writer has taken the front of a text, as much as it may.
-fn is_front(taken: &[u8], how: How, text: &str) -> bool {
+/// That a full writer has taken the prefix of a text, as much as it may.
+fn is_prefix(taken: &[u8], how: How, text: &str) -> bool {
     taken.len() == how.in_all && text.as_bytes().starts_with(taken)
 }
 
-/// Writes what is asked for to a writer that takes a front of its text: what it took is that, and the lines of the errors that
+/// Writes what is asked for to a writer that takes a prefix of its text: what it took is that, and the lines of the errors that
 /// were added.
 fn stopped(
     alloc: Global,
@@ -215,9 +215,9 @@ fn stopped(
         return Err(AllocError);
     }
     let is_one = is_one_fault(how, end, w.failed(), w.empty());
-    let is_front = is_front(w.into_inner().taken.as_slice(), how, text);
+    let is_prefix = is_prefix(w.into_inner().taken.as_slice(), how, text);
     report.holds_at(
-        is_one && is_front,
+        is_one && is_prefix,
         asked.way(
             "write_pattern to a writer that is full",
             "write by id to a writer that is full",
@@ -240,8 +240,8 @@ fn stops(
     report.holds_at(begin, "errors where a writer is full", how.in_all)
 }
 
-/// Full behind the text of a row, in each way: the errors are exactly those of the row.
-pub fn stops_behind(
+/// Full after the text of a row, in each way: the errors are exactly those of the row.
+pub fn stops_after(
     alloc: Global,
     asked: &Asked<'_, '_, '_, '_>,
     told: &Told,
@@ -269,7 +269,7 @@ pub fn stops_behind(
     Ok(())
 }
 
-/// Whether a writer is to stop behind so many bytes: behind each of the first two hundred, and further each sixty-first.
+/// Whether a writer is to stop after so many bytes: after each of the first two hundred, and further each sixty-first.
 fn is_tried(bytes: usize) -> bool {
     bytes < 200 || bytes % 61 == 0
 }

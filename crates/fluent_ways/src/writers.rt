@@ -62,7 +62,7 @@ pub enum End {
     Zero,
 }
 
-/// How a call ended; a writer that is refused memory counts as memory. The error that is answered is the one that the
+/// How a call ended; a writer that fails for want of memory counts as memory. The error that is answered is the one that the
 /// writers here fail with, a broken pipe; with another the call would end as no row says.
 pub fn end_of(outcome: Result<(), WriteFault>) -> End {
     match outcome {

@@ -13,7 +13,7 @@ use Rattle.fluent_tree.specs.declared.ast.Pattern as tree
 use Rattle.fluent_meaning.specs.Bundle.{Bundle}
 use Rattle.fluent_resolver.specs.Status.{arguments_view}
 use Rattle.fluent_values.specs.declared.args.FluentArgs.{FluentArgs}
-use Rattle.fluent_bundle.specs.ById.{GivesAsked, Lent, TakesNoMemory, WritesAsked}
+use Rattle.fluent_bundle.specs.ById.{GivesAsked, BorrowsAsked, TakesNoMemory, WritesAsked}
 use Rattle.fluent_bundle.specs.Under.{Under}
 use Rattle.fluent_bundle.specs.declared.bundle.FluentBundle.{FluentBundle}
 use Rattle.fluent_chain.specs.ChainCalls.{Errors}
@@ -44,8 +44,8 @@ module _ {M C F G X : Type 0} (of : FluentBundle M C F G X → Bundle Text) wher
   abbrev pub writes_in : (C → Text) → (W : Type 0) → WritingIn (FluentBundle M C F G X) C W
   writes_in content W b id name args = WritesAsked (under of content b args) (pattern_of of id name b)
 
-  abbrev pub lends_in : FluentBundle M C F G X → Text → Option (Bor Text) → Result (Option (CowStr Global)) AllocError → Type 0
-  lends_in b id name = Lent b (pattern_of of id name b)
+  abbrev pub borrows_in : FluentBundle M C F G X → Text → Option (Bor Text) → Result (Option (CowStr Global)) AllocError → Type 0
+  borrows_in b id name = BorrowsAsked b (pattern_of of id name b)
 
   -- success is owed, as far as memory goes
   abbrev pub owes_in : FluentBundle M C F G X → Text → Option (Bor Text) → Result Bool WriteFault → Type 0

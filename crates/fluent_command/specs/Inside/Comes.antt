@@ -26,7 +26,7 @@ use Rattle.fluent_command.specs.Outlet.{outlet}
 use Rattle.fluent_command.specs.Program.{Run, First, arguments_of, run_pattern, run_chain, run_value, run_entries, run_alone, run_both, run_fallback, run_source, all_first, in_pieces, first_of_entries, first_alone, first_of_source}
 use Rattle.fluent_command.specs.Words.{name_and_value}
 use Rattle.fluent_command.specs.Inside.BundleView.{bundle_view}
-use Rattle.fluent_command.specs.Inside.Far.{Added, Stops, Took, TookPart}
+use Rattle.fluent_command.specs.Inside.OutputProgress.{Added, Stops, Took, TookPart}
 use Rattle.fluent_command.specs.Inside.PluralsView.{plurals_view}
 use Rattle.fluent_command.specs.Inside.WordsView.{asked_view}
 use Rattle.fluent_command.specs.declared.plurals.Plurals.{Plurals}
@@ -115,7 +115,7 @@ abbrev pub Puts : {W T E : Type 0} → Result T E → Comes → (W → Option Te
 Puts result comes contents out out' =
     Took result comes.run.output (contents (writer_in out)) (contents (writer_in out'))
 
--- where memory was refused, a part of it
+-- where an allocation failed, a part of it
 abbrev pub PutsPart : {W T : Type 0} → Result T WriteFault → Comes → (W → Option Text)
     → Counting W → Counting W → Type 0
 PutsPart result comes contents out out' =

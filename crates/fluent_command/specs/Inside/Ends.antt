@@ -23,7 +23,7 @@ use Rattle.fluent_command.specs.declared.request.Request.{Request}
 abbrev pub Errors : Type 0
 Errors = Vec FluentError Global
 
--- a rule could not be read, or memory was refused
+-- a rule could not be read, or an allocation failed
 abbrev pub EndsOnRule : Ending → Type 0
 EndsOnRule ending = (ending_view ending ≡ bad_rule) ⊎ (ending_view ending ≡ out_of_memory)
 

@@ -2,7 +2,7 @@
 use Rattle.std.specs.Prelude.{◌≡◌, List, ◌⊎◌, Option, Result, Ok, Err, IfOk, OnErr}
 use Rattle.std.specs.Io.KnownBytes.{Appends}
 use Rattle.fluent_tree.specs.Tree.{Text}
-use Rattle.fluent_text.specs.Taken.{TookFront}
+use Rattle.fluent_text.specs.Taken.{TookPrefix}
 use Rattle.fluent_text.specs.declared.counting.WriteFault.{WriteFault}
 use Rattle.fluent_text.specs.declared.counting.WriteFault.TheVariants.{Memory, Writer, Zero}
 use Rattle.fluent_text.specs.Writer.{writer_in}
@@ -15,29 +15,29 @@ use Rattle.fluent_command.specs.EndingView.{ending_view}
 use Rattle.fluent_command.specs.Outlet.{Precedes}
 use Rattle.fluent_command.specs.declared.report.Ending as code
 
--- The lines of all errors were taken; where memory was refused for the line of one, those before it;
+-- The lines of all errors were taken; where an allocation failed for the line of one, those before it;
 -- where the writer faulted, a beginning of them all.
 abbrev pub TookErrors : Result (Unit {0}) WriteFault → List Error → Option Text → Option Text
     → Type 0
 TookErrors (Ok u) errors old new = Appends old new (error_lines errors)
 TookErrors (Err Memory) errors old new =
-    (front : List Error) × Precedes front errors × Appends old new (error_lines front)
-TookErrors (Err (Writer e)) errors old new = TookFront old new (error_lines errors)
-TookErrors (Err Zero) errors old new = TookFront old new (error_lines errors)
+    (prefix : List Error) × Precedes prefix errors × Appends old new (error_lines prefix)
+TookErrors (Err (Writer e)) errors old new = TookPrefix old new (error_lines errors)
+TookErrors (Err Zero) errors old new = TookPrefix old new (error_lines errors)
 
--- All errors and the ending were said as they were handed; or memory was refused for the line of an error,
--- which was said behind the lines before it.
+-- All errors and the ending were said as they were handed; or an allocation failed for the line of an error,
+-- which was said after the lines before it.
 abbrev pub Says : List Error → Ending → Ending → Option Text → Option Text → Type 0
 Says errors ending final old new =
     ((final ≡ ending) × Appends old new (said errors ending))
-    ⊎ ((front : List Error) × Precedes front errors × (final ≡ out_of_memory)
-    × Appends old new (said front out_of_memory))
+    ⊎ ((prefix : List Error) × Precedes prefix errors × (final ≡ out_of_memory)
+    × Appends old new (said prefix out_of_memory))
 
 -- Where the writer faulted: of one of these two a beginning was taken.
 abbrev pub BeganToSay : List Error → Ending → Option Text → Option Text → Type 0
 BeganToSay errors ending old new =
-    TookFront old new (said errors ending)
-    ⊎ ((front : List Error) × Precedes front errors × TookFront old new (said front out_of_memory))
+    TookPrefix old new (said errors ending)
+    ⊎ ((prefix : List Error) × Precedes prefix errors × TookPrefix old new (said prefix out_of_memory))
 
 -- ---- of the code
 
@@ -54,7 +54,7 @@ abbrev pub SaysAll : {E : Type 0} → Result code.Ending E → List FluentError 
 SaysAll result errors ending old new =
     IfOk result (λ final. Says (reported errors) (ending_view ending) (ending_view final) old new)
 
-abbrev pub SaysFront : {T E : Type 0} → Result T E → List FluentError → code.Ending
+abbrev pub SaysPrefix : {T E : Type 0} → Result T E → List FluentError → code.Ending
     → Option Text → Option Text → Type 0
-SaysFront result errors ending old new =
+SaysPrefix result errors ending old new =
     OnErr result (BeganToSay (reported errors) (ending_view ending) old new)

@@ -4,7 +4,7 @@ ghost use Rattle.std.specs.Option.{option_map};
 ghost use Rattle.fluent_tree.specs.View.{inline_view, attribute_of};
 ghost use Rattle.fluent_meaning.specs.Errors.{reference_of, lost};
 ghost use Rattle.fluent_entries.specs.ErrorView.{attribute_name, reference_view, resolver_error_view};
-ghost use Rattle.fluent_entries.specs.Free.{NamesNothing};
+ghost use Rattle.fluent_entries.specs.ErrorsWithoutMemory.{NamesNothing};
 
 use fluent_tree::ast::{Identifier, InlineExpression};
 use std::alloc::{AllocError, Global};
@@ -61,7 +61,7 @@ impl ReferenceKind {
     ///
     /// # Errors
     ///
-    /// Memory was refused, which only a reference can meet.
+    /// An allocation failed, which only a reference can meet.
     pub fn of(
         alloc: Global,
         expression: &InlineExpression<'_>,
@@ -99,7 +99,7 @@ impl ReferenceKind {
     ///
     /// # Errors
     ///
-    /// Memory was refused.
+    /// An allocation failed.
     pub fn try_clone(&self, alloc: Global) -> Result<ReferenceKind, AllocError>
         ensures { IfOk result (λ copy. reference_view copy ≡ reference_view self.now) }
     {
@@ -142,7 +142,7 @@ impl ResolverError {
     ///
     /// # Errors
     ///
-    /// Memory was refused, which only a reference can meet.
+    /// An allocation failed, which only a reference can meet.
     pub fn of(
         alloc: Global,
         expression: &InlineExpression<'_>,
@@ -161,7 +161,7 @@ impl ResolverError {
     ///
     /// # Errors
     ///
-    /// Memory was refused, which only an error with a text can meet.
+    /// An allocation failed, which only an error with a text can meet.
     pub fn try_clone(&self, alloc: Global) -> Result<ResolverError, AllocError>
         ensures same { IfOk result (λ copy. resolver_error_view copy
             ≡ resolver_error_view self.now) }

@@ -17,5 +17,5 @@ returns g c =
     gives_in _ _ _ _ _ _ _ (of_ok _ _ _ c.in_ok-bundle.was c.bundle_over.ensures) (record {
       within = c.format_pattern.ensures.within;
       whole = c.format_pattern.ensures.whole;
-      front = c.format_pattern.ensures.front;
+      prefix = c.format_pattern.ensures.prefix;
     })

@@ -17,5 +17,5 @@ returns-clause-text g c =
     writes_in _ _ _ _ _ _ _ _ _ (of_ok _ _ _ c.in_ok-bundle.was c.bundle_over.ensures) (record {
       within = c.write_pattern.ensures.within;
       whole = c.write_pattern.ensures.whole;
-      front = c.write_pattern.ensures.front;
+      prefix = c.write_pattern.ensures.prefix;
     })

@@ -1,4 +1,4 @@
-//! A number's text while it is written, from its end to its front.
+//! A number's text while it is written, from its end to its start.
 
 ghost use Rattle.std.specs.Prelude.{◌≡◌, ◌+◌, ◌<◌, ◌≤◌, [], ◌∷◌, ◌++◌, length, map, if◌then◌else◌};
 ghost use Rattle.std.specs.Option.{ForSome};
@@ -11,7 +11,7 @@ use std::marker::Model;
 /// The most bytes of a number's text: a minus, 20 digits, a point and 18 digits.
 const LONGEST: usize = 40;
 
-/// The text of a number. It stands in place and takes no memory; it is written from its end to its front.
+/// The text of a number. It stands in place and takes no memory; it is written from its end to its start.
 #[derive(Drop)]
 pub struct DecimalText {
     bytes: [u8; LONGEST],
@@ -40,7 +40,7 @@ impl DecimalText {
         }
     }
 
-    /// Writes a byte in front.
+    /// Writes a byte at the start.
     fn put(&mut self, byte: u8)
         requires ascii { byte < 128 }
         requires room { length self.old < 40 }
@@ -50,7 +50,7 @@ impl DecimalText {
         self.bytes[self.start] = byte;
     }
 
-    /// Writes the digits of a whole number in front.
+    /// Writes the digits of a whole number at the start.
     pub(super) fn put_whole(&mut self, whole: u64)
         requires { length (decimal whole) + length self.old ≤ 40 }
         ensures { self.new ≡ decimal whole ++ self.old }
@@ -63,7 +63,7 @@ impl DecimalText {
         self.put(b'0' + rest as u8);
     }
 
-    /// Writes a point and the first digits of a fraction in front, or nothing where there are no places.
+    /// Writes a point and the first digits of a fraction at the start, or nothing where there are no places.
     pub(super) fn put_point(&mut self, fraction: u64, places: Option<usize>)
         requires few { ForSome places (λ count. count ≤ 18) }
         requires room { length self.old ≤ 20 }
@@ -76,7 +76,7 @@ impl DecimalText {
         }
     }
 
-    /// Writes a minus in front, where there is to be one.
+    /// Writes a minus at the start, where there is to be one.
     pub(super) fn put_sign(&mut self, minus: bool)
         requires { length self.old < 40 }
         ensures { self.new ≡ (if minus then 45 ∷ [] else []) ++ self.old }
@@ -86,7 +86,7 @@ impl DecimalText {
         }
     }
 
-    /// Writes the first digits of a fraction in front.
+    /// Writes the first digits of a fraction at the start.
     fn put_places(&mut self, fraction: u64, places: usize)
         requires few { places ≤ 18 }
         requires room { places + length self.old ≤ 40 }

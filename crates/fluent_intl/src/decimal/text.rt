@@ -59,7 +59,7 @@ impl Decimal {
     ///
     /// # Errors
     ///
-    /// Memory was refused.
+    /// An allocation failed.
     pub fn as_text(&self, alloc: Global, minimum: Option<usize>) -> Result<String, AllocError>
         ensures bytes { IfOk result (λ s. string_bytes s ≡ decimal_text self.now minimum) }
         ensures text { IfOk result (λ s. IsText self.now minimum (string_bytes s)) }

@@ -30,7 +30,7 @@ fn is_in(class: Class, byte: u8) -> bool
     }
 }
 
-/// How many bytes at the front are of the class.
+/// How many bytes at the start are of the class.
 #[inline(always)]
 #[tactic(auto, using(fluent_text::specs::Facts::Runs::the_runs))]
 pub(super) fn run_len(s: &str, class: Class) -> usize
@@ -46,7 +46,7 @@ pub(super) fn run_len(s: &str, class: Class) -> usize
     bytes.len()
 }
 
-/// The longest front of the class, and the rest.
+/// The longest prefix of the class, and the rest.
 #[inline(always)]
 pub(super) fn split_run<'s>(s: &'s str, class: Class) -> (&'s str, &'s str)
     ensures parts { parser.run (class_test class) s.now ≡ Some (result.0.now, result.1.now) }

@@ -33,18 +33,18 @@ pub(super) fn read_rules(
     let mut found = Vec::new(alloc);
     let mut rest = text;
     'lines: loop {
-        let (front, behind) = split_run(rest, Class::Line);
-        match add_line(alloc, front, &mut found) {
+        let (prefix, after) = split_run(rest, Class::Line);
+        match add_line(alloc, prefix, &mut found) {
             Ok(()) => {}
             Err(Stop::Absent) => {
-                let at = text.len() - rest.len() + run_len(front, Class::Blank);
+                let at = text.len() - rest.len() + run_len(prefix, Class::Blank);
                 return Err(RuleFault::Syntax(kind, at));
             }
             Err(Stop::Memory) => return Err(RuleFault::Memory),
         }
-        if behind.is_empty() {
+        if after.is_empty() {
             return Ok(found);
         }
-        rest = after_first(behind);
+        rest = after_first(after);
     }
 }

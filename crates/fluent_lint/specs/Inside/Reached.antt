@@ -18,7 +18,7 @@ IsReference ns x = (m : Text) × (a : Attribute) × IsAmong (a_message m a) ns �
 
 -- From places and names to others: the messages and the variables among these needs are added.
 pub record NotesOf (ns : List Need) (xs xs' : List Place) (vs vs' : List Text) : Type 0 where
-  pub front : (rest : List Place) × (xs' ≡ xs ++ rest)
+  pub prefix : (rest : List Place) × (xs' ≡ xs ++ rest)
   pub reached : (x : Place) → IsAmong x xs' → IsAmong x xs ⊎ IsReference ns x
   pub named : (v : Text) → IsAmong v vs' → IsAmong v vs ⊎ IsAmong (a_variable v) ns
   pub kept : (v : Text) → IsAmong v vs → IsAmong v vs'

@@ -6,34 +6,34 @@ use Rattle.fluent_tree.specs.declared.ast.CallArguments as of_call
 use Rattle.fluent_tree.specs.View.{inline_view, expression_view, pattern_view, element_view, variant_view, attribute_of, call_view, arguments_view, named_view}
 use Rattle.fluent_meaning.specs.Arguments.{get, set, set_all}
 use Rattle.fluent_meaning.specs.Bundle.{goes_to, message_target, term_target, function_found}
-use Rattle.fluent_meaning.specs.Meaning.{last_mark, at_most, struck}
+use Rattle.fluent_meaning.specs.Meaning.{last_mark, at_most, limit_reached}
 use Rattle.fluent_meaning.specs.Walk.{has_one, is_marked, part}
 use Rattle.fluent_meaning.specs.Work.{Worked, work, with_work}
-use Rattle.fluent_state.specs.Along.{Gave, Walk, given, walked, from_here, adding, trace}
+use Rattle.fluent_state.specs.WalkProgress.{EvaluatesSilently, Walk, given, walked, from_here, adding, trace}
 use Rattle.fluent_state.specs.FoundView.{IsLed, content_at, found_view}
 use Rattle.fluent_tree.specs.References.{a_function, a_term, in_arguments, in_call, in_expression, in_inline, in_variants, references}
-use Rattle.fluent_links.specs.Links.{IsBefore, behind}
+use Rattle.fluent_links.specs.Links.{IsBefore, past}
 use Rattle.fluent_links.specs.PlaceParts.{in_arguments_is, in_nested_is, in_one_is, in_pattern_is, in_placeable_is, in_select_is}
 use Rattle.fluent_links.specs.PlaceSteps.{element_in_turn, enters, in_elements, in_named_list, in_positional_list, in_variant_list, leaves, named_in_turn, of_element, of_named, of_positional, positional_in_turn}
 use Rattle.fluent_links.specs.Places.{seen}
 use Rattle.fluent_state.specs.ChosenView.{BeginsAt, chosen_view}
 use Rattle.fluent_state.specs.declared.variants.Chosen.{Chosen}
-use Rattle.fluent_resolver.proofs.Placeables.{marked_as, marks, strikes}
-use Rattle.fluent_resolver.proofs.Placed.{ok_value, placed_as, placed_back, placed_behind, placed_first, placed_front, placed_still, some_value}
+use Rattle.fluent_resolver.proofs.Placeables.{marked_as, marks, reaches_limit}
+use Rattle.fluent_resolver.proofs.Placed.{ok_value, placed_as, placed_back, placed_after, placed_first, placed_prefix, placed_still, some_value}
 use Rattle.fluent_state.specs.Choice.{choice, first_default}
 use Rattle.fluent_resolver.specs.Sizes.{size, bound, IsBelow, element_size, expression_size, variants_size, inline_size, call_size, arguments_size, inlines_size, nameds_size}
 use Rattle.fluent_state.specs.Status.{Status, environment_view, state, state_parts}
-use Rattle.fluent_values.specs.Written.{Sink}
+use Rattle.fluent_values.specs.Sinks.{Sink}
 use Rattle.fluent_entries.specs.Texts.{IsTextAlone}
 use Rattle.fluent_values.specs.View.{value_view, named}
-use Rattle.fluent_state.specs.Facts.Along.{starts, turns, passes, put, puts_last, tail, wrote, ends, stops, memory_halts, refuses, adds, calls, lends, goes_on, at_value}
+use Rattle.fluent_state.specs.Facts.WritesUpTo.{starts, turns, passes, put, puts_last, tail, wrote, ends, stops, memory_halts, refuses, adds, calls, lends, goes_on, at_value}
 use Rattle.fluent_state.specs.Facts.Cases.{sequence, closing, written_string, written_number, written_message, written_nested, resolved_number, resolved_string, resolved_function, local_none, local_some, resolved_text}
 use Rattle.fluent_resolver.proofs.Measures.{falls_to, less_weight, same_weight, kept_weight, taken_weight, still_weight, less_found, element_less, place_less, label_less, some_variants, chosen_less, below_message, below_term}
 use Rattle.fluent_values.specs.Facts.Outputs.{still}
 use Rattle.fluent_state.specs.Facts.Passing.{passed_still, keeps_elsewhere, keeps_around, keeps_back, entered_counts}
 use Rattle.fluent_state.specs.Facts.Lists.{next_of, none_left}
 use Rattle.fluent_state.specs.Facts.Lookups.{answering, writing, resolving}
-use Rattle.fluent_resolver.proofs.Steps.{inline_at, cyclic_at, entered_at, begun_at, back, term_at, inside, inside_at, left_again, selecting_at, chosen_walk, function_at, answered_value, elementing, following, giving, giving_all, giving_text, giving_placeable, giving_end, giving_struck, no_placeable, expressing, locals, valued, place_walk, label_walk, placing_next, placing_end, placing_more, labelled, labelling_next, labelling_end, labelling_more, named_in, naming_after, pairing, calling_at, set_all_next}
+use Rattle.fluent_resolver.proofs.Steps.{inline_at, cyclic_at, entered_at, begun_at, back, term_at, inside, inside_at, left_again, selecting_at, chosen_walk, function_at, answered_value, elementing, following, giving, giving_all, giving_text, giving_placeable, giving_end, giving_limit_reached, no_placeable, expressing, locals, valued, place_walk, label_walk, placing_next, placing_end, placing_more, labelled, labelling_next, labelling_end, labelling_more, named_in, naming_after, pairing, calling_at, set_all_next}
 use Rattle.fluent_values.specs.Facts.Took.{at_err, at_ok, took_same}
 use Rattle.fluent_state.specs.Facts.Values.{gave_outward, asks, ask_stops, misses, begins, reads, gets, gets_part, got_if, got_as, got_part_as, misses_as, rests_memory, rests_same, rests_err, rests_ok, rests_on, by_buffer, as_got, beside_rests, got, gathers_none, gathers_as, gathers_same, gathers_one, gathers_part, gathers_all, gathers_stops, gathers_stops_as}
 use Rattle.fluent_state.specs.Facts.Views.{view_pattern, view_text_in, view_placeable_in, view_string_in, view_number_in, view_message_in, view_nested_in, view_function_in, view_in, view_select_in, view_term_in, view_variable_in, view_arguments, view_written}
@@ -122,8 +122,8 @@ pub inline_expression::go-returns-in_err-put : goal.inline_expression::go-return
 unfolding state_parts
 inline_expression::go-returns-in_err-put g t c =
     let a = state g.B.Context.meant g.B.Context.is_plain g.F.FluentFunction.answer g.C.FluentType.content c.args.scope.now in
-    let refused = c.enter.ensures in
-    memory_halts (search rules) (passes refl (passed_still refused.elsewhere.errors (at_err c.in_err-put.was refused.still) (keeps_elsewhere refused.elsewhere (at_err c.in_err-put.was refused.refused))) (starts a _ _))
+    let alloc_failed = c.enter.ensures in
+    memory_halts (search rules) (passes refl (passed_still alloc_failed.elsewhere.errors (at_err c.in_err-put.was alloc_failed.still) (keeps_elsewhere alloc_failed.elsewhere (at_err c.in_err-put.was alloc_failed.alloc_failed))) (starts a _ _))
 
 pub inline_expression::go-returns : goal.inline_expression::go-returns
 unfolding state_parts
@@ -198,7 +198,7 @@ pattern::write_placeable-returns-in_err-add_error g t c =
     let a = state g.B.Context.meant g.B.Context.is_plain g.F.FluentFunction.answer g.C.FluentType.content c.args.scope.now in
     let b = state g.B.Context.meant g.B.Context.is_plain g.F.FluentFunction.answer g.C.FluentType.content c.take_one.new.self in
     let e = expression_view c.args.expression.now in
-    let begun = strikes tt a b c.args.one e _ c.requires.left c.take_one.ensures.opens c.if-not-take_one.true c.take_one.ensures.takes in
+    let begun = reaches_limit tt a b c.args.one e _ c.requires.left c.take_one.ensures.opens c.if-not-take_one.true c.take_one.ensures.takes in
     refuses c.in_err-add_error.was (search rules) c.add_error.ensures.added begun
 
 pub pattern::write_placeable-returns-then-not-take_one : goal.pattern::write_placeable-returns-then-not-take_one
@@ -207,7 +207,7 @@ pattern::write_placeable-returns-then-not-take_one g t c =
     let a = state g.B.Context.meant g.B.Context.is_plain g.F.FluentFunction.answer g.C.FluentType.content c.args.scope.now in
     let b = state g.B.Context.meant g.B.Context.is_plain g.F.FluentFunction.answer g.C.FluentType.content c.take_one.new.self in
     let e = expression_view c.args.expression.now in
-    let begun = strikes tt a b c.args.one e _ c.requires.left c.take_one.ensures.opens c.if-not-take_one.true c.take_one.ensures.takes in
+    let begun = reaches_limit tt a b c.args.one e _ c.requires.left c.take_one.ensures.opens c.if-not-take_one.true c.take_one.ensures.takes in
     ends (turns (ap (given []) (sym c.add_error.ensures.added.budget)) (adds (given [] b.budget) c.in_ok-add_error.was c.add_error.ensures.added begun))
 
 pub pattern::write_placeable-returns-in_err-put_first_mark : goal.pattern::write_placeable-returns-in_err-put_first_mark
@@ -279,7 +279,7 @@ pattern::write_elements-loop-element-preserved g t c =
         | goal.pattern::write_elements-in-TextElement+in_ok-put_changed-in-TextElement r ↦ rw r.out-is (rw r.scope-is (goes_on r.in_ok-put_changed-in-TextElement.was (put (giving a one rest b.budget) (took_same (ap (λ s. s.transform r.in-TextElement.value.now) c.loop-element.invariant.along.passed.keeps.bundle) r.put_changed.ensures.took) (turns (giving_text a one _ rest x _ b.budget next (search rules) (view_text_in x r.in-TextElement.value r.in-TextElement.is)) c.loop-element.invariant.along))))
         | goal.pattern::write_elements-in-Placeable+in_ok-write_placeable-in-Placeable r ↦ rw r.out-is (rw r.scope-is (goes_on r.in_ok-write_placeable-in-Placeable.was (calls (giving a one rest) r.write_placeable.ensures (turns (giving_placeable a one _ rest x _ b.budget next (search rules) (view_placeable_in x r.in-Placeable.expression r.in-Placeable.is) ∙ ap (λ one. sequence (walked a (λ s f env path. part with_work s f env path one (placeable (expression_view r.in-Placeable.expression))) b.budget) (giving a (has_one (pattern_view c.args.pattern.now)) rest)) (sym c.has_one-one.ensures)) c.loop-element.invariant.along))))
       ];
-      placed = leaves of_element in_elements element_in_turn items c.loop-element.element-index x c.loop-element-test.true c.element-item.is a.stored.numbers (seen c.loop-element.place) (seen c.behind_element-place.result) c.behind_element-place.ensures c.loop-element.invariant.placed;
+      placed = leaves of_element in_elements element_in_turn items c.loop-element.element-index x c.loop-element-test.true c.element-item.is a.stored.numbers (seen c.loop-element.place) (seen c.after_element-place.result) c.after_element-place.ensures c.loop-element.invariant.placed;
     }
 
 pub pattern::write_elements-returns-in_err-put_changed-in-TextElement-clause-text : goal.pattern::write_elements-returns-in_err-put_changed-in-TextElement-clause-text
@@ -326,7 +326,7 @@ unfolding state_parts
 pattern::write_elements-returns-then-dirty-clause-text g t c =
     let a = state g.B.Context.meant g.B.Context.is_plain g.F.FluentFunction.answer g.C.FluentType.content c.args.scope.now in
     let one = has_one (pattern_view c.args.pattern.now) in
-    ends (turns (giving_struck a one (drop c.loop-element.element-index c.deref-element-items.result.now) _ (search rules)) c.loop-element.invariant.along)
+    ends (turns (giving_limit_reached a one (drop c.loop-element.element-index c.deref-element-items.result.now) _ (search rules)) c.loop-element.invariant.along)
 
 pub pattern::write_elements-returns-in_err-put_changed-in-TextElement-clause-memory : goal.pattern::write_elements-returns-in_err-put_changed-in-TextElement-clause-memory
 unfolding state_parts
@@ -336,7 +336,7 @@ pattern::write_elements-returns-in_err-put_changed-in-TextElement-clause-memory 
     let out = c.args.out.now in
     let later = c.loop-element.out in
     λ h plain bare is. c.put_changed.ensures.memory (subst IsTrue (sym way.passed.keeps.is_plain) plain)
-    (still g.W.Write.contents out.writer.ghost_name later.writer.ghost_name out.buffer.ghost_name later.buffer.ghost_name out.writer.now later.writer.now out.buffer.now later.buffer.now out.is_buffered later.is_buffered way.lent ∙ bare)
+    (still g.W.Write.contents out.writer.ghost_name later.writer.ghost_name out.buffer.ghost_name later.buffer.ghost_name out.writer.now later.writer.now out.buffer.now later.buffer.now out.is_buffered later.is_buffered way.borrowed ∙ bare)
     (search (rules, is))
 
 pub pattern::write_pattern-returns-clause-memory : goal.pattern::write_pattern-returns-clause-memory
@@ -467,7 +467,7 @@ unfolding state_parts
 arguments::resolve_function-resolve_call-requires g t c =
     let a = state g.B.Context.meant g.B.Context.is_plain g.F.FluentFunction.answer g.C.FluentType.content c.args.scope.now in
     let less = falls_to c.decreases (same_weight a (arguments_size (arguments_view c.args.arguments.now)) (1 + arguments_size (arguments_view c.args.arguments.now)) (omega arith)) in
-    let placed = placed_behind a.stored.numbers (in_inline (inline_view c.args.inline.now)) (a_function c.args.id.now.name.now) (in_arguments (arguments_view c.args.arguments.now)) c.args.place c.after_one.result (ap in_inline c.requires.view) c.after_one.ensures c.requires.placed in
+    let placed = placed_after a.stored.numbers (in_inline (inline_view c.args.inline.now)) (a_function c.args.id.now.name.now) (in_arguments (arguments_view c.args.arguments.now)) c.args.place c.after_one.result (ap in_inline c.requires.view) c.after_one.ensures c.requires.placed in
     λ κs h. (less, (h.0, (h.1.0, (h.1.1.0, (h.1.1.1, placed)))))
 
 pub arguments::resolve_function-answer_of-requires : goal.arguments::resolve_function-answer_of-requires
@@ -498,7 +498,7 @@ arguments::resolve_call-resolve_positional-requires g t c =
     let here : inlines_size (inlines_of (map inline_view c.deref.result.now)) ≡ inlines_size (inlines_of (map inline_view (of_call.out-CallArguments c.args.arguments.now).positional.items)) = ap (λ xs. inlines_size (inlines_of (map inline_view xs))) c.deref.ensures.value in
     let less = falls_to c.decreases (same_weight a (inlines_size (inlines_of (map inline_view c.deref.result.now))) (arguments_size (arguments_view c.args.arguments.now)) (omega (arith, sized, here))) in
     let parts = of_call.out-CallArguments c.args.arguments.now in
-    let first = placed_front a.stored.numbers (in_arguments (arguments_view c.args.arguments.now)) (in_positional_list parts.positional.items) (in_named_list parts.named.items) c.args.place (in_arguments_is c.args.arguments.now) c.requires in
+    let first = placed_prefix a.stored.numbers (in_arguments (arguments_view c.args.arguments.now)) (in_positional_list parts.positional.items) (in_named_list parts.named.items) c.args.place (in_arguments_is c.args.arguments.now) c.requires in
     let placed = subst (λ xs. IsBefore a.stored.numbers (in_positional_list xs) (seen c.args.place)) (sym c.deref.ensures.value) first in
     λ κs h. (less, (h.0, (h.1.0, (h.1.1.0, (h.1.1.1, placed)))))
 
@@ -511,10 +511,10 @@ arguments::resolve_call-resolve_named-requires g t c =
     let here : nameds_size (nameds_of (map named_view c.deref-3.result.now)) ≡ nameds_size (nameds_of (map named_view (of_call.out-CallArguments c.args.arguments.now).named.items)) = ap (λ xs. nameds_size (nameds_of (map named_view xs))) c.deref-3.ensures.value in
     let less = falls_to c.decreases (kept_weight (nameds_size (nameds_of (map named_view c.deref-3.result.now))) (arguments_size (arguments_view c.args.arguments.now)) c.resolve_positional.ensures.got.toward.passed.keeps (omega (arith, sized, here))) in
     let parts = of_call.out-CallArguments c.args.arguments.now in
-    let at = c.behind_positional-behind.ensures ∙ ap (λ xs. behind (in_positional_list xs) (seen c.args.place)) c.deref-2.ensures.value in
-    let second = placed_back a.stored.numbers (in_arguments (arguments_view c.args.arguments.now)) (in_positional_list parts.positional.items) (in_named_list parts.named.items) c.args.place c.behind_positional-behind.result (in_arguments_is c.args.arguments.now) at c.requires in
-    let here = subst (λ xs. IsBefore a.stored.numbers (in_named_list xs) (seen c.behind_positional-behind.result)) (sym c.deref-3.ensures.value) second in
-    let placed = placed_still a b (in_named_list c.deref-3.result.now) c.behind_positional-behind.result c.resolve_positional.ensures.got.toward.passed.keeps.stored here in
+    let at = c.after_positional-after.ensures ∙ ap (λ xs. past (in_positional_list xs) (seen c.args.place)) c.deref-2.ensures.value in
+    let second = placed_back a.stored.numbers (in_arguments (arguments_view c.args.arguments.now)) (in_positional_list parts.positional.items) (in_named_list parts.named.items) c.args.place c.after_positional-after.result (in_arguments_is c.args.arguments.now) at c.requires in
+    let here = subst (λ xs. IsBefore a.stored.numbers (in_named_list xs) (seen c.after_positional-after.result)) (sym c.deref-3.ensures.value) second in
+    let placed = placed_still a b (in_named_list c.deref-3.result.now) c.after_positional-after.result c.resolve_positional.ensures.got.toward.passed.keeps.stored here in
     λ κs h. (less, (h.0, (h.1.0, (h.1.1.0, (h.1.1.1, placed)))))
 
 pub arguments::resolve_local-resolve_call-requires : goal.arguments::resolve_local-resolve_call-requires
@@ -603,7 +603,7 @@ variants::choose_by_value-resolve-requires g t c =
     let a = state g.B.Context.meant g.B.Context.is_plain g.F.FluentFunction.answer g.C.FluentType.content c.args.scope.now in
     let vs = variants_of (map variant_view c.args.variants.now) in
     let less = falls_to c.decreases (same_weight a (2 + inline_size (inline_view c.args.selector.now)) (2 + inline_size (inline_view c.args.selector.now) + variants_size vs) (omega (arith, some_variants vs))) in
-    let placed = placed_front a.stored.numbers _ (in_inline (inline_view c.args.selector.now)) (in_variants vs) c.args.place refl c.requires in
+    let placed = placed_prefix a.stored.numbers _ (in_inline (inline_view c.args.selector.now)) (in_variants vs) c.args.place refl c.requires in
     λ κs h. (less, (h.0, (h.1.0, (h.1.1.0, (h.1.1.1, placed)))))
 
 pub variants::choose_by_value-returns-in_err-value-clause-chose : goal.variants::choose_by_value-returns-in_err-value-clause-chose
@@ -651,7 +651,7 @@ unfolding state_parts
 inline_expression::write_function-resolve_call-requires g t c =
     let a = state g.B.Context.meant g.B.Context.is_plain g.F.FluentFunction.answer g.C.FluentType.content c.args.scope.now in
     let less = falls_to c.decreases (same_weight a (arguments_size (arguments_view c.args.arguments.now)) (1 + arguments_size (arguments_view c.args.arguments.now)) (omega arith)) in
-    let placed = placed_behind a.stored.numbers (in_inline (inline_view c.args.inline.now)) (a_function c.args.id.now.name.now) (in_arguments (arguments_view c.args.arguments.now)) c.args.place c.after_one.result (ap in_inline c.requires.view) c.after_one.ensures c.requires.placed in
+    let placed = placed_after a.stored.numbers (in_inline (inline_view c.args.inline.now)) (a_function c.args.id.now.name.now) (in_arguments (arguments_view c.args.arguments.now)) c.args.place c.after_one.result (ap in_inline c.requires.view) c.after_one.ensures c.requires.placed in
     λ κs h. (less, (h.0, (h.1.0, (h.1.1.0, (h.1.1.1, placed)))))
 
 pub inline_expression::write_function-put_answer-requires : goal.inline_expression::write_function-put_answer-requires
@@ -702,7 +702,7 @@ inline_expression::write_term-resolve_local-requires g t c =
     let a = state g.B.Context.meant g.B.Context.is_plain g.F.FluentFunction.answer g.C.FluentType.content c.args.scope.now in
     let less = falls_to c.decreases (same_weight a (call_size (call_view c.args.arguments.now)) (1 + call_size (call_view c.args.arguments.now)) (omega arith)) in
     let call = call_view c.args.arguments.now in
-    let placed = placed_behind a.stored.numbers (in_inline (inline_view c.args.inline.now)) (a_term c.args.id.now.name.now) (in_call call) c.args.place c.after_one.result (ap in_inline c.requires.view) c.after_one.ensures c.requires.placed in
+    let placed = placed_after a.stored.numbers (in_inline (inline_view c.args.inline.now)) (a_term c.args.id.now.name.now) (in_call call) c.args.place c.after_one.result (ap in_inline c.requires.view) c.after_one.ensures c.requires.placed in
     λ κs h. (less, (h.0, (h.1.0, (h.1.1.0, (h.1.1.1, placed)))))
 
 pub inline_expression::write_term-term-found-requires : goal.inline_expression::write_term-term-found-requires
@@ -734,7 +734,7 @@ pattern::write_elements-write_placeable-requires g t c =
     let sized : element_size (element_view x) ≡ 1 + expression_size (expression_view c.in-Placeable.expression) = ap element_size (view_placeable_in x c.in-Placeable.expression c.in-Placeable.is) in
     let whole : size (pattern_view c.args.pattern.now) ≡ size (pattern_of (map element_view items)) = ap size (view_pattern c.args.pattern.now) ∙ ap (λ es. size (pattern_of (map element_view es))) (sym c.deref-element-items.ensures.value) in
     let less = falls_to c.decreases (less_weight a.bundle b.bundle (1 + expression_size (expression_view c.in-Placeable.expression)) (size (pattern_view c.args.pattern.now)) (at_most b.budget) (at_most a.budget) kept.bundle (omega (arith, sized, whole, element_less items c.loop-element.element-index x c.loop-element-test.true c.element-item.is)) kept.less) in
-    let left : b.budget ≡ struck → ⊥ = search rules in
+    let left : b.budget ≡ limit_reached → ⊥ = search rules in
     let here = enters of_element in_elements element_in_turn items c.loop-element.element-index x c.loop-element-test.true c.element-item.is a.stored.numbers (seen c.loop-element.place) c.loop-element.invariant.placed in
     let placed = placed_still a b (in_expression (expression_view c.in-Placeable.expression)) c.loop-element.place kept.stored (placed_as a.stored.numbers (of_element x) (in_expression (expression_view c.in-Placeable.expression)) c.loop-element.place (in_placeable_is x c.in-Placeable.expression c.in-Placeable.is) here) in
     λ κs h. (less, (h.0, (h.1.0, (h.1.1.0, (h.1.1.1, (left, placed))))))
@@ -913,7 +913,7 @@ arguments::resolve_positional-loop-argument-preserved g t c =
     let before = c.loop-argument.invariant in
     let here = gathers_as (placing_next a _ rest x b.budget next) before.gathers in
     let one = gathers_one (λ v. v) (λ n. walked a (place_walk rest) n) c.in_ok-value.was c.resolve.ensures.got here in
-    record { gathers = gathers_same (sym c.in_ok-push_value.ensures) one; rests = rests_on before.rests (rests_ok c.in_ok-value.was c.resolve.ensures.rests); placed = leaves of_positional in_positional_list positional_in_turn c.args.arguments.now c.loop-argument.argument-index x c.loop-argument-test.true c.argument-item.is a.stored.numbers (seen c.loop-argument.place) (seen c.behind_inline-place.result) c.behind_inline-place.ensures before.placed }
+    record { gathers = gathers_same (sym c.in_ok-push_value.ensures) one; rests = rests_on before.rests (rests_ok c.in_ok-value.was c.resolve.ensures.rests); placed = leaves of_positional in_positional_list positional_in_turn c.args.arguments.now c.loop-argument.argument-index x c.loop-argument-test.true c.argument-item.is a.stored.numbers (seen c.loop-argument.place) (seen c.after_inline-place.result) c.after_inline-place.ensures before.placed }
 
 pub arguments::resolve_positional-returns-in_err-value : goal.arguments::resolve_positional-returns-in_err-value
 unfolding state_parts
@@ -968,7 +968,7 @@ arguments::resolve_named-loop-argument-preserved g t c =
     let here = gathers_as (labelling_next a _ rest x b.budget next) before.gathers in
     let v = value_view g.C.FluentType.content c.in_ok-value.value in
     let one = gathers_one (labelled k) (λ n. walked a (label_walk rest) n) c.in_ok-value.was c.resolve.ensures.got here in
-    record { done = before.done ++ labelled k v ∷ []; is = c.in_ok-set.ensures ∙ ap (set k v) before.is ∙ sym (set_all_next before.done k v []); gathers = one; rests = rests_on before.rests (rests_ok c.in_ok-value.was c.resolve.ensures.rests); placed = leaves of_named in_named_list named_in_turn c.args.arguments.now c.loop-argument.argument-index x c.loop-argument-test.true c.argument-item.is a.stored.numbers (seen c.loop-argument.place) (seen c.behind_inline-place.result) c.behind_inline-place.ensures before.placed }
+    record { done = before.done ++ labelled k v ∷ []; is = c.in_ok-set.ensures ∙ ap (set k v) before.is ∙ sym (set_all_next before.done k v []); gathers = one; rests = rests_on before.rests (rests_ok c.in_ok-value.was c.resolve.ensures.rests); placed = leaves of_named in_named_list named_in_turn c.args.arguments.now c.loop-argument.argument-index x c.loop-argument-test.true c.argument-item.is a.stored.numbers (seen c.loop-argument.place) (seen c.after_inline-place.result) c.after_inline-place.ensures before.placed }
 
 pub arguments::resolve_named-returns-in_err-value : goal.arguments::resolve_named-returns-in_err-value
 unfolding state_parts
@@ -983,8 +983,8 @@ arguments::resolve_named-returns-in_err-value g t c =
     let here = gathers_as (labelling_next a _ rest x b.budget next) before.gathers in
     record { got = gathers_stops_as (label_walk c.args.arguments.now) (λ m. set_all m []) c.in_err-value.was (search rules) refl (gathers_part (labelling_more a rest k) c.resolve.ensures.got here); rests = rests_on before.rests (rests_err c.in_err-value.was (search rules) c.resolve.ensures.rests) }
 
--- where memory was refused, which is found first
-by_memory : {A T K : Type 0} {r : Result T Halt} {see : T → A} {walk : Walk A} {w w' : Sink} {a b : Status K} → r ≡ Err fault.Memory → (r ≡ Err fault.Memory → Gave r see walk w w' a b) → Gave r see walk w w' a b
+-- where an allocation failed, which is found first
+by_memory : {A T K : Type 0} {r : Result T Halt} {see : T → A} {walk : Walk A} {w w' : Sink} {a b : Status K} → r ≡ Err fault.Memory → (r ≡ Err fault.Memory → EvaluatesSilently r see walk w w' a b) → EvaluatesSilently r see walk w w' a b
 by_memory is f = f is
 
 pub arguments::resolve_named-returns-in_err-set : goal.arguments::resolve_named-returns-in_err-set
@@ -1023,5 +1023,5 @@ unfolding state_parts
 variants::choose_by_value-returns-clause-placed g t c =
     let a = state g.B.Context.meant g.B.Context.is_plain g.F.FluentFunction.answer g.C.FluentType.content c.args.scope.now in
     let vs = variants_of (map variant_view c.args.variants.now) in
-    let second = placed_back a.stored.numbers _ (in_inline (inline_view c.args.selector.now)) (in_variants vs) c.args.place c.behind_inline.result refl c.behind_inline.ensures c.requires in
+    let second = placed_back a.stored.numbers _ (in_inline (inline_view c.args.selector.now)) (in_variants vs) c.args.place c.after_inline.result refl c.after_inline.ensures c.requires in
     c.choose.ensures.placed a.stored.numbers second

@@ -8,12 +8,12 @@ use Rattle.fluent_meaning.specs.Walk.{has_one}
 use Rattle.fluent_links.specs.Links.{IsBefore}
 use Rattle.fluent_links.specs.PlaceSteps.{in_elements, in_named_list, in_positional_list}
 use Rattle.fluent_links.specs.Places.{seen}
-use Rattle.fluent_state.specs.Along.{Along, from_here, walked, Rests}
+use Rattle.fluent_state.specs.WalkProgress.{WritesUpTo, from_here, walked, WritesNothing}
 use Rattle.fluent_resolver.specs.Sizes.{bound, size, expression_size, variants_size, inline_size, inlines_size, nameds_size, call_size, arguments_size}
 use Rattle.fluent_state.specs.Status.{state}
 use Rattle.fluent_values.specs.View.{value_view}
 use Rattle.fluent_state.specs.Gathered.{gathered}
-use Rattle.fluent_values.specs.Written.{sink, writer}
+use Rattle.fluent_values.specs.Sinks.{sink, writer}
 use Rattle.fluent_resolver.proofs.Measures.{weight}
 use Rattle.fluent_resolver.proofs.Steps.{elementing, giving, place_walk, label_walk}
 use Rattle.fluent_state.specs.Facts.Values.{Gathers}
@@ -120,7 +120,7 @@ invariant-pattern::write_elements-loop-element g l =
     let b = state g.B.Context.meant g.B.Context.is_plain g.F.FluentFunction.answer g.C.FluentType.content l.scope in
     let one = has_one (pattern_view l.pattern) in
     record {
-      along : Along {T = Unit {0}} (Ok tt) (from_here a (elementing (pattern_view l.pattern))) (giving a one (drop l.element-index l.element-items) b.budget)
+      along : WritesUpTo {T = Unit {0}} (Ok tt) (from_here a (elementing (pattern_view l.pattern))) (giving a one (drop l.element-index l.element-items) b.budget)
           (sink g.W.Write.contents l.initial.out) (sink g.W.Write.contents l.out) a b;
       placed : IsBefore a.stored.numbers (in_elements (drop l.element-index l.element-items)) (seen l.place);
     }
@@ -131,7 +131,7 @@ invariant-arguments::resolve_positional-loop-argument g l =
     let b = state g.B.Context.meant g.B.Context.is_plain g.F.FluentFunction.answer g.C.FluentType.content l.scope in
     record {
       gathers : Gathers (from_here a (place_walk l.arguments)) (walked a (place_walk (drop l.argument-index l.arguments)) b.budget) (map (value_view g.C.FluentType.content) l.values.items) a b;
-      rests : Rests {T = Unit {0}} (Ok tt) (writer g.W.Write.contents l.initial.w) (writer g.W.Write.contents l.w);
+      rests : WritesNothing {T = Unit {0}} (Ok tt) (writer g.W.Write.contents l.initial.w) (writer g.W.Write.contents l.w);
       placed : IsBefore a.stored.numbers (in_positional_list (drop l.argument-index l.arguments)) (seen l.place);
     }
 
@@ -143,6 +143,6 @@ invariant-arguments::resolve_named-loop-argument g l =
       done : List (Text × Value Text);
       is : gathered g.C.FluentType.content l.values ≡ set_all done [];
       gathers : Gathers (from_here a (label_walk l.arguments)) (walked a (label_walk (drop l.argument-index l.arguments)) b.budget) done a b;
-      rests : Rests {T = Unit {0}} (Ok tt) (writer g.W.Write.contents l.initial.w) (writer g.W.Write.contents l.w);
+      rests : WritesNothing {T = Unit {0}} (Ok tt) (writer g.W.Write.contents l.initial.w) (writer g.W.Write.contents l.w);
       placed : IsBefore a.stored.numbers (in_named_list (drop l.argument-index l.arguments)) (seen l.place);
     }

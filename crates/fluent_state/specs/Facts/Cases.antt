@@ -12,10 +12,10 @@ use Rattle.fluent_meaning.specs.Value.{Value, text_value, number_value, custom_v
 use Rattle.fluent_meaning.specs.Arguments.{Map, get, set_all}
 use Rattle.fluent_meaning.specs.Bundle.{Bundle, Function, unknown, without_value, found, message_target, term_target, function_found, shown, goes_to}
 use Rattle.fluent_meaning.specs.Walk.{Environment, application, local, variables, is_on, inner, has_one, is_marked, loses_as, loses, go, follow, missing, variable_text, variable_value, answer_text, function_text, function_value, elements, part, expression, matched, default_of, written, resolved, local_of, called, positional, named, whole}
-use Rattle.fluent_meaning.specs.Meaning.{Budget, left, struck, after_errors, after_text, first_mark, last_mark, ending}
+use Rattle.fluent_meaning.specs.Meaning.{Budget, left, limit_reached, after_errors, after_text, first_mark, last_mark, ending}
 use Rattle.fluent_meaning.specs.Work.{Worked, together, with_work, work}
 use Rattle.fluent_meaning.specs.Laws.{CountsByItself}
-use Rattle.fluent_state.specs.Along.{Below, given, can_open, less_one, mapping, lost_of, lost_error}
+use Rattle.fluent_state.specs.WalkProgress.{Below, given, can_open, less_one, mapping, lost_of, lost_error}
 use Rattle.fluent_state.specs.Choice.{first_default, choice}
 
 -- ---- walks after walks
@@ -24,11 +24,11 @@ use Rattle.fluent_state.specs.Choice.{first_default, choice}
 abbrev pub sequence : Worked Text → (Budget → Worked Text) → Worked Text
 sequence m k = let v = k m.ran.budget in together m v (after_text m.ran v.ran)
 
--- a text in front
+-- a text at the start
 abbrev pub prepend : Text → Worked Text → Worked Text
 prepend t m = record m { ran = record m.ran { value = t ++ m.ran.value } }
 
--- errors in front
+-- errors at the start
 abbrev pub tells : {A : Type 0} → List Error → Worked A → Worked A
 tells es m = record m { ran = after_errors es m.ran }
 
@@ -131,15 +131,15 @@ module _ (s : Bundle Text) (f : Below) (env : Environment Text) (path : List Pat
   unfolding elements
   elements_end one b = refl
 
-  pub elements_struck : (one : Bool) (p : Pattern) → elements with_work s f env path one p struck ≡ given [] struck
+  pub elements_limit_reached : (one : Bool) (p : Pattern) → elements with_work s f env path one p limit_reached ≡ given [] limit_reached
   unfolding elements
-  elements_struck one nothing = refl
-  elements_struck one (more e p) = refl
+  elements_limit_reached one nothing = refl
+  elements_limit_reached one (more e p) = refl
 
-  pub elements_more : (one : Bool) (e : Element) (p : Pattern) (b : Budget) → (b ≡ struck → ⊥) → elements with_work s f env path one (more e p) b ≡ sequence (part with_work s f env path one e b) (elements with_work s f env path one p)
+  pub elements_more : (one : Bool) (e : Element) (p : Pattern) (b : Budget) → (b ≡ limit_reached → ⊥) → elements with_work s f env path one (more e p) b ≡ sequence (part with_work s f env path one e b) (elements with_work s f env path one p)
   unfolding elements
   elements_more one e p (left n) h = refl
-  elements_more one e p struck h = absurd (h refl)
+  elements_more one e p limit_reached h = absurd (h refl)
 
   pub part_text : (one : Bool) (t : Text) (b : Budget) → part with_work s f env path one (text t) b ≡ given (s.transform t) b
   unfolding elements
@@ -151,13 +151,13 @@ module _ (s : Bundle Text) (f : Below) (env : Environment Text) (path : List Pat
   unfolding elements
   part_opens one e (left zero) h = search rules
   part_opens one e (left (suc n)) h = simp (append-nil, add-zero, max-zero)
-  part_opens one e struck h = search rules
+  part_opens one e limit_reached h = search rules
 
-  pub part_strikes : (one : Bool) (e : Expression) (b : Budget) → (b ≡ struck → ⊥) → can_open b ≡ false → part with_work s f env path one (placeable e) b ≡ tells (resolver_error too_many_placeables ∷ []) (given [] (less_one b))
+  pub part_reaches_limit : (one : Bool) (e : Expression) (b : Budget) → (b ≡ limit_reached → ⊥) → can_open b ≡ false → part with_work s f env path one (placeable e) b ≡ tells (resolver_error too_many_placeables ∷ []) (given [] (less_one b))
   unfolding elements
-  part_strikes one e (left zero) k h = refl
-  part_strikes one e (left (suc n)) k h = search rules
-  part_strikes one e struck k h = absurd (k refl)
+  part_reaches_limit one e (left zero) k h = refl
+  part_reaches_limit one e (left (suc n)) k h = search rules
+  part_reaches_limit one e limit_reached k h = absurd (k refl)
 
   -- ---- EXPRESSIONS
 

@@ -9,7 +9,7 @@ use Rattle.fluent_meaning.specs.Value.{Value, text_value, number_value, custom_v
 use Rattle.fluent_meaning.specs.Meaning.{Budget}
 use Rattle.fluent_meaning.specs.Walk.{application, local, variables, missing, loses, variable_text, variable_value, function_text, answer_text, written, resolved}
 use Rattle.fluent_meaning.specs.Work.{Worked, with_work, work}
-use Rattle.fluent_state.specs.Along.{Walk, walked, given, mapping, lost_of, shown_answer}
+use Rattle.fluent_state.specs.WalkProgress.{Walk, walked, given, mapping, lost_of, shown_answer}
 use Rattle.fluent_state.specs.Status.{Status}
 use Rattle.fluent_values.specs.View.{value_view}
 use Rattle.fluent_values.specs.declared.types.value.FluentValue.{FluentValue}

@@ -5,7 +5,7 @@ use Rattle.fluent_meaning.specs.Errors.{Error}
 use Rattle.fluent_meaning.specs.Meaning.{Budget, at_most}
 use Rattle.fluent_meaning.specs.Work.{work}
 use Rattle.fluent_state.specs.Status.{Status, Tally, counted, with_errors, Keeps, Spends}
-use Rattle.fluent_state.specs.Along.{Walk, walked, from_here, Trace, follows, adding, Reports, Passed, Elsewhere, ReportsIfOk, TakesOne}
+use Rattle.fluent_state.specs.WalkProgress.{Walk, walked, from_here, Trace, follows, adding, Reports, Passed, Elsewhere, ReportsIfOk, TakesOne}
 
 -- SCOPES
 
@@ -13,7 +13,7 @@ use Rattle.fluent_state.specs.Along.{Walk, walked, from_here, Trace, follows, ad
 spends_none : {K : Type 0} {a b : Status K} → b.tally ≡ a.tally → b.budget ≡ a.budget → Spends a b
 spends_none {a = a} {b = b} t n = record {
   together = ap (λ c. counted (c.opened + at_most b.budget)) t ∙ ap (λ x. counted (a.tally.opened + at_most x)) n;
-  stays_struck = λ h. n ∙ h;
+  stays_reached = λ h. n ∙ h;
   opened = subst (λ c. a.tally.opened ≤ c.opened) (sym t) (omega arith);
   longest = subst (λ c. a.tally.longest ≤ c.longest) (sym t) (omega arith);
   entered = subst (λ c. a.tally.entered ≤ c.entered) (sym t) (omega arith);
@@ -22,7 +22,7 @@ spends_none {a = a} {b = b} t n = record {
 spends_on : {K : Type 0} {a b c : Status K} → Spends a b → Spends b c → Spends a c
 spends_on h j = record {
   together = j.together ∙ h.together;
-  stays_struck = λ e. j.stays_struck (h.stays_struck e);
+  stays_reached = λ e. j.stays_reached (h.stays_reached e);
   opened = omega (arith, h.opened, j.opened);
   longest = omega (arith, h.longest, j.longest);
   entered = omega (arith, h.entered, j.entered);
@@ -117,10 +117,10 @@ passed_adds {q = q} {y = y} {es = es} {a = a} {b = b} {c = c} rest is k h = reco
 }
 
 -- or they could not be added
-pub passed_refused : {E T K : Type 0} {q : Result T E} {y : E} {all rest : Trace} {es : List Error} {a b c : Status K} → q ≡ Err y → ReportsIfOk q es b c → Passed all rest a b → Passed all rest a c
-passed_refused {q = q} {y = y} {rest = rest} {a = a} {b = b} {c = c} is k h = record {
+pub passed_failed : {E T K : Type 0} {q : Result T E} {y : E} {all rest : Trace} {es : List Error} {a b c : Status K} → q ≡ Err y → ReportsIfOk q es b c → Passed all rest a b → Passed all rest a c
+passed_failed {q = q} {y = y} {rest = rest} {a = a} {b = b} {c = c} is k h = record {
   added = h.added;
-  list = subst (Reports a c) (append-nil h.added) (adds_on a b c h.added [] h.list (subst (λ r. OnErr r (Reports b c [])) is k.refused));
+  list = subst (Reports a c) (append-nil h.added) (adds_on a b c h.added [] h.list (subst (λ r. OnErr r (Reports b c [])) is k.alloc_failed));
   errors = h.errors;
   budget = h.budget;
   tally = ap (λ c. adding c rest) k.tally ∙ h.tally;
@@ -142,8 +142,8 @@ passed_on {all = all} {part = part} {l = l} {a = a} {b = b} {c = c} k h way = re
 }
 
 -- a part that is all the rest, from a scope that was changed for it, and put back
-pub passed_lent : {K : Type 0} {all rest : Trace} {a b c d e : Status K} {mid : Trace} → c.errors ≡ b.errors → e.errors ≡ d.errors → adding c.tally mid ≡ adding b.tally rest → mid.errors ≡ rest.errors → mid.budget ≡ rest.budget → e.tally ≡ d.tally → {left : Trace} → Keeps a e → Passed mid left c d → Passed all rest a b → Passed all left a e
-passed_lent {all = all} {rest = rest} {a = a} {b = b} {c = c} {d = d} {e = e} {mid = mid} before after counts errors budget tally {left = left} kept way h = record {
+pub passed_borrowed : {K : Type 0} {all rest : Trace} {a b c d e : Status K} {mid : Trace} → c.errors ≡ b.errors → e.errors ≡ d.errors → adding c.tally mid ≡ adding b.tally rest → mid.errors ≡ rest.errors → mid.budget ≡ rest.budget → e.tally ≡ d.tally → {left : Trace} → Keeps a e → Passed mid left c d → Passed all rest a b → Passed all left a e
+passed_borrowed {all = all} {rest = rest} {a = a} {b = b} {c = c} {d = d} {e = e} {mid = mid} before after counts errors budget tally {left = left} kept way h = record {
   added = h.added ++ way.added;
   list = adds_on a b e h.added way.added h.list (after ∙ way.list ∙ ap (λ o. with_errors o way.added) before);
   errors = append_assoc h.added way.added left.errors ∙ ap (λ es. h.added ++ es) (way.errors ∙ errors) ∙ h.errors;
@@ -213,5 +213,5 @@ pub opened_on : {K : Type 0} {r : Bool} {a c : Status K} (t : Trace) → r ≡ t
 opened_on {a = a} t is k = ap (λ n. adding n t) (at_true is k.opened) ∙ opened_counts a.tally t
 
 -- none was left to take
-pub struck_same : {K : Type 0} {r : Bool} {a c : Status K} → r ≡ false → TakesOne r a c → c.tally ≡ a.tally
-struck_same is k = at_false is k.same
+pub limit_reached_same : {K : Type 0} {r : Bool} {a c : Status K} → r ≡ false → TakesOne r a c → c.tally ≡ a.tally
+limit_reached_same is k = at_false is k.same

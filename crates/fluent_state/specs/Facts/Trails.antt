@@ -12,7 +12,7 @@ use Rattle.fluent_tree.specs.Tree.{Pattern}
 use Rattle.fluent_state.specs.Status.{counted}
 use Rattle.fluent_tree.specs.View.{pattern_view}
 use Rattle.fluent_tree.specs.declared.ast.Pattern as of_pattern
-use Rattle.fluent_state.specs.Trail.{AreReferring, content_of, contents, is_idle, is_referring, on_path}
+use Rattle.fluent_state.specs.PathContents.{AreReferring, content_of, contents, is_idle, is_referring, on_path}
 use Rattle.fluent_state.specs.declared.path.Path.{Path}
 
 pub on_true : {P Q : Type 0} (b : Bool) → (P → Q) → OnTrue b P → OnTrue b Q
@@ -54,25 +54,25 @@ first_true : (a b : Bool) → (a && b) ≡ true → a ≡ true
 first_true true b h = refl
 first_true false b h = absurd (false≢true h)
 
--- a front of them
-pub front_refers : (table : List Pattern) (old new : List ℕ) (r : Option ℕ) → old ≡ new ++ option_to_list r → AreReferring table old → AreReferring table new
-front_refers table old new r is all = first_true _ (list_all (is_referring table) (option_to_list r)) (sym (list_all-append (is_referring table) new (option_to_list r)) ∙ ap (λ cs. list_all (is_referring table) cs) (sym is) ∙ all)
+-- a prefix of them
+pub prefix_refers : (table : List Pattern) (old new : List ℕ) (r : Option ℕ) → old ≡ new ++ option_to_list r → AreReferring table old → AreReferring table new
+prefix_refers table old new r is all = first_true _ (list_all (is_referring table) (option_to_list r)) (sym (list_all-append (is_referring table) new (option_to_list r)) ∙ ap (λ cs. list_all (is_referring table) cs) (sym is) ∙ all)
 
 module _ {X : Type 0} where
   -- all but the last
-  front : List X → List X
-  front [] = []
-  front (x ∷ []) = []
-  front (x ∷ y ∷ ys) = x ∷ front (y ∷ ys)
+  prefix : List X → List X
+  prefix [] = []
+  prefix (x ∷ []) = []
+  prefix (x ∷ y ∷ ys) = x ∷ prefix (y ∷ ys)
 
-  front_snoc : (xs : List X) (x : X) → front (xs ++ x ∷ []) ≡ xs
-  unfolding front
-  front_snoc [] x = refl
-  front_snoc (y ∷ []) x = refl
-  front_snoc (y ∷ z ∷ zs) x = ap (λ r. y ∷ r) (front_snoc (z ∷ zs) x)
+  prefix_snoc : (xs : List X) (x : X) → prefix (xs ++ x ∷ []) ≡ xs
+  unfolding prefix
+  prefix_snoc [] x = refl
+  prefix_snoc (y ∷ []) x = refl
+  prefix_snoc (y ∷ z ∷ zs) x = ap (λ r. y ∷ r) (prefix_snoc (z ∷ zs) x)
 
-  same_fronts : (xs ys : List X) (x y : X) → xs ++ x ∷ [] ≡ ys ++ y ∷ [] → xs ≡ ys
-  same_fronts xs ys x y e = sym (front_snoc xs x) ∙ ap front e ∙ front_snoc ys y
+  same_prefixes : (xs ys : List X) (x y : X) → xs ++ x ∷ [] ≡ ys ++ y ∷ [] → xs ≡ ys
+  same_prefixes xs ys x y e = sym (prefix_snoc xs x) ∙ ap prefix e ∙ prefix_snoc ys y
 
   no_snoc : (xs : List X) (x : X) → [] ≡ xs ++ x ∷ [] → [] ≡ xs
   no_snoc [] x e = refl
@@ -88,7 +88,7 @@ pub taken_off : (table : List Pattern) (o : Option Pattern) (old new : List ℕ)
 taken_off table None old new r is some lt before last e = no_snoc before last e
 taken_off table (Some p) old new None is some lt before last e = absurd (false≢true (some.1 lt))
 taken_off table (Some p) old new (Some c) is some lt before last e =
-    same_fronts (p ∷ map (content_of table) new) before (content_of table c) last
+    same_prefixes (p ∷ map (content_of table) new) before (content_of table c) last
     (sym (put_more table (Some p) p (content_of table c) new c refl refl) ∙ ap (λ cs. contents table (Some p) cs) (sym is) ∙ e)
 
 -- where none stands there, no content does

@@ -1,4 +1,4 @@
--- What a chunk takes, and how a source goes on behind it.
+-- What a chunk takes, and how a source goes on after it.
 use Rattle.std.proofs.Common.{◌≡◌, ◌==◌, ◌||◌, ℕ, zero, suc, ◌+◌, ◌-◌, ◌<◌, ◌≤◌, List, [], ◌∷◌, ◌++◌, length, drop, Some, None, refl, sym, ap, ◌∙◌, subst, arith, length-append, length-drop, append_assoc, append-nil, IsUtf8}
 use Rattle.std.proofs.Math.Seq.{take-append_seam}
 use Rattle.std.proofs.lemmas.Str.{IsCharBoundary-at_seam}
@@ -10,8 +10,8 @@ use Rattle.fluent_text.specs.Lexical.{is_inside, blank_block}
 use Rattle.fluent_syntax.specs.Entries.{entry}
 use Rattle.fluent_syntax.specs.Chunks.{may_begin_entry, rest_of_line, comment_line, junk_line, junk, Part, part, entry_part, blank_part, junk_part, Chunk, chunk, with_bytes, taken, followed_by, chunks_within, chunks, entry_of, entries_of, junk_range, ranges_from}
 use Rattle.fluent_text.specs.Facts.Runs.{run_len-stops}
-use Rattle.fluent_syntax.specs.Facts.Fronts.{TakesTo, Takes, takes-then, takes-map, takes-or, takes-pure, takes-ignore, takes-skip, takes-unless, takes-count, takes-run, takes-byte, Lessens, Eats, eats-then, eats-map, eats-or, eats-byte, run_less, then_less, no_longer}
-use Rattle.fluent_syntax.specs.Facts.LexicalFronts.{takes-blank_block}
+use Rattle.fluent_syntax.specs.Facts.Prefixes.{TakesTo, Takes, takes-then, takes-map, takes-or, takes-pure, takes-ignore, takes-skip, takes-unless, takes-count, takes-run, takes-byte, Lessens, Eats, eats-then, eats-map, eats-or, eats-byte, run_less, then_less, no_longer}
+use Rattle.fluent_syntax.specs.Facts.LexicalPrefixes.{takes-blank_block}
 use Rattle.fluent_syntax.specs.Facts.Rules.{eats-blank_block, takes-entry, eats-entry}
 
 -- ---- lines
@@ -38,7 +38,7 @@ eats-rest_of_line = record { less = λ s n. by_len s n (run_len is_inside s) ref
     by_len s n zero e = rw e (feed_less s n (feed_here s n e))
     by_len s n (suc k) e =
         let rest = drop (run_len is_inside s) s in
-        then_less s rest (skip (byte 10) rest) (run_less is_inside s (omega arith)) ((takes-skip (byte 10) (takes-byte 10)).front rest)
+        then_less s rest (skip (byte 10) rest) (run_less is_inside s (omega arith)) ((takes-skip (byte 10) (takes-byte 10)).prefix rest)
 
 pub takes-comment_line : Takes comment_line
 unfolding comment_line
@@ -78,7 +78,7 @@ eats-part =
     eats-or (blank_block >> pure blank_part) (junk >> pure junk_part) (eats-then blank_block (pure blank_part) eats-blank_block (takes-pure blank_part))
     (eats-then junk (pure junk_part) eats-junk (takes-pure junk_part))))
 
--- what was taken, where it is a front
+-- what was taken, where it is a prefix
 pub taken_is : (s u rest : List ℕ) → s ≡ u ++ rest → taken s rest ≡ u
 taken_is s u rest e =
     let n : length s - length rest ≡ length u = omega (arith, ap length e, length-append u rest) in
@@ -94,7 +94,7 @@ cuts s None h = tt
 cuts s (Some p) h = h.1 ∙ ap (λ u. u ++ p.1) (sym (taken_is s h.0 p.1 h.1))
 
 pub chunk-cuts : (s : List ℕ) → CutsTo s (chunk s)
-chunk-cuts s = cuts s (part s) (takes-part.front s)
+chunk-cuts s = cuts s (part s) (takes-part.prefix s)
 
 lessens : (s : List ℕ) (r : Read Part) → Lessens s r → Lessens s (with_bytes s r)
 lessens s None h = tt
@@ -133,15 +133,15 @@ chunks-next (b ∷ s) c rest n e =
 
 -- ---- the reader's loop
 
-front_of : (s : List ℕ) (p : Part) (rest : List ℕ) → part s ≡ Some (p, rest) → TakesTo s (Some (p, rest))
-front_of s p rest e = subst (TakesTo s) e (takes-part.front s)
+prefix_of : (s : List ℕ) (p : Part) (rest : List ℕ) → part s ≡ Some (p, rest) → TakesTo s (Some (p, rest))
+prefix_of s p rest e = subst (TakesTo s) e (takes-part.prefix s)
 
 pub part_le : (s : List ℕ) (p : Part) (rest : List ℕ) → part s ≡ Some (p, rest) → length rest ≤ length s
-part_le s p rest e = no_longer s p rest (front_of s p rest e)
+part_le s p rest e = no_longer s p rest (prefix_of s p rest e)
 
 pub part_boundary : (s : List ℕ) (p : Part) (rest : List ℕ) → part s ≡ Some (p, rest) → IsUtf8 rest → IsCharBoundary s (length s - length rest)
 part_boundary s p rest e utf8 =
-    let f = front_of s p rest e in
+    let f = prefix_of s p rest e in
     let n : length f.0 ≡ length s - length rest = omega (arith, ap length f.1, length-append f.0 rest) in
     subst (IsCharBoundary s) n (IsCharBoundary-at_seam s f.0 rest f.1 utf8)
 

@@ -3,7 +3,7 @@ use Rattle.std.proofs.Common.{ℕ, zero, suc, Bool, true, false, ◌&&◌, List,
 use Rattle.std.specs.Prelude.{replicate}
 use Rattle.std.specs.List.{prefix_len}
 use Rattle.fluent_tree.specs.Tree.{Text, Element, text, placeable, pattern_of}
-use Rattle.fluent_syntax.specs.Layout.{Piece, line, words, hole, common_indent, dedented, feed, unless_empty, starts_line, joined, lines, is_feed, trim_front, trim_spaces, trimmed, trim_last, elements}
+use Rattle.fluent_syntax.specs.Layout.{Piece, line, words, hole, common_indent, dedented, feed, unless_empty, starts_line, joined, lines, is_feed, trim_start, trim_spaces, trimmed, trim_last, elements}
 use Rattle.fluent_syntax.specs.WellFormed.{IsWellFormed, IsWellFormedElement, IsWellFormedPattern}
 
 abbrev pub OfElements : ℕ → List Element → Type 0
@@ -63,4 +63,4 @@ pub laid_out : (n : ℕ) (ps : List Piece) → OfPieces n ps → OfElements n (e
 unfolding elements
 laid_out n ps h =
     let whole = lines (common_indent ps) ps in
-    trim_end n (trim_front whole) (dropped n (prefix_len is_feed whole) whole (by_lines n (common_indent ps) ps h))
+    trim_end n (trim_start whole) (dropped n (prefix_len is_feed whole) whole (by_lines n (common_indent ps) ps h))

@@ -1,12 +1,12 @@
--- The parts of literals: fronts and turns.
+-- The parts of literals: prefixes and turns.
 use Rattle.std.proofs.Common.{◌≡◌, ℕ, zero, suc, ◌-◌, ◌<◌, List, Some, None, ap, ◌∙◌, arith}
 use Rattle.std.specs.Char.{is_ascii_hexdigit}
 use Rattle.fluent_text.specs.Parser.{◌>>◌, byte, ignore, run1, skip, first}
 use Rattle.fluent_text.specs.Lexical.{is_quoted, is_digit}
 use Rattle.fluent_syntax.specs.Expressions.{hex_digit, hex_digits, escape, quoted_turn, digits, number_parts}
-use Rattle.fluent_syntax.specs.Facts.Fronts.{Takes, takes-pure, takes-then, takes-or, takes-skip, takes-ignore, takes-run1, takes-byte, takes-test, takes-drop, takes-nothing}
+use Rattle.fluent_syntax.specs.Facts.Prefixes.{Takes, takes-pure, takes-then, takes-or, takes-skip, takes-ignore, takes-run1, takes-byte, takes-test, takes-drop, takes-nothing}
 
--- ---- fronts
+-- ---- prefixes
 
 takes-hex_digit : Takes hex_digit
 unfolding hex_digit

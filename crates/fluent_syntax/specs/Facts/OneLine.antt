@@ -11,7 +11,7 @@ use Rattle.fluent_syntax.specs.Pieces.{follows, is_indented, indented_text, word
 use Rattle.fluent_syntax.specs.Expressions.{level, inline_placeable}
 use Rattle.fluent_text.specs.Facts.Turns.{none, done}
 
--- behind a run no other begins
+-- after a run no other begins
 pub stops : (p : ℕ → ℕ → Bool) (s : List ℕ) → run_len p (drop (run_len p s) s) ≡ 0
 stops p [] = refl
 stops p (c ∷ cs) =
@@ -58,11 +58,11 @@ pub ends_at : (n : ℕ) (s line t : List ℕ) (k m : ℕ) → run_len is_text s 
 unfolding pattern_element block_text block_placeable indent
 ends_at n s line t k m w b e i c = rw (no_words None s w, e, i, c.no_text m, not_placeable n s b, e, i, not_placeable n t c.no_brace) refl
 
-pub stays : (p : Parser (List Piece)) (front : List Piece) (rest : List ℕ) → p rest ≡ None → many_from ◌++◌ p (length rest) front rest ≡ Some (front, rest)
-stays p front rest e =
+pub stays : (p : Parser (List Piece)) (prefix : List Piece) (rest : List ℕ) → p rest ≡ None → many_from ◌++◌ p (length rest) prefix rest ≡ Some (prefix, rest)
+stays p prefix rest e =
     elim (cases_lt 0 (length rest)) [
-      | inl some ↦ none ◌++◌ p (length rest) front rest some e
-      | inr empty ↦ done ◌++◌ p (length rest) front rest (omega arith)
+      | inl some ↦ none ◌++◌ p (length rest) prefix rest some e
+      | inr empty ↦ done ◌++◌ p (length rest) prefix rest (omega arith)
     ]
 
 pub no_feed : (b d : ℕ) → is_text b d ≡ true → (b == 10) ≡ false
@@ -87,8 +87,8 @@ pub one_line : (n : ℕ) (s : List ℕ) → 0 < run_len is_text s → pattern_el
 unfolding pieces pattern_element
 one_line n s h e =
     let rest = drop (run_len is_text s) s in
-    let front = words (record { indent = None; bytes = take (run_len is_text s) s; fed = follows 10 rest }) ∷ [] in
-    rw (some_words s h, stays (pattern_element (level n).braces) front rest e, element_of s (follows 10 rest) h) refl
+    let prefix = words (record { indent = None; bytes = take (run_len is_text s) s; fed = follows 10 rest }) ∷ [] in
+    rw (some_words s h, stays (pattern_element (level n).braces) prefix rest e, element_of s (follows 10 rest) h) refl
 
 text_read : Read Text → Text
 text_read None = []

@@ -1,4 +1,4 @@
--- Entries take a front of the text, and a byte at least.
+-- Entries take a prefix of the text, and a byte at least.
 use Rattle.std.proofs.Common.{◌≡◌, ◌==◌, ℕ, ◌<◌, Bool, true, false, List, [], ◌∷◌, length, Some, None, if◌then◌else◌, refl, arith}
 use Rattle.std.proofs.lemmas.Bool.Decides.{nat_tests}
 use Rattle.fluent_text.specs.Parser.{◌>>=◌, ◌>>◌, ◌<|>◌, pure, skip, many, push, run_len, run, run1, byte, first}
@@ -9,8 +9,8 @@ use Rattle.fluent_syntax.specs.Expressions.{level}
 use Rattle.fluent_syntax.specs.Entries as n
 use Rattle.fluent_syntax.specs.Entries.{value, name_of_value, attribute, value_first, attributes_alone, entry}
 use Rattle.fluent_syntax.specs.WellFormed.{IsWellFormedPattern}
-use Rattle.fluent_syntax.specs.Facts.Fronts.{Takes, takes-bind, takes-then, takes-or, takes-pure, takes-all, takes-byte, Lessens, Eats, eats-bind, eats-then, eats-map, eats-or, eats-skip, eats-byte, eats-run1, run_less}
-use Rattle.fluent_syntax.specs.Facts.LexicalFronts.{takes-identifier, takes-line_end, takes-spaces, takes-blanks, more_lines, takes-more_lines}
+use Rattle.fluent_syntax.specs.Facts.Prefixes.{Takes, takes-bind, takes-then, takes-or, takes-pure, takes-all, takes-byte, Lessens, Eats, eats-bind, eats-then, eats-map, eats-or, eats-skip, eats-byte, eats-run1, run_less}
+use Rattle.fluent_syntax.specs.Facts.LexicalPrefixes.{takes-identifier, takes-line_end, takes-spaces, takes-blanks, more_lines, takes-more_lines}
 use Rattle.fluent_syntax.specs.Facts.Sound.{takes-sound}
 use Rattle.fluent_syntax.specs.Facts.Trees.{sound-braces, sound-pattern}
 

@@ -1,8 +1,8 @@
--- A rule takes a front of the text, and what it gives holds a fact.
+-- A rule takes a prefix of the text, and what it gives holds a fact.
 use Rattle.std.proofs.Common.{◌≡◌, ℕ, zero, suc, Bool, true, false, List, [], ◌++◌, length, Some, None, refl, sym, ap, ◌∙◌, append_assoc, nat_lt, subst}
 use Rattle.fluent_text.specs.Parser.{Read, Parser, ◌>>=◌, ◌>>◌, ◌<$>◌, ◌<|>◌, and_then, otherwise, pure, refuse, many_from, turn, go_on}
 use Rattle.fluent_syntax.specs.Expressions.{provided}
-use Rattle.fluent_syntax.specs.Facts.Fronts.{TakesTo, Takes}
+use Rattle.fluent_syntax.specs.Facts.Prefixes.{TakesTo, Takes}
 
 abbrev pub Holds : {A : Type 0} → (A → Type 0) → List ℕ → Read A → Type 0
 Holds P s None = Unit {0}
@@ -28,7 +28,7 @@ taken s (Some p) h = (h, tt)
 
 -- a part of which nothing is said
 pub sound-any : {A : Type 0} (p : Parser A) → Takes p → Sound (λ x. Unit {0}) p
-sound-any p h = record { each = λ s. taken s (p s) (h.front s) }
+sound-any p h = record { each = λ s. taken s (p s) (h.prefix s) }
 
 pub sound-read : {A B : Type 0} (P : B → Type 0) (p : Parser A) (f : A → Parser B) → Takes p → ((x : A) → Sound P (f x)) → Sound P (p >>= f)
 sound-read P p f h k = sound-bind (λ x. Unit {0}) P p f (sound-any p h) (λ x _. k x)
@@ -84,4 +84,4 @@ taken_to P s None h = tt
 taken_to P s (Some p) h = h.0
 
 pub takes-sound : {A : Type 0} (P : A → Type 0) (p : Parser A) → Sound P p → Takes p
-takes-sound P p h = record { front = λ s. taken_to P s (p s) (h.each s) }
+takes-sound P p h = record { prefix = λ s. taken_to P s (p s) (h.each s) }

@@ -9,8 +9,8 @@ use Rattle.fluent_syntax.specs.Layout as y
 use Rattle.fluent_syntax.specs.Pieces.{words_after, block_text, indent, block_placeable, pattern_element, pieces, pattern}
 use Rattle.fluent_syntax.specs.Expressions.{Level, level, string_literal, number_literal, literal, attribute_access, message_reference, is_function_name, function_reference, optional_call, term_reference, inline_expression, named_argument, Argument, positional, by_name, argument, Gathered, add, names, differ, is_well_formed, arguments_of, comma, argument_comma, last_argument, argument_list, call_arguments, variant_head, variant, variant_list, is_selector, arrow, selector, select_expression, stands_alone, alone, expression, inline_placeable, variable_reference}
 use Rattle.fluent_syntax.specs.WellFormed.{is_literal, one_if, defaults, names_of, AreLiterals, IsWellFormed, IsWellFormedInline, IsWellFormedCall, AreWellFormedArguments, AreWellFormedInlines, AreWellFormedVariants, IsWellFormedPattern}
-use Rattle.fluent_syntax.specs.Facts.Fronts.{Takes, takes-then, takes-byte}
-use Rattle.fluent_syntax.specs.Facts.LexicalFronts.{takes-identifier, takes-blanks, takes-line_end, takes-string_literal, takes-number_literal, takes-attribute_access, takes-comma, takes-variant_head, takes-arrow, takes-blank_block, takes-words_after, takes-block_text, takes-indent}
+use Rattle.fluent_syntax.specs.Facts.Prefixes.{Takes, takes-then, takes-byte}
+use Rattle.fluent_syntax.specs.Facts.LexicalPrefixes.{takes-identifier, takes-blanks, takes-line_end, takes-string_literal, takes-number_literal, takes-attribute_access, takes-comma, takes-variant_head, takes-arrow, takes-blank_block, takes-words_after, takes-block_text, takes-indent}
 use Rattle.fluent_syntax.specs.Facts.LayoutTrees.{OfPieces, pieces_append, laid_out}
 use Rattle.fluent_syntax.specs.Facts.Sound.{Sound, sound-any, sound-bind, sound-read, sound-then, sound-pure, sound-map, sound-refuse, sound-or, sound-provided, sound-all, takes-sound}
 
@@ -180,8 +180,8 @@ sound-element braces n h =
 pub sound-pieces : (braces : Parser Expression) (n : ℕ) → Sound (Whole n) braces → Sound (OfPieces n) (pieces braces)
 unfolding pieces
 sound-pieces braces n h =
-    sound-bind (OfPieces n) (OfPieces n) (pattern_element braces) _ (sound-element braces n h) (λ front w.
-    sound-all (OfPieces n) (OfPieces n) ◌++◌ (pattern_element braces) front (sound-element braces n h) (λ ps qs a b. pieces_append n ps qs a b) w)
+    sound-bind (OfPieces n) (OfPieces n) (pattern_element braces) _ (sound-element braces n h) (λ prefix w.
+    sound-all (OfPieces n) (OfPieces n) ◌++◌ (pattern_element braces) prefix (sound-element braces n h) (λ ps qs a b. pieces_append n ps qs a b) w)
 
 pub sound-pattern : (braces : Parser Expression) (n : ℕ) → Sound (Whole n) braces → Sound (OfPattern n) (pattern braces)
 sound-pattern braces n h = sound-map (OfPieces n) (OfPattern n) (λ ps. pattern_of (y.elements ps)) (pieces braces) (sound-pieces braces n h) (λ ps w. laid_out n ps w)

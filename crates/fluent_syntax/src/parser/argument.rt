@@ -76,7 +76,7 @@ fn push_named<'s>(
     Ok(end)
 }
 
-/// Reads the attribute behind the name of a message, if one is there, and adds the reference.
+/// Reads the attribute after the name of a message, if one is there, and adds the reference.
 #[inline(always)]
 fn push_message<'s>(
     id: Identifier<'s>,
@@ -219,13 +219,13 @@ impl<
         'arguments: for _turn in 0..s.len() {
             match self.push_argument(rest, &mut found) {
                 Ok(after) => {
-                    let Some(behind) = comma(after) else {
+                    let Some(past) = comma(after) else {
                         return Ok((found, after));
                     };
-                    if behind.len() >= rest.len() {
+                    if past.len() >= rest.len() {
                         return Ok((found, after));
                     }
-                    rest = behind;
+                    rest = past;
                 }
                 Err(Stop::Absent) => return Ok((found, rest)),
                 Err(Stop::Memory) => return Err(Stop::Memory),

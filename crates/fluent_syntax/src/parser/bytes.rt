@@ -71,7 +71,7 @@ fn is_name_byte(byte: u8) -> bool
     NAME_BYTES[byte as usize] != 0
 }
 
-/// How many bytes at the front may stand in an identifier. Most names end within sixteen bytes, which are looked at at
+/// How many bytes at the start may stand in an identifier. Most names end within sixteen bytes, which are looked at at
 /// once. It stands by itself, so that what reads names stays small enough to be inlined.
 #[inline(never)]
 fn name_len(s: &str) -> usize
@@ -125,7 +125,7 @@ fn is_in(class: Class, byte: u8, next: u8) -> bool
     }
 }
 
-/// How many bytes at the front are of the class.
+/// How many bytes at the start are of the class.
 #[inline(always)]
 #[tactic(auto, using(fluent_text::specs::Facts::Runs::the_runs))]
 pub fn run_len(s: &str, class: Class) -> usize
@@ -150,7 +150,7 @@ pub fn run_len(s: &str, class: Class) -> usize
     bytes.len()
 }
 
-/// The longest front of the class, and the rest.
+/// The longest prefix of the class, and the rest.
 #[inline(always)]
 pub fn split_run<'s>(s: &'s str, class: Class) -> (&'s str, &'s str)
     ensures parts { parser.run (class_test class) s.now ≡ Some (result.0.now, result.1.now) }

@@ -64,7 +64,7 @@ impl<'s> Found<'s> {
 
 /// Reads an FTL source (Fluent Syntax 1.0), as a program that shows texts needs it: comments are skipped.
 ///
-/// What can't be read is kept as Junk, and reading goes on behind it. Where there is none, the answer is the tree;
+/// What can't be read is kept as Junk, and reading goes on after it. Where there is none, the answer is the tree;
 /// where there is some, it is `Parser` with the whole tree and the byte offsets of each Junk.
 /// `Memory` says that there was no memory, and nothing stands then. An empty source takes none.
 pub fn parse_runtime<'s>(alloc: Global, source: &'s str) -> Result<Resource<'s>, ParseFault<'s>>

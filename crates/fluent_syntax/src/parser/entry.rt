@@ -87,9 +87,9 @@ fn value_first<'s>(alloc: Global, s: &'s str) -> Result<(Content<'s>, &'s str), 
 fn attributes_alone<'s>(alloc: Global, s: &'s str) -> Result<(Content<'s>, &'s str), Stop>
     ensures { Gives content_view result (spec.attributes_alone s.now) }
 {
-    let (front, rest) = attribute(alloc, s)?;
+    let (prefix, rest) = attribute(alloc, s)?;
     let mut found = Vec::new(alloc);
-    push(&mut found, front)?;
+    push(&mut found, prefix)?;
     let (attributes, rest) = attributes(alloc, rest, found)?;
     let value = None;
     Ok((Content { value, attributes }, rest))
@@ -172,7 +172,7 @@ fn attribute<'s>(alloc: Global, s: &'s str) -> Result<(Attribute<'s>, &'s str), 
     named_attribute(alloc, name)
 }
 
-/// An attribute behind its dot. It stands in a function of its own, since most entries end where an attribute could
+/// An attribute after its dot. It stands in a function of its own, since most entries end where an attribute could
 /// stand.
 #[inline(never)]
 fn named_attribute<'s>(alloc: Global, s: &'s str) -> Result<(Attribute<'s>, &'s str), Stop>
@@ -191,7 +191,7 @@ fn value<'s>(alloc: Global, s: &'s str) -> Result<(Pattern<'s>, &'s str), Stop>
     pattern(alloc, s, DEPTH, &inline_placeable)
 }
 
-/// A name, the equals sign behind it and the spaces round that.
+/// A name, the equals sign after it and the spaces round that.
 #[tactic(auto, unfolding(crate::specs::Entries::name_of_value))]
 fn name_of_value<'s>(s: &'s str) -> Option<(Identifier<'s>, &'s str)>
     ensures { found name_view result ≡ spec.name_of_value s.now }

@@ -21,15 +21,15 @@ use std::alloc::{AllocError, Global};
 /// What follows the elements of a pattern's first line.
 #[derive(Drop)]
 pub enum Line<'s> {
-    /// They are the whole pattern, and this stands behind it.
+    /// They are the whole pattern, and this stands after it.
     Whole(&'s str),
     /// The pattern may go on with this.
     Open(&'s str),
 }
 
-/// Whether a pattern may go on with the lines behind a line's text. It may not before an attribute, a variant or the end of a select.
+/// Whether a pattern may go on with the lines after a line's text. It may not before an attribute, a variant or the end of a select.
 ///
-/// The next line is mostly not blank: then its indent is passed over once, and the byte behind it tells.
+/// The next line is mostly not blank: then its indent is passed over once, and the byte after it tells.
 fn may_go_on(s: &str) -> bool
     ensures { (result ≡ false) → LineEndsPattern s.now }
 {
@@ -106,7 +106,7 @@ fn placeable<'s, F: Fn(Global, &'s str, usize) -> Result<(Expression<'s>, &'s st
     braces(alloc, s, depth)
 }
 
-/// Whether a pattern ends with the text of a line that this stands behind.
+/// Whether a pattern ends with the text of a line that this stands after.
 #[inline(always)]
 pub fn ends_pattern(s: &str) -> bool
     ensures { (result ≡ true) → ((first s.now == 123) ≡ false) × LineEndsPattern s.now }
@@ -117,12 +117,12 @@ pub fn ends_pattern(s: &str) -> bool
     true
 }
 
-/// How many elements a placeable makes with these texts before and behind it.
+/// How many elements a placeable makes with these texts before and after it.
 #[inline(always)]
-fn room(before: &str, behind: &str) -> usize
-    ensures { result ≡ length (unless_empty before.now ++ unless_empty behind.now) + 1 }
+fn room(before: &str, after: &str) -> usize
+    ensures { result ≡ length (unless_empty before.now ++ unless_empty after.now) + 1 }
 {
-    match (before.is_empty(), behind.is_empty()) {
+    match (before.is_empty(), after.is_empty()) {
         (true, true) => 1,
         (false, false) => 3,
         _ => 2,
@@ -135,12 +135,12 @@ fn make_room(
     found: &mut Vec<PatternElement<'_>>,
     ends: bool,
     before: &str,
-    behind: &str,
+    after: &str,
 ) -> Result<(), AllocError>
     ensures { OnOk result (found.new.items ≡ found.old.items) }
 {
     if ends {
-        found.reserve_exact(room(before, behind))?;
+        found.reserve_exact(room(before, after))?;
     }
     Ok(())
 }

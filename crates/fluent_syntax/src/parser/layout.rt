@@ -148,7 +148,7 @@ fn smaller(a: Option<usize>, b: Option<usize>) -> Option<usize>
     }
 }
 
-/// Takes the line feeds off the end, which is the front of the pattern.
+/// Takes the line feeds off the end, which is the start of the pattern.
 #[inline(always)]
 fn drop_feeds<'s>(out: &mut Vec<PatternElement<'s>>)
     ensures { map element_view out.new.items ≡ spec.without_last spec.is_feed

@@ -3,7 +3,7 @@ ghost use Rattle.std.specs.Prelude.{◌≡◌, ◌∷◌, ◌++◌, [], OnOk};
 
 use std::alloc::AllocError;
 
-/// Adds an element behind the others.
+/// Adds an element after the others.
 ///
 /// `Vec::push` hands back an element that found no room, which makes each push of a large one dearer; here it is dropped.
 #[inline(always)]

@@ -98,7 +98,7 @@ pub fn string_literal<'s>(s: &'s str) -> Option<(&'s str, &'s str)>
     quoted_text(eat(s, b'"')?)
 }
 
-/// The text behind a quote, up to the next.
+/// The text after a quote, up to the next.
 #[inline(never)]
 fn quoted_text<'s>(s: &'s str) -> Option<(&'s str, &'s str)>
     ensures { found text_view result ≡ parts.quoted_text s.now }

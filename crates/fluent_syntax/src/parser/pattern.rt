@@ -41,7 +41,7 @@ pub fn pattern<'s, F: Fn(Global, &'s str, usize) -> Result<(Expression<'s>, &'s 
     long_pattern(alloc, s, line, after, depth, braces)
 }
 
-/// Whether the text of a line is a whole pattern: nothing behind it goes on with it.
+/// Whether the text of a line is a whole pattern: nothing after it goes on with it.
 #[inline(always)]
 fn is_whole(line: &str, rest: &str) -> bool
     ensures { (result ≡ true) → (s : List ℕ) → run is_text s ≡ Some (line.now, rest.now) →
@@ -96,22 +96,22 @@ fn long_pattern<'s, F: Fn(Global, &'s str, usize) -> Result<(Expression<'s>, &'s
     }
 }
 
-/// The rest of a pattern that may have several lines, behind the elements of its first line.
+/// The rest of a pattern that may have several lines, after the elements of its first line.
 #[inline(never)]
 fn many_lines<'s, F: Fn(Global, &'s str, usize) -> Result<(Expression<'s>, &'s str), Stop>>(
     alloc: Global,
     s: &'s str,
     depth: usize,
     braces: &F,
-    front: Vec<PatternElement<'s>>,
+    prefix: Vec<PatternElement<'s>>,
 ) -> Result<(Pattern<'s>, &'s str), Stop>
     requires braces { GivesRule expression_view (level depth).braces depth (F.pre braces.now)
         (F.post braces.now) }
     ensures { (whole : List ℕ) → Reached depth whole
-        (map piece_of (all element_view front.entry)) s.now →
+        (map piece_of (all element_view prefix.entry)) s.now →
         Gives pattern_view result (spec.pattern (level depth).braces whole) }
 {
-    let found = as_pieces(alloc, front)?;
+    let found = as_pieces(alloc, prefix)?;
     let (pieces, rest) = more_pieces(alloc, s, depth, braces, found)?;
     let elements = elements(alloc, pieces)?;
     Ok((Pattern { elements }, rest))

@@ -9,7 +9,7 @@ use crate::parser::lines::{blank_block, line_indent};
 use fluent_tree::ast::Expression;
 use std::marker::Model;
 
-/// Text of one line, behind its indent where it stands at the start of the line.
+/// Text of one line, after its indent where it stands at the start of the line.
 #[derive(Drop)]
 pub struct Slice<'s> {
     indent: Option<usize>,
@@ -34,7 +34,7 @@ impl<'s> Model for Slice<'s> {
 }
 
 impl<'s> Slice<'s> {
-    /// The text at the front of `text`, which follows the indent in `line`.
+    /// The text at the start of `text`, which follows the indent in `line`.
     #[inline(always)]
     #[tactic(auto, unfolding(crate::specs::Pieces::words_after, fluent_text::specs::Parser::run1))]
     fn read(line: &'s str, indent: Option<usize>, text: &'s str) -> Option<(Slice<'s>, &'s str)>
@@ -63,7 +63,7 @@ impl<'s> Slice<'s> {
         ))
     }
 
-    /// Text that no indent stands before, and no line feed behind.
+    /// Text that no indent stands before, and no line feed after.
     pub fn in_line(whole: &'s str) -> Slice<'s>
         ensures { result ≡ record { indent = None; bytes = whole.now; fed = false } }
     {

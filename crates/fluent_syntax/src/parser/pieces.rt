@@ -23,13 +23,13 @@ const ROOM: usize = 8;
 /// The elements of a pattern's first line, as pieces.
 pub fn as_pieces<'s>(
     alloc: Global,
-    front: Vec<PatternElement<'s>>,
+    prefix: Vec<PatternElement<'s>>,
 ) -> Result<Vec<Piece<'s>>, AllocError>
     ensures { IfOk result (λ found. all piece_view found
-        ≡ map piece_of (all element_view front.entry)) }
+        ≡ map piece_of (all element_view prefix.entry)) }
 {
-    let mut pieces = Vec::with_capacity(alloc, front.len().max(ROOM))?;
-    'elements: for element in front {
+    let mut pieces = Vec::with_capacity(alloc, prefix.len().max(ROOM))?;
+    'elements: for element in prefix {
         push(&mut pieces, as_piece(element))?;
     }
     Ok(pieces)

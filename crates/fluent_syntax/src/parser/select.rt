@@ -6,7 +6,7 @@ ghost use Rattle.fluent_text.specs.Parser as parser;
 ghost use Rattle.fluent_text.specs.Reading.{found, passed};
 ghost use Rattle.fluent_syntax.specs.Reading.{Gives, all};
 ghost use Rattle.fluent_syntax.specs.Nests.{GivesRule};
-ghost use Rattle.fluent_syntax.specs.Adding.{Pushes};
+ghost use Rattle.fluent_syntax.specs.Pushing.{Pushes};
 ghost use Rattle.fluent_tree.specs.View.{key_view, inline_view, variant_view, expression_view};
 
 use crate::parser::bytes::eat;
@@ -63,7 +63,7 @@ fn key_opened(s: &str, default: bool) -> Option<&str>
     eat(rest, b'[')
 }
 
-/// The key behind its bracket, up to the pattern.
+/// The key after its bracket, up to the pattern.
 fn key_closed<'s>(s: &'s str) -> Option<(VariantKey<'s>, &'s str)>
     ensures { found key_view result ≡ parts.key_closed s.now }
 {
@@ -96,7 +96,7 @@ impl<
         self.push_opened(opened, default, found)
     }
 
-    /// Reads a variant behind the bracket of its key, and adds it.
+    /// Reads a variant after the bracket of its key, and adds it.
     #[inline(never)]
     fn push_opened(
         &self,

@@ -8,7 +8,7 @@ use crate::parser::bytes::byte_at;
 use crate::parser::lanes::{LANES, plain_lanes};
 use memchr::memchr;
 
-/// How many bytes at the front are text: up to a brace or the end of the line, which may be a carriage return and a line feed.
+/// How many bytes at the start are text: up to a brace or the end of the line, which may be a carriage return and a line feed.
 #[inline(always)]
 pub fn text_len(s: &str) -> usize
     ensures { result ≡ parser.run_len is_text s.now }
@@ -52,7 +52,7 @@ fn first_stop(bytes: &[u8]) -> Option<usize>
     stop_from(bytes, at)
 }
 
-/// The same behind bytes that were passed, byte by byte.
+/// The same after bytes that were passed, byte by byte.
 #[inline(never)]
 fn stop_from(bytes: &[u8], from: usize) -> Option<usize>
     requires within { from ≤ length bytes.now }
@@ -68,7 +68,7 @@ fn stop_from(bytes: &[u8], from: usize) -> Option<usize>
     None
 }
 
-/// How many bytes at the front stand before a line feed.
+/// How many bytes at the start stand before a line feed.
 pub fn line_len(s: &str) -> usize
     ensures { result ≡ parser.run_len is_inside s.now }
 {

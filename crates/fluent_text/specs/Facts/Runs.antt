@@ -65,7 +65,7 @@ boundary-wide p s ascii =
 pub within_from_byte : (s : List ℕ) (i : ℕ) → 0 < get_or s i 0 → i < length s
 within_from_byte s i h = elim (cases_lt i (length s)) [ inl within ↦ within | inr past ↦ absurd (omega (arith, get_or_past s i 0 past)) ]
 
--- the place after an ASCII byte at the front
+-- the place after an ASCII byte at the start
 pub boundary-one : (s : List ℕ) → IsUtf8 s → 0 < get_or s 0 0 → get_or s 0 0 < 128 → IsCharBoundary s 1
 boundary-one s utf8 some ascii = let one : 0 + 1 ≡ 1 = omega arith in subst (IsCharBoundary s) one (IsCharBoundary-after_ascii s 0 utf8 (within_from_byte s 0 some) ascii)
 

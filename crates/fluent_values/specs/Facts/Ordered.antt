@@ -16,9 +16,9 @@ use Rattle.fluent_values.specs.Facts.Keyed.{both}
 abbrev pub bytes_cmp : Text → Text → Ordering
 bytes_cmp = slice_cmp nat_cmp
 
-pub front_of : (a b : Bool) → T (a && b) → T a
-front_of true b h = tt
-front_of false b h = absurd h
+pub prefix_of : (a b : Bool) → T (a && b) → T a
+prefix_of true b h = tt
+prefix_of false b h = absurd h
 
 pub rest_of : (a b : Bool) → T (a && b) → T b
 rest_of true b h = h
@@ -41,21 +41,21 @@ module _ {Y : Type 0} where
   pub entries_of_empty : entries (empty {X = Y} {R = bytes_cmp}) ≡ []
   entries_of_empty = nothing_long _ (sym (len-entries empty) ∙ len-empty bytes_cmp Y)
 
-  put_in_front : (k : Text) (v : Y) (es : List (Text × Y)) → T (below_all bytes_cmp k es) → put bytes_cmp k v es ≡ (k, v) ∷ es
-  put_in_front k v [] h = refl
-  put_in_front k v (e ∷ es) h = ap (λ r. by_order r ((k, v) ∷ e ∷ es) ((e.0, v) ∷ es) (e ∷ put bytes_cmp k v es)) (less_of _ (front_of _ _ h))
+  put_in_prefix : (k : Text) (v : Y) (es : List (Text × Y)) → T (below_all bytes_cmp k es) → put bytes_cmp k v es ≡ (k, v) ∷ es
+  put_in_prefix k v [] h = refl
+  put_in_prefix k v (e ∷ es) h = ap (λ r. by_order r ((k, v) ∷ e ∷ es) ((e.0, v) ∷ es) (e ∷ put bytes_cmp k v es)) (less_of _ (prefix_of _ _ h))
 
   pub entries_in_order : (es : List (Text × Y)) → T (is_sorted bytes_cmp es) → entries (from_entries {R = bytes_cmp} es) ≡ es
   entries_in_order [] h = entries_of_empty
   entries_in_order (e ∷ es) h =
       entries-insert nat_list_cmp_total (from_entries es) e.0 e.1
       ∙ ap (put bytes_cmp e.0 e.1) (entries_in_order es (rest_of _ _ h))
-      ∙ put_in_front e.0 e.1 es (front_of _ _ h)
+      ∙ put_in_prefix e.0 e.1 es (prefix_of _ _ h)
 
   pub not_below_itself : (k : Text) (es : List (Text × Y)) → T (below_all bytes_cmp k es) → find bytes_cmp k es ≡ None
   not_below_itself k [] h = refl
   not_below_itself k (e ∷ es) h =
-      ap (λ r. cond (is_eq r) (Some e.1) (find bytes_cmp k es)) (less_of _ (front_of _ _ h)) ∙ not_below_itself k es (rest_of _ _ h)
+      ap (λ r. cond (is_eq r) (Some e.1) (find bytes_cmp k es)) (less_of _ (prefix_of _ _ h)) ∙ not_below_itself k es (rest_of _ _ h)
 
 -- what a map of std says of the order of its keys
 module _ {K X Y : Type 0} (key : K → Text) (f : X → Y) where

@@ -17,7 +17,7 @@ use Rattle.fluent_tree.specs.Tree.{Text}
 use Rattle.fluent_meaning.specs.Arguments.{set_all, IsInOrder}
 use Rattle.fluent_values.specs.Names.{NamesRise, IsPlaceOf, to_name}
 use Rattle.fluent_values.specs.Facts.Keyed.{both}
-use Rattle.fluent_values.specs.Facts.Ordered.{front_of, rest_of, less_of}
+use Rattle.fluent_values.specs.Facts.Ordered.{prefix_of, rest_of, less_of}
 
 abbrev pub bytes_cmp : Text → Text → Ordering
 bytes_cmp = slice_cmp nat_cmp
@@ -32,13 +32,13 @@ module _ {K X Y : Type 0} (key : K → Text) (f : X → Y) where
   -- a name below all is below each
   below_at : (k : Text) (es : List (K × X)) (i : ℕ) (d : K × X) → T (below_all bytes_cmp k (both key f es)) → i < length es → bytes_cmp k (key (get_or es i d).0) ≡ Less
   below_at k [] i d h lt = absurd (omega (arith, lt))
-  below_at k (e ∷ es) zero d h lt = less_of _ (front_of _ _ h)
+  below_at k (e ∷ es) zero d h lt = less_of _ (prefix_of _ _ h)
   below_at k (e ∷ es) (suc i) d h lt = below_at k es i d (rest_of _ _ h) (omega (arith, lt))
 
   -- the first of a list whose later pair has the name
   first_smaller : (e : K × X) (es : List (K × X)) (i : ℕ) (k : Text) → T (is_sorted bytes_cmp (both key f (e ∷ es))) → i < length es → HoldsAt (λ x. bytes_cmp (key x.0) k ≡ Equal) es i → bytes_cmp k (key e.0) ≡ Greater
   first_smaller e es i k up lt is =
-      turned (key e.0) k Less (subst (λ t. bytes_cmp (key e.0) t ≡ Less) (same_text _ _ (is e)) (below_at (key e.0) es i e (front_of _ _ up) lt))
+      turned (key e.0) k Less (subst (λ t. bytes_cmp (key e.0) t ≡ Less) (same_text _ _ (is e)) (below_at (key e.0) es i e (prefix_of _ _ up) lt))
 
   pub find_there : (es : List (K × X)) (i : ℕ) (k : Text) (d : K × X) → T (is_sorted bytes_cmp (both key f es)) → i < length es → HoldsAt (λ x. bytes_cmp (key x.0) k ≡ Equal) es i
       → find bytes_cmp k (both key f es) ≡ Some (f (get_or es i d).1)
@@ -112,7 +112,7 @@ module _ {X : Type 0} where
 
   rise_by_one : (es : List (CowStr Global × X)) → NamesRise es → (k : ℕ) (d : CowStr Global × X) → suc k < length es → bytes_cmp (name_at es k d) (name_at es (suc k) d) ≡ Less
   rise_by_one [] h k d lt = absurd (omega (arith, lt))
-  rise_by_one (e ∷ es) h zero d lt = below_at cow_str_bytes (λ x. x) (cow_str_bytes e.0) es 0 d (front_of _ _ h) (omega (arith, lt))
+  rise_by_one (e ∷ es) h zero d lt = below_at cow_str_bytes (λ x. x) (cow_str_bytes e.0) es 0 d (prefix_of _ _ h) (omega (arith, lt))
   rise_by_one (e ∷ es) h (suc k) d lt = rise_by_one es (rest_of _ _ h) k d (omega (arith, lt))
 
   no_fall : (es : List (CowStr Global × X)) → NamesRise es → (k next : ℕ) (d : CowStr Global × X) → suc k ≡ next → next < length es → is_lt (bytes_cmp (name_at es next d) (name_at es k d)) ≡ false
@@ -147,13 +147,13 @@ module _ {X : Type 0} where
 -- pairs in order that are set one after another are themselves
 module _ {Y : Type 0} where
   below_later : (k : Text) (before : List (Text × Y)) (e : Text × Y) (es : List (Text × Y)) → T (below_all bytes_cmp k (before ++ e ∷ es)) → bytes_cmp k e.0 ≡ Less
-  below_later k [] e es h = less_of _ (front_of _ _ h)
+  below_later k [] e es h = less_of _ (prefix_of _ _ h)
   below_later k (d ∷ before) e es h = below_later k before e es (rest_of _ _ h)
 
   put_at_end : (before : List (Text × Y)) (e : Text × Y) (es : List (Text × Y)) → T (is_sorted bytes_cmp (before ++ e ∷ es)) → put bytes_cmp e.0 e.1 before ≡ before ++ e ∷ []
   put_at_end [] e es h = refl
   put_at_end (d ∷ before) e es h =
-      ap (λ r. by_order r ((e.0, e.1) ∷ d ∷ before) ((d.0, e.1) ∷ before) (d ∷ put bytes_cmp e.0 e.1 before)) (turned d.0 e.0 Less (below_later d.0 before e es (front_of _ _ h)))
+      ap (λ r. by_order r ((e.0, e.1) ∷ d ∷ before) ((d.0, e.1) ∷ before) (d ∷ put bytes_cmp e.0 e.1 before)) (turned d.0 e.0 Less (below_later d.0 before e es (prefix_of _ _ h)))
       ∙ ap (λ rest. d ∷ rest) (put_at_end before e es (rest_of _ _ h))
 
   set_all_from : (before es : List (Text × Y)) → T (is_sorted bytes_cmp (before ++ es)) → set_all es before ≡ before ++ es

@@ -2,12 +2,12 @@
 use Rattle.std.proofs.Common.{◌≡◌, refl, sym, ap, subst, ◌∙◌, ℕ, [], ◌++◌, append-nil, append_assoc, Option, Some, None, Result, Ok, Err, OnOk, OnErr}
 use Rattle.std.specs.Io.KnownBytes.{Appends}
 use Rattle.fluent_tree.specs.Tree.{Text}
-use Rattle.fluent_text.specs.Taken.{TookFront, Faulted}
+use Rattle.fluent_text.specs.Taken.{TookPrefix, Faulted}
 use Rattle.fluent_text.specs.declared.counting.WriteFault.{WriteFault}
 use Rattle.fluent_text.specs.declared.counting.WriteFault.TheVariants as fault
 use Rattle.fluent_values.specs.declared.output.Halt.{Halt}
 use Rattle.fluent_values.specs.declared.output.Halt.TheVariants.{Memory}
-use Rattle.fluent_values.specs.Written.{Sink, SinkTook, CountsTell, without_error}
+use Rattle.fluent_values.specs.Sinks.{Sink, SinkTook, CountsTell, without_error}
 
 -- known bytes that grow twice grow by both
 pub appends_on : (o p q : Option Text) (xs ys : Text) → Appends o p xs → Appends p q ys → Appends o q (xs ++ ys)
@@ -35,7 +35,7 @@ never P h = subst (λ r. OnOk r P) (sym h) tt
 
 -- the same text, said otherwise
 pub took_same : {T : Type 0} {r : Result T Halt} {t t' : Text} {w w' : Sink} → t ≡ t' → SinkTook r t w w' → SinkTook r t' w w'
-took_same h k = record { taken = k.taken; left = k.left; held = k.held; begins = k.begins ∙ h; done = k.done; fault = k.fault; beside = k.beside; lent = k.lent }
+took_same h k = record { taken = k.taken; left = k.left; held = k.held; begins = k.begins ∙ h; done = k.done; fault = k.fault; beside = k.beside; borrowed = k.borrowed }
 
 -- one text, and then another
 pub took_on : {T : Type 0} {q r : Result T Halt} {x : T} {t t' : Text} {w w1 w2 : Sink} → q ≡ Ok x → SinkTook q t w w1 → SinkTook r t' w1 w2 → SinkTook r (t ++ t') w w2
@@ -49,7 +49,7 @@ took_on {q = q} {r = r} {x = x} {t = t} {t' = t'} {w = w} {w1 = w1} {w2 = w2} is
       done = k.done;
       fault = faulted_on w.failed w.empty w1.failed w1.empty w2.failed w2.empty x r (subst (CountsTell w.failed w.empty w1.failed w1.empty) is h.fault) k.fault;
       beside = k.beside ∙ h.beside;
-      lent = k.lent ∙ h.lent;
+      borrowed = k.borrowed ∙ h.borrowed;
     }
 
 -- a fault, and nothing more of what was to come
@@ -64,7 +64,7 @@ took_stops {r = r} {r' = r'} {w = w} {w' = w'} t' was is h =
       done = never _ is;
       fault = subst (CountsTell w.failed w.empty w'.failed w'.empty) same h.fault;
       beside = h.beside;
-      lent = h.lent;
+      borrowed = h.borrowed;
     }
 
 -- the last of the texts met a fault
@@ -97,18 +97,18 @@ stays_memory (Err fault.Zero) h = cc
 stays_memory (Err fault.Memory) h = refl
 
 -- what a call of another crate took
-pub took_by : (r : Result (Unit {0}) WriteFault) (t : Text) (w w' : Sink) → OnOk r (Appends w.held w'.held t) → OnErr r (TookFront w.held w'.held t) → Faulted w.failed w.empty w'.failed w'.empty r → w'.beside ≡ w.beside → w'.lent ≡ w.lent → SinkTook (without_error r) t w w'
-took_by (Ok x) t w w' whole front fault beside lent = record { taken = t; left = []; held = whole; begins = append-nil t; done = refl; fault = fault; beside = beside; lent = lent }
-took_by (Err e) t w w' whole front fault beside lent = record { taken = front.0; left = front.1; held = front.3; begins = sym front.2; done = tt; fault = counts_tell {T = Unit {0}} w.failed w.empty w'.failed w'.empty (Err e) fault; beside = beside; lent = lent }
+pub took_by : (r : Result (Unit {0}) WriteFault) (t : Text) (w w' : Sink) → OnOk r (Appends w.held w'.held t) → OnErr r (TookPrefix w.held w'.held t) → Faulted w.failed w.empty w'.failed w'.empty r → w'.beside ≡ w.beside → w'.borrowed ≡ w.borrowed → SinkTook (without_error r) t w w'
+took_by (Ok x) t w w' whole prefix fault beside borrowed = record { taken = t; left = []; held = whole; begins = append-nil t; done = refl; fault = fault; beside = beside; borrowed = borrowed }
+took_by (Err e) t w w' whole prefix fault beside borrowed = record { taken = prefix.0; left = prefix.1; held = prefix.3; begins = sym prefix.2; done = tt; fault = counts_tell {T = Unit {0}} w.failed w.empty w'.failed w'.empty (Err e) fault; beside = beside; borrowed = borrowed }
 
 -- the same answer, said otherwise
 pub took_as : {T : Type 0} {r r' : Result T Halt} {t : Text} {w w' : Sink} → r ≡ r' → SinkTook r t w w' → SinkTook r' t w w'
 took_as {t = t} {w = w} {w' = w'} is h = subst (λ r. SinkTook r t w w') is h
 
 -- a text that a buffer took
-pub took_whole : {T : Type 0} {x : T} (t : Text) (w w' : Sink) → Appends w.held w'.held t → CountsTell w.failed w.empty w'.failed w'.empty (Ok x) → w'.beside ≡ w.beside → w'.lent ≡ w.lent → SinkTook (Ok x) t w w'
-took_whole t w w' held fault beside lent = record { taken = t; left = []; held = held; begins = append-nil t; done = refl; fault = fault; beside = beside; lent = lent }
+pub took_whole : {T : Type 0} {x : T} (t : Text) (w w' : Sink) → Appends w.held w'.held t → CountsTell w.failed w.empty w'.failed w'.empty (Ok x) → w'.beside ≡ w.beside → w'.borrowed ≡ w.borrowed → SinkTook (Ok x) t w w'
+took_whole t w w' held fault beside borrowed = record { taken = t; left = []; held = held; begins = append-nil t; done = refl; fault = fault; beside = beside; borrowed = borrowed }
 
 -- nothing was taken, for want of memory
 pub took_none : {T : Type 0} {r : Result T Halt} (t : Text) (w : Sink) → r ≡ Err Memory → SinkTook r t w w
-took_none t w is = record { taken = []; left = t; held = appends_none w.held; begins = refl; done = never _ is; fault = subst (CountsTell w.failed w.empty w.failed w.empty) (sym is) (refl, refl); beside = refl; lent = refl }
+took_none t w is = record { taken = []; left = t; held = appends_none w.held; begins = refl; done = never _ is; fault = subst (CountsTell w.failed w.empty w.failed w.empty) (sym is) (refl, refl); beside = refl; borrowed = refl }

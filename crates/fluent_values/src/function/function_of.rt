@@ -26,7 +26,7 @@ pub trait Answering<C: FluentType, N: AnswerRule<C>> {
     ///
     /// # Errors
     ///
-    /// Memory was refused.
+    /// An allocation failed.
     fn reply<'a>(
         &self,
         alloc: Global,

@@ -4,7 +4,7 @@ ghost use Rattle.std.specs.Cow.{cow_str_bytes};
 ghost use Rattle.fluent_intl.specs.Number.{number_of};
 ghost use Rattle.fluent_meaning.specs.Value.{text_value, number_value};
 ghost use Rattle.fluent_values.specs.View.{value_view};
-ghost use Rattle.fluent_values.specs.Given.{or_nothing, whole_value};
+ghost use Rattle.fluent_values.specs.Conversions.{or_nothing, whole_value};
 
 use crate::types::{FluentNumber, FluentType, FluentValue};
 use std::borrow::CowStr;

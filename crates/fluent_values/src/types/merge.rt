@@ -3,7 +3,7 @@ ghost use Rattle.std.specs.Prelude.{◌≡◌, codes, OnOk, OnErr};
 ghost use Rattle.fluent_intl.specs.Options.{Options, options_of};
 ghost use Rattle.fluent_meaning.specs.Arguments as fin;
 ghost use Rattle.fluent_values.specs.View.{value_view, named};
-ghost use Rattle.fluent_values.specs.Free.{IsTextGiven};
+ghost use Rattle.fluent_values.specs.ValuesWithoutMemory.{IsTextGiven};
 ghost use Rattle.fluent_values.specs.Merging.{with_currency, with_one, with_rest, with_text};
 
 use crate::args::FluentArgs;
@@ -25,7 +25,7 @@ pub trait MergeArgs<C: FluentType> {
     ///
     /// # Errors
     ///
-    /// Memory was refused, which only a text for `currency` can meet: the options are as before.
+    /// An allocation failed, which only a text for `currency` can meet: the options are as before.
     fn merge(&mut self, alloc: Global, args: &FluentArgs<'_, C>) -> Result<(), AllocError>
         ensures ok { OnOk result (options self.new ≡ fin.merge (named C.content args.now)
             (options self.old)) }

@@ -2,7 +2,7 @@
 ghost use Rattle.std.specs.Prelude.{◌≡◌, IfOk, IsOk};
 ghost use Rattle.fluent_meaning.specs.Value as meaning;
 ghost use Rattle.fluent_values.specs.View.{value_view};
-ghost use Rattle.fluent_values.specs.Free.{IsLent, IsTextless};
+ghost use Rattle.fluent_values.specs.ValuesWithoutMemory.{IsBorrowed, IsTextless};
 
 use crate::types::FluentType;
 use fluent_intl::FluentNumber;
@@ -58,11 +58,11 @@ impl<'s, C: FluentType> FluentValue<'s, C> {
     ///
     /// # Errors
     ///
-    /// Memory was refused, which only a text of its own, a currency or a custom value can meet.
+    /// An allocation failed, which only a text of its own, a currency or a custom value can meet.
     pub fn try_clone(&self, alloc: Global) -> Result<FluentValue<'s, C>, AllocError>
         ensures same { IfOk result (λ copy. value_view C.content copy
             ≡ value_view C.content self.now) }
-        ensures succeeds { IsLent self.now → IsOk result }
+        ensures succeeds { IsBorrowed self.now → IsOk result }
     {
         match self {
             FluentValue::String(CowStr::Borrowed(text)) => {
@@ -76,7 +76,7 @@ impl<'s, C: FluentType> FluentValue<'s, C> {
     ///
     /// # Errors
     ///
-    /// Memory was refused, which only a text, a currency or a custom value can meet.
+    /// An allocation failed, which only a text, a currency or a custom value can meet.
     pub fn into_owned<'b>(&self, alloc: Global) -> Result<FluentValue<'b, C>, AllocError>
         ensures same { IfOk result (λ copy. value_view C.content copy
             ≡ value_view C.content self.now) }

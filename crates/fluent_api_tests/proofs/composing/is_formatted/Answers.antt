@@ -5,9 +5,9 @@ use Rattle.fluent_api_tests.proofs.composing.is_formatted.Goals as goal
 pub returns : goal.returns
 returns c = λ t is.
     let kept = c.set_use_isolating.ensures.kept in
-    let lent = c.format_pattern.ensures.lent t is (kept.transform ∙ c.new-made.ensures.unset.0) (kept.formatter ∙ c.new-made.ensures.unset.1) in
+    let borrowed = c.format_pattern.ensures.borrowed t is (kept.transform ∙ c.new-made.ensures.unset.0) (kept.formatter ∙ c.new-made.ensures.unset.1) in
     elim c.match-format_pattern.branch [
-      | in-Ok+in-Owned-1 w ↦ search (rules, lent)
-      | in-Ok+in-Borrowed-1 w ↦ search (rules, lent)
-      | in-Err-1 w ↦ search (rules, lent)
+      | in-Ok+in-Owned-1 w ↦ search (rules, borrowed)
+      | in-Ok+in-Borrowed-1 w ↦ search (rules, borrowed)
+      | in-Err-1 w ↦ search (rules, borrowed)
     ]

@@ -9,11 +9,11 @@ returns-in_default-text-clause-err c = record {
   all = map argument_view c.loop-rest.list.items;
   next = raw_view c.in-Some.raw;
   rest = c.loop-rest.rest.now;
-  behind = c.in-Some.behind.now;
+  after = c.in-Some.after.now;
   before = c.loop-rest.invariant.0;
   some = search rules;
   none = search rules;
 }
 
 pub loop-rest-preserved : goal.loop-rest-preserved
-loop-rest-preserved c = turn c.loop-rest.list.items c.push.new.self.items c.in-Some-text.argument c.args.bytes.now c.loop-rest.rest.now c.in-Some.behind.now (search rules) c.loop-rest.invariant (search rules) (search rules)
+loop-rest-preserved c = turn c.loop-rest.list.items c.push.new.self.items c.in-Some-text.argument c.args.bytes.now c.loop-rest.rest.now c.in-Some.after.now (search rules) c.loop-rest.invariant (search rules) (search rules)

@@ -43,6 +43,6 @@ returns-in-Err-clause-ran g c =
         rule = λ e. c.attempt-ending.ensures.rule (rule_asked (map string_bytes c.args.words.now) ends.0 e);
         reads = c.attempt-ending.ensures.reads;
         reports = subst (λ es. ReportsRun (reported es) ending err err' 3) c.as_slice.ensures.value
-            (reports_begun c.report.result (reported c.as_slice.result.now) ending c.in-Err.field-0 err err' c.in-Err.is not c.in-Err.ensures.front c.report.ensures.fault);
+            (reports_begun c.report.result (reported c.as_slice.result.now) ending c.in-Err.field-0 err err' c.in-Err.is not c.in-Err.ensures.prefix c.report.ensures.fault);
       },
     )

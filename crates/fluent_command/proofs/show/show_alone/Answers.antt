@@ -12,7 +12,7 @@ use Rattle.fluent_command.specs.Words.{Asked}
 use Rattle.fluent_command.specs.Inside.WordsView.{asked_view}
 use Rattle.fluent_command.specs.Inside.PluralsView.{plurals_view}
 use Rattle.fluent_command.specs.Program.{junk_errors, run_entries, run_alone, first_of_entries, first_alone}
-use Rattle.fluent_command.specs.Inside.Far.{Added, Stops}
+use Rattle.fluent_command.specs.Inside.OutputProgress.{Added, Stops}
 use Rattle.fluent_command.proofs.Adding.{added_then, whole_added}
 use Rattle.fluent_command.proofs.Stopping.{stops_before, stops_after}
 use Rattle.fluent_command.proofs.show.show_alone.Goals as goal

@@ -14,7 +14,7 @@ use Rattle.fluent_command.specs.Words.{Asked}
 use Rattle.fluent_command.specs.Inside.WordsView.{asked_view}
 use Rattle.fluent_command.specs.Inside.PluralsView.{plurals_view}
 use Rattle.fluent_command.specs.Program.{adding_errors, arguments_of, both_adding_errors, bundle_of, Run, run_chain, run_both, all_first}
-use Rattle.fluent_command.specs.Inside.Far.{Added, Stops, Took}
+use Rattle.fluent_command.specs.Inside.OutputProgress.{Added, Stops, Took}
 use Rattle.fluent_command.proofs.Adding.{recast, added_then, added_short, whole_added, not_ok}
 use Rattle.fluent_command.proofs.Stopping.{stops_before, stops_on, stops_after}
 use Rattle.fluent_command.proofs.Taking.{faulted_on, took_none, took_recast}

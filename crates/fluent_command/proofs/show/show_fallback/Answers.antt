@@ -12,7 +12,7 @@ use Rattle.fluent_command.specs.Words.{Asked}
 use Rattle.fluent_command.specs.Inside.WordsView.{asked_view}
 use Rattle.fluent_command.specs.Inside.PluralsView.{plurals_view}
 use Rattle.fluent_command.specs.Program.{both_junk_errors, run_both, run_fallback, all_first}
-use Rattle.fluent_command.specs.Inside.Far.{Added, Stops}
+use Rattle.fluent_command.specs.Inside.OutputProgress.{Added, Stops}
 use Rattle.fluent_command.proofs.Adding.{added_then, added_short, whole_added}
 use Rattle.fluent_command.proofs.Stopping.{stops_before, stops_after}
 use Rattle.fluent_command.proofs.show.show_fallback.Goals as goal

@@ -13,7 +13,7 @@ use Rattle.fluent_command.specs.Words.{Asked}
 use Rattle.fluent_command.specs.Inside.WordsView.{asked_view}
 use Rattle.fluent_command.specs.Inside.PluralsView.{plurals_view}
 use Rattle.fluent_command.specs.Program.{adding_errors, bundle_of, run_value, run_entries, after_errors, in_pieces, first_of_entries}
-use Rattle.fluent_command.specs.Inside.Far.{Added, Stops, Took}
+use Rattle.fluent_command.specs.Inside.OutputProgress.{Added, Stops, Took}
 use Rattle.fluent_command.proofs.Adding.{added_then, whole_added}
 use Rattle.fluent_command.proofs.Stopping.{stops_before, stops_after}
 use Rattle.fluent_command.proofs.show.show_resource.Goals as goal

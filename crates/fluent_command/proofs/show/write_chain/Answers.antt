@@ -12,15 +12,15 @@ returns-in_err-put-clause-text g c =
     let bundles = bundle_view c.args.first.now ∷ bundle_view c.args.second.now ∷ [] in
     let shown : c.as_bytes.result.now ≡ (chain_value c.args.request.id.now (args_view c.in_ok-args.args) bundles).text = search rules in
     rw (← c.in_ok-args.ensures) (rw (← shown)
-    (took_short c.put.result _ _ (10 ∷ []) _ _ faulted (took_put c.put.result _ _ _ c.put.ensures.whole c.put.ensures.front)))
+    (took_short c.put.result _ _ (10 ∷ []) _ _ faulted (took_put c.put.result _ _ _ c.put.ensures.whole c.put.ensures.prefix)))
 
 pub returns-clause-text : goal.returns-clause-text
 returns-clause-text g c =
     let bundles = bundle_view c.args.first.now ∷ bundle_view c.args.second.now ∷ [] in
     let shown : c.as_bytes.result.now ≡ (chain_value c.args.request.id.now (args_view c.in_ok-args.args) bundles).text = search rules in
     rw (← c.in_ok-args.ensures) (rw (← shown)
-    (took_then c.put.result _ _ _ (10 ∷ []) _ _ _ c.in_ok-put.was (took_put c.put.result _ _ _ c.put.ensures.whole c.put.ensures.front)
-    (took_put c.put-2.result (10 ∷ []) _ _ c.put-2.ensures.whole c.put-2.ensures.front)))
+    (took_then c.put.result _ _ _ (10 ∷ []) _ _ _ c.in_ok-put.was (took_put c.put.result _ _ _ c.put.ensures.whole c.put.ensures.prefix)
+    (took_put c.put-2.result (10 ∷ []) _ _ c.put-2.ensures.whole c.put-2.ensures.prefix)))
 
 pub returns-clause-errors : goal.returns-clause-errors
 returns-clause-errors g c =

@@ -4,9 +4,9 @@ use Rattle.fluent_tree.specs.View.{entry_view}
 use Rattle.fluent_meaning.specs.Arguments.{set_all}
 use Rattle.fluent_meaning.specs.Bundle.{Function, added, not_added}
 use Rattle.fluent_entries.specs.EntryView.{ids}
-use Rattle.fluent_entries.specs.Numbered.{Grown, numbers, table}
+use Rattle.fluent_entries.specs.IdNumbers.{Grown, numbers, table}
 use Rattle.fluent_entries.specs.ErrorView.{error_view}
-use Rattle.fluent_entries.specs.Adding.{AreMarked, AreReady, given_by}
+use Rattle.fluent_entries.specs.WaitingEntries.{AreMarked, AreReady, given_by}
 use Rattle.fluent_entries.proofs.adding.add_all.Given as goal
 
 -- the entries so far wait or are reported, and no id names anything else

@@ -4,9 +4,9 @@ use Rattle.std.proofs.lemmas.Option.{slice_get_read}
 use Rattle.std.proofs.lemmas.Result.{on_ok_weaker}
 use Rattle.fluent_meaning.specs.Arguments.{get, set_all}
 use Rattle.fluent_meaning.specs.Bundle.{added, not_added}
-use Rattle.fluent_entries.specs.Adding.{given, given_at, given_by}
+use Rattle.fluent_entries.specs.WaitingEntries.{given, given_at, given_by}
 use Rattle.fluent_entries.specs.EntryView.{ids}
-use Rattle.fluent_entries.specs.Numbered.{numbers, table}
+use Rattle.fluent_entries.specs.IdNumbers.{numbers, table}
 use Rattle.fluent_entries.specs.ErrorView.{error_view}
 use Rattle.fluent_entries.proofs.Waiting.{added_free, added_taken, is_taken_by, one_at, ready_still, set_more, told_free, told_junk, told_taken}
 use Rattle.fluent_entries.proofs.adding.add_entry.Goals as goal

@@ -1,4 +1,4 @@
-use Rattle.fluent_entries.specs.Numbered.{numbers, table}
+use Rattle.fluent_entries.specs.IdNumbers.{numbers, table}
 use Rattle.fluent_entries.proofs.adding.add_where_free.Goals as goal
 
 pub put-requires-clause-linked : goal.put-requires-clause-linked

@@ -1,7 +1,7 @@
 use Rattle.std.proofs.Common.{◌∙◌, sym, subst}
 use Rattle.std.proofs.lemmas.List.{take_all}
-use Rattle.fluent_entries.specs.Linking.{AreKept, AreOf, patterns}
-use Rattle.fluent_entries.specs.Numbered.{numbers, table}
+use Rattle.fluent_entries.specs.KeptLinks.{AreKept, AreOf, patterns}
+use Rattle.fluent_entries.specs.IdNumbers.{numbers, table}
 use Rattle.fluent_entries.proofs.Linking.{all_kept, all_texts, grows_twice, keeps_twice, one_linked, texts_kept}
 use Rattle.fluent_entries.proofs.adding.linked_attributes.Goals as goal
 

@@ -2,8 +2,8 @@ use Rattle.std.proofs.Common.{◌≡◌, take}
 use Rattle.fluent_tree.specs.Tree.{Text}
 use Rattle.fluent_meaning.specs.Bundle.{Function}
 use Rattle.fluent_entries.specs.EntryView.{ids}
-use Rattle.fluent_entries.specs.Linking.{AreOf, patterns}
-use Rattle.fluent_entries.specs.Numbered.{Grown, numbers, table}
+use Rattle.fluent_entries.specs.KeptLinks.{AreOf, patterns}
+use Rattle.fluent_entries.specs.IdNumbers.{Grown, numbers, table}
 use Rattle.fluent_entries.proofs.adding.linked_attributes.Given as goal
 
 -- one is kept of each attribute so far, and no id names anything else

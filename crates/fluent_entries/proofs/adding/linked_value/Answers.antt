@@ -1,8 +1,8 @@
 use Rattle.std.proofs.Common.{◌∙◌, ap, sym, subst, None, Some}
 use Rattle.std.specs.Option.{option_map}
 use Rattle.fluent_tree.specs.View.{pattern_view}
-use Rattle.fluent_entries.specs.Linking.{IsValueKept}
-use Rattle.fluent_entries.specs.Numbered.{numbers, table}
+use Rattle.fluent_entries.specs.KeptLinks.{IsValueKept}
+use Rattle.fluent_entries.specs.IdNumbers.{numbers, table}
 use Rattle.fluent_entries.proofs.Linking.{one_value, text_value}
 use Rattle.fluent_entries.proofs.adding.linked_value.Goals as goal
 

@@ -1,9 +1,9 @@
 use Rattle.std.proofs.Common.{◌∙◌, ◌++◌, ◌∷◌, [], ap, sym, subst, refl, is_some}
 use Rattle.std.specs.Option.{option_map}
 use Rattle.fluent_tree.specs.View.{pattern_view}
-use Rattle.fluent_entries.specs.Adding.{AreReady, Waits, given_by}
-use Rattle.fluent_entries.specs.Linking.{patterns}
-use Rattle.fluent_entries.specs.Numbered.{numbers, table}
+use Rattle.fluent_entries.specs.WaitingEntries.{AreReady, Waits, given_by}
+use Rattle.fluent_entries.specs.KeptLinks.{patterns}
+use Rattle.fluent_entries.specs.IdNumbers.{numbers, table}
 use Rattle.fluent_entries.specs.ErrorView.{kind_view}
 use Rattle.fluent_entries.specs.declared.ready.Ready.{Ready}
 use Rattle.fluent_entries.proofs.Waiting.{given_more, is_ready, ready_more, ready_still}

@@ -1,7 +1,7 @@
 use Rattle.std.proofs.Common.{◌∙◌, ◌++◌, ap, map, sym, take}
 use Rattle.fluent_tree.specs.Tree.{Text}
 use Rattle.fluent_tree.specs.View.{entry_view}
-use Rattle.fluent_entries.specs.Adding.{at_place, given, given_at}
+use Rattle.fluent_entries.specs.WaitingEntries.{at_place, given, given_at}
 use Rattle.fluent_entries.proofs.Linking.{grown_twice}
 use Rattle.fluent_entries.proofs.Waiting.{given_append, one_more}
 use Rattle.fluent_entries.proofs.adding.override_all.Goals as goal

@@ -3,8 +3,8 @@ use Rattle.fluent_tree.specs.Tree.{Text}
 use Rattle.fluent_tree.specs.View.{entry_view}
 use Rattle.fluent_meaning.specs.Bundle.{Function}
 use Rattle.fluent_entries.specs.EntryView.{ids}
-use Rattle.fluent_entries.specs.Numbered.{Grown, numbers, table}
-use Rattle.fluent_entries.specs.Adding.{AreReady, given, given_by}
+use Rattle.fluent_entries.specs.IdNumbers.{Grown, numbers, table}
+use Rattle.fluent_entries.specs.WaitingEntries.{AreReady, given, given_by}
 use Rattle.fluent_entries.proofs.adding.override_all.Given as goal
 
 -- the entries so far wait, and no id names anything else

@@ -3,8 +3,8 @@ use Rattle.std.proofs.lemmas.List.{append-nil}
 use Rattle.std.proofs.lemmas.Option.{slice_get_read}
 use Rattle.std.proofs.lemmas.Result.{on_ok_weaker}
 use Rattle.fluent_tree.specs.Tree.{Text}
-use Rattle.fluent_entries.specs.Adding.{given, given_by}
-use Rattle.fluent_entries.specs.Numbered.{numbers, table}
+use Rattle.fluent_entries.specs.WaitingEntries.{given, given_by}
+use Rattle.fluent_entries.specs.IdNumbers.{numbers, table}
 use Rattle.fluent_entries.proofs.Waiting.{given_junk, one_at, ready_still}
 use Rattle.fluent_entries.proofs.adding.override_entry.Goals as goal
 

@@ -154,62 +154,62 @@ link_inline-returns-in-MessageReference-clause-err g t c =
     let r = a_message c.in-MessageReference.id.name.now in
     err_is c.link_one-in-MessageReference.result (λ begins. begins_as (slots c.args.slots.now) (slots c.link_one-in-MessageReference.new.slots) (r ∷ []) (in_inline (inline_view c.args.inline.now)) (sym (in_message_is c.args.inline.now c.in-MessageReference.id c.in-MessageReference.attribute c.in-MessageReference.is)) (begins r refl)) c.link_one-in-MessageReference.ensures.err
 
-pub link_pattern-returns-in_err-link_element-clause-refused : goal.link_pattern-returns-in_err-link_element-clause-refused
-link_pattern-returns-in_err-link_element-clause-refused g t c = on_err c.from_residual.result (some_in of_element in_elements element_in_turn refl c.deref-element-items.result.now c.loop-element.element-index c.element-item.result c.loop-element-test.true c.element-item.is (references (pattern_view c.args.pattern.now)) (ap in_elements c.deref-element-items.ensures.value ∙ sym (in_pattern_is c.args.pattern.now)) c.in_err-link_element.ensures.refused)
+pub link_pattern-returns-in_err-link_element-clause-alloc_failed : goal.link_pattern-returns-in_err-link_element-clause-alloc_failed
+link_pattern-returns-in_err-link_element-clause-alloc_failed g t c = on_err c.from_residual.result (some_in of_element in_elements element_in_turn refl c.deref-element-items.result.now c.loop-element.element-index c.element-item.result c.loop-element-test.true c.element-item.is (references (pattern_view c.args.pattern.now)) (ap in_elements c.deref-element-items.ensures.value ∙ sym (in_pattern_is c.args.pattern.now)) c.in_err-link_element.ensures.alloc_failed)
 
-pub link_variants-returns-in_err-link_pattern-clause-refused : goal.link_variants-returns-in_err-link_pattern-clause-refused
-link_variants-returns-in_err-link_pattern-clause-refused g t c = on_err c.from_residual.result (some_in of_variant in_variant_list variant_in_turn refl c.args.variants.now c.loop-variant.variant-index c.variant-item.result c.loop-variant-test.true c.variant-item.is (in_variant_list c.args.variants.now) refl c.in_err-link_pattern.ensures.refused)
+pub link_variants-returns-in_err-link_pattern-clause-alloc_failed : goal.link_variants-returns-in_err-link_pattern-clause-alloc_failed
+link_variants-returns-in_err-link_pattern-clause-alloc_failed g t c = on_err c.from_residual.result (some_in of_variant in_variant_list variant_in_turn refl c.args.variants.now c.loop-variant.variant-index c.variant-item.result c.loop-variant-test.true c.variant-item.is (in_variant_list c.args.variants.now) refl c.in_err-link_pattern.ensures.alloc_failed)
 
-pub link_positional-returns-in_err-link_inline-clause-refused : goal.link_positional-returns-in_err-link_inline-clause-refused
-link_positional-returns-in_err-link_inline-clause-refused g t c = on_err c.from_residual.result (some_in of_positional in_positional_list positional_in_turn refl c.args.positional.now c.loop-argument.argument-index c.argument-item.result c.loop-argument-test.true c.argument-item.is (in_positional_list c.args.positional.now) refl c.in_err-link_inline.ensures.refused)
+pub link_positional-returns-in_err-link_inline-clause-alloc_failed : goal.link_positional-returns-in_err-link_inline-clause-alloc_failed
+link_positional-returns-in_err-link_inline-clause-alloc_failed g t c = on_err c.from_residual.result (some_in of_positional in_positional_list positional_in_turn refl c.args.positional.now c.loop-argument.argument-index c.argument-item.result c.loop-argument-test.true c.argument-item.is (in_positional_list c.args.positional.now) refl c.in_err-link_inline.ensures.alloc_failed)
 
-pub link_named-returns-in_err-link_inline-clause-refused : goal.link_named-returns-in_err-link_inline-clause-refused
-link_named-returns-in_err-link_inline-clause-refused g t c = on_err c.from_residual.result (some_in of_named in_named_list named_in_turn refl c.args.named.now c.loop-argument.argument-index c.argument-item.result c.loop-argument-test.true c.argument-item.is (in_named_list c.args.named.now) refl c.in_err-link_inline.ensures.refused)
+pub link_named-returns-in_err-link_inline-clause-alloc_failed : goal.link_named-returns-in_err-link_inline-clause-alloc_failed
+link_named-returns-in_err-link_inline-clause-alloc_failed g t c = on_err c.from_residual.result (some_in of_named in_named_list named_in_turn refl c.args.named.now c.loop-argument.argument-index c.argument-item.result c.loop-argument-test.true c.argument-item.is (in_named_list c.args.named.now) refl c.in_err-link_inline.ensures.alloc_failed)
 
-pub link_arguments-returns-in_err-link_positional-clause-refused : goal.link_arguments-returns-in_err-link_positional-clause-refused
-link_arguments-returns-in_err-link_positional-clause-refused g t c =
+pub link_arguments-returns-in_err-link_positional-clause-alloc_failed : goal.link_arguments-returns-in_err-link_positional-clause-alloc_failed
+link_arguments-returns-in_err-link_positional-clause-alloc_failed g t c =
     let a = of_call.out-CallArguments c.args.arguments.now in
     let xs = in_positional_list c.deref.result.now in
     let ns = in_named_list a.named.items in
     let parts = ap (λ xs. in_positional_list xs ++ ns) c.deref.ensures.value ∙ sym (in_arguments_is c.args.arguments.now) in
-    on_err c.from_residual.result (omega (arith, ap length parts, length-append xs ns, c.in_err-link_positional.ensures.refused))
+    on_err c.from_residual.result (omega (arith, ap length parts, length-append xs ns, c.in_err-link_positional.ensures.alloc_failed))
 
-pub link_arguments-returns-in_err-link_named-clause-refused : goal.link_arguments-returns-in_err-link_named-clause-refused
-link_arguments-returns-in_err-link_named-clause-refused g t c =
+pub link_arguments-returns-in_err-link_named-clause-alloc_failed : goal.link_arguments-returns-in_err-link_named-clause-alloc_failed
+link_arguments-returns-in_err-link_named-clause-alloc_failed g t c =
     let a = of_call.out-CallArguments c.args.arguments.now in
     let xs = in_positional_list c.deref.result.now in
     let ns = in_named_list c.deref-2.result.now in
     let parts = ap (λ xs. in_positional_list xs ++ ns) c.deref.ensures.value ∙ (ap (λ ns. in_positional_list a.positional.items ++ in_named_list ns) c.deref-2.ensures.value ∙ sym (in_arguments_is c.args.arguments.now)) in
-    on_err c.from_residual-in_err-link_named.result (omega (arith, ap length parts, length-append xs ns, c.in_err-link_named.ensures.refused))
+    on_err c.from_residual-in_err-link_named.result (omega (arith, ap length parts, length-append xs ns, c.in_err-link_named.ensures.alloc_failed))
 
-pub link_expression-returns-in_err-link_inline-in-Select-clause-refused : goal.link_expression-returns-in_err-link_inline-in-Select-clause-refused
-link_expression-returns-in_err-link_inline-in-Select-clause-refused g t c =
+pub link_expression-returns-in_err-link_inline-in-Select-clause-alloc_failed : goal.link_expression-returns-in_err-link_inline-in-Select-clause-alloc_failed
+link_expression-returns-in_err-link_inline-in-Select-clause-alloc_failed g t c =
     let x = in_inline (inline_view c.in-Select.selector) in
     let vs = in_variant_list c.in-Select.variants.items in
-    on_err c.from_residual.result (omega (arith, ap length (sym (in_select_is c.args.expression.now c.in-Select.selector c.in-Select.variants c.in-Select.is)), length-append x vs, c.in_err-link_inline-in-Select.ensures.refused))
+    on_err c.from_residual.result (omega (arith, ap length (sym (in_select_is c.args.expression.now c.in-Select.selector c.in-Select.variants c.in-Select.is)), length-append x vs, c.in_err-link_inline-in-Select.ensures.alloc_failed))
 
-pub link_expression-returns-in_err-link_variants-in-Select-clause-refused : goal.link_expression-returns-in_err-link_variants-in-Select-clause-refused
-link_expression-returns-in_err-link_variants-in-Select-clause-refused g t c =
+pub link_expression-returns-in_err-link_variants-in-Select-clause-alloc_failed : goal.link_expression-returns-in_err-link_variants-in-Select-clause-alloc_failed
+link_expression-returns-in_err-link_variants-in-Select-clause-alloc_failed g t c =
     let x = in_inline (inline_view c.in-Select.selector) in
     let vs = in_variant_list c.deref.result.now in
     let parts = ap (λ vs. x ++ in_variant_list vs) c.deref.ensures.value ∙ sym (in_select_is c.args.expression.now c.in-Select.selector c.in-Select.variants c.in-Select.is) in
-    on_err c.from_residual-in_err-link_variants-in-Select.result (omega (arith, ap length parts, length-append x vs, c.in_err-link_variants-in-Select.ensures.refused))
+    on_err c.from_residual-in_err-link_variants-in-Select.result (omega (arith, ap length parts, length-append x vs, c.in_err-link_variants-in-Select.ensures.alloc_failed))
 
-pub link_inline-returns-in_err-link_one-in-FunctionReference-clause-refused : goal.link_inline-returns-in_err-link_one-in-FunctionReference-clause-refused
-link_inline-returns-in_err-link_one-in-FunctionReference-clause-refused g t c = on_err c.from_residual.result (omega (arith, ap length (sym (in_function_is c.args.inline.now c.in-FunctionReference.id c.in-FunctionReference.arguments c.in-FunctionReference.is))))
+pub link_inline-returns-in_err-link_one-in-FunctionReference-clause-alloc_failed : goal.link_inline-returns-in_err-link_one-in-FunctionReference-clause-alloc_failed
+link_inline-returns-in_err-link_one-in-FunctionReference-clause-alloc_failed g t c = on_err c.from_residual.result (omega (arith, ap length (sym (in_function_is c.args.inline.now c.in-FunctionReference.id c.in-FunctionReference.arguments c.in-FunctionReference.is))))
 
-pub link_inline-returns-in_err-link_arguments-in-FunctionReference-clause-refused : goal.link_inline-returns-in_err-link_arguments-in-FunctionReference-clause-refused
-link_inline-returns-in_err-link_arguments-in-FunctionReference-clause-refused g t c =
+pub link_inline-returns-in_err-link_arguments-in-FunctionReference-clause-alloc_failed : goal.link_inline-returns-in_err-link_arguments-in-FunctionReference-clause-alloc_failed
+link_inline-returns-in_err-link_arguments-in-FunctionReference-clause-alloc_failed g t c =
     let r = a_function c.in-FunctionReference.id.name.now in
     let rest = in_arguments (arguments_view c.deref.result.now) in
     let parts = ap (λ a. r ∷ in_arguments (arguments_view a)) c.deref.ensures ∙ sym (in_function_is c.args.inline.now c.in-FunctionReference.id c.in-FunctionReference.arguments c.in-FunctionReference.is) in
     on_err c.from_residual-in_err-link_arguments-in-FunctionReference.result (omega (arith, ap length parts))
 
-pub link_inline-returns-in_err-link_one-in-TermReference-clause-refused : goal.link_inline-returns-in_err-link_one-in-TermReference-clause-refused
-link_inline-returns-in_err-link_one-in-TermReference-clause-refused g t c = on_err c.from_residual-in_err-link_one-in-TermReference.result (omega (arith, ap length (sym (in_term_is c.args.inline.now c.in-TermReference.id c.in-TermReference.attribute c.in-TermReference.arguments c.in-TermReference.is))))
+pub link_inline-returns-in_err-link_one-in-TermReference-clause-alloc_failed : goal.link_inline-returns-in_err-link_one-in-TermReference-clause-alloc_failed
+link_inline-returns-in_err-link_one-in-TermReference-clause-alloc_failed g t c = on_err c.from_residual-in_err-link_one-in-TermReference.result (omega (arith, ap length (sym (in_term_is c.args.inline.now c.in-TermReference.id c.in-TermReference.attribute c.in-TermReference.arguments c.in-TermReference.is))))
 
-pub link_inline-returns-in_err-link_call-in-TermReference-clause-refused : goal.link_inline-returns-in_err-link_call-in-TermReference-clause-refused
-link_inline-returns-in_err-link_call-in-TermReference-clause-refused g t c = on_err c.from_residual-in_err-link_call-in-TermReference.result (omega (arith, ap length (sym (in_term_is c.args.inline.now c.in-TermReference.id c.in-TermReference.attribute c.in-TermReference.arguments c.in-TermReference.is))))
+pub link_inline-returns-in_err-link_call-in-TermReference-clause-alloc_failed : goal.link_inline-returns-in_err-link_call-in-TermReference-clause-alloc_failed
+link_inline-returns-in_err-link_call-in-TermReference-clause-alloc_failed g t c = on_err c.from_residual-in_err-link_call-in-TermReference.result (omega (arith, ap length (sym (in_term_is c.args.inline.now c.in-TermReference.id c.in-TermReference.attribute c.in-TermReference.arguments c.in-TermReference.is))))
 
-pub link_inline-returns-in-MessageReference-clause-refused : goal.link_inline-returns-in-MessageReference-clause-refused
-link_inline-returns-in-MessageReference-clause-refused g t c = err_is c.link_one-in-MessageReference.result (λ begins. omega (arith, ap length (in_message_is c.args.inline.now c.in-MessageReference.id c.in-MessageReference.attribute c.in-MessageReference.is))) c.link_one-in-MessageReference.ensures.err
+pub link_inline-returns-in-MessageReference-clause-alloc_failed : goal.link_inline-returns-in-MessageReference-clause-alloc_failed
+link_inline-returns-in-MessageReference-clause-alloc_failed g t c = err_is c.link_one-in-MessageReference.result (λ begins. omega (arith, ap length (in_message_is c.args.inline.now c.in-MessageReference.id c.in-MessageReference.attribute c.in-MessageReference.is))) c.link_one-in-MessageReference.ensures.err

@@ -1,5 +1,5 @@
 use Rattle.std.proofs.Common.{take}
-use Rattle.fluent_links.specs.Linking.{AppendsLinks}
+use Rattle.fluent_links.specs.LinkGrowth.{AppendsLinks}
 use Rattle.fluent_links.specs.PlaceSteps.{in_elements, in_variant_list, in_positional_list, in_named_list}
 use Rattle.fluent_links.specs.Slots.{slots}
 use Rattle.fluent_links.proofs.linking.+linking.Given as goal

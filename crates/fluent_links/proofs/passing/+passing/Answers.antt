@@ -2,7 +2,7 @@ use Rattle.std.proofs.Common.{◌≡◌, ap, sym, subst, ◌∙◌, rules}
 use Rattle.std.proofs.lemmas.List.{drop_all, nil_from_length}
 use Rattle.fluent_tree.specs.References.{in_expression}
 use Rattle.fluent_tree.specs.View.{expression_view}
-use Rattle.fluent_links.specs.Links.{behind}
+use Rattle.fluent_links.specs.Links.{past}
 use Rattle.fluent_links.specs.PlaceSteps.{passed, in_elements, in_variant_list, in_positional_list, in_named_list, of_element, of_variant, of_positional, of_named, element_in_turn, variant_in_turn, positional_in_turn, named_in_turn}
 use Rattle.fluent_links.proofs.Passed.{ended, pattern_passed, select_passed, arguments_passed}
 use Rattle.fluent_links.proofs.passing.+passing.Goals as goal
@@ -12,8 +12,8 @@ pass_arguments-returns t c =
     let xs = c.deref.ensures.value in
     let ns = c.deref-2.ensures.value in
     arguments_passed c.args.arguments.now c.args.links.now c.pass_positional.result.now c.pass_named.result.now
-    (subst (λ xs. c.pass_positional.result.now ≡ behind (in_positional_list xs) c.args.links.now) xs c.pass_positional.ensures)
-    (subst (λ ns. c.pass_named.result.now ≡ behind (in_named_list ns) c.pass_positional.result.now) ns c.pass_named.ensures)
+    (subst (λ xs. c.pass_positional.result.now ≡ past (in_positional_list xs) c.args.links.now) xs c.pass_positional.ensures)
+    (subst (λ ns. c.pass_named.result.now ≡ past (in_named_list ns) c.pass_positional.result.now) ns c.pass_named.ensures)
 
 pub pass_expression-returns-then-is_empty : goal.pass_expression-returns-then-is_empty
 pass_expression-returns-then-is_empty t c = ended (in_expression (expression_view c.args.expression.now)) c.args.links.now (nil_from_length c.args.links.now (search (rules, c.is_empty.ensures, c.if-is_empty.true)))
@@ -23,7 +23,7 @@ pass_expression-returns-in-Select t c =
     let vs = c.deref.ensures.value in
     let between = c.pass_inline-in-Select.result.now in
     select_passed c.args.expression.now c.in-Select.selector c.in-Select.variants c.args.links.now between c.pass_variants.result.now c.in-Select.is c.pass_inline-in-Select.ensures
-    (subst (λ vs. c.pass_variants.result.now ≡ behind (in_variant_list vs) between) vs c.pass_variants.ensures)
+    (subst (λ vs. c.pass_variants.result.now ≡ past (in_variant_list vs) between) vs c.pass_variants.ensures)
 
 pub pass_named-loop-argument-preserved : goal.pass_named-loop-argument-preserved
 pass_named-loop-argument-preserved t c = passed of_named in_named_list named_in_turn c.args.named.now c.loop-argument.argument-index c.argument-item.result c.loop-argument-test.true c.argument-item.is _ _ _ c.pass_inline-links.ensures c.loop-argument.invariant
@@ -41,6 +41,6 @@ pub pass_pattern-returns : goal.pass_pattern-returns
 pass_pattern-returns t c =
     let items = c.deref-element-items.result.now in
     pattern_passed c.args.pattern.now c.args.links.now c.loop-element.links.now
-    (sym (ap (λ es. behind (in_elements es) c.loop-element.links.now) (drop_all c.loop-element.element-index items c.loop-element-test.false))
+    (sym (ap (λ es. past (in_elements es) c.loop-element.links.now) (drop_all c.loop-element.element-index items c.loop-element-test.false))
     ∙ (c.loop-element.invariant
-    ∙ ap (λ es. behind (in_elements es) c.args.links.now) c.deref-element-items.ensures.value))
+    ∙ ap (λ es. past (in_elements es) c.args.links.now) c.deref-element-items.ensures.value))

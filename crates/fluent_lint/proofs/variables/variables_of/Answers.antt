@@ -18,8 +18,8 @@ pub returns : goal.returns
 returns g c =
     let named = g.B.GetEntry.named c.args.bundle.now in
     let items = c.loop-next.reached.items in
-    let behind : length items ≤ c.loop-next.next = omega (arith, c.loop-next-test.false, c.len.ensures, c.loop-next.reached.ok) in
+    let after : length items ≤ c.loop-next.next = omega (arith, c.loop-next-test.false, c.len.ensures, c.loop-next.reached.ok) in
     record {
-      asked = gathered_all named (place_view c.args.place.now) c.loop-next.next items (texts c.loop-next.names.items) behind c.loop-next.invariant;
+      asked = gathered_all named (place_view c.args.place.now) c.loop-next.next items (texts c.loop-next.names.items) after c.loop-next.invariant;
       distinct = c.loop-next.invariant.distinct;
     }

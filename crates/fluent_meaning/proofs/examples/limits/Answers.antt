@@ -12,7 +12,7 @@ use Rattle.fluent_meaning.proofs.examples.limits.Goals as goal
 
 pub returns-clause-hundred : goal.returns-clause-hundred
 unfolding elements ran digits pattern_same text_same decimal_text significant_places operands_of e.hex_digit e.hex_number e.numbered e.escape e.part many_from byte run1 encode
-returns-clause-hundred c = record { struck_at_the_end = refl; not_struck = refl; struck_below = refl; within_below = refl; arguments_go_on = refl; nested_fallback = refl; selector = refl; term_arguments = refl; brackets = refl; calls = refl; laughs = refl; laughs_longer = refl }
+returns-clause-hundred c = record { limit_reached_at_the_end = refl; not_limit_reached = refl; limit_reached_below = refl; within_below = refl; arguments_go_on = refl; nested_fallback = refl; selector = refl; term_arguments = refl; brackets = refl; calls = refl; laughs = refl; laughs_longer = refl }
 
 pub returns-clause-others : goal.returns-clause-others
 unfolding elements ran digits pattern_same text_same decimal_text significant_places operands_of e.hex_digit e.hex_number e.numbered e.escape e.part many_from byte run1 encode

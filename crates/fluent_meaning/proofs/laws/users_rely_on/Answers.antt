@@ -16,6 +16,6 @@ returns c s = record {
     budgeted = λ b env env' path t a call budget h. ap (λ m. m budget) (term_same within_budget b (run b) env env' path t a call h);
     substituted = λ b n env env' path t a call h. term_same by_substitution b (substituted b n) env env' path t a call h;
   };
-  strikes = run_once;
+  reaches_limit = run_once;
   alike = alike_same;
 }

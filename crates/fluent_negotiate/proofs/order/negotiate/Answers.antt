@@ -2,7 +2,7 @@ use Rattle.std.proofs.Common.{◌≡◌, ◌∙◌, sym, ap, ◌∷◌, ◌++◌
 use Rattle.std.proofs.lemmas.List.{map_more, take_all}
 use Rattle.std.specs.List.{filter_map}
 use Rattle.fluent_negotiate.specs.Lookup.{each_once, lookup}
-use Rattle.fluent_negotiate.specs.Inside.Adding.{with_place}
+use Rattle.fluent_negotiate.specs.Inside.PlaceAmong.{with_place}
 use Rattle.fluent_negotiate.proofs.Once.{push_some, push_none, some_before, some_number}
 use Rattle.fluent_negotiate.proofs.order.negotiate.Goals as goal
 use Rattle.fluent_negotiate.proofs.order.negotiate.Goals.{in-Some+in_ok-add_place-in-Some, in-None, in-Some-lookup+in_ok-add_place-in-Some-lookup, in-None-lookup}
@@ -14,16 +14,16 @@ loop-range-preserved g c =
     let i = c.loop-range.range-index in
     let before = map text (take i c.args.requested.now) in
     let x = c.range-item.result in
-    let front : map text (take (i + 1) c.args.requested.now) ≡ before ++ text x ∷ [] =
+    let prefix : map text (take (i + 1) c.args.requested.now) ≡ before ++ text x ∷ [] =
     map_more text c.args.requested.now i x c.loop-range-test.true ∙ ap (λ y. before ++ text y ∷ []) (sym c.range-item.is) in
     elim c.match-lookup.branch [
       | in-Some+in_ok-add_place-in-Some w ↦
           let is : find (text x) ≡ Some w.in-Some.place = sym (w.in-Some.ensures ∙ ap find c.as_str.ensures) in
           let added : w.add_place.new.places.items ≡ with_place c.loop-range.places.items w.in-Some.place = w.in_ok-add_place-in-Some.ensures in
-          rw w.places-is (added ∙ ap (λ ps. with_place ps w.in-Some.place) c.loop-range.invariant ∙ sym (push_some find before (text x) w.in-Some.place is) ∙ ap (λ ts. each_once (filter_map find ts)) (sym front))
+          rw w.places-is (added ∙ ap (λ ps. with_place ps w.in-Some.place) c.loop-range.invariant ∙ sym (push_some find before (text x) w.in-Some.place is) ∙ ap (λ ts. each_once (filter_map find ts)) (sym prefix))
       | in-None w ↦
           let is : find (text x) ≡ None = sym (w.in-None.ensures ∙ ap find c.as_str.ensures) in
-          rw w.places-is (c.loop-range.invariant ∙ sym (push_none find before (text x) is) ∙ ap (λ ts. each_once (filter_map find ts)) (sym front))
+          rw w.places-is (c.loop-range.invariant ∙ sym (push_none find before (text x) is) ∙ ap (λ ts. each_once (filter_map find ts)) (sym prefix))
     ]
 
 pub returns-in_err-add_place-in-Some-clause-succeeds : goal.returns-in_err-add_place-in-Some-clause-succeeds

@@ -1,10 +1,10 @@
 use Rattle.std.proofs.Common.{◌≡◌, ◌-◌, ◌≤◌, suc, false, length, arith, sym, refl, ◌∙◌, rules, take}
 use Rattle.fluent_negotiate.specs.Lookup.{ends_in_single}
-use Rattle.fluent_negotiate.proofs.Fronts.{next_tried, shortened-fronts}
+use Rattle.fluent_negotiate.proofs.Prefixes.{next_tried, shortened-prefixes}
 use Rattle.fluent_negotiate.proofs.tags.cut.Goals as goal
 
 pub loop-end-init : goal.loop-end-init
-loop-end-init c = rw (shortened-fronts c.args.range.now) refl
+loop-end-init c = rw (shortened-prefixes c.args.range.now) refl
 
 pub returns-then-not-ends_in_single-clause-steps : goal.returns-then-not-ends_in_single-clause-steps
 returns-then-not-ends_in_single-clause-steps c =

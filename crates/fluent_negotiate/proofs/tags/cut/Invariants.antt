@@ -3,9 +3,9 @@ use Rattle.std.specs.Prelude.{not}
 use Rattle.std.specs.List.{filter}
 use Rattle.fluent_intl.specs.Languages.{shortened}
 use Rattle.fluent_negotiate.specs.Lookup.{ends_in_single}
-use Rattle.fluent_negotiate.proofs.Fronts.{fronts}
+use Rattle.fluent_negotiate.proofs.Prefixes.{prefixes}
 use Rattle.fluent_negotiate.proofs.tags.cut.Given as goal
 
 -- what is kept stands before the separators that are left
 abbrev pub invariant-loop-end : goal.invariant-loop-end
-invariant-loop-end l = filter (λ front. not (ends_in_single front)) (drop 1 (shortened l.range)) ≡ filter (λ front. not (ends_in_single front)) (fronts l.end l.range)
+invariant-loop-end l = filter (λ prefix. not (ends_in_single prefix)) (drop 1 (shortened l.range)) ≡ filter (λ prefix. not (ends_in_single prefix)) (prefixes l.end l.range)

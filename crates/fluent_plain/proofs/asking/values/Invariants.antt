@@ -5,7 +5,7 @@ use Rattle.fluent_plain.specs.Asked.{arguments_of, named_value}
 use Rattle.fluent_plain.specs.PlainView.{args_view}
 use Rattle.fluent_plain.proofs.asking.values.Given as goal
 
--- the rest set behind those so far
+-- the rest set after those so far
 abbrev pub invariant-loop-argument : goal.invariant-loop-argument
 invariant-loop-argument l =
     set_all (map named_value (map argument_view (drop l.argument-index l.list))) (args_view l.args)

@@ -1,7 +1,7 @@
 use Rattle.std.proofs.Common.{rules}
 use Rattle.fluent_tree.specs.View.{expression_view}
 use Rattle.fluent_state.specs.Status.{state, state_parts}
-use Rattle.fluent_state.specs.Facts.Along.{starts, turns, calls, goes_on, puts_last, stops, wrote}
+use Rattle.fluent_state.specs.Facts.WritesUpTo.{starts, turns, calls, goes_on, puts_last, stops, wrote}
 use Rattle.fluent_resolver.proofs.ScopeCalls.{closes_at, closing_text}
 use Rattle.fluent_resolver.proofs.tracking.write_closed.Goals as goal
 

@@ -1,9 +1,9 @@
 use Rattle.std.proofs.Common.{◌∙◌, ap, refl, length}
 use Rattle.fluent_tree.specs.View.{expression_view, pattern_view}
-use Rattle.fluent_state.specs.Along.{adding, from_here, trace}
+use Rattle.fluent_state.specs.WalkProgress.{adding, from_here, trace}
 use Rattle.fluent_state.specs.Status.{state, state_parts}
 use Rattle.fluent_resolver.specs.Tracking.{closes}
-use Rattle.fluent_state.specs.Facts.Along.{starts, turns, lends, wrote}
+use Rattle.fluent_state.specs.Facts.WritesUpTo.{starts, turns, lends, wrote}
 use Rattle.fluent_state.specs.Facts.Passing.{entered_counts, keeps_around}
 use Rattle.fluent_resolver.proofs.Steps.{back}
 use Rattle.fluent_resolver.proofs.ScopeCalls.{maybe_at}

@@ -3,7 +3,7 @@ use Rattle.fluent_tree.specs.Fallback.{dotted}
 use Rattle.fluent_tree.specs.Tree.{Text, Attribute, no_attribute, attribute}
 use Rattle.fluent_tree.specs.View.{attribute_of}
 use Rattle.fluent_values.specs.declared.output.Halt.{Halt}
-use Rattle.fluent_values.specs.Written.{Sink, SinkTook}
+use Rattle.fluent_values.specs.Sinks.{Sink, SinkTook}
 use Rattle.fluent_values.specs.Facts.Took.{took_on, took_stops, took_fails, took_same, took_done}
 use Rattle.fluent_state.proofs.fallback.put_dotted.Goals as goal
 

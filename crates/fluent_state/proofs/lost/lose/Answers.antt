@@ -2,9 +2,9 @@ use Rattle.std.proofs.Common.{rules, sym, ap}
 use Rattle.fluent_tree.specs.Fallback.{fallback, in_braces}
 use Rattle.fluent_tree.specs.View.{inline_view}
 use Rattle.fluent_meaning.specs.Work.{work}
-use Rattle.fluent_state.specs.Along.{given}
+use Rattle.fluent_state.specs.WalkProgress.{given}
 use Rattle.fluent_state.specs.Status.{state, state_parts}
-use Rattle.fluent_state.specs.Facts.Along.{starts, turns, adds, refuses, puts_last, wrote}
+use Rattle.fluent_state.specs.Facts.WritesUpTo.{starts, turns, adds, refuses, puts_last, wrote}
 use Rattle.fluent_state.specs.Facts.Cases.{loses_is}
 use Rattle.fluent_state.proofs.lost.lose.Goals as goal
 

@@ -3,7 +3,7 @@ use Rattle.std.specs.Option.{option_map}
 use Rattle.fluent_tree.specs.View.{inline_view}
 use Rattle.fluent_state.specs.Status.{state, state_parts}
 use Rattle.fluent_values.specs.View.{value_view, named}
-use Rattle.fluent_state.specs.Facts.Along.{starts, turns, puts_last, tail, wrote, memory_halts}
+use Rattle.fluent_state.specs.Facts.WritesUpTo.{starts, turns, puts_last, tail, wrote, memory_halts}
 use Rattle.fluent_state.specs.Facts.Lookups.{answer_lost, answer_is, answer_put}
 use Rattle.fluent_state.proofs.shown.put_answer.Goals as goal
 

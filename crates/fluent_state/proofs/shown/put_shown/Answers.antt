@@ -1,6 +1,6 @@
 use Rattle.std.proofs.Common.{ap, sym}
 use Rattle.fluent_tree.specs.View.{inline_view}
-use Rattle.fluent_state.specs.Along.{shown_answer}
+use Rattle.fluent_state.specs.WalkProgress.{shown_answer}
 use Rattle.fluent_values.specs.View.{value_view}
 use Rattle.fluent_values.specs.Facts.Took.{took_same}
 use Rattle.fluent_state.specs.Facts.Lookups.{no_error}

@@ -1,5 +1,5 @@
 use Rattle.std.proofs.Common.{◌∙◌, Ok}
-use Rattle.fluent_values.specs.Written.{sink}
+use Rattle.fluent_values.specs.Sinks.{sink}
 use Rattle.fluent_state.proofs.TextElements.{text_next, placeable_next, none_to_take}
 use Rattle.fluent_values.specs.Facts.Took.{took_on, took_same}
 use Rattle.fluent_state.specs.Facts.Views.{view_text_in, view_placeable_in}
@@ -17,13 +17,13 @@ loop-element-preserved g c =
           let next = text_next items i x r.in-TextElement.value.now c.loop-element-test.true c.element-item.is (view_text_in x r.in-TextElement.value r.in-TextElement.is) in
           rw r.out-is (record {
             taking = λ q after k. so_far.taking q after (took_same next (took_on r.in_ok-put_text-in-TextElement.was r.put_text.ensures.took k));
-            lent = r.put_text.ensures.took.lent ∙ so_far.lent;
+            borrowed = r.put_text.ensures.took.borrowed ∙ so_far.borrowed;
           })
       | in-Placeable r ↦
           let next = placeable_next items i x _ c.loop-element-test.true c.element-item.is (view_placeable_in x r.in-Placeable.expression r.in-Placeable.is) in
           rw r.out-is (record {
             taking = λ q after k. so_far.taking q after (took_same next k);
-            lent = so_far.lent;
+            borrowed = so_far.borrowed;
           })
     ]
 

@@ -2,7 +2,7 @@ use Rattle.std.proofs.Common.{◌≡◌, drop, map, Result}
 use Rattle.fluent_tree.specs.Tree.{pattern_of}
 use Rattle.fluent_tree.specs.View.{element_view, pattern_view}
 use Rattle.fluent_entries.specs.Texts.{texts_of}
-use Rattle.fluent_values.specs.Written.{Sink, SinkTook, sink}
+use Rattle.fluent_values.specs.Sinks.{Sink, SinkTook, sink}
 use Rattle.fluent_values.specs.declared.output.Halt.{Halt}
 use Rattle.fluent_state.proofs.texts.put_texts.Given as goal
 
@@ -13,5 +13,5 @@ invariant-loop-element g l =
     let now = sink g.W.Write.contents l.out in
     record {
       taking : (r : Result (Unit {0}) Halt) (after : Sink) → SinkTook r (texts_of (pattern_of (map element_view (drop l.element-index l.element-items)))) now after → SinkTook r (texts_of (pattern_view l.pattern)) before after;
-      lent : now.lent ≡ before.lent;
+      borrowed : now.borrowed ≡ before.borrowed;
     }

@@ -2,7 +2,7 @@ use Rattle.std.proofs.Common.{rules, ap, sym, ◌∙◌}
 use Rattle.std.specs.Option.{option_map}
 use Rattle.fluent_tree.specs.View.{inline_view}
 use Rattle.fluent_meaning.specs.Value.{error_value}
-use Rattle.fluent_state.specs.Along.{given}
+use Rattle.fluent_state.specs.WalkProgress.{given}
 use Rattle.fluent_state.specs.Status.{arguments_view, environment_view, state, state_parts}
 use Rattle.fluent_values.specs.View.{value_view, named}
 use Rattle.fluent_meaning.specs.Arguments.{get}
@@ -38,7 +38,7 @@ returns-in-Some-argument g c =
     let x = inline_view c.args.inline.now in
     let id = c.args.id.now.name.now in
     let there = ap (λ e. get id (variables (environment_view content e))) c.in-Application.is ∙ sym c.argument.ensures ∙ ap (option_map (λ v. value_view content v.now)) c.in-Some-argument.is in
-    got_if (value_view content c.in-Some-argument.value.now) (value_found a x id (value_view content c.in-Some-argument.value.now) a.budget c.requires there) c.lent.ensures
+    got_if (value_view content c.in-Some-argument.value.now) (value_found a x id (value_view content c.in-Some-argument.value.now) a.budget c.requires there) c.borrowed.ensures
 
 pub returns-in_err-report_lost-in-None-argument : goal.returns-in_err-report_lost-in-None-argument
 unfolding state_parts

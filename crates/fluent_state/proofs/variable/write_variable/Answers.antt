@@ -5,7 +5,7 @@ use Rattle.fluent_state.specs.Status.{arguments_view, environment_view, state, s
 use Rattle.fluent_values.specs.View.{value_view, named}
 use Rattle.fluent_meaning.specs.Arguments.{get}
 use Rattle.fluent_meaning.specs.Walk.{variables}
-use Rattle.fluent_state.specs.Facts.Along.{starts, turns, puts_last, tail, wrote}
+use Rattle.fluent_state.specs.Facts.WritesUpTo.{starts, turns, puts_last, tail, wrote}
 use Rattle.fluent_state.specs.Facts.Lookups.{variable_found, variable_lost, variable_unseen}
 use Rattle.fluent_state.proofs.variable.write_variable.Goals as goal
 

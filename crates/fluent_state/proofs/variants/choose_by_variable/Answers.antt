@@ -6,7 +6,7 @@ use Rattle.fluent_meaning.specs.Arguments.{get}
 use Rattle.fluent_meaning.specs.Bundle.{goes_to}
 use Rattle.fluent_meaning.specs.Value.{Value, error_value}
 use Rattle.fluent_meaning.specs.Walk.{variables}
-use Rattle.fluent_state.specs.Along.{given, mapping}
+use Rattle.fluent_state.specs.WalkProgress.{given, mapping}
 use Rattle.fluent_state.specs.Choice.{choice, first_default}
 use Rattle.fluent_state.specs.Status.{arguments_view, environment_view, state, state_parts}
 use Rattle.fluent_values.specs.View.{value_view, named}

@@ -6,7 +6,7 @@ use Rattle.fluent_intl.specs.Number.{number_of}
 use Rattle.fluent_meaning.specs.Bundle.{key_value}
 use Rattle.fluent_state.specs.Choice.{first_default, is_like}
 use Rattle.fluent_links.specs.Places.{seen}
-use Rattle.fluent_state.proofs.InTurn.{begins_behind, begins_here, not_like}
+use Rattle.fluent_state.proofs.InTurn.{begins_after, begins_here, not_like}
 use Rattle.fluent_state.proofs.variants.first_like.Goals as goal
 
 pub returns-then-is_like-clause-placed : goal.returns-then-is_like-clause-placed
@@ -19,5 +19,5 @@ loop-variant-preserved c =
     let like = is_like c.args.word.now (option_map (λ n. number_of n.now) c.args.number) in
     record {
       chose = c.loop-variant.invariant.chose ∙ not_like c.args.variants.now c.loop-variant.variant-index c.variant-item.result c.loop-variant-test.true c.variant-item.is (λ key. like (key_value key)) (first_default vs) _ c.is_like.ensures c.if-is_like.false;
-      placed = λ number before. begins_behind number c.args.variants.now c.loop-variant.variant-index c.variant-item.result c.loop-variant-test.true c.variant-item.is (seen c.loop-variant.at) (seen c.behind_pattern-at.result) c.behind_pattern-at.ensures (c.loop-variant.invariant.placed number before);
+      placed = λ number before. begins_after number c.args.variants.now c.loop-variant.variant-index c.variant-item.result c.loop-variant-test.true c.variant-item.is (seen c.loop-variant.at) (seen c.after_pattern-at.result) c.after_pattern-at.ensures (c.loop-variant.invariant.placed number before);
     }

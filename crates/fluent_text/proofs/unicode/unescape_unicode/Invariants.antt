@@ -10,6 +10,6 @@ use Rattle.fluent_text.proofs.unicode.unescape_unicode.Given as goal
 abbrev pub invariant-parts : goal.invariant-parts
 invariant-parts g l =
     shadow (Utf8 l.rest)
-    × ((front : List ℕ) × (many_from ◌++◌ part (length l.fn.text) [] l.fn.text ≡ many_from ◌++◌ part (l._turn-end - l._turn) front l.rest) × Appends (g.W.Write.contents (writer_in l.fn.w)) (g.W.Write.contents (writer_in l.w)) front)
+    × ((prefix : List ℕ) × (many_from ◌++◌ part (length l.fn.text) [] l.fn.text ≡ many_from ◌++◌ part (l._turn-end - l._turn) prefix l.rest) × Appends (g.W.Write.contents (writer_in l.fn.w)) (g.W.Write.contents (writer_in l.w)) prefix)
     × (failed_in l.w ≡ failed_in l.fn.w)
     × (empty_in l.w ≡ empty_in l.fn.w)

@@ -5,7 +5,7 @@ use Rattle.fluent_text.proofs.writing.put.Given as goal
 
 abbrev pub invariant-loop-rest : goal.invariant-loop-rest
 invariant-loop-rest g l =
-    ((front : List ℕ) × (l.fn.piece ≡ front ++ l.rest) × Appends (g.W.Write.contents (writer_in l.fn.w)) (g.W.Write.contents (writer_in l.w)) front)
+    ((prefix : List ℕ) × (l.fn.piece ≡ prefix ++ l.rest) × Appends (g.W.Write.contents (writer_in l.fn.w)) (g.W.Write.contents (writer_in l.w)) prefix)
     × (failed_in l.w ≡ failed_in l.fn.w)
     × (empty_in l.w ≡ empty_in l.fn.w)
 

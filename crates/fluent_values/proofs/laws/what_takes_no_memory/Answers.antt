@@ -11,8 +11,8 @@ returns-clause-textless c = record {
   not_custom = λ x h. h;
 }
 
-pub returns-clause-lent : goal.returns-clause-lent
-returns-clause-lent c = record {
+pub returns-clause-borrowed : goal.returns-clause-borrowed
+returns-clause-borrowed c = record {
   of_none = tt;
   of_error = tt;
   plain = λ n is. is;

@@ -10,4 +10,4 @@ pub returns-else-out : goal.returns-else-out
 returns-else-out g c =
     let out = c.args.out.now in
     let e = c.unescape_unicode-answer.ensures in
-    took_as (sym c.set_aside.ensures) (to_writer c.unescape_unicode-answer.result g.W.Write.contents out.writer.ghost_name out.buffer.ghost_name out.writer.now c.unescape_unicode-answer.new.w out.buffer.now out.is_buffered _ (search rules) e.whole e.front e.fault)
+    took_as (sym c.set_aside.ensures) (to_writer c.unescape_unicode-answer.result g.W.Write.contents out.writer.ghost_name out.buffer.ghost_name out.writer.now c.unescape_unicode-answer.new.w out.buffer.now out.is_buffered _ (search rules) e.whole e.prefix e.fault)

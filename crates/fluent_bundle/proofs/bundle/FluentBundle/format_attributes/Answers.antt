@@ -3,7 +3,7 @@ use Rattle.fluent_tree.specs.View.{attribute_view}
 use Rattle.fluent_bundle.specs.BundleView.{meant}
 use Rattle.fluent_bundle.specs.Messages.{errors_of}
 use Rattle.fluent_resolver.specs.Status.{arguments_view}
-use Rattle.fluent_bundle.proofs.Parts.{all_parts, errors_more, front_at, front_of_all, front_of_done, one_more, texts_more}
+use Rattle.fluent_bundle.proofs.Parts.{all_parts, errors_more, prefix_at, prefix_of_all, prefix_of_done, one_more, texts_more}
 use Rattle.fluent_bundle.proofs.bundle.FluentBundle.format_attributes.Goals as goal
 
 pub loop-attribute-preserved : goal.loop-attribute-preserved
@@ -20,29 +20,29 @@ loop-attribute-preserved g c =
       errors = errors_more b args (map attribute_view (take i xs)) (map attribute_view (take (i + 1) xs)) (attribute_view x) _ _ _ more c.loop-attribute.invariant.errors c.in_ok-text.ensures.whole.adds;
     }
 
-pub returns-in_err-text-clause-front : goal.returns-in_err-text-clause-front
-returns-in_err-text-clause-front g c =
+pub returns-in_err-text-clause-prefix : goal.returns-in_err-text-clause-prefix
+returns-in_err-text-clause-prefix g c =
     let b = meant g.M.MemoizerKind.category g.C.FluentType.shown g.C.FluentType.alike g.F.FluentFunction.answer g.G.FluentFormatter.formatted g.T.Transform.changed c.args.self.now in
     let args = arguments_view g.C.FluentType.content c.args.args in
     let xs = c.args.attributes.now in
     let i = c.loop-attribute.attribute-index in
     let x = c.attribute-item.result in
     let fits : i < length xs = omega arith in
-    front_at b args (map attribute_view xs) (map attribute_view (take i xs)) (map attribute_view (drop (suc i) xs)) (attribute_view x) _ _ _ (all_parts attribute_view xs i x fits c.attribute-item.is) c.loop-attribute.invariant.errors c.in_err-text.ensures.front
+    prefix_at b args (map attribute_view xs) (map attribute_view (take i xs)) (map attribute_view (drop (suc i) xs)) (attribute_view x) _ _ _ (all_parts attribute_view xs i x fits c.attribute-item.is) c.loop-attribute.invariant.errors c.in_err-text.ensures.prefix
 
-pub returns-in_err-push-clause-front : goal.returns-in_err-push-clause-front
-returns-in_err-push-clause-front g c =
+pub returns-in_err-push-clause-prefix : goal.returns-in_err-push-clause-prefix
+returns-in_err-push-clause-prefix g c =
     let b = meant g.M.MemoizerKind.category g.C.FluentType.shown g.C.FluentType.alike g.F.FluentFunction.answer g.G.FluentFormatter.formatted g.T.Transform.changed c.args.self.now in
     let args = arguments_view g.C.FluentType.content c.args.args in
     let xs = c.args.attributes.now in
     let i = c.loop-attribute.attribute-index in
     let x = c.attribute-item.result in
     let fits : i < length xs = omega arith in
-    front_at b args (map attribute_view xs) (map attribute_view (take i xs)) (map attribute_view (drop (suc i) xs)) (attribute_view x) _ _ _ (all_parts attribute_view xs i x fits c.attribute-item.is) c.loop-attribute.invariant.errors (front_of_all (errors_of b args (attribute_view x).1) _ _ c.in_ok-text.ensures.whole.adds)
+    prefix_at b args (map attribute_view xs) (map attribute_view (take i xs)) (map attribute_view (drop (suc i) xs)) (attribute_view x) _ _ _ (all_parts attribute_view xs i x fits c.attribute-item.is) c.loop-attribute.invariant.errors (prefix_of_all (errors_of b args (attribute_view x).1) _ _ c.in_ok-text.ensures.whole.adds)
 
-pub returns-clause-front : goal.returns-clause-front
-returns-clause-front g c =
+pub returns-clause-prefix : goal.returns-clause-prefix
+returns-clause-prefix g c =
     let b = meant g.M.MemoizerKind.category g.C.FluentType.shown g.C.FluentType.alike g.F.FluentFunction.answer g.G.FluentFormatter.formatted g.T.Transform.changed c.args.self.now in
     let args = arguments_view g.C.FluentType.content c.args.args in
     let over : length c.args.attributes.now ≤ c.loop-attribute.attribute-index = omega arith in
-    front_of_done b args c.args.attributes.now c.loop-attribute.attribute-index _ _ over c.loop-attribute.invariant.errors
+    prefix_of_done b args c.args.attributes.now c.loop-attribute.attribute-index _ _ over c.loop-attribute.invariant.errors

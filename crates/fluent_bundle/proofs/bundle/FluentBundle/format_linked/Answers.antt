@@ -4,7 +4,7 @@ use Rattle.fluent_tree.specs.View.{pattern_view}
 use Rattle.fluent_meaning.specs.Bundle.{transform_of, formatter_of}
 use Rattle.fluent_bundle.specs.BundleView.{formatter_in, intls_in, meant, transform_in}
 use Rattle.fluent_resolver.specs.Status.{arguments_view, reported}
-use Rattle.fluent_bundle.proofs.Givings.{gives_within, lent_where, sole_formatted, sole_known, none_added}
+use Rattle.fluent_bundle.proofs.Givings.{gives_within, borrowed_where, sole_formatted, sole_known, none_added}
 use Rattle.fluent_bundle.proofs.bundle.FluentBundle.format_linked.Goals as goal
 
 pub returns-in-Some-clause-whole : goal.returns-in-Some-clause-whole
@@ -14,13 +14,13 @@ returns-in-Some-clause-whole g c =
     let env = arguments_view g.C.FluentType.content c.args.args in
     let p = pattern_view c.args.pattern.now in
     let t = c.in-Some.text.now in
-    let lent = lent_where (transform_in self) (formatter_in self) p t (sym (ap (option_map (λ t. t.now)) c.in-Some.is) ∙ c.sole_text.ensures) in
+    let borrowed = borrowed_where (transform_in self) (formatter_in self) p t (sym (ap (option_map (λ t. t.now)) c.in-Some.is) ∙ c.sole_text.ensures) in
     record {
       text = sole_formatted b env p t
-          (λ u. ap (λ o. transform_of (option_map g.T.Transform.changed o) u) lent.0)
-          (λ v. ap (λ o. formatter_of (option_map (λ f v. g.G.FluentFormatter.formatted f v (intls_in self)) o) v) lent.1)
-          lent.2;
-      adds = none_added b env p t c.args.errors.now.items lent.2;
+          (λ u. ap (λ o. transform_of (option_map g.T.Transform.changed o) u) borrowed.0)
+          (λ v. ap (λ o. formatter_of (option_map (λ f v. g.G.FluentFormatter.formatted f v (intls_in self)) o) v) borrowed.1)
+          borrowed.2;
+      adds = none_added b env p t c.args.errors.now.items borrowed.2;
     }
 
 pub returns-in-Some-clause-within : goal.returns-in-Some-clause-within
@@ -38,13 +38,13 @@ returns-clause-within g c =
     let b = meant g.M.MemoizerKind.category g.C.FluentType.shown g.C.FluentType.alike g.F.FluentFunction.answer g.G.FluentFormatter.formatted g.T.Transform.changed c.args.self.now in
     gives_within b (arguments_view g.C.FluentType.content c.args.args) (pattern_view c.args.pattern.now) _ _ _ (c.limits_are_kept.ensures b (arguments_view g.C.FluentType.content c.args.args) (pattern_view c.args.pattern.now)) (search rules)
 
-pub returns-in-Some-clause-lent : goal.returns-in-Some-clause-lent
-returns-in-Some-clause-lent g c = λ t is a b.
+pub returns-in-Some-clause-borrowed : goal.returns-in-Some-clause-borrowed
+returns-in-Some-clause-borrowed g c = λ t is a b.
     ap (λ o. unwrap_or o t) (sym (ap (option_map (λ t. t.now)) c.in-Some.is) ∙ sole_known (transform_in c.args.self.now) (formatter_in c.args.self.now) (pattern_view c.args.pattern.now) t _ c.sole_text.ensures is a b)
 
-pub returns-in-Some-clause-front : goal.returns-in-Some-clause-front
-returns-in-Some-clause-front g c = record {
-  front = [];
+pub returns-in-Some-clause-prefix : goal.returns-in-Some-clause-prefix
+returns-in-Some-clause-prefix g c = record {
+  prefix = [];
   rest = _;
   whole = refl;
   adds = record { added = sym (append-nil (reported c.args.errors.now.items)) };

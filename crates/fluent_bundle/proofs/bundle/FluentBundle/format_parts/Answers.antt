@@ -4,19 +4,19 @@ use Rattle.fluent_tree.specs.View.{pattern_view}
 use Rattle.fluent_bundle.specs.BundleView.{meant}
 use Rattle.fluent_bundle.specs.Messages.{value_errors}
 use Rattle.fluent_resolver.specs.Status.{arguments_view}
-use Rattle.fluent_bundle.proofs.Parts.{front_first, front_of_all, parts_all, parts_front}
+use Rattle.fluent_bundle.proofs.Parts.{prefix_first, prefix_of_all, parts_all, parts_prefix}
 use Rattle.fluent_bundle.proofs.bundle.FluentBundle.format_parts.Goals as goal
 
-pub returns-in_err-value-clause-front : goal.returns-in_err-value-clause-front
-returns-in_err-value-clause-front g c = front_first _ _ _ _ c.in_err-value.ensures.front
+pub returns-in_err-value-clause-prefix : goal.returns-in_err-value-clause-prefix
+returns-in_err-value-clause-prefix g c = prefix_first _ _ _ _ c.in_err-value.ensures.prefix
 
-pub returns-in_err-attributes-clause-front : goal.returns-in_err-attributes-clause-front
-returns-in_err-attributes-clause-front g c =
+pub returns-in_err-attributes-clause-prefix : goal.returns-in_err-attributes-clause-prefix
+returns-in_err-attributes-clause-prefix g c =
     let b = meant g.M.MemoizerKind.category g.C.FluentType.shown g.C.FluentType.alike g.F.FluentFunction.answer g.G.FluentFormatter.formatted g.T.Transform.changed c.args.self.now in
     let args = arguments_view g.C.FluentType.content c.args.args in
     let es = value_errors b args (option_map pattern_view c.args.message.now.value) in
     let same : c.as_slice.result.now ≡ c.args.message.now.attributes.items = search rules in
-    parts_front b args es _ _ _ _ _ same c.in_ok-value.ensures.errors c.in_err-attributes.ensures.front
+    parts_prefix b args es _ _ _ _ _ same c.in_ok-value.ensures.errors c.in_err-attributes.ensures.prefix
 
 pub returns-clause-errors : goal.returns-clause-errors
 returns-clause-errors g c =
@@ -26,10 +26,10 @@ returns-clause-errors g c =
     let same : c.as_slice.result.now ≡ c.args.message.now.attributes.items = search rules in
     parts_all b args es _ _ _ _ _ same c.in_ok-value.ensures.errors c.in_ok-attributes.ensures.errors
 
-pub returns-clause-front : goal.returns-clause-front
-returns-clause-front g c =
+pub returns-clause-prefix : goal.returns-clause-prefix
+returns-clause-prefix g c =
     let b = meant g.M.MemoizerKind.category g.C.FluentType.shown g.C.FluentType.alike g.F.FluentFunction.answer g.G.FluentFormatter.formatted g.T.Transform.changed c.args.self.now in
     let args = arguments_view g.C.FluentType.content c.args.args in
     let es = value_errors b args (option_map pattern_view c.args.message.now.value) in
     let same : c.as_slice.result.now ≡ c.args.message.now.attributes.items = search rules in
-    front_of_all _ _ _ (parts_all b args es _ _ _ _ _ same c.in_ok-value.ensures.errors c.in_ok-attributes.ensures.errors)
+    prefix_of_all _ _ _ (parts_all b args es _ _ _ _ _ same c.in_ok-value.ensures.errors c.in_ok-attributes.ensures.errors)

@@ -12,5 +12,5 @@ returns-clause-text g c =
 pub returns-clause-errors : goal.returns-clause-errors
 returns-clause-errors g c = adds_all c.write_out.ensures.writes
 
-pub returns-clause-front : goal.returns-clause-front
-returns-clause-front g c = c.write_out.ensures.writes.front.adds
+pub returns-clause-prefix : goal.returns-clause-prefix
+returns-clause-prefix g c = c.write_out.ensures.writes.prefix.adds

@@ -2,7 +2,7 @@ use Rattle.std.proofs.Common.{rules, sym, ap, ◌∙◌}
 use Rattle.fluent_tree.specs.View.{pattern_view}
 use Rattle.fluent_bundle.specs.BundleView.{meant}
 use Rattle.fluent_resolver.specs.Status.{arguments_view}
-use Rattle.fluent_values.specs.Written.{without_error}
+use Rattle.fluent_values.specs.Sinks.{without_error}
 use Rattle.fluent_bundle.proofs.Formats.{substituted_of, written_through, ok_as, faulted_as}
 use Rattle.fluent_bundle.proofs.bundle.FluentBundle.write_linked.Goals as goal
 
@@ -21,12 +21,12 @@ returns-clause-whole g c =
     let h = written_through g.W.Write.contents made.result.writer.ghost_name out.writer.ghost_name made.result.buffer.ghost_name out.buffer.ghost_name c.args.w.now made.result.writer.now out.writer.now c.w-1.given.0 made.result.buffer.now out.buffer.now made.result.is_buffered out.is_buffered (search rules) made.ensures.writer made.ensures.through c.write_out-written.ensures.writes in
     ok_as _ c.with_error.result c.with_error.ensures h.all
 
-pub returns-clause-front : goal.returns-clause-front
-returns-clause-front g c =
+pub returns-clause-prefix : goal.returns-clause-prefix
+returns-clause-prefix g c =
     let out = c.write_out-written.new.out in
     let made = c.through-out in
     let h = written_through g.W.Write.contents made.result.writer.ghost_name out.writer.ghost_name made.result.buffer.ghost_name out.buffer.ghost_name c.args.w.now made.result.writer.now out.writer.now c.w-1.given.0 made.result.buffer.now out.buffer.now made.result.is_buffered out.is_buffered (search rules) made.ensures.writer made.ensures.through c.write_out-written.ensures.writes in
-    h.front
+    h.prefix
 
 pub returns-clause-fault : goal.returns-clause-fault
 returns-clause-fault g c =

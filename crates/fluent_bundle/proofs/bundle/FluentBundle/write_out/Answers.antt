@@ -5,7 +5,7 @@ use Rattle.fluent_tree.specs.Tree.{Text}
 use Rattle.fluent_tree.specs.View.{pattern_view}
 use Rattle.fluent_meaning.specs.Bundle.{transform_of}
 use Rattle.fluent_meaning.specs.Result.{written_pattern}
-use Rattle.fluent_entries.specs.Numbered.{IsPlaced}
+use Rattle.fluent_entries.specs.IdNumbers.{IsPlaced}
 use Rattle.fluent_bundle.specs.BundleView.{bundle_parts, is_plain, meant, transform_in}
 use Rattle.fluent_resolver.specs.ScopeView.{errors_in, status}
 use Rattle.fluent_resolver.specs.Status.{arguments_view, reported}

@@ -2,7 +2,7 @@ use Rattle.std.proofs.Common.{rules, ◌≡◌, ◌∙◌, sym, ap, is_some, tru
 use Rattle.fluent_tree.specs.View.{pattern_view}
 use Rattle.fluent_bundle.specs.BundleView.{meant}
 use Rattle.fluent_chain.specs.ChainView.{bundles_of, pattern_of}
-use Rattle.fluent_chain.proofs.First.{is_some-map, place_behind, place_here, place_past}
+use Rattle.fluent_chain.proofs.First.{is_some-map, place_after, place_here, place_past}
 use Rattle.fluent_chain.proofs.chain.Chain.find.Goals as goal
 use Rattle.fluent_chain.proofs.chain.Chain.find.Goals.{in-Some+else-is_some, in_default}
 
@@ -19,7 +19,7 @@ loop-place-preserved g c =
     elim c.match-bundle_at.branch [
       | in-Some+else-is_some w ↦
           let found : is_some w.pattern_in.result ≡ false = search rules in
-          place_behind (λ b. is_some (pattern_of of c.args.id.now c.args.attribute b)) (bundles_of c.args.self.now) c.loop-place.place w.in-Some.bundle.now (sym w.in-Some.ensures) _ c.loop-place.invariant
+          place_after (λ b. is_some (pattern_of of c.args.id.now c.args.attribute b)) (bundles_of c.args.self.now) c.loop-place.place w.in-Some.bundle.now (sym w.in-Some.ensures) _ c.loop-place.invariant
           (sym (ap is_some w.pattern_in.ensures) ∙ is_some-map (λ p. pattern_view p.now) w.pattern_in.result ∙ found)
       | in_default w ↦ place_past (λ b. is_some (pattern_of of c.args.id.now c.args.attribute b)) (bundles_of c.args.self.now) c.loop-place.place _ (search rules) c.loop-place.invariant
     ]

@@ -4,7 +4,7 @@ use Rattle.fluent_bundle.specs.BundleView.{meant}
 use Rattle.fluent_chain.specs.Chain.{pattern_at}
 use Rattle.fluent_chain.specs.ChainView.{bundles_of}
 use Rattle.fluent_chain.proofs.First.{none_left, passes, passes_end}
-use Rattle.fluent_chain.proofs.Answered.{gives_here, gives_id, gives_nothing, gives_refused, lends_here, lends_refused}
+use Rattle.fluent_chain.proofs.Answered.{gives_here, gives_id, gives_nothing, gives_refused, borrows_here, borrows_failed}
 use Rattle.fluent_chain.proofs.chain.Chain.format.Goals as goal
 use Rattle.fluent_chain.proofs.chain.Chain.format.Goals.{in-Some+in_ok-text+in_default-2, in_default}
 
@@ -16,13 +16,13 @@ returns-in_err-text-clause-text g c =
     gives_refused of has _ (bundles_of c.args.self.now) c.loop-place.place c.in-Some.bundle.now (sym c.in-Some.ensures) c.loop-place.invariant.first
     c.args.id.now _ refl c.format_in.result _ c.from_residual.result _ _ _ c.loop-place.invariant.errors c.in_err-text.was faulted c.format_in.ensures.text
 
-pub returns-in_err-text-clause-lent : goal.returns-in_err-text-clause-lent
-returns-in_err-text-clause-lent g c =
+pub returns-in_err-text-clause-borrowed : goal.returns-in_err-text-clause-borrowed
+returns-in_err-text-clause-borrowed g c =
     let of = meant g.M.MemoizerKind.category g.C.FluentType.shown g.C.FluentType.alike g.F.FluentFunction.answer g.G.FluentFormatter.formatted g.T.Transform.changed in
     let has = pattern_at c.args.id.now (option_map (λ n. n.now) c.args.attribute) in
     let faulted : is_ok c.from_residual.result ≡ false = search rules in
-    lends_refused of has _ (bundles_of c.args.self.now) c.loop-place.place c.in-Some.bundle.now (sym c.in-Some.ensures) c.loop-place.invariant.first
-    c.args.id.now _ refl c.format_in.result _ c.from_residual.result _ _ c.in_err-text.was faulted c.format_in.ensures.text c.format_in.ensures.lent
+    borrows_failed of has _ (bundles_of c.args.self.now) c.loop-place.place c.in-Some.bundle.now (sym c.in-Some.ensures) c.loop-place.invariant.first
+    c.args.id.now _ refl c.format_in.result _ c.from_residual.result _ _ c.in_err-text.was faulted c.format_in.ensures.text c.format_in.ensures.borrowed
 
 pub returns-in-Some-2-clause-text : goal.returns-in-Some-2-clause-text
 returns-in-Some-2-clause-text g c =
@@ -31,12 +31,12 @@ returns-in-Some-2-clause-text g c =
     gives_here of has _ (bundles_of c.args.self.now) c.loop-place.place c.in-Some.bundle.now (sym c.in-Some.ensures) c.loop-place.invariant.first
     c.args.id.now _ refl c.format_in.result c.in-Some-2.text _ _ _ c.loop-place.invariant.errors (c.in_ok-text.was ∙ ap Ok c.in-Some-2.is) c.format_in.ensures.text
 
-pub returns-in-Some-2-clause-lent : goal.returns-in-Some-2-clause-lent
-returns-in-Some-2-clause-lent g c =
+pub returns-in-Some-2-clause-borrowed : goal.returns-in-Some-2-clause-borrowed
+returns-in-Some-2-clause-borrowed g c =
     let of = meant g.M.MemoizerKind.category g.C.FluentType.shown g.C.FluentType.alike g.F.FluentFunction.answer g.G.FluentFormatter.formatted g.T.Transform.changed in
     let has = pattern_at c.args.id.now (option_map (λ n. n.now) c.args.attribute) in
-    lends_here of has _ (bundles_of c.args.self.now) c.loop-place.place c.in-Some.bundle.now (sym c.in-Some.ensures) c.loop-place.invariant.first
-    c.args.id.now _ refl c.format_in.result c.in-Some-2.text _ _ (c.in_ok-text.was ∙ ap Ok c.in-Some-2.is) c.format_in.ensures.text c.format_in.ensures.lent
+    borrows_here of has _ (bundles_of c.args.self.now) c.loop-place.place c.in-Some.bundle.now (sym c.in-Some.ensures) c.loop-place.invariant.first
+    c.args.id.now _ refl c.format_in.result c.in-Some-2.text _ _ (c.in_ok-text.was ∙ ap Ok c.in-Some-2.is) c.format_in.ensures.text c.format_in.ensures.borrowed
 
 pub loop-place-preserved : goal.loop-place-preserved
 loop-place-preserved g c =

@@ -58,4 +58,4 @@ returns-clause-text g c =
     let same : c.as_bytes.result.now ≡ c.args.id.now = search rules in
     writes_id of has _ g.W.Write.contents (bundles_of c.args.self.now)
     (none_left (λ b. has (of b)) (bundles_of c.args.self.now) c.loop-place.place c.loop-place.invariant.first (omega (arith, c.loop-place-test.false, c.len-place-end.ensures)))
-    c.args.id.now _ c.put.result _ _ _ _ _ c.loop-place.invariant.writer c.loop-place.invariant.errors same c.put.ensures.whole c.put.ensures.front
+    c.args.id.now _ c.put.result _ _ _ _ _ c.loop-place.invariant.writer c.loop-place.invariant.errors same c.put.ensures.whole c.put.ensures.prefix

@@ -1,7 +1,7 @@
 use Rattle.std.proofs.Common.{◌∙◌}
 use Rattle.fluent_links.specs.Slots.{slots}
 use Rattle.fluent_entries.specs.EntryView.{ids, entry_of}
-use Rattle.fluent_entries.specs.Numbered.{numbers}
+use Rattle.fluent_entries.specs.IdNumbers.{numbers}
 use Rattle.fluent_entries.proofs.ByName.{is_named_by}
 use Rattle.fluent_entries.proofs.ids.Ids.is_filled.Goals as goal
 

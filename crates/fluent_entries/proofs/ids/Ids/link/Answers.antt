@@ -1,7 +1,7 @@
 use Rattle.fluent_links.specs.Slots.{slots}
 use Rattle.fluent_links.specs.Table.{table as contents}
 use Rattle.fluent_entries.specs.EntryView.{ids, entry_of}
-use Rattle.fluent_entries.specs.Numbered.{numbers, table}
+use Rattle.fluent_entries.specs.IdNumbers.{numbers, table}
 use Rattle.fluent_entries.proofs.Own.{same_own}
 use Rattle.fluent_entries.proofs.ByName.{same_named}
 use Rattle.fluent_entries.proofs.Linking.{same_linked}

@@ -2,7 +2,7 @@ use Rattle.std.proofs.Common.{refl}
 use Rattle.fluent_links.specs.Slots.{slots}
 use Rattle.fluent_links.specs.Table.{table as contents}
 use Rattle.fluent_entries.specs.EntryView.{ids, entry_of}
-use Rattle.fluent_entries.specs.Numbered.{numbers, table}
+use Rattle.fluent_entries.specs.IdNumbers.{numbers, table}
 use Rattle.fluent_entries.proofs.Own.{put_own}
 use Rattle.fluent_entries.proofs.ByName.{put_named}
 use Rattle.fluent_entries.proofs.Linking.{put_linked}

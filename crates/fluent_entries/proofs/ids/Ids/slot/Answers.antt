@@ -3,9 +3,9 @@ use Rattle.std.specs.Option.{option_map}
 use Rattle.fluent_links.specs.Slots.{slots, number}
 use Rattle.fluent_links.specs.Table.{table as contents}
 use Rattle.fluent_entries.specs.EntryView.{ids, entry_of}
-use Rattle.fluent_entries.specs.Numbered.{numbers, table}
+use Rattle.fluent_entries.specs.IdNumbers.{numbers, table}
 use Rattle.fluent_entries.proofs.Own.{found_own}
-use Rattle.fluent_entries.proofs.ByName.{get_named, lent_view}
+use Rattle.fluent_entries.proofs.ByName.{get_named, borrowed_view}
 use Rattle.fluent_entries.proofs.Linking.{found_linked}
 use Rattle.fluent_entries.proofs.ids.Ids.slot.Goals as goal
 
@@ -13,7 +13,7 @@ pub returns-in-Some-clause-content : goal.returns-in-Some-clause-content
 unfolding ids numbers
 returns-in-Some-clause-content g c = λ is answer.
     let own = subst (λ o. IfSome o (λ n. number (slots c.args.self.now.known) c.args.id.now ≡ Some n)) c.in-Some.is is in
-    lent_view (λ s. entry_of answer s.entry) c.at.result ∙ ap (option_map (λ s. entry_of answer s.entry)) (c.at.ensures.by_id c.args.id.now own) ∙ sym (get_named (λ s. entry_of answer s.entry) (slots c.args.self.now.known) c.args.id.now)
+    borrowed_view (λ s. entry_of answer s.entry) c.at.result ∙ ap (option_map (λ s. entry_of answer s.entry)) (c.at.ensures.by_id c.args.id.now own) ∙ sym (get_named (λ s. entry_of answer s.entry) (slots c.args.self.now.known) c.args.id.now)
 
 pub returns-in-Some-clause-own : goal.returns-in-Some-clause-own
 unfolding numbers
@@ -30,7 +30,7 @@ returns-in-Some-clause-linked g c = λ is.
 pub returns-in-None-clause-content : goal.returns-in-None-clause-content
 unfolding ids
 returns-in-None-clause-content g c = λ is answer.
-    lent_view (λ s. entry_of answer s.entry) c.find.result ∙ ap (option_map (λ s. entry_of answer s.entry)) c.find.ensures ∙ sym (get_named (λ s. entry_of answer s.entry) (slots c.args.self.now.known) c.args.id.now)
+    borrowed_view (λ s. entry_of answer s.entry) c.find.result ∙ ap (option_map (λ s. entry_of answer s.entry)) c.find.ensures ∙ sym (get_named (λ s. entry_of answer s.entry) (slots c.args.self.now.known) c.args.id.now)
 
 pub returns-in-None-clause-own : goal.returns-in-None-clause-own
 returns-in-None-clause-own g c = λ is. found_own c.find.result (slots c.args.self.now.known) c.args.id.now c.find.ensures c.args.self.now.named

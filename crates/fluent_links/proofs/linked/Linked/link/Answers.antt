@@ -79,4 +79,4 @@ returns-in_err-class-clause-succeeds g c =
     λ none. absurd (some_items items c.is_empty.result told c.if-is_empty.false (none_linked (number (slots_of c.link_pattern.new.slots)) (references (pattern_view c.args.pattern.now)) items none (c.in_ok-link_pattern.ensures.ok.1 [] (sym (ap (map Some) c.new-links.ensures.items)))))
 
 pub returns-in_err-link_pattern-clause-succeeds : goal.returns-in_err-link_pattern-clause-succeeds
-returns-in_err-link_pattern-clause-succeeds g c = λ none. absurd (omega (arith, ap length none, c.in_err-link_pattern.ensures.refused))
+returns-in_err-link_pattern-clause-succeeds g c = λ none. absurd (omega (arith, ap length none, c.in_err-link_pattern.ensures.alloc_failed))

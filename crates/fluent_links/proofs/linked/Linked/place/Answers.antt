@@ -2,7 +2,7 @@ use Rattle.std.proofs.Common.{sym, subst, ◌∙◌}
 use Rattle.fluent_tree.specs.References.{references}
 use Rattle.fluent_links.specs.Links.{IsBefore}
 use Rattle.fluent_links.specs.Linked.{links_of}
-use Rattle.fluent_links.specs.Numbered.{are_links}
+use Rattle.fluent_links.specs.LinkNumbers.{are_links}
 use Rattle.fluent_links.proofs.linked.Linked.place.Goals as goal
 
 pub returns-clause-before : goal.returns-clause-before

@@ -1,8 +1,8 @@
-use Rattle.fluent_entries.specs.Numbered.{table}
+use Rattle.fluent_entries.specs.IdNumbers.{table}
 use Rattle.std.proofs.Common.{rules, ap, refl, sym, ◌∙◌, [], Some}
 use Rattle.std.specs.Option.{option_map}
 use Rattle.fluent_tree.specs.View.{arguments_view}
-use Rattle.fluent_state.specs.Along.{from_here}
+use Rattle.fluent_state.specs.WalkProgress.{from_here}
 use Rattle.fluent_state.specs.Status.{state_parts}
 use Rattle.fluent_resolver.specs.ScopeView.{scope_parts, status}
 use Rattle.fluent_resolver.specs.Tracking.{calling}

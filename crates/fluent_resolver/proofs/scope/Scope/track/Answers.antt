@@ -1,4 +1,4 @@
-use Rattle.fluent_entries.specs.Numbered.{table}
+use Rattle.fluent_entries.specs.IdNumbers.{table}
 use Rattle.std.proofs.Common.{sym}
 use Rattle.fluent_tree.specs.View.{inline_view, pattern_view}
 use Rattle.fluent_state.specs.Status.{state_parts}

@@ -1,9 +1,9 @@
-use Rattle.fluent_entries.specs.Numbered.{table}
+use Rattle.fluent_entries.specs.IdNumbers.{table}
 use Rattle.std.proofs.Common.{ap, sym, ◌∙◌}
 use Rattle.fluent_tree.specs.View.{inline_view}
 use Rattle.fluent_state.specs.Status.{state_parts}
 use Rattle.fluent_resolver.specs.ScopeView.{scope_parts, status}
-use Rattle.fluent_values.specs.Written.{without_error}
+use Rattle.fluent_values.specs.Sinks.{without_error}
 use Rattle.fluent_resolver.proofs.ScopeCalls.{losing_runs}
 use Rattle.fluent_state.specs.Facts.Trails.{idle_kept}
 use Rattle.fluent_resolver.proofs.scope.Scope.write_ref_error.Goals as goal

@@ -1,7 +1,7 @@
 use Rattle.std.proofs.Common.{sym, ◌∙◌, ap}
 use Rattle.std.specs.Option.{option_map}
 use Rattle.fluent_tree.specs.View.{pattern_view}
-use Rattle.fluent_state.specs.Trail.{classes_on, on_path}
+use Rattle.fluent_state.specs.PathContents.{classes_on, on_path}
 use Rattle.fluent_state.proofs.Classed.{bare_off, is_later, on_classes}
 use Rattle.fluent_state.proofs.path.Path.is_on.Goals as goal
 

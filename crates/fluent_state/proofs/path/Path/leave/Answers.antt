@@ -2,7 +2,7 @@ use Rattle.std.proofs.Common.{◌<◌, length}
 use Rattle.std.specs.Option.{option_map}
 use Rattle.fluent_tree.specs.View.{pattern_view}
 use Rattle.fluent_state.specs.Facts.Trails.{always, some_places, taken_off}
-use Rattle.fluent_state.specs.Trail.{on_path}
+use Rattle.fluent_state.specs.PathContents.{on_path}
 use Rattle.fluent_state.proofs.path.Path.leave.Goals as goal
 
 pub returns-else-is_empty-clause-left : goal.returns-else-is_empty-clause-left

@@ -2,7 +2,7 @@ use Rattle.std.proofs.Common.{ap}
 use Rattle.std.specs.Option.{option_map}
 use Rattle.fluent_tree.specs.View.{pattern_view}
 use Rattle.fluent_state.specs.Facts.Trails.{trail_length}
-use Rattle.fluent_state.specs.Trail.{on_path}
+use Rattle.fluent_state.specs.PathContents.{on_path}
 use Rattle.fluent_state.proofs.path.Path.len.Goals as goal
 
 pub returns-in-Some : goal.returns-in-Some

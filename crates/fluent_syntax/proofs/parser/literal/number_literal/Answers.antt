@@ -1,6 +1,6 @@
 use Rattle.std.proofs.Common.{sym}
 use Rattle.fluent_syntax.specs.Expressions.{number_parts}
-use Rattle.fluent_syntax.specs.Facts.Fronts.{left_within, left_end}
+use Rattle.fluent_syntax.specs.Facts.Prefixes.{left_within, left_end}
 use Rattle.fluent_syntax.specs.Facts.Literals.{takes-number_parts}
 use Rattle.fluent_syntax.proofs.parser.literal.number_literal.Goals as goal
 

@@ -1,7 +1,7 @@
 use Rattle.std.proofs.Common.{}
 use Rattle.fluent_text.specs.Parser.{count}
 use Rattle.fluent_syntax.specs.Expressions.{quoted_turn}
-use Rattle.fluent_syntax.specs.Facts.Fronts.{left_within, left_end, takes-count}
+use Rattle.fluent_syntax.specs.Facts.Prefixes.{left_within, left_end, takes-count}
 use Rattle.fluent_syntax.specs.Facts.Literals.{takes-quoted_turn}
 use Rattle.fluent_syntax.proofs.parser.literal.quoted_text.Goals as goal
 

@@ -9,12 +9,12 @@ arguments-preserved g c =
     let n = length c.args.s.now in
     let l = level c.args.self.now.depth in
     let j = n - (c.arguments._turn + 1) in
-    let behind = c.in-Some.behind.now in
+    let past = c.in-Some.past.now in
     let read = c.in-Ok.ensures in (
       search rules,
       c.arguments.invariant.1
-          ∙ gathers-more l (n - c.arguments._turn) j (gathered_view c.arguments.found) c.arguments.rest.now read.0 c.in-Ok.after.now behind (omega arith) read.1 (sym c.in-Some.ensures) (omega arith)
-          ∙ ap (λ b. gathers l j b behind) (sym read.2),
+          ∙ gathers-more l (n - c.arguments._turn) j (gathered_view c.arguments.found) c.arguments.rest.now read.0 c.in-Ok.after.now past (omega arith) read.1 (sym c.in-Some.ensures) (omega arith)
+          ∙ ap (λ b. gathers l j b past) (sym read.2),
     )
 
 pub arguments-init : goal.arguments-init
@@ -23,8 +23,8 @@ arguments-init g c = grind (arith, starts)
 pub returns-in_default : goal.returns-in_default
 returns-in_default g c = grind (arith, gathers-last)
 
-pub returns-then-behind-rest : goal.returns-then-behind-rest
-returns-then-behind-rest g c = grind (arith, gathers-empty)
+pub returns-then-past-rest : goal.returns-then-past-rest
+returns-then-past-rest g c = grind (arith, gathers-empty)
 
 pub returns-in-Err-Absent : goal.returns-in-Err-Absent
 returns-in-Err-Absent g c = grind (arith, gathers-none)

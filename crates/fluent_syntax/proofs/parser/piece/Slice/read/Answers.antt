@@ -1,12 +1,12 @@
 use Rattle.std.proofs.Common.{◌≡◌, ◌+◌, true, false, unwrap_or, arith, rules}
 use Rattle.std.proofs.lemmas.Bool.Decides.{nat_tests}
-use Rattle.fluent_syntax.proofs.Words.{boundary-behind, boundary-feed, words_after-is}
+use Rattle.fluent_syntax.proofs.Words.{boundary-after, boundary-feed, words_after-is}
 use Rattle.fluent_syntax.specs.Pieces.{follows}
 use Rattle.fluent_syntax.proofs.parser.piece.Slice.read.Goals as goal
 
 pub split_at-requires : goal.split_at-requires
 split_at-requires c =
-    boundary-behind c.args.line.now c.args.text.now (unwrap_or c.args.indent 0) c.unwrap_or.result c.run_len-len.result c.requires.follows c.requires.within (search rules) c.utf8.text c.run_len-len.ensures.len
+    boundary-after c.args.line.now c.args.text.now (unwrap_or c.args.indent 0) c.unwrap_or.result c.run_len-len.result c.requires.follows c.requires.within (search rules) c.utf8.text c.run_len-len.ensures.len
 
 pub range-requires-clause-end_boundary : goal.range-requires-clause-end_boundary
 range-requires-clause-end_boundary c =

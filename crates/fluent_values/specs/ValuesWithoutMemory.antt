@@ -1,0 +1,36 @@
+-- What takes no memory, so that it can't fail.
+pub use Rattle.fluent_entries.specs.ErrorsWithoutMemory.{NamesNothing, HasNoText}
+use Rattle.std.specs.Prelude.{◌≡◌, ⊤, List, ◌∷◌, Option, Some, None, codes}
+use Rattle.std.specs.declared.borrow.CowStr.TheVariants as text
+use Rattle.fluent_tree.specs.Tree.{Text}
+use Rattle.fluent_meaning.specs.Value.{Value, text_value, number_value}
+use Rattle.fluent_meaning.specs.Arguments.{Map, get}
+use Rattle.fluent_values.specs.declared.types.value.FluentValue.{FluentValue}
+use Rattle.fluent_values.specs.declared.types.value.FluentValue.TheVariants as values
+
+-- a value with no text of its own: a number without a currency, none or error
+abbrev pub IsTextless : {C : Type 0} → FluentValue C → Type 0
+IsTextless (values.Number n) = n.options.currency ≡ None
+IsTextless values.None = ⊤
+IsTextless values.Error = ⊤
+IsTextless _ = ⊥
+
+-- the same, or a text that is borrowed
+abbrev pub IsBorrowed : {C : Type 0} → FluentValue C → Type 0
+IsBorrowed (values.String (text.Borrowed t)) = ⊤
+IsBorrowed v = IsTextless v
+
+-- an argument that is a text
+abbrev pub IsTextGiven : Option (Value Text) → Type 0
+IsTextGiven (Some (text_value t)) = ⊤
+IsTextGiven _ = ⊥
+
+-- a currency, or one that is given
+abbrev pub HasCurrency : Option Text → Option (Value Text) → Type 0
+HasCurrency (Some code) given = ⊤
+HasCurrency None given = IsTextGiven given
+
+-- NUMBER is asked for a number with a currency
+abbrev pub AsksForCurrency : List (Value Text) → Map (Value Text) → Type 0
+AsksForCurrency (number_value n ∷ vs) named = HasCurrency n.options.currency (get (codes "currency") named)
+AsksForCurrency _ named = ⊥
