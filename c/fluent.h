@@ -49,8 +49,8 @@ uint8_t fluent_format_source(const uint8_t *language, size_t language_length, bo
                              size_t attribute_length, const uint8_t *arguments, size_t arguments_length, uint8_t *out,
                              size_t out_room, uint8_t *err, size_t err_room, struct fluent_lengths *lengths);
 
-/* The kinds of values: a text, or the text of a number, whose digits are shown as they are written. A text that is no
-   number is taken as a text. */
+/* The kinds of values: a text, or the text of a number, which keeps the digits after its point. A text that is no number
+   is taken as a text. */
 enum fluent_kind { FLUENT_TEXT = 't', FLUENT_NUMBER = 'n' };
 
 /* How many bytes an argument takes: its kind, and its name and its value, each behind its length in four bytes, the lowest
