@@ -76,10 +76,19 @@ fn give_up(rt: &HostRuntime, why: &str) -> u8 {
     Status::Fault.code()
 }
 
+/// Why the words could not be had.
+fn without_words(error: &io::Error) -> &'static str {
+    if error.kind() == ErrorKind::OutOfMemory {
+        "out of memory"
+    } else {
+        "the words can't be read"
+    }
+}
+
 fn main(rt: HostRuntime) -> ExitCode {
     let words = match words(&rt) {
         Ok(words) => words,
-        Err(_) => return ExitCode::from(give_up(&rt, "the words can't be read")),
+        Err(error) => return ExitCode::from(give_up(&rt, without_words(&error))),
     };
     ExitCode::from(match answer(&rt, words.as_slice()) {
         Ok(answer) => match print(&rt, &answer) {
