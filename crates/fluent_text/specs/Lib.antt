@@ -1,5 +1,6 @@
 pub mod Taken
 pub mod Writer
+pub mod Written
 pub mod Parser
 pub mod Facts
 pub mod Reading

@@ -1,5 +1,5 @@
 -- What a writer took, and how a count rises.
-use Rattle.std.specs.Prelude.{◌≡◌, ◌≢◌, ℕ, ◌+◌, ◌-◌, ◌^◌, min, List, [], ◌∷◌, ◌++◌, Bool, true, false, suc, zero, Option, Result, Ok, Err}
+use Rattle.std.specs.Prelude.{◌≡◌, ◌≢◌, ℕ, ◌+◌, ◌-◌, ◌^◌, min, List, [], ◌∷◌, ◌++◌, Bool, true, false, if◌then◌else◌, suc, zero, Option, Result, Ok, Err}
 use Rattle.std.specs.Io.KnownBytes.{Appends}
 use Rattle.fluent_text.specs.declared.counting.WriteFault.{WriteFault}
 use Rattle.fluent_text.specs.declared.counting.WriteFault.TheVariants.{Memory, Writer, Zero}
@@ -7,6 +7,14 @@ use Rattle.fluent_text.specs.declared.counting.WriteFault.TheVariants.{Memory, W
 -- a count goes up by one, and stands still at the largest number of 64 bits
 abbrev pub raised : ℕ → ℕ
 raised n = min (n + 1) (2 ^ 64 - 1)
+
+-- it does where this is so
+abbrev pub raised_if : Bool → ℕ → ℕ
+raised_if b n = if b then raised n else n
+
+-- it does where this isn't so
+abbrev pub raised_unless : Bool → ℕ → ℕ
+raised_unless b n = if b then n else raised n
 
 -- a write of a nonempty piece that took no byte
 abbrev pub took_nothing : {E : Type 0} → Result ℕ E → List ℕ → Bool

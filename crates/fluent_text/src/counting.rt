@@ -1,10 +1,10 @@
 //! A writer that counts its single writes that failed and those that took nothing.
 #![tactic(auto, unfolding(crate::specs::Writer::writer_in, crate::specs::Writer::failed_in, crate::specs::Writer::empty_in))]
 
-ghost use Rattle.std.specs.Prelude.{◌≡◌, is_ok, if◌then◌else◌};
-ghost use Rattle.std.specs.Io.KnownBytes.{WriteAppends};
+ghost use Rattle.std.specs.Prelude.{◌≡◌, is_ok};
 ghost use Rattle.std.specs.Io.{WritesAtMost};
-ghost use Rattle.fluent_text.specs.Taken.{raised, took_nothing};
+ghost use Rattle.fluent_text.specs.Taken.{raised_if, raised_unless, took_nothing};
+ghost use Rattle.fluent_text.specs.Written.{WroteAsAnswered};
 
 use std::alloc::AllocError;
 use std::io;
@@ -87,13 +87,11 @@ impl<W: Write> Counting<W> {
     /// that is due.
     #[inline(always)]
     pub fn write(&mut self, piece: &[u8]) -> io::Result<usize>
-        ensures bytes { WriteAppends (W.contents (writer_in self.old))
-            (W.contents (writer_in self.new)) result piece.now }
+        ensures bytes { WroteAsAnswered W.contents self.old self.new result piece.now }
         ensures bound { WritesAtMost result piece.now }
-        ensures failed { failed_in self.new ≡ (if is_ok result then failed_in self.old
-            else raised (failed_in self.old)) }
-        ensures empty { empty_in self.new ≡ (if took_nothing result piece.now
-            then raised (empty_in self.old) else empty_in self.old) }
+        ensures failed { failed_in self.new ≡ raised_unless (is_ok result) (failed_in self.old) }
+        ensures empty { empty_in self.new
+            ≡ raised_if (took_nothing result piece.now) (empty_in self.old) }
     {
         let outcome = self.inner.write(piece);
         match &outcome {

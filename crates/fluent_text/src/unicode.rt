@@ -1,14 +1,14 @@
 //! Escapes of string literals (Fluent Syntax 1.0, "Special Characters").
 
 ghost use Rattle.std.specs.Prelude.{◌≡◌, ◌≢◌, ◌<◌, ◌≤◌, ◌++◌, ◌∷◌, take, drop, true, false, encode_utf8, List, ℕ, length, OnOk, OnErr, IfOk, MatchOption, IfSome, Some, string_bytes, zero};
-ghost use Rattle.std.specs.Io.KnownBytes.{Appends};
 ghost use Rattle.std.specs.Cow.{cow_str_bytes};
 ghost use Rattle.std.specs.List.{All};
 ghost use Rattle.fluent_text.specs.Escapes as spec;
 ghost use Rattle.fluent_text.specs.Unescaped.{bytes_of, Borrows};
 ghost use Rattle.fluent_text.specs.Reading.{found};
-ghost use Rattle.fluent_text.specs.Taken.{LeftSome, TookPrefix, ByWriter};
-ghost use Rattle.fluent_text.specs.Writer.{writer_in, CountsFault};
+ghost use Rattle.fluent_text.specs.Taken.{ByWriter};
+ghost use Rattle.fluent_text.specs.Writer.{CountsFault};
+ghost use Rattle.fluent_text.specs.Written.{WroteAll, WroteLess, WrotePrefix};
 
 use crate::bytes::{byte_at, eat, split_plain};
 use crate::counting::{Counting, WriteFault};
@@ -32,12 +32,9 @@ enum Unescaped<'s> {
 /// The one error is a fault of the writer: `Writer` with its error, or `Zero` where a write took no byte.
 /// After it the writer has taken a beginning of that text, but not the whole, and nothing is written any more.
 pub fn unescape_unicode<W: Write>(w: &mut Counting<W>, text: &str) -> Result<(), WriteFault>
-    ensures whole { OnOk result (Appends (W.contents (writer_in w.old)) (W.contents (writer_in w.new))
-        (spec.unescaped text.now)) }
-    ensures prefix { OnErr result (TookPrefix (W.contents (writer_in w.old)) (W.contents (writer_in w.new))
-        (spec.unescaped text.now)) }
-    ensures left { OnErr result (LeftSome (W.contents (writer_in w.old)) (W.contents (writer_in w.new))
-        (spec.unescaped text.now)) }
+    ensures whole { OnOk result (WroteAll W.contents w.old w.new (spec.unescaped text.now)) }
+    ensures prefix { OnErr result (WrotePrefix W.contents w.old w.new (spec.unescaped text.now)) }
+    ensures left { OnErr result (WroteLess W.contents w.old w.new (spec.unescaped text.now)) }
     ensures fault { CountsFault w.old w.new result }
     ensures writer { ByWriter result }
 {
@@ -53,12 +50,9 @@ pub fn unescape_unicode<W: Write>(w: &mut Counting<W>, text: &str) -> Result<(),
 }
 
 fn put_part<W: Write>(w: &mut Counting<W>, part: Unescaped) -> Result<(), WriteFault>
-    ensures whole { OnOk result (Appends (W.contents (writer_in w.old)) (W.contents (writer_in w.new))
-        (bytes_of part.entry)) }
-    ensures prefix { OnErr result (TookPrefix (W.contents (writer_in w.old)) (W.contents (writer_in w.new))
-        (bytes_of part.entry)) }
-    ensures left { OnErr result (LeftSome (W.contents (writer_in w.old)) (W.contents (writer_in w.new))
-        (bytes_of part.entry)) }
+    ensures whole { OnOk result (WroteAll W.contents w.old w.new (bytes_of part.entry)) }
+    ensures prefix { OnErr result (WrotePrefix W.contents w.old w.new (bytes_of part.entry)) }
+    ensures left { OnErr result (WroteLess W.contents w.old w.new (bytes_of part.entry)) }
     ensures fault { CountsFault w.old w.new result }
     ensures writer { ByWriter result }
 {

@@ -1,9 +1,8 @@
 //! A whole text handed to a writer.
 
 ghost use Rattle.std.specs.Prelude.{◌≡◌, ◌≢◌, OnOk, OnErr};
-ghost use Rattle.std.specs.Io.KnownBytes.{Appends};
-ghost use Rattle.fluent_text.specs.Taken.{LeftSome, TookPrefix};
-ghost use Rattle.fluent_text.specs.Writer.{writer_in, CountsFault};
+ghost use Rattle.fluent_text.specs.Writer.{CountsFault};
+ghost use Rattle.fluent_text.specs.Written.{WroteAll, WroteLess, WrotePrefix};
 
 use crate::counting::{Counting, WriteFault};
 use std::io::Write;
@@ -14,12 +13,9 @@ use std::io::Write;
 /// then, and something is left. It takes no memory.
 #[inline(always)]
 pub fn put<W: Write>(w: &mut Counting<W>, piece: &[u8]) -> Result<(), WriteFault>
-    ensures whole { OnOk result (Appends (W.contents (writer_in w.old))
-        (W.contents (writer_in w.new)) piece.now) }
-    ensures prefix { OnErr result (TookPrefix (W.contents (writer_in w.old))
-        (W.contents (writer_in w.new)) piece.now) }
-    ensures left { OnErr result (LeftSome (W.contents (writer_in w.old))
-        (W.contents (writer_in w.new)) piece.now) }
+    ensures whole { OnOk result (WroteAll W.contents w.old w.new piece.now) }
+    ensures prefix { OnErr result (WrotePrefix W.contents w.old w.new piece.now) }
+    ensures left { OnErr result (WroteLess W.contents w.old w.new piece.now) }
     ensures fault { CountsFault w.old w.new result }
     ensures memory { result ≢ Err WriteFault.Memory }
 {

@@ -1,8 +1,8 @@
 //! What a pattern refers to, listed.
 
 ghost use Rattle.std.specs.Prelude.{◌≡◌, [], IfOk, IsOk, OnErr, OnOk};
-ghost use Rattle.fluent_tree.specs.View.{arguments_view, expression_view, inline_view, pattern_view};
-ghost use Rattle.fluent_tree.specs.References.{AddsReferences, AreSome, in_arguments, in_expression, in_inline, in_named, in_positional, in_variants, inlines_view, nameds_view, references, references_view, variants_view};
+ghost use Rattle.fluent_tree.specs.References.{AddsReferences, AreSome, references_view};
+ghost use Rattle.fluent_tree.specs.ReferencesOf.{of_arguments, of_expression, of_inline, of_inlines, of_nameds, of_variants, references_of};
 
 use crate::ast::{
     CallArguments, Expression, InlineExpression, NamedArgument, Pattern, PatternElement, Variant,
@@ -28,8 +28,8 @@ pub fn references<'s>(
     alloc: Global,
     pattern: &Pattern<'s>,
 ) -> Result<Vec<Reference<'s>>, AllocError>
-    ensures listed { IfOk result (λ list. references_view list ≡ references (pattern_view pattern.now)) }
-    ensures succeeds { references (pattern_view pattern.now) ≡ [] → IsOk result }
+    ensures listed { IfOk result (λ list. references_view list ≡ references_of pattern.now) }
+    ensures succeeds { references_of pattern.now ≡ [] → IsOk result }
 {
     let mut list = Vec::new(alloc);
     add_pattern(&mut list, pattern)?;
@@ -38,9 +38,8 @@ pub fn references<'s>(
 
 #[cycle(listing)]
 fn add_pattern<'s>(list: &mut Vec<Reference<'s>>, pattern: &Pattern<'s>) -> Result<(), AllocError>
-    ensures added { OnOk result
-        (AddsReferences list.old list.new (references (pattern_view pattern.now))) }
-    ensures alloc_failed { OnErr result (AreSome (references (pattern_view pattern.now))) }
+    ensures added { OnOk result (AddsReferences list.old list.new (references_of pattern.now)) }
+    ensures alloc_failed { OnErr result (AreSome (references_of pattern.now)) }
 {
     for element in &pattern.elements {
         if let PatternElement::Placeable { expression } = element {
@@ -55,9 +54,8 @@ fn add_expression<'s>(
     list: &mut Vec<Reference<'s>>,
     expression: &Expression<'s>,
 ) -> Result<(), AllocError>
-    ensures added { OnOk result
-        (AddsReferences list.old list.new (in_expression (expression_view expression.now))) }
-    ensures alloc_failed { OnErr result (AreSome (in_expression (expression_view expression.now))) }
+    ensures added { OnOk result (AddsReferences list.old list.new (of_expression expression.now)) }
+    ensures alloc_failed { OnErr result (AreSome (of_expression expression.now)) }
 {
     match expression {
         Expression::Inline(inline) => add_inline(list, inline),
@@ -73,9 +71,8 @@ fn add_variants<'s>(
     list: &mut Vec<Reference<'s>>,
     variants: &[Variant<'s>],
 ) -> Result<(), AllocError>
-    ensures added { OnOk result
-        (AddsReferences list.old list.new (in_variants (variants_view variants.now))) }
-    ensures alloc_failed { OnErr result (AreSome (in_variants (variants_view variants.now))) }
+    ensures added { OnOk result (AddsReferences list.old list.new (of_variants variants.now)) }
+    ensures alloc_failed { OnErr result (AreSome (of_variants variants.now)) }
 {
     for variant in variants {
         add_pattern(list, &variant.value)?;
@@ -88,9 +85,8 @@ fn add_inline<'s>(
     list: &mut Vec<Reference<'s>>,
     inline: &InlineExpression<'s>,
 ) -> Result<(), AllocError>
-    ensures added { OnOk result
-        (AddsReferences list.old list.new (in_inline (inline_view inline.now))) }
-    ensures alloc_failed { OnErr result (AreSome (in_inline (inline_view inline.now))) }
+    ensures added { OnOk result (AddsReferences list.old list.new (of_inline inline.now)) }
+    ensures alloc_failed { OnErr result (AreSome (of_inline inline.now)) }
 {
     match inline {
         InlineExpression::FunctionReference { id, arguments } => {
@@ -120,9 +116,8 @@ fn add_arguments<'s>(
     list: &mut Vec<Reference<'s>>,
     arguments: &CallArguments<'s>,
 ) -> Result<(), AllocError>
-    ensures added { OnOk result
-        (AddsReferences list.old list.new (in_arguments (arguments_view arguments.now))) }
-    ensures alloc_failed { OnErr result (AreSome (in_arguments (arguments_view arguments.now))) }
+    ensures added { OnOk result (AddsReferences list.old list.new (of_arguments arguments.now)) }
+    ensures alloc_failed { OnErr result (AreSome (of_arguments arguments.now)) }
 {
     add_positional(list, &arguments.positional)?;
     add_named(list, &arguments.named)
@@ -133,9 +128,8 @@ fn add_positional<'s>(
     list: &mut Vec<Reference<'s>>,
     positional: &[InlineExpression<'s>],
 ) -> Result<(), AllocError>
-    ensures added { OnOk result
-        (AddsReferences list.old list.new (in_positional (inlines_view positional.now))) }
-    ensures alloc_failed { OnErr result (AreSome (in_positional (inlines_view positional.now))) }
+    ensures added { OnOk result (AddsReferences list.old list.new (of_inlines positional.now)) }
+    ensures alloc_failed { OnErr result (AreSome (of_inlines positional.now)) }
 {
     for argument in positional {
         add_inline(list, argument)?;
@@ -148,9 +142,8 @@ fn add_named<'s>(
     list: &mut Vec<Reference<'s>>,
     named: &[NamedArgument<'s>],
 ) -> Result<(), AllocError>
-    ensures added { OnOk result
-        (AddsReferences list.old list.new (in_named (nameds_view named.now))) }
-    ensures alloc_failed { OnErr result (AreSome (in_named (nameds_view named.now))) }
+    ensures added { OnOk result (AddsReferences list.old list.new (of_nameds named.now)) }
+    ensures alloc_failed { OnErr result (AreSome (of_nameds named.now)) }
 {
     for argument in named {
         add_inline(list, &argument.value)?;
