@@ -12,3 +12,5 @@ pub mod ClassLaws
 pub mod LinkNumbers
 pub mod LinkGrowth
 pub mod Linked
+pub mod Adding
+pub mod Filling

@@ -2,10 +2,16 @@
 use Rattle.std.specs.Prelude.{◌≡◌, ℕ, Bool, true, false, List, [], ◌∷◌, Option, Some, None}
 use Rattle.fluent_tree.specs.Tree.{Text, Pattern}
 use Rattle.fluent_tree.specs.References.{Reference, references}
-use Rattle.fluent_links.specs.Links.{KeepsNumbers}
+use Rattle.fluent_tree.specs.View.{pattern_view}
+use Rattle.fluent_tree.specs.declared.ast.Pattern as of_pattern
+use Rattle.fluent_links.specs.Links.{IsBefore, KeepsNumbers, Links}
 use Rattle.fluent_links.specs.Classes.{HasClass, Grows, with_class}
 use Rattle.fluent_links.specs.LinkNumbers.{AreNumbers, keeps_numbers}
+use Rattle.fluent_links.specs.Slots.{number, slots}
+use Rattle.fluent_links.specs.Table.{table}
+use Rattle.fluent_links.specs.declared.classes.Classes.{Classes}
 use Rattle.fluent_links.specs.declared.linked.Linked.{Linked}
+use Rattle.fluent_links.specs.declared.slots.Slots.{Slots}
 
 abbrev pub class_of : Linked → Option ℕ
 class_of l = l.class
@@ -25,6 +31,14 @@ IsClassOf table p class = ((c : ℕ) → class ≡ Some c → HasClass table c p
 -- it has the pattern's class, and its links are the numbers of what the pattern refers to
 abbrev pub IsOf : (Text → Option ℕ) → List Pattern → Pattern → Linked → Type 0
 IsOf number table p l = IsClassOf table p (class_of l) × AreNumbers number (references p) (links_of l)
+
+-- it is that of this pattern, by the numbers of these slots and by these classes
+abbrev pub IsLinkedBy : {X : Type 0} → Slots X → Classes → of_pattern.Pattern → Linked → Type 0
+IsLinkedBy s c p l = IsOf (number (slots s)) (table c) (pattern_view p) l
+
+-- of whatever pattern it is, these links stand before all that the pattern refers to
+abbrev pub IsBeforeAll : Linked → Links → Type 0
+IsBeforeAll l ls = (number : Text → Option ℕ) (table : List Pattern) (p : Pattern) → IsOf number table p l → IsBefore number (references p) ls
 
 -- with the content of what refers to anything
 abbrev pub with_referring : List Reference → Pattern → List Pattern → List Pattern

@@ -4,6 +4,7 @@ use Rattle.std.specs.declared.alloc.Global.{Global}
 use Rattle.std.proofs.Common.{rules, ap, ◌∙◌}
 use Rattle.fluent_tree.specs.View.{arguments_view, call_view, element_view, expression_view, inline_view, pattern_view}
 use Rattle.fluent_tree.specs.References.{a_message, a_term, a_function, references, in_element, in_expression, in_inline, in_call, in_arguments}
+use Rattle.fluent_tree.specs.ReferencesOf.{of_inlines, of_nameds, of_variants}
 use Rattle.fluent_tree.specs.declared.ast.Identifier.{Identifier}
 use Rattle.fluent_tree.specs.declared.ast.Pattern as of_pattern
 use Rattle.fluent_tree.specs.declared.ast.PatternElement as of_pattern_element
@@ -14,7 +15,7 @@ use Rattle.fluent_tree.specs.declared.ast.InlineExpression as of_inline
 use Rattle.fluent_tree.specs.declared.ast.InlineExpression.TheVariants as inlines
 use Rattle.fluent_tree.specs.declared.ast.CallArguments as of_call
 use Rattle.fluent_tree.specs.declared.ast.Variant.{Variant}
-use Rattle.fluent_links.specs.PlaceSteps.{in_elements, in_variant_list, in_positional_list, in_named_list}
+use Rattle.fluent_links.specs.PlaceSteps.{in_elements}
 
 -- a pattern: its elements
 pub in_pattern_is : (p : of_pattern.Pattern) → references (pattern_view p) ≡ in_elements p.elements.items
@@ -32,11 +33,11 @@ in_one x = search (rules, of_expression.the_lemmas)
 pub in_one_is : (e : of_expression.Expression) (x : of_inline.InlineExpression) → e ≡ expressions.Inline x → in_expression (expression_view e) ≡ in_inline (inline_view x)
 in_one_is e x h = ap (λ e. in_expression (expression_view e)) h ∙ in_one x
 
-in_select : (x : of_inline.InlineExpression) (vs : Vec Variant Global) → in_expression (expression_view (expressions.Select x vs)) ≡ in_inline (inline_view x) ++ in_variant_list vs.items
+in_select : (x : of_inline.InlineExpression) (vs : Vec Variant Global) → in_expression (expression_view (expressions.Select x vs)) ≡ in_inline (inline_view x) ++ of_variants vs.items
 in_select x vs = search (rules, of_expression.the_lemmas)
 
 -- a select: its selector and then its variants
-pub in_select_is : (e : of_expression.Expression) (x : of_inline.InlineExpression) (vs : Vec Variant Global) → e ≡ expressions.Select x vs → in_expression (expression_view e) ≡ in_inline (inline_view x) ++ in_variant_list vs.items
+pub in_select_is : (e : of_expression.Expression) (x : of_inline.InlineExpression) (vs : Vec Variant Global) → e ≡ expressions.Select x vs → in_expression (expression_view e) ≡ in_inline (inline_view x) ++ of_variants vs.items
 in_select_is e x vs h = ap (λ e. in_expression (expression_view e)) h ∙ in_select x vs
 
 in_function : (id : Identifier) (b : Box of_call.CallArguments Global) → in_inline (inline_view (inlines.FunctionReference id b)) ≡ a_function id.name.now ∷ in_arguments (arguments_view b.value)
@@ -73,5 +74,5 @@ pub in_nested_is : (x : of_inline.InlineExpression) (b : Box of_expression.Expre
 in_nested_is x b h = ap (λ x. in_inline (inline_view x)) h ∙ in_nested b
 
 -- arguments: the positional ones and then the named ones
-pub in_arguments_is : (a : of_call.CallArguments) → in_arguments (arguments_view a) ≡ in_positional_list (of_call.out-CallArguments a).positional.items ++ in_named_list (of_call.out-CallArguments a).named.items
+pub in_arguments_is : (a : of_call.CallArguments) → in_arguments (arguments_view a) ≡ of_inlines (of_call.out-CallArguments a).positional.items ++ of_nameds (of_call.out-CallArguments a).named.items
 in_arguments_is a = search (rules, of_call.the_lemmas, of_call.fold_out-CallArguments)

@@ -4,11 +4,11 @@ use Rattle.std.proofs.Common.{rules, get_or, sym, ap, subst, ◌∙◌}
 use Rattle.std.proofs.lemmas.List.{drop_more}
 use Rattle.fluent_tree.specs.Tree.{Text, pattern_of}
 use Rattle.fluent_tree.specs.View.{element_view, variant_view, inline_view, named_view, pattern_view}
-use Rattle.fluent_tree.specs.References.{Reference, references, in_element, in_inline, in_variants, in_positional, in_named, variants_view, inlines_view, nameds_view}
+use Rattle.fluent_tree.specs.References.{Reference, references, in_inline}
+use Rattle.fluent_tree.specs.ReferencesOf.{of_element, of_inline, of_inlines, of_nameds, of_variants}
 use Rattle.fluent_tree.specs.declared.ast.PatternElement.{PatternElement}
 use Rattle.fluent_tree.specs.declared.ast.Variant as of_the_variant
 use Rattle.fluent_tree.specs.declared.ast.Variant.{Variant}
-use Rattle.fluent_tree.specs.declared.ast.InlineExpression.{InlineExpression}
 use Rattle.fluent_tree.specs.declared.ast.NamedArgument as of_the_argument
 use Rattle.fluent_tree.specs.declared.ast.NamedArgument.{NamedArgument}
 use Rattle.fluent_links.specs.Links.{Links, past, IsBefore}
@@ -19,26 +19,11 @@ use Rattle.fluent_links.specs.PlaceLaws.{prefix, back, after_append}
 abbrev pub in_elements : List PatternElement → List Reference
 in_elements es = references (pattern_of (map element_view es))
 
-abbrev pub of_element : PatternElement → List Reference
-of_element e = in_element (element_view e)
-
 abbrev pub of_variant : Variant → List Reference
 of_variant v = references (pattern_view v.value)
 
-abbrev pub of_positional : InlineExpression → List Reference
-of_positional x = in_inline (inline_view x)
-
 abbrev pub of_named : NamedArgument → List Reference
 of_named n = in_inline (inline_view n.value)
-
-abbrev pub in_variant_list : List Variant → List Reference
-in_variant_list vs = in_variants (variants_view vs)
-
-abbrev pub in_positional_list : List InlineExpression → List Reference
-in_positional_list xs = in_positional (inlines_view xs)
-
-abbrev pub in_named_list : List NamedArgument → List Reference
-in_named_list ns = in_named (nameds_view ns)
 
 -- the list refers to what its first part does and then to what the others do
 abbrev pub IsInTurn : {X : Type 0} → (X → List Reference) → (List X → List Reference) → Type 0
@@ -50,17 +35,17 @@ element_in_turn e es = refl
 view_value : (v : Variant) → (variant_view v).1 ≡ pattern_view v.value
 view_value v = search (rules, of_the_variant.the_lemmas)
 
-pub variant_in_turn : IsInTurn of_variant in_variant_list
-variant_in_turn v vs = ap (λ p. references p ++ in_variant_list vs) (view_value v)
+pub variant_in_turn : IsInTurn of_variant of_variants
+variant_in_turn v vs = ap (λ p. references p ++ of_variants vs) (view_value v)
 
-pub positional_in_turn : IsInTurn of_positional in_positional_list
+pub positional_in_turn : IsInTurn of_inline of_inlines
 positional_in_turn x xs = refl
 
 view_argument : (n : NamedArgument) → (named_view n).1 ≡ inline_view n.value
 view_argument n = search (rules, of_the_argument.the_lemmas)
 
-pub named_in_turn : IsInTurn of_named in_named_list
-named_in_turn n ns = ap (λ x. in_inline x ++ in_named_list ns) (view_argument n)
+pub named_in_turn : IsInTurn of_named of_nameds
+named_in_turn n ns = ap (λ x. in_inline x ++ of_nameds ns) (view_argument n)
 
 -- a loop over parts in turn, at its part x, the i-th
 module _ {X : Type 0} (f : X → List Reference) (L : List X → List Reference) (step : IsInTurn f L) (xs : List X) (i : ℕ) (x : X) (h : i < length xs) (is : x ≡ get_or xs i x) where

@@ -1,7 +1,7 @@
 //! Classes: numbers of the contents of patterns.
 ghost use Rattle.std.specs.Prelude.{◌≡◌, [], IfOk, OnOk, OnErr, map};
 ghost use Rattle.fluent_tree.specs.View.{pattern_view};
-ghost use Rattle.fluent_links.specs.Classes.{AreDistinct, Grows, HasClass, with_class};
+ghost use Rattle.fluent_links.specs.Classes.{AreDistinct, Grows, HasClass};
 ghost use Rattle.fluent_links.specs.Content.{content};
 
 use crate::stored::Stored;
@@ -18,6 +18,7 @@ pub struct Classes<'r, 's> {
 }
 
 impl<'r, 's> Classes<'r, 's> {
+    ghost use Rattle.fluent_links.specs.Adding.{AddsClass};
     ghost use Rattle.fluent_links.specs.Table.{table};
 
     /// No content yet.
@@ -38,8 +39,7 @@ impl<'r, 's> Classes<'r, 's> {
         ensures class { IfOk result (λ c. HasClass (table self.new) c (pattern_view pattern.now)) }
         ensures kept { Grows (table self.old) (table self.new) }
         ensures alloc_failed { OnErr result (table self.new ≡ table self.old) }
-        ensures stored { OnOk result (table self.new
-            ≡ with_class (pattern_view pattern.now) (table self.old)) }
+        ensures stored { OnOk result (AddsClass self.old self.new pattern.now) }
     {
         if self.stored.len() > u32::MAX as usize {
             return Err(AllocError);

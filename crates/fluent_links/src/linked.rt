@@ -1,12 +1,10 @@
 //! What is kept of a stored pattern.
-ghost use Rattle.std.specs.Prelude.{◌≡◌, ℕ, List, [], Option, Some, None, IfOk, IsOk, OnErr, OnOk};
-ghost use Rattle.fluent_tree.specs.Tree as t;
+ghost use Rattle.std.specs.Prelude.{◌≡◌, [], None, IfOk, IsOk, OnErr, OnOk};
 ghost use Rattle.fluent_tree.specs.Tree.{Text};
-ghost use Rattle.fluent_tree.specs.View.{pattern_view};
-ghost use Rattle.fluent_tree.specs.References.{references};
-ghost use Rattle.fluent_links.specs.Links.{IsBefore, KeepsNumbers};
+ghost use Rattle.fluent_tree.specs.ReferencesOf.{references_of};
+ghost use Rattle.fluent_links.specs.Adding.{AddsContent, AddsPrefix, AddsSlots};
+ghost use Rattle.fluent_links.specs.Links.{KeepsNumbers};
 ghost use Rattle.fluent_links.specs.Classes.{Grows};
-ghost use Rattle.fluent_links.specs.LinkGrowth.{SlotsOfPrefix, with_slots};
 ghost use Rattle.fluent_links.specs.Places.{seen};
 ghost use Rattle.fluent_links.specs.Slots.{named, number, slots as slots_of};
 ghost use Rattle.fluent_links.specs.Table.{table};
@@ -27,7 +25,7 @@ pub struct Linked {
 }
 
 impl Linked {
-    ghost use Rattle.fluent_links.specs.Linked.{class_of, links_of, with_content, IsOf};
+    ghost use Rattle.fluent_links.specs.Linked.{class_of, links_of, IsBeforeAll, IsLinkedBy};
 
     /// The class of its content, if it has one.
     pub fn class(&self) -> Option<u32>
@@ -39,8 +37,7 @@ impl Linked {
     /// The place before all that it refers to.
     pub fn place(&self) -> Place<'_>
         ensures links { seen result ≡ links_of self.now }
-        ensures before { (number : Text → Option ℕ) (table : List t.Pattern) (p : t.Pattern) →
-            IsOf number table p self.now → IsBefore number (references p) (seen result) }
+        ensures before { IsBeforeAll self.now (seen result) }
     {
         Place::from_links(&self.links)
     }
@@ -59,23 +56,18 @@ impl Linked {
         classes: &mut Classes<'r, 's>,
         pattern: &'r Pattern<'s>,
     ) -> Result<Linked, AllocError>
-        ensures linked { IfOk result
-            (IsOf (number (slots_of slots.new)) (table classes.new) (pattern_view pattern.now)) }
+        ensures linked { IfOk result (IsLinkedBy slots.new classes.new pattern.now) }
         ensures numbers { KeepsNumbers (number (slots_of slots.old)) (number (slots_of slots.new)) }
         ensures named { (q : Text) → named q (slots_of slots.new) ≡ named q (slots_of slots.old) }
         ensures classes { Grows (table classes.old) (table classes.new) }
         // Each reference has a slot, and the content a class, where it refers to anything.
-        ensures slots { OnOk result (slots_of slots.new
-            ≡ with_slots (references (pattern_view pattern.now)) (slots_of slots.old)) }
-        ensures stored { OnOk result (table classes.new
-            ≡ with_content (pattern_view pattern.now) (table classes.old)) }
+        ensures slots { OnOk result (AddsSlots slots.old slots.new (references_of pattern.now)) }
+        ensures stored { OnOk result (AddsContent classes.old classes.new pattern.now) }
         // Where it refers to nothing, no memory is asked for, and it has no class.
-        ensures succeeds { references (pattern_view pattern.now) ≡ [] → IsOk result }
-        ensures classless { references (pattern_view pattern.now) ≡ [] →
-            IfOk result (λ l. class_of l ≡ None) }
+        ensures succeeds { references_of pattern.now ≡ [] → IsOk result }
+        ensures classless { references_of pattern.now ≡ [] → IfOk result (λ l. class_of l ≡ None) }
         // The first references may have slots, but no content is stored.
-        ensures begun { OnErr result (SlotsOfPrefix (slots_of slots.old) (slots_of slots.new)
-            (references (pattern_view pattern.now))) }
+        ensures begun { OnErr result (AddsPrefix slots.old slots.new (references_of pattern.now)) }
         ensures alloc_failed { OnErr result (table classes.new ≡ table classes.old) }
     {
         let mut links = Vec::new(alloc);

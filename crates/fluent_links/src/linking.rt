@@ -1,10 +1,8 @@
 //! Links gathered in the order of the tree.
-ghost use Rattle.std.specs.Prelude.{◌≡◌, [], ◌∷◌, OnErr, OnOk};
-ghost use Rattle.fluent_tree.specs.View.{arguments_view, call_view, element_view, expression_view, inline_view, pattern_view};
-ghost use Rattle.fluent_tree.specs.References.{AreSome, Reference, in_arguments, in_call, in_element, in_expression, in_inline, in_named, in_positional, in_variants, inlines_view, nameds_view, references, variants_view};
-ghost use Rattle.fluent_links.specs.Links.{id_of};
-ghost use Rattle.fluent_links.specs.LinkGrowth.{AppendsLinks, SlotsOfPrefix};
-ghost use Rattle.fluent_links.specs.Slots.{slots as slots_of};
+ghost use Rattle.std.specs.Prelude.{OnErr, OnOk};
+ghost use Rattle.fluent_tree.specs.References.{AreSome};
+ghost use Rattle.fluent_tree.specs.ReferencesOf.{of_arguments, of_call, of_element, of_expression, of_inline, of_inlines, of_nameds, of_variants, references_of};
+ghost use Rattle.fluent_links.specs.Adding.{Adds, AddsAtMostOne, AddsOne, AddsPrefix};
 
 use crate::slots::Slots;
 use fluent_tree::ast::{
@@ -19,10 +17,8 @@ fn link_one<'s, X: Drop>(
     slots: &mut Slots<'s, X>,
     id: &'s str,
 ) -> Result<(), AllocError>
-    ensures ok { OnOk result ((r : Reference) → id_of r ≡ id.now →
-        AppendsLinks (slots_of slots.old) (slots_of slots.new) links.old.items links.new.items (r ∷ [])) }
-    ensures err { OnErr result ((r : Reference) → id_of r ≡ id.now →
-        SlotsOfPrefix (slots_of slots.old) (slots_of slots.new) (r ∷ [])) }
+    ensures ok { OnOk result (AddsOne slots.old slots.new links.old links.new id.now) }
+    ensures err { OnErr result (AddsAtMostOne slots.old slots.new id.now) }
 {
     links.push(slots.number_of(CowStr::Borrowed(id))?)?;
     Ok(())
@@ -35,11 +31,9 @@ pub fn link_pattern<'s, X: Drop>(
     slots: &mut Slots<'s, X>,
     pattern: &Pattern<'s>,
 ) -> Result<(), AllocError>
-    ensures ok { OnOk result (AppendsLinks (slots_of slots.old) (slots_of slots.new)
-        links.old.items links.new.items (references (pattern_view pattern.now))) }
-    ensures err { OnErr result (SlotsOfPrefix (slots_of slots.old) (slots_of slots.new)
-        (references (pattern_view pattern.now))) }
-    ensures alloc_failed { OnErr result (AreSome (references (pattern_view pattern.now))) }
+    ensures ok { OnOk result (Adds slots.old slots.new links.old links.new (references_of pattern.now)) }
+    ensures err { OnErr result (AddsPrefix slots.old slots.new (references_of pattern.now)) }
+    ensures alloc_failed { OnErr result (AreSome (references_of pattern.now)) }
 {
     for element in &pattern.elements {
         link_element(links, slots, element)?;
@@ -53,11 +47,9 @@ fn link_element<'s, X: Drop>(
     slots: &mut Slots<'s, X>,
     element: &PatternElement<'s>,
 ) -> Result<(), AllocError>
-    ensures ok { OnOk result (AppendsLinks (slots_of slots.old) (slots_of slots.new)
-        links.old.items links.new.items (in_element (element_view element.now))) }
-    ensures err { OnErr result (SlotsOfPrefix (slots_of slots.old) (slots_of slots.new)
-        (in_element (element_view element.now))) }
-    ensures alloc_failed { OnErr result (AreSome (in_element (element_view element.now))) }
+    ensures ok { OnOk result (Adds slots.old slots.new links.old links.new (of_element element.now)) }
+    ensures err { OnErr result (AddsPrefix slots.old slots.new (of_element element.now)) }
+    ensures alloc_failed { OnErr result (AreSome (of_element element.now)) }
 {
     match element {
         PatternElement::TextElement { .. } => Ok(()),
@@ -71,11 +63,9 @@ fn link_expression<'s, X: Drop>(
     slots: &mut Slots<'s, X>,
     expression: &Expression<'s>,
 ) -> Result<(), AllocError>
-    ensures ok { OnOk result (AppendsLinks (slots_of slots.old) (slots_of slots.new)
-        links.old.items links.new.items (in_expression (expression_view expression.now))) }
-    ensures err { OnErr result (SlotsOfPrefix (slots_of slots.old) (slots_of slots.new)
-        (in_expression (expression_view expression.now))) }
-    ensures alloc_failed { OnErr result (AreSome (in_expression (expression_view expression.now))) }
+    ensures ok { OnOk result (Adds slots.old slots.new links.old links.new (of_expression expression.now)) }
+    ensures err { OnErr result (AddsPrefix slots.old slots.new (of_expression expression.now)) }
+    ensures alloc_failed { OnErr result (AreSome (of_expression expression.now)) }
 {
     match expression {
         Expression::Inline(inline) => link_inline(links, slots, inline),
@@ -93,11 +83,9 @@ fn link_variants<'s, X: Drop>(
     slots: &mut Slots<'s, X>,
     variants: &[Variant<'s>],
 ) -> Result<(), AllocError>
-    ensures ok { OnOk result (AppendsLinks (slots_of slots.old) (slots_of slots.new)
-        links.old.items links.new.items (in_variants (variants_view variants.now))) }
-    ensures err { OnErr result (SlotsOfPrefix (slots_of slots.old) (slots_of slots.new)
-        (in_variants (variants_view variants.now))) }
-    ensures alloc_failed { OnErr result (AreSome (in_variants (variants_view variants.now))) }
+    ensures ok { OnOk result (Adds slots.old slots.new links.old links.new (of_variants variants.now)) }
+    ensures err { OnErr result (AddsPrefix slots.old slots.new (of_variants variants.now)) }
+    ensures alloc_failed { OnErr result (AreSome (of_variants variants.now)) }
 {
     for variant in variants {
         link_pattern(links, slots, &variant.value)?;
@@ -111,11 +99,9 @@ fn link_inline<'s, X: Drop>(
     slots: &mut Slots<'s, X>,
     inline: &InlineExpression<'s>,
 ) -> Result<(), AllocError>
-    ensures ok { OnOk result (AppendsLinks (slots_of slots.old) (slots_of slots.new)
-        links.old.items links.new.items (in_inline (inline_view inline.now))) }
-    ensures err { OnErr result (SlotsOfPrefix (slots_of slots.old) (slots_of slots.new)
-        (in_inline (inline_view inline.now))) }
-    ensures alloc_failed { OnErr result (AreSome (in_inline (inline_view inline.now))) }
+    ensures ok { OnOk result (Adds slots.old slots.new links.old links.new (of_inline inline.now)) }
+    ensures err { OnErr result (AddsPrefix slots.old slots.new (of_inline inline.now)) }
+    ensures alloc_failed { OnErr result (AreSome (of_inline inline.now)) }
 {
     match inline {
         InlineExpression::FunctionReference { id, arguments } => {
@@ -142,11 +128,9 @@ fn link_call<'s, X: Drop>(
     slots: &mut Slots<'s, X>,
     arguments: &Option<Box<CallArguments<'s>>>,
 ) -> Result<(), AllocError>
-    ensures ok { OnOk result (AppendsLinks (slots_of slots.old) (slots_of slots.new)
-        links.old.items links.new.items (in_call (call_view arguments.now))) }
-    ensures err { OnErr result (SlotsOfPrefix (slots_of slots.old) (slots_of slots.new)
-        (in_call (call_view arguments.now))) }
-    ensures alloc_failed { OnErr result (AreSome (in_call (call_view arguments.now))) }
+    ensures ok { OnOk result (Adds slots.old slots.new links.old links.new (of_call arguments.now)) }
+    ensures err { OnErr result (AddsPrefix slots.old slots.new (of_call arguments.now)) }
+    ensures alloc_failed { OnErr result (AreSome (of_call arguments.now)) }
 {
     match arguments {
         Some(arguments) => link_arguments(links, slots, arguments),
@@ -160,11 +144,9 @@ fn link_arguments<'s, X: Drop>(
     slots: &mut Slots<'s, X>,
     arguments: &CallArguments<'s>,
 ) -> Result<(), AllocError>
-    ensures ok { OnOk result (AppendsLinks (slots_of slots.old) (slots_of slots.new)
-        links.old.items links.new.items (in_arguments (arguments_view arguments.now))) }
-    ensures err { OnErr result (SlotsOfPrefix (slots_of slots.old) (slots_of slots.new)
-        (in_arguments (arguments_view arguments.now))) }
-    ensures alloc_failed { OnErr result (AreSome (in_arguments (arguments_view arguments.now))) }
+    ensures ok { OnOk result (Adds slots.old slots.new links.old links.new (of_arguments arguments.now)) }
+    ensures err { OnErr result (AddsPrefix slots.old slots.new (of_arguments arguments.now)) }
+    ensures alloc_failed { OnErr result (AreSome (of_arguments arguments.now)) }
 {
     link_positional(links, slots, &arguments.positional)?;
     link_named(links, slots, &arguments.named)?;
@@ -177,11 +159,9 @@ fn link_positional<'s, X: Drop>(
     slots: &mut Slots<'s, X>,
     positional: &[InlineExpression<'s>],
 ) -> Result<(), AllocError>
-    ensures ok { OnOk result (AppendsLinks (slots_of slots.old) (slots_of slots.new)
-        links.old.items links.new.items (in_positional (inlines_view positional.now))) }
-    ensures err { OnErr result (SlotsOfPrefix (slots_of slots.old) (slots_of slots.new)
-        (in_positional (inlines_view positional.now))) }
-    ensures alloc_failed { OnErr result (AreSome (in_positional (inlines_view positional.now))) }
+    ensures ok { OnOk result (Adds slots.old slots.new links.old links.new (of_inlines positional.now)) }
+    ensures err { OnErr result (AddsPrefix slots.old slots.new (of_inlines positional.now)) }
+    ensures alloc_failed { OnErr result (AreSome (of_inlines positional.now)) }
 {
     for argument in positional {
         link_inline(links, slots, argument)?;
@@ -195,11 +175,9 @@ fn link_named<'s, X: Drop>(
     slots: &mut Slots<'s, X>,
     named: &[NamedArgument<'s>],
 ) -> Result<(), AllocError>
-    ensures ok { OnOk result (AppendsLinks (slots_of slots.old) (slots_of slots.new)
-        links.old.items links.new.items (in_named (nameds_view named.now))) }
-    ensures err { OnErr result (SlotsOfPrefix (slots_of slots.old) (slots_of slots.new)
-        (in_named (nameds_view named.now))) }
-    ensures alloc_failed { OnErr result (AreSome (in_named (nameds_view named.now))) }
+    ensures ok { OnOk result (Adds slots.old slots.new links.old links.new (of_nameds named.now)) }
+    ensures err { OnErr result (AddsPrefix slots.old slots.new (of_nameds named.now)) }
+    ensures alloc_failed { OnErr result (AreSome (of_nameds named.now)) }
 {
     for argument in named {
         link_inline(links, slots, &argument.value)?;

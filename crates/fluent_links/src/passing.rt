@@ -1,7 +1,6 @@
 //! How links are passed over part by part, in the order of the tree.
 ghost use Rattle.std.specs.Prelude.{◌≡◌};
-ghost use Rattle.fluent_tree.specs.View.{arguments_view, element_view, expression_view, inline_view, pattern_view};
-ghost use Rattle.fluent_tree.specs.References.{in_arguments, in_element, in_expression, in_inline, in_named, in_positional, in_variants, inlines_view, nameds_view, references, variants_view};
+ghost use Rattle.fluent_tree.specs.ReferencesOf.{of_arguments, of_element, of_expression, of_inline, of_inlines, of_nameds, of_variants, references_of};
 ghost use Rattle.fluent_links.specs.Links.{next};
 ghost use Rattle.fluent_links.specs.Places.{Passes};
 
@@ -22,7 +21,7 @@ pub fn pass_one(links: &[u32]) -> &[u32]
 /// The links after a pattern.
 #[cycle(passing)]
 pub fn pass_pattern<'b>(links: &'b [u32], pattern: &Pattern<'_>) -> &'b [u32]
-    ensures { Passes links.entry.now result.now (references (pattern_view pattern.now)) }
+    ensures { Passes links.entry.now result.now (references_of pattern.now) }
 {
     let mut links = links;
     for element in &pattern.elements {
@@ -34,7 +33,7 @@ pub fn pass_pattern<'b>(links: &'b [u32], pattern: &Pattern<'_>) -> &'b [u32]
 /// The links after an element of a pattern.
 #[cycle(passing)]
 pub fn pass_element<'b>(links: &'b [u32], element: &PatternElement<'_>) -> &'b [u32]
-    ensures { Passes links.entry.now result.now (in_element (element_view element.now)) }
+    ensures { Passes links.entry.now result.now (of_element element.now) }
 {
     match element {
         PatternElement::TextElement { .. } => links,
@@ -45,7 +44,7 @@ pub fn pass_element<'b>(links: &'b [u32], element: &PatternElement<'_>) -> &'b [
 /// The links after what stands between the braces of a placeable.
 #[cycle(passing)]
 pub fn pass_expression<'b>(links: &'b [u32], expression: &Expression<'_>) -> &'b [u32]
-    ensures { Passes links.entry.now result.now (in_expression (expression_view expression.now)) }
+    ensures { Passes links.entry.now result.now (of_expression expression.now) }
 {
     // After the last link no part is walked, which saves up to a tenth of the instructions where selects are passed
     // that refer to nothing.
@@ -64,7 +63,7 @@ pub fn pass_expression<'b>(links: &'b [u32], expression: &Expression<'_>) -> &'b
 #[cycle(passing)]
 #[inline(never)]
 pub fn pass_variants<'b>(links: &'b [u32], variants: &[Variant<'_>]) -> &'b [u32]
-    ensures { Passes links.entry.now result.now (in_variants (variants_view variants.now)) }
+    ensures { Passes links.entry.now result.now (of_variants variants.now) }
 {
     let mut links = links;
     for variant in variants {
@@ -76,7 +75,7 @@ pub fn pass_variants<'b>(links: &'b [u32], variants: &[Variant<'_>]) -> &'b [u32
 /// The links after an inline expression.
 #[cycle(passing)]
 pub fn pass_inline<'b>(links: &'b [u32], inline: &InlineExpression<'_>) -> &'b [u32]
-    ensures { Passes links.entry.now result.now (in_inline (inline_view inline.now)) }
+    ensures { Passes links.entry.now result.now (of_inline inline.now) }
 {
     match inline {
         InlineExpression::FunctionReference { arguments, .. } => {
@@ -98,7 +97,7 @@ pub fn pass_inline<'b>(links: &'b [u32], inline: &InlineExpression<'_>) -> &'b [
 #[cycle(passing)]
 #[inline(never)]
 pub fn pass_arguments<'b>(links: &'b [u32], arguments: &CallArguments<'_>) -> &'b [u32]
-    ensures { Passes links.entry.now result.now (in_arguments (arguments_view arguments.now)) }
+    ensures { Passes links.entry.now result.now (of_arguments arguments.now) }
 {
     pass_named(
         pass_positional(links, &arguments.positional),
@@ -109,7 +108,7 @@ pub fn pass_arguments<'b>(links: &'b [u32], arguments: &CallArguments<'_>) -> &'
 /// The links after positional arguments.
 #[cycle(passing)]
 pub fn pass_positional<'b>(links: &'b [u32], positional: &[InlineExpression<'_>]) -> &'b [u32]
-    ensures { Passes links.entry.now result.now (in_positional (inlines_view positional.now)) }
+    ensures { Passes links.entry.now result.now (of_inlines positional.now) }
 {
     let mut links = links;
     for argument in positional {
@@ -120,7 +119,7 @@ pub fn pass_positional<'b>(links: &'b [u32], positional: &[InlineExpression<'_>]
 
 #[cycle(passing)]
 fn pass_named<'b>(links: &'b [u32], named: &[NamedArgument<'_>]) -> &'b [u32]
-    ensures { Passes links.entry.now result.now (in_named (nameds_view named.now)) }
+    ensures { Passes links.entry.now result.now (of_nameds named.now) }
 {
     let mut links = links;
     for argument in named {

@@ -1,7 +1,6 @@
 //! Places among the links of a pattern, and how they pass over its parts.
 ghost use Rattle.std.specs.Prelude.{◌≡◌, []};
-ghost use Rattle.fluent_tree.specs.View.{arguments_view, call_view, element_view, expression_view, inline_view, pattern_view};
-ghost use Rattle.fluent_tree.specs.References.{in_arguments, in_call, in_element, in_expression, in_inline, in_positional, in_variants, inlines_view, references, variants_view};
+ghost use Rattle.fluent_tree.specs.ReferencesOf.{of_arguments, of_call, of_element, of_expression, of_inline, of_inlines, of_variants, references_of};
 ghost use Rattle.fluent_links.specs.Links.{past, next};
 ghost use Rattle.fluent_links.specs.Places.{first_of, seen};
 
@@ -51,44 +50,42 @@ impl<'b> Place<'b> {
 
     /// After a pattern.
     pub fn after_pattern(self, pattern: &Pattern<'_>) -> Self
-        ensures { seen result ≡ past (references (pattern_view pattern.now)) (seen self.entry) }
+        ensures { seen result ≡ past (references_of pattern.now) (seen self.entry) }
     {
         Place::from_links(pass_pattern(self.links, pattern))
     }
 
     /// After an element of a pattern.
     pub fn after_element(self, element: &PatternElement<'_>) -> Self
-        ensures { seen result ≡ past (in_element (element_view element.now)) (seen self.entry) }
+        ensures { seen result ≡ past (of_element element.now) (seen self.entry) }
     {
         Place::from_links(pass_element(self.links, element))
     }
 
     /// After what stands between the braces of a placeable.
     pub fn after_expression(self, expression: &Expression<'_>) -> Self
-        ensures { seen result
-            ≡ past (in_expression (expression_view expression.now)) (seen self.entry) }
+        ensures { seen result ≡ past (of_expression expression.now) (seen self.entry) }
     {
         Place::from_links(pass_expression(self.links, expression))
     }
 
     /// After all of these variants.
     pub fn after_variants(self, variants: &[Variant<'_>]) -> Self
-        ensures { seen result
-            ≡ past (in_variants (variants_view variants.now)) (seen self.entry) }
+        ensures { seen result ≡ past (of_variants variants.now) (seen self.entry) }
     {
         Place::from_links(pass_variants(self.links, variants))
     }
 
     /// After an inline expression.
     pub fn after_inline(self, inline: &InlineExpression<'_>) -> Self
-        ensures { seen result ≡ past (in_inline (inline_view inline.now)) (seen self.entry) }
+        ensures { seen result ≡ past (of_inline inline.now) (seen self.entry) }
     {
         Place::from_links(pass_inline(self.links, inline))
     }
 
     /// After the arguments of a term, which may have none.
     pub fn after_call(self, arguments: &Option<Box<CallArguments<'_>>>) -> Self
-        ensures { seen result ≡ past (in_call (call_view arguments.now)) (seen self.entry) }
+        ensures { seen result ≡ past (of_call arguments.now) (seen self.entry) }
     {
         match arguments {
             Some(arguments) => self.after_arguments(arguments),
@@ -98,16 +95,14 @@ impl<'b> Place<'b> {
 
     /// After positional arguments.
     pub fn after_positional(self, positional: &[InlineExpression<'_>]) -> Self
-        ensures { seen result
-            ≡ past (in_positional (inlines_view positional.now)) (seen self.entry) }
+        ensures { seen result ≡ past (of_inlines positional.now) (seen self.entry) }
     {
         Place::from_links(pass_positional(self.links, positional))
     }
 
     /// After the arguments of a function or a term.
     pub fn after_arguments(self, arguments: &CallArguments<'_>) -> Self
-        ensures { seen result
-            ≡ past (in_arguments (arguments_view arguments.now)) (seen self.entry) }
+        ensures { seen result ≡ past (of_arguments arguments.now) (seen self.entry) }
     {
         Place::from_links(pass_arguments(self.links, arguments))
     }

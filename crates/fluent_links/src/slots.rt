@@ -1,10 +1,10 @@
 //! Slots by number.
-ghost use Rattle.std.specs.Prelude.{◌≡◌, ◌<◌, ◌≤◌, ◌+◌, ◌^◌, [], ◌∷◌, ◌++◌, length, IfOk, IsOk, OnOk, OnErr, Some, None, if◌then◌else◌};
+ghost use Rattle.std.specs.Prelude.{◌≡◌, ◌<◌, ◌≤◌, ◌+◌, ◌^◌, [], ◌∷◌, ◌++◌, length, IfOk, IsOk, OnOk, OnErr, Some, None};
 ghost use Rattle.std.specs.Cow.{cow_str_bytes};
 ghost use Rattle.std.specs.Option.{option_map};
-ghost use Rattle.std.specs.Str.{bytes_eq};
 ghost use Rattle.indexmap.specs.Layout.{set_value_at};
 ghost use Rattle.fluent_tree.specs.Tree.{Text};
+ghost use Rattle.fluent_links.specs.Filling.{Fills, IsNamedBy};
 ghost use Rattle.fluent_links.specs.Links.{KeepsNumbers};
 ghost use Rattle.fluent_links.specs.Slots.{room, slots, number as number_in, named, slot_at, with_slot};
 
@@ -49,8 +49,7 @@ impl<'s, X> Slots<'s, X> {
     pub fn at(&self, number: u32) -> Option<&X>
         ensures slot { option_map (λ x. x.now) result ≡ slot_at number (slots self.now) }
         // By the number of an id it is what the id names.
-        ensures by_id { (id : Text) → number_in (slots self.now) id ≡ Some number →
-            option_map (λ x. x.now) result ≡ named id (slots self.now) }
+        ensures by_id { IsNamedBy self.now number (option_map (λ x. x.now) result) }
     {
         let (_, slot) = self.ids.get_index(number as usize)?;
         slot.as_ref()
@@ -119,9 +118,7 @@ impl<'s, X: Drop> Slots<'s, X> {
     pub fn fill(&mut self, number: u32, x: Option<X>)
         ensures numbers { (id : Text) →
             number_in (slots self.new) id ≡ number_in (slots self.old) id }
-        ensures filled { (id : Text) → number_in (slots self.old) id ≡ Some number → (q : Text) →
-            named q (slots self.new)
-            ≡ (if bytes_eq id q then x else named q (slots self.old)) }
+        ensures filled { Fills self.old self.new number x }
         // A number beyond them changes nothing.
         ensures set { slots self.new ≡ set_value_at (slots self.old) number x }
     {

@@ -1,12 +1,13 @@
 -- Variants, one after the other.
 use Rattle.std.proofs.Common.{rules, ◌≡◌, ℕ, ◌+◌, ◌<◌, List, ◌∷◌, length, get_or, drop, map, ap, sym, subst, ◌∙◌, cond, Bool, false, Option, Some}
 use Rattle.fluent_tree.specs.References.{references}
+use Rattle.fluent_tree.specs.ReferencesOf.{of_variants}
 use Rattle.fluent_tree.specs.Tree.{Key, Pattern, Text, Variants, variants_of}
 use Rattle.fluent_tree.specs.View.{key_view, pattern_view, variant_view}
 use Rattle.fluent_tree.specs.declared.ast.Variant as of_the_variant
 use Rattle.fluent_tree.specs.declared.ast.Variant.{Variant}
 use Rattle.fluent_links.specs.Links.{IsBefore, Links, past}
-use Rattle.fluent_links.specs.PlaceSteps.{enters, in_variant_list, leaves, of_variant, variant_in_turn}
+use Rattle.fluent_links.specs.PlaceSteps.{enters, leaves, of_variant, variant_in_turn}
 use Rattle.fluent_links.specs.Places.{seen}
 use Rattle.fluent_links.specs.declared.place.Place.{Place}
 use Rattle.fluent_state.specs.Choice.{choice, first_default}
@@ -15,14 +16,14 @@ use Rattle.fluent_state.specs.Facts.Lists.{next_of}
 
 module _ (number : Text → Option ℕ) (vs : List Variant) (i : ℕ) (v : Variant) (h : i < length vs) (is : v ≡ get_or vs i v) where
   -- the next variant begins there
-  pub begins_here : (c : Chosen) (p : Place) → pattern_view c.pattern.now ≡ pattern_view v.value → c.place ≡ p → IsBefore number (in_variant_list (drop i vs)) (seen p) → IsBefore number (references (pattern_view c.pattern.now)) (seen c.place)
+  pub begins_here : (c : Chosen) (p : Place) → pattern_view c.pattern.now ≡ pattern_view v.value → c.place ≡ p → IsBefore number (of_variants (drop i vs)) (seen p) → IsBefore number (references (pattern_view c.pattern.now)) (seen c.place)
   begins_here c p same at before =
       subst (λ x. IsBefore number (references x) (seen c.place)) (sym same)
-      (subst (λ q. IsBefore number (of_variant v) (seen q)) (sym at) (enters of_variant in_variant_list variant_in_turn vs i v h is number (seen p) before))
+      (subst (λ q. IsBefore number (of_variant v) (seen q)) (sym at) (enters of_variant of_variants variant_in_turn vs i v h is number (seen p) before))
 
   -- the others begin after it
-  pub begins_after : (p q : Links) → q ≡ past (of_variant v) p → IsBefore number (in_variant_list (drop i vs)) p → IsBefore number (in_variant_list (drop (i + 1) vs)) q
-  begins_after p q at before = leaves of_variant in_variant_list variant_in_turn vs i v h is number p q at before
+  pub begins_after : (p q : Links) → q ≡ past (of_variant v) p → IsBefore number (of_variants (drop i vs)) p → IsBefore number (of_variants (drop (i + 1) vs)) q
+  begins_after p q at before = leaves of_variant of_variants variant_in_turn vs i v h is number p q at before
 
 -- ---- which variant is chosen
 

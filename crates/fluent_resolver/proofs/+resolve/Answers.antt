@@ -12,9 +12,10 @@ use Rattle.fluent_meaning.specs.Work.{Worked, work, with_work}
 use Rattle.fluent_state.specs.WalkProgress.{EvaluatesSilently, Walk, given, walked, from_here, adding, trace}
 use Rattle.fluent_state.specs.FoundView.{IsLed, content_at, found_view}
 use Rattle.fluent_tree.specs.References.{a_function, a_term, in_arguments, in_call, in_expression, in_inline, in_variants, references}
+use Rattle.fluent_tree.specs.ReferencesOf.{of_element, of_inline, of_inlines, of_nameds, of_variants}
 use Rattle.fluent_links.specs.Links.{IsBefore, past}
 use Rattle.fluent_links.specs.PlaceParts.{in_arguments_is, in_nested_is, in_one_is, in_pattern_is, in_placeable_is, in_select_is}
-use Rattle.fluent_links.specs.PlaceSteps.{element_in_turn, enters, in_elements, in_named_list, in_positional_list, in_variant_list, leaves, named_in_turn, of_element, of_named, of_positional, positional_in_turn}
+use Rattle.fluent_links.specs.PlaceSteps.{element_in_turn, enters, in_elements, leaves, named_in_turn, of_named, positional_in_turn}
 use Rattle.fluent_links.specs.Places.{seen}
 use Rattle.fluent_state.specs.ChosenView.{BeginsAt, chosen_view}
 use Rattle.fluent_state.specs.declared.variants.Chosen.{Chosen}
@@ -498,8 +499,8 @@ arguments::resolve_call-resolve_positional-requires g t c =
     let here : inlines_size (inlines_of (map inline_view c.deref.result.now)) ≡ inlines_size (inlines_of (map inline_view (of_call.out-CallArguments c.args.arguments.now).positional.items)) = ap (λ xs. inlines_size (inlines_of (map inline_view xs))) c.deref.ensures.value in
     let less = falls_to c.decreases (same_weight a (inlines_size (inlines_of (map inline_view c.deref.result.now))) (arguments_size (arguments_view c.args.arguments.now)) (omega (arith, sized, here))) in
     let parts = of_call.out-CallArguments c.args.arguments.now in
-    let first = placed_prefix a.stored.numbers (in_arguments (arguments_view c.args.arguments.now)) (in_positional_list parts.positional.items) (in_named_list parts.named.items) c.args.place (in_arguments_is c.args.arguments.now) c.requires in
-    let placed = subst (λ xs. IsBefore a.stored.numbers (in_positional_list xs) (seen c.args.place)) (sym c.deref.ensures.value) first in
+    let first = placed_prefix a.stored.numbers (in_arguments (arguments_view c.args.arguments.now)) (of_inlines parts.positional.items) (of_nameds parts.named.items) c.args.place (in_arguments_is c.args.arguments.now) c.requires in
+    let placed = subst (λ xs. IsBefore a.stored.numbers (of_inlines xs) (seen c.args.place)) (sym c.deref.ensures.value) first in
     λ κs h. (less, (h.0, (h.1.0, (h.1.1.0, (h.1.1.1, placed)))))
 
 pub arguments::resolve_call-resolve_named-requires : goal.arguments::resolve_call-resolve_named-requires
@@ -511,10 +512,10 @@ arguments::resolve_call-resolve_named-requires g t c =
     let here : nameds_size (nameds_of (map named_view c.deref-3.result.now)) ≡ nameds_size (nameds_of (map named_view (of_call.out-CallArguments c.args.arguments.now).named.items)) = ap (λ xs. nameds_size (nameds_of (map named_view xs))) c.deref-3.ensures.value in
     let less = falls_to c.decreases (kept_weight (nameds_size (nameds_of (map named_view c.deref-3.result.now))) (arguments_size (arguments_view c.args.arguments.now)) c.resolve_positional.ensures.got.toward.passed.keeps (omega (arith, sized, here))) in
     let parts = of_call.out-CallArguments c.args.arguments.now in
-    let at = c.after_positional-after.ensures ∙ ap (λ xs. past (in_positional_list xs) (seen c.args.place)) c.deref-2.ensures.value in
-    let second = placed_back a.stored.numbers (in_arguments (arguments_view c.args.arguments.now)) (in_positional_list parts.positional.items) (in_named_list parts.named.items) c.args.place c.after_positional-after.result (in_arguments_is c.args.arguments.now) at c.requires in
-    let here = subst (λ xs. IsBefore a.stored.numbers (in_named_list xs) (seen c.after_positional-after.result)) (sym c.deref-3.ensures.value) second in
-    let placed = placed_still a b (in_named_list c.deref-3.result.now) c.after_positional-after.result c.resolve_positional.ensures.got.toward.passed.keeps.stored here in
+    let at = c.after_positional-after.ensures ∙ ap (λ xs. past (of_inlines xs) (seen c.args.place)) c.deref-2.ensures.value in
+    let second = placed_back a.stored.numbers (in_arguments (arguments_view c.args.arguments.now)) (of_inlines parts.positional.items) (of_nameds parts.named.items) c.args.place c.after_positional-after.result (in_arguments_is c.args.arguments.now) at c.requires in
+    let here = subst (λ xs. IsBefore a.stored.numbers (of_nameds xs) (seen c.after_positional-after.result)) (sym c.deref-3.ensures.value) second in
+    let placed = placed_still a b (of_nameds c.deref-3.result.now) c.after_positional-after.result c.resolve_positional.ensures.got.toward.passed.keeps.stored here in
     λ κs h. (less, (h.0, (h.1.0, (h.1.1.0, (h.1.1.1, placed)))))
 
 pub arguments::resolve_local-resolve_call-requires : goal.arguments::resolve_local-resolve_call-requires
@@ -533,8 +534,8 @@ arguments::resolve_positional-resolve-requires g t c =
     let a = state g.B.Context.meant g.B.Context.is_plain g.F.FluentFunction.answer g.C.FluentType.content c.args.scope.now in
     let less = falls_to c.decreases (kept_weight (2 + inline_size (inline_view c.argument-item.result)) (inlines_size (inlines_of (map inline_view c.args.arguments.now))) c.loop-argument.invariant.gathers.passed.keeps (place_less c.args.arguments.now c.loop-argument.argument-index c.argument-item.result c.loop-argument-test.true c.argument-item.is)) in
     let b = state g.B.Context.meant g.B.Context.is_plain g.F.FluentFunction.answer g.C.FluentType.content c.loop-argument.scope in
-    let here = enters of_positional in_positional_list positional_in_turn c.args.arguments.now c.loop-argument.argument-index c.argument-item.result c.loop-argument-test.true c.argument-item.is a.stored.numbers (seen c.loop-argument.place) c.loop-argument.invariant.placed in
-    let placed = placed_still a b (of_positional c.argument-item.result) c.loop-argument.place c.loop-argument.invariant.gathers.passed.keeps.stored here in
+    let here = enters of_inline of_inlines positional_in_turn c.args.arguments.now c.loop-argument.argument-index c.argument-item.result c.loop-argument-test.true c.argument-item.is a.stored.numbers (seen c.loop-argument.place) c.loop-argument.invariant.placed in
+    let placed = placed_still a b (of_inline c.argument-item.result) c.loop-argument.place c.loop-argument.invariant.gathers.passed.keeps.stored here in
     λ κs h. (less, (h.0, (h.1.0, (h.1.1.0, (h.1.1.1, placed)))))
 
 pub arguments::resolve_named-resolve-requires : goal.arguments::resolve_named-resolve-requires
@@ -543,7 +544,7 @@ arguments::resolve_named-resolve-requires g t c =
     let a = state g.B.Context.meant g.B.Context.is_plain g.F.FluentFunction.answer g.C.FluentType.content c.args.scope.now in
     let less = falls_to c.decreases (kept_weight (2 + inline_size (inline_view c.argument-item.result.value)) (nameds_size (nameds_of (map named_view c.args.arguments.now))) c.loop-argument.invariant.gathers.passed.keeps (label_less c.args.arguments.now c.loop-argument.argument-index c.argument-item.result c.loop-argument-test.true c.argument-item.is)) in
     let b = state g.B.Context.meant g.B.Context.is_plain g.F.FluentFunction.answer g.C.FluentType.content c.loop-argument.scope in
-    let here = enters of_named in_named_list named_in_turn c.args.arguments.now c.loop-argument.argument-index c.argument-item.result c.loop-argument-test.true c.argument-item.is a.stored.numbers (seen c.loop-argument.place) c.loop-argument.invariant.placed in
+    let here = enters of_named of_nameds named_in_turn c.args.arguments.now c.loop-argument.argument-index c.argument-item.result c.loop-argument-test.true c.argument-item.is a.stored.numbers (seen c.loop-argument.place) c.loop-argument.invariant.placed in
     let placed = placed_still a b (of_named c.argument-item.result) c.loop-argument.place c.loop-argument.invariant.gathers.passed.keeps.stored here in
     λ κs h. (less, (h.0, (h.1.0, (h.1.1.0, (h.1.1.1, placed)))))
 
@@ -573,8 +574,8 @@ expression::write_expression-write_select-requires g t c =
     let sized : expression_size (expression_view c.args.expression.now) ≡ 5 + inline_size x + variants_size vs = ap expression_size (view_select_in c.args.expression.now c.in-Select.selector c.in-Select.variants c.in-Select.is) in
     let same : variants_size here ≡ variants_size vs = ap (λ vs. variants_size (variants_of (map variant_view vs))) c.deref.ensures.value in
     let less = falls_to c.decreases (same_weight a (4 + inline_size x + variants_size here) (expression_size (expression_view c.args.expression.now)) (omega (arith, sized, same))) in
-    let refers = in_select_is c.args.expression.now c.in-Select.selector c.in-Select.variants c.in-Select.is ∙ ap (λ vs. in_inline x ++ in_variant_list vs) (sym c.deref.ensures.value) in
-    let placed = placed_as a.stored.numbers (in_expression (expression_view c.args.expression.now)) (in_inline x ++ in_variant_list c.deref.result.now) c.args.place refers c.requires in
+    let refers = in_select_is c.args.expression.now c.in-Select.selector c.in-Select.variants c.in-Select.is ∙ ap (λ vs. in_inline x ++ of_variants vs) (sym c.deref.ensures.value) in
+    let placed = placed_as a.stored.numbers (in_expression (expression_view c.args.expression.now)) (in_inline x ++ of_variants c.deref.result.now) c.args.place refers c.requires in
     λ κs h. (less, (h.0, (h.1.0, (h.1.1.0, (h.1.1.1, placed)))))
 
 pub expression::write_select-write_pattern-requires : goal.expression::write_select-write_pattern-requires
@@ -913,7 +914,7 @@ arguments::resolve_positional-loop-argument-preserved g t c =
     let before = c.loop-argument.invariant in
     let here = gathers_as (placing_next a _ rest x b.budget next) before.gathers in
     let one = gathers_one (λ v. v) (λ n. walked a (place_walk rest) n) c.in_ok-value.was c.resolve.ensures.got here in
-    record { gathers = gathers_same (sym c.in_ok-push_value.ensures) one; rests = rests_on before.rests (rests_ok c.in_ok-value.was c.resolve.ensures.rests); placed = leaves of_positional in_positional_list positional_in_turn c.args.arguments.now c.loop-argument.argument-index x c.loop-argument-test.true c.argument-item.is a.stored.numbers (seen c.loop-argument.place) (seen c.after_inline-place.result) c.after_inline-place.ensures before.placed }
+    record { gathers = gathers_same (sym c.in_ok-push_value.ensures) one; rests = rests_on before.rests (rests_ok c.in_ok-value.was c.resolve.ensures.rests); placed = leaves of_inline of_inlines positional_in_turn c.args.arguments.now c.loop-argument.argument-index x c.loop-argument-test.true c.argument-item.is a.stored.numbers (seen c.loop-argument.place) (seen c.after_inline-place.result) c.after_inline-place.ensures before.placed }
 
 pub arguments::resolve_positional-returns-in_err-value : goal.arguments::resolve_positional-returns-in_err-value
 unfolding state_parts
@@ -968,7 +969,7 @@ arguments::resolve_named-loop-argument-preserved g t c =
     let here = gathers_as (labelling_next a _ rest x b.budget next) before.gathers in
     let v = value_view g.C.FluentType.content c.in_ok-value.value in
     let one = gathers_one (labelled k) (λ n. walked a (label_walk rest) n) c.in_ok-value.was c.resolve.ensures.got here in
-    record { done = before.done ++ labelled k v ∷ []; is = c.in_ok-set.ensures ∙ ap (set k v) before.is ∙ sym (set_all_next before.done k v []); gathers = one; rests = rests_on before.rests (rests_ok c.in_ok-value.was c.resolve.ensures.rests); placed = leaves of_named in_named_list named_in_turn c.args.arguments.now c.loop-argument.argument-index x c.loop-argument-test.true c.argument-item.is a.stored.numbers (seen c.loop-argument.place) (seen c.after_inline-place.result) c.after_inline-place.ensures before.placed }
+    record { done = before.done ++ labelled k v ∷ []; is = c.in_ok-set.ensures ∙ ap (set k v) before.is ∙ sym (set_all_next before.done k v []); gathers = one; rests = rests_on before.rests (rests_ok c.in_ok-value.was c.resolve.ensures.rests); placed = leaves of_named of_nameds named_in_turn c.args.arguments.now c.loop-argument.argument-index x c.loop-argument-test.true c.argument-item.is a.stored.numbers (seen c.loop-argument.place) (seen c.after_inline-place.result) c.after_inline-place.ensures before.placed }
 
 pub arguments::resolve_named-returns-in_err-value : goal.arguments::resolve_named-returns-in_err-value
 unfolding state_parts

@@ -1,12 +1,13 @@
 use Rattle.std.proofs.Common.{◌≡◌, ◌+◌, drop, map, List, [], Ok}
 use Rattle.fluent_tree.specs.Tree.{Text, inlines_of, nameds_of, variants_of}
+use Rattle.fluent_tree.specs.ReferencesOf.{of_inlines, of_nameds}
 use Rattle.fluent_meaning.specs.Value.{Value}
 use Rattle.fluent_tree.specs.View.{pattern_view, expression_view, inline_view, variant_view, arguments_view, call_view, named_view}
 use Rattle.fluent_meaning.specs.Arguments.{set_all}
 use Rattle.fluent_meaning.specs.Meaning.{at_most}
 use Rattle.fluent_meaning.specs.Walk.{has_one}
 use Rattle.fluent_links.specs.Links.{IsBefore}
-use Rattle.fluent_links.specs.PlaceSteps.{in_elements, in_named_list, in_positional_list}
+use Rattle.fluent_links.specs.PlaceSteps.{in_elements}
 use Rattle.fluent_links.specs.Places.{seen}
 use Rattle.fluent_state.specs.WalkProgress.{WritesUpTo, from_here, walked, WritesNothing}
 use Rattle.fluent_resolver.specs.Sizes.{bound, size, expression_size, variants_size, inline_size, inlines_size, nameds_size, call_size, arguments_size}
@@ -132,7 +133,7 @@ invariant-arguments::resolve_positional-loop-argument g l =
     record {
       gathers : Gathers (from_here a (place_walk l.arguments)) (walked a (place_walk (drop l.argument-index l.arguments)) b.budget) (map (value_view g.C.FluentType.content) l.values.items) a b;
       rests : WritesNothing {T = Unit {0}} (Ok tt) (writer g.W.Write.contents l.initial.w) (writer g.W.Write.contents l.w);
-      placed : IsBefore a.stored.numbers (in_positional_list (drop l.argument-index l.arguments)) (seen l.place);
+      placed : IsBefore a.stored.numbers (of_inlines (drop l.argument-index l.arguments)) (seen l.place);
     }
 
 abbrev pub invariant-arguments::resolve_named-loop-argument : goal.invariant-arguments::resolve_named-loop-argument
@@ -144,5 +145,5 @@ invariant-arguments::resolve_named-loop-argument g l =
       is : gathered g.C.FluentType.content l.values ≡ set_all done [];
       gathers : Gathers (from_here a (label_walk l.arguments)) (walked a (label_walk (drop l.argument-index l.arguments)) b.budget) done a b;
       rests : WritesNothing {T = Unit {0}} (Ok tt) (writer g.W.Write.contents l.initial.w) (writer g.W.Write.contents l.w);
-      placed : IsBefore a.stored.numbers (in_named_list (drop l.argument-index l.arguments)) (seen l.place);
+      placed : IsBefore a.stored.numbers (of_nameds (drop l.argument-index l.arguments)) (seen l.place);
     }

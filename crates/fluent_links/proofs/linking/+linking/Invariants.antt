@@ -1,6 +1,7 @@
 use Rattle.std.proofs.Common.{take}
+use Rattle.fluent_tree.specs.ReferencesOf.{of_inlines, of_nameds, of_variants}
 use Rattle.fluent_links.specs.LinkGrowth.{AppendsLinks}
-use Rattle.fluent_links.specs.PlaceSteps.{in_elements, in_variant_list, in_positional_list, in_named_list}
+use Rattle.fluent_links.specs.PlaceSteps.{in_elements}
 use Rattle.fluent_links.specs.Slots.{slots}
 use Rattle.fluent_links.proofs.linking.+linking.Given as goal
 
@@ -10,12 +11,12 @@ invariant-link_pattern-loop-element g l =
 
 abbrev pub invariant-link_variants-loop-variant : goal.invariant-link_variants-loop-variant
 invariant-link_variants-loop-variant g l =
-    AppendsLinks (slots l.initial.slots) (slots l.slots) l.initial.links.items l.links.items (in_variant_list (take l.variant-index l.variants))
+    AppendsLinks (slots l.initial.slots) (slots l.slots) l.initial.links.items l.links.items (of_variants (take l.variant-index l.variants))
 
 abbrev pub invariant-link_positional-loop-argument : goal.invariant-link_positional-loop-argument
 invariant-link_positional-loop-argument g l =
-    AppendsLinks (slots l.initial.slots) (slots l.slots) l.initial.links.items l.links.items (in_positional_list (take l.argument-index l.positional))
+    AppendsLinks (slots l.initial.slots) (slots l.slots) l.initial.links.items l.links.items (of_inlines (take l.argument-index l.positional))
 
 abbrev pub invariant-link_named-loop-argument : goal.invariant-link_named-loop-argument
 invariant-link_named-loop-argument g l =
-    AppendsLinks (slots l.initial.slots) (slots l.slots) l.initial.links.items l.links.items (in_named_list (take l.argument-index l.named))
+    AppendsLinks (slots l.initial.slots) (slots l.slots) l.initial.links.items l.links.items (of_nameds (take l.argument-index l.named))
