@@ -21,6 +21,14 @@ cut z = int_div z (pos (10 ^ 18))
 abbrev pub signed : Bool → ℕ → ℤ
 signed minus n = if minus then neg_ℤ (pos n) else pos n
 
+-- the number of a sign, a whole part and a fraction in units, which is below 1
+abbrev pub IsMadeOf : Bool → ℕ → ℕ → ℤ → Type 0
+IsMadeOf minus whole fraction z = (z ≡ signed minus (whole * 10 ^ 18 + fraction)) × (fraction < 10 ^ 18)
+
+-- digits alone, or none, of a number below 2^64
+abbrev pub AreDigitsThatFit : List ℕ → Type 0
+AreDigitsThatFit text = AllDigits 10 text × (digits_value 10 text < 2 ^ 64)
+
 -- A text without a sign gives a size in units and a count of digits after the point: digits alone, or digits around a point, with one digit at least in all, a whole part below 2^64 and at most 18 digits after the point.
 abbrev pub ReadsUnsigned : List ℕ → ℕ → Option ℕ → Type 0
 ReadsUnsigned text n places =
@@ -29,9 +37,21 @@ ReadsUnsigned text n places =
     × (digits_value 10 before < 2 ^ 64) × (length after ≤ 18)
     × (n ≡ digits_value 10 before * 10 ^ 18 + digits_value 10 after * 10 ^ (18 - length after)) × (places ≡ Some (length after)))
 
+-- the text gives a size, and it is below 2^64
+abbrev pub ReadsInRange : List ℕ → ℕ → Option ℕ → Type 0
+ReadsInRange text n places = ReadsUnsigned text n places × (n < 2 ^ 64 * 10 ^ 18)
+
+-- a text without a sign that gives no size
+abbrev pub GivesNoSize : List ℕ → Type 0
+GivesNoSize text = (n : ℕ) (places : Option ℕ) → ReadsUnsigned text n places → ⊥
+
 -- The text is the number z with this count of digits after its point: the syntax's NumberLiteral, and beside it a `+` at the start and a point with no digit on one side.
 abbrev pub Reads : List ℕ → ℤ → Option ℕ → Type 0
 Reads text z places = (n : ℕ) × ReadsUnsigned (without_leading_sign text) n places × (z ≡ signed (starts_with_minus text) n)
+
+-- the text is no number
+abbrev pub IsNoNumber : List ℕ → Type 0
+IsNoNumber text = (z : ℤ) (places : Option ℕ) → Reads text z places → ⊥
 
 -- how many digits a fraction in units has up to the last that is not 0, which is the fewest places that hold it: the operand w of Unicode TR35, Plural Operand Meanings
 unfoldable pub significant_places : ℕ → ℕ
@@ -42,16 +62,24 @@ abbrev pub text_places : ℕ → Option ℕ → Option ℕ
 text_places fraction None = if significant_places fraction == 0 then None else Some (significant_places fraction)
 text_places fraction (Some minimum) = Some (max (significant_places fraction) (min minimum 18))
 
+-- the text is the number z with as many digits after its point as a minimum asks for
+abbrev pub ReadsBack : ℤ → Option ℕ → List ℕ → Type 0
+ReadsBack z minimum text = Reads text z (text_places (unsigned_abs z % 10 ^ 18) minimum)
+
 -- a digit stands at the start, and no digit after a 0 at the start
 abbrev pub IsPlain : List ℕ → Type 0
 IsPlain text = IsInRange 48 57 (slice_index text 0) × (slice_index text 0 ≡ 48 → ¬ IsInRange 48 57 (slice_index text 1))
 
 -- The text of the number z with a minimum of digits after the point.
 pub record IsText (z : ℤ) (minimum : Option ℕ) (text : List ℕ) : Type 0 where
-  pub reads : Reads text z (text_places (unsigned_abs z % 10 ^ 18) minimum)
+  pub reads : ReadsBack z minimum text
   pub plain : IsPlain (without_leading_sign text)
   pub no_plus : slice_index text 0 ≢ 43
   pub minus_below_zero : IsTrue (starts_with_minus text) → z <ℤ pos 0
+
+-- it has no other text with this minimum
+abbrev pub IsOnlyText : ℤ → Option ℕ → List ℕ → Type 0
+IsOnlyText z minimum text = (other : List ℕ) → IsText z minimum other → other ≡ text
 
 -- the digit at a place after the point
 abbrev pub place_digit : ℕ → ℕ → ℕ

@@ -1,5 +1,6 @@
 -- The plural rules of languages in a table. A line is a language tag, a tab, the cardinal rules, a tab and the ordinal rules, or a comment.
-use Rattle.std.specs.Prelude.{ℕ, Bool, ◌==◌, ◌&&◌, not, if◌then◌else◌, List, [], ◌∷◌, ◌++◌, map, length, slice_index, Option, Some, None, find}
+use Rattle.std.specs.Prelude.{◌≡◌, ℕ, Bool, ◌==◌, ◌&&◌, not, if◌then◌else◌, List, [], ◌∷◌, ◌++◌, map, length, slice_index, Option, Some, None, find, MatchOption}
+use Rattle.std.specs.Borrow.{Bor}
 use Rattle.std.specs.List.{before_first, after_first, list_any, list_all, zip}
 use Rattle.std.specs.Option.{option_and_then, option_or}
 use Rattle.std.specs.Str.Lines.{lines}
@@ -48,6 +49,10 @@ rules_at table tag = option_and_then rules_in (find (is_line_of tag) (lines tabl
 abbrev pub shortened : List ℕ → List (List ℕ)
 shortened [] = [] ∷ []
 shortened (b ∷ more) = map (λ t. b ∷ t) (shortened more) ++ (if is_separator b then [] ∷ [] else [])
+
+-- the tag without its last subtag, or none where the tag has just one
+abbrev pub IsParentOf : List ℕ → Option (Bor (List ℕ)) → Type 0
+IsParentOf tag parent = MatchOption parent (shortened tag ≡ tag ∷ []) (λ prefix. shortened tag ≡ tag ∷ shortened prefix.now)
 
 -- the first that a table has rules for
 abbrev pub first_rules : List ℕ → List (List ℕ) → Option Texts

@@ -1,9 +1,9 @@
 -- Numbers with options: their content, what a text reads as, and what whole types take out of them.
-use Rattle.std.specs.Prelude.{◌≡◌, ℕ, ℤ, ◌≤ℤ◌, Bool, ◌&&◌, List, Option}
+use Rattle.std.specs.Prelude.{◌≡◌, ℕ, ℤ, ◌≤ℤ◌, Bool, ◌&&◌, List, Option, Result, MatchResult}
 use Rattle.std.specs.Int.{int_min, int_max}
 use Rattle.std.specs.Ordering.{int_eq}
 use Rattle.fluent_intl.specs.declared.number.FluentNumber.{FluentNumber}
-use Rattle.fluent_intl.specs.Decimal.{Reads, whole, cut}
+use Rattle.fluent_intl.specs.Decimal.{IsText, Reads, decimal_text, whole, cut}
 use Rattle.fluent_intl.specs.Options.{Options, options_of, default_options}
 use Rattle.fluent_intl.specs.SameContent.{same_content}
 
@@ -18,6 +18,17 @@ number_of n = record { value = n.value; options = options_of n.options }
 -- the number z with a minimum of fraction digits, the other options as by default
 abbrev pub number_with : ℤ → Option ℕ → Number
 number_with z minimum = record { value = z; options = record default_options { minimum_fraction_digits = minimum } }
+
+-- the text of a number, with its minimum of fraction digits
+abbrev pub text_of : FluentNumber → List ℕ
+text_of n = decimal_text n.value n.options.minimum_fraction_digits
+
+abbrev pub IsTextOf : FluentNumber → List ℕ → Type 0
+IsTextOf n text = IsText n.value n.options.minimum_fraction_digits text
+
+-- where P, the answer has this content, and elsewhere it is an error
+abbrev pub NumberIff : {E : Type 0} → Result FluentNumber E → Type 0 → Number → Type 0
+NumberIff r P content = MatchResult r (λ n. P × (number_of n ≡ content)) (λ _. P → ⊥)
 
 -- the text is this number (Fluent's NumberLiteral, as `Reads` says), whose minimum of fraction digits is the count of digits after the point
 abbrev pub ReadsNumber : List ℕ → Number → Type 0

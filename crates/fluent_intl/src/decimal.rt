@@ -6,9 +6,9 @@ mod laws;
 mod read;
 mod text;
 
-ghost use Rattle.std.specs.Prelude.{◌≡◌, ◌+◌, ◌*◌, ◌^◌, ◌<◌, ◌≤◌, pos, unsigned_abs, MatchOption, IsTrue, ◌↔◌, ◌<ℤ◌, ◌*ℤ◌, ◌/◌, ◌%◌, int_div};
+ghost use Rattle.std.specs.Prelude.{◌≡◌, ◌*◌, ◌^◌, ◌<◌, ◌≤◌, pos, unsigned_abs, MatchOption, IsTrue, ◌↔◌, ◌<ℤ◌, ◌*ℤ◌, ◌/◌, ◌%◌, int_div};
 ghost use Rattle.std.specs.Result.{OkIff};
-ghost use Rattle.fluent_intl.specs.Decimal.{signed};
+ghost use Rattle.fluent_intl.specs.Decimal.{IsMadeOf, signed};
 
 pub use backward::DecimalText;
 pub use errors::{NotANumber, OutOfRange};
@@ -54,8 +54,7 @@ fn signed_units(negative: bool, size: u128) -> i128
 impl Decimal {
     /// The number with this sign, this whole part and this fraction in units of 10^-18. `None` where the fraction is 1 or more.
     pub fn new(negative: bool, whole: u64, fraction: u64) -> Option<Decimal>
-        ensures { MatchOption result (10 ^ 18 ≤ fraction)
-            (λ d. (d ≡ signed negative (whole * 10 ^ 18 + fraction)) × (fraction < 10 ^ 18)) }
+        ensures { MatchOption result (10 ^ 18 ≤ fraction) (IsMadeOf negative whole fraction) }
     {
         let fraction = fraction as u128;
         if fraction >= UNIT {

@@ -1,9 +1,9 @@
 //! The plural rules of languages: a table of them, and finding a language in such a table.
-ghost use Rattle.std.specs.Prelude.{◌≡◌, ◌==◌, ◌∷◌, [], ◌<◌, ◌&&◌, length, find, MatchOption, IfSome};
+ghost use Rattle.std.specs.Prelude.{◌≡◌, ◌==◌, ◌<◌, ◌&&◌, length, find, IfSome};
 ghost use Rattle.std.specs.Option.{option_map};
 ghost use Rattle.std.specs.Str.Lines.{lines};
 ghost use Rattle.fluent_intl.specs.LanguageTable.{cldr_plurals};
-ghost use Rattle.fluent_intl.specs.Languages.{alike, content, folded, is_line_of, is_separator, rules_at, rules_in, rules_of, same_tag, shortened};
+ghost use Rattle.fluent_intl.specs.Languages.{IsParentOf, alike, content, folded, is_line_of, is_separator, rules_at, rules_in, rules_of, same_tag};
 
 use crate::table::PLURALS;
 
@@ -89,9 +89,7 @@ fn is_same_tag(a: &[u8], b: &[u8]) -> bool
 /// The tag without its last subtag, unless it has just one.
 fn parent(tag: &[u8]) -> Option<&[u8]>
     ensures shorter { IfSome result (λ prefix. length prefix.now < length tag.now) }
-    ensures steps { MatchOption result
-        (shortened tag.now ≡ tag.now ∷ [])
-        (λ prefix. shortened tag.now ≡ tag.now ∷ shortened prefix.now) }
+    ensures steps { IsParentOf tag.now result }
 {
     for end in (0..tag.len()).rev() {
         if is_separator(tag[end]) {

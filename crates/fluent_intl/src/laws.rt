@@ -1,9 +1,5 @@
 //! Laws of equality and hashing.
-ghost use Rattle.std.specs.Prelude.{◌≡◌, ◌↔◌, ℤ, IsTrue};
-ghost use Rattle.fluent_intl.specs.declared.options.FluentNumberType.{FluentNumberType};
-ghost use Rattle.fluent_intl.specs.declared.options.FluentNumberStyle.{FluentNumberStyle};
-ghost use Rattle.fluent_intl.specs.declared.options.FluentNumberCurrencyDisplayStyle.{FluentNumberCurrencyDisplayStyle};
-ghost use Rattle.fluent_intl.specs.declared.options.FluentNumberOptions.{FluentNumberOptions};
+ghost use Rattle.std.specs.Prelude.{◌≡◌, ◌↔◌, IsTrue};
 
 use crate::decimal::Decimal;
 use crate::operands::PluralOperands;
@@ -11,25 +7,16 @@ use crate::options::{
     FluentNumberCurrencyDisplayStyle, FluentNumberOptions, FluentNumberStyle, FluentNumberType,
 };
 use crate::rule_texts::RuleFault;
+use crate::says::Says;
 use std::hash::Hash;
 
 /// Equal decimals, number types, styles, currency styles and options feed a hasher alike.
 pub fn equal_values_hash_alike()
-    ensures decimals { (a b : ℤ) → IsTrue (⟦<Decimal as PartialEq>⟧.eq a b) →
-        ⟦<Decimal as Hash>⟧.hash_input a ≡ ⟦<Decimal as Hash>⟧.hash_input b }
-    ensures types { (a b : FluentNumberType) → IsTrue (⟦<FluentNumberType as PartialEq>⟧.eq a b) →
-        ⟦<FluentNumberType as Hash>⟧.hash_input a ≡ ⟦<FluentNumberType as Hash>⟧.hash_input b }
-    ensures styles { (a b : FluentNumberStyle) → IsTrue
-        (⟦<FluentNumberStyle as PartialEq>⟧.eq a b) →
-        ⟦<FluentNumberStyle as Hash>⟧.hash_input a ≡ ⟦<FluentNumberStyle as Hash>⟧.hash_input b }
-    ensures currencies { (a b : FluentNumberCurrencyDisplayStyle) →
-        IsTrue (⟦<FluentNumberCurrencyDisplayStyle as PartialEq>⟧.eq a b) →
-        ⟦<FluentNumberCurrencyDisplayStyle as Hash>⟧.hash_input a
-        ≡ ⟦<FluentNumberCurrencyDisplayStyle as Hash>⟧.hash_input b }
-    ensures options { (a b : FluentNumberOptions) →
-        IsTrue (⟦<FluentNumberOptions as PartialEq>⟧.eq a b) →
-        ⟦<FluentNumberOptions as Hash>⟧.hash_input a ≡ ⟦<FluentNumberOptions as Hash>⟧.hash_input
-        b }
+    ensures decimals { ⟦<Decimal as Says>⟧.hashes_alike }
+    ensures types { ⟦<FluentNumberType as Says>⟧.hashes_alike }
+    ensures styles { ⟦<FluentNumberStyle as Says>⟧.hashes_alike }
+    ensures currencies { ⟦<FluentNumberCurrencyDisplayStyle as Says>⟧.hashes_alike }
+    ensures options { ⟦<FluentNumberOptions as Says>⟧.hashes_alike }
 {
     hash_alike::<Decimal>();
     hash_alike::<FluentNumberType>();
@@ -40,7 +27,7 @@ pub fn equal_values_hash_alike()
 
 /// Equal values of a type feed a hasher alike.
 fn hash_alike<T: Hash>()
-    ensures { (a b : T) → IsTrue (T.eq a b) → T.hash_input a ≡ T.hash_input b }
+    ensures { ⟦<T as Says>⟧.hashes_alike }
 {}
 
 /// Whether two operands have the same content, which is what `==` of them says.

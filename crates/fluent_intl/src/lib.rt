@@ -11,6 +11,7 @@ pub mod operands;
 pub mod options;
 pub mod plurals;
 pub mod rule_texts;
+mod says;
 mod table;
 
 pub use decimal::{

@@ -1,8 +1,8 @@
 //! Numbers with options.
-ghost use Rattle.std.specs.Prelude.{◌≡◌, ◌↔◌, ◌^◌, ◌<◌, pos, unsigned_abs, IfOk, IfNone, IsOk, IsTrue, MatchResult};
+ghost use Rattle.std.specs.Prelude.{◌≡◌, ◌↔◌, ◌^◌, ◌<◌, pos, unsigned_abs, IfOk, IfNone, IsOk, IsTrue};
 ghost use Rattle.std.specs.Cow.{cow_str_bytes};
-ghost use Rattle.fluent_intl.specs.Decimal.{IsText, decimal_text, whole};
-ghost use Rattle.fluent_intl.specs.Number.{number_of, number_with};
+ghost use Rattle.fluent_intl.specs.Decimal.{whole};
+ghost use Rattle.fluent_intl.specs.Number.{IsTextOf, NumberIff, number_of, number_with, text_of};
 
 use crate::decimal::{Decimal, DecimalText, NotANumber, OutOfRange};
 use crate::options::FluentNumberOptions;
@@ -41,7 +41,7 @@ impl FluentNumber {
 
     /// The text of the number, with its minimum of fraction digits, of which 18 count at most. Takes no memory.
     pub fn text(&self) -> DecimalText
-        ensures { result ≡ decimal_text self.now.value self.now.options.minimum_fraction_digits }
+        ensures { result ≡ text_of self.now }
     {
         self.value.text(self.options.minimum_fraction_digits)
     }
@@ -52,10 +52,8 @@ impl FluentNumber {
     ///
     /// An allocation failed.
     pub fn as_string(&self, alloc: Global) -> Result<CowStr<'static>, AllocError>
-        ensures bytes { IfOk result (λ text. cow_str_bytes text
-            ≡ decimal_text self.now.value self.now.options.minimum_fraction_digits) }
-        ensures text { IfOk result (λ text. IsText self.now.value
-            self.now.options.minimum_fraction_digits (cow_str_bytes text)) }
+        ensures bytes { IfOk result (λ text. cow_str_bytes text ≡ text_of self.now) }
+        ensures text { IfOk result (λ text. IsTextOf self.now (cow_str_bytes text)) }
     {
         let text = self
             .value
@@ -65,17 +63,14 @@ impl FluentNumber {
 
     /// A whole number of 128 bits with a sign, with the default options. `OutOfRange` where its size is above `u64::MAX`.
     pub fn try_from_i128(value: i128) -> Result<FluentNumber, OutOfRange>
-        ensures { MatchResult result (λ n. (unsigned_abs value < 2 ^ 64)
-            × (number_of n ≡ number_with (whole value) None))
-            (λ _. unsigned_abs value < 2 ^ 64 → ⊥) }
+        ensures { NumberIff result (unsigned_abs value < 2 ^ 64) (number_with (whole value) None) }
     {
         Ok(plain(Decimal::try_from_i128(value)?))
     }
 
     /// A whole number of 128 bits, with the default options. `OutOfRange` where it is above `u64::MAX`.
     pub fn try_from_u128(value: u128) -> Result<FluentNumber, OutOfRange>
-        ensures { MatchResult result (λ n. (value < 2 ^ 64)
-            × (number_of n ≡ number_with (whole (pos value)) None)) (λ _. value < 2 ^ 64 → ⊥) }
+        ensures { NumberIff result (value < 2 ^ 64) (number_with (whole (pos value)) None) }
     {
         Ok(plain(Decimal::try_from_u128(value)?))
     }
@@ -96,10 +91,10 @@ impl FromStr for FluentNumber {
     type Err = NotANumber;
 
     ghost use Rattle.std.specs.Prelude.{MatchResult};
-    ghost use Rattle.fluent_intl.specs.Decimal.{Reads};
+    ghost use Rattle.fluent_intl.specs.Decimal.{IsNoNumber};
     ghost use Rattle.fluent_intl.specs.Number.{number_of, ReadsNumber};
 
-    ghost from_str_gives = { λ text result. MatchResult result (λ n. ReadsNumber text (number_of n)) (λ _. (z : _) (places : _) → Reads text z places → ⊥) };
+    ghost from_str_gives = { λ text result. MatchResult result (λ n. ReadsNumber text (number_of n)) (λ _. IsNoNumber text) };
 
     fn from_str(text: &str) -> Result<FluentNumber, NotANumber> {
         match Decimal::from_text(text) {

@@ -1,10 +1,10 @@
 //! Reading a number from its text.
 
-ghost use Rattle.std.specs.Prelude.{◌≡◌, ◌*◌, ◌^◌, ◌<◌, ◌==◌, MatchOption, MatchResult};
+ghost use Rattle.std.specs.Prelude.{◌≡◌, ◌==◌, MatchOption, MatchResult};
 ghost use Rattle.std.specs.List.{position};
 ghost use Rattle.std.specs.Option.{SomeIff};
-ghost use Rattle.std.specs.Str.Parse.{AllDigits, digits_value, starts_with_minus, without_leading_sign};
-ghost use Rattle.fluent_intl.specs.Decimal.{ReadsUnsigned, Reads};
+ghost use Rattle.std.specs.Str.Parse.{digits_value, starts_with_minus, without_leading_sign};
+ghost use Rattle.fluent_intl.specs.Decimal.{AreDigitsThatFit, GivesNoSize, IsNoNumber, Reads, ReadsInRange};
 
 use super::{Decimal, NotANumber, UNIT, signed_units};
 
@@ -14,8 +14,7 @@ impl Decimal {
     /// An optional `+` or `-`, digits, and an optional point, which may stand before, among or after them, with one digit at least.
     /// `NotANumber` for every other text, for a whole part above `u64::MAX`, and for more than 18 digits after the point.
     pub fn from_text(text: &str) -> Result<(Decimal, Option<usize>), NotANumber>
-        ensures { MatchResult result (λ p. Reads text.now p.0 p.1)
-            (λ _. (z : _) (places : _) → Reads text.now z places → ⊥) }
+        ensures { MatchResult result (λ p. Reads text.now p.0 p.1) (λ _. IsNoNumber text.now) }
     {
         let bytes = text.as_bytes();
         let negative = has_minus(bytes);
@@ -49,8 +48,7 @@ fn without_sign(text: &[u8]) -> &[u8]
 
 /// The size in units of a text without a sign, and the count of its digits after the point.
 fn unsigned_units(text: &[u8]) -> Option<(u128, Option<usize>)>
-    ensures { MatchOption result ((n : _) (places : _) → ReadsUnsigned text.now n places → ⊥)
-        (λ p. ReadsUnsigned text.now p.0 p.1 × (p.0 < 2 ^ 64 * 10 ^ 18)) }
+    ensures { MatchOption result (GivesNoSize text.now) (λ p. ReadsInRange text.now p.0 p.1) }
 {
     match point_in(text) {
         None => whole_units(text),
@@ -67,8 +65,7 @@ fn point_in(text: &[u8]) -> Option<usize>
 
 fn whole_units(text: &[u8]) -> Option<(u128, Option<usize>)>
     requires { position (λ b. b == 46) text.now ≡ None }
-    ensures { MatchOption result ((n : _) (places : _) → ReadsUnsigned text.now n places → ⊥)
-        (λ p. ReadsUnsigned text.now p.0 p.1 × (p.0 < 2 ^ 64 * 10 ^ 18)) }
+    ensures { MatchOption result (GivesNoSize text.now) (λ p. ReadsInRange text.now p.0 p.1) }
 {
     if text.is_empty() {
         return None;
@@ -81,8 +78,7 @@ fn whole_units(text: &[u8]) -> Option<(u128, Option<usize>)>
 
 fn pointed_units(text: &[u8], at: usize) -> Option<(u128, Option<usize>)>
     requires { position (λ b. b == 46) text.now ≡ Some at }
-    ensures { MatchOption result ((n : _) (places : _) → ReadsUnsigned text.now n places → ⊥)
-        (λ p. ReadsUnsigned text.now p.0 p.1 × (p.0 < 2 ^ 64 * 10 ^ 18)) }
+    ensures { MatchOption result (GivesNoSize text.now) (λ p. ReadsInRange text.now p.0 p.1) }
 {
     let before = &text[..at];
     let after = &text[at + 1..];
@@ -101,8 +97,7 @@ fn pointed_units(text: &[u8], at: usize) -> Option<(u128, Option<usize>)>
 
 /// The number of the digits, where they are digits and it fits.
 pub(crate) fn value_of(digits: &[u8]) -> Option<u64>
-    ensures { SomeIff result (AllDigits 10 digits.now × (digits_value 10 digits.now < 2 ^ 64))
-        (digits_value 10 digits.now) }
+    ensures { SomeIff result (AreDigitsThatFit digits.now) (digits_value 10 digits.now) }
 {
     let mut value = 0u64;
     for digit in digits {

@@ -1,9 +1,9 @@
 //! The text of a number.
 
-ghost use Rattle.std.specs.Prelude.{◌≡◌, ◌≤◌, ◌%◌, ◌^◌, ℕ, List, unsigned_abs, IfOk};
+ghost use Rattle.std.specs.Prelude.{◌≡◌, ◌≤◌, IfOk};
 ghost use Rattle.std.specs.Option.{ForSome};
 ghost use Rattle.std.specs.String.{string_bytes};
-ghost use Rattle.fluent_intl.specs.Decimal.{IsText, Reads, decimal_text, significant_places, text_places};
+ghost use Rattle.fluent_intl.specs.Decimal.{IsOnlyText, IsText, ReadsBack, decimal_text, significant_places, text_places};
 
 use super::Decimal;
 use super::backward::DecimalText;
@@ -63,10 +63,8 @@ impl Decimal {
     pub fn as_text(&self, alloc: Global, minimum: Option<usize>) -> Result<String, AllocError>
         ensures bytes { IfOk result (λ s. string_bytes s ≡ decimal_text self.now minimum) }
         ensures text { IfOk result (λ s. IsText self.now minimum (string_bytes s)) }
-        ensures reads_back { IfOk result (λ s. Reads (string_bytes s) self.now
-            (text_places (unsigned_abs self.now % 10 ^ 18) minimum)) }
-        ensures only { IfOk result (λ s. (other : List ℕ) → IsText self.now minimum other →
-            other ≡ string_bytes s) }
+        ensures reads_back { IfOk result (λ s. ReadsBack self.now minimum (string_bytes s)) }
+        ensures only { IfOk result (λ s. IsOnlyText self.now minimum (string_bytes s)) }
     {
         let written = self.text(minimum);
         String::from_str(alloc, written.as_str())
