@@ -1,6 +1,6 @@
 -- What is kept of patterns is theirs, and stays so while ids keep their numbers and contents their classes.
 use Rattle.std.specs.Prelude.{◌≡◌, ◌&&◌, ℕ, zero, suc, List, [], ◌∷◌, ◌++◌, length, map, take, slice_get, is_none, Bool, true, false, cond, Option, Some, None, IfSome, refl, ◌<◌, ◌+◌}
-use Rattle.std.specs.Option.{option_map, option_copied, unwrap_or}
+use Rattle.std.specs.Option.{option_map, unwrap_or}
 use Rattle.std.specs.Global.{Box}
 use Rattle.std.specs.List.{list_all}
 use Rattle.std.specs.Str.{bytes_eq}
@@ -9,9 +9,8 @@ use Rattle.std.proofs.lemmas.Bool.{and_parts}
 use Rattle.std.proofs.lemmas.List.{map_more}
 use Rattle.fluent_tree.specs.Tree.{Text, Pattern, nothing, more, text, placeable}
 use Rattle.fluent_tree.specs.References.{references}
-use Rattle.fluent_tree.specs.View.{pattern_view, value_view}
+use Rattle.fluent_tree.specs.View.{pattern_view}
 use Rattle.fluent_tree.specs.declared.ast.Attribute.{Attribute}
-use Rattle.fluent_tree.specs.declared.ast.Pattern as code
 use Rattle.fluent_links.specs.Classes.{Grows, HasClass}
 use Rattle.fluent_links.specs.Linked.{IsOf, are_some, class_of, still_of}
 use Rattle.fluent_links.specs.Links.{KeepsNumbers}
@@ -226,8 +225,3 @@ module _ {F : Type 0} where
   pub found_linked : (r : Option (Bor (Slot F))) (ss : List (Text × Option (Slot F))) (t : List Pattern) (id : Text) → option_map (λ s. s.now) r ≡ named id ss → AreLinked ss t → IfSome r (λ s. IsLinked (number ss) t s.now)
   found_linked None ss t id is h = tt
   found_linked (Some s) ss t id is h = h id s.now (sym is)
-
--- a value that is borrowed
-pub borrowed_value : (r : Option (Bor code.Pattern)) (v : Option code.Pattern) → option_copied r ≡ v → option_map (λ p. pattern_view p.now) r ≡ value_view v
-borrowed_value None v h = ap value_view h
-borrowed_value (Some p) v h = ap value_view h

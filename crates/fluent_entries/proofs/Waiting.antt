@@ -17,28 +17,29 @@ use Rattle.fluent_links.specs.Links.{KeepsNumbers}
 use Rattle.fluent_meaning.specs.Arguments.{Map, get, set, set_all}
 use Rattle.fluent_meaning.specs.Bundle.{added, overridden, not_added, a_message, a_term}
 use Rattle.fluent_meaning.specs.Bundle as m
-use Rattle.fluent_meaning.specs.Errors.{Kind, message_kind, overriding, term_kind}
+use Rattle.fluent_meaning.specs.Errors.{message_kind, overriding, term_kind}
+use Rattle.fluent_entries.specs.declared.adding.Parts.{Parts}
 use Rattle.fluent_entries.specs.declared.ids.Ids.{Ids}
 use Rattle.fluent_entries.specs.declared.ready.Ready.{Ready}
 use Rattle.fluent_entries.specs.declared.slot.Kept.{Kept}
-use Rattle.fluent_entries.specs.KeptLinks.{IsKeptOf, patterns}
+use Rattle.fluent_entries.specs.KeptLinks.{IsKeptOf, borrowed_value, patterns}
+use Rattle.fluent_entries.specs.ErrorView.{kind_view}
 use Rattle.fluent_entries.specs.IdNumbers.{numbers}
-use Rattle.fluent_entries.specs.WaitingEntries.{AreMarked, AreReady, HasParts, IsJunk, IsReady, Waits, at_place, given, given_at, given_by, has_number, is_marked}
+use Rattle.fluent_entries.specs.Inside.WaitingEntries.{AreMarked, AreReady, HasParts, IsJunk, IsReady, Waits, at_place, given, given_at, given_by, has_number, is_marked}
 use Rattle.fluent_entries.proofs.Linking.{still_kept_of}
 use Rattle.fluent_entries.proofs.OneId.{got_set, one_id}
 
-module _ {C : Type 0} where
-  pub overridden_given : (es : List Entry) (ids : Map (m.Entry C)) → set_all (given es) ids ≡ overridden es ids
-  overridden_given [] ids = refl
-  overridden_given (message_entry id v a ∷ es) ids = overridden_given es (set id (a_message v a) ids)
-  overridden_given (term_entry id p a ∷ es) ids = overridden_given es (set id (a_term p a) ids)
-  overridden_given (junk_entry c ∷ es) ids = overridden_given es ids
+pub overridden_given : (es : List Entry) (ids : Map (m.Entry Text)) → set_all (given es) ids ≡ overridden es ids
+overridden_given [] ids = refl
+overridden_given (message_entry id v a ∷ es) ids = overridden_given es (set id (a_message v a) ids)
+overridden_given (term_entry id p a ∷ es) ids = overridden_given es (set id (a_term p a) ids)
+overridden_given (junk_entry c ∷ es) ids = overridden_given es ids
 
-  pub given_append : (es fs : List Entry) → given {C = C} (es ++ fs) ≡ given es ++ given fs
-  given_append [] fs = refl
-  given_append (message_entry id v a ∷ es) fs = ap (λ r. (id, a_message v a) ∷ r) (given_append es fs)
-  given_append (term_entry id p a ∷ es) fs = ap (λ r. (id, a_term p a) ∷ r) (given_append es fs)
-  given_append (junk_entry c ∷ es) fs = given_append es fs
+pub given_append : (es fs : List Entry) → given (es ++ fs) ≡ given es ++ given fs
+given_append [] fs = refl
+given_append (message_entry id v a ∷ es) fs = ap (λ r. (id, a_message v a) ∷ r) (given_append es fs)
+given_append (term_entry id p a ∷ es) fs = ap (λ r. (id, a_term p a) ∷ r) (given_append es fs)
+given_append (junk_entry c ∷ es) fs = given_append es fs
 
 none_at : {A : Type 0} (i : ℕ) (x : A) → slice_get [] i ≡ Some x → ⊥
 none_at zero x there = cc
@@ -70,58 +71,57 @@ same_at es i e x there is = some_is e x (sym there ∙ slice_get_read es (length
 
 -- ---- maps
 
-module _ {C : Type 0} where
-  pub set_more : (xs ys : List (Text × m.Entry C)) (ids : Map (m.Entry C)) → set_all (xs ++ ys) ids ≡ set_all ys (set_all xs ids)
-  set_more [] ys ids = refl
-  set_more (x ∷ xs) ys ids = set_more xs ys (set x.0 x.1 ids)
+pub set_more : (xs ys : List (Text × m.Entry Text)) (ids : Map (m.Entry Text)) → set_all (xs ++ ys) ids ≡ set_all ys (set_all xs ids)
+set_more [] ys ids = refl
+set_more (x ∷ xs) ys ids = set_more xs ys (set x.0 x.1 ids)
 
-  -- one entry whose id is taken
-  pub added_taken : (e : code.Entry) (kind : Kind) (id : Text) (v : Option Pattern) (ps : List Pattern) → HasParts e kind id v ps → (ids : Map (m.Entry C)) → is_some (get id ids) ≡ true → added (entry_view e ∷ []) ids ≡ ids
-  added_taken (entries.Message x) kind id v ps parts ids taken = ap (λ b. cond b ids (set x.id.name.now (a_message (value_view x.value) (map attribute_view x.attributes.items)) ids)) (ap (λ t. is_some (get t ids)) parts.1 ∙ taken)
-  added_taken (entries.Term x) kind id v ps parts ids taken = ap (λ b. cond b ids (set x.id.name.now (a_term (pattern_view x.value) (map attribute_view x.attributes.items)) ids)) (ap (λ t. is_some (get t ids)) parts.1 ∙ taken)
-  added_taken (entries.Junk c) kind id v ps parts ids taken = absurd parts
+-- one entry whose id is taken
+pub added_taken : (e : code.Entry) (p : Parts) → HasParts e p → (ids : Map (m.Entry Text)) → is_some (get p.id.now ids) ≡ true → added (entry_view e ∷ []) ids ≡ ids
+added_taken (entries.Message x) p parts ids taken = ap (λ b. cond b ids (set x.id.name.now (a_message (value_view x.value) (map attribute_view x.attributes.items)) ids)) (ap (λ t. is_some (get t ids)) parts.1 ∙ taken)
+added_taken (entries.Term x) p parts ids taken = ap (λ b. cond b ids (set x.id.name.now (a_term (pattern_view x.value) (map attribute_view x.attributes.items)) ids)) (ap (λ t. is_some (get t ids)) parts.1 ∙ taken)
+added_taken (entries.Junk c) p parts ids taken = absurd parts
 
-  pub told_taken : (e : code.Entry) (kind : Kind) (id : Text) (v : Option Pattern) (ps : List Pattern) → HasParts e kind id v ps → (ids : Map (m.Entry C)) → is_some (get id ids) ≡ true → not_added (entry_view e ∷ []) ids ≡ overriding kind id ∷ []
-  told_taken (entries.Message x) kind id v ps parts ids taken =
-      ap (λ b. cond b (overriding message_kind x.id.name.now ∷ []) [] ++ []) (ap (λ t. is_some (get t ids)) parts.1 ∙ taken)
-      ∙ (ap (λ k. overriding k x.id.name.now ∷ []) (sym parts.0) ∙ ap (λ t. overriding kind t ∷ []) parts.1)
-  told_taken (entries.Term x) kind id v ps parts ids taken =
-      ap (λ b. cond b (overriding term_kind x.id.name.now ∷ []) [] ++ []) (ap (λ t. is_some (get t ids)) parts.1 ∙ taken)
-      ∙ (ap (λ k. overriding k x.id.name.now ∷ []) (sym parts.0) ∙ ap (λ t. overriding kind t ∷ []) parts.1)
-  told_taken (entries.Junk c) kind id v ps parts ids taken = absurd parts
+pub told_taken : (e : code.Entry) (p : Parts) → HasParts e p → (ids : Map (m.Entry Text)) → is_some (get p.id.now ids) ≡ true → not_added (entry_view e ∷ []) ids ≡ overriding (kind_view p.kind) p.id.now ∷ []
+told_taken (entries.Message x) p parts ids taken =
+    ap (λ b. cond b (overriding message_kind x.id.name.now ∷ []) [] ++ []) (ap (λ t. is_some (get t ids)) parts.1 ∙ taken)
+    ∙ (ap (λ k. overriding k x.id.name.now ∷ []) (sym parts.0) ∙ ap (λ t. overriding (kind_view p.kind) t ∷ []) parts.1)
+told_taken (entries.Term x) p parts ids taken =
+    ap (λ b. cond b (overriding term_kind x.id.name.now ∷ []) [] ++ []) (ap (λ t. is_some (get t ids)) parts.1 ∙ taken)
+    ∙ (ap (λ k. overriding k x.id.name.now ∷ []) (sym parts.0) ∙ ap (λ t. overriding (kind_view p.kind) t ∷ []) parts.1)
+told_taken (entries.Junk c) p parts ids taken = absurd parts
 
-  -- one whose id is free
-  pub added_free : (e : code.Entry) (kind : Kind) (id : Text) (v : Option Pattern) (ps : List Pattern) → HasParts e kind id v ps → (ids : Map (m.Entry C)) → is_some (get id ids) ≡ false → set_all (given (entry_view e ∷ [])) ids ≡ added (entry_view e ∷ []) ids
-  added_free (entries.Message x) kind id v ps parts ids free = sym (ap (λ b. cond b ids (set x.id.name.now (a_message (value_view x.value) (map attribute_view x.attributes.items)) ids)) (ap (λ t. is_some (get t ids)) parts.1 ∙ free))
-  added_free (entries.Term x) kind id v ps parts ids free = sym (ap (λ b. cond b ids (set x.id.name.now (a_term (pattern_view x.value) (map attribute_view x.attributes.items)) ids)) (ap (λ t. is_some (get t ids)) parts.1 ∙ free))
-  added_free (entries.Junk c) kind id v ps parts ids free = absurd parts
+-- one whose id is free
+pub added_free : (e : code.Entry) (p : Parts) → HasParts e p → (ids : Map (m.Entry Text)) → is_some (get p.id.now ids) ≡ false → set_all (given (entry_view e ∷ [])) ids ≡ added (entry_view e ∷ []) ids
+added_free (entries.Message x) p parts ids free = sym (ap (λ b. cond b ids (set x.id.name.now (a_message (value_view x.value) (map attribute_view x.attributes.items)) ids)) (ap (λ t. is_some (get t ids)) parts.1 ∙ free))
+added_free (entries.Term x) p parts ids free = sym (ap (λ b. cond b ids (set x.id.name.now (a_term (pattern_view x.value) (map attribute_view x.attributes.items)) ids)) (ap (λ t. is_some (get t ids)) parts.1 ∙ free))
+added_free (entries.Junk c) p parts ids free = absurd parts
 
-  pub told_free : (e : code.Entry) (kind : Kind) (id : Text) (v : Option Pattern) (ps : List Pattern) → HasParts e kind id v ps → (ids : Map (m.Entry C)) → is_some (get id ids) ≡ false → not_added (entry_view e ∷ []) ids ≡ []
-  told_free (entries.Message x) kind id v ps parts ids free = ap (λ b. cond b (overriding message_kind x.id.name.now ∷ []) [] ++ []) (ap (λ t. is_some (get t ids)) parts.1 ∙ free)
-  told_free (entries.Term x) kind id v ps parts ids free = ap (λ b. cond b (overriding term_kind x.id.name.now ∷ []) [] ++ []) (ap (λ t. is_some (get t ids)) parts.1 ∙ free)
-  told_free (entries.Junk c) kind id v ps parts ids free = absurd parts
+pub told_free : (e : code.Entry) (p : Parts) → HasParts e p → (ids : Map (m.Entry Text)) → is_some (get p.id.now ids) ≡ false → not_added (entry_view e ∷ []) ids ≡ []
+told_free (entries.Message x) p parts ids free = ap (λ b. cond b (overriding message_kind x.id.name.now ∷ []) [] ++ []) (ap (λ t. is_some (get t ids)) parts.1 ∙ free)
+told_free (entries.Term x) p parts ids free = ap (λ b. cond b (overriding term_kind x.id.name.now ∷ []) [] ++ []) (ap (λ t. is_some (get t ids)) parts.1 ∙ free)
+told_free (entries.Junk c) p parts ids free = absurd parts
 
-  -- Junk has no id
-  pub added_junk : (e : code.Entry) → IsJunk e → (ids : Map (m.Entry C)) → added (entry_view e ∷ []) ids ≡ ids
-  added_junk (entries.Message x) junk ids = absurd junk
-  added_junk (entries.Term x) junk ids = absurd junk
-  added_junk (entries.Junk c) junk ids = refl
+-- Junk has no id
+pub added_junk : (e : code.Entry) → IsJunk e → (ids : Map (m.Entry Text)) → added (entry_view e ∷ []) ids ≡ ids
+added_junk (entries.Message x) junk ids = absurd junk
+added_junk (entries.Term x) junk ids = absurd junk
+added_junk (entries.Junk c) junk ids = refl
 
-  pub told_junk : (e : code.Entry) → IsJunk e → (ids : Map (m.Entry C)) → not_added (entry_view e ∷ []) ids ≡ []
-  told_junk (entries.Message x) junk ids = absurd junk
-  told_junk (entries.Term x) junk ids = absurd junk
-  told_junk (entries.Junk c) junk ids = refl
+pub told_junk : (e : code.Entry) → IsJunk e → (ids : Map (m.Entry Text)) → not_added (entry_view e ∷ []) ids ≡ []
+told_junk (entries.Message x) junk ids = absurd junk
+told_junk (entries.Term x) junk ids = absurd junk
+told_junk (entries.Junk c) junk ids = refl
 
-  pub given_junk : (e : code.Entry) → IsJunk e → given {C = C} (entry_view e ∷ []) ≡ []
-  given_junk (entries.Message x) junk = absurd junk
-  given_junk (entries.Term x) junk = absurd junk
-  given_junk (entries.Junk c) junk = refl
+pub given_junk : (e : code.Entry) → IsJunk e → given (entry_view e ∷ []) ≡ []
+given_junk (entries.Message x) junk = absurd junk
+given_junk (entries.Term x) junk = absurd junk
+given_junk (entries.Junk c) junk = refl
 
 -- ---- entries that wait
 
-module _ {C : Type 0} (es : List code.Entry) where
+module _ (es : List code.Entry) where
   -- one more waits
-  pub given_more : (rs : List Ready) (r : Ready) → given_by {C = C} es (rs ++ r ∷ []) ≡ given_by es rs ++ given_at es r.place
+  pub given_more : (rs : List Ready) (r : Ready) → given_by es (rs ++ r ∷ []) ≡ given_by es rs ++ given_at es r.place
   given_more [] r = append-nil (given_at es r.place)
   given_more (x ∷ rs) r = ap (λ l. given_at es x.place ++ l) (given_more rs r) ∙ sym (append_assoc (given_at es x.place) (given_by es rs) (given_at es r.place))
 
@@ -144,12 +144,12 @@ module _ (n : Text → Option ℕ) (t : List Pattern) (es : List code.Entry) (r 
   ready_more (x ∷ rs) ks h = (h.0, h.1 ++ option_to_list o, ap (λ l. l ++ option_to_list o) h.2 ∙ append_assoc (option_to_list h.0) h.1 (option_to_list o), h.3, ready_more rs h.1 h.4)
 
 -- an entry of these parts has this number and what is kept of it
-pub is_ready : (n : Text → Option ℕ) (t : List Pattern) (k : ℕ) (o : Option (Box Kept)) (e : code.Entry) (kind : Kind) (id : Text) (v : Option Pattern) (ps : List Pattern) → HasParts e kind id v ps → n id ≡ Some k → IsKeptOf n t v ps o → IsReady n t k o e
-is_ready n t k o (entries.Message x) kind id v ps parts at' kept =
-    (ap n parts.1 ∙ at', subst (λ v. IsKeptOf n t v (patterns x.attributes.items) o) (sym parts.2) (subst (λ ps. IsKeptOf n t v ps o) (sym parts.3) kept))
-is_ready n t k o (entries.Term x) kind id v ps parts at' kept =
-    (ap n parts.1 ∙ at', subst (λ v. IsKeptOf n t v (patterns x.attributes.items) o) (sym parts.2) (subst (λ ps. IsKeptOf n t v ps o) (sym parts.3) kept))
-is_ready n t k o (entries.Junk c) kind id v ps parts at' kept = parts
+pub is_ready : (n : Text → Option ℕ) (t : List Pattern) (k : ℕ) (o : Option (Box Kept)) (e : code.Entry) (p : Parts) → HasParts e p → n p.id.now ≡ Some k → IsKeptOf n t (borrowed_value p.value) (patterns p.attributes.now) o → IsReady n t k o e
+is_ready n t k o (entries.Message x) p parts at' kept =
+    (ap n parts.1 ∙ at', subst (λ v. IsKeptOf n t v (patterns x.attributes.items) o) (sym parts.2) (subst (λ ps. IsKeptOf n t (borrowed_value p.value) ps o) (sym parts.3) kept))
+is_ready n t k o (entries.Term x) p parts at' kept =
+    (ap n parts.1 ∙ at', subst (λ v. IsKeptOf n t v (patterns x.attributes.items) o) (sym parts.2) (subst (λ ps. IsKeptOf n t (borrowed_value p.value) ps o) (sym parts.3) kept))
+is_ready n t k o (entries.Junk c) p parts at' kept = parts
 
 -- ---- whether an id is taken
 

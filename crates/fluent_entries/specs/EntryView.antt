@@ -1,10 +1,12 @@
 -- What ids name, by content.
 use Rattle.std.specs.Prelude.{List, map, Option, Some, None}
+use Rattle.std.specs.Borrow.{Bor}
 use Rattle.std.specs.List.{filter_map}
 use Rattle.std.specs.Option.{option_map}
 use Rattle.fluent_tree.specs.Tree.{Text, Pattern, Attributes}
 use Rattle.fluent_tree.specs.View as view
 use Rattle.fluent_tree.specs.View.{attribute_view, pattern_view}
+use Rattle.fluent_tree.specs.declared.ast.Message.{Message}
 use Rattle.fluent_tree.specs.declared.ast.Term.{Term}
 use Rattle.fluent_links.specs.Slots.{slots, named}
 use Rattle.fluent_meaning.specs.Arguments.{Map, number_function}
@@ -13,7 +15,7 @@ use Rattle.fluent_meaning.specs.Bundle as m
 use Rattle.std.specs.Ordering.{nat_cmp}
 use Rattle.std.specs.Cmp.Lexicographic.{slice_cmp}
 use Rattle.std.specs.FinMap.{from_entries, entries}
-use Rattle.fluent_entries.specs.MessageView.{Content}
+use Rattle.fluent_entries.specs.MessageView.{Content, content_of}
 use Rattle.fluent_entries.specs.declared.entry.Entry.{Entry}
 use Rattle.fluent_entries.specs.declared.entry.Entry.TheVariants as entry
 use Rattle.fluent_entries.specs.declared.entry.FunctionRef.{FunctionRef}
@@ -37,6 +39,10 @@ filled f ss = filter_map (λ s. option_map (λ x. (s.0, f x)) (named s.0 ss)) ss
 unfoldable pub ids : {F : Type 0} → (F → Function Text) → Ids F → Map (m.Entry Text)
 ids answer m = by_name (filled (λ s. entry_of answer s.entry) (slots m.known))
 
+-- the message that is given, without its id
+abbrev pub given_message : Option (Bor Message) → Option Content
+given_message found = option_map (λ x. content_of x.now) found
+
 -- the message that an id names
 abbrev pub message_content : {C : Type 0} → Option (m.Entry C) → Option Content
 message_content (Some (a_message v as')) = Some (record { value = v; attributes = as' })
@@ -49,6 +55,10 @@ pub record TermContent : Type 0 where
 
 abbrev pub term_content_of : Term → TermContent
 term_content_of x = record { value = pattern_view x.value; attributes = map attribute_view x.attributes.items }
+
+-- the term that is given, without its id
+abbrev pub given_term : Option (Bor Term) → Option TermContent
+given_term found = option_map (λ x. term_content_of x.now) found
 
 -- the term that an id names
 abbrev pub term_content : {C : Type 0} → Option (m.Entry C) → Option TermContent

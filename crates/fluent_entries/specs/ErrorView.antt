@@ -1,10 +1,13 @@
 -- The content of what is reported.
 use Rattle.std.specs.Prelude.{Option, Some, None, String, string_bytes}
+use Rattle.std.specs.Option.{option_map}
 use Rattle.std.proofs.Common.{Global}
 use Rattle.fluent_tree.specs.Tree as t
 use Rattle.fluent_tree.specs.Tree.{no_attribute, attribute}
+use Rattle.fluent_tree.specs.View.{inline_view}
+use Rattle.fluent_tree.specs.declared.ast.InlineExpression.{InlineExpression}
 use Rattle.fluent_meaning.specs.Errors as e
-use Rattle.fluent_meaning.specs.Errors.{Kind, message_kind, term_kind, function_kind, Reference, to_function, to_message, to_term, to_variable, lost, no_value, missing_default, cyclic, too_many_placeables, overriding, parser_error, resolver_error}
+use Rattle.fluent_meaning.specs.Errors.{Kind, message_kind, term_kind, function_kind, Reference, to_function, to_message, to_term, to_variable, reference_of, lost, no_value, missing_default, cyclic, too_many_placeables, overriding, parser_error, resolver_error}
 use Rattle.fluent_entries.specs.declared.errors.EntryKind.{EntryKind}
 use Rattle.fluent_entries.specs.declared.errors.EntryKind.TheVariants as kinds
 use Rattle.fluent_entries.specs.declared.errors.FluentError.{FluentError}
@@ -28,6 +31,14 @@ reference_view (references.Function id) = to_function (string_bytes id)
 reference_view (references.Message id a) = to_message (string_bytes id) (attribute_name a)
 reference_view (references.Term id a) = to_term (string_bytes id) (attribute_name a)
 reference_view (references.Variable id) = to_variable (string_bytes id)
+
+-- what an expression refers to, if anything
+abbrev pub reference_in : InlineExpression → Option Reference
+reference_in x = reference_of (inline_view x)
+
+-- the error of what an expression refers to
+abbrev pub lost_in : InlineExpression → Option e.ResolverError
+lost_in x = option_map lost (reference_in x)
 
 abbrev pub resolver_error_view : ResolverError → e.ResolverError
 resolver_error_view (resolving.Reference r) = lost (reference_view r)

@@ -11,7 +11,7 @@ NamesNothing (resolving.Reference r) = ⊥
 NamesNothing (resolving.NoValue id) = ⊥
 NamesNothing _ = ⊤
 
--- the same of any error
+-- an error that has no text
 abbrev pub HasNoText : FluentError → Type 0
 HasNoText (errors.Overriding kind id) = ⊥
 HasNoText (errors.ParserError p) = ⊤

@@ -1,13 +1,16 @@
 -- What is kept of the patterns of what ids name.
 use Rattle.std.specs.Prelude.{◌≡◌, ℕ, List, [], ◌∷◌, length, map, slice_get, is_none, Bool, true, false, Option, Some, None}
+use Rattle.std.specs.Borrow.{Bor}
 use Rattle.std.specs.Global.{Box}
 use Rattle.std.specs.List.{list_all}
+use Rattle.std.specs.Option.{option_map}
 use mathlib.Core.HLevel.{hedberg}
 use Rattle.fluent_tree.specs.References.{references}
 use Rattle.fluent_tree.specs.Tree.{Text, Pattern, pattern_same}
 use Rattle.fluent_tree.specs.View as view
 use Rattle.fluent_tree.specs.View.{pattern_view}
 use Rattle.fluent_tree.specs.declared.ast.Attribute.{Attribute}
+use Rattle.fluent_tree.specs.declared.ast.Pattern as code
 use Rattle.fluent_links.specs.Linked.{IsOf, are_some, class_of}
 use Rattle.fluent_links.specs.Slots.{named, number}
 use Rattle.fluent_links.specs.declared.linked.Linked.{Linked}
@@ -22,6 +25,10 @@ value_in (entry.Message x) = view.value_view x.now.value
 value_in (entry.Term x) = Some (pattern_view x.now.value)
 value_in (entry.Function f) = None
 value_in entry.Number = None
+
+-- the content of a value that is borrowed, if there is one
+abbrev pub borrowed_value : Option (Bor code.Pattern) → Option Pattern
+borrowed_value v = option_map (λ p. pattern_view p.now) v
 
 -- the patterns of attributes, in order
 abbrev pub patterns : List Attribute → List Pattern
@@ -78,7 +85,7 @@ pub record IsValueKept (number : Text → Option ℕ) (table : List Pattern) (v 
   pub left : (p : Pattern) → v ≡ Some p → kept ≡ None → RefersToNothing p
   pub none : v ≡ None → is_none kept ≡ true
 
--- the same of a value and of attributes
+-- what is kept of a value and of attributes is their own; of a value that refers to anything something is kept, and of none nothing
 pub record IsKeptOf (number : Text → Option ℕ) (table : List Pattern) (v : Option Pattern) (ps : List Pattern) (kept : Option (Box Kept)) : Type 0 where
   pub value : (p : Pattern) (l : Linked) → v ≡ Some p → value_kept kept ≡ Some l → IsOf number table p l
   pub left : (p : Pattern) → v ≡ Some p → value_kept kept ≡ None → RefersToNothing p
@@ -89,7 +96,7 @@ pub record IsKeptOf (number : Text → Option ℕ) (table : List Pattern) (v : O
 abbrev pub IsLinked : {F : Type 0} → (Text → Option ℕ) → List Pattern → Slot F → Type 0
 IsLinked number table s = IsKeptOf number table (value_in s.entry) (attributes_in s.entry) s.kept
 
--- the same of each slot that is filled
+-- what is kept in each slot that is filled is that of its entry's patterns
 abbrev pub AreLinked : {F : Type 0} → List (Text × Option (Slot F)) → List Pattern → Type 0
 AreLinked {F} ss table = (id : Text) (s : Slot F) → named id ss ≡ Some s → IsLinked (number ss) table s
 

@@ -43,7 +43,11 @@ IsOfMessage m made = (message_view made ≡ content_of m) × (entry_seen made �
 abbrev pub GivesFirst : IteratedAttributes → Option FluentAttribute → IteratedAttributes → Type 0
 GivesFirst old given new = (option_map attribute_content given ≡ slice_get (attributes_left old) 0) × (attributes_left new ≡ drop 1 (attributes_left old))
 
--- the first attribute of a name
+-- the first of a name among attributes
 abbrev pub first_named : Text → Attributes → Option (Text × Pattern)
 first_named name [] = None
 first_named name (a ∷ as') = if is_text a.0 name then Some a else first_named name as'
+
+-- the first attribute of a name in a message
+abbrev pub attribute_named : Text → FluentMessage → Option (Text × Pattern)
+attribute_named name m = first_named name (message_view m).attributes

@@ -14,11 +14,15 @@ is_named id (entry.Term x) = bytes_eq x.now.id.name.now id
 is_named id (entry.Function f) = true
 is_named id entry.Number = true
 
--- the same of what was found, if anything was
+abbrev pub IsNamed : {F : Type 0} → Text → Entry F → Type 0
+IsNamed id e = IsTrue (is_named id e)
+
+-- whether what was found is of this id, if anything was
 abbrev pub is_found_named : {F : Type 0} → Text → Option (Slot F) → Bool
 is_found_named id None = true
 is_found_named id (Some s) = is_named id s.entry
 
+-- what stands under an id has that id
 abbrev pub AreNamed : {F : Type 0} → List (Text × Option (Slot F)) → Type 0
 AreNamed ss = (id : Text) → IsTrue (is_found_named id (named id ss))
 

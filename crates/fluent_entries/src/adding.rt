@@ -1,24 +1,24 @@
 //! Adding the entries of a resource: all that takes memory is made first, and then slots are filled, which can't fail.
-ghost use Rattle.std.specs.Prelude.{◌≡◌, ◌<◌, ◌||◌, ℕ, List, ◌++◌, [], IfNone, IfOk, IfSome, OnOk, OnErr, IsTrue, None, Option, Some, is_some, length, map, nat_eq, slice_get};
+ghost use Rattle.std.specs.Prelude.{◌≡◌, ◌<◌, ℕ, List, [], IfNone, IfOk, IfSome, OnOk, OnErr, IsTrue, None, Some, length, map};
 ghost use Rattle.std.specs.Cow.{cow_str_bytes};
 ghost use Rattle.std.specs.List.{list_all};
-ghost use Rattle.std.specs.Global.{Box};
-ghost use Rattle.std.specs.Option.{option_map, option_to_list};
 ghost use Rattle.std.specs.Vec.Iter.{into_iter_items, into_iter_len};
 ghost use Rattle.fluent_tree.specs.Tree.{Text};
 ghost use Rattle.fluent_tree.specs.View.{entry_view, pattern_view};
 ghost use Rattle.fluent_tree.specs.declared.ast.Entry as tree;
-ghost use Rattle.fluent_meaning.specs.Arguments.{get, set_all};
-ghost use Rattle.fluent_meaning.specs.Bundle.{Function, a_function, number_builtin, added, overridden, add_free, error_if_taken, not_added};
+ghost use Rattle.fluent_meaning.specs.Arguments.{set_all};
+ghost use Rattle.fluent_meaning.specs.Bundle.{added, overridden, not_added};
 ghost use Rattle.fluent_meaning.specs.Errors as e;
+ghost use Rattle.fluent_entries.specs.Changes.{AddsFree, Becomes, KeepsEntries, Reports, ReportsIfTaken};
 ghost use Rattle.fluent_entries.specs.ErrorView.{error_view, kind_view};
-ghost use Rattle.fluent_entries.specs.EntryView.{ids, entry_of};
-ghost use Rattle.fluent_entries.specs.declared.slot.Kept.{Kept};
-ghost use Rattle.fluent_entries.specs.Named.{is_named};
-ghost use Rattle.fluent_entries.specs.KeptLinks.{AreKept, IsKeptOf, IsValueKept, attributes_in, patterns, value_in};
-ghost use Rattle.fluent_entries.specs.Texts.{is_text};
 ghost use Rattle.fluent_entries.specs.IdNumbers.{Grown, numbers, table};
-ghost use Rattle.fluent_entries.specs.WaitingEntries.{AreMarked, AreReady, HasParts, IsJunk, Waits, at_place, given, given_at, given_by, has_number, is_marked};
+ghost use Rattle.fluent_entries.specs.Inside.AddingSteps.{AddsAll, AddsAt, AllWait, HasNumberToo, ReportsAll, ReportsAt, TakesFirst, TellsTaken, WaitsToo};
+ghost use Rattle.fluent_entries.specs.Inside.WaitingEntries.{AreMarked, AreReadyFor, HasParts, HasPartsAt, IsJunk, Waits, given_at, given_by};
+ghost use Rattle.fluent_entries.specs.KeptInIds.{KeepsAttributes, KeepsBoth, KeepsValue};
+ghost use Rattle.fluent_entries.specs.KeptLinks.{attributes_in, value_in};
+ghost use Rattle.fluent_entries.specs.Named.{IsNamed};
+ghost use Rattle.fluent_entries.specs.Texts.{is_text};
+ghost use Rattle.fluent_entries.specs.declared.entry.Entry.TheVariants as entry;
 
 use crate::entry::Entry;
 use crate::ids::Ids;
@@ -38,10 +38,9 @@ fn linked_attributes<'r, 's, F: Drop>(
     known: &mut Ids<'r, 's, F>,
     attributes: &'r [ast::Attribute<'s>],
 ) -> Result<Vec<Linked>, AllocError>
-    ensures linked { IfOk result (λ list.
-        AreKept (numbers known.new) (table known.new) (patterns attributes.now) list.items) }
+    ensures linked { IfOk result (λ list. KeepsAttributes known.new attributes.now list.items) }
     ensures grown { Grown known.old known.new }
-    ensures same { (answer : F → Function Text) → ids answer known.new ≡ ids answer known.old }
+    ensures same { KeepsEntries known.old known.new }
 {
     if are_texts(attributes) {
         return Ok(Vec::new(alloc));
@@ -67,10 +66,9 @@ fn linked_value<'r, 's, F: Drop>(
     known: &mut Ids<'r, 's, F>,
     value: Option<&'r ast::Pattern<'s>>,
 ) -> Result<Option<Linked>, AllocError>
-    ensures linked { IfOk result (IsValueKept (numbers known.new) (table known.new)
-        (option_map (λ p. pattern_view p.now) value.entry)) }
+    ensures linked { IfOk result (KeepsValue known.new value.entry) }
     ensures grown { Grown known.old known.new }
-    ensures same { (answer : F → Function Text) → ids answer known.new ≡ ids answer known.old }
+    ensures same { KeepsEntries known.old known.new }
 {
     match value {
         Some(pattern) => {
@@ -90,10 +88,9 @@ fn kept_of<'r, 's, F: Drop>(
     value: Option<&'r ast::Pattern<'s>>,
     attributes: &'r [ast::Attribute<'s>],
 ) -> Result<Option<Box<Kept>>, AllocError>
-    ensures linked { IfOk result (IsKeptOf (numbers known.new) (table known.new)
-        (option_map (λ p. pattern_view p.now) value.entry) (patterns attributes.now)) }
+    ensures linked { IfOk result (KeepsBoth known.new value.entry attributes.now) }
     ensures grown { Grown known.old known.new }
-    ensures same { (answer : F → Function Text) → ids answer known.new ≡ ids answer known.old }
+    ensures same { KeepsEntries known.old known.new }
 {
     let value = linked_value(alloc, known, value)?;
     let attributes = linked_attributes(alloc, known, attributes)?;
@@ -112,8 +109,7 @@ struct Parts<'r, 's> {
 /// The parts of an entry that has an id.
 #[inline(always)]
 fn parts_of<'r, 's>(entry: &'r ast::Entry<'s>) -> Option<Parts<'r, 's>>
-    ensures some { IfSome result (λ p. HasParts entry.now (kind_view p.kind) p.id.now
-        (option_map (λ v. pattern_view v.now) p.value) (patterns p.attributes.now)) }
+    ensures some { IfSome result (HasParts entry.now) }
     ensures none { IfNone result (IsJunk entry.now) }
 {
     match entry {
@@ -143,19 +139,12 @@ fn make_ready<'r, 's, F: Drop>(
     waiting: &mut Waiting,
 ) -> Result<(), AllocError>
     requires { numbers known.old parts.id.now ≡ Some number }
-    ensures ready { OnOk result ((es : List tree.Entry) (e : tree.Entry) →
-        AreReady (numbers known.old) (table known.old) es waiting.old.list.items waiting.old.kept.items →
-        slice_get es place ≡ Some e →
-        HasParts e (kind_view parts.entry.kind) parts.entry.id.now
-        (option_map (λ v. pattern_view v.now) parts.entry.value) (patterns parts.entry.attributes.now) →
-        AreReady (numbers known.new) (table known.new) es waiting.new.list.items waiting.new.kept.items) }
-    ensures more { OnOk result ((es : List tree.Entry) →
-        given_by {C = Text} es waiting.new.list.items
-        ≡ given_by es waiting.old.list.items ++ given_at es place) }
-    ensures number { OnOk result ((n : ℕ) → has_number waiting.new.list.items n
-        ≡ (has_number waiting.old.list.items n || nat_eq number n)) }
+    ensures ready { OnOk result ((es : List tree.Entry) → HasPartsAt es place parts.entry →
+        AreReadyFor known.old es waiting.old → AreReadyFor known.new es waiting.new) }
+    ensures more { OnOk result ((es : List tree.Entry) → WaitsToo es place waiting.old waiting.new) }
+    ensures number { OnOk result (HasNumberToo number waiting.old waiting.new) }
     ensures grown { Grown known.old known.new }
-    ensures same { (answer : F → Function Text) → ids answer known.new ≡ ids answer known.old }
+    ensures same { KeepsEntries known.old known.new }
 {
     let kept = kept_of(alloc, known, parts.value, parts.attributes)?;
     waiting.push(place, number, kept)?;
@@ -171,14 +160,11 @@ fn override_entry<'r, 's, F: Drop>(
     waiting: &mut Waiting,
 ) -> Result<(), AllocError>
     requires within { place < length entries.now }
-    requires ready { AreReady (numbers known.old) (table known.old) entries.now
-        waiting.old.list.items waiting.old.kept.items }
-    ensures ready { OnOk result (AreReady (numbers known.new) (table known.new) entries.now
-        waiting.new.list.items waiting.new.kept.items) }
-    ensures given { OnOk result (given_by {C = Text} entries.now waiting.new.list.items
-        ≡ given_by entries.now waiting.old.list.items ++ given_at entries.now place) }
+    requires ready { AreReadyFor known.old entries.now waiting.old }
+    ensures ready { OnOk result (AreReadyFor known.new entries.now waiting.new) }
+    ensures given { OnOk result (WaitsToo entries.now place waiting.old waiting.new) }
     ensures grown { Grown known.old known.new }
-    ensures same { (answer : F → Function Text) → ids answer known.new ≡ ids answer known.old }
+    ensures same { KeepsEntries known.old known.new }
 {
     let Some(parts) = parts_of(&entries[place as usize]) else {
         return Ok(());
@@ -193,12 +179,10 @@ fn override_all<'r, 's, F: Drop>(
     known: &mut Ids<'r, 's, F>,
     entries: &'r [ast::Entry<'s>],
 ) -> Result<Waiting, AllocError>
-    ensures ready { IfOk result (λ w. AreReady (numbers known.new) (table known.new) entries.now
-        w.list.items w.kept.items) }
-    ensures given { IfOk result (λ w.
-        given_by {C = Text} entries.now w.list.items ≡ given (map entry_view entries.now)) }
+    ensures ready { IfOk result (AreReadyFor known.new entries.now) }
+    ensures given { IfOk result (AllWait entries.now) }
     ensures grown { Grown known.old known.new }
-    ensures same { (answer : F → Function Text) → ids answer known.new ≡ ids answer known.old }
+    ensures same { KeepsEntries known.old known.new }
 {
     let mut waiting = Waiting::with_capacity(alloc, entries.len())?;
     'entries: for place in 0..as_place(entries.len())? {
@@ -209,8 +193,7 @@ fn override_all<'r, 's, F: Drop>(
 
 /// Whether the id with this number names something, or an entry waits for it.
 fn is_taken<'r, 's, F>(known: &Ids<'r, 's, F>, marks: &[bool], number: u32) -> bool
-    ensures { (id : Text) → numbers known.now id ≡ Some number → (answer : F → Function Text) →
-        result ≡ (is_marked marks.now number || is_some (get id (ids answer known.now))) }
+    ensures { TellsTaken known.now marks.now number result }
 {
     is_marked(marks, number) || known.is_filled(number)
 }
@@ -226,21 +209,14 @@ fn add_entry<'r, 's, F: Drop>(
     errors: &mut Vec<FluentError>,
 ) -> Result<(), AllocError>
     requires within { place < length entries.now }
-    requires ready { AreReady (numbers known.old) (table known.old) entries.now
-        waiting.old.list.items waiting.old.kept.items }
+    requires ready { AreReadyFor known.old entries.now waiting.old }
     requires marked { AreMarked marks.old.items waiting.old.list.items }
-    ensures ready { OnOk result (AreReady (numbers known.new) (table known.new) entries.now
-        waiting.new.list.items waiting.new.kept.items) }
+    ensures ready { OnOk result (AreReadyFor known.new entries.now waiting.new) }
     ensures marked { OnOk result (AreMarked marks.new.items waiting.new.list.items) }
-    ensures after { OnOk result ((answer : F → Function Text) →
-        set_all (given_by entries.now waiting.new.list.items) (ids answer known.old)
-        ≡ added (at_place entries.now place)
-        (set_all (given_by entries.now waiting.old.list.items) (ids answer known.old))) }
-    ensures told { OnOk result ((answer : F → Function Text) → map error_view errors.new.items
-        ≡ map error_view errors.old.items ++ not_added (at_place entries.now place)
-        (set_all (given_by entries.now waiting.old.list.items) (ids answer known.old))) }
+    ensures after { OnOk result (AddsAt known.old entries.now place waiting.old waiting.new) }
+    ensures told { OnOk result (ReportsAt known.old entries.now place waiting.old errors.old errors.new) }
     ensures grown { Grown known.old known.new }
-    ensures same { (answer : F → Function Text) → ids answer known.new ≡ ids answer known.old }
+    ensures same { KeepsEntries known.old known.new }
 {
     let Some(parts) = parts_of(&entries[place as usize]) else {
         return Ok(());
@@ -261,16 +237,11 @@ fn add_all<'r, 's, F: Drop>(
     entries: &'r [ast::Entry<'s>],
     errors: &mut Vec<FluentError>,
 ) -> Result<Waiting, AllocError>
-    ensures ready { IfOk result (λ w. AreReady (numbers known.new) (table known.new) entries.now
-        w.list.items w.kept.items) }
-    ensures after { IfOk result (λ w. (answer : F → Function Text) →
-        set_all (given_by entries.now w.list.items) (ids answer known.old)
-        ≡ added (map entry_view entries.now) (ids answer known.old)) }
-    ensures told { OnOk result ((answer : F → Function Text) → map error_view errors.new.items
-        ≡ map error_view errors.old.items
-        ++ not_added (map entry_view entries.now) (ids answer known.old)) }
+    ensures ready { IfOk result (AreReadyFor known.new entries.now) }
+    ensures after { IfOk result (AddsAll known.old entries.now) }
+    ensures told { OnOk result (ReportsAll known.old entries.now errors.old errors.new) }
     ensures grown { Grown known.old known.new }
-    ensures same { (answer : F → Function Text) → ids answer known.new ≡ ids answer known.old }
+    ensures same { KeepsEntries known.old known.new }
 {
     let mut waiting = Waiting::with_capacity(alloc, entries.len())?;
     let mut marks = Vec::with_capacity(alloc, entries.len())?;
@@ -298,8 +269,7 @@ fn put_one<'r, 's, F: Drop>(
     requires { Waits (numbers known.old) (table known.old) entries.now ready kept }
     ensures numbers { (id : Text) → numbers known.new id ≡ numbers known.old id }
     ensures table { table known.new ≡ table known.old }
-    ensures after { (answer : F → Function Text) → ids answer known.new
-        ≡ set_all (given_at entries.now ready.place) (ids answer known.old) }
+    ensures after { Becomes known.old known.new (set_all (given_at entries.now ready.place)) }
 {
     match &entries[ready.place as usize] {
         ast::Entry::Message(message) => {
@@ -317,9 +287,7 @@ fn put_one<'r, 's, F: Drop>(
 /// What is kept of the next that waits, if anything is.
 fn next_kept(kept: &mut IntoIter<Box<Kept>>, is_linked: bool) -> Option<Box<Kept>>
     requires { into_iter_len kept.old ≡ length (into_iter_items kept.old) }
-    ensures next { (first : Option (Box Kept)) (rest : List (Box Kept)) →
-        into_iter_items kept.old ≡ option_to_list first ++ rest → is_linked ≡ is_some first →
-        (result ≡ first) × (into_iter_items kept.new ≡ rest) }
+    ensures next { TakesFirst (into_iter_items kept.old) is_linked result (into_iter_items kept.new) }
     ensures full { into_iter_len kept.new ≡ length (into_iter_items kept.new) }
 {
     if is_linked { kept.next() } else { None }
@@ -331,10 +299,9 @@ fn put_all<'r, 's, F: Drop>(
     entries: &'r [ast::Entry<'s>],
     waiting: Waiting,
 )
-    requires { AreReady (numbers known.old) (table known.old) entries.now waiting.list.items waiting.kept.items }
+    requires { AreReadyFor known.old entries.now waiting }
     ensures grown { Grown known.old known.new }
-    ensures after { (answer : F → Function Text) → ids answer known.new
-        ≡ set_all (given_by entries.now waiting.list.items) (ids answer known.old) }
+    ensures after { Becomes known.old known.new (set_all (given_by entries.now waiting.list.items)) }
 {
     let Waiting { list, kept } = waiting;
     let mut kept = kept.into_iter();
@@ -351,7 +318,7 @@ fn as_place(count: usize) -> Result<u32, AllocError>
     u32::try_from(count).map_err(|_| AllocError)
 }
 
-/// The report of an entry that is left, since its id is taken.
+/// The error of an entry that is not added, since its id is taken.
 fn left(alloc: Global, kind: EntryKind, id: &str) -> Result<FluentError, AllocError>
     ensures { IfOk result (λ error. error_view error ≡ e.overriding (kind_view kind) id.now) }
 {
@@ -361,25 +328,20 @@ fn left(alloc: Global, kind: EntryKind, id: &str) -> Result<FluentError, AllocEr
     })
 }
 
-/// Gives a free id its meaning, and gives the report of a function where it is taken.
+/// Adds a function under a free id. Where the id is taken, the answer has an error.
 fn add_where_free<'r, 's, F: Drop>(
     alloc: Global,
     known: &mut Ids<'r, 's, F>,
     id: CowStr<'s>,
     function: Entry<'r, 's, F>,
 ) -> Result<Vec<FluentError>, AllocError>
-    requires own { IsTrue (is_named (cow_str_bytes id) function) }
+    requires own { IsNamed (cow_str_bytes id) function }
     requires value { value_in function ≡ None }
     requires attributes { attributes_in function ≡ [] }
     ensures grown { Grown known.old known.new }
-    ensures after { OnOk result ((answer : F → Function Text) →
-        ids answer known.new ≡ add_free (cow_str_bytes id.entry) (entry_of answer function.entry)
-        (ids answer known.old)) }
-    ensures errors { IfOk result (λ errors. (answer : F → Function Text) →
-        map error_view errors.items ≡ error_if_taken e.function_kind (cow_str_bytes id.entry)
-        (ids answer known.old)) }
-    ensures err { OnErr result ((answer : F → Function Text) →
-        ids answer known.new ≡ ids answer known.old) }
+    ensures after { OnOk result (AddsFree known.old known.new id.entry function.entry) }
+    ensures errors { IfOk result (ReportsIfTaken known.old id.entry) }
+    ensures err { OnErr result (KeepsEntries known.old known.new) }
 {
     let mut errors = Vec::new(alloc);
     if known.is_known(id.as_str()) {
@@ -392,25 +354,21 @@ fn add_where_free<'r, 's, F: Drop>(
 }
 
 impl<'r, 's, F: Drop> Ids<'r, 's, F> {
-    /// Gives each message and term whose id is free its meaning, in order, and gives the reports of those whose id
-    /// was there when their turn came. Junk is passed over.
+    /// Adds each message and term whose id is free when its turn comes, in order. The answer has an error for each
+    /// other one, in order too. Junk is passed over.
     ///
     /// # Errors
     ///
-    /// An allocation failed: the map is as before.
+    /// An allocation failed: each id names what it named.
     pub fn add_entries(
         &mut self,
         alloc: Global,
         entries: &'r [ast::Entry<'s>],
     ) -> Result<Vec<FluentError>, AllocError>
         ensures grown { Grown self.old self.new }
-        ensures after { OnOk result ((answer : F → Function Text) →
-            ids answer self.new ≡ added (map entry_view entries.now) (ids answer self.old)) }
-        ensures errors { IfOk result (λ errors. (answer : F → Function Text) →
-            map error_view errors.items ≡ not_added (map entry_view entries.now)
-            (ids answer self.old)) }
-        ensures err { OnErr result ((answer : F → Function Text) →
-            ids answer self.new ≡ ids answer self.old) }
+        ensures after { OnOk result (Becomes self.old self.new (added (map entry_view entries.now))) }
+        ensures errors { IfOk result (Reports self.old (not_added (map entry_view entries.now))) }
+        ensures err { OnErr result (KeepsEntries self.old self.new) }
     {
         self.reserve(entries.len())?;
         let mut errors = Vec::new(alloc);
@@ -419,21 +377,19 @@ impl<'r, 's, F: Drop> Ids<'r, 's, F> {
         Ok(errors)
     }
 
-    /// Gives each message and term its meaning, in order, in place of what had its id. Junk is passed over.
+    /// Puts each message and term, in order, in place of what its id names, if anything. Junk is passed over.
     ///
     /// # Errors
     ///
-    /// An allocation failed: the map is as before.
+    /// An allocation failed: each id names what it named.
     pub fn override_entries(
         &mut self,
         alloc: Global,
         entries: &'r [ast::Entry<'s>],
     ) -> Result<(), AllocError>
         ensures grown { Grown self.old self.new }
-        ensures after { OnOk result ((answer : F → Function Text) →
-            ids answer self.new ≡ overridden (map entry_view entries.now) (ids answer self.old)) }
-        ensures err { OnErr result ((answer : F → Function Text) →
-            ids answer self.new ≡ ids answer self.old) }
+        ensures after { OnOk result (Becomes self.old self.new (overridden (map entry_view entries.now))) }
+        ensures err { OnErr result (KeepsEntries self.old self.new) }
     {
         self.reserve(entries.len())?;
         let waiting = override_all(alloc, self, entries)?;
@@ -441,11 +397,11 @@ impl<'r, 's, F: Drop> Ids<'r, 's, F> {
         Ok(())
     }
 
-    /// Gives a free id to a function, and gives the report where it is taken; the function is then dropped.
+    /// Adds a function under a free id. Where the id is taken, the function is dropped, and the answer has an error.
     ///
     /// # Errors
     ///
-    /// An allocation failed: the map is as before.
+    /// An allocation failed: each id names what it named.
     pub fn add_function(
         &mut self,
         alloc: Global,
@@ -453,37 +409,27 @@ impl<'r, 's, F: Drop> Ids<'r, 's, F> {
         function: F,
     ) -> Result<Vec<FluentError>, AllocError>
         ensures grown { Grown self.old self.new }
-        ensures after { OnOk result ((answer : F → Function Text) →
-            ids answer self.new ≡ add_free (cow_str_bytes id.entry) (a_function (answer function))
-            (ids answer self.old)) }
-        ensures errors { IfOk result (λ errors. (answer : F → Function Text) →
-            map error_view errors.items ≡ error_if_taken e.function_kind (cow_str_bytes id.entry)
-            (ids answer self.old)) }
-        ensures err { OnErr result ((answer : F → Function Text) →
-            ids answer self.new ≡ ids answer self.old) }
+        ensures after { OnOk result (AddsFree self.old self.new id.entry (entry.Function function)) }
+        ensures errors { IfOk result (ReportsIfTaken self.old id.entry) }
+        ensures err { OnErr result (KeepsEntries self.old self.new) }
     {
         add_where_free(alloc, self, id, Entry::Function(function))
     }
 
-    /// Gives a free id to the built-in function `NUMBER`, and gives the report where it is taken.
+    /// Adds the built-in function `NUMBER` under a free id. Where the id is taken, the answer has an error.
     ///
     /// # Errors
     ///
-    /// An allocation failed: the map is as before.
+    /// An allocation failed: each id names what it named.
     pub fn add_number(
         &mut self,
         alloc: Global,
         id: CowStr<'s>,
     ) -> Result<Vec<FluentError>, AllocError>
         ensures grown { Grown self.old self.new }
-        ensures after { OnOk result ((answer : F → Function Text) →
-            ids answer self.new ≡ add_free (cow_str_bytes id.entry) number_builtin
-            (ids answer self.old)) }
-        ensures errors { IfOk result (λ errors. (answer : F → Function Text) →
-            map error_view errors.items ≡ error_if_taken e.function_kind (cow_str_bytes id.entry)
-            (ids answer self.old)) }
-        ensures err { OnErr result ((answer : F → Function Text) →
-            ids answer self.new ≡ ids answer self.old) }
+        ensures after { OnOk result (AddsFree self.old self.new id.entry entry.Number) }
+        ensures errors { IfOk result (ReportsIfTaken self.old id.entry) }
+        ensures err { OnErr result (KeepsEntries self.old self.new) }
     {
         add_where_free(alloc, self, id, Entry::Number)
     }

@@ -4,8 +4,7 @@ ghost use Rattle.std.specs.Option.{option_map};
 ghost use Rattle.fluent_tree.specs.Tree.{Text};
 ghost use Rattle.fluent_meaning.specs.Bundle.{Function, function_found};
 ghost use Rattle.fluent_meaning.specs.Bundle as m;
-ghost use Rattle.fluent_entries.specs.EntryView.{message_content, term_content_of, term_content, function_of};
-ghost use Rattle.fluent_entries.specs.MessageView.{content_of};
+ghost use Rattle.fluent_entries.specs.EntryView.{function_of, given_message, given_term, message_content, term_content};
 
 use fluent_tree::ast;
 
@@ -41,14 +40,12 @@ pub trait GetEntry<'s, F> {
 
     /// The message that the id names, or `None`.
     fn get_entry_message(&self, id: &str) -> Option<&ast::Message<'s>>
-        ensures content { option_map (λ x. content_of x.now) result
-            ≡ message_content (named self.now id.now) }
+        ensures content { given_message result ≡ message_content (named self.now id.now) }
         ensures own { IfSome result (λ x. x.now.id.name.now ≡ id.now) };
 
     /// The term that the id names, without its dash, or `None`.
     fn get_entry_term(&self, id: &str) -> Option<&ast::Term<'s>>
-        ensures content { option_map (λ x. term_content_of x.now) result
-            ≡ term_content (named self.now id.now) }
+        ensures content { given_term result ≡ term_content (named self.now id.now) }
         ensures own { IfSome result (λ x. x.now.id.name.now ≡ id.now) };
 
     /// The function that the id names, or `None`.

@@ -53,7 +53,7 @@ impl FluentError {
     ///
     /// # Errors
     ///
-    /// An allocation failed, which only an error with a text can meet.
+    /// An allocation failed. The copy of an error without a text can't fail.
     pub fn try_clone(&self, alloc: Global) -> Result<FluentError, AllocError>
         ensures same { IfOk result (λ copy. error_view copy ≡ error_view self.now) }
         ensures succeeds { HasNoText self.now → IsOk result }

@@ -34,15 +34,14 @@ impl<'r, 's: 'r, F: Drop> Drop for Ids<'r, 's, F> {
 }
 
 impl<'r, 's, F> Ids<'r, 's, F> {
-    ghost use Rattle.std.specs.Prelude.{◌≡◌, [], IfSome, IsTrue, Some, is_some};
-    ghost use Rattle.std.specs.Option.{option_map};
+    ghost use Rattle.std.specs.Prelude.{◌≡◌, [], IfSome};
     ghost use Rattle.fluent_tree.specs.Tree.{Text};
-    ghost use Rattle.fluent_meaning.specs.Arguments.{get};
     ghost use Rattle.fluent_meaning.specs.Bundle.{Function};
-    ghost use Rattle.fluent_entries.specs.EntryView.{ids, entry_of};
-    ghost use Rattle.fluent_entries.specs.KeptLinks.{IsLinked};
-    ghost use Rattle.fluent_entries.specs.Named.{is_named};
-    ghost use Rattle.fluent_entries.specs.IdNumbers.{IsNumberOf, numbers, table};
+    ghost use Rattle.fluent_entries.specs.EntryView.{ids};
+    ghost use Rattle.fluent_entries.specs.IdNumbers.{IsNumberOf};
+    ghost use Rattle.fluent_entries.specs.KeptInIds.{IsLinkedIn};
+    ghost use Rattle.fluent_entries.specs.LookUps.{FindsEntry, FindsSlot, TellsFilled, TellsNamed};
+    ghost use Rattle.fluent_entries.specs.Named.{IsNamed};
 
     /// A map that names nothing. It takes no memory yet.
     pub fn new(alloc: Global) -> Ids<'r, 's, F>
@@ -56,9 +55,8 @@ impl<'r, 's, F> Ids<'r, 's, F> {
 
     /// What an id names, or `None`. Takes no memory.
     pub fn named<'m>(&'m self, id: &str) -> Option<&'m Entry<'r, 's, F>>
-        ensures content { (answer : F → Function Text) →
-            option_map (λ e. entry_of answer e.now) result ≡ get id.now (ids answer self.now) }
-        ensures own { IfSome result (λ e. IsTrue (is_named id.now e.now)) }
+        ensures content { FindsEntry self.now id.now result }
+        ensures own { IfSome result (λ e. IsNamed id.now e.now) }
     {
         let slot = self.slot(id, None)?;
         Some(&slot.entry)
@@ -67,13 +65,9 @@ impl<'r, 's, F> Ids<'r, 's, F> {
     /// What an id names, with what is kept of its patterns: by the id's number where that is known, else by look-up.
     /// Of a number that isn't the id's nothing is promised. Takes no memory.
     pub fn slot<'m>(&'m self, id: &str, number: Option<u32>) -> Option<&'m Slot<'r, 's, F>>
-        ensures content { IsNumberOf self.now id.now number → (answer : F → Function Text) →
-            option_map (λ s. entry_of answer s.now.entry) result
-            ≡ get id.now (ids answer self.now) }
-        ensures own { IsNumberOf self.now id.now number →
-            IfSome result (λ s. IsTrue (is_named id.now s.now.entry)) }
-        ensures linked { IsNumberOf self.now id.now number →
-            IfSome result (λ s. IsLinked (numbers self.now) (table self.now) s.now) }
+        ensures content { IsNumberOf self.now id.now number → FindsSlot self.now id.now result }
+        ensures own { IsNumberOf self.now id.now number → IfSome result (λ s. IsNamed id.now s.now.entry) }
+        ensures linked { IsNumberOf self.now id.now number → IfSome result (λ s. IsLinkedIn self.now s.now) }
     {
         match number {
             Some(number) => self.known.at(number),
@@ -83,33 +77,29 @@ impl<'r, 's, F> Ids<'r, 's, F> {
 
     /// Whether an id names something.
     pub(crate) fn is_known(&self, id: &str) -> bool
-        ensures { (answer : F → Function Text) → result
-            ≡ is_some (get id.now (ids answer self.now)) }
+        ensures { TellsNamed self.now id.now result }
     {
         self.known.find(id).is_some()
     }
 
     /// Whether the id with this number names something.
     pub(crate) fn is_filled(&self, number: u32) -> bool
-        ensures { (id : Text) → numbers self.now id ≡ Some number →
-            (answer : F → Function Text) → result ≡ is_some (get id (ids answer self.now)) }
+        ensures { TellsFilled self.now number result }
     {
         self.known.at(number).is_some()
     }
 }
 
 impl<'r, 's, F: Drop> Ids<'r, 's, F> {
-    ghost use Rattle.std.specs.Prelude.{◌≡◌, IfOk, IsTrue, Some};
+    ghost use Rattle.std.specs.Prelude.{◌≡◌, IfOk, Some};
     ghost use Rattle.std.specs.Cow.{cow_str_bytes};
     ghost use Rattle.fluent_tree.specs.Tree.{Text};
     ghost use Rattle.fluent_tree.specs.View.{pattern_view};
     ghost use Rattle.fluent_links.specs.Linked.{IsOf};
-    ghost use Rattle.fluent_meaning.specs.Arguments.{set};
-    ghost use Rattle.fluent_meaning.specs.Bundle.{Function};
-    ghost use Rattle.fluent_entries.specs.EntryView.{ids, entry_of};
-    ghost use Rattle.fluent_entries.specs.KeptLinks.{IsLinked};
-    ghost use Rattle.fluent_entries.specs.Named.{is_named};
+    ghost use Rattle.fluent_entries.specs.Changes.{FillsSlot, KeepsEntries};
     ghost use Rattle.fluent_entries.specs.IdNumbers.{Grown, numbers, table};
+    ghost use Rattle.fluent_entries.specs.KeptInIds.{IsLinkedIn};
+    ghost use Rattle.fluent_entries.specs.Named.{IsNamed};
 
     /// Makes room for so many more ids, so that their numbers and slots are put where they stay. What ids name stays.
     ///
@@ -118,7 +108,7 @@ impl<'r, 's, F: Drop> Ids<'r, 's, F> {
     /// An allocation failed.
     pub(crate) fn reserve(&mut self, more: usize) -> Result<(), AllocError>
         ensures grown { Grown self.old self.new }
-        ensures same { (answer : F → Function Text) → ids answer self.new ≡ ids answer self.old }
+        ensures same { KeepsEntries self.old self.new }
     {
         self.known.reserve(more)
     }
@@ -127,7 +117,7 @@ impl<'r, 's, F: Drop> Ids<'r, 's, F> {
     pub(crate) fn number_of(&mut self, id: CowStr<'s>) -> Result<u32, AllocError>
         ensures number { IfOk result (λ n. numbers self.new (cow_str_bytes id.entry) ≡ Some n) }
         ensures grown { Grown self.old self.new }
-        ensures same { (answer : F → Function Text) → ids answer self.new ≡ ids answer self.old }
+        ensures same { KeepsEntries self.old self.new }
     {
         self.known.number_of(id)
     }
@@ -142,21 +132,18 @@ impl<'r, 's, F: Drop> Ids<'r, 's, F> {
         ensures linked { IfOk result
             (IsOf (numbers self.new) (table self.new) (pattern_view pattern.now)) }
         ensures grown { Grown self.old self.new }
-        ensures same { (answer : F → Function Text) → ids answer self.new ≡ ids answer self.old }
+        ensures same { KeepsEntries self.old self.new }
     {
         Linked::link(alloc, &mut self.known, &mut self.classes, pattern)
     }
 
-    /// Gives the id with this number its meaning, in place of what it had.
+    /// Puts an entry into the slot with this number, in place of what it holds.
     pub(crate) fn put(&mut self, number: u32, slot: Slot<'r, 's, F>)
-        requires own { (id : Text) × (numbers self.old id ≡ Some number)
-            × IsTrue (is_named id slot.entry) }
-        requires linked { IsLinked (numbers self.old) (table self.old) slot }
+        requires own { (id : Text) × (numbers self.old id ≡ Some number) × IsNamed id slot.entry }
+        requires linked { IsLinkedIn self.old slot }
         ensures numbers { (id : Text) → numbers self.new id ≡ numbers self.old id }
         ensures table { table self.new ≡ table self.old }
-        ensures after { (id : Text) → numbers self.old id ≡ Some number →
-            (answer : F → Function Text) → ids answer self.new
-            ≡ set id (entry_of answer slot.entry.entry) (ids answer self.old) }
+        ensures after { FillsSlot self.old self.new number slot.entry.entry }
     {
         self.known.fill(number, Some(slot));
     }

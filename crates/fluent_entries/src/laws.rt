@@ -26,7 +26,7 @@ pub fn equal_resolver_errors(one: &ResolverError, two: &ResolverError) -> bool
     one == two
 }
 
-/// Reports are equal where their contents are.
+/// Errors are equal where their contents are.
 pub fn equal_errors(one: &FluentError, two: &FluentError) -> bool
     ensures { IsTrue result ↔ (error_view one.now ≡ error_view two.now) }
 {

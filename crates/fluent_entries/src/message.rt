@@ -4,7 +4,7 @@
 ghost use Rattle.std.specs.Prelude.{◌≡◌};
 ghost use Rattle.std.specs.Option.{option_map};
 ghost use Rattle.fluent_tree.specs.View.{pattern_view};
-ghost use Rattle.fluent_entries.specs.MessageView.{message_view, attribute_content, attributes_left, first_named};
+ghost use Rattle.fluent_entries.specs.MessageView.{attribute_content, attribute_named, attributes_left, message_view};
 
 use fluent_tree::ast;
 use std::slice::Iter;
@@ -37,8 +37,7 @@ impl<'m, 's> FluentMessage<'m, 's> {
 
     /// The first attribute of the name, or `None` where none has it.
     pub fn get_attribute(&self, name: &str) -> Option<FluentAttribute<'m, 's>>
-        ensures { option_map attribute_content result
-            ≡ first_named name.now (message_view self.now).attributes }
+        ensures { option_map attribute_content result ≡ attribute_named name.now self.now }
     {
         for attribute in &self.node.attributes {
             if attribute.id.name == name {

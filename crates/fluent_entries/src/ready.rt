@@ -1,8 +1,8 @@
 //! Entries that wait to be put into their slots.
-ghost use Rattle.std.specs.Prelude.{◌≡◌, ◌||◌, ◌++◌, ℕ, [], ◌∷◌, IfOk, OnOk, is_some, nat_eq};
+ghost use Rattle.std.specs.Prelude.{◌≡◌, ◌++◌, [], ◌∷◌, IfOk, OnOk};
 ghost use Rattle.std.specs.Option.{option_to_list};
-ghost use Rattle.fluent_entries.specs.WaitingEntries.{is_marked};
-ghost use Rattle.fluent_entries.specs.declared.ready.Ready.{Ready};
+ghost use Rattle.fluent_entries.specs.Inside.AddingSteps.{IsMarkedToo, ready};
+ghost use Rattle.fluent_entries.specs.Inside.WaitingEntries.{is_marked};
 
 use crate::slot::Kept;
 use std::alloc::{AllocError, Global};
@@ -44,10 +44,8 @@ impl Waiting {
         number: u32,
         kept: Option<Box<Kept>>,
     ) -> Result<(), AllocError>
-        ensures list { OnOk result (self.new.list.items ≡ self.old.list.items
-            ++ record { place = place; number = number; is_linked = is_some kept } ∷ []) }
-        ensures kept { OnOk result (self.new.kept.items
-            ≡ self.old.kept.items ++ option_to_list kept) }
+        ensures list { OnOk result (self.new.list.items ≡ self.old.list.items ++ ready place number kept ∷ []) }
+        ensures kept { OnOk result (self.new.kept.items ≡ self.old.kept.items ++ option_to_list kept) }
     {
         let is_linked = kept.is_some();
         self.list.push(Ready {
@@ -74,8 +72,7 @@ pub(crate) fn is_marked(marks: &[bool], number: u32) -> bool
 
 /// Marks a number.
 pub(crate) fn mark(marks: &mut Vec<bool>, number: u32) -> Result<(), AllocError>
-    ensures { OnOk result ((n : ℕ) → is_marked marks.new.items n
-        ≡ (nat_eq number n || is_marked marks.old.items n)) }
+    ensures { OnOk result (IsMarkedToo number marks.old.items marks.new.items) }
 {
     let place = number as usize;
     if marks.len() <= place {

@@ -68,7 +68,7 @@ fn is_bare(linked: &Linked) -> bool
     linked.class().is_none()
 }
 
-/// The same of a value, if there is one.
+/// Whether nothing needs to be kept of a value, since it refers to nothing or there is none.
 fn is_value_bare(value: &Option<Linked>) -> bool
     ensures { result ≡ is_value_bare value.now }
 {
@@ -78,6 +78,7 @@ fn is_value_bare(value: &Option<Linked>) -> bool
     }
 }
 
+/// Whether nothing needs to be kept of attributes, since none of them refers to anything.
 fn are_bare(attributes: &[Linked]) -> bool
     ensures { result ≡ list_all is_bare attributes.now }
 {

@@ -1,9 +1,8 @@
 //! What goes wrong where a pattern is resolved.
 ghost use Rattle.std.specs.Prelude.{◌≡◌, IfOk, IsOk, None, string_bytes};
 ghost use Rattle.std.specs.Option.{option_map};
-ghost use Rattle.fluent_tree.specs.View.{inline_view, attribute_of};
-ghost use Rattle.fluent_meaning.specs.Errors.{reference_of, lost};
-ghost use Rattle.fluent_entries.specs.ErrorView.{attribute_name, reference_view, resolver_error_view};
+ghost use Rattle.fluent_tree.specs.View.{attribute_of};
+ghost use Rattle.fluent_entries.specs.ErrorView.{attribute_name, lost_in, reference_in, reference_view, resolver_error_view};
 ghost use Rattle.fluent_entries.specs.ErrorsWithoutMemory.{NamesNothing};
 
 use fluent_tree::ast::{Identifier, InlineExpression};
@@ -61,14 +60,13 @@ impl ReferenceKind {
     ///
     /// # Errors
     ///
-    /// An allocation failed, which only a reference can meet.
+    /// An allocation failed. The call can't fail where the expression is no reference.
     pub fn of(
         alloc: Global,
         expression: &InlineExpression<'_>,
     ) -> Result<Option<ReferenceKind>, AllocError>
-        ensures found { IfOk result (λ found. option_map reference_view found
-            ≡ reference_of (inline_view expression.now)) }
-        ensures succeeds { reference_of (inline_view expression.now) ≡ None → IsOk result }
+        ensures found { IfOk result (λ r. option_map reference_view r ≡ reference_in expression.now) }
+        ensures succeeds { reference_in expression.now ≡ None → IsOk result }
     {
         match expression {
             InlineExpression::FunctionReference { id, .. } => Ok(Some(ReferenceKind::Function {
@@ -133,7 +131,7 @@ pub enum ResolverError {
     MissingDefault,
     /// A pattern refers to itself.
     Cyclic,
-    /// The limit on placeables was met.
+    /// The limit on placeables was reached.
     TooManyPlaceables,
 }
 
@@ -142,14 +140,13 @@ impl ResolverError {
     ///
     /// # Errors
     ///
-    /// An allocation failed, which only a reference can meet.
+    /// An allocation failed. The call can't fail where the expression is no reference.
     pub fn of(
         alloc: Global,
         expression: &InlineExpression<'_>,
     ) -> Result<Option<ResolverError>, AllocError>
-        ensures found { IfOk result (λ found. option_map resolver_error_view found
-            ≡ option_map lost (reference_of (inline_view expression.now))) }
-        ensures succeeds { reference_of (inline_view expression.now) ≡ None → IsOk result }
+        ensures found { IfOk result (λ e. option_map resolver_error_view e ≡ lost_in expression.now) }
+        ensures succeeds { reference_in expression.now ≡ None → IsOk result }
     {
         match ReferenceKind::of(alloc, expression)? {
             Some(reference) => Ok(Some(ResolverError::Reference(reference))),
@@ -161,7 +158,7 @@ impl ResolverError {
     ///
     /// # Errors
     ///
-    /// An allocation failed, which only an error with a text can meet.
+    /// An allocation failed. The copy of an error without a text can't fail.
     pub fn try_clone(&self, alloc: Global) -> Result<ResolverError, AllocError>
         ensures same { IfOk result (λ copy. resolver_error_view copy
             ≡ resolver_error_view self.now) }

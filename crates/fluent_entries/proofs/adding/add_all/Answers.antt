@@ -2,7 +2,7 @@ use Rattle.std.proofs.Common.{◌∙◌, ◌++◌, ap, sym, append_assoc, map, t
 use Rattle.fluent_tree.specs.View.{entry_view}
 use Rattle.fluent_meaning.specs.Arguments.{set_all}
 use Rattle.fluent_meaning.specs.Bundle.{added, not_added}
-use Rattle.fluent_entries.specs.WaitingEntries.{at_place, given_by}
+use Rattle.fluent_entries.specs.Inside.WaitingEntries.{at_place, given_by}
 use Rattle.fluent_entries.specs.EntryView.{ids}
 use Rattle.fluent_entries.specs.ErrorView.{error_view}
 use Rattle.fluent_entries.proofs.Added.{added_append, not_added_append}

@@ -4,7 +4,7 @@ use Rattle.std.proofs.lemmas.Option.{slice_get_read}
 use Rattle.std.proofs.lemmas.Result.{on_ok_weaker}
 use Rattle.fluent_meaning.specs.Arguments.{get, set_all}
 use Rattle.fluent_meaning.specs.Bundle.{added, not_added}
-use Rattle.fluent_entries.specs.WaitingEntries.{given, given_at, given_by}
+use Rattle.fluent_entries.specs.Inside.WaitingEntries.{given, given_at, given_by}
 use Rattle.fluent_entries.specs.EntryView.{ids}
 use Rattle.fluent_entries.specs.IdNumbers.{numbers, table}
 use Rattle.fluent_entries.specs.ErrorView.{error_view}
@@ -43,7 +43,7 @@ returns-then-is_taken-clause-after g c = λ answer.
     let there = slice_get_read es _ c.args.place e refl c.requires.within c.index-entries-place.is in
     let ready = ready_still (numbers first) (numbers mid) (table first) (table mid) step.0 step.1 es rs ks c.requires.ready in
     let taken : is_some (get id before) ≡ true = is_taken_by mid id n c.in_ok-number.ensures.number (table mid) es c.args.marks.now.items c.deref.result.now rs ks ready c.requires.marked c.deref.ensures.value now (ids answer mid) (c.in_ok-number.ensures.same answer) c.is_taken.result true (c.is_taken.ensures id c.in_ok-number.ensures.number answer) c.if-is_taken.true in
-    sym (ap (λ p. added p before) (one_at es c.args.place e there) ∙ added_taken e _ id _ _ c.in-Some.ensures.some before taken)
+    sym (ap (λ p. added p before) (one_at es c.args.place e there) ∙ added_taken e _ c.in-Some.ensures.some before taken)
 
 pub returns-then-is_taken-clause-told : goal.returns-then-is_taken-clause-told
 returns-then-is_taken-clause-told g c = λ answer.
@@ -65,7 +65,7 @@ returns-then-is_taken-clause-told g c = λ answer.
     ap (map error_view) c.in_ok-push.ensures.items
     ∙ (map-append error_view c.args.errors.now.items _
     ∙ (ap (λ x. so ++ x ∷ []) c.in_ok-left.ensures
-    ∙ sym (ap (λ l. so ++ l) (ap (λ p. not_added p before) (one_at es c.args.place e there) ∙ told_taken e _ id _ _ c.in-Some.ensures.some before taken))))
+    ∙ sym (ap (λ l. so ++ l) (ap (λ p. not_added p before) (one_at es c.args.place e there) ∙ told_taken e _ c.in-Some.ensures.some before taken))))
 
 pub returns-clause-ready : goal.returns-clause-ready
 returns-clause-ready g c =
@@ -76,7 +76,7 @@ returns-clause-ready g c =
     let step = c.in_ok-number.ensures.grown in
     let there = slice_get_read es _ c.args.place e refl c.requires.within c.index-entries-place.is in
     on_ok_weaker c.make_ready.result
-    (λ ready. ready es e (ready_still (numbers first) (numbers mid) (table first) (table mid) step.0 step.1 es c.args.waiting.now.list.items c.args.waiting.now.kept.items c.requires.ready) there c.in-Some.ensures.some)
+    (λ ready. ready es (e, there, c.in-Some.ensures.some) (ready_still (numbers first) (numbers mid) (table first) (table mid) step.0 step.1 es c.args.waiting.now.list.items c.args.waiting.now.kept.items c.requires.ready))
     c.make_ready.ensures.ready
 
 pub returns-clause-after : goal.returns-clause-after
@@ -100,7 +100,7 @@ returns-clause-after g c =
     ap (λ ws. set_all ws now) (more es)
     ∙ (set_more (given_by es rs) (given_at es c.args.place) now
     ∙ (ap (λ p. set_all (given p) before) (one_at es c.args.place e there)
-    ∙ (added_free e _ id _ _ c.in-Some.ensures.some before free
+    ∙ (added_free e _ c.in-Some.ensures.some before free
     ∙ sym (ap (λ p. added p before) (one_at es c.args.place e there))))))
     c.make_ready.ensures.more
 
@@ -123,5 +123,5 @@ returns-clause-told g c =
     let now = ids answer first in
     let before = set_all (given_by es rs) now in
     let free : is_some (get id before) ≡ false = is_taken_by mid id n c.in_ok-number.ensures.number (table mid) es c.args.marks.now.items c.deref.result.now rs ks ready c.requires.marked c.deref.ensures.value now (ids answer mid) (c.in_ok-number.ensures.same answer) c.is_taken.result false (c.is_taken.ensures id c.in_ok-number.ensures.number answer) c.if-is_taken.false in
-    sym (ap (λ l. so ++ l) (ap (λ p. not_added p before) (one_at es c.args.place e there) ∙ told_free e _ id _ _ c.in-Some.ensures.some before free) ∙ append-nil so))
+    sym (ap (λ l. so ++ l) (ap (λ p. not_added p before) (one_at es c.args.place e there) ∙ told_free e _ c.in-Some.ensures.some before free) ∙ append-nil so))
     c.make_ready.ensures.more

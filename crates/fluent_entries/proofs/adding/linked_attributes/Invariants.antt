@@ -1,7 +1,5 @@
-use Rattle.std.proofs.Common.{◌≡◌, take}
-use Rattle.fluent_tree.specs.Tree.{Text}
-use Rattle.fluent_meaning.specs.Bundle.{Function}
-use Rattle.fluent_entries.specs.EntryView.{ids}
+use Rattle.std.proofs.Common.{take}
+use Rattle.fluent_entries.specs.Changes.{KeepsEntries}
 use Rattle.fluent_entries.specs.KeptLinks.{AreOf, patterns}
 use Rattle.fluent_entries.specs.IdNumbers.{Grown, numbers, table}
 use Rattle.fluent_entries.proofs.adding.linked_attributes.Given as goal
@@ -11,5 +9,5 @@ abbrev pub invariant-loop-attribute : goal.invariant-loop-attribute
 invariant-loop-attribute g l = record {
   linked : AreOf (numbers l.known) (table l.known) (patterns (take l.attribute-index l.attributes)) l.list.items;
   grown : Grown l.fn.known l.known;
-  same : (answer : _ → Function Text) → ids answer l.known ≡ ids answer l.fn.known;
+  same : KeepsEntries l.fn.known l.known;
 }

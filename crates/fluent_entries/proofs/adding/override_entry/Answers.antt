@@ -2,8 +2,7 @@ use Rattle.std.proofs.Common.{◌∙◌, ◌++◌, ap, sym, refl}
 use Rattle.std.proofs.lemmas.List.{append-nil}
 use Rattle.std.proofs.lemmas.Option.{slice_get_read}
 use Rattle.std.proofs.lemmas.Result.{on_ok_weaker}
-use Rattle.fluent_tree.specs.Tree.{Text}
-use Rattle.fluent_entries.specs.WaitingEntries.{given, given_by}
+use Rattle.fluent_entries.specs.Inside.WaitingEntries.{given, given_by}
 use Rattle.fluent_entries.specs.IdNumbers.{numbers, table}
 use Rattle.fluent_entries.proofs.Waiting.{given_junk, one_at, ready_still}
 use Rattle.fluent_entries.proofs.adding.override_entry.Goals as goal
@@ -12,9 +11,9 @@ pub returns-in_default-clause-given : goal.returns-in_default-clause-given
 returns-in_default-clause-given g c =
     let es = c.args.entries.now in
     let e = c.index-entries-place.result in
-    let so = given_by {C = Text} es c.args.waiting.now.list.items in
+    let so = given_by es c.args.waiting.now.list.items in
     let there = slice_get_read es _ c.args.place e refl c.requires.within c.index-entries-place.is in
-    sym (ap (λ l. so ++ l) (ap (given {C = Text}) (one_at es c.args.place e there) ∙ given_junk e c.in_default.ensures.none) ∙ append-nil so)
+    sym (ap (λ l. so ++ l) (ap given (one_at es c.args.place e there) ∙ given_junk e c.in_default.ensures.none) ∙ append-nil so)
 
 pub returns-clause-ready : goal.returns-clause-ready
 returns-clause-ready g c =
@@ -25,5 +24,5 @@ returns-clause-ready g c =
     let step = c.in_ok-number.ensures.grown in
     let there = slice_get_read es _ c.args.place e refl c.requires.within c.index-entries-place.is in
     on_ok_weaker c.make_ready.result
-    (λ ready. ready es e (ready_still (numbers first) (numbers mid) (table first) (table mid) step.0 step.1 es c.args.waiting.now.list.items c.args.waiting.now.kept.items c.requires.ready) there c.in-Some.ensures.some)
+    (λ ready. ready es (e, there, c.in-Some.ensures.some) (ready_still (numbers first) (numbers mid) (table first) (table mid) step.0 step.1 es c.args.waiting.now.list.items c.args.waiting.now.kept.items c.requires.ready))
     c.make_ready.ensures.ready

@@ -3,7 +3,7 @@ use Rattle.std.specs.Vec.Iter.{into_iter_items}
 use Rattle.fluent_meaning.specs.Arguments.{set_all}
 use Rattle.fluent_entries.specs.EntryView.{ids}
 use Rattle.fluent_entries.specs.IdNumbers.{numbers, table}
-use Rattle.fluent_entries.specs.WaitingEntries.{AreReady, given_at, given_by}
+use Rattle.fluent_entries.specs.Inside.WaitingEntries.{AreReady, given_at, given_by}
 use Rattle.fluent_entries.proofs.Linking.{grown_by, grown_twice, grows_by, kept_by}
 use Rattle.fluent_entries.proofs.Waiting.{ready_still, set_more}
 use Rattle.fluent_entries.proofs.adding.put_all.Goals as goal

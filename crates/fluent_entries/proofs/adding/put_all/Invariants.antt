@@ -5,7 +5,7 @@ use Rattle.fluent_meaning.specs.Arguments.{set_all}
 use Rattle.fluent_meaning.specs.Bundle.{Function}
 use Rattle.fluent_entries.specs.EntryView.{ids}
 use Rattle.fluent_entries.specs.IdNumbers.{Grown, numbers, table}
-use Rattle.fluent_entries.specs.WaitingEntries.{AreReady, given_by}
+use Rattle.fluent_entries.specs.Inside.WaitingEntries.{AreReady, given_by}
 use Rattle.fluent_entries.proofs.adding.put_all.Given as goal
 
 -- what is left has the numbers of its ids and what is kept of it, and makes of the ids what all of it would

@@ -2,7 +2,7 @@ use Rattle.std.proofs.Common.{ap, ◌∙◌, map}
 use Rattle.fluent_tree.specs.View.{entry_view}
 use Rattle.fluent_meaning.specs.Arguments.{set_all}
 use Rattle.fluent_entries.specs.EntryView.{ids}
-use Rattle.fluent_entries.specs.WaitingEntries.{given}
+use Rattle.fluent_entries.specs.Inside.WaitingEntries.{given}
 use Rattle.fluent_entries.proofs.Waiting.{overridden_given}
 use Rattle.fluent_entries.proofs.ids.Ids.override_entries.Goals as goal
 

@@ -10,13 +10,18 @@ use Rattle.fluent_tree.specs.declared.ast.Entry.{Entry}
 use Rattle.fluent_tree.specs.declared.ast.Entry.TheVariants as entries
 use Rattle.fluent_meaning.specs.Bundle.{a_message, a_term}
 use Rattle.fluent_meaning.specs.Bundle as m
-use Rattle.fluent_meaning.specs.Errors.{Kind, message_kind, term_kind}
+use Rattle.fluent_meaning.specs.Errors.{message_kind, term_kind}
+use Rattle.fluent_entries.specs.declared.adding.Parts.{Parts}
+use Rattle.fluent_entries.specs.declared.ids.Ids.{Ids}
 use Rattle.fluent_entries.specs.declared.ready.Ready.{Ready}
+use Rattle.fluent_entries.specs.declared.ready.Waiting.{Waiting}
 use Rattle.fluent_entries.specs.declared.slot.Kept.{Kept}
-use Rattle.fluent_entries.specs.KeptLinks.{IsKeptOf, patterns}
+use Rattle.fluent_entries.specs.ErrorView.{kind_view}
+use Rattle.fluent_entries.specs.IdNumbers.{numbers, table}
+use Rattle.fluent_entries.specs.KeptLinks.{IsKeptOf, borrowed_value, patterns}
 
 -- the messages and terms among entries, each with its id
-abbrev pub given : {C : Type 0} → List t.Entry → List (Text × m.Entry C)
+abbrev pub given : List t.Entry → List (Text × m.Entry Text)
 given [] = []
 given (message_entry id v as' ∷ es) = (id, a_message v as') ∷ given es
 given (term_entry id p as' ∷ es) = (id, a_term p as') ∷ given es
@@ -26,20 +31,24 @@ given (junk_entry source ∷ es) = given es
 abbrev pub at_place : List Entry → ℕ → List t.Entry
 at_place es place = map entry_view (option_to_list (slice_get es place))
 
--- with its id, if it is a message or a term
-abbrev pub given_at : {C : Type 0} → List Entry → ℕ → List (Text × m.Entry C)
+-- the entry at a place with its id, if it is a message or a term
+abbrev pub given_at : List Entry → ℕ → List (Text × m.Entry Text)
 given_at es place = given (at_place es place)
 
 -- the entries that wait, each with its id
-abbrev pub given_by : {C : Type 0} → List Entry → List Ready → List (Text × m.Entry C)
+abbrev pub given_by : List Entry → List Ready → List (Text × m.Entry Text)
 given_by es [] = []
 given_by es (r ∷ rs) = given_at es r.place ++ given_by es rs
 
--- an entry is a message or a term of this id, this value and attributes with these patterns
-abbrev pub HasParts : Entry → Kind → Text → Option Pattern → List Pattern → Type 0
-HasParts (entries.Message x) kind id v ps = (kind ≡ message_kind) × (x.id.name.now ≡ id) × (value_view x.value ≡ v) × (patterns x.attributes.items ≡ ps)
-HasParts (entries.Term x) kind id v ps = (kind ≡ term_kind) × (x.id.name.now ≡ id) × (Some (pattern_view x.value) ≡ v) × (patterns x.attributes.items ≡ ps)
-HasParts (entries.Junk source) kind id v ps = ⊥
+-- an entry is a message or a term of these parts
+abbrev pub HasParts : Entry → Parts → Type 0
+HasParts (entries.Message x) p = (kind_view p.kind ≡ message_kind) × (x.id.name.now ≡ p.id.now) × (value_view x.value ≡ borrowed_value p.value) × (patterns x.attributes.items ≡ patterns p.attributes.now)
+HasParts (entries.Term x) p = (kind_view p.kind ≡ term_kind) × (x.id.name.now ≡ p.id.now) × (Some (pattern_view x.value) ≡ borrowed_value p.value) × (patterns x.attributes.items ≡ patterns p.attributes.now)
+HasParts (entries.Junk source) p = ⊥
+
+-- the entry at a place has these parts
+abbrev pub HasPartsAt : List Entry → ℕ → Parts → Type 0
+HasPartsAt es place p = (e : Entry) × (slice_get es place ≡ Some e) × HasParts e p
 
 abbrev pub IsJunk : Entry → Type 0
 IsJunk (entries.Message x) = ⊥
@@ -56,10 +65,14 @@ IsReady number table n kept (entries.Junk source) = ⊥
 abbrev pub Waits : (Text → Option ℕ) → List Pattern → List Entry → Ready → Option (Box Kept) → Type 0
 Waits number table es r kept = (r.is_linked ≡ is_some kept) × (e : Entry) × (slice_get es r.place ≡ Some e) × IsReady number table r.number kept e
 
--- the same of each that waits; what is kept of them stands in their order
+-- each that waits has the number of its id; what is kept of them stands in their order
 abbrev pub AreReady : (Text → Option ℕ) → List Pattern → List Entry → List Ready → List (Box Kept) → Type 0
 AreReady number table es [] ks = ks ≡ []
 AreReady number table es (r ∷ rs) ks = (kept : Option (Box Kept)) × (rest : List (Box Kept)) × (ks ≡ option_to_list kept ++ rest) × Waits number table es r kept × AreReady number table es rs rest
+
+-- all that wait can be put into the slots of these ids
+abbrev pub AreReadyFor : {F : Type 0} → Ids F → List Entry → Waiting → Type 0
+AreReadyFor ids es w = AreReady (numbers ids) (table ids) es w.list.items w.kept.items
 
 -- ---- which numbers are those of entries that wait
 
