@@ -6,10 +6,14 @@ pub use Rattle.fluent_entries.specs.IdNumbers
 pub use Rattle.fluent_entries.specs.Texts
 pub mod View
 pub mod Args
+pub mod ArgsCalls
+pub mod Inserted
 pub mod Names
 pub mod Conversions
 pub mod Merging
 pub mod Sinks
+pub mod Shown
+pub mod Answers
 pub mod ValuesWithoutMemory
 pub mod FreeRows
 pub mod Facts

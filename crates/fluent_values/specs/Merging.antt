@@ -1,9 +1,13 @@
 -- How the parts of `merge` in the code stand to `merge` of the meaning: the currency first, as it takes memory, and then the rest.
-use Rattle.std.specs.Prelude.{[], ◌∷◌, Option, Some, None, codes}
+use Rattle.std.specs.Prelude.{◌≡◌, [], ◌∷◌, Option, Some, None, codes}
 use Rattle.fluent_tree.specs.Tree.{Text}
-use Rattle.fluent_intl.specs.Options.{Options}
+use Rattle.fluent_intl.specs.Options.{Options, options_of}
+use Rattle.fluent_intl.specs.declared.options.FluentNumberOptions.{FluentNumberOptions}
 use Rattle.fluent_meaning.specs.Value.{Value, text_value, number_value, custom_value, no_value, error_value}
-use Rattle.fluent_meaning.specs.Arguments.{Map, get, merge_text, merge_one}
+use Rattle.fluent_meaning.specs.Arguments.{Map, get, merge, merge_text, merge_one}
+use Rattle.fluent_values.specs.View.{named}
+use Rattle.fluent_values.specs.ValuesWithoutMemory.{IsTextGiven}
+use Rattle.fluent_values.specs.declared.args.FluentArgs.{FluentArgs}
 
 -- the currency that an argument gives, if it is a text
 abbrev pub currency_by : Option (Value Text) → Option Text → Option Text
@@ -28,3 +32,15 @@ with_one name v o = record (merge_one name v o) { currency = o.currency }
 abbrev pub with_rest : Map (Value Text) → Options → Options
 with_rest [] o = o
 with_rest (e ∷ es) o = with_rest es (with_one e.0 e.1 o)
+
+-- options with what arguments ask for
+abbrev pub merged : {C : Type 0} → (C → Text) → FluentArgs C → Options → Options
+merged content args o = merge (named content args) o
+
+-- a text is given as the currency
+abbrev pub GivesCurrency : {C : Type 0} → (C → Text) → FluentArgs C → Type 0
+GivesCurrency content args = IsTextGiven (get (codes "currency") (named content args))
+
+-- what a change makes of options
+abbrev pub IsMadeBy : (Options → Options) → FluentNumberOptions → FluentNumberOptions → Type 0
+IsMadeBy change o o' = options_of o' ≡ change (options_of o)

@@ -1,9 +1,9 @@
 //! The arguments of a formatting call.
 #![tactic(auto, unfolding(crate::specs::View::named, crate::specs::Args::shown_left, crate::specs::Args::given_left))]
 
-ghost use Rattle.std.specs.Prelude.{◌≡◌, ◌≤◌, if◌then◌else◌, length};
-ghost use Rattle.std.specs.List.{insert};
+ghost use Rattle.std.specs.Prelude.{◌≡◌, ◌≤◌, length};
 ghost use Rattle.std.specs.Result.{is_ok};
+ghost use Rattle.fluent_values.specs.Inserted.{inserted};
 ghost use Rattle.fluent_values.specs.Names.{NamesRise};
 
 use crate::types::{FluentType, FluentValue};
@@ -28,13 +28,12 @@ impl<'a, C: Drop> Drop for FluentArgs<'a, C> {
 }
 
 impl<'a, C: FluentType> FluentArgs<'a, C> {
-    ghost use Rattle.std.specs.Prelude.{◌≡◌, [], None, List, map, IfOk, IsOk, OnOk, OnErr};
-    ghost use Rattle.std.specs.Option.{option_map};
-    ghost use Rattle.std.specs.Cow.{cow_str_bytes};
+    ghost use Rattle.std.specs.Prelude.{◌≡◌, [], List, map, IfOk, IsOk, OnOk, OnErr};
     ghost use Rattle.std.specs.Iterator.{IsFinite, Drains};
     ghost use Rattle.fluent_meaning.specs.Arguments as fin;
-    ghost use Rattle.fluent_values.specs.View.{value_view, named};
+    ghost use Rattle.fluent_values.specs.View.{named};
     ghost use Rattle.fluent_values.specs.Args.{CanGive, pair_view, shown_left};
+    ghost use Rattle.fluent_values.specs.ArgsCalls.{Finds, Lacks, Sets};
     ghost use Rattle.fluent_values.specs.Names.{IsPlaceOf};
 
     /// Makes a map with no names in it. It keeps the allocator and takes no memory yet.
@@ -69,8 +68,7 @@ impl<'a, C: FluentType> FluentArgs<'a, C> {
     ) -> Result<FluentArgs<'a, C>, AllocError>
         requires can { I.can_next pairs }
         requires ends { IsFinite (I.remaining pairs) }
-        ensures all { IfOk result (λ args. (given : List _) × Drains I.next_gives pairs given
-            × (named C.content args ≡ fin.set_all (map (pair_view C.content) given) [])) }
+        ensures all { IfOk result (λ args. (given : List _) × Drains I.next_gives pairs given × (named C.content args ≡ fin.set_all (map (pair_view C.content) given) [])) }
         ensures some { OnErr result (CanGive I.next_gives pairs) }
     {
         let mut args = FluentArgs::new(alloc);
@@ -82,8 +80,7 @@ impl<'a, C: FluentType> FluentArgs<'a, C> {
 
     /// The value of a name, or `None` where it has none. Takes no memory.
     pub fn get(&self, name: &str) -> Option<&FluentValue<'a, C>>
-        ensures { option_map (λ v. value_view C.content v.now) result
-            ≡ fin.get name.now (named C.content self.now) }
+        ensures { Finds C.content name.now self.now result }
     {
         match self.place_of(name) {
             Ok(at) => Some(&self.pairs[at].1),
@@ -99,12 +96,9 @@ impl<'a, C: FluentType> FluentArgs<'a, C> {
     /// dropped.
     #[inline(always)]
     pub fn set(&mut self, name: CowStr<'a>, value: FluentValue<'a, C>) -> Result<(), AllocError>
-        ensures ok { OnOk result (named C.content self.new
-            ≡ fin.set (cow_str_bytes name.entry) (value_view C.content value.entry)
-            (named C.content self.old)) }
+        ensures ok { OnOk result (Sets C.content name.entry value.entry self.old self.new) }
         ensures err { OnErr result (named C.content self.new ≡ named C.content self.old) }
-        ensures new_name { OnErr result (fin.get (cow_str_bytes name.entry)
-            (named C.content self.old) ≡ None) }
+        ensures new_name { OnErr result (Lacks C.content name.entry self.old) }
     {
         match self.place_of(name.as_str()) {
             Ok(at) => {
@@ -142,8 +136,7 @@ impl<'a, C: FluentType> FluentArgs<'a, C> {
 #[inline(always)]
 fn insert_at<X: Drop>(items: &mut Vec<X>, at: usize, item: X) -> Result<(), AllocError>
     requires { at ≤ length items.old.items }
-    ensures { items.new.items ≡ (if is_ok result then insert items.old.items at item
-        else items.old.items) }
+    ensures { items.new.items ≡ inserted (is_ok result) items.old.items at item }
 {
     if at == items.len() {
         items.push(item)?;

@@ -1,8 +1,7 @@
 //! The functions that a bundle can have built in.
-ghost use Rattle.std.specs.Prelude.{◌≡◌, map, IfOk, OnErr};
+ghost use Rattle.std.specs.Prelude.{IfOk, OnErr};
 ghost use Rattle.fluent_meaning.specs.Arguments.{number_function};
-ghost use Rattle.fluent_values.specs.View.{value_view, named};
-ghost use Rattle.fluent_values.specs.ValuesWithoutMemory.{AsksForCurrency};
+ghost use Rattle.fluent_values.specs.Answers.{IsAnswer, IsForCurrency};
 
 use crate::args::FluentArgs;
 use crate::types::{FluentType, FluentValue, MergeArgs};
@@ -20,11 +19,8 @@ pub fn NUMBER<'a, C: FluentType>(
     positional: &[FluentValue<'a, C>],
     arguments: &FluentArgs<'a, C>,
 ) -> Result<FluentValue<'a, C>, AllocError>
-    ensures same { IfOk result (λ v. value_view C.content v
-        ≡ number_function (map (value_view C.content) positional.now)
-        (named C.content arguments.now)) }
-    ensures memory { OnErr result (AsksForCurrency (map (value_view C.content) positional.now)
-        (named C.content arguments.now)) }
+    ensures same { IfOk result (IsAnswer C.content number_function positional.now arguments.now) }
+    ensures memory { OnErr result (IsForCurrency C.content positional.now arguments.now) }
 {
     match positional.first() {
         Some(FluentValue::Number(number)) => {

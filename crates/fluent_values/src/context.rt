@@ -1,15 +1,13 @@
 //! What resolving a pattern and showing a value ask of a bundle.
 
-ghost use Rattle.std.specs.Prelude.{◌≡◌, IfOk, IsOk, IsTrue, Bool, string_bytes};
-ghost use Rattle.std.specs.Option.{option_map};
+ghost use Rattle.std.specs.Prelude.{◌≡◌, IfOk, IsOk, IsTrue, Bool};
 ghost use Rattle.std.specs.declared.alloc.Global.{Global as Heap};
-ghost use Rattle.std.specs.Cow.{cow_str_bytes};
 ghost use Rattle.fluent_tree.specs.Tree.{Text};
 ghost use Rattle.fluent_intl.specs.Number.{number_of};
 ghost use Rattle.fluent_meaning.specs.Bundle.{Bundle};
 ghost use Rattle.fluent_meaning.specs.Number.{category_word};
 ghost use Rattle.fluent_meaning.specs.Value.{category_of};
-ghost use Rattle.fluent_values.specs.View.{value_view};
+ghost use Rattle.fluent_values.specs.Shown.{IsFormatted, IsText};
 
 use crate::types::{FluentType, FluentValue};
 use fluent_intl::FluentNumber;
@@ -46,8 +44,7 @@ pub trait Context<C: FluentType> {
     ///
     /// An allocation failed.
     fn change<'t>(&self, text: &'t str) -> Result<CowStr<'t>, AllocError>
-        ensures text { IfOk result (λ changed. cow_str_bytes changed
-            ≡ (meant self.now).transform text.now) }
+        ensures text { IfOk result (IsText ((meant self.now).transform text.now)) }
         ensures succeeds { IsTrue (is_plain self.now) → IsOk result };
 
     /// The formatter's answer for a value: what it is shown as in place of its own text, if it says so.
@@ -56,8 +53,7 @@ pub trait Context<C: FluentType> {
     ///
     /// An allocation failed.
     fn formatted(&self, value: &FluentValue<'_, C>) -> Result<Option<String>, AllocError>
-        ensures answer { IfOk result (λ text. option_map string_bytes text
-            ≡ (meant self.now).formatter (value_view C.content value.now)) }
+        ensures answer { IfOk result (IsFormatted C.content (meant self.now).formatter value.now) }
         ensures custom { (meant self.now).custom ≡ record { text = C.shown; same = C.alike } };
 
     /// The word of the plural category that a number has.

@@ -3,7 +3,7 @@ ghost use Rattle.std.specs.Prelude.{◌≡◌, IfOk, IsOk, Option, None, string_
 ghost use Rattle.std.specs.Option.{option_map};
 ghost use Rattle.fluent_tree.specs.Tree.{Text};
 ghost use Rattle.fluent_meaning.specs.Value.{Value};
-ghost use Rattle.fluent_values.specs.View.{value_view};
+ghost use Rattle.fluent_values.specs.Shown.{IsFormatted};
 
 use crate::types::{FluentType, FluentValue};
 use std::alloc::{AllocError, Global};
@@ -25,8 +25,7 @@ pub trait FluentFormatter<C: FluentType, M>: Drop {
         value: &FluentValue<'a, C>,
         intls: &M,
     ) -> Result<Option<String>, AllocError>
-        ensures { IfOk result (λ text. option_map string_bytes text
-            ≡ formatted self.now (value_view C.content value.now) intls.now) };
+        ensures { IfOk result (IsFormatted C.content (λ v. formatted self.now v intls.now) value.now) };
 }
 
 /// No formatter: each value is shown by its own text.

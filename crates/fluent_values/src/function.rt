@@ -1,9 +1,10 @@
 //! Functions of the application, which messages call by name.
-ghost use Rattle.std.specs.Prelude.{◌≡◌, List, map, IfOk, IsOk};
+ghost use Rattle.std.specs.Prelude.{◌≡◌, List, IfOk, IsOk};
 ghost use Rattle.fluent_tree.specs.Tree.{Text};
 ghost use Rattle.fluent_meaning.specs.Value.{Value, error_value};
 ghost use Rattle.fluent_meaning.specs.Arguments.{Map};
-ghost use Rattle.fluent_values.specs.View.{value_view, named};
+ghost use Rattle.fluent_values.specs.View.{value_view};
+ghost use Rattle.fluent_values.specs.Answers.{IsAnswer};
 
 mod function_of;
 
@@ -28,9 +29,7 @@ pub trait FluentFunction<C: FluentType>: Drop {
         positional: &[FluentValue<'a, C>],
         arguments: &FluentArgs<'a, C>,
     ) -> Result<FluentValue<'a, C>, AllocError>
-        ensures { IfOk result (λ v. value_view C.content v
-            ≡ answer self.now (map (value_view C.content) positional.now)
-            (named C.content arguments.now)) };
+        ensures { IfOk result (IsAnswer C.content (answer self.now) positional.now arguments.now) };
 }
 
 /// No function of the application's own: whatever it is asked, it answers an error.

@@ -1,7 +1,8 @@
 //! Where the text of a formatting call goes, and why it may stop.
 ghost use Rattle.std.specs.Prelude.{◌≡◌, ◌≢◌, Err, false};
 ghost use Rattle.fluent_text.specs.Escapes.{unescaped};
-ghost use Rattle.fluent_values.specs.Sinks.{halt_of, sink, without_error, SinkTook};
+ghost use Rattle.fluent_values.specs.Shown.{Puts};
+ghost use Rattle.fluent_values.specs.Sinks.{halt_of, without_error};
 
 use fluent_text::{Counting, WriteFault, put, unescape_unicode, unescape_unicode_to_string};
 use std::alloc::{AllocError, Global};
@@ -57,7 +58,7 @@ impl<W> Drop for Output<'_, '_, W> {
 
 /// Writes a text.
 pub fn put_text<W: Write>(out: &mut Output<W>, text: &str) -> Result<(), Halt>
-    ensures took { SinkTook result text.now (sink W.contents out.old) (sink W.contents out.new) }
+    ensures took { Puts W.contents result text.now out.old out.new }
     ensures memory { out.old.is_buffered ≡ false → result ≢ Err Halt.Memory }
 {
     if out.is_buffered {
@@ -71,8 +72,7 @@ pub fn put_text<W: Write>(out: &mut Output<W>, text: &str) -> Result<(), Halt>
 
 /// Writes the text of a string literal, with its escapes resolved.
 pub fn put_unescaped<W: Write>(alloc: Global, out: &mut Output<W>, value: &str) -> Result<(), Halt>
-    ensures { SinkTook result (unescaped value.now) (sink W.contents out.old)
-        (sink W.contents out.new) }
+    ensures { Puts W.contents result (unescaped value.now) out.old out.new }
 {
     if out.is_buffered {
         let text = unescape_unicode_to_string(alloc, value)?;

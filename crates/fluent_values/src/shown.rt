@@ -1,10 +1,6 @@
 //! How values are shown, and which they match.
 ghost use Rattle.std.specs.Prelude.{◌≡◌, IfOk, string_bytes};
-ghost use Rattle.std.specs.Cow.{cow_str_bytes};
-ghost use Rattle.fluent_meaning.specs.Bundle.{shown};
-ghost use Rattle.fluent_meaning.specs.Value.{matches, value_text};
-ghost use Rattle.fluent_values.specs.View.{value_view};
-ghost use Rattle.fluent_values.specs.Sinks.{sink, writer, without_error, SinkTook};
+ghost use Rattle.fluent_values.specs.Shown.{is_match, own, shows, IsShown, Puts, Writes};
 
 use crate::context::{Context, HasBundle};
 use crate::output::{Halt, Output, put_text, with_error};
@@ -20,8 +16,7 @@ pub fn put_value<W: Write, C: FluentType, B: Context<C>>(
     out: &mut Output<W>,
     value: &FluentValue<'_, C>,
 ) -> Result<(), Halt>
-    ensures { SinkTook result (shown (B.meant bundle.now) (value_view C.content value.now))
-        (sink W.contents out.old) (sink W.contents out.new) }
+    ensures { Puts W.contents result (shows C.content (B.meant bundle.now) value.now) out.old out.new }
 {
     match bundle.formatted(value)? {
         Some(text) => put_text(out, text.as_str()),
@@ -35,8 +30,7 @@ fn put_own<W: Write, C: FluentType>(
     out: &mut Output<W>,
     value: &FluentValue<'_, C>,
 ) -> Result<(), Halt>
-    ensures { SinkTook result (value_text (record { text = C.shown; same = C.alike })
-        (value_view C.content value.now)) (sink W.contents out.old) (sink W.contents out.new) }
+    ensures { Puts W.contents result (own C.content C.shown C.alike value.now) out.old out.new }
 {
     match value {
         FluentValue::String(text) => put_text(out, text.as_str()),
@@ -48,8 +42,7 @@ fn put_own<W: Write, C: FluentType>(
 
 /// A value's own text.
 fn own_text<C: FluentType>(alloc: Global, value: &FluentValue<'_, C>) -> Result<String, AllocError>
-    ensures { IfOk result (λ text. string_bytes text
-        ≡ value_text (record { text = C.shown; same = C.alike }) (value_view C.content value.now)) }
+    ensures { IfOk result (λ text. string_bytes text ≡ own C.content C.shown C.alike value.now) }
 {
     match value {
         FluentValue::String(text) => String::from_str(alloc, text.as_str()),
@@ -63,8 +56,7 @@ impl<'v, C: FluentType> FluentValue<'v, C> {
     /// Whether the value matches another, as the key of a variant a selector: equal texts, equal numbers, or the
     /// word of a plural category and a number of that category. Takes no memory.
     pub fn matches<S: HasBundle<C>>(&self, other: &FluentValue<'_, C>, scope: &S) -> bool
-        ensures { result ≡ matches (S.Bundle.meant (S.bundle_of scope.now)).plurals
-            (value_view C.content self.now) (value_view C.content other.now) }
+        ensures { result ≡ is_match C.content (S.Bundle.meant (S.bundle_of scope.now)) self.now other.now }
     {
         match (self, other) {
             (FluentValue::String(one), FluentValue::String(two)) => one.as_str() == two.as_str(),
@@ -80,16 +72,14 @@ impl<'v, C: FluentType> FluentValue<'v, C> {
     ///
     /// # Errors
     ///
-    /// `Writer` where a write failed, `Zero` where a write of a nonempty piece took no byte, `Memory` where memory
-    /// was refused. Then what was written begins the text.
+    /// `Writer` where a write failed, `Zero` where a write of a nonempty piece took no byte, `Memory` where an
+    /// allocation failed. Then what was written begins the text.
     pub fn write<W: Write, S: HasBundle<C>>(
         &self,
         w: &mut Counting<W>,
         scope: &S,
     ) -> Result<(), WriteFault>
-        ensures { SinkTook (without_error result) (shown (S.Bundle.meant (S.bundle_of scope.now))
-            (value_view C.content self.now))
-            (writer W.contents w.old) (writer W.contents w.new) }
+        ensures { Writes W.contents result (shows C.content (S.Bundle.meant (S.bundle_of scope.now)) self.now) w.old w.new }
     {
         let bundle = scope.bundle();
         let mut unused = String::new(bundle.allocator());
@@ -109,8 +99,7 @@ impl<'v, C: FluentType> FluentValue<'v, C> {
     ///
     /// An allocation failed.
     pub fn as_string<S: HasBundle<C>>(&self, scope: &S) -> Result<CowStr<'v>, AllocError>
-        ensures { IfOk result (λ text. cow_str_bytes text
-            ≡ shown (S.Bundle.meant (S.bundle_of scope.now)) (value_view C.content self.now)) }
+        ensures { IfOk result (IsShown C.content (S.Bundle.meant (S.bundle_of scope.now)) self.now) }
     {
         let bundle = scope.bundle();
         let text = match bundle.formatted(self)? {
@@ -120,14 +109,13 @@ impl<'v, C: FluentType> FluentValue<'v, C> {
         Ok(CowStr::Owned(text))
     }
 
-    /// The same, of a value that is not wanted any more.
+    /// What the value is shown as, of a value that is not needed any more.
     ///
     /// # Errors
     ///
     /// An allocation failed.
     pub fn into_string<S: HasBundle<C>>(self, scope: &S) -> Result<CowStr<'v>, AllocError>
-        ensures { IfOk result (λ text. cow_str_bytes text
-            ≡ shown (S.Bundle.meant (S.bundle_of scope.now)) (value_view C.content self.entry)) }
+        ensures { IfOk result (IsShown C.content (S.Bundle.meant (S.bundle_of scope.now)) self.entry) }
     {
         self.as_string(scope)
     }

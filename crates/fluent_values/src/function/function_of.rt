@@ -1,9 +1,9 @@
 //! A function kept beside the fact of what it answers.
-ghost use Rattle.std.specs.Prelude.{◌≡◌, List, Ok, map, IfOk};
+ghost use Rattle.std.specs.Prelude.{◌≡◌, List, Ok, IfOk};
 ghost use Rattle.fluent_tree.specs.Tree.{Text};
 ghost use Rattle.fluent_meaning.specs.Value.{Value};
 ghost use Rattle.fluent_meaning.specs.Arguments.{Map};
-ghost use Rattle.fluent_values.specs.View.{value_view, named};
+ghost use Rattle.fluent_values.specs.Answers.{IsAnswer};
 
 use crate::args::FluentArgs;
 use crate::function::FluentFunction;
@@ -34,9 +34,7 @@ pub trait Answering<C: FluentType, N: AnswerRule<C>> {
         arguments: &FluentArgs<'a, C>,
     ) -> Result<FluentValue<'a, C>, AllocError>
         requires { ready self.now }
-        ensures { IfOk result (λ v. value_view C.content v
-            ≡ N.answer (map (value_view C.content) positional.now)
-            (named C.content arguments.now)) };
+        ensures { IfOk result (IsAnswer C.content N.answer positional.now arguments.now) };
 }
 
 impl<C: FluentType, K, N: AnswerRule<C>> Answering<C, N> for K
@@ -47,7 +45,7 @@ where
         &FluentArgs<'a, C>,
     ) -> Result<FluentValue<'a, C>, AllocError>,
 {
-    ghost ready = { λ f. K.IsAlwaysCallable f × ((alloc : _) (positional : _) (arguments : _) (v : _) → K.post f alloc positional arguments (Ok v) → value_view C.content v ≡ N.answer (map (value_view C.content) positional.now) (named C.content arguments.now)) };
+    ghost ready = { λ f. K.IsAlwaysCallable f × ((alloc : _) (positional : _) (arguments : _) (v : _) → K.post f alloc positional arguments (Ok v) → IsAnswer C.content N.answer positional.now arguments.now v) };
 
     fn reply<'a>(
         &self,

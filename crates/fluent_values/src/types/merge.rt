@@ -1,10 +1,9 @@
 //! Options of a number from named arguments.
-ghost use Rattle.std.specs.Prelude.{◌≡◌, codes, OnOk, OnErr};
+ghost use Rattle.std.specs.Prelude.{◌≡◌, OnOk, OnErr};
 ghost use Rattle.fluent_intl.specs.Options.{Options, options_of};
 ghost use Rattle.fluent_meaning.specs.Arguments as fin;
 ghost use Rattle.fluent_values.specs.View.{value_view, named};
-ghost use Rattle.fluent_values.specs.ValuesWithoutMemory.{IsTextGiven};
-ghost use Rattle.fluent_values.specs.Merging.{with_currency, with_one, with_rest, with_text};
+ghost use Rattle.fluent_values.specs.Merging.{merged, with_currency, with_one, with_rest, with_text, GivesCurrency, IsMadeBy};
 
 use crate::args::FluentArgs;
 use crate::types::{FluentType, FluentValue};
@@ -27,11 +26,9 @@ pub trait MergeArgs<C: FluentType> {
     ///
     /// An allocation failed, which only a text for `currency` can meet: the options are as before.
     fn merge(&mut self, alloc: Global, args: &FluentArgs<'_, C>) -> Result<(), AllocError>
-        ensures ok { OnOk result (options self.new ≡ fin.merge (named C.content args.now)
-            (options self.old)) }
+        ensures ok { OnOk result (options self.new ≡ merged C.content args.now (options self.old)) }
         ensures err { OnErr result (options self.new ≡ options self.old) }
-        ensures memory { OnErr result (IsTextGiven (fin.get (codes "currency")
-            (named C.content args.now))) };
+        ensures memory { OnErr result (GivesCurrency C.content args.now) };
 }
 
 impl<C: FluentType> MergeArgs<C> for FluentNumberOptions {
@@ -50,11 +47,9 @@ fn merge_currency<C: FluentType>(
     alloc: Global,
     args: &FluentArgs<'_, C>,
 ) -> Result<(), AllocError>
-    ensures ok { OnOk result (options_of options.new
-        ≡ with_currency (named C.content args.now) (options_of options.old)) }
+    ensures ok { OnOk result (IsMadeBy (with_currency (named C.content args.now)) options.old options.new) }
     ensures err { OnErr result (options.new ≡ options.old) }
-    ensures memory { OnErr result (IsTextGiven (fin.get (codes "currency")
-        (named C.content args.now))) }
+    ensures memory { OnErr result (GivesCurrency C.content args.now) }
 {
     match args.get("currency") {
         Some(FluentValue::String(code)) => {
@@ -68,8 +63,7 @@ fn merge_currency<C: FluentType>(
 
 /// All but the currency, in one walk: most calls give one option or two, and there are ten names.
 fn merge_rest<C: FluentType>(options: &mut FluentNumberOptions, args: &FluentArgs<'_, C>)
-    ensures { options_of options.new ≡ with_rest (named C.content args.now)
-        (options_of options.old) }
+    ensures { IsMadeBy (with_rest (named C.content args.now)) options.old options.new }
 {
     for (name, value) in args.iter() {
         merge_one(options, name, value);
@@ -82,8 +76,7 @@ fn merge_one<C: FluentType>(
     name: &str,
     value: &FluentValue<'_, C>,
 )
-    ensures { options_of options.new ≡ with_one name.now (value_view C.content value.now)
-        (options_of options.old) }
+    ensures { IsMadeBy (with_one name.now (value_view C.content value.now)) options.old options.new }
 {
     match value {
         FluentValue::String(text) => merge_text(options, name, text.as_str()),
@@ -93,7 +86,7 @@ fn merge_one<C: FluentType>(
 }
 
 fn merge_text(options: &mut FluentNumberOptions, name: &str, text: &str)
-    ensures { options_of options.new ≡ with_text name.now text.now (options_of options.old) }
+    ensures { IsMadeBy (with_text name.now text.now) options.old options.new }
 {
     match name {
         "type" => options.number_type = FluentNumberType::from(text),
@@ -109,8 +102,7 @@ fn merge_text(options: &mut FluentNumberOptions, name: &str, text: &str)
 
 /// A count of digits. Of fraction digits 18 count at most, as a minimum.
 fn merge_count(options: &mut FluentNumberOptions, name: &str, count: usize)
-    ensures { options_of options.new ≡ fin.merge_count name.now count
-        (options_of options.old) }
+    ensures { IsMadeBy (fin.merge_count name.now count) options.old options.new }
 {
     match name {
         "minimumIntegerDigits" => options.minimum_integer_digits = Some(count),

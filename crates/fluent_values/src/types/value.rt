@@ -1,6 +1,7 @@
 //! Values.
 ghost use Rattle.std.specs.Prelude.{◌≡◌, IfOk, IsOk};
 ghost use Rattle.fluent_meaning.specs.Value as meaning;
+ghost use Rattle.fluent_values.specs.Shown.{are_same};
 ghost use Rattle.fluent_values.specs.View.{value_view};
 ghost use Rattle.fluent_values.specs.ValuesWithoutMemory.{IsBorrowed, IsTextless};
 
@@ -43,8 +44,7 @@ impl<'s, C: FluentType> FluentValue<'s, C> {
     /// and all of their options, custom values as their type says. `None` and `Error` are the same as nothing,
     /// not even as themselves. Takes no memory.
     pub fn same(&self, other: &FluentValue<'s, C>) -> bool
-        ensures { result ≡ meaning.same (record { text = C.shown; same = C.alike })
-            (value_view C.content self.now) (value_view C.content other.now) }
+        ensures { result ≡ are_same C.content C.shown C.alike self.now other.now }
     {
         match (self, other) {
             (FluentValue::String(one), FluentValue::String(two)) => one.as_str() == two.as_str(),
