@@ -17,7 +17,8 @@ use Rattle.fluent_meaning.specs.Walk.{application, whole}
 use Rattle.fluent_meaning.specs.Work.{with_work, work}
 use Rattle.fluent_meaning.specs.Laws.{CallsByThemselves}
 use Rattle.fluent_meaning.specs.Result.{written_pattern, substituted_pattern}
-use Rattle.fluent_bundle.specs.Formatted.{AddsAll, WritesAll, Writes}
+use Rattle.fluent_bundle.specs.Formatted.{AddsAll, AddsPrefix, WritesAll, WritesPrefix, Writes}
+use Rattle.fluent_bundle.specs.Inside.Taken.{TakesText}
 use Rattle.fluent_resolver.specs.Status.{Status, reported, with_errors}
 use Rattle.fluent_resolver.specs.WalkProgress.{Walk, Wrote, from_here, given}
 use Rattle.fluent_bundle.specs.Limits.{KeepsLimit}
@@ -166,3 +167,26 @@ faulted_as f e f' e' (Ok x) is h = subst (CountsTell f e f' e') (sym is) h
 faulted_as f e f' e' (Err (fault.Writer x)) is h = subst (CountsTell f e f' e') (sym is) h
 faulted_as f e f' e' (Err fault.Zero) is h = subst (CountsTell f e f' e') (sym is) h
 faulted_as f e f' e' (Err fault.Memory) is h = subst (CountsTell f e f' e') (sym is) h
+
+-- ---- text and errors by themselves
+
+takes_all : {T : Type 0} {r : Result T Halt} {m : Ran Text} {w w' : Sink} {list list' : List FluentError} → Writes r m w w' list list' → OnOk r (Appends w.held w'.held m.value)
+takes_all {r = Ok x} h = h.all.taken
+takes_all {r = Err e} h = tt
+
+pub takes_text : {T : Type 0} {q : Result T Halt} {m : Ran Text} {w w' : Sink} {list list' : List FluentError} (r : Result T WriteFault) → without_error r ≡ q → Writes q m w w' list list' → TakesText r m.value w.held w'.held
+takes_text {m = m} {w = w} {w' = w'} r is h = record {
+  all = ok_as (Appends w.held w'.held m.value) r is (takes_all h);
+  prefix = h.prefix.prefix;
+  rest = h.prefix.rest;
+  whole = h.prefix.whole;
+  taken = h.prefix.taken;
+}
+
+-- both
+pub writes_all : {T E : Type 0} (r : Result T E) {text : Text} (errors : List Error) {held held' : Option Text} (list list' : List FluentError) → TakesText r text held held' → OnOk r (AddsAll errors list list') → OnOk r (WritesAll text errors held held' list list')
+writes_all (Ok x) errors list list' h k = record { taken = h.all; adds = k }
+writes_all (Err e) errors list list' h k = tt
+
+pub writes_prefix : {T E : Type 0} {r : Result T E} {text : Text} {errors : List Error} {held held' : Option Text} {list list' : List FluentError} → TakesText r text held held' → AddsPrefix errors list list' → WritesPrefix text errors held held' list list'
+writes_prefix h k = record { prefix = h.prefix; rest = h.rest; whole = h.whole; taken = h.taken; adds = k }

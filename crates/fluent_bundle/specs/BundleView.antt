@@ -1,5 +1,5 @@
 -- The content of resources, messages and bundles of the code.
-use Rattle.std.specs.Prelude.{ℕ, Bool, not, is_some, List, map, Option, None, Result, Ok, Err, ◌≡◌, ◌≢◌, [], ◌∷◌}
+use Rattle.std.specs.Prelude.{ℕ, Bool, not, is_some, List, map, Option, None, Result, Ok, Err, ◌≡◌, ◌≢◌, [], ◌∷◌, String, string_bytes}
 use Rattle.std.specs.Option.{option_map}
 use Rattle.std.specs.declared.alloc.Global.{Global}
 use Rattle.fluent_tree.specs.Tree as t
@@ -11,9 +11,11 @@ use Rattle.fluent_intl.specs.declared.language.LanguageIdentifier.{LanguageIdent
 use Rattle.fluent_meaning.specs.Value.{Value, Plurals, Custom}
 use Rattle.fluent_meaning.specs.Arguments.{get}
 use Rattle.fluent_meaning.specs.Bundle.{Bundle, Function, transform_of, formatter_of, Call, after, answered}
-use Rattle.fluent_values.specs.View.{error_view}
+use Rattle.fluent_values.specs.View.{error_view, value_view}
 use Rattle.fluent_values.specs.MessageView.{Content}
-use Rattle.fluent_values.specs.EntryView.{ids, message_content}
+use Rattle.fluent_values.specs.EntryView.{function_of, ids, message_content}
+use Rattle.fluent_values.specs.declared.types.value.FluentValue.{FluentValue}
+use Rattle.fluent_entries.specs.declared.entry.FunctionRef.{FunctionRef}
 use Rattle.fluent_entries.specs.declared.ids.Ids.{Ids}
 use Rattle.fluent_bundle.specs.declared.resource.FluentResource.{FluentResource}
 use Rattle.fluent_bundle.specs.declared.resource.TryNewFault.{TryNewFault}
@@ -110,6 +112,14 @@ message_at id b = message_content (get id b.ids)
 -- the same with the id, as `==` of messages compares it
 abbrev pub message_entry_at : {C : Type 0} → Text → Bundle C → Option t.Entry
 message_entry_at id b = option_map (λ c. t.message_entry id c.value c.attributes) (message_at id b)
+
+-- a function that was looked up, if there is one
+abbrev pub function_seen : {F : Type 0} → (F → Function Text) → Option (FunctionRef F) → Option (Function Text)
+function_seen answer found = option_map (function_of answer) found
+
+-- What a value is shown as by a formatter, if there is one, under a plural source.
+abbrev pub ShownBy : {M C G : Type 0} → (C → Text) → (G → Value Text → M → Option Text) → Option G → FluentValue C → M → Option (String Global) → Type 0
+ShownBy content formatted formatter value intls text = option_map string_bytes text ≡ formatter_of (option_map (λ g v. formatted g v intls) formatter) (value_view content value)
 
 -- ---- calls
 

@@ -1,2 +1,6 @@
 -- How private functions stand to the definitions beside this file. No public contract cites these.
 pub mod Asked
+pub mod TextSaid
+pub mod Outputs
+pub mod Taken
+pub mod Unchanged

@@ -13,6 +13,7 @@ pub mod Said
 pub mod CallRows
 pub mod Messages
 pub mod Under
+pub mod TextSaid
 pub mod PatternsWithoutMemory
 pub mod ById
 pub mod Inside

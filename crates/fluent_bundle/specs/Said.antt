@@ -4,7 +4,8 @@ use Rattle.std.specs.declared.vec.Vec.{Vec}
 use Rattle.std.proofs.Common.{Global}
 use Rattle.fluent_tree.specs.Tree.{Text}
 use Rattle.fluent_meaning.specs.Bundle as m
-use Rattle.fluent_meaning.specs.Bundle.{Bundle, after, answered}
+use Rattle.fluent_meaning.specs.Bundle.{Bundle, after, answered, empty_bundle}
+use Rattle.fluent_meaning.specs.Value.{Custom, Plurals}
 use Rattle.fluent_entries.specs.declared.errors.FluentError.{FluentError}
 use Rattle.fluent_values.specs.View.{error_view}
 use Rattle.fluent_bundle.specs.BundleView.{intls_in, AnswersCall}
@@ -14,6 +15,10 @@ use Rattle.fluent_bundle.specs.declared.bundle.FluentBundle.{FluentBundle}
 use Rattle.fluent_bundle.specs.declared.calls.Call.{Call}
 
 module _ {M C F G X : Type 0} (of : FluentBundle M C F G X → Bundle Text) where
+  -- a bundle means what an empty one does, by what the values of an application are, under these plural rules
+  abbrev pub is_empty : Custom Text → Plurals → FluentBundle M C F G X → Type 0
+  is_empty custom plurals b = of b ≡ empty_bundle plurals custom
+
   -- bundles mean the same
   abbrev pub same : FluentBundle M C F G X → FluentBundle M C F G X → Type 0
   same old new = of new ≡ of old

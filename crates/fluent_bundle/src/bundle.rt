@@ -4,14 +4,13 @@
 ghost use Rattle.std.specs.Prelude.{◌≡◌, ◌≤◌, ◌↔◌, is_some, None, IfOk, OnOk, OnErr, IsTrue};
 ghost use Rattle.std.specs.Option.{option_map};
 ghost use Rattle.fluent_intl.specs.Plurals.{english};
-ghost use Rattle.fluent_meaning.specs.Bundle.{empty_bundle};
-ghost use Rattle.fluent_bundle.specs.BundleView.{custom_by, entries_in, formatter_in, intls_in, message_at, message_entry_at, transform_in, AreUndetermined, Kept, KeptBeside};
+ghost use Rattle.fluent_bundle.specs.BundleView.{entries_in, formatter_in, intls_in, transform_in, AreUndetermined, Kept, KeptBeside};
 ghost use Rattle.fluent_values.specs.MessageView.{entry_seen, message_view};
 ghost use Rattle.fluent_bundle.specs.AddAnswers.{answer_of};
 
 use crate::calls::Call;
 use crate::resource::FluentResource;
-use crate::says::Says;
+use crate::says::{Has, Says};
 use fluent_intl::{EnglishPlurals, LanguageIdentifier, MemoizerKind};
 use fluent_syntax::ast;
 use fluent_values::types::FluentType;
@@ -89,7 +88,7 @@ impl<
     pub fn new(alloc: Global, locales: Vec<LanguageIdentifier>, intls: M) -> Self
         ensures holds { (result.locales ≡ locales) × (intls_in result ≡ intls) }
         ensures unset { (transform_in result ≡ None) × (formatter_in result ≡ None) }
-        ensures empty { ⟦<Self as Says>⟧.of result ≡ ⟦<Self as Says>⟧.empty intls }
+        ensures empty { ⟦<Self as Says>⟧.is_empty (M.category intls) result }
     {
         FluentBundle {
             locales,
@@ -169,7 +168,7 @@ impl<
     /// `Overriding` where an id was there, also from an earlier entry of the same resource: all others are added.
     /// `Memory` where an allocation failed: the bundle is as before.
     pub fn add_resource(&mut self, resource: &'r FluentResource<'s>) -> Result<(), AddFault>
-        ensures step { ⟦<Self as Says>⟧.answers (Call.AddResource resource.entry)
+        ensures step { ⟦<Self as Says>⟧.does (Call.AddResource resource.entry)
             self.old self.new result }
         ensures kept { Kept self.old self.new }
     {
@@ -181,10 +180,8 @@ impl<
         &mut self,
         resource: &'r FluentResource<'s>,
     ) -> Result<Vec<FluentError>, AllocError>
-        ensures ok { OnOk result (⟦<Self as Says>⟧.steps (Call.AddResource resource.entry)
-            self.old self.new) }
-        ensures errors { IfOk result (⟦<Self as Says>⟧.leaves (Call.AddResource resource.entry)
-            self.old) }
+        ensures ok { OnOk result (⟦<Self as Says>⟧.adds resource.entry self.old self.new) }
+        ensures errors { IfOk result (⟦<Self as Says>⟧.left (Call.AddResource resource.entry) self.old) }
         ensures err { OnErr result (⟦<Self as Says>⟧.same self.old self.new) }
         ensures kept { Kept self.old self.new }
     {
@@ -201,8 +198,7 @@ impl<
         &mut self,
         resource: &'r FluentResource<'s>,
     ) -> Result<(), AllocError>
-        ensures ok { OnOk result
-            (⟦<Self as Says>⟧.steps (Call.AddResourceOverriding resource.entry) self.old self.new) }
+        ensures ok { OnOk result (⟦<Self as Says>⟧.overrides resource.entry self.old self.new) }
         ensures err { OnErr result (⟦<Self as Says>⟧.same self.old self.new) }
         ensures kept { Kept self.old self.new }
     {
@@ -216,7 +212,7 @@ impl<
     /// `Overriding` with one error where the id was there, `Memory` where an allocation failed: the bundle is as
     /// before, and the function is dropped.
     pub fn add_function(&mut self, id: &str, function: F) -> Result<(), AddFault>
-        ensures step { ⟦<Self as Says>⟧.answers (Call.AddFunction id.entry function)
+        ensures step { ⟦<Self as Says>⟧.does (Call.AddFunction id.entry function)
             self.old self.new result }
         ensures kept { Kept self.old self.new }
     {
@@ -225,10 +221,8 @@ impl<
 
     /// Adds a function where its id is free, and gives the report where it is not.
     fn take_function(&mut self, id: &str, function: F) -> Result<Vec<FluentError>, AllocError>
-        ensures ok { OnOk result (⟦<Self as Says>⟧.steps (Call.AddFunction id.entry function)
-            self.old self.new) }
-        ensures errors { IfOk result (⟦<Self as Says>⟧.leaves (Call.AddFunction id.entry function)
-            self.old) }
+        ensures ok { OnOk result (⟦<Self as Says>⟧.adds_function id.entry function self.old self.new) }
+        ensures errors { IfOk result (⟦<Self as Says>⟧.left (Call.AddFunction id.entry function) self.old) }
         ensures err { OnErr result (⟦<Self as Says>⟧.same self.old self.new) }
         ensures kept { Kept self.old self.new }
     {
@@ -243,7 +237,7 @@ impl<
     /// `Overriding` with one error where the id `NUMBER` was there, `Memory` where an allocation failed: the bundle
     /// is as before.
     pub fn add_builtins(&mut self) -> Result<(), AddFault>
-        ensures step { ⟦<Self as Says>⟧.answers Call.AddBuiltins self.old self.new result }
+        ensures step { ⟦<Self as Says>⟧.does Call.AddBuiltins self.old self.new result }
         ensures kept { Kept self.old self.new }
     {
         let id = CowStr::Borrowed("NUMBER");
@@ -252,17 +246,15 @@ impl<
 
     /// Whether the id names a message. Takes no memory.
     pub fn has_message(&self, id: &str) -> bool
-        ensures { result ≡ is_some (message_at id.now (⟦<Self as Says>⟧.of self.now)) }
+        ensures { result ≡ is_some (⟦<Self as Has>⟧.message self.now id.now) }
     {
         self.get_message(id).is_some()
     }
 
     /// The message that the id names, or `None`. Takes no memory.
     pub fn get_message(&self, id: &str) -> Option<FluentMessage<'r, 's>>
-        ensures content { option_map message_view result ≡ message_at id.now
-            (⟦<Self as Says>⟧.of self.now) }
-        ensures whole { option_map entry_seen result
-            ≡ message_entry_at id.now (⟦<Self as Says>⟧.of self.now) }
+        ensures content { option_map message_view result ≡ ⟦<Self as Has>⟧.message self.now id.now }
+        ensures whole { option_map entry_seen result ≡ ⟦<Self as Has>⟧.message_entry self.now id.now }
     {
         match self.entries.named(id) {
             Some(Entry::Message(node)) => Some(FluentMessage::from(*node)),
@@ -285,8 +277,7 @@ impl<
     ///
     /// An allocation failed.
     pub fn new_default(alloc: Global) -> Result<Self, AllocError>
-        ensures empty { IfOk result (λ b. ⟦<Self as Says>⟧.of b
-            ≡ empty_bundle english (custom_by C.shown C.alike)) }
+        ensures empty { IfOk result (⟦<Self as Says>⟧.is_empty english) }
         ensures locales { IfOk result (λ b. AreUndetermined b.locales.items) }
         ensures unset { IfOk result (λ b. (transform_in b ≡ None) × (formatter_in b ≡ None)) }
     {
@@ -307,8 +298,8 @@ impl<
 > GetEntry<'s, F> for FluentBundle<'r, 's, M, C, F, G, T> {
     ghost use Rattle.std.specs.Prelude.{Some};
     ghost use Rattle.fluent_meaning.specs.Arguments.{get};
-    ghost use Rattle.fluent_meaning.specs.Bundle.{function_found, number_builtin};
-    ghost use Rattle.fluent_values.specs.EntryView.{function_of, ids};
+    ghost use Rattle.fluent_values.specs.EntryView.{ids};
+    ghost use Rattle.fluent_bundle.specs.BundleView.{function_seen};
 
     // The ids of what the bundle means.
     ghost named = { λ b id. get id (ids F.answer (entries_in b)) };
@@ -330,10 +321,8 @@ impl<
     }
 
     fn get_entry_function(&self, id: &str) -> Option<FunctionRef<'_, F>>
-        ensures answer { option_map (function_of F.answer) result
-            ≡ function_found (get id.now (⟦<Self as Says>⟧.of self.now).ids) }
-        ensures builtin { (result ≡ Some FunctionRef.Number)
-            ↔ (get id.now (⟦<Self as Says>⟧.of self.now).ids ≡ Some number_builtin) }
+        ensures answer { function_seen F.answer result ≡ ⟦<Self as Has>⟧.function self.now id.now }
+        ensures builtin { (result ≡ Some FunctionRef.Number) ↔ ⟦<Self as Has>⟧.builtin self.now id.now }
     {
         match self.entries.named(id) {
             Some(Entry::Function(function)) => Some(FunctionRef::Own(function)),

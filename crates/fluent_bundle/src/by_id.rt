@@ -4,14 +4,15 @@
 ghost use Rattle.std.specs.Prelude.{◌≡◌, IfSome};
 ghost use Rattle.std.specs.Option.{option_map};
 ghost use Rattle.fluent_text.specs.Writer.{CountsFault};
-ghost use Rattle.fluent_tree.specs.View.{attribute_of};
 ghost use Rattle.fluent_resolver.specs.FoundView.{IsStored, content_at};
 ghost use Rattle.fluent_bundle.specs.BundleView.{entries_in};
-ghost use Rattle.fluent_bundle.specs.ById.{Finds, BorrowsAsked, TakesNoMemory, WritesFound, attribute_at, value_at};
-ghost use Rattle.fluent_bundle.specs.Inside.Asked.{pattern_at};
+ghost use Rattle.fluent_bundle.specs.ById.{attribute_at, value_at};
+ghost use Rattle.fluent_bundle.specs.Inside.Asked.{pattern_asked};
 
 use crate::bundle::FluentBundle;
-use crate::says::Says;
+use crate::laws;
+use crate::says::Has;
+use crate::text_says::{Gives, Takes};
 use fluent_intl::MemoizerKind;
 use fluent_resolver::{Found, Target, found};
 use fluent_syntax::ast::Identifier;
@@ -45,9 +46,9 @@ impl<
         args: Option<&FluentArgs<'_, C>>,
         errors: &mut Vec<FluentError>,
     ) -> Result<Option<CowStr<'s>>, AllocError>
-        ensures finds { Finds (⟦<Self as Says>⟧.under self.now args.entry) (value_at id.now)
-            result errors.old errors.new }
-        ensures borrowed { BorrowsAsked self.now (value_at id.now (⟦<Self as Says>⟧.of self.now)) result }
+        ensures finds { ⟦<Self as Gives>⟧.value self.now id.now args.entry result
+            errors.old errors.new }
+        ensures borrowed { ⟦<Self as Gives>⟧.borrows self.now (value_at id.now) result }
     {
         self.format_asked(id, &None, args, errors)
     }
@@ -65,9 +66,9 @@ impl<
         args: Option<&FluentArgs<'_, C>>,
         errors: &mut Vec<FluentError>,
     ) -> Result<Option<CowStr<'s>>, AllocError>
-        ensures finds { Finds (⟦<Self as Says>⟧.under self.now args.entry) (attribute_at id.now name.now)
-            result errors.old errors.new }
-        ensures borrowed { BorrowsAsked self.now (attribute_at id.now name.now (⟦<Self as Says>⟧.of self.now)) result }
+        ensures finds { ⟦<Self as Gives>⟧.attribute self.now id.now name.now args.entry result
+            errors.old errors.new }
+        ensures borrowed { ⟦<Self as Gives>⟧.borrows self.now (attribute_at id.now name.now) result }
     {
         self.format_asked(id, &Some(Identifier { name }), args, errors)
     }
@@ -87,10 +88,10 @@ impl<
         args: Option<&FluentArgs<'_, C>>,
         errors: &mut Vec<FluentError>,
     ) -> Result<bool, WriteFault>
-        ensures writes { WritesFound (⟦<Self as Says>⟧.under self.now args.entry) (value_at id.now)
-            result W.contents w.old w.new errors.old errors.new }
+        ensures writes { ⟦<W as Takes<Self>>⟧.value self.now id.now args.entry result
+            w.old w.new errors.old errors.new }
         ensures fault { CountsFault w.old w.new result }
-        ensures memory { TakesNoMemory self.now (value_at id.now (⟦<Self as Says>⟧.of self.now)) result }
+        ensures memory { ⟦<Self as Gives>⟧.without_memory self.now (value_at id.now) result }
     {
         self.write_asked(w, id, &None, args, errors)
     }
@@ -109,10 +110,10 @@ impl<
         args: Option<&FluentArgs<'_, C>>,
         errors: &mut Vec<FluentError>,
     ) -> Result<bool, WriteFault>
-        ensures writes { WritesFound (⟦<Self as Says>⟧.under self.now args.entry) (attribute_at id.now name.now)
-            result W.contents w.old w.new errors.old errors.new }
+        ensures writes { ⟦<W as Takes<Self>>⟧.attribute self.now id.now name.now args.entry result
+            w.old w.new errors.old errors.new }
         ensures fault { CountsFault w.old w.new result }
-        ensures memory { TakesNoMemory self.now (attribute_at id.now name.now (⟦<Self as Says>⟧.of self.now)) result }
+        ensures memory { ⟦<Self as Gives>⟧.without_memory self.now (attribute_at id.now name.now) result }
     {
         self.write_asked(w, id, &Some(Identifier { name }), args, errors)
     }
@@ -121,15 +122,16 @@ impl<
     fn format_asked(
         &self,
         id: &str,
-        attribute: &Option<Identifier<'_>>,
+        name: &Option<Identifier<'_>>,
         args: Option<&FluentArgs<'_, C>>,
         errors: &mut Vec<FluentError>,
     ) -> Result<Option<CowStr<'s>>, AllocError>
-        ensures finds { Finds (⟦<Self as Says>⟧.under self.now args.entry) (pattern_at id.now (attribute_of attribute.now))
-            result errors.old errors.new }
-        ensures borrowed { BorrowsAsked self.now (pattern_at id.now (attribute_of attribute.now) (⟦<Self as Says>⟧.of self.now)) result }
+        ensures finds { ⟦<Self as Gives>⟧.asked self.now id.now name.now args.entry result
+            errors.old errors.new }
+        ensures borrowed { ⟦<Self as Gives>⟧.borrows self.now (pattern_asked id.now name.now) result }
     {
-        match self.target(id, attribute) {
+        laws::limits_are_kept();
+        match self.target(id, name) {
             Some(target) => {
                 match self.format_linked(target.pattern, target.place, args, errors) {
                     Ok(text) => Ok(Some(text)),
@@ -145,16 +147,17 @@ impl<
         &self,
         w: &mut Counting<W>,
         id: &str,
-        attribute: &Option<Identifier<'_>>,
+        name: &Option<Identifier<'_>>,
         args: Option<&FluentArgs<'_, C>>,
         errors: &mut Vec<FluentError>,
     ) -> Result<bool, WriteFault>
-        ensures writes { WritesFound (⟦<Self as Says>⟧.under self.now args.entry) (pattern_at id.now (attribute_of attribute.now))
-            result W.contents w.old w.new errors.old errors.new }
+        ensures writes { ⟦<W as Takes<Self>>⟧.asked self.now id.now name.now args.entry result
+            w.old w.new errors.old errors.new }
         ensures fault { CountsFault w.old w.new result }
-        ensures memory { TakesNoMemory self.now (pattern_at id.now (attribute_of attribute.now) (⟦<Self as Says>⟧.of self.now)) result }
+        ensures memory { ⟦<Self as Gives>⟧.without_memory self.now (pattern_asked id.now name.now) result }
     {
-        match self.target(id, attribute) {
+        laws::limits_are_kept();
+        match self.target(id, name) {
             Some(target) => {
                 match self.write_linked(w, target.pattern, target.place, args, errors) {
                     Ok(()) => Ok(true),
@@ -166,12 +169,11 @@ impl<
     }
 
     /// What is asked for by id, with what is kept of it.
-    fn target(&self, id: &str, attribute: &Option<Identifier<'_>>) -> Option<Target<'_, 's>>
-        ensures content { option_map content_at result
-            ≡ pattern_at id.now (attribute_of attribute.now) (⟦<Self as Says>⟧.of self.now) }
+    fn target(&self, id: &str, name: &Option<Identifier<'_>>) -> Option<Target<'_, 's>>
+        ensures content { option_map content_at result ≡ ⟦<Self as Has>⟧.pattern self.now id.now name.now }
         ensures stored { IfSome result (IsStored (entries_in self.now)) }
     {
-        match found::by_id(&self.entries, id, attribute) {
+        match found::by_id(&self.entries, id, name) {
             Found::Pattern(target) => Some(target),
             Found::Unknown => None,
             Found::WithoutValue => None,

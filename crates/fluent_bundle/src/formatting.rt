@@ -1,23 +1,24 @@
 //! The formatting calls of a bundle.
 #![tactic(auto, unfolding(crate::specs::BundleView::bundle_parts))]
 
-ghost use Rattle.std.specs.Prelude.{◌≡◌, ◌≢◌, ◌&&◌, not, if◌then◌else◌, is_some, None, Some, false, Err, IfOk, OnOk, string_bytes};
+ghost use Rattle.std.specs.Prelude.{◌≡◌, ◌&&◌, not, is_some, IfOk};
 ghost use Rattle.std.specs.Option.{option_map};
 ghost use Rattle.fluent_meaning.specs.Value.{text_value};
-ghost use Rattle.fluent_text.specs.Writer.{failed_in, empty_in, CountsFault};
+ghost use Rattle.fluent_text.specs.Writer.{CountsFault};
 ghost use Rattle.fluent_tree.specs.References.{references};
 ghost use Rattle.fluent_tree.specs.View.{pattern_view};
 ghost use Rattle.fluent_entries.specs.IdNumbers.{IsPlaced};
-ghost use Rattle.fluent_bundle.specs.BundleView.{entries_in, formatter_in, transform_in};
+ghost use Rattle.fluent_values.specs.Texts.{sole_text, is_text};
+ghost use Rattle.fluent_bundle.specs.BundleView.{entries_in, transform_in};
+ghost use Rattle.fluent_bundle.specs.Inside.Outputs.{CountsHalt, PutsFree};
+ghost use Rattle.fluent_bundle.specs.Inside.Unchanged.{unchanged_text};
 ghost use Rattle.fluent_bundle.specs.PatternsWithoutMemory.{BorrowsText, WritesFree};
-ghost use Rattle.fluent_bundle.specs.Under.{AddsBeginning, AddsWhole, Extends, GivesWhole, GivesWithin, IsLimited, IsText, Writes, WritesBeginning, WritesWhole, WritesWithin};
-ghost use Rattle.fluent_values.specs.Texts.{sole_text, is_text, IsTextAlone};
-ghost use Rattle.fluent_values.specs.Sinks.{CountsTell};
 
 use crate::bundle::FluentBundle;
 use crate::laws;
 use crate::resolver::answers::formatted;
-use crate::says::Says;
+use crate::says::Has;
+use crate::text_says::{Adds, Gives, Takes};
 use fluent_intl::MemoizerKind;
 use fluent_resolver::output::through;
 use fluent_resolver::texts::{is_text, put_texts};
@@ -54,8 +55,8 @@ impl<
     ///
     /// # Errors
     ///
-    /// `Writer` where a write failed, `Zero` where a write of a nonempty piece took no byte, `Memory` where memory
-    /// was refused. Then what was written begins the text, and what was added begins the errors. A pattern of
+    /// `Writer` where a write failed, `Zero` where a write of a nonempty piece took no byte, `Memory` where an
+    /// allocation failed. Then what was written begins the text, and what was added begins the errors. A pattern of
     /// texts alone takes no memory where no transform is set.
     pub fn write_pattern<W: Write>(
         &self,
@@ -65,18 +66,17 @@ impl<
         errors: &mut Vec<FluentError>,
     ) -> Result<(), WriteFault>
         // By substitution, where that opens no more placeables than the limit.
-        ensures within { WritesWithin (⟦<Self as Says>⟧.under self.now args.entry)
-            (pattern_view pattern.now) result W.contents w.old w.new errors.old errors.new }
+        ensures within { ⟦<W as Takes<Self>>⟧.within self.now pattern.now args.entry result
+            w.old w.new errors.old errors.new }
 
         // With the budget, in every case.
-        ensures whole { WritesWhole (⟦<Self as Says>⟧.under self.now args.entry)
-            (pattern_view pattern.now) result W.contents w.old w.new errors.old errors.new }
+        ensures whole { ⟦<W as Takes<Self>>⟧.all self.now pattern.now args.entry result
+            w.old w.new errors.old errors.new }
 
         // Whatever is answered.
-        ensures prefix { WritesBeginning (⟦<Self as Says>⟧.under self.now args.entry)
-            (pattern_view pattern.now) W.contents w.old w.new errors.old errors.new }
-        ensures limit { IsLimited (⟦<Self as Says>⟧.under self.now args.entry)
-            (pattern_view pattern.now) }
+        ensures prefix { ⟦<W as Takes<Self>>⟧.prefix self.now pattern.now args.entry
+            w.old w.new errors.old errors.new }
+        ensures limit { ⟦<Self as Gives>⟧.limit self.now pattern.now args.entry }
         ensures fault { CountsFault w.old w.new result }
         ensures memory { WritesFree self.now (pattern_view pattern.now) result }
     {
@@ -97,14 +97,13 @@ impl<
         args: Option<&FluentArgs<'_, C>>,
         errors: &mut Vec<FluentError>,
     ) -> Result<CowStr<'s>, AllocError>
-        ensures within { GivesWithin (⟦<Self as Says>⟧.under self.now args.entry)
-            (pattern_view pattern.now) result errors.old errors.new }
-        ensures whole { GivesWhole (⟦<Self as Says>⟧.under self.now args.entry)
-            (pattern_view pattern.now) result errors.old errors.new }
-        ensures prefix { AddsBeginning (⟦<Self as Says>⟧.under self.now args.entry)
-            (pattern_view pattern.now) errors.old errors.new }
-        ensures limit { IsLimited (⟦<Self as Says>⟧.under self.now args.entry)
-            (pattern_view pattern.now) }
+        ensures within { ⟦<Self as Gives>⟧.within self.now pattern.now args.entry result
+            errors.old errors.new }
+        ensures whole { ⟦<Self as Gives>⟧.all self.now pattern.now args.entry result
+            errors.old errors.new }
+        ensures prefix { ⟦<Self as Adds>⟧.prefix self.now pattern.now args.entry
+            errors.old errors.new }
+        ensures limit { ⟦<Self as Gives>⟧.limit self.now pattern.now args.entry }
         ensures borrowed { BorrowsText self.now (pattern_view pattern.now) result }
     {
         laws::limits_are_kept();
@@ -121,16 +120,14 @@ impl<
         errors: &mut Vec<FluentError>,
     ) -> Result<(), WriteFault>
         requires { IsPlaced (entries_in self.now) (references (pattern_view pattern.now)) place }
-        ensures within { WritesWithin (⟦<Self as Says>⟧.under self.now args.entry)
-            (pattern_view pattern.now) result W.contents w.old w.new errors.old errors.new }
-        ensures whole { WritesWhole (⟦<Self as Says>⟧.under self.now args.entry)
-            (pattern_view pattern.now) result W.contents w.old w.new errors.old errors.new }
-        ensures prefix { WritesBeginning (⟦<Self as Says>⟧.under self.now args.entry)
-            (pattern_view pattern.now) W.contents w.old w.new errors.old errors.new }
+        ensures text { ⟦<W as Takes<Self>>⟧.text self.now pattern.now args.entry result w.old w.new }
+        ensures errors { ⟦<Self as Adds>⟧.all self.now pattern.now args.entry result
+            errors.old errors.new }
+        ensures prefix { ⟦<Self as Adds>⟧.prefix self.now pattern.now args.entry
+            errors.old errors.new }
         ensures fault { CountsFault w.old w.new result }
         ensures memory { WritesFree self.now (pattern_view pattern.now) result }
     {
-        laws::limits_are_kept();
         let mut unused = String::new(self.alloc);
         let mut out = through(w, &mut unused);
         let written = self.write_out(&mut out, pattern, place, args, errors);
@@ -147,15 +144,12 @@ impl<
         errors: &mut Vec<FluentError>,
     ) -> Result<CowStr<'s>, AllocError>
         requires { IsPlaced (entries_in self.now) (references (pattern_view pattern.now)) place }
-        ensures within { GivesWithin (⟦<Self as Says>⟧.under self.now args.entry)
-            (pattern_view pattern.now) result errors.old errors.new }
-        ensures whole { GivesWhole (⟦<Self as Says>⟧.under self.now args.entry)
-            (pattern_view pattern.now) result errors.old errors.new }
-        ensures prefix { AddsBeginning (⟦<Self as Says>⟧.under self.now args.entry)
-            (pattern_view pattern.now) errors.old errors.new }
+        ensures whole { ⟦<Self as Gives>⟧.all self.now pattern.now args.entry result
+            errors.old errors.new }
+        ensures prefix { ⟦<Self as Adds>⟧.prefix self.now pattern.now args.entry
+            errors.old errors.new }
         ensures borrowed { BorrowsText self.now (pattern_view pattern.now) result }
     {
-        laws::limits_are_kept();
         if let Some(text) = self.sole_text(pattern) {
             return Ok(CowStr::Borrowed(text));
         }
@@ -169,9 +163,7 @@ impl<
     /// The text of a pattern that is one text, where no transform and no formatter is set.
     #[inline(always)]
     fn sole_text<'p>(&self, pattern: &Pattern<'p>) -> Option<&'p str>
-        ensures { option_map (λ t. t.now) result ≡ (if not (is_some (transform_in self.now))
-            && not (is_some (formatter_in self.now)) then sole_text (pattern_view pattern.now)
-            else None) }
+        ensures { option_map (λ t. t.now) result ≡ unchanged_text self.now (pattern_view pattern.now) }
     {
         if self.transform.is_none() && self.formatter.is_none() {
             only_text(pattern)
@@ -190,8 +182,7 @@ impl<
 
     /// The formatter's answer for a whole text.
     fn formatted_text(&self, text: &str) -> Result<Option<String>, AllocError>
-        ensures { IfOk result (λ shown. option_map string_bytes shown
-            ≡ (⟦<Self as Says>⟧.of self.now).formatter (text_value text.now)) }
+        ensures { IfOk result (⟦<Self as Has>⟧.shown self.now (text_value text.now)) }
     {
         let value = FluentValue::String(CowStr::Borrowed(text));
         formatted(self.alloc, &self.formatter, &value, &self.intls)
@@ -207,10 +198,9 @@ impl<
         errors: &mut Vec<FluentError>,
     ) -> Result<(), Halt>
         requires { IsPlaced (entries_in self.now) (references (pattern_view pattern.now)) place }
-        ensures writes { Writes (⟦<Self as Says>⟧.under self.now args.entry)
-            (pattern_view pattern.now) result W.contents out.old out.new errors.old errors.new }
-        ensures memory { IsTextAlone (pattern_view pattern.now) → transform_in self.now ≡ None →
-            out.old.is_buffered ≡ false → result ≢ Err Halt.Memory }
+        ensures writes { ⟦<W as Takes<Self>>⟧.put self.now pattern.now args.entry result
+            out.old out.new errors.old errors.new }
+        ensures memory { PutsFree self.now (pattern_view pattern.now) out.old result }
     {
         if self.writes_texts_alone(pattern) {
             return put_texts(out, pattern);
@@ -233,12 +223,11 @@ impl<
         errors: &mut Vec<FluentError>,
     ) -> Result<String, AllocError>
         requires { IsPlaced (entries_in self.now) (references (pattern_view pattern.now)) place }
-        ensures text { IfOk result
-            (IsText (⟦<Self as Says>⟧.under self.now args.entry) (pattern_view pattern.now)) }
-        ensures errors { OnOk result (AddsWhole (⟦<Self as Says>⟧.under self.now args.entry)
-            (pattern_view pattern.now) errors.old errors.new) }
-        ensures prefix { AddsBeginning (⟦<Self as Says>⟧.under self.now args.entry)
-            (pattern_view pattern.now) errors.old errors.new }
+        ensures text { IfOk result (⟦<Self as Gives>⟧.text self.now pattern.now args.entry) }
+        ensures errors { ⟦<Self as Adds>⟧.all self.now pattern.now args.entry result
+            errors.old errors.new }
+        ensures prefix { ⟦<Self as Adds>⟧.prefix self.now pattern.now args.entry
+            errors.old errors.new }
     {
         let mut text = String::with_capacity(self.alloc, ROOM)?;
         let mut unused = Counting::new(Vec::new(self.alloc));
@@ -259,14 +248,13 @@ impl<
         errors: &mut Vec<FluentError>,
     ) -> Result<(), Halt>
         requires { IsPlaced (entries_in self.now) (references (pattern_view pattern.now)) place }
-        ensures text { OnOk result (Extends (⟦<Self as Says>⟧.under self.now args.entry)
-            (pattern_view pattern.now) text.old text.new) }
-        ensures errors { OnOk result (AddsWhole (⟦<Self as Says>⟧.under self.now args.entry)
-            (pattern_view pattern.now) errors.old errors.new) }
-        ensures prefix { AddsBeginning (⟦<Self as Says>⟧.under self.now args.entry)
-            (pattern_view pattern.now) errors.old errors.new }
-        ensures fault { CountsTell (failed_in unused.old) (empty_in unused.old)
-            (failed_in unused.new) (empty_in unused.new) result }
+        ensures text { ⟦<Self as Gives>⟧.extends self.now pattern.now args.entry result
+            text.old text.new }
+        ensures errors { ⟦<Self as Adds>⟧.all self.now pattern.now args.entry result
+            errors.old errors.new }
+        ensures prefix { ⟦<Self as Adds>⟧.prefix self.now pattern.now args.entry
+            errors.old errors.new }
+        ensures fault { CountsHalt unused.old unused.new result }
     {
         let mut out = Output {
             writer: unused,

@@ -11,6 +11,7 @@ mod messages;
 pub mod resolver;
 mod resource;
 mod says;
+mod text_says;
 
 pub use bundle::{AddFault, FluentBundle};
 pub use calls::Call;

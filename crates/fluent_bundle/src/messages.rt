@@ -1,9 +1,8 @@
 //! A message with all its parts as text.
-ghost use Rattle.std.specs.Prelude.{IfOk, OnOk};
-ghost use Rattle.fluent_bundle.specs.Under.{attributes_errors, message_errors, parts_errors, value_errors, AddsAll, AddsPrefix, ShowsAttributes, ShowsMessage, ShowsParts, ShowsValue};
+ghost use Rattle.std.specs.Prelude.{IfOk};
 
 use crate::bundle::FluentBundle;
-use crate::says::Says;
+use crate::text_says::{Adds, Gives};
 use fluent_intl::MemoizerKind;
 use fluent_syntax::ast;
 use fluent_values::types::FluentType;
@@ -51,13 +50,11 @@ impl<
         args: Option<&FluentArgs<'_, C>>,
         errors: &mut Vec<FluentError>,
     ) -> Result<Option<FormattedMessage<'s>>, AllocError>
-        ensures text { IfOk result (ShowsMessage (⟦<Self as Says>⟧.under self.now args.entry)
-            id.now) }
-        ensures errors { OnOk result (AddsAll
-            (message_errors (⟦<Self as Says>⟧.under self.now args.entry) id.now)
-            errors.old errors.new) }
-        ensures prefix { AddsPrefix (message_errors (⟦<Self as Says>⟧.under self.now args.entry)
-            id.now) errors.old errors.new }
+        ensures text { IfOk result (⟦<Self as Gives>⟧.message self.now id.now args.entry) }
+        ensures errors { ⟦<Self as Adds>⟧.message self.now id.now args.entry result
+            errors.old errors.new }
+        ensures prefix { ⟦<Self as Adds>⟧.message_some self.now id.now args.entry
+            errors.old errors.new }
     {
         match self.get_entry_message(id) {
             Some(message) => match self.format_parts(message, args, errors) {
@@ -75,13 +72,11 @@ impl<
         args: Option<&FluentArgs<'_, C>>,
         errors: &mut Vec<FluentError>,
     ) -> Result<FormattedMessage<'s>, AllocError>
-        ensures text { IfOk result (ShowsParts (⟦<Self as Says>⟧.under self.now args.entry)
-            message.now) }
-        ensures errors { OnOk result (AddsAll
-            (parts_errors (⟦<Self as Says>⟧.under self.now args.entry) message.now)
-            errors.old errors.new) }
-        ensures prefix { AddsPrefix (parts_errors (⟦<Self as Says>⟧.under self.now args.entry)
-            message.now) errors.old errors.new }
+        ensures text { IfOk result (⟦<Self as Gives>⟧.parts self.now message.now args.entry) }
+        ensures all { ⟦<Self as Adds>⟧.parts self.now message.now args.entry result
+            errors.old errors.new }
+        ensures prefix { ⟦<Self as Adds>⟧.parts_some self.now message.now args.entry
+            errors.old errors.new }
     {
         let value = self.format_optional(&message.value, args, errors)?;
         let attributes = self.format_attributes(message.attributes.as_slice(), args, errors)?;
@@ -95,13 +90,11 @@ impl<
         args: Option<&FluentArgs<'_, C>>,
         errors: &mut Vec<FluentError>,
     ) -> Result<Option<CowStr<'s>>, AllocError>
-        ensures text { IfOk result (ShowsValue (⟦<Self as Says>⟧.under self.now args.entry)
-            value.now) }
-        ensures errors { OnOk result (AddsAll
-            (value_errors (⟦<Self as Says>⟧.under self.now args.entry) value.now)
-            errors.old errors.new) }
-        ensures prefix { AddsPrefix (value_errors (⟦<Self as Says>⟧.under self.now args.entry)
-            value.now) errors.old errors.new }
+        ensures text { IfOk result (⟦<Self as Gives>⟧.maybe self.now value.now args.entry) }
+        ensures all { ⟦<Self as Adds>⟧.maybe self.now value.now args.entry result
+            errors.old errors.new }
+        ensures prefix { ⟦<Self as Adds>⟧.maybe_some self.now value.now args.entry
+            errors.old errors.new }
     {
         match value {
             Some(pattern) => match self.format_pattern(pattern, args, errors) {
@@ -115,20 +108,18 @@ impl<
     /// The texts of attributes, each under its name.
     fn format_attributes(
         &self,
-        attributes: &[ast::Attribute<'s>],
+        list: &[ast::Attribute<'s>],
         args: Option<&FluentArgs<'_, C>>,
         errors: &mut Vec<FluentError>,
     ) -> Result<Vec<FormattedAttribute<'s>>, AllocError>
-        ensures text { IfOk result (ShowsAttributes (⟦<Self as Says>⟧.under self.now args.entry)
-            attributes.now) }
-        ensures errors { OnOk result (AddsAll
-            (attributes_errors (⟦<Self as Says>⟧.under self.now args.entry) attributes.now)
-            errors.old errors.new) }
-        ensures prefix { AddsPrefix (attributes_errors (⟦<Self as Says>⟧.under self.now args.entry)
-            attributes.now) errors.old errors.new }
+        ensures text { IfOk result (⟦<Self as Gives>⟧.listed self.now list.now args.entry) }
+        ensures all { ⟦<Self as Adds>⟧.listed self.now list.now args.entry result
+            errors.old errors.new }
+        ensures prefix { ⟦<Self as Adds>⟧.listed_some self.now list.now args.entry
+            errors.old errors.new }
     {
         let mut texts = Vec::new(self.alloc);
-        for attribute in attributes {
+        for attribute in list {
             let text = self.format_pattern(&attribute.value, args, errors)?;
             texts.push(FormattedAttribute {
                 name: attribute.id.name,

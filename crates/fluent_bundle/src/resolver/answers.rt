@@ -1,16 +1,15 @@
 //! What a bundle answers to the resolver.
 #![tactic(auto, unfolding(crate::specs::BundleView::bundle_parts))]
 
-ghost use Rattle.std.specs.Prelude.{◌≡◌, None, IfOk, IsOk, string_bytes};
-ghost use Rattle.std.specs.Option.{option_map};
+ghost use Rattle.std.specs.Prelude.{◌≡◌, None, IfOk, IsOk};
 ghost use Rattle.fluent_intl.specs.Number.{number_of};
-ghost use Rattle.fluent_meaning.specs.Bundle.{formatter_of};
 ghost use Rattle.fluent_meaning.specs.Number.{category_word};
 ghost use Rattle.fluent_meaning.specs.Value.{category_of};
 ghost use Rattle.fluent_values.specs.View.{value_view};
+ghost use Rattle.fluent_bundle.specs.BundleView.{ShownBy};
 
 use crate::bundle::FluentBundle;
-use crate::says::Says;
+use crate::says::{Has, Says};
 use fluent_intl::{MemoizerKind, PluralCategory, PluralOperands, PluralRuleType};
 use fluent_values::types::{FluentNumber, FluentNumberType, FluentType, FluentValue};
 use fluent_values::{Context, FluentFormatter, FluentFunction, Transform};
@@ -54,8 +53,7 @@ impl<
     }
 
     fn formatted(&self, value: &FluentValue<'_, C>) -> Result<Option<String>, AllocError>
-        ensures answer { IfOk result (λ text. option_map string_bytes text
-            ≡ (⟦<Self as Says>⟧.of self.now).formatter (value_view C.content value.now)) }
+        ensures answer { IfOk result (⟦<Self as Has>⟧.shown self.now (value_view C.content value.now)) }
         ensures custom { (⟦<Self as Says>⟧.of self.now).custom
             ≡ record { text = C.shown; same = C.alike } }
         ensures succeeds { formatter_in self.now ≡ None → IsOk result }
@@ -75,9 +73,7 @@ pub(crate) fn formatted<M, C: FluentType, G: FluentFormatter<C, M>>(
     value: &FluentValue<'_, C>,
     intls: &M,
 ) -> Result<Option<String>, AllocError>
-    ensures answer { IfOk result (λ text. option_map string_bytes text
-        ≡ formatter_of (option_map (λ g v. G.formatted g v intls.now) formatter.now)
-        (value_view C.content value.now)) }
+    ensures answer { IfOk result (ShownBy C.content G.formatted formatter.now value.now intls.now) }
     ensures succeeds { formatter.now ≡ None → IsOk result }
 {
     match formatter {

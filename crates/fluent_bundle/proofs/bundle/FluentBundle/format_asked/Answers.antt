@@ -2,7 +2,7 @@ use Rattle.fluent_bundle.proofs.Asked.{gives_asked, gives_refused, gives_nothing
 use Rattle.fluent_bundle.proofs.bundle.FluentBundle.format_asked.Goals as goal
 
 pub returns-in-Ok-clause-finds : goal.returns-in-Ok-clause-finds
-returns-in-Ok-clause-finds g c = gives_asked _ _ c.in-Ok.text _ _ c.in-Some.ensures.content c.in-Ok.ensures.within c.in-Ok.ensures.whole c.in-Ok.ensures.prefix
+returns-in-Ok-clause-finds g c = gives_asked _ _ c.in-Ok.text _ _ c.in-Some.ensures.content (c.limits_are_kept.ensures _ _ _) c.in-Ok.ensures.whole c.in-Ok.ensures.prefix
 
 pub returns-in-Ok-clause-borrowed : goal.returns-in-Ok-clause-borrowed
 returns-in-Ok-clause-borrowed g c = borrows_asked c.args.self.now _ c.in-Ok.text c.in-Some.ensures.content c.in-Ok.ensures.borrowed

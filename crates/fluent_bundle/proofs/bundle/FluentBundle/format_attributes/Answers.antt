@@ -10,7 +10,7 @@ pub loop-attribute-preserved : goal.loop-attribute-preserved
 loop-attribute-preserved g c =
     let b = meant g.M.MemoizerKind.category g.C.FluentType.shown g.C.FluentType.alike g.F.FluentFunction.answer g.G.FluentFormatter.formatted g.T.Transform.changed c.args.self.now in
     let args = arguments_view g.C.FluentType.content c.args.args in
-    let xs = c.args.attributes.now in
+    let xs = c.args.list.now in
     let i = c.loop-attribute.attribute-index in
     let x = c.attribute-item.result in
     let fits : i < length xs = omega arith in
@@ -24,7 +24,7 @@ pub returns-in_err-text-clause-prefix : goal.returns-in_err-text-clause-prefix
 returns-in_err-text-clause-prefix g c =
     let b = meant g.M.MemoizerKind.category g.C.FluentType.shown g.C.FluentType.alike g.F.FluentFunction.answer g.G.FluentFormatter.formatted g.T.Transform.changed c.args.self.now in
     let args = arguments_view g.C.FluentType.content c.args.args in
-    let xs = c.args.attributes.now in
+    let xs = c.args.list.now in
     let i = c.loop-attribute.attribute-index in
     let x = c.attribute-item.result in
     let fits : i < length xs = omega arith in
@@ -34,7 +34,7 @@ pub returns-in_err-push-clause-prefix : goal.returns-in_err-push-clause-prefix
 returns-in_err-push-clause-prefix g c =
     let b = meant g.M.MemoizerKind.category g.C.FluentType.shown g.C.FluentType.alike g.F.FluentFunction.answer g.G.FluentFormatter.formatted g.T.Transform.changed c.args.self.now in
     let args = arguments_view g.C.FluentType.content c.args.args in
-    let xs = c.args.attributes.now in
+    let xs = c.args.list.now in
     let i = c.loop-attribute.attribute-index in
     let x = c.attribute-item.result in
     let fits : i < length xs = omega arith in
@@ -44,5 +44,5 @@ pub returns-clause-prefix : goal.returns-clause-prefix
 returns-clause-prefix g c =
     let b = meant g.M.MemoizerKind.category g.C.FluentType.shown g.C.FluentType.alike g.F.FluentFunction.answer g.G.FluentFormatter.formatted g.T.Transform.changed c.args.self.now in
     let args = arguments_view g.C.FluentType.content c.args.args in
-    let over : length c.args.attributes.now ≤ c.loop-attribute.attribute-index = omega arith in
-    prefix_of_done b args c.args.attributes.now c.loop-attribute.attribute-index _ _ over c.loop-attribute.invariant.errors
+    let over : length c.args.list.now ≤ c.loop-attribute.attribute-index = omega arith in
+    prefix_of_done b args c.args.list.now c.loop-attribute.attribute-index _ _ over c.loop-attribute.invariant.errors

@@ -11,7 +11,7 @@ abbrev pub invariant-loop-attribute : goal.invariant-loop-attribute
 invariant-loop-attribute g l =
     let b = meant g.M.MemoizerKind.category g.C.FluentType.shown g.C.FluentType.alike g.F.FluentFunction.answer g.G.FluentFormatter.formatted g.T.Transform.changed l.self in
     let args = arguments_view g.C.FluentType.content l.args in
-    let done = map attribute_view (take l.attribute-index l.attributes) in
+    let done = map attribute_view (take l.attribute-index l.list) in
     record {
       texts : map attribute_shown l.texts.items ≡ attribute_texts b args done;
       errors : AddsAll (attribute_errors b args done) l.fn.errors.items l.errors.items;

@@ -4,7 +4,7 @@ use Rattle.fluent_tree.specs.View.{pattern_view}
 use Rattle.fluent_meaning.specs.Bundle.{transform_of, formatter_of}
 use Rattle.fluent_bundle.specs.BundleView.{formatter_in, intls_in, meant, transform_in}
 use Rattle.fluent_resolver.specs.Status.{arguments_view, reported}
-use Rattle.fluent_bundle.proofs.Givings.{gives_within, borrowed_where, sole_formatted, sole_known, none_added}
+use Rattle.fluent_bundle.proofs.Givings.{borrowed_where, sole_formatted, sole_known, none_added}
 use Rattle.fluent_bundle.proofs.bundle.FluentBundle.format_linked.Goals as goal
 
 pub returns-in-Some-clause-whole : goal.returns-in-Some-clause-whole
@@ -22,21 +22,6 @@ returns-in-Some-clause-whole g c =
           borrowed.2;
       adds = none_added b env p t c.args.errors.now.items borrowed.2;
     }
-
-pub returns-in-Some-clause-within : goal.returns-in-Some-clause-within
-returns-in-Some-clause-within g c =
-    let b = meant g.M.MemoizerKind.category g.C.FluentType.shown g.C.FluentType.alike g.F.FluentFunction.answer g.G.FluentFormatter.formatted g.T.Transform.changed c.args.self.now in
-    gives_within b (arguments_view g.C.FluentType.content c.args.args) (pattern_view c.args.pattern.now) _ _ _ (c.limits_are_kept.ensures b (arguments_view g.C.FluentType.content c.args.args) (pattern_view c.args.pattern.now)) (returns-in-Some-clause-whole g c)
-
-pub returns-in-Some-2-clause-within : goal.returns-in-Some-2-clause-within
-returns-in-Some-2-clause-within g c =
-    let b = meant g.M.MemoizerKind.category g.C.FluentType.shown g.C.FluentType.alike g.F.FluentFunction.answer g.G.FluentFormatter.formatted g.T.Transform.changed c.args.self.now in
-    gives_within b (arguments_view g.C.FluentType.content c.args.args) (pattern_view c.args.pattern.now) _ _ _ (c.limits_are_kept.ensures b (arguments_view g.C.FluentType.content c.args.args) (pattern_view c.args.pattern.now)) (search rules)
-
-pub returns-clause-within : goal.returns-clause-within
-returns-clause-within g c =
-    let b = meant g.M.MemoizerKind.category g.C.FluentType.shown g.C.FluentType.alike g.F.FluentFunction.answer g.G.FluentFormatter.formatted g.T.Transform.changed c.args.self.now in
-    gives_within b (arguments_view g.C.FluentType.content c.args.args) (pattern_view c.args.pattern.now) _ _ _ (c.limits_are_kept.ensures b (arguments_view g.C.FluentType.content c.args.args) (pattern_view c.args.pattern.now)) (search rules)
 
 pub returns-in-Some-clause-borrowed : goal.returns-in-Some-clause-borrowed
 returns-in-Some-clause-borrowed g c = λ t is a b.

@@ -16,15 +16,15 @@ returns-in_err-attributes-clause-prefix g c =
     let args = arguments_view g.C.FluentType.content c.args.args in
     let es = value_errors b args (option_map pattern_view c.args.message.now.value) in
     let same : c.as_slice.result.now ≡ c.args.message.now.attributes.items = search rules in
-    parts_prefix b args es _ _ _ _ _ same c.in_ok-value.ensures.errors c.in_err-attributes.ensures.prefix
+    parts_prefix b args es _ _ _ _ _ same c.in_ok-value.ensures.all c.in_err-attributes.ensures.prefix
 
-pub returns-clause-errors : goal.returns-clause-errors
-returns-clause-errors g c =
+pub returns-clause-all : goal.returns-clause-all
+returns-clause-all g c =
     let b = meant g.M.MemoizerKind.category g.C.FluentType.shown g.C.FluentType.alike g.F.FluentFunction.answer g.G.FluentFormatter.formatted g.T.Transform.changed c.args.self.now in
     let args = arguments_view g.C.FluentType.content c.args.args in
     let es = value_errors b args (option_map pattern_view c.args.message.now.value) in
     let same : c.as_slice.result.now ≡ c.args.message.now.attributes.items = search rules in
-    parts_all b args es _ _ _ _ _ same c.in_ok-value.ensures.errors c.in_ok-attributes.ensures.errors
+    parts_all b args es _ _ _ _ _ same c.in_ok-value.ensures.all c.in_ok-attributes.ensures.all
 
 pub returns-clause-prefix : goal.returns-clause-prefix
 returns-clause-prefix g c =
@@ -32,4 +32,4 @@ returns-clause-prefix g c =
     let args = arguments_view g.C.FluentType.content c.args.args in
     let es = value_errors b args (option_map pattern_view c.args.message.now.value) in
     let same : c.as_slice.result.now ≡ c.args.message.now.attributes.items = search rules in
-    prefix_of_all _ _ _ (parts_all b args es _ _ _ _ _ same c.in_ok-value.ensures.errors c.in_ok-attributes.ensures.errors)
+    prefix_of_all _ _ _ (parts_all b args es _ _ _ _ _ same c.in_ok-value.ensures.all c.in_ok-attributes.ensures.all)
