@@ -4,12 +4,17 @@ use Rattle.fluent_tree.specs.Tree.{Text, Entry}
 use Rattle.fluent_text.specs.Parser.{Parser, ◌>>=◌, ◌>>◌, ◌<|>◌, pure, count, run_len, first}
 use Rattle.fluent_text.specs.Lexical.{is_space, line_break, blank_line}
 use Rattle.fluent_syntax.specs.Entries.{message, term, entry}
+use Rattle.fluent_syntax.specs.Expressions.{Level, level}
 use Rattle.fluent_syntax.specs.Chunks.{Chunk, chunks}
 use Rattle.fluent_laws.specs.ChunkLaws.{bytes_of}
 
 -- What a rule leaves of a text is its end: the rule takes a prefix.
 abbrev pub TakesPrefix : {A : Type 0} → Parser A → Text → Type 0
 TakesPrefix {A = A} rule s = (x : A) (past : Text) → rule s ≡ Some (x, past) → (prefix : Text) × (s ≡ prefix ++ past)
+
+-- The same of a rule in which placeables and argument lists may stand, to whatever depth.
+abbrev pub TakesPrefixAtAnyDepth : {A : Type 0} → (Level → Parser A) → Text → Type 0
+TakesPrefixAtAnyDepth rule s = (depth : ℕ) → TakesPrefix (rule (level depth)) s
 
 -- What a rule reads at the start of a text is a prefix of it; and it reads the same, and leaves what follows, wherever
 -- that prefix is followed by the same two bytes (by the end of the text, where fewer follow).

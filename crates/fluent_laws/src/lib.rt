@@ -7,7 +7,7 @@ ghost use Rattle.fluent_syntax.specs.Chunks.{chunk, comment_line, junk, junk_lin
 ghost use Rattle.fluent_syntax.specs.Entries as entries;
 ghost use Rattle.fluent_syntax.specs.Entries.{attribute, entry, name_of_value};
 ghost use Rattle.fluent_syntax.specs.Expressions.{argument, argument_list, attribute_access, digits, expression, function_reference, inline_expression, level, literal, message_reference, named_argument, number_literal, select_expression, string_literal, term_reference, variant, variant_head, variant_key, variant_list, variable_reference};
-ghost use Rattle.fluent_laws.specs.PrefixLaws.{EndsMessage, EndsPattern, EntryReadBefore, ReadBefore, ReadByPrefix, ReadByPrefixAlone, ReadFromThereOn, TakesPrefix};
+ghost use Rattle.fluent_laws.specs.PrefixLaws.{EndsMessage, EndsPattern, EntryReadBefore, ReadBefore, ReadByPrefix, ReadByPrefixAlone, ReadFromThereOn, TakesPrefix, TakesPrefixAtAnyDepth};
 ghost use Rattle.fluent_text.specs.Lexical.{blank, blank_block, blank_inline, identifier, line_end};
 ghost use Rattle.fluent_syntax.specs.Pieces.{block_placeable, block_text, inline_text, pattern, pattern_element};
 ghost use Rattle.fluent_laws.specs.ReadLaws.{TreeOfPrefix, block_taken, element_taken, text_taken};
@@ -73,28 +73,24 @@ pub fn rules_take_a_prefix(source: &str)
     ensures accessor { TakesPrefix attribute_access source.now }
     ensures variable { TakesPrefix variable_reference source.now }
     ensures message_reference { TakesPrefix message_reference source.now }
-    ensures function_reference { (depth : ℕ) → TakesPrefix
-        (function_reference (level depth)) source.now }
-    ensures term_reference { (depth : ℕ) → TakesPrefix (term_reference (level depth)) source.now }
-    ensures inline_expression { (depth : ℕ) → TakesPrefix
-        (inline_expression (level depth)) source.now }
+    ensures function_reference { TakesPrefixAtAnyDepth function_reference source.now }
+    ensures term_reference { TakesPrefixAtAnyDepth term_reference source.now }
+    ensures inline_expression { TakesPrefixAtAnyDepth inline_expression source.now }
     ensures named_argument { TakesPrefix named_argument source.now }
-    ensures argument { (depth : ℕ) → TakesPrefix (argument (level depth)) source.now }
-    ensures argument_list { (depth : ℕ) → TakesPrefix (argument_list (level depth)) source.now }
-    ensures call_arguments { (depth : ℕ) → TakesPrefix (level depth).brackets source.now }
+    ensures argument { TakesPrefixAtAnyDepth argument source.now }
+    ensures argument_list { TakesPrefixAtAnyDepth argument_list source.now }
+    ensures call_arguments { TakesPrefixAtAnyDepth (λ g. g.brackets) source.now }
     ensures variant_key { TakesPrefix variant_key source.now }
     ensures variant { (depth : ℕ) (default : Bool) →
         TakesPrefix (variant (level depth) default) source.now }
-    ensures variant_list { (depth : ℕ) → TakesPrefix (variant_list (level depth)) source.now }
-    ensures select { (depth : ℕ) → TakesPrefix (select_expression (level depth)) source.now }
-    ensures placeable { (depth : ℕ) → TakesPrefix (level depth).braces source.now }
+    ensures variant_list { TakesPrefixAtAnyDepth variant_list source.now }
+    ensures select { TakesPrefixAtAnyDepth select_expression source.now }
+    ensures placeable { TakesPrefixAtAnyDepth (λ g. g.braces) source.now }
     ensures inline_text { TakesPrefix inline_text source.now }
     ensures block_text { TakesPrefix block_text source.now }
-    ensures block_placeable { (depth : ℕ) → TakesPrefix
-        (block_placeable (level depth).braces) source.now }
-    ensures pattern_element { (depth : ℕ) → TakesPrefix
-        (pattern_element (level depth).braces) source.now }
-    ensures pattern { (depth : ℕ) → TakesPrefix (pattern (level depth).braces) source.now }
+    ensures block_placeable { TakesPrefixAtAnyDepth (λ g. block_placeable g.braces) source.now }
+    ensures pattern_element { TakesPrefixAtAnyDepth (λ g. pattern_element g.braces) source.now }
+    ensures pattern { TakesPrefixAtAnyDepth (λ g. pattern g.braces) source.now }
     ensures attribute { TakesPrefix attribute source.now }
     ensures message { TakesPrefix entries.message source.now }
     ensures term { TakesPrefix entries.term source.now }

@@ -1,6 +1,7 @@
 -- The arguments of a call as they are gathered, by their content.
 use Rattle.std.specs.Prelude.{◌≡◌, List, ℕ, Some, None, Result, Ok, Err}
 use Rattle.std.specs.Borrow.{Bor}
+use Rattle.fluent_text.specs.Lexical.{identifier}
 use Rattle.fluent_text.specs.Parser.{Text, Read, Parser, ◌<$>◌, ◌>>◌, ◌<|>◌}
 use Rattle.fluent_tree.specs.Tree.{function, message}
 use Rattle.fluent_syntax.specs.declared.parser.stop.Stop.{Stop}
@@ -38,8 +39,16 @@ message_argument id = (λ a. positional (message id a)) <$> attribute_access
 abbrev pub reference_argument : Level → Text → Parser Argument
 reference_argument g id = (provided (is_function_name id) >> call_argument g id) <|> message_argument id
 
+-- an argument is added
+abbrev pub Adds : of_gathered.Gathered → of_gathered.Gathered → Argument → Type 0
+Adds old new a = gathered_view new ≡ add (gathered_view old) a
+
 -- an argument that was read is added to those before it; where none stands, they are as they were
-abbrev pub Gathers : Result (Bor (List ℕ)) Stop → Gathered → Gathered → Read Argument → Type 0
-Gathers (Ok rest) before after r = (a : Argument) × (r ≡ Some (a, rest.now)) × (after ≡ add before a)
-Gathers (Err Absent) before after r = (r ≡ None) × (after ≡ before)
-Gathers (Err Memory) before after r = Unit {0}
+abbrev pub Gathers : Result (Bor (List ℕ)) Stop → of_gathered.Gathered → of_gathered.Gathered → Read Argument → Type 0
+Gathers (Ok rest) old new r = (a : Argument) × (r ≡ Some (a, rest.now)) × Adds old new a
+Gathers (Err Absent) old new r = (r ≡ None) × (gathered_view new ≡ gathered_view old)
+Gathers (Err Memory) old new r = Unit {0}
+
+-- the same of an argument whose name was read before what is left
+abbrev pub GathersNamed : Text → List ℕ → Result (Bor (List ℕ)) Stop → of_gathered.Gathered → of_gathered.Gathered → Parser Argument → Type 0
+GathersNamed name left result old new rule = (s : List ℕ) → Some (name, left) ≡ identifier s → Gathers result old new (rule s)

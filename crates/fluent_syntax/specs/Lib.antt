@@ -2,11 +2,13 @@ pub mod Classes
 pub mod Reading
 pub mod Pushing
 pub mod Layout
+pub mod Trimmed
 pub mod Slice
 pub mod PieceView
 pub mod Backwards
 pub mod Pieces
 pub mod Progress
+pub mod FirstLine
 pub mod Expressions
 pub mod Bare
 pub mod Gathering
@@ -18,4 +20,5 @@ pub mod ContentView
 pub mod Chunks
 pub mod Parsed
 pub mod PartView
+pub mod Leaving
 pub mod Facts

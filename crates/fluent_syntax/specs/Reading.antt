@@ -4,7 +4,7 @@ use Rattle.std.specs.Borrow.{Bor}
 use Rattle.std.specs.declared.alloc.Global.{Global}
 use Rattle.fluent_syntax.specs.declared.parser.stop.Stop.{Stop}
 use Rattle.fluent_syntax.specs.declared.parser.stop.Stop.TheVariants.{Absent, Memory}
-use Rattle.fluent_text.specs.Parser.{Read, run_len}
+use Rattle.fluent_text.specs.Parser.{Read, Parser, many_from, push, run_len}
 use Rattle.fluent_text.specs.Lexical.{is_space}
 
 -- the result is what the grammar gives, unless memory ran out
@@ -15,6 +15,10 @@ Gives view (Err Memory) r = Unit {0}
 
 abbrev pub all : {A B : Type 0} → (A → B) → Vec A Global → List B
 all view v = map view v.items
+
+-- the result is what was found before, and all that a rule gives after it, turn by turn
+abbrev pub GivesMore : {A B : Type 0} → (A → B) → Result (Vec A Global × Bor (List ℕ)) Stop → Vec A Global → Parser B → List ℕ → Type 0
+GivesMore view result found rule s = Gives (all view) result (many_from push rule (length s) (all view found) s)
 
 abbrev pub text_view : Bor (List ℕ) → List ℕ
 text_view t = t.now

@@ -1,12 +1,12 @@
 //! The arguments of a call.
-ghost use Rattle.std.specs.Prelude.{◌≡◌, ℕ, List, Some, map, OnOk, IfOk};
-ghost use Rattle.fluent_text.specs.Lexical as lexical;
+ghost use Rattle.std.specs.Prelude.{◌≡◌, map, OnOk, IfOk};
 ghost use Rattle.fluent_syntax.specs.Expressions as spec;
+ghost use Rattle.fluent_syntax.specs.Expressions.{level};
 ghost use Rattle.fluent_text.specs.Reading.{found, passed};
 ghost use Rattle.fluent_syntax.specs.Reading.{Gives};
-ghost use Rattle.fluent_syntax.specs.Gathering.{argument_view, gathered_view, positional_argument, value_argument, call_argument, message_argument, reference_argument, Gathers};
-ghost use Rattle.fluent_syntax.specs.Nests.{GivesRule};
-ghost use Rattle.fluent_tree.specs.View.{named_view, name_view, expression_view, arguments_view};
+ghost use Rattle.fluent_syntax.specs.Gathering.{argument_view, gathered_view, positional_argument, value_argument, call_argument, message_argument, reference_argument, Adds, Gathers, GathersNamed};
+ghost use Rattle.fluent_syntax.specs.Nests.{GivesBraces, GivesBrackets};
+ghost use Rattle.fluent_tree.specs.View.{named_view, name_view, arguments_view};
 
 use crate::parser::bytes::{byte_at, eat};
 use crate::parser::inner::Inner;
@@ -36,8 +36,7 @@ pub struct Gathered<'s> {
 impl<'s> Gathered<'s> {
     #[inline(always)]
     fn add(&mut self, argument: Argument<'s>) -> Result<(), AllocError>
-        ensures { OnOk result (gathered_view self.new
-            ≡ spec.add (gathered_view self.old) (argument_view argument.entry)) }
+        ensures { OnOk result (Adds self.old self.new (argument_view argument.entry)) }
     {
         match argument {
             Argument::Positional(x) => {
@@ -66,7 +65,7 @@ fn push_named<'s>(
     s: &'s str,
     found: &mut Gathered<'s>,
 ) -> Result<&'s str, Stop>
-    ensures { Gathers result (gathered_view found.old) (gathered_view found.new)
+    ensures { Gathers result found.old found.new
         (value_argument (name_view name.entry) s.now) }
 {
     let Some((value, end)) = literal(s) else {
@@ -83,7 +82,7 @@ fn push_message<'s>(
     s: &'s str,
     found: &mut Gathered<'s>,
 ) -> Result<&'s str, Stop>
-    ensures { Gathers result (gathered_view found.old) (gathered_view found.new)
+    ensures { Gathers result found.old found.new
         (message_argument (name_view id.entry) s.now) }
 {
     let (attribute, end) = attribute_access(s);
@@ -100,12 +99,10 @@ impl<
     /// comma it is a message's, which needs no room for anything else.
     #[inline(always)]
     fn push_argument(&self, s: &'s str, found: &mut Gathered<'s>) -> Result<&'s str, Stop>
-        requires braces { GivesRule expression_view (spec.level self.now.depth).braces self.now.depth
-            (F.pre self.now.braces) (F.post self.now.braces) }
-        requires brackets { GivesRule arguments_view (spec.level self.now.depth).brackets self.now.depth
-            (G.pre self.now.brackets) (G.post self.now.brackets) }
-        ensures { Gathers result (gathered_view found.old) (gathered_view found.new)
-            (spec.argument (spec.level self.now.depth) s.now) }
+        requires braces { GivesBraces F.pre F.post self.now.depth self.now.braces }
+        requires brackets { GivesBrackets G.pre G.post self.now.depth self.now.brackets }
+        ensures { Gathers result found.old found.new
+            (spec.argument (level self.now.depth) s.now) }
     {
         let Some((id, rest)) = identifier(s) else {
             return self.push_nameless(s, found);
@@ -128,11 +125,8 @@ impl<
         rest: &'s str,
         found: &mut Gathered<'s>,
     ) -> Result<&'s str, Stop>
-        requires brackets { GivesRule arguments_view (spec.level self.now.depth).brackets self.now.depth
-            (G.pre self.now.brackets) (G.post self.now.brackets) }
-        ensures { (s : List ℕ) → Some (name_view id.entry, rest.now) ≡ lexical.identifier s →
-            Gathers result (gathered_view found.old) (gathered_view found.new)
-            (spec.argument (spec.level self.now.depth) s) }
+        requires brackets { GivesBrackets G.pre G.post self.now.depth self.now.brackets }
+        ensures { GathersNamed (name_view id.entry) rest.now result found.old found.new (spec.argument (level self.now.depth)) }
     {
         let Some(colon) = eat(after_blank(rest), b':') else {
             return self.push_reference(id, rest, found);
@@ -152,10 +146,9 @@ impl<
         s: &'s str,
         found: &mut Gathered<'s>,
     ) -> Result<&'s str, Stop>
-        requires brackets { GivesRule arguments_view (spec.level self.now.depth).brackets self.now.depth
-            (G.pre self.now.brackets) (G.post self.now.brackets) }
-        ensures { Gathers result (gathered_view found.old) (gathered_view found.new)
-            (reference_argument (spec.level self.now.depth) (name_view id.entry) s.now) }
+        requires brackets { GivesBrackets G.pre G.post self.now.depth self.now.brackets }
+        ensures { Gathers result found.old found.new
+            (reference_argument (level self.now.depth) (name_view id.entry) s.now) }
     {
         if !is_function_name(id.name) {
             return push_message(id, s, found);
@@ -175,10 +168,9 @@ impl<
         s: &'s str,
         found: &mut Gathered<'s>,
     ) -> Result<&'s str, Stop>
-        requires brackets { GivesRule arguments_view (spec.level self.now.depth).brackets self.now.depth
-            (G.pre self.now.brackets) (G.post self.now.brackets) }
-        ensures { Gathers result (gathered_view found.old) (gathered_view found.new)
-            (call_argument (spec.level self.now.depth) (name_view id.entry) s.now) }
+        requires brackets { GivesBrackets G.pre G.post self.now.depth self.now.brackets }
+        ensures { Gathers result found.old found.new
+            (call_argument (level self.now.depth) (name_view id.entry) s.now) }
     {
         let (arguments, end) = (self.brackets)(self.alloc, s, self.depth)?;
         let arguments = Box::new(self.alloc, arguments)?;
@@ -189,12 +181,10 @@ impl<
     /// Reads an argument that begins with no name, and adds it.
     #[inline(never)]
     fn push_nameless(&self, s: &'s str, found: &mut Gathered<'s>) -> Result<&'s str, Stop>
-        requires braces { GivesRule expression_view (spec.level self.now.depth).braces self.now.depth
-            (F.pre self.now.braces) (F.post self.now.braces) }
-        requires brackets { GivesRule arguments_view (spec.level self.now.depth).brackets self.now.depth
-            (G.pre self.now.brackets) (G.post self.now.brackets) }
-        ensures { Gathers result (gathered_view found.old) (gathered_view found.new)
-            (positional_argument (spec.level self.now.depth) s.now) }
+        requires braces { GivesBraces F.pre F.post self.now.depth self.now.braces }
+        requires brackets { GivesBrackets G.pre G.post self.now.depth self.now.brackets }
+        ensures { Gathers result found.old found.new
+            (positional_argument (level self.now.depth) s.now) }
     {
         let (x, rest) = self.inline_expression(s)?;
         found.add(Argument::Positional(x))?;
@@ -203,12 +193,10 @@ impl<
 
     /// The arguments and the commas between them. Each argument is read once, whether a comma follows it or not.
     fn argument_list(&self, s: &'s str) -> Result<(Gathered<'s>, &'s str), Stop>
-        requires braces { GivesRule expression_view (spec.level self.now.depth).braces self.now.depth
-            (F.pre self.now.braces) (F.post self.now.braces) }
-        requires brackets { GivesRule arguments_view (spec.level self.now.depth).brackets self.now.depth
-            (G.pre self.now.brackets) (G.post self.now.brackets) }
+        requires braces { GivesBraces F.pre F.post self.now.depth self.now.braces }
+        requires brackets { GivesBrackets G.pre G.post self.now.depth self.now.brackets }
         ensures { Gives gathered_view result (spec.argument_list
-            (spec.level self.now.depth) s.now) }
+            (level self.now.depth) s.now) }
     {
         let mut found = Gathered {
             positional: Vec::new(self.alloc),
@@ -241,11 +229,9 @@ impl<
         s: &'s str,
         mut found: Gathered<'s>,
     ) -> Result<(Gathered<'s>, &'s str), Stop>
-        requires braces { GivesRule expression_view (spec.level self.now.depth).braces self.now.depth
-            (F.pre self.now.braces) (F.post self.now.braces) }
-        requires brackets { GivesRule arguments_view (spec.level self.now.depth).brackets self.now.depth
-            (G.pre self.now.brackets) (G.post self.now.brackets) }
-        ensures { Gives gathered_view result (spec.last_argument (spec.level self.now.depth)
+        requires braces { GivesBraces F.pre F.post self.now.depth self.now.braces }
+        requires brackets { GivesBrackets G.pre G.post self.now.depth self.now.brackets }
+        ensures { Gives gathered_view result (spec.last_argument (level self.now.depth)
             (gathered_view found.entry) s.now) }
     {
         match self.push_argument(s, &mut found) {
@@ -257,12 +243,10 @@ impl<
 
     #[tactic(auto, unfolding(crate::specs::Expressions::call_arguments))]
     pub fn call_arguments(&self, s: &'s str) -> Result<(CallArguments<'s>, &'s str), Stop>
-        requires braces { GivesRule expression_view (spec.level self.now.depth).braces self.now.depth
-            (F.pre self.now.braces) (F.post self.now.braces) }
-        requires brackets { GivesRule arguments_view (spec.level self.now.depth).brackets self.now.depth
-            (G.pre self.now.brackets) (G.post self.now.brackets) }
+        requires braces { GivesBraces F.pre F.post self.now.depth self.now.braces }
+        requires brackets { GivesBrackets G.pre G.post self.now.depth self.now.brackets }
         ensures { Gives arguments_view result (spec.call_arguments
-            (spec.level self.now.depth) s.now) }
+            (level self.now.depth) s.now) }
     {
         let opened = eat(after_blank(s), b'(').ok_or(Stop::Absent)?;
         let (all, rest) = self.argument_list(after_blank(opened))?;

@@ -1,7 +1,6 @@
 //! References that stand alone between braces, which most placeables are.
-ghost use Rattle.std.specs.Prelude.{◌≡◌, ℕ, suc, Some, IfSome};
-ghost use Rattle.fluent_syntax.specs.Bare.{IsBare};
-ghost use Rattle.fluent_syntax.specs.Expressions.{level};
+ghost use Rattle.std.specs.Prelude.{IfSome};
+ghost use Rattle.fluent_syntax.specs.Bare.{IsBare, IsBarePlaceable};
 ghost use Rattle.fluent_tree.specs.View.{inline_view, expression_view};
 
 use crate::parser::bytes::{byte_at, eat};
@@ -47,8 +46,7 @@ fn bare_reference<'s>(s: &'s str) -> Option<(InlineExpression<'s>, &'s str)>
 /// The same between braces, with nothing else there.
 #[inline(always)]
 pub fn bare_placeable<'s>(s: &'s str) -> Option<(Expression<'s>, &'s str)>
-    ensures { IfSome result (λ p. (depth : ℕ) → (level (suc depth)).braces s.now
-        ≡ Some (expression_view p.0, p.1.now)) }
+    ensures { IfSome result (λ p. IsBarePlaceable s.now (expression_view p.0) p.1.now) }
 {
     let inside = after_blank(eat(s, b'{')?);
     let (x, rest) = bare_reference(inside)?;

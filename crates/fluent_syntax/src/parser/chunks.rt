@@ -1,7 +1,8 @@
 //! A source as chunks: entries, comment lines, blank lines and Junk.
-ghost use Rattle.std.specs.Prelude.{◌≡◌, ◌+◌, ◌^◌, ◌<◌, ◌++◌, [], Some, length, OnOk, IfOk, IsOk};
+ghost use Rattle.std.specs.Prelude.{◌≡◌, ◌+◌, ◌^◌, ◌<◌, [], Some, length, OnOk, IfOk, IsOk};
 ghost use Rattle.fluent_syntax.specs.Chunks as spec;
 ghost use Rattle.fluent_syntax.specs.Chunks.{entries, junk_ranges};
+ghost use Rattle.fluent_syntax.specs.Leaving.{LeavesEntry, LeavesError};
 ghost use Rattle.fluent_syntax.specs.Parsed.{HoldsEntries, HoldsErrors, HasSome, error_range};
 ghost use Rattle.fluent_syntax.specs.PartView.{part_view, chunk_view};
 ghost use Rattle.fluent_syntax.specs.Reading.{all};
@@ -43,10 +44,8 @@ impl<'s> Found<'s> {
     /// Adds what a chunk at this offset leaves.
     fn add(&mut self, start: usize, chunk: Chunk<'s>) -> Result<(), AllocError>
         requires { start + length chunk.text.now < 2 ^ 64 }
-        ensures entries { OnOk result (all entry_view self.new.body
-            ≡ all entry_view self.old.body ++ spec.entry_of (chunk_view chunk.entry)) }
-        ensures errors { OnOk result (all error_range self.new.errors
-            ≡ all error_range self.old.errors ++ spec.junk_range start (chunk_view chunk.entry)) }
+        ensures entries { OnOk result (LeavesEntry self.old self.new chunk.entry) }
+        ensures errors { OnOk result (LeavesError start self.old self.new chunk.entry) }
     {
         let Chunk { text, part } = chunk;
         match part {

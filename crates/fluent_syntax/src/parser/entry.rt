@@ -1,10 +1,9 @@
 //! Messages and terms, with their attributes.
-ghost use Rattle.std.specs.Prelude.{◌≡◌, length};
+ghost use Rattle.std.specs.Prelude.{◌≡◌};
 ghost use Rattle.fluent_syntax.specs.Entries as spec;
-ghost use Rattle.fluent_text.specs.Parser as parser;
 ghost use Rattle.fluent_syntax.specs.Parts as parts;
 ghost use Rattle.fluent_text.specs.Reading.{found, passed};
-ghost use Rattle.fluent_syntax.specs.Reading.{Gives, all};
+ghost use Rattle.fluent_syntax.specs.Reading.{Gives, GivesMore};
 ghost use Rattle.fluent_syntax.specs.ContentView.{content_view};
 ghost use Rattle.fluent_tree.specs.View.{name_view, pattern_view, attribute_view, entry_view};
 
@@ -119,8 +118,7 @@ fn attributes<'s>(
     s: &'s str,
     found: Vec<Attribute<'s>>,
 ) -> Result<(Vec<Attribute<'s>>, &'s str), Stop>
-    ensures { Gives (all attribute_view) result (parser.many_from parser.push spec.attribute
-        (length s.now) (all attribute_view found.entry) s.now) }
+    ensures { GivesMore attribute_view result found.entry spec.attribute s.now }
 {
     if attribute_dot(s).is_none() {
         return Ok((found, s));
@@ -135,8 +133,7 @@ fn more_attributes<'s>(
     s: &'s str,
     mut found: Vec<Attribute<'s>>,
 ) -> Result<(Vec<Attribute<'s>>, &'s str), Stop>
-    ensures { Gives (all attribute_view) result (parser.many_from parser.push spec.attribute
-        (length s.now) (all attribute_view found.entry) s.now) }
+    ensures { GivesMore attribute_view result found.entry spec.attribute s.now }
 {
     let mut rest = s;
     'attributes: for _turn in 0..s.len() {

@@ -1,8 +1,9 @@
 //! Placeables: a select or another expression between braces, to a depth.
 ghost use Rattle.std.specs.Prelude.{◌≡◌};
 ghost use Rattle.fluent_syntax.specs.Expressions as spec;
+ghost use Rattle.fluent_syntax.specs.Expressions.{level};
 ghost use Rattle.fluent_syntax.specs.Reading.{Gives};
-ghost use Rattle.fluent_syntax.specs.Nests.{GivesRule};
+ghost use Rattle.fluent_syntax.specs.Nests.{GivesBraces, GivesBrackets};
 ghost use Rattle.fluent_tree.specs.View.{inline_view, expression_view, arguments_view};
 
 use crate::parser::bytes::eat;
@@ -49,11 +50,9 @@ impl<
     #[inline(always)]
     #[tactic(auto, unfolding(crate::specs::Expressions::expression))]
     fn expression(&self, s: &'s str) -> Result<(Expression<'s>, &'s str), Stop>
-        requires braces { GivesRule expression_view (spec.level self.now.depth).braces self.now.depth
-            (F.pre self.now.braces) (F.post self.now.braces) }
-        requires brackets { GivesRule arguments_view (spec.level self.now.depth).brackets self.now.depth
-            (G.pre self.now.brackets) (G.post self.now.brackets) }
-        ensures { Gives expression_view result (spec.expression (spec.level self.now.depth) s.now) }
+        requires braces { GivesBraces F.pre F.post self.now.depth self.now.braces }
+        requires brackets { GivesBrackets G.pre G.post self.now.depth self.now.brackets }
+        ensures { Gives expression_view result (spec.expression (level self.now.depth) s.now) }
     {
         let (x, rest) = self.inline_expression(s)?;
         if !is_selector(&x) {
@@ -77,12 +76,10 @@ impl<
 
     #[tactic(auto, unfolding(crate::specs::Expressions::inline_placeable))]
     fn inline_placeable(&self, s: &'s str) -> Result<(Expression<'s>, &'s str), Stop>
-        requires braces { GivesRule expression_view (spec.level self.now.depth).braces self.now.depth
-            (F.pre self.now.braces) (F.post self.now.braces) }
-        requires brackets { GivesRule arguments_view (spec.level self.now.depth).brackets self.now.depth
-            (G.pre self.now.brackets) (G.post self.now.brackets) }
+        requires braces { GivesBraces F.pre F.post self.now.depth self.now.braces }
+        requires brackets { GivesBrackets G.pre G.post self.now.depth self.now.brackets }
         ensures { Gives expression_view result (spec.inline_placeable
-            (spec.level self.now.depth) s.now) }
+            (level self.now.depth) s.now) }
     {
         let opened = eat(s, b'{').ok_or(Stop::Absent)?;
         let (x, rest) = self.expression(after_blank(opened))?;
@@ -99,7 +96,7 @@ pub fn inline_placeable<'s>(
     s: &'s str,
     depth: usize,
 ) -> Result<(Expression<'s>, &'s str), Stop>
-    ensures { Gives expression_view result ((spec.level depth).braces s.now) }
+    ensures { Gives expression_view result ((level depth).braces s.now) }
 {
     if depth == 0 {
         return Err(Stop::Absent);
@@ -121,7 +118,7 @@ pub fn call_arguments<'s>(
     s: &'s str,
     depth: usize,
 ) -> Result<(CallArguments<'s>, &'s str), Stop>
-    ensures { Gives arguments_view result ((spec.level depth).brackets s.now) }
+    ensures { Gives arguments_view result ((level depth).brackets s.now) }
 {
     if depth == 0 {
         return Err(Stop::Absent);

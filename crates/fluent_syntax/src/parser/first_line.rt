@@ -1,13 +1,14 @@
 //! The first line of a pattern, read straight into its elements.
-ghost use Rattle.std.specs.Prelude.{◌≡◌, ◌==◌, ◌+◌, ◌++◌, ◌∷◌, [], ℕ, List, true, false, length, Some, OnOk, IfOk};
+ghost use Rattle.std.specs.Prelude.{◌≡◌, ◌==◌, ◌+◌, ◌++◌, [], true, false, length, Some, OnOk, IfOk};
 ghost use Rattle.fluent_text.specs.Lexical.{is_text};
 ghost use Rattle.fluent_text.specs.Parser.{first, run};
 ghost use Rattle.fluent_syntax.specs.Expressions.{level};
+ghost use Rattle.fluent_syntax.specs.FirstLine.{AppendsBoth, EndsFirstLine};
 ghost use Rattle.fluent_syntax.specs.Layout.{unless_empty};
-ghost use Rattle.fluent_syntax.specs.Nests.{GivesRule};
-ghost use Rattle.fluent_syntax.specs.Progress.{closes_pattern, LineEndsPattern, InLine, IsFirstLine};
+ghost use Rattle.fluent_syntax.specs.Nests.{GivesBraces};
+ghost use Rattle.fluent_syntax.specs.Progress.{closes_pattern, LineEndsPattern, IsFirstLine};
+ghost use Rattle.fluent_syntax.specs.Pushing.{Appends};
 ghost use Rattle.fluent_syntax.specs.Reading.{Gives, all};
-ghost use Rattle.fluent_tree.specs.Tree.{placeable};
 ghost use Rattle.fluent_tree.specs.View.{element_view, expression_view};
 
 use crate::parser::bare::bare_placeable;
@@ -77,8 +78,7 @@ fn closes_pattern(byte: u8) -> bool
 /// Adds a text, unless it is empty.
 #[inline(always)]
 fn push_text<'s>(found: &mut Vec<PatternElement<'s>>, value: &'s str) -> Result<(), AllocError>
-    ensures { OnOk result (all element_view found.new
-        ≡ all element_view found.old ++ unless_empty value.now) }
+    ensures { OnOk result (Appends element_view found.old found.new (unless_empty value.now)) }
 {
     if value.is_empty() {
         return Ok(());
@@ -94,8 +94,7 @@ fn placeable<'s, F: Fn(Global, &'s str, usize) -> Result<(Expression<'s>, &'s st
     depth: usize,
     braces: &F,
 ) -> Result<(Expression<'s>, &'s str), Stop>
-    requires braces { GivesRule expression_view (level depth).braces depth (F.pre braces.now)
-        (F.post braces.now) }
+    requires braces { GivesBraces F.pre F.post depth braces.now }
     ensures { Gives expression_view result ((level depth).braces s.now) }
 {
     if depth > 0
@@ -152,9 +151,7 @@ fn push_both<'s>(
     value: &'s str,
     expression: Expression<'s>,
 ) -> Result<(), AllocError>
-    ensures { OnOk result (all element_view found.new
-        ≡ (all element_view found.old ++ unless_empty value.now)
-        ++ placeable (expression_view expression.entry) ∷ []) }
+    ensures { OnOk result (AppendsBoth found.old found.new value.now expression.entry) }
 {
     push_text(found, value)?;
     push(found, PatternElement::Placeable { expression })
@@ -174,11 +171,8 @@ fn from_brace<'s, F: Fn(Global, &'s str, usize) -> Result<(Expression<'s>, &'s s
     found: &mut Vec<PatternElement<'s>>,
 ) -> Result<Line<'s>, AllocError>
     requires none { all element_view found.old ≡ [] }
-    requires braces { GivesRule expression_view (level depth).braces depth (F.pre braces.now)
-        (F.post braces.now) }
-    ensures { (whole : List ℕ) → InLine depth whole (unless_empty before.now) s.now →
-        (first s.now == 123) ≡ true →
-        IfOk result (λ line. IsFirstLine depth whole (all element_view found.new) line) }
+    requires braces { GivesBraces F.pre F.post depth braces.now }
+    ensures { EndsFirstLine depth before.now s.now found.new result }
 {
     let mut value = before;
     let mut rest = s;
@@ -223,8 +217,7 @@ pub fn first_line<'s, F: Fn(Global, &'s str, usize) -> Result<(Expression<'s>, &
 ) -> Result<Line<'s>, AllocError>
     requires none { all element_view found.old ≡ [] }
     requires begin { run is_text s.now ≡ Some (value.now, after.now) }
-    requires braces { GivesRule expression_view (level depth).braces depth (F.pre braces.now)
-        (F.post braces.now) }
+    requires braces { GivesBraces F.pre F.post depth braces.now }
     ensures { IfOk result (λ line. IsFirstLine depth s.now (all element_view found.new) line) }
 {
     if byte_at(after, 0) != b'{' {

@@ -1,11 +1,11 @@
 //! From the pieces of a pattern to its elements.
-ghost use Rattle.std.specs.Prelude.{true, [], ◌≡◌, ◌∷◌, ◌++◌, List, map, replicate, IfOk, OnOk};
+ghost use Rattle.std.specs.Prelude.{true, ◌≡◌, map, replicate, IfOk, OnOk};
 ghost use Rattle.fluent_syntax.specs.Layout as spec;
-ghost use Rattle.fluent_syntax.specs.Layout.{lines, starts_line};
-ghost use Rattle.fluent_tree.specs.Tree.{Element};
 ghost use Rattle.fluent_tree.specs.View.{element_view};
 ghost use Rattle.fluent_syntax.specs.PieceView.{piece_view};
-ghost use Rattle.fluent_syntax.specs.Backwards.{backwards};
+ghost use Rattle.fluent_syntax.specs.Reading.{all};
+ghost use Rattle.fluent_syntax.specs.Trimmed.{AllStay, Stays};
+ghost use Rattle.fluent_syntax.specs.Backwards.{HoldsLines, Prepends, PrependsPiece, TellsStart};
 
 use crate::parser::list::push;
 use crate::parser::piece::{Piece, Slice};
@@ -18,8 +18,7 @@ pub fn elements<'s>(
     alloc: Global,
     pieces: Vec<Piece<'s>>,
 ) -> Result<Vec<PatternElement<'s>>, AllocError>
-    ensures { IfOk result (λ v. map element_view v.items
-        ≡ spec.elements (map piece_view pieces.entry.items)) }
+    ensures { IfOk result (λ v. all element_view v ≡ spec.elements (all piece_view pieces.entry)) }
 {
     let common = common_indent(&pieces);
     let mut out = backwards(alloc, pieces, common)?;
@@ -31,8 +30,7 @@ pub fn elements<'s>(
 
 /// Adds `count` line feeds.
 fn push_feeds<'s>(out: &mut Vec<PatternElement<'s>>, count: usize) -> Result<(), AllocError>
-    ensures { OnOk result ((done : List Element) → map element_view out.old.items ≡ backwards done
-        → map element_view out.new.items ≡ backwards (replicate count spec.feed ++ done)) }
+    ensures { OnOk result (Prepends out.old out.new (replicate count spec.feed)) }
 {
     'feeds: for _turn in 0..count {
         push(out, PatternElement::TextElement { value: "\n" })?;
@@ -49,10 +47,7 @@ fn push_words<'s>(
     common: usize,
     after_line: bool,
 ) -> Result<(), AllocError>
-    ensures { OnOk result ((done : List spec.Piece) →
-        map element_view out.old.items ≡ backwards (lines common done)
-        → after_line ≡ starts_line done
-        → map element_view out.new.items ≡ backwards (lines common (spec.words words.now ∷ done))) }
+    ensures { OnOk result (PrependsPiece common after_line out.old out.new (spec.words words.now)) }
 {
     if after_line && let Some(value) = words.fed_text(common) {
         let _ = out.pop();
@@ -76,13 +71,8 @@ fn push_piece<'s>(
     common: usize,
     after_line: bool,
 ) -> Result<bool, AllocError>
-    ensures out { OnOk result ((done : List spec.Piece) →
-        map element_view out.old.items ≡ backwards (lines common done)
-        → after_line ≡ starts_line done
-        → map element_view out.new.items ≡ backwards (lines common
-        (piece_view piece.entry ∷ done))) }
-    ensures line { IfOk result (λ at_line. (done : List spec.Piece) →
-        at_line ≡ starts_line (piece_view piece.entry ∷ done)) }
+    ensures out { OnOk result (PrependsPiece common after_line out.old out.new (piece_view piece.entry)) }
+    ensures line { IfOk result (TellsStart (piece_view piece.entry)) }
 {
     match piece {
         Piece::Line(count) => {
@@ -106,8 +96,7 @@ fn backwards<'s>(
     pieces: Vec<Piece<'s>>,
     common: usize,
 ) -> Result<Vec<PatternElement<'s>>, AllocError>
-    ensures { IfOk result (λ v. map element_view v.items
-        ≡ backwards (lines common (map piece_view pieces.entry.items))) }
+    ensures { IfOk result (λ v. HoldsLines common v (all piece_view pieces.entry)) }
 {
     let mut out = Vec::with_capacity(alloc, pieces.len())?;
     let mut left = pieces;
@@ -151,8 +140,7 @@ fn smaller(a: Option<usize>, b: Option<usize>) -> Option<usize>
 /// Takes the line feeds off the end, which is the start of the pattern.
 #[inline(always)]
 fn drop_feeds<'s>(out: &mut Vec<PatternElement<'s>>)
-    ensures { map element_view out.new.items ≡ spec.without_last spec.is_feed
-        (map element_view out.old.items) }
+    ensures { all element_view out.new ≡ spec.without_last spec.is_feed (all element_view out.old) }
 {
     let mut end = out.len();
     'feeds: while end > 0 && is_feed(&out[end - 1]) {
@@ -174,8 +162,7 @@ fn is_feed(element: &PatternElement<'_>) -> bool
 /// Whether the last element stays as it is where it is trimmed, and so need not be moved.
 #[inline(always)]
 fn is_trimmed(elements: &[PatternElement<'_>]) -> bool
-    ensures { (result ≡ true) → map element_view elements.now
-        ≡ spec.trim_last (map element_view elements.now) }
+    ensures { (result ≡ true) → AllStay (map element_view elements.now) }
 {
     match elements.last() {
         None => true,
@@ -186,8 +173,7 @@ fn is_trimmed(elements: &[PatternElement<'_>]) -> bool
 /// Whether an element is a placeable, or a text with no spaces at its end.
 #[inline(always)]
 fn stays(element: &PatternElement<'_>) -> bool
-    ensures { (result ≡ true) → spec.trimmed (element_view element.now)
-        ≡ element_view element.now ∷ [] }
+    ensures { (result ≡ true) → Stays (element_view element.now) }
 {
     match element {
         PatternElement::TextElement { value } => {
@@ -204,8 +190,7 @@ fn stays(element: &PatternElement<'_>) -> bool
 /// Where the last element is text, takes the spaces off its end, and takes it away where nothing is left.
 #[inline(always)]
 pub fn trim_last<'s>(out: &mut Vec<PatternElement<'s>>) -> Result<(), AllocError>
-    ensures { OnOk result (map element_view out.new.items
-        ≡ spec.trim_last (map element_view out.old.items)) }
+    ensures { OnOk result (all element_view out.new ≡ spec.trim_last (all element_view out.old)) }
 {
     if is_trimmed(out) {
         return Ok(());

@@ -1,15 +1,15 @@
 //! Patterns, over a reader of placeables.
-ghost use Rattle.std.specs.Prelude.{◌≡◌, ℕ, List, true, map, Some, IfOk};
+ghost use Rattle.std.specs.Prelude.{◌≡◌, true, Some, IfOk};
 ghost use Rattle.fluent_text.specs.Lexical.{is_text};
 ghost use Rattle.fluent_text.specs.Parser.{run};
 ghost use Rattle.fluent_syntax.specs.Expressions.{level};
+ghost use Rattle.fluent_syntax.specs.FirstLine.{IsPattern};
 ghost use Rattle.fluent_syntax.specs.Pieces as spec;
 ghost use Rattle.fluent_syntax.specs.Layout.{unless_empty, trim_spaces};
 ghost use Rattle.fluent_syntax.specs.Reading.{Gives, all};
-ghost use Rattle.fluent_syntax.specs.Nests.{GivesRule};
-ghost use Rattle.fluent_syntax.specs.Progress.{Reached, piece_of};
-ghost use Rattle.fluent_tree.specs.Tree.{pattern_of};
-ghost use Rattle.fluent_tree.specs.View.{element_view, expression_view, pattern_view};
+ghost use Rattle.fluent_syntax.specs.Nests.{GivesBraces};
+ghost use Rattle.fluent_syntax.specs.Progress.{GivesWhole, pieces_of};
+ghost use Rattle.fluent_tree.specs.View.{element_view, pattern_view};
 
 use crate::parser::bytes::{Class, split_run};
 use crate::parser::first_line::{Line, ends_pattern, first_line};
@@ -27,8 +27,7 @@ pub fn pattern<'s, F: Fn(Global, &'s str, usize) -> Result<(Expression<'s>, &'s 
     depth: usize,
     braces: &F,
 ) -> Result<(Pattern<'s>, &'s str), Stop>
-    requires braces { GivesRule expression_view (level depth).braces depth (F.pre braces.now)
-        (F.post braces.now) }
+    requires braces { GivesBraces F.pre F.post depth braces.now }
     ensures { Gives pattern_view result (spec.pattern (level depth).braces s.now) }
 {
     let (line, after) = split_run(s, Class::Text);
@@ -44,9 +43,7 @@ pub fn pattern<'s, F: Fn(Global, &'s str, usize) -> Result<(Expression<'s>, &'s 
 /// Whether the text of a line is a whole pattern: nothing after it goes on with it.
 #[inline(always)]
 fn is_whole(line: &str, rest: &str) -> bool
-    ensures { (result ≡ true) → (s : List ℕ) → run is_text s ≡ Some (line.now, rest.now) →
-        (depth : ℕ) → spec.pattern (level depth).braces s
-        ≡ Some (pattern_of (unless_empty (trim_spaces line.now)), rest.now) }
+    ensures { (result ≡ true) → IsPattern line.now rest.now }
 {
     !line.is_empty() && ends_pattern(rest)
 }
@@ -54,8 +51,7 @@ fn is_whole(line: &str, rest: &str) -> bool
 /// The text of a line as the only element, without the spaces at its end.
 #[inline(always)]
 fn one_element<'s>(alloc: Global, line: &'s str) -> Result<Vec<PatternElement<'s>>, AllocError>
-    ensures { IfOk result (λ elements. all element_view elements
-        ≡ unless_empty (trim_spaces line.now)) }
+    ensures { IfOk result (λ v. all element_view v ≡ unless_empty (trim_spaces line.now)) }
 {
     let value = without_spaces(line);
     if value.is_empty() {
@@ -78,8 +74,7 @@ fn long_pattern<'s, F: Fn(Global, &'s str, usize) -> Result<(Expression<'s>, &'s
     braces: &F,
 ) -> Result<(Pattern<'s>, &'s str), Stop>
     requires begin { run is_text s.now ≡ Some (value.now, after.now) }
-    requires braces { GivesRule expression_view (level depth).braces depth (F.pre braces.now)
-        (F.post braces.now) }
+    requires braces { GivesBraces F.pre F.post depth braces.now }
     ensures { Gives pattern_view result (spec.pattern (level depth).braces s.now) }
 {
     let mut elements = Vec::new(alloc);
@@ -105,11 +100,8 @@ fn many_lines<'s, F: Fn(Global, &'s str, usize) -> Result<(Expression<'s>, &'s s
     braces: &F,
     prefix: Vec<PatternElement<'s>>,
 ) -> Result<(Pattern<'s>, &'s str), Stop>
-    requires braces { GivesRule expression_view (level depth).braces depth (F.pre braces.now)
-        (F.post braces.now) }
-    ensures { (whole : List ℕ) → Reached depth whole
-        (map piece_of (all element_view prefix.entry)) s.now →
-        Gives pattern_view result (spec.pattern (level depth).braces whole) }
+    requires braces { GivesBraces F.pre F.post depth braces.now }
+    ensures { GivesWhole depth (pieces_of (all element_view prefix.entry)) s.now pattern_view result spec.pattern }
 {
     let found = as_pieces(alloc, prefix)?;
     let (pieces, rest) = more_pieces(alloc, s, depth, braces, found)?;

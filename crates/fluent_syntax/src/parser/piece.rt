@@ -1,7 +1,8 @@
 //! The pieces of a pattern, as they are read.
-ghost use Rattle.std.specs.Prelude.{None, ◌≡◌, ◌+◌, ◌<◌, ◌≤◌, ℕ, true, false, Some, length, drop, slice_index, unwrap_or, IfSome, MatchOption, [], ◌∷◌, ◌++◌};
+ghost use Rattle.std.specs.Prelude.{None, ◌≡◌, ◌<◌, ◌≤◌, ℕ, false, Some, length, drop, slice_index, unwrap_or, IfSome};
 ghost use Rattle.fluent_syntax.specs.Layout.{dedented};
 ghost use Rattle.fluent_syntax.specs.Pieces as spec;
+ghost use Rattle.fluent_syntax.specs.Slice.{IsFed};
 ghost use Rattle.fluent_text.specs.Reading.{found};
 
 use crate::parser::bytes::{Class, byte_at, run_len};
@@ -84,8 +85,7 @@ impl<'s> Slice<'s> {
 
     /// The same with the line feed that follows directly, if one does.
     pub fn fed_text(&self, common: usize) -> Option<&'s str>
-        ensures { MatchOption result (self.now.fed ≡ false)
-            (λ u. (self.now.fed ≡ true) × (u.now ≡ dedented common self.now ++ 10 ∷ [])) }
+        ensures { IsFed common self.now result }
     {
         let fed = self.fed?;
         Some(&fed[common.min(self.indent.unwrap_or(0))..])

@@ -1,10 +1,10 @@
 //! The pieces of a pattern that has several lines.
-ghost use Rattle.std.specs.Prelude.{◌≡◌, ℕ, List, map, IfOk};
+ghost use Rattle.std.specs.Prelude.{◌≡◌, IfOk};
 ghost use Rattle.fluent_syntax.specs.Expressions.{level};
-ghost use Rattle.fluent_syntax.specs.Nests.{GivesRule};
+ghost use Rattle.fluent_syntax.specs.Nests.{GivesBraces};
 ghost use Rattle.fluent_syntax.specs.Pieces.{pattern_element, pieces};
 ghost use Rattle.fluent_syntax.specs.PieceView.{piece_view};
-ghost use Rattle.fluent_syntax.specs.Progress.{Reached, PushesPieces, piece_of, ended, text_pieces, hole_pieces};
+ghost use Rattle.fluent_syntax.specs.Progress.{GivesWhole, PushesPieces, piece_of, pieces_of, ended, text_pieces, hole_pieces};
 ghost use Rattle.fluent_syntax.specs.Reading.{Gives, all};
 ghost use Rattle.fluent_tree.specs.View.{element_view, expression_view};
 
@@ -25,8 +25,7 @@ pub fn as_pieces<'s>(
     alloc: Global,
     prefix: Vec<PatternElement<'s>>,
 ) -> Result<Vec<Piece<'s>>, AllocError>
-    ensures { IfOk result (λ found. all piece_view found
-        ≡ map piece_of (all element_view prefix.entry)) }
+    ensures { IfOk result (λ v. all piece_view v ≡ pieces_of (all element_view prefix.entry)) }
 {
     let mut pieces = Vec::with_capacity(alloc, prefix.len().max(ROOM))?;
     'elements: for element in prefix {
@@ -52,10 +51,8 @@ pub fn more_pieces<'s, F: Fn(Global, &'s str, usize) -> Result<(Expression<'s>, 
     braces: &F,
     mut found: Vec<Piece<'s>>,
 ) -> Result<(Vec<Piece<'s>>, &'s str), Stop>
-    requires braces { GivesRule expression_view (level depth).braces depth (F.pre braces.now)
-        (F.post braces.now) }
-    ensures { (whole : List ℕ) → Reached depth whole (all piece_view found.entry) s.now →
-        Gives (all piece_view) result (pieces (level depth).braces whole) }
+    requires braces { GivesBraces F.pre F.post depth braces.now }
+    ensures { GivesWhole depth (all piece_view found.entry) s.now (all piece_view) result pieces }
 {
     let mut rest = s;
     'pieces: while !rest.is_empty() {
@@ -86,9 +83,8 @@ fn push_element<'s, F: Fn(Global, &'s str, usize) -> Result<(Expression<'s>, &'s
     braces: &F,
     found: &mut Vec<Piece<'s>>,
 ) -> Result<&'s str, Stop>
-    requires braces { GivesRule expression_view (level depth).braces depth (F.pre braces.now)
-        (F.post braces.now) }
-    ensures { PushesPieces result (all piece_view found.old) (all piece_view found.new)
+    requires braces { GivesBraces F.pre F.post depth braces.now }
+    ensures { PushesPieces result found.old found.new
         (pattern_element (level depth).braces s.now) }
 {
     match push_words(s, found) {
@@ -99,7 +95,7 @@ fn push_element<'s, F: Fn(Global, &'s str, usize) -> Result<(Expression<'s>, &'s
 }
 
 fn push_words<'s>(s: &'s str, found: &mut Vec<Piece<'s>>) -> Result<&'s str, Stop>
-    ensures { PushesPieces result (all piece_view found.old) (all piece_view found.new)
+    ensures { PushesPieces result found.old found.new
         (text_pieces s.now) }
 {
     if byte_at(s, 0) == b'{' {
@@ -127,9 +123,8 @@ fn push_hole<'s, F: Fn(Global, &'s str, usize) -> Result<(Expression<'s>, &'s st
     braces: &F,
     found: &mut Vec<Piece<'s>>,
 ) -> Result<&'s str, Stop>
-    requires braces { GivesRule expression_view (level depth).braces depth (F.pre braces.now)
-        (F.post braces.now) }
-    ensures { PushesPieces result (all piece_view found.old) (all piece_view found.new)
+    requires braces { GivesBraces F.pre F.post depth braces.now }
+    ensures { PushesPieces result found.old found.new
         (hole_pieces depth s.now) }
 {
     if depth > 0
@@ -150,9 +145,8 @@ fn push_any_hole<'s, F: Fn(Global, &'s str, usize) -> Result<(Expression<'s>, &'
     braces: &F,
     found: &mut Vec<Piece<'s>>,
 ) -> Result<&'s str, Stop>
-    requires braces { GivesRule expression_view (level depth).braces depth (F.pre braces.now)
-        (F.post braces.now) }
-    ensures { PushesPieces result (all piece_view found.old) (all piece_view found.new)
+    requires braces { GivesBraces F.pre F.post depth braces.now }
+    ensures { PushesPieces result found.old found.new
         (hole_pieces depth s.now) }
 {
     match at_brace(alloc, s, depth, braces) {
@@ -183,8 +177,7 @@ fn at_brace<'s, F: Fn(Global, &'s str, usize) -> Result<(Expression<'s>, &'s str
     depth: usize,
     braces: &F,
 ) -> Result<(Expression<'s>, &'s str), Stop>
-    requires braces { GivesRule expression_view (level depth).braces depth (F.pre braces.now)
-        (F.post braces.now) }
+    requires braces { GivesBraces F.pre F.post depth braces.now }
     ensures { Gives expression_view result ((level depth).braces s.now) }
 {
     if byte_at(s, 0) != b'{' {

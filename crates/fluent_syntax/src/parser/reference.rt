@@ -1,11 +1,12 @@
 //! References to messages, terms and functions, and the expressions that are no select.
-ghost use Rattle.std.specs.Prelude.{◌≡◌, Some, length};
+ghost use Rattle.std.specs.Prelude.{◌≡◌, Some};
 ghost use Rattle.fluent_syntax.specs.Expressions as spec;
+ghost use Rattle.fluent_syntax.specs.Expressions.{level};
 ghost use Rattle.fluent_syntax.specs.Parts as parts;
 ghost use Rattle.fluent_text.specs.Reading.{found};
 ghost use Rattle.fluent_syntax.specs.Reading.{Gives};
-ghost use Rattle.fluent_syntax.specs.Nests.{GivesRule};
-ghost use Rattle.fluent_tree.specs.View.{name_view, inline_view, expression_view, arguments_view, attribute_of, call_view};
+ghost use Rattle.fluent_syntax.specs.Nests.{GivesBraces, GivesBrackets};
+ghost use Rattle.fluent_tree.specs.View.{name_view, inline_view, attribute_of, call_view};
 
 use crate::parser::bytes::{Class, byte_at, eat, run_len};
 use crate::parser::inner::Inner;
@@ -71,10 +72,9 @@ impl<
         id: Identifier<'s>,
         s: &'s str,
     ) -> Result<(InlineExpression<'s>, &'s str), Stop>
-        requires brackets { GivesRule arguments_view (spec.level self.now.depth).brackets self.now.depth
-            (G.pre self.now.brackets) (G.post self.now.brackets) }
+        requires brackets { GivesBrackets G.pre G.post self.now.depth self.now.brackets }
         ensures { Gives inline_view result
-            (parts.reference_to (spec.level self.now.depth) (name_view id.entry) s.now) }
+            (parts.reference_to (level self.now.depth) (name_view id.entry) s.now) }
     {
         if !is_function_name(id.name) {
             return Ok(message_reference(id, s));
@@ -92,9 +92,8 @@ impl<
     #[inline(always)]
     #[tactic(auto, unfolding(crate::specs::Expressions::optional_call))]
     fn optional_call(&self, s: &'s str) -> Result<(Option<Box<CallArguments<'s>>>, &'s str), Stop>
-        requires brackets { GivesRule arguments_view (spec.level self.now.depth).brackets self.now.depth
-            (G.pre self.now.brackets) (G.post self.now.brackets) }
-        ensures { Gives call_view result (spec.optional_call (spec.level self.now.depth) s.now) }
+        requires brackets { GivesBrackets G.pre G.post self.now.depth self.now.brackets }
+        ensures { Gives call_view result (spec.optional_call (level self.now.depth) s.now) }
     {
         match (self.brackets)(self.alloc, s, self.depth) {
             Ok((arguments, rest)) => Ok((Some(Box::new(self.alloc, arguments)?), rest)),
@@ -106,9 +105,8 @@ impl<
     #[inline(always)]
     #[tactic(auto, unfolding(crate::specs::Expressions::term_reference))]
     fn term_reference(&self, s: &'s str) -> Result<(InlineExpression<'s>, &'s str), Stop>
-        requires brackets { GivesRule arguments_view (spec.level self.now.depth).brackets self.now.depth
-            (G.pre self.now.brackets) (G.post self.now.brackets) }
-        ensures { Gives inline_view result (spec.term_reference (spec.level self.now.depth) s.now) }
+        requires brackets { GivesBrackets G.pre G.post self.now.depth self.now.brackets }
+        ensures { Gives inline_view result (spec.term_reference (level self.now.depth) s.now) }
     {
         let name = eat(s, b'-').ok_or(Stop::Absent)?;
         let (id, rest) = identifier(name).ok_or(Stop::Absent)?;
@@ -128,12 +126,10 @@ impl<
     #[inline(always)]
     #[tactic(auto, using(crate::proofs::Arguments::inline_kinds))]
     pub fn inline_expression(&self, s: &'s str) -> Result<(InlineExpression<'s>, &'s str), Stop>
-        requires braces { GivesRule expression_view (spec.level self.now.depth).braces self.now.depth
-            (F.pre self.now.braces) (F.post self.now.braces) }
-        requires brackets { GivesRule arguments_view (spec.level self.now.depth).brackets self.now.depth
-            (G.pre self.now.brackets) (G.post self.now.brackets) }
+        requires braces { GivesBraces F.pre F.post self.now.depth self.now.braces }
+        requires brackets { GivesBrackets G.pre G.post self.now.depth self.now.brackets }
         ensures { Gives inline_view result (spec.inline_expression
-            (spec.level self.now.depth) s.now) }
+            (level self.now.depth) s.now) }
     {
         if let Some((x, rest)) = variable_reference(s) {
             return Ok((x, rest));
@@ -147,11 +143,9 @@ impl<
     /// A literal, a term or a placeable.
     #[inline(never)]
     fn nameless_expression(&self, s: &'s str) -> Result<(InlineExpression<'s>, &'s str), Stop>
-        requires braces { GivesRule expression_view (spec.level self.now.depth).braces self.now.depth
-            (F.pre self.now.braces) (F.post self.now.braces) }
-        requires brackets { GivesRule arguments_view (spec.level self.now.depth).brackets self.now.depth
-            (G.pre self.now.brackets) (G.post self.now.brackets) }
-        ensures { Gives inline_view result (parts.nameless (spec.level self.now.depth) s.now) }
+        requires braces { GivesBraces F.pre F.post self.now.depth self.now.braces }
+        requires brackets { GivesBrackets G.pre G.post self.now.depth self.now.brackets }
+        ensures { Gives inline_view result (parts.nameless (level self.now.depth) s.now) }
     {
         if let Some((x, rest)) = literal(s) {
             return Ok((x, rest));

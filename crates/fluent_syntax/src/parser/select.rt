@@ -1,13 +1,13 @@
 //! Selects: keys, variants and lists of them.
-ghost use Rattle.std.specs.Prelude.{◌≡◌, false, length};
+ghost use Rattle.std.specs.Prelude.{◌≡◌, false};
 ghost use Rattle.fluent_syntax.specs.Expressions as spec;
+ghost use Rattle.fluent_syntax.specs.Expressions.{level, variant};
 ghost use Rattle.fluent_syntax.specs.Parts as parts;
-ghost use Rattle.fluent_text.specs.Parser as parser;
 ghost use Rattle.fluent_text.specs.Reading.{found, passed};
-ghost use Rattle.fluent_syntax.specs.Reading.{Gives, all};
-ghost use Rattle.fluent_syntax.specs.Nests.{GivesRule};
+ghost use Rattle.fluent_syntax.specs.Reading.{Gives, GivesMore, all};
+ghost use Rattle.fluent_syntax.specs.Nests.{GivesBraces};
 ghost use Rattle.fluent_syntax.specs.Pushing.{Pushes};
-ghost use Rattle.fluent_tree.specs.View.{key_view, inline_view, variant_view, expression_view};
+ghost use Rattle.fluent_tree.specs.View.{key_view, inline_view, variant_view};
 
 use crate::parser::bytes::eat;
 use crate::parser::inner::Inner;
@@ -85,10 +85,9 @@ impl<
         default: bool,
         found: &mut Vec<Variant<'s>>,
     ) -> Result<&'s str, Stop>
-        requires braces { GivesRule expression_view (spec.level self.now.depth).braces self.now.depth
-            (F.pre self.now.braces) (F.post self.now.braces) }
-        ensures { Pushes result (all variant_view found.old) (all variant_view found.new)
-            (spec.variant (spec.level self.now.depth) default s.now) }
+        requires braces { GivesBraces F.pre F.post self.now.depth self.now.braces }
+        ensures { Pushes variant_view result found.old found.new
+            (variant (level self.now.depth) default s.now) }
     {
         let Some(opened) = key_opened(s, default) else {
             return Err(Stop::Absent);
@@ -104,10 +103,9 @@ impl<
         default: bool,
         found: &mut Vec<Variant<'s>>,
     ) -> Result<&'s str, Stop>
-        requires braces { GivesRule expression_view (spec.level self.now.depth).braces self.now.depth
-            (F.pre self.now.braces) (F.post self.now.braces) }
-        ensures { Pushes result (all variant_view found.old) (all variant_view found.new)
-            (parts.opened_variant (spec.level self.now.depth) default s.now) }
+        requires braces { GivesBraces F.pre F.post self.now.depth self.now.braces }
+        ensures { Pushes variant_view result found.old found.new
+            (parts.opened_variant (level self.now.depth) default s.now) }
     {
         let Some((key, rest)) = key_closed(s) else {
             return Err(Stop::Absent);
@@ -130,10 +128,9 @@ impl<
     #[inline(never)]
     #[tactic(auto, unfolding(crate::specs::Expressions::variant_list))]
     pub fn variant_list(&self, s: &'s str) -> Result<(Vec<Variant<'s>>, &'s str), Stop>
-        requires braces { GivesRule expression_view (spec.level self.now.depth).braces self.now.depth
-            (F.pre self.now.braces) (F.post self.now.braces) }
+        requires braces { GivesBraces F.pre F.post self.now.depth self.now.braces }
         ensures { Gives (all variant_view) result (spec.variant_list
-            (spec.level self.now.depth) s.now) }
+            (level self.now.depth) s.now) }
     {
         let (mut found, rest) = self.variants(s, Vec::new(self.alloc))?;
         let rest = self.push_variant(rest, true, &mut found)?;
@@ -149,11 +146,8 @@ impl<
         s: &'s str,
         mut found: Vec<Variant<'s>>,
     ) -> Result<(Vec<Variant<'s>>, &'s str), Stop>
-        requires braces { GivesRule expression_view (spec.level self.now.depth).braces self.now.depth
-            (F.pre self.now.braces) (F.post self.now.braces) }
-        ensures { Gives (all variant_view) result (parser.many_from parser.push
-            (spec.variant (spec.level self.now.depth) false) (length s.now)
-            (all variant_view found.entry) s.now) }
+        requires braces { GivesBraces F.pre F.post self.now.depth self.now.braces }
+        ensures { GivesMore variant_view result found.entry (variant (level self.now.depth) false) s.now }
     {
         let mut rest = s;
         'variants: for _turn in 0..s.len() {

@@ -33,7 +33,7 @@ returns-in-Err-Absent g c = λ whole h.
     let old = all piece_view c.pieces.found in
     let new = all piece_view c.push_element.new.found in
     let element = pattern_element (level n).braces s in
-    let at : (element ≡ None) × (new ≡ old) = subst (λ e. PushesPieces (Err e) old new element) c.in-Err-Absent.field-0-is c.in-Err-Absent.ensures in
+    let at : (element ≡ None) × (new ≡ old) = subst (λ e. PushesPieces (Err e) c.pieces.found c.push_element.new.found element) c.in-Err-Absent.field-0-is c.in-Err-Absent.ensures in
     let reached : Reached n whole new s = subst (λ ps. Reached n whole ps s) (sym at.1) (c.pieces.invariant.reached whole h) in
     subst (λ r. Gives (all piece_view) c.all_found.result r) (sym (stop n whole new s reached at.0)) c.all_found.ensures
 
