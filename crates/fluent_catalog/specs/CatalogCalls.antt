@@ -28,7 +28,7 @@ module _ {M C F G X : Type 0} (of : FluentBundle M C F G X → Bundle Text) wher
       (first_with (pattern_at id (option_map (λ n. n.now) name)) (map of (bundles_in catalog)))
 
   -- borrowed, where it is one text
-  abbrev pub lends : Catalog M C F G X → Text → Option (Bor Text)
+  abbrev pub borrows : Catalog M C F G X → Text → Option (Bor Text)
       → Result (CowStr Global) AllocError → Type 0
-  lends catalog id name result =
+  borrows catalog id name result =
       BorrowsFound id (first_with (pattern_of of id name) (bundles_in catalog)) result

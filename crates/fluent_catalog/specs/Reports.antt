@@ -1,8 +1,9 @@
 -- What is reported of sources, by language.
-use Rattle.std.specs.Prelude.{ℕ, List, [], ◌∷◌, map}
+use Rattle.std.specs.Prelude.{◌≡◌, ℕ, List, [], ◌∷◌, ◌++◌, map}
 use Rattle.std.specs.declared.vec.Vec.{Vec}
 use Rattle.std.proofs.Common.{Global}
 use Rattle.fluent_tree.specs.Tree.{Text}
+use Rattle.fluent_syntax.specs.Chunks.{junk_ranges}
 use Rattle.fluent_syntax.specs.Parsed.{error_range}
 use Rattle.fluent_meaning.specs.Errors.{Error}
 use Rattle.fluent_values.specs.View.{error_view}
@@ -30,3 +31,17 @@ unreadable_in tag (range ∷ more) = unreadable tag (range ∷ more) ∷ []
 abbrev pub left_in : Text → List Error → List Told
 left_in tag [] = []
 left_in tag (error ∷ more) = left tag (error ∷ more) ∷ []
+
+-- ---- a list of reports, before and after
+
+-- these are added
+abbrev pub Tells : List Told → Vec Report Global → Vec Report Global → Type 0
+Tells more old new = told_in new ≡ told_in old ++ more
+
+-- what can't be read in a source, by its tag
+abbrev pub TellsUnreadable : Text → Text → Vec Report Global → Vec Report Global → Type 0
+TellsUnreadable tag source = Tells (unreadable_in tag (junk_ranges source))
+
+-- none is added
+abbrev pub TellsNothing : Vec Report Global → Vec Report Global → Type 0
+TellsNothing old new = new.items ≡ old.items

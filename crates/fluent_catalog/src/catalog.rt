@@ -1,8 +1,7 @@
 //! The bundles of several languages, the best first.
 ghost use Rattle.std.specs.Prelude.{◌≡◌, [], ◌∷◌, ◌++◌, map, OnOk, OnErr};
-ghost use Rattle.std.specs.Option.{option_map};
 ghost use Rattle.fluent_chain.specs.ChainView.{bundles_of};
-ghost use Rattle.fluent_catalog.specs.CatalogView.{bundles_in, tag_in, tags_in};
+ghost use Rattle.fluent_catalog.specs.CatalogView.{IsUnchanged, bundles_in, tag_in, tag_seen, tags_in};
 
 use crate::says::Says;
 use fluent_bundle::{
@@ -65,8 +64,7 @@ impl<
     ) -> Result<(), AllocError>
         ensures tags { OnOk result (tags_in self.new ≡ tags_in self.old ++ tag.now ∷ []) }
         ensures bundles { OnOk result (bundles_in self.new ≡ bundles_in self.old ++ bundle.entry ∷ []) }
-        ensures err { OnErr result ((tags_in self.new ≡ tags_in self.old)
-            × (bundles_in self.new ≡ bundles_in self.old)) }
+        ensures err { OnErr result (IsUnchanged self.old self.new) }
     {
         self.tags.reserve(1)?;
         self.bundles.push(bundle)?;
@@ -111,7 +109,7 @@ impl<
         's: 't,
         ensures text { ⟦<Self as Says>⟧.gives self.now id.now None args.entry result
             errors.old errors.new }
-        ensures borrowed { ⟦<Self as Says>⟧.lends self.now id.now None result }
+        ensures borrowed { ⟦<Self as Says>⟧.borrows self.now id.now None result }
     {
         Chain::of(self.bundles.as_slice()).format_value(id, args, errors)
     }
@@ -133,7 +131,7 @@ impl<
         's: 't,
         ensures text { ⟦<Self as Says>⟧.gives self.now id.now (Some name.entry) args.entry result
             errors.old errors.new }
-        ensures borrowed { ⟦<Self as Says>⟧.lends self.now id.now (Some name.entry) result }
+        ensures borrowed { ⟦<Self as Says>⟧.borrows self.now id.now (Some name.entry) result }
     {
         Chain::of(self.bundles.as_slice()).format_attribute(id, name, args, errors)
     }
@@ -141,21 +139,21 @@ impl<
     /// The language that answers for the value of a message. `None` where no language has a value for it, and the id
     /// stands for the text.
     pub fn find_value(&self, id: &str) -> Option<&'s str>
-        ensures { option_map (λ tag. tag.now) result ≡ ⟦<Self as Says>⟧.tag self.now id.now None }
+        ensures { tag_seen result ≡ ⟦<Self as Says>⟧.tag self.now id.now None }
     {
         self.tag_at(Chain::of(self.bundles.as_slice()).find_value(id))
     }
 
     /// The language that answers for an attribute of a message, by the rule of [`Catalog::find_value`].
     pub fn find_attribute(&self, id: &str, name: &str) -> Option<&'s str>
-        ensures { option_map (λ tag. tag.now) result ≡ ⟦<Self as Says>⟧.tag self.now id.now (Some name.entry) }
+        ensures { tag_seen result ≡ ⟦<Self as Says>⟧.tag self.now id.now (Some name.entry) }
     {
         self.tag_at(Chain::of(self.bundles.as_slice()).find_attribute(id, name))
     }
 
     /// The tag at a place, if there is one.
     fn tag_at(&self, place: Option<usize>) -> Option<&'s str>
-        ensures { option_map (λ tag. tag.now) result ≡ tag_in self.now place }
+        ensures { tag_seen result ≡ tag_in self.now place }
     {
         match self.tags.as_slice().get(place?) {
             Some(tag) => Some(*tag),

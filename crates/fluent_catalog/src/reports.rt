@@ -1,8 +1,7 @@
 //! What is wrong with the sources of several languages.
-ghost use Rattle.std.specs.Prelude.{◌≡◌, ◌++◌, IfOk, OnOk, OnErr};
-ghost use Rattle.fluent_syntax.specs.Chunks.{junk_ranges};
+ghost use Rattle.std.specs.Prelude.{IfOk, OnOk, OnErr};
 ghost use Rattle.fluent_bundle.specs.BundleView.{IsRead, Kept};
-ghost use Rattle.fluent_catalog.specs.Reports.{told_in, unreadable_in};
+ghost use Rattle.fluent_catalog.specs.Reports.{TellsNothing, TellsUnreadable};
 
 use crate::says::Adds;
 use fluent_bundle::{
@@ -33,9 +32,8 @@ pub fn read_source<'s>(
     reports: &mut Vec<Report<'s>>,
 ) -> Result<FluentResource<'s>, AllocError>
     ensures resource { IfOk result (λ resource. IsRead source.now resource) }
-    ensures reports { OnOk result (told_in reports.new
-        ≡ told_in reports.old ++ unreadable_in tag.now (junk_ranges source.now)) }
-    ensures err { OnErr result (reports.new.items ≡ reports.old.items) }
+    ensures reports { OnOk result (TellsUnreadable tag.now source.now reports.old reports.new) }
+    ensures err { OnErr result (TellsNothing reports.old reports.new) }
 {
     match FluentResource::try_new(alloc, source) {
         Ok(resource) => Ok(resource),
@@ -67,12 +65,11 @@ pub fn add_source<
     resource: &'r FluentResource<'s>,
     reports: &mut Vec<Report<'s>>,
 ) -> Result<(), AllocError>
-    ensures step { OnOk result (⟦<FluentBundle<'r, 's, M, C, F, G, T> as Adds>⟧.adds resource.now
-        bundle.old bundle.new) }
-    ensures reports { OnOk result (told_in reports.new ≡ told_in reports.old
-        ++ ⟦<FluentBundle<'r, 's, M, C, F, G, T> as Adds>⟧.left tag.now resource.now bundle.old) }
-    ensures err { OnErr result (⟦<FluentBundle<'r, 's, M, C, F, G, T> as Adds>⟧.same bundle.old bundle.new
-        × (reports.new.items ≡ reports.old.items)) }
+    ensures step { OnOk result (⟦<M as Adds<C, F, G, T>>⟧.adds resource.now bundle.old bundle.new) }
+    ensures reports { OnOk result
+        (⟦<M as Adds<C, F, G, T>>⟧.reports tag.now resource.now bundle.old reports.old reports.new) }
+    ensures err { OnErr result (⟦<M as Adds<C, F, G, T>>⟧.same bundle.old bundle.new) }
+    ensures none { OnErr result (TellsNothing reports.old reports.new) }
     ensures kept { Kept bundle.old bundle.new }
 {
     reports.reserve(1)?;

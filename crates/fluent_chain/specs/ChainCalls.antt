@@ -82,9 +82,9 @@ NeedsNoMemory (Some found) = IsTextAlone found.1 × (transform_in found.0 ≡ No
 abbrev pub Giving : Type 0 → Type 0 → Type 0 → Type 1
 Giving S C T = S → Text → Option (Bor Text) → Option (Bor (FluentArgs C)) → Result T AllocError → Errors → Errors → Type 0
 
--- and with what the writer holds before and after, as its type says it
+-- and with the writer before and after
 abbrev pub Writing : Type 0 → Type 0 → Type 0 → Type 1
-Writing S C W = S → Text → Option (Bor Text) → Option (Bor (FluentArgs C)) → Result (Unit {0}) WriteFault → (W → Option Text) → Counting W → Counting W → Errors → Errors → Type 0
+Writing S C W = S → Text → Option (Bor Text) → Option (Bor (FluentArgs C)) → Result (Unit {0}) WriteFault → Counting W → Counting W → Errors → Errors → Type 0
 
 module _ {M C F G X : Type 0} (of : FluentBundle M C F G X → Bundle Text) where
   abbrev pub gives : (C → Text) → Giving (Chain M C F G X) C (CowStr Global)
@@ -93,11 +93,11 @@ module _ {M C F G X : Type 0} (of : FluentBundle M C F G X → Bundle Text) wher
   abbrev pub owns : (C → Text) → Giving (Chain M C F G X) C (String Global)
   owns content chain id name args = OwnsFound id (arguments_view content args) (meant_with of chain id name)
 
-  abbrev pub writes : (C → Text) → (W : Type 0) → Writing (Chain M C F G X) C W
-  writes content W chain id name args result contents w w' = WritesFound id (arguments_view content args) (meant_with of chain id name) result (contents (writer_in w)) (contents (writer_in w'))
+  abbrev pub writes : {W : Type 0} → (C → Text) → (W → Option Text) → Writing (Chain M C F G X) C W
+  writes content contents chain id name args result w w' = WritesFound id (arguments_view content args) (meant_with of chain id name) result (contents (writer_in w)) (contents (writer_in w'))
 
-  abbrev pub lends : Chain M C F G X → Text → Option (Bor Text) → Result (CowStr Global) AllocError → Type 0
-  lends chain id name result = BorrowsFound id (bundle_with of chain id name) result
+  abbrev pub borrows : Chain M C F G X → Text → Option (Bor Text) → Result (CowStr Global) AllocError → Type 0
+  borrows chain id name result = BorrowsFound id (bundle_with of chain id name) result
 
   -- success is owed, as far as memory goes
   abbrev pub owes : Chain M C F G X → Text → Option (Bor Text) → Result (Unit {0}) WriteFault → Type 0

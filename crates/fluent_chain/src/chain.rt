@@ -5,7 +5,7 @@ ghost use Rattle.fluent_text.specs.Writer.{CountsFault};
 ghost use Rattle.fluent_chain.specs.ChainView.{bundles_of, linked};
 ghost use Rattle.fluent_chain.specs.Inside.Found.{pattern_seen};
 
-use crate::says::Says;
+use crate::says::{Says, Takes};
 use fluent_bundle::{
     Counting, FluentArgs, FluentBundle, FluentError, FluentFormatter, FluentFunction, FluentType,
     MemoizerKind, Transform, WriteFault, ast,
@@ -116,7 +116,7 @@ impl<
         's: 't,
         ensures text { ⟦<Self as Says>⟧.gives self.now id.now None args.entry result
             errors.old errors.new }
-        ensures borrowed { ⟦<Self as Says>⟧.lends self.now id.now None result }
+        ensures borrowed { ⟦<Self as Says>⟧.borrows self.now id.now None result }
     {
         self.format(id, None, args, errors)
     }
@@ -138,7 +138,7 @@ impl<
         's: 't,
         ensures text { ⟦<Self as Says>⟧.gives self.now id.now (Some name.entry) args.entry result
             errors.old errors.new }
-        ensures borrowed { ⟦<Self as Says>⟧.lends self.now id.now (Some name.entry) result }
+        ensures borrowed { ⟦<Self as Says>⟧.borrows self.now id.now (Some name.entry) result }
     {
         self.format(id, Some(name), args, errors)
     }
@@ -200,8 +200,8 @@ impl<
         args: Option<&FluentArgs<'_, C>>,
         errors: &mut Vec<FluentError>,
     ) -> Result<(), WriteFault>
-        ensures text { ⟦<Self as Says>⟧.writes W self.now id.now None args.entry result
-            W.contents w.old w.new errors.old errors.new }
+        ensures text { ⟦<W as Takes<Self>>⟧.text self.now id.now None args.entry result
+            w.old w.new errors.old errors.new }
         ensures fault { CountsFault w.old w.new result }
         ensures memory { ⟦<Self as Says>⟧.owes self.now id.now None result }
     {
@@ -222,8 +222,8 @@ impl<
         args: Option<&FluentArgs<'_, C>>,
         errors: &mut Vec<FluentError>,
     ) -> Result<(), WriteFault>
-        ensures text { ⟦<Self as Says>⟧.writes W self.now id.now (Some name.entry) args.entry result
-            W.contents w.old w.new errors.old errors.new }
+        ensures text { ⟦<W as Takes<Self>>⟧.text self.now id.now (Some name.entry) args.entry result
+            w.old w.new errors.old errors.new }
         ensures fault { CountsFault w.old w.new result }
         ensures memory { ⟦<Self as Says>⟧.owes self.now id.now (Some name.entry) result }
     {
@@ -242,7 +242,7 @@ impl<
         's: 't,
         ensures text { ⟦<Self as Says>⟧.gives self.now id.now attribute.entry args.entry result
             errors.old errors.new }
-        ensures borrowed { ⟦<Self as Says>⟧.lends self.now id.now attribute.entry result }
+        ensures borrowed { ⟦<Self as Says>⟧.borrows self.now id.now attribute.entry result }
     {
         for place in 0..self.len() {
             if let Some(bundle) = self.bundle_at(place) {
@@ -263,8 +263,8 @@ impl<
         args: Option<&FluentArgs<'_, C>>,
         errors: &mut Vec<FluentError>,
     ) -> Result<(), WriteFault>
-        ensures text { ⟦<Self as Says>⟧.writes W self.now id.now attribute.entry args.entry result
-            W.contents w.old w.new errors.old errors.new }
+        ensures text { ⟦<W as Takes<Self>>⟧.text self.now id.now attribute.entry args.entry result
+            w.old w.new errors.old errors.new }
         ensures fault { CountsFault w.old w.new result }
         ensures memory { ⟦<Self as Says>⟧.owes self.now id.now attribute.entry result }
     {
@@ -340,8 +340,8 @@ impl<
         args: Option<&FluentArgs<'_, C>>,
         errors: &mut Vec<FluentError>,
     ) -> Result<bool, WriteFault>
-        ensures text { ⟦<Self as Says>⟧.writes_in W bundle.now id.now attribute.entry args.entry result
-            W.contents w.old w.new errors.old errors.new }
+        ensures text { ⟦<W as Takes<Self>>⟧.there bundle.now id.now attribute.entry args.entry result
+            w.old w.new errors.old errors.new }
         ensures fault { CountsFault w.old w.new result }
         ensures memory { ⟦<Self as Says>⟧.owes_in bundle.now id.now attribute.entry result }
     {

@@ -13,6 +13,7 @@ use crate::chain::Chain;
 use fluent_bundle::{
     FluentBundle, FluentFormatter, FluentFunction, FluentType, MemoizerKind, Transform,
 };
+use std::io::Write;
 
 /// Of a message by its id, and of an attribute where a name is given.
 pub(crate) trait Says {
@@ -25,12 +26,10 @@ pub(crate) trait Says {
     /// What a bundle has.
     ghost pattern: { Text → Option (Bor Text) → Self.One → Option Pattern };
 
-    /// What is given, borrowed, written and owed of it there, where it is there.
+    /// What is given, borrowed and owed of it there, where it is there.
     ghost gives_in: { GivingIn Self.One Self.Own };
 
     ghost borrows_in: { Self.One → Text → Option (Bor Text) → Result (Option (CowStr Global)) AllocFailed → Type 0 };
-
-    ghost writes_in: { (W : Type 0) → WritingIn Self.One Self.Own W };
 
     ghost owes_in: { Self.One → Text → Option (Bor Text) → Result Bool WriteFault → Type 0 };
 
@@ -47,10 +46,7 @@ pub(crate) trait Says {
     ghost owns: { Giving Self Self.Own (String Global) };
 
     /// Borrowed, where it is one text.
-    ghost lends: { Self → Text → Option (Bor Text) → Result (CowStr Global) AllocFailed → Type 0 };
-
-    /// Its text is written.
-    ghost writes: { (W : Type 0) → Writing Self Self.Own W };
+    ghost borrows: { Self → Text → Option (Bor Text) → Result (CowStr Global) AllocFailed → Type 0 };
 
     /// Success is owed as to memory, where it is texts alone.
     ghost owes: { Self → Text → Option (Bor Text) → Result (Unit {0}) WriteFault → Type 0 };
@@ -85,9 +81,6 @@ impl<
     ghost borrows_in = { found.borrows_in
         (meant M.category C.shown C.alike F.answer G.formatted T.changed) };
 
-    ghost writes_in = { found.writes_in
-        (meant M.category C.shown C.alike F.answer G.formatted T.changed) C.content };
-
     ghost owes_in = { found.owes_in
         (meant M.category C.shown C.alike F.answer G.formatted T.changed) };
 
@@ -101,10 +94,49 @@ impl<
     ghost owns = { call.owns (meant M.category C.shown C.alike F.answer G.formatted T.changed)
         C.content };
 
-    ghost lends = { call.lends (meant M.category C.shown C.alike F.answer G.formatted T.changed) };
-
-    ghost writes = { call.writes (meant M.category C.shown C.alike F.answer G.formatted T.changed)
-        C.content };
+    ghost borrows = { call.borrows (meant M.category C.shown C.alike F.answer G.formatted T.changed) };
 
     ghost owes = { call.owes (meant M.category C.shown C.alike F.answer G.formatted T.changed) };
+}
+
+/// Of a writer, with a chain.
+pub(crate) trait Takes<S> {
+    /// The type of its bundles.
+    type One;
+
+    /// The type of an application's own values.
+    type Own;
+
+    /// It takes the text of what a bundle has, where that is there.
+    ghost there: { WritingIn Self.One Self.Own Self };
+
+    /// It takes the text of the first that has it.
+    ghost text: { Writing S Self.Own Self };
+}
+
+impl<
+    'c,
+    'b,
+    'r,
+    's: 'r,
+    M: MemoizerKind,
+    C: FluentType,
+    F: FluentFunction<C>,
+    G: FluentFormatter<C, M>,
+    T: Transform,
+    W: Write,
+> Takes<Chain<'c, 'b, 'r, 's, M, C, F, G, T>> for W {
+    type One = FluentBundle<'r, 's, M, C, F, G, T>;
+
+    type Own = C;
+
+    ghost use Rattle.fluent_bundle.specs.BundleView.{meant};
+    ghost use Rattle.fluent_chain.specs.ChainCalls as call;
+    ghost use Rattle.fluent_chain.specs.Inside.Found as found;
+
+    ghost there = { found.writes_in
+        (meant M.category C.shown C.alike F.answer G.formatted T.changed) C.content W.contents };
+
+    ghost text = { call.writes (meant M.category C.shown C.alike F.answer G.formatted T.changed)
+        C.content W.contents };
 }

@@ -50,11 +50,10 @@ abbrev pub GivingFound : Type 0 → Type 0 → Type 0 → Type 1
 GivingFound M C A = M → Vec A Global → Option (Bor (FluentArgs C)) → Text → Option (Bor Text)
     → Result (Option (CowStr Global)) AllocError → Errors → Errors → Type 0
 
--- and with what the writer holds before and after, as its type says it
+-- and the writer before and after
 abbrev pub WritingFound : Type 0 → Type 0 → Type 0 → Type 0 → Type 1
 WritingFound M C A W = M → Vec A Global → Option (Bor (FluentArgs C)) → Text → Option (Bor Text)
-    → Result Bool WriteFault → (W → Option Text) → Counting W → Counting W
-    → Errors → Errors → Type 0
+    → Result Bool WriteFault → Counting W → Counting W → Errors → Errors → Type 0
 
 module _ {M C F G X : Type 0} (made : M → Vec (Asked F G X) Global → Bundle Text) where
   abbrev pub gives_found : (C → Text) → GivingFound M C (Asked F G X)
@@ -62,8 +61,9 @@ module _ {M C F G X : Type 0} (made : M → Vec (Asked F G X) Global → Bundle 
       let bundle = made intls calls in
       GivesFound bundle (arguments_view content args) (pattern_at id name bundle)
 
-  abbrev pub writes_found : (C → Text) → (W : Type 0) → WritingFound M C (Asked F G X) W
-  writes_found content W intls calls args id name result contents w w' =
+  abbrev pub writes_found : {W : Type 0} → (C → Text) → (W → Option Text)
+      → WritingFound M C (Asked F G X) W
+  writes_found content contents intls calls args id name result w w' =
       let bundle = made intls calls in
       WritesFound bundle (arguments_view content args) (pattern_at id name bundle) result
       (contents (writer_in w)) (contents (writer_in w'))

@@ -76,11 +76,10 @@ abbrev pub Giving : Type 0 → Type 0 → Type 0 → Type 1
 Giving M C A = M → Vec A Global → Option (Bor (FluentArgs C)) → tree.Pattern
     → Result (CowStr Global) AllocError → Errors → Errors → Type 0
 
--- and with what the writer holds before and after, as its type says it
+-- and the writer before and after
 abbrev pub Writing : Type 0 → Type 0 → Type 0 → Type 0 → Type 1
 Writing M C A W = M → Vec A Global → Option (Bor (FluentArgs C)) → tree.Pattern
-    → Result (Unit {0}) WriteFault → (W → Option Text) → Counting W → Counting W
-    → Errors → Errors → Type 0
+    → Result (Unit {0}) WriteFault → Counting W → Counting W → Errors → Errors → Type 0
 
 module _ {M C F G X : Type 0} (made : M → Vec (Asked F G X) Global → Bundle Text) where
   abbrev pub makes : (FluentBundle M C F G X → Bundle Text) → M → Vec (Asked F G X) Global → FluentBundle M C F G X → Type 0
@@ -89,7 +88,7 @@ module _ {M C F G X : Type 0} (made : M → Vec (Asked F G X) Global → Bundle 
   abbrev pub gives : (C → Text) → Giving M C (Asked F G X)
   gives content intls calls args p = Gives (made intls calls) (arguments_view content args) (pattern_view p)
 
-  abbrev pub writes : (C → Text) → (W : Type 0) → Writing M C (Asked F G X) W
-  writes content W intls calls args p result contents w w' =
+  abbrev pub writes : {W : Type 0} → (C → Text) → (W → Option Text) → Writing M C (Asked F G X) W
+  writes content contents intls calls args p result w w' =
       Writes (made intls calls) (arguments_view content args) (pattern_view p) result
       (contents (writer_in w)) (contents (writer_in w'))

@@ -9,7 +9,7 @@ ghost use Rattle.fluent_headline.specs.Inside.OnTheWay.{source_of, AreReadFor, A
 
 mod makes;
 
-use crate::makes::Makes;
+use crate::makes::{Makes, Takes};
 use fluent_bundle::{
     Call, Counting, FluentArgs, FluentBundle, FluentError, FluentFormatter, FluentFunction,
     FluentResource, FluentType, MemoizerKind, Transform, TryNewFault, WriteFault, ast,
@@ -132,7 +132,7 @@ fn bundle_over<
     resources: &'r [FluentResource<'s>],
 ) -> Result<FluentBundle<'r, 's, M, C, F, G, T>, AllocError>
     requires { AreReadFor calls.items resources.now }
-    ensures { IfOk result (⟦<Asked<'s, F, G, T> as Makes<M, C>>⟧.makes intls calls.entry) }
+    ensures { IfOk result (⟦<M as Makes<C, F, G, T>>⟧.makes intls calls.entry) }
 {
     let calls = calls_of::<M, C, F, G, T>(alloc, calls, resources)?;
     let mut bundle = FluentBundle::new(alloc, Vec::new(alloc), intls);
@@ -147,8 +147,8 @@ fn bundle_over<
 ///
 /// # Errors
 ///
-/// `Writer` where a write failed, `Zero` where a write of a nonempty piece took no byte, `Memory` where memory was
-/// refused. Then what was written begins the text, and what was added begins the errors.
+/// `Writer` where a write failed, `Zero` where a write of a nonempty piece took no byte, `Memory` where an
+/// allocation failed. Then what was written begins the text, and what was added begins the errors.
 pub fn write_after<
     's,
     M: MemoizerKind,
@@ -166,9 +166,8 @@ pub fn write_after<
     w: &mut Counting<W>,
     errors: &mut Vec<FluentError>,
 ) -> Result<(), WriteFault>
-    ensures text { ⟦<Asked<'s, F, G, T> as Makes<M, C>>⟧.writes W intls calls.entry
-        args.entry pattern.now
-        result W.contents w.old w.new errors.old errors.new }
+    ensures text { ⟦<W as Takes<M, C, F, G, T>>⟧.text intls calls.entry args.entry pattern.now result
+        w.old w.new errors.old errors.new }
     ensures fault { CountsFault w.old w.new result }
 {
     let resources = resources_of(alloc, calls.as_slice())?;
@@ -203,8 +202,8 @@ pub fn format_after<
     pattern: &ast::Pattern<'s>,
     errors: &mut Vec<FluentError>,
 ) -> Result<CowStr<'s>, AllocError>
-    ensures { ⟦<Asked<'s, F, G, T> as Makes<M, C>>⟧.gives intls calls.entry args.entry pattern.now
-        result errors.old errors.new }
+    ensures { ⟦<M as Makes<C, F, G, T>>⟧.gives intls calls.entry args.entry pattern.now result
+        errors.old errors.new }
 {
     let resources = resources_of(alloc, calls.as_slice())?;
     let bundle: FluentBundle<'_, '_, M, C, F, G, T> = bundle_over(
@@ -234,9 +233,8 @@ fn write_in<
     w: &mut Counting<W>,
     errors: &mut Vec<FluentError>,
 ) -> Result<bool, WriteFault>
-    ensures text { ⟦<Asked<'s, F, G, T> as Makes<M, C>>⟧.writes_in W bundle.now
-        args.entry id.now attribute.entry
-        result W.contents w.old w.new errors.old errors.new }
+    ensures text { ⟦<W as Takes<M, C, F, G, T>>⟧.there bundle.now args.entry id.now attribute.entry result
+        w.old w.new errors.old errors.new }
     ensures fault { CountsFault w.old w.new result }
 {
     match attribute {
@@ -261,8 +259,8 @@ fn format_in<
     attribute: Option<&str>,
     errors: &mut Vec<FluentError>,
 ) -> Result<Option<CowStr<'s>>, AllocError>
-    ensures { ⟦<Asked<'s, F, G, T> as Makes<M, C>>⟧.gives_in bundle.now args.entry
-        id.now attribute.entry result errors.old errors.new }
+    ensures { ⟦<M as Makes<C, F, G, T>>⟧.gives_in bundle.now args.entry id.now attribute.entry result
+        errors.old errors.new }
 {
     match attribute {
         None => bundle.format_value(id, args, errors),
@@ -295,9 +293,8 @@ pub fn write_by_id_after<
     w: &mut Counting<W>,
     errors: &mut Vec<FluentError>,
 ) -> Result<bool, WriteFault>
-    ensures text { ⟦<Asked<'s, F, G, T> as Makes<M, C>>⟧.writes_found W intls calls.entry
-        args.entry id.now attribute.entry
-        result W.contents w.old w.new errors.old errors.new }
+    ensures text { ⟦<W as Takes<M, C, F, G, T>>⟧.found intls calls.entry args.entry
+        id.now attribute.entry result w.old w.new errors.old errors.new }
     ensures fault { CountsFault w.old w.new result }
 {
     let resources = resources_of(alloc, calls.as_slice())?;
@@ -333,7 +330,7 @@ pub fn format_by_id_after<
     attribute: Option<&str>,
     errors: &mut Vec<FluentError>,
 ) -> Result<Option<CowStr<'s>>, AllocError>
-    ensures { ⟦<Asked<'s, F, G, T> as Makes<M, C>>⟧.gives_found intls calls.entry args.entry
+    ensures { ⟦<M as Makes<C, F, G, T>>⟧.gives_found intls calls.entry args.entry
         id.now attribute.entry result errors.old errors.new }
 {
     let resources = resources_of(alloc, calls.as_slice())?;

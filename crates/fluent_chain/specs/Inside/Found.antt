@@ -29,9 +29,9 @@ pattern_seen found = option_map (λ p. pattern_view p.now) found
 abbrev pub GivingIn : Type 0 → Type 0 → Type 1
 GivingIn B C = B → Text → Option (Bor Text) → Option (Bor (FluentArgs C)) → Result (Option (CowStr Global)) AllocError → Errors → Errors → Type 0
 
--- and with what the writer holds before and after, as its type says it
+-- and with the writer before and after
 abbrev pub WritingIn : Type 0 → Type 0 → Type 0 → Type 1
-WritingIn B C W = B → Text → Option (Bor Text) → Option (Bor (FluentArgs C)) → Result Bool WriteFault → (W → Option Text) → Counting W → Counting W → Errors → Errors → Type 0
+WritingIn B C W = B → Text → Option (Bor Text) → Option (Bor (FluentArgs C)) → Result Bool WriteFault → Counting W → Counting W → Errors → Errors → Type 0
 
 -- a bundle and arguments, by what they mean
 abbrev pub under : {B C : Type 0} → (B → Bundle Text) → (C → Text) → B → Option (Bor (FluentArgs C)) → Under
@@ -41,8 +41,8 @@ module _ {M C F G X : Type 0} (of : FluentBundle M C F G X → Bundle Text) wher
   abbrev pub gives_in : (C → Text) → GivingIn (FluentBundle M C F G X) C
   gives_in content b id name args = GivesAsked (under of content b args) (pattern_of of id name b)
 
-  abbrev pub writes_in : (C → Text) → (W : Type 0) → WritingIn (FluentBundle M C F G X) C W
-  writes_in content W b id name args = WritesAsked (under of content b args) (pattern_of of id name b)
+  abbrev pub writes_in : {W : Type 0} → (C → Text) → (W → Option Text) → WritingIn (FluentBundle M C F G X) C W
+  writes_in content contents b id name args result = WritesAsked (under of content b args) (pattern_of of id name b) result contents
 
   abbrev pub borrows_in : FluentBundle M C F G X → Text → Option (Bor Text) → Result (Option (CowStr Global)) AllocError → Type 0
   borrows_in b id name = BorrowsAsked b (pattern_of of id name b)

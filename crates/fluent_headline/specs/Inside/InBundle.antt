@@ -20,11 +20,10 @@ abbrev pub GivingIn : Type 0 → Type 0 → Type 1
 GivingIn C B = B → Option (Bor (FluentArgs C)) → Text → Option (Bor Text)
     → Result (Option (CowStr Global)) AllocError → Errors → Errors → Type 0
 
--- and with what the writer holds before and after, as its type says it
+-- and the writer before and after
 abbrev pub WritingIn : Type 0 → Type 0 → Type 0 → Type 1
 WritingIn C B W = B → Option (Bor (FluentArgs C)) → Text → Option (Bor Text)
-    → Result Bool WriteFault → (W → Option Text) → Counting W → Counting W
-    → Errors → Errors → Type 0
+    → Result Bool WriteFault → Counting W → Counting W → Errors → Errors → Type 0
 
 module _ {C B : Type 0} (of : B → Bundle Text) (content : C → Text) where
   -- what the bundle means, and arguments
@@ -34,5 +33,5 @@ module _ {C B : Type 0} (of : B → Bundle Text) (content : C → Text) where
   abbrev pub gives_in : GivingIn C B
   gives_in b args id name = Finds (under b args) (pattern_at id name)
 
-  abbrev pub writes_in : (W : Type 0) → WritingIn C B W
-  writes_in W b args id name = WritesFound (under b args) (pattern_at id name)
+  abbrev pub writes_in : {W : Type 0} → (W → Option Text) → WritingIn C B W
+  writes_in contents b args id name result = WritesFound (under b args) (pattern_at id name) result contents
