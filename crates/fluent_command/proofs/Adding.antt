@@ -1,7 +1,6 @@
 -- Errors that are added at the end of a list, one by one or at once.
-use Rattle.std.proofs.Common.{◌≡◌, ◌∙◌, sym, ap, subst, refl, false, ℕ, ◌+◌, ◌<◌, List, [], ◌∷◌, ◌++◌, map, take, drop, length, get_or, append_assoc, append-nil, add-one, Result, Ok, Err, is_ok, is_err, true}
+use Rattle.std.proofs.Common.{◌≡◌, ◌∙◌, sym, ap, subst, refl, false, ℕ, List, [], ◌++◌, map, take, drop, append_assoc, append-nil, Result, Ok, Err, is_ok}
 use Rattle.std.specs.Result.{OnOk}
-use Rattle.std.proofs.Math.Seq.{take-suc}
 use Rattle.std.proofs.lemmas.List.{take-append-drop, map-append}
 use Rattle.std.proofs.lemmas.Result.{on_ok_weaker}
 use Rattle.fluent_meaning.specs.Errors.{Error}
@@ -15,10 +14,6 @@ pub always : {T E P : Type 0} (r : Result T E) → P → OnOk r P
 always (Ok x) p = p
 always (Err e) p = tt
 
-pub not_ok : {T E : Type 0} (r : Result T E) → is_err r ≡ true → is_ok r ≡ false
-not_ok (Ok x) failed = cc
-not_ok (Err e) failed = refl
-
 -- what holds where an answer is Ok, of another that is Ok where that one is
 pub ok_alike : {T E T' E' : Type 0} (P : Type 0) (r : Result T E) (r' : Result T' E') → is_ok r' ≡ is_ok r → OnOk r P → OnOk r' P
 ok_alike P (Ok x) (Ok y) same p = p
@@ -28,6 +23,10 @@ ok_alike P r (Err e) same p = tt
 -- errors after all of others
 pub adds_then : (xs ys : List Error) (old mid new : List FluentError) → AddsAll xs old mid → AddsAll ys mid new → AddsAll (xs ++ ys) old new
 adds_then xs ys old mid new first second = record { added = second.added ∙ ap (λ w. w ++ ys) first.added ∙ append_assoc (reported old) xs ys }
+
+-- all that is in a list that was empty
+pub added_to_none : (old new : List FluentError) (errors : List Error) → old ≡ [] → AddsAll errors old new → reported new ≡ errors
+added_to_none old new errors none adds = adds.added ∙ ap (λ es. reported es ++ errors) none
 
 -- all of them, whatever is answered
 pub added_by : {T E : Type 0} (r : Result T E) (errors : List Error) (old new : List FluentError) → reported new ≡ reported old ++ errors → Added r errors old new
@@ -48,18 +47,6 @@ added_nothing (Err e) errors old new faulted same = record {
 }
 
 module _ {X : Type 0} (f : X → Error) where
-  -- one more of them
-  pub one_added : (xs : List X) (i : ℕ) (x : X) (e : FluentError) (old mid : List FluentError) → i < length xs → x ≡ get_or xs i x → error_view e ≡ f x
-      → reported mid ≡ reported old ++ map f (take i xs) → reported (mid ++ e ∷ []) ≡ reported old ++ map f (take (i + 1) xs)
-  one_added xs i x e old mid within is views so_far =
-      map-append error_view mid (e ∷ [])
-      ∙ ap (λ w. w ++ error_view e ∷ []) so_far
-      ∙ append_assoc (reported old) (map f (take i xs)) (error_view e ∷ [])
-      ∙ ap (λ y. reported old ++ (map f (take i xs) ++ y ∷ [])) (views ∙ ap f is)
-      ∙ ap (λ w. reported old ++ w) (sym (map-append f (take i xs) (get_or xs i x ∷ [])))
-      ∙ ap (λ ys. reported old ++ map f ys) (sym (take-suc xs i x within))
-      ∙ ap (λ n. reported old ++ map f (take n xs)) (sym (add-one i))
-
   -- the first ones
   pub first_added : {T E : Type 0} (e : E) (xs : List X) (i : ℕ) (old new : List FluentError) → reported new ≡ reported old ++ map f (take i xs) → Added {T = T} (Err e) (map f xs) old new
   first_added e xs i old new so_far = record {

@@ -8,7 +8,8 @@ use Rattle.std.proofs.lemmas.Str.{IsUtf8-from_is_utf8, is_utf8-from_IsUtf8}
 use Rattle.fluent_tree.specs.Tree.{Text, Pattern}
 use Rattle.fluent_syntax.specs.Chunks.{entries}
 use Rattle.fluent_meaning.specs.Bundle.{Bundle}
-use Rattle.fluent_text.specs.Taken.{Faulted}
+use Rattle.fluent_text.specs.Writer.{CountsFault}
+use Rattle.fluent_text.specs.declared.counting.Counting.{Counting}
 use Rattle.fluent_text.specs.declared.counting.WriteFault.{WriteFault}
 use Rattle.fluent_text.specs.declared.counting.WriteFault.TheVariants.{Memory, Writer, Zero}
 use Rattle.fluent_meaning.specs.Errors.{Error}
@@ -27,58 +28,64 @@ use Rattle.fluent_command.specs.EndingView.{ending_of, ending_of_rules}
 use Rattle.fluent_command.specs.Input.{Inlet, ReadFor}
 use Rattle.fluent_command.specs.Program.{Run, First, only, bundle_of, run_value, run_sources, run_source, run_input, run_by, run_asked, run_of, first_of_source, first_by, first_asked}
 use Rattle.fluent_command.specs.Inside.OutputProgress.{Added, Stops, before, after, Took, TookPart}
-use Rattle.fluent_command.specs.Outlet.{Outlet, TakesAll}
+use Rattle.fluent_command.specs.Outlet.{Outlet, outlet, TakesAll}
 use Rattle.fluent_command.specs.Outcome.{AreLeft, EndsRun, as_defined, by_reading, by_writing, by_memory, by_memory_read, by_memory_shown}
 use Rattle.fluent_command.specs.declared.input.InputState.{InputState}
 use Rattle.fluent_command.specs.declared.input.InputState.TheVariants.{Open, AtEnd}
+use Rattle.fluent_command.proofs.Adding.{added_to_none}
 
 -- a writer that was left alone
 pub takes_none : (w : Outlet) → TakesAll [] w w
 takes_none w = record { taken = Appends-nil w.held; failed = refl; empty = refl }
 
--- the errors of a list that was empty
-added_to_none : (old new : List FluentError) (errors : List Error) → old ≡ [] → AddsAll errors old new → reported new ≡ errors
-added_to_none old new errors none adds = adds.added ∙ ap (λ es. reported es ++ errors) none
-
+-- a beginning of the errors of a list that was empty
 began_at_none : (old new : List FluentError) (errors : List Error) → old ≡ [] → AddsPrefix errors old new → Begins (reported new) errors
 began_at_none old new errors none adds = (adds.rest, sym adds.whole ∙ ap (λ w. w ++ adds.rest) (sym (added_to_none old new adds.prefix none adds.adds)))
 
 -- ---- of a text that was read to its end
 
-module _ {T : Type 0} (run : Run) (first : First) (out out' : Outlet) (old new : List FluentError) (none : old ≡ []) where
+module _ {W : Type 0} (contents : W → Option Text) (run : Run) (first : First) (w w' : Counting W) (old new : List FluentError) (none : old ≡ []) where
+  -- the writer before and after
+  abbrev out : Outlet
+  out = outlet contents w
+
+  abbrev out' : Outlet
+  out' = outlet contents w'
+
   -- a call that did all
-  pub ends_whole : (r : Result T WriteFault) (x : T) (ending : Ending) → r ≡ Ok x → ending ≡ run.ending → Took r run.output out.held out'.held → Added r run.errors old new
-      → Faulted out.failed out.empty out'.failed out'.empty r → EndsRun run first AtEnd out out' ending (reported new)
+  pub ends_whole : {T : Type 0} (r : Result T WriteFault) (x : T) (ending : Ending) → r ≡ Ok x → ending ≡ run.ending → Took r run.output out.held out'.held → Added r run.errors old new
+      → CountsFault w w' r → EndsRun run first AtEnd out out' ending (reported new)
   ends_whole r x ending was ends took added fault =
-      let text = subst (λ w. OnOk w (Appends out.held out'.held run.output)) was took.all in
-      let errors = subst (λ w. OnOk w (AddsAll run.errors old new)) was added.all in
-      let stood = subst (λ w. Faulted out.failed out.empty out'.failed out'.empty w) was fault in
+      let text = subst (λ q. OnOk q (Appends out.held out'.held run.output)) was took.all in
+      let errors = subst (λ q. OnOk q (AddsAll run.errors old new)) was added.all in
+      let stood = subst (λ q. CountsFault w w' q) was fault in
       as_defined ends (added_to_none old new run.errors none errors) (record { taken = text; failed = stood.0; empty = stood.1 })
 
   -- a call that was stopped with the first errors after it
-  ends_after : (r : Result T WriteFault) (fault : WriteFault) (ending : Ending) → r ≡ Err fault → ending ≡ ending_of fault → Took r run.output out.held out'.held → Begins (reported new) run.errors
-      → run.ending ≡ shown → Begins first.errors (reported new) → (fault ≡ Memory → (first.whole ≡ false) × TookPart run.output out.held out'.held)
-      → Faulted out.failed out.empty out'.failed out'.empty r → EndsRun run first AtEnd out out' ending (reported new)
-  ends_after r Memory ending was ends took begun is firsts part fault =
-      let stood = subst (λ w. Faulted out.failed out.empty out'.failed out'.empty w) was fault in
-      let some = part refl in
-      by_memory_shown ends refl is some.0 firsts begun (some.1.0, some.1.1, record { taken = some.1.2; failed = stood.0; empty = stood.1 })
-  ends_after r (Writer e) ending was ends took begun is firsts part fault =
-      by_writing ends is firsts begun (record { taken = took.prefix; rose = inl (subst (λ w. Faulted out.failed out.empty out'.failed out'.empty w) was fault) })
-  ends_after r Zero ending was ends took begun is firsts part fault =
-      by_writing ends is firsts begun (record { taken = took.prefix; rose = inr (subst (λ w. Faulted out.failed out.empty out'.failed out'.empty w) was fault) })
+  ends_after : {T : Type 0} (r : Result T WriteFault) (fault : WriteFault) (ending : Ending) → r ≡ Err fault → ending ≡ ending_of fault → Took r run.output out.held out'.held → Begins (reported new) run.errors
+      → run.ending ≡ shown → run.ending ≢ not_utf8 → Begins first.errors (reported new) → (fault ≡ Memory → first.whole ≡ false)
+      → (r ≡ Err Memory → (w' ≡ w) ⊎ TookPart run.output out.held out'.held) → CountsFault w w' r → EndsRun run first AtEnd out out' ending (reported new)
+  ends_after r Memory ending was ends took begun is is_text firsts pieces part fault =
+      let stood = subst (λ q. CountsFault w w' q) was fault in
+      elim (part was) [
+        | inl same ↦ by_memory_read ends refl is_text begun (ap (outlet contents) same)
+        | inr some ↦ by_memory_shown ends refl is (pieces refl) firsts begun (some.0, some.1, record { taken = some.2; failed = stood.0; empty = stood.1 })
+      ]
+  ends_after r (Writer e) ending was ends took begun is is_text firsts pieces part fault =
+      by_writing ends is firsts begun (record { taken = took.prefix; rose = inl (subst (λ q. CountsFault w w' q) was fault) })
+  ends_after r Zero ending was ends took begun is is_text firsts pieces part fault =
+      by_writing ends is firsts begun (record { taken = took.prefix; rose = inr (subst (λ q. CountsFault w w' q) was fault) })
 
   -- a call that was stopped
-  pub ends_fault : (r : Result T WriteFault) (fault : WriteFault) (ending : Ending) → r ≡ Err fault → ending ≡ ending_of fault → run.ending ≢ not_utf8
-      → Took r run.output out.held out'.held → Added r run.errors old new → IfErr r (Stops run first old new out out')
-      → Faulted out.failed out.empty out'.failed out'.empty r → EndsRun run first AtEnd out out' ending (reported new)
-  ends_fault r fault ending was ends is_text took added stops fault' =
+  pub ends_fault : {T : Type 0} (r : Result T WriteFault) (fault : WriteFault) (ending : Ending) → r ≡ Err fault → ending ≡ ending_of fault → run.ending ≢ not_utf8
+      → Took r run.output out.held out'.held → (r ≡ Err Memory → (w' ≡ w) ⊎ TookPart run.output out.held out'.held) → Added r run.errors old new
+      → IfErr r (Stops run.ending first (reported new) w w') → CountsFault w w' r → EndsRun run first AtEnd out out' ending (reported new)
+  ends_fault r fault ending was ends is_text took part added stops fault' =
       let begun = began_at_none old new run.errors none added.prefix in
-      let stopped : Stops run first old new out out' fault = subst (λ w. IfErr w (Stops run first old new out out')) was stops in
+      let stopped : Stops run.ending first (reported new) w w' fault = subst (λ q. IfErr q (Stops run.ending first (reported new) w w')) was stops in
       elim stopped [
-        | before m same ↦ by_memory_read (ends ∙ ap ending_of m) refl is_text begun same
-        | after is others adds part ↦
-            ends_after r fault ending was ends took begun is (others, added_to_none old new (first.errors ++ others) none adds) part fault'
+        | before m same ↦ by_memory_read (ends ∙ ap ending_of m) refl is_text begun (ap (outlet contents) same)
+        | after is firsts pieces ↦ ends_after r fault ending was ends took begun is is_text firsts pieces part fault'
       ]
 
 -- ---- of no text, or none that was read
@@ -187,9 +194,6 @@ rule_asked words bytes = cases (asked_by words)
     cases (Some asked) e = none asked (plurals_asked asked.options) e
 
 -- ---- by what the words ask for
-
-pub by_asked : (words : List Text) (a : Option Asked) (bytes : List ℕ) → a ≡ asked_by words → run_asked a bytes ≡ run_of words bytes
-by_asked words a bytes is = ap (λ x. run_asked x bytes) is
 
 -- plural rules that were read
 pub by_rules : (asked : Asked) (plurals : Plurals) (bytes : List ℕ) → plurals_asked asked.options ≡ Some plurals → run_input asked plurals bytes ≡ run_asked (Some asked) bytes

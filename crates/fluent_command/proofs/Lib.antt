@@ -2,5 +2,6 @@ pub mod Lines
 pub mod Adding
 pub mod Taking
 pub mod Stopping
+pub mod Found
 pub mod Coming
 pub mod Began

@@ -1,18 +1,19 @@
 -- A text that is taken piece by piece.
-use Rattle.std.proofs.Common.{◌≡◌, ◌∙◌, sym, ap, subst, false, true, ℕ, refl, List, [], ◌++◌, append_assoc, append-nil, Option, Result, Ok, Err, is_ok, is_err}
-use Rattle.std.specs.Result.{IsErrAnd, OnOk, OnErr}
+use Rattle.std.proofs.Common.{◌≡◌, ◌∙◌, sym, ap, subst, false, List, [], ◌++◌, append_assoc, append-nil, Option, Result, Ok, Err, is_ok, Global}
+use Rattle.std.specs.Cow.{cow_str_bytes}
+use Rattle.std.specs.Result.{IfOk, OnOk, OnErr}
+use Rattle.std.specs.declared.borrow.CowStr.{CowStr}
 use Rattle.std.specs.Io.KnownBytes.{Appends}
-use Rattle.std.proofs.KnownBytes.{Appends-nil, Appends-trans}
+use Rattle.std.proofs.KnownBytes.{Appends-trans}
 use Rattle.std.proofs.lemmas.Result.{on_ok_weaker}
 use Rattle.fluent_tree.specs.Tree.{Text}
-use Rattle.fluent_text.specs.Taken.{Faulted, TookPrefix}
-use Rattle.fluent_text.specs.declared.counting.WriteFault.{WriteFault}
-use Rattle.fluent_text.specs.declared.counting.WriteFault.TheVariants.{Memory, Writer, Zero}
+use Rattle.fluent_text.specs.Taken.{TookPrefix}
 use Rattle.fluent_meaning.specs.Errors.{Error}
 use Rattle.fluent_bundle.specs.Formatted.{WritesAll, WritesPrefix}
 use Rattle.fluent_entries.specs.declared.errors.FluentError.{FluentError}
+use Rattle.fluent_command.specs.Ending.{line}
 use Rattle.fluent_command.specs.Inside.OutputProgress.{Added, Took}
-use Rattle.fluent_command.proofs.Adding.{ok_alike}
+use Rattle.fluent_command.proofs.Adding.{always, ok_alike}
 
 -- a beginning of a text is one of more, too
 pub prefix_short : (old new : Option Text) (s t : Text) → TookPrefix old new s → TookPrefix old new (s ++ t)
@@ -22,15 +23,19 @@ prefix_short old new s t h = (h.0, h.1 ++ t, ap (λ w. w ++ t) h.2 ∙ append_as
 pub prefix_then : (old mid new : Option Text) (s t : Text) → Appends old mid s → TookPrefix mid new t → TookPrefix old new (s ++ t)
 prefix_then old mid new s t whole h = (s ++ h.0, h.1, ap (λ w. s ++ w) h.2 ∙ sym (append_assoc s h.0 h.1), Appends-trans old mid new s h.0 whole h.3)
 
+-- all of it, whatever is answered
+pub took_all : {T E : Type 0} (r : Result T E) (text : Text) (old new : Option Text) → Appends old new text → Took r text old new
+took_all r text old new whole = record { all = always r whole; prefix = (text, [], sym (append-nil text), whole) }
+
 -- what one call of `put` takes
 pub took_put : {T E : Type 0} (r : Result T E) (piece : Text) (old new : Option Text) → OnOk r (Appends old new piece) → OnErr r (TookPrefix old new piece) → Took r piece old new
 took_put (Ok x) piece old new whole prefix = record { all = whole; prefix = (piece, [], sym (append-nil piece), whole) }
 took_put (Err e) piece old new whole prefix = record { all = tt; prefix = prefix }
 
--- a call that faulted before it wrote
-pub took_none : {T E : Type 0} (r : Result T E) (text : Text) (held : Option Text) → is_ok r ≡ false → Took r text held held
-took_none (Ok x) text held faulted = cc
-took_none (Err e) text held faulted = record { all = tt; prefix = ([], text, refl, Appends-nil held) }
+-- the line of a text that is given
+pub given_line : {E : Type 0} (r : Result (CowStr Global) E) (text : Text) → IfOk r (λ t. cow_str_bytes t ≡ text) → IfOk r (λ t. line (cow_str_bytes t) ≡ line text)
+given_line (Ok t) text is = ap line is
+given_line (Err e) text is = tt
 
 -- a text after the whole of another
 pub took_then : {T E T' E' : Type 0} (r : Result T E) (r' : Result T' E') (x : T) (s t : Text) (old mid new : Option Text) → r ≡ Ok x
@@ -50,14 +55,6 @@ took_recast r r' s t old new same e h = record {
   all = subst (λ w. OnOk r' (Appends old new w)) e (ok_alike (Appends old new s) r r' same h.all);
   prefix = subst (λ w. TookPrefix old new w) e h.prefix;
 }
-
--- a fault that is handed on raised the count that it raised
-pub faulted_on : {T U : Type 0} (r : Result T WriteFault) (r' : Result U WriteFault) (e : WriteFault) (f m f' m' : ℕ) → r ≡ Err e → is_err r' ≡ true → IsErrAnd r' (λ x. x ≡ e)
-    → Faulted f m f' m' r → Faulted f m f' m' r'
-faulted_on r (Ok y) e f m f' m' was failed is h = cc
-faulted_on r (Err (Writer c)) e f m f' m' was failed is h = subst (λ w. Faulted f m f' m' w) (was ∙ ap Err (sym is)) h
-faulted_on r (Err Zero) e f m f' m' was failed is h = subst (λ w. Faulted f m f' m' w) (was ∙ ap Err (sym is)) h
-faulted_on r (Err Memory) e f m f' m' was failed is h = subst (λ w. Faulted f m f' m' w) (was ∙ ap Err (sym is)) h
 
 -- what a formatting call took
 pub took_written : {T E : Type 0} (r : Result T E) (text : Text) (errors : List Error) (held held' : Option Text) (old new : List FluentError)

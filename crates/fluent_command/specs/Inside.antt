@@ -3,6 +3,7 @@ pub mod WordsView
 pub mod PluralsView
 pub mod BundleView
 pub mod OneRead
+pub mod WholeRead
 pub mod Said
 pub mod OutputProgress
 pub mod Comes

@@ -1,16 +1,18 @@
 -- What is said of a run of the code: of its words, its reader and its writers.
-use Rattle.std.specs.Prelude.{◌≡◌, ◌≢◌, ℕ, List, map, Option, String, string_bytes}
+use Rattle.std.specs.Prelude.{◌≡◌, ◌≢◌, ℕ, List, [], map, Option, String, string_bytes}
 use Rattle.std.proofs.Common.{Global}
 use Rattle.fluent_text.specs.declared.counting.Counting.{Counting}
 use Rattle.fluent_tree.specs.Tree.{Text}
 use Rattle.fluent_meaning.specs.Errors.{Error}
+use Rattle.fluent_command.specs.EndingView.{ending_view}
 use Rattle.fluent_command.specs.Input.{inlet, made_in, reader_in, state_in}
-use Rattle.fluent_command.specs.Outcome.{AnswersAs, AreLeft, IsStopped, RanTo}
+use Rattle.fluent_command.specs.Outcome.{AnswersAs, AreLeft, IsStopped, RanTo, ReportsRun}
 use Rattle.fluent_command.specs.Outlet.{outlet}
 use Rattle.fluent_command.specs.Program.{first_of, program, run_of}
 use Rattle.fluent_command.specs.Words.{Asked, asked_by}
 use Rattle.fluent_command.specs.declared.input.InputState.TheVariants.{Open}
 use Rattle.fluent_command.specs.declared.input.Reads.{Reads}
+use Rattle.fluent_command.specs.declared.report.Ending.{Ending}
 
 -- what the words ask for
 abbrev pub asked_of : List (String Global) → Option Asked
@@ -20,6 +22,12 @@ asked_of words = asked_by (map string_bytes words)
 abbrev pub IsUntouched : {R : Type 0} → Reads R → Reads R → Type 0
 IsUntouched input input' =
     (reader_in input' ≡ reader_in input) × (made_in input' ≡ 0) × (state_in input' ≡ Open)
+
+-- an ending was said alone, by what the writer's type says it holds
+abbrev pub SaysAlone : {E : Type 0} → (E → Option Text) → Ending → Counting E → Counting E → ℕ
+    → Type 0
+SaysAlone said ending err err' result =
+    ReportsRun [] (ending_view ending) (outlet said err) (outlet said err') result
 
 -- by what the types of the reader and of the writers say that these have left and hold
 module _ {R W E : Type 0} (remaining : R → Option (List ℕ)) (held : W → Option Text)

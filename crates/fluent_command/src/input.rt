@@ -2,9 +2,10 @@
 #![tactic(auto, unfolding(crate::specs::Input::reader_in, crate::specs::Input::room_in, crate::specs::Input::made_in, crate::specs::Input::state_in))]
 
 ghost use Rattle.std.specs.Prelude.{◌≡◌, ◌+◌, ◌≤◌, ◌<◌, IfOk, IfErr, OnOk};
-ghost use Rattle.std.specs.Io.KnownBytes.{Consumes, IsAtEnd, ReadConsumes};
-ghost use Rattle.fluent_command.specs.Input.{ReadsAreBounded, IsUnread, inlet, reader_in, room_in, made_in, state_in};
-ghost use Rattle.fluent_command.specs.Inside.OneRead.{state_after};
+ghost use Rattle.std.specs.Io.KnownBytes.{IsAtEnd};
+ghost use Rattle.fluent_command.specs.Input.{ReadsAreBounded, reader_in, made_in, state_in};
+ghost use Rattle.fluent_command.specs.Inside.OneRead.{ReadsInto, state_after};
+ghost use Rattle.fluent_command.specs.Inside.WholeRead.{Gave, StaysOpen, StaysUnread};
 ghost use Rattle.fluent_command.specs.Limits.{most_reads};
 
 use std::alloc::{AllocError, Global};
@@ -99,8 +100,7 @@ impl<R: Read> Reads<R> {
     fn read(&mut self) -> io::Result<usize>
         requires open { state_in self.old ≡ InputState.Open }
         requires left { made_in self.old < most_reads }
-        ensures bytes { ReadConsumes (R.remaining (reader_in self.old))
-            (R.remaining (reader_in self.new)) result (room_in self.new) }
+        ensures bytes { ReadsInto R.remaining self.old self.new result }
         ensures bound { IfOk result (λ n. n ≤ ROOM) }
         ensures bounded { ReadsAreBounded self.new }
         ensures made { made_in self.new ≡ made_in self.old + 1 }
@@ -124,15 +124,12 @@ impl<R: Read> Reads<R> {
 /// `Reading` where a read failed or none of all showed the end, `Memory` where an allocation failed. What was read
 /// is lost then.
 pub(crate) fn read_all<R: Read>(alloc: Global, input: &mut Reads<R>) -> Result<Vec<u8>, ReadFault>
-    ensures bytes { IfOk result (λ bytes. Consumes (R.remaining (reader_in input.old))
-        (R.remaining (reader_in input.new)) bytes.items) }
+    ensures bytes { IfOk result (Gave R.remaining input.old input.new) }
     ensures end { OnOk result (IsAtEnd (R.remaining (reader_in input.new))) }
     ensures bounded { ReadsAreBounded input.new }
     ensures shown { OnOk result (state_in input.new ≡ InputState.AtEnd) }
-    ensures unread { IfErr result (λ fault. fault ≡ ReadFault.Reading →
-        IsUnread (inlet R.remaining input.old) (inlet R.remaining input.new)) }
-    ensures memory { IfErr result (λ fault.
-        fault ≡ ReadFault.Memory → state_in input.new ≡ InputState.Open) }
+    ensures unread { IfErr result (StaysUnread R.remaining input.old input.new) }
+    ensures memory { IfErr result (StaysOpen input.new) }
 {
     let mut bytes = Vec::new(alloc);
     input.begin();

@@ -8,3 +8,4 @@ pub mod report;
 mod request;
 pub mod run;
 mod show;
+mod task;

@@ -1,9 +1,8 @@
 //! The options before the id of a message.
 
 ghost use Rattle.std.specs.Prelude.{◌≡◌};
-ghost use Rattle.std.specs.Option.{option_map};
 ghost use Rattle.fluent_command.specs.Words.{no_options, once, with_text, without_isolation, word_of};
-ghost use Rattle.fluent_command.specs.Inside.WordsView.{options_view, text_view};
+ghost use Rattle.fluent_command.specs.Inside.WordsView.{options_seen, options_view, text_view};
 
 /// How a message is shown, and from which sources.
 #[derive(Clone, Copy)]
@@ -48,8 +47,7 @@ pub(crate) fn word_of(word: &str) -> Word
 
 /// The options, where no text was given before.
 fn once<'w>(before: Option<&'w str>, options: Options<'w>) -> Option<Options<'w>>
-    ensures { option_map options_view result ≡ once (text_view before.entry)
-        (options_view options.entry) }
+    ensures { options_seen result ≡ once (text_view before.entry) (options_view options.entry) }
 {
     match before {
         None => Some(options),
@@ -72,7 +70,7 @@ impl<'w> Options<'w> {
 
     /// The same with isolation off; `None` where it was off.
     pub(crate) fn without_isolation(self) -> Option<Options<'w>>
-        ensures { option_map options_view result ≡ without_isolation (options_view self.entry) }
+        ensures { options_seen result ≡ without_isolation (options_view self.entry) }
     {
         if self.isolate {
             Some(Options {
@@ -86,8 +84,7 @@ impl<'w> Options<'w> {
 
     /// The same with the text of an option; `None` where that had one.
     pub(crate) fn with_text(self, named: Named, text: &'w str) -> Option<Options<'w>>
-        ensures { option_map options_view result ≡ with_text named text.now
-            (options_view self.entry) }
+        ensures { options_seen result ≡ with_text named text.now (options_view self.entry) }
     {
         let text = Some(text);
         match named {

@@ -1,9 +1,7 @@
 //! Who chooses plural categories in a run.
 
-ghost use Rattle.std.specs.Prelude.{◌≡◌, ◌≢◌, Some, None, IfOk, IfErr};
-ghost use Rattle.fluent_command.specs.Plurals.{plurals_asked};
-ghost use Rattle.fluent_command.specs.Inside.PluralsView.{plurals_view, read_view};
-ghost use Rattle.fluent_command.specs.Inside.WordsView.{options_view};
+ghost use Rattle.std.specs.Prelude.{◌≡◌, IfOk, IfErr};
+ghost use Rattle.fluent_command.specs.Inside.PluralsView.{plurals_view, read_view, AreAsked, TellsBadRule};
 
 use crate::options::Options;
 use fluent_intl::{
@@ -53,10 +51,8 @@ pub(crate) fn read_rules(
     alloc: Global,
     options: Options<'_>,
 ) -> Result<Option<RuleTexts>, RuleFault>
-    ensures ok { IfOk result (λ read. plurals_asked (options_view options.entry)
-        ≡ Some (read_view read)) }
-    ensures syntax { IfErr result (λ fault.
-        fault ≢ RuleFault.Memory → plurals_asked (options_view options.entry) ≡ None) }
+    ensures ok { IfOk result (AreAsked options.entry) }
+    ensures syntax { IfErr result (TellsBadRule options.entry) }
 {
     match (options.cardinal, options.ordinal) {
         (None, None) => Ok(None),

@@ -1,14 +1,13 @@
 //! What is said on standard error, and the status.
 
-ghost use Rattle.std.specs.Prelude.{◌≡◌, ◌≢◌, [], Err, IfOk, string_bytes};
+ghost use Rattle.std.specs.Prelude.{◌≡◌, ◌≢◌, Err, IfOk, string_bytes};
 ghost use Rattle.fluent_text.specs.Writer.{CountsFault};
 ghost use Rattle.fluent_meaning.specs.Errors.{error_text};
 ghost use Rattle.fluent_values.specs.View.{error_view};
 ghost use Rattle.fluent_command.specs.Ending.{exit_status, line, no_message, ending_line};
 ghost use Rattle.fluent_resolver.specs.Status.{reported};
 ghost use Rattle.fluent_command.specs.EndingView.{ending_view};
-ghost use Rattle.fluent_command.specs.Outcome.{ReportsRun};
-ghost use Rattle.fluent_command.specs.Outlet.{outlet};
+ghost use Rattle.fluent_command.specs.RunView.{SaysAlone};
 ghost use Rattle.fluent_command.specs.Inside.OutputProgress.{Took};
 ghost use Rattle.fluent_command.specs.Inside.Said.{At, SaysAll, SaysPrefix, TookErrors, line_of};
 
@@ -164,8 +163,7 @@ pub(crate) fn report<'w, E: Write>(
 /// It is 3 also where standard error failed or took nothing: that took a beginning of the line then.
 /// Memory is not asked for.
 pub fn say<E: Write>(ending: Ending<'_>, err: &mut Counting<E>) -> u8
-    ensures { ReportsRun [] (ending_view ending.entry)
-        (outlet E.contents err.old) (outlet E.contents err.new) result }
+    ensures { SaysAlone E.contents ending.entry err.old err.new result }
 {
     match put_ending(ending, err) {
         Ok(()) => ending.status(),

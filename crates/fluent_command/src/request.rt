@@ -1,10 +1,9 @@
 //! What the words of a call ask for.
 
-ghost use Rattle.std.specs.Prelude.{◌≡◌, map, string_bytes, nat_eq, codes};
+ghost use Rattle.std.specs.Prelude.{◌≡◌, string_bytes, nat_eq, codes};
 ghost use Rattle.std.specs.List.{list_all, starts_with};
-ghost use Rattle.std.specs.Option.{option_map};
 ghost use Rattle.fluent_command.specs.Words.{name_and_value, is_argument, asked_from, asked_after, asked_by};
-ghost use Rattle.fluent_command.specs.Inside.WordsView.{asked_view, options_view};
+ghost use Rattle.fluent_command.specs.Inside.WordsView.{asked_seen, options_view, texts_of};
 
 use crate::options::{Named, Options, Word, word_of};
 
@@ -51,7 +50,7 @@ fn are_arguments(words: &[String]) -> bool
 impl<'w> Request<'w> {
     /// What options and then `ID [NAME=VALUE]..` ask for; `None` where the words are not of that form.
     pub fn of(words: &'w [String]) -> Option<Request<'w>>
-        ensures { option_map asked_view result ≡ asked_by (map string_bytes words.now) }
+        ensures { asked_seen result ≡ asked_by (texts_of words.now) }
     {
         Request::after(Options::none(), None, words)
     }
@@ -62,8 +61,7 @@ impl<'w> Request<'w> {
         before: Option<Named>,
         words: &'w [String],
     ) -> Option<Request<'w>>
-        ensures { option_map asked_view result
-            ≡ asked_after (options_view options.entry) before (map string_bytes words.now) }
+        ensures { asked_seen result ≡ asked_after (options_view options.entry) before (texts_of words.now) }
     {
         let (word, rest) = words.split_first()?;
         if let Some(named) = before {
@@ -78,8 +76,7 @@ impl<'w> Request<'w> {
 
     /// What the words from the id on ask for.
     fn from_id(options: Options<'w>, words: &'w [String]) -> Option<Request<'w>>
-        ensures { option_map asked_view result ≡ asked_from (options_view options.entry)
-            (map string_bytes words.now) }
+        ensures { asked_seen result ≡ asked_from (options_view options.entry) (texts_of words.now) }
     {
         let (id, arguments) = words.split_first()?;
         if is_option(id.as_str()) {

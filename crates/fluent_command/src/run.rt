@@ -14,6 +14,7 @@ use crate::plurals::{Plurals, read_rules};
 use crate::report::{Ending, report};
 use crate::request::Request;
 use crate::show::show;
+use crate::task::Task;
 use fluent_bundle::{Counting, FluentError};
 use std::alloc::Global;
 use std::io::{Read, Write};
@@ -22,19 +23,17 @@ use std::str;
 /// Shows a message of what was read, if that is a text.
 fn show_bytes<'w, W: Write>(
     alloc: Global,
-    request: Request<'w>,
-    plurals: Plurals<'_>,
+    task: Task<'w, '_>,
     bytes: &[u8],
     out: &mut Counting<W>,
     errors: &mut Vec<FluentError>,
 ) -> Ending<'w>
     requires { errors.old.items ≡ [] }
-    ensures ends { EndsOver W.contents request.entry plurals.entry bytes.now
-        out.old out.new result errors.new }
+    ensures ends { EndsOver W.contents task.entry bytes.now out.old out.new result errors.new }
     ensures read { ending_view result ≢ reading_failed }
 {
     match str::from_utf8(bytes) {
-        Ok(source) => match show(alloc, request, plurals, source, out, errors) {
+        Ok(source) => match show(alloc, task, source, out, errors) {
             Ok(ending) => ending,
             Err(fault) => Ending::from(fault),
         },
@@ -45,20 +44,19 @@ fn show_bytes<'w, W: Write>(
 /// Reads the input, and shows a message of it.
 fn show_input<'w, R: Read, W: Write>(
     alloc: Global,
-    request: Request<'w>,
-    plurals: Plurals<'_>,
+    task: Task<'w, '_>,
     input: &mut Reads<R>,
     out: &mut Counting<W>,
     errors: &mut Vec<FluentError>,
 ) -> Ending<'w>
     requires { errors.old.items ≡ [] }
-    ensures ends { EndsReading R.remaining W.contents request.entry plurals.entry
+    ensures ends { EndsReading R.remaining W.contents task.entry
         input.old input.new out.old out.new result errors.new }
     ensures reads { ReadAs R.remaining input.old input.new result }
     ensures bounded { ReadsAreBounded input.new }
 {
     match read_all(alloc, input) {
-        Ok(bytes) => show_bytes(alloc, request, plurals, bytes.as_slice(), out, errors),
+        Ok(bytes) => show_bytes(alloc, task, bytes.as_slice(), out, errors),
         Err(ReadFault::Memory) => Ending::Memory,
         Err(ReadFault::Reading) => Ending::Reading,
     }
@@ -86,7 +84,10 @@ fn attempt<'w, R: Read, W: Write>(
         return Ending::Usage;
     };
     match read_rules(alloc, request.options) {
-        Ok(rules) => show_input(alloc, request, Plurals::of(&rules), input, out, errors),
+        Ok(rules) => {
+            let plurals = Plurals::of(&rules);
+            show_input(alloc, Task { request, plurals }, input, out, errors)
+        }
         Err(fault) => {
             // No read is made.
             input.begin();

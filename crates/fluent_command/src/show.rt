@@ -1,23 +1,25 @@
 //! A message of a source, written with its errors.
 
-ghost use Rattle.std.specs.Prelude.{◌≡◌, map, IfOk};
+ghost use Rattle.std.specs.Prelude.{◌≡◌, ◌≢◌, [], Err, IfOk};
 ghost use Rattle.fluent_syntax.specs.Chunks as grammar;
-ghost use Rattle.fluent_syntax.specs.Parsed.{error_range};
 ghost use Rattle.fluent_text.specs.Writer.{CountsFault};
 ghost use Rattle.fluent_bundle.specs.BundleView.{entries_of};
+ghost use Rattle.fluent_command.specs.Ending.{line};
 ghost use Rattle.fluent_command.specs.Inside.PluralsView.{plurals_view};
 ghost use Rattle.fluent_command.specs.Inside.BundleView.{args_view, bundle_view};
 ghost use Rattle.fluent_command.specs.Inside.Comes as of;
-ghost use Rattle.fluent_command.specs.Inside.Comes.{words_arguments, Adds, EndsAs, StopsIn, Puts, PutsPart};
-ghost use Rattle.fluent_command.specs.Inside.OutputProgress.{Added};
-ghost use Rattle.fluent_command.specs.Program.{error_at, junk_errors, adding_errors, start, bundle_of};
+ghost use Rattle.fluent_command.specs.Inside.Comes.{words_arguments, Adds, AddsErrors, EndsAs, Gives, Puts, PutsPart, StopsAs};
+ghost use Rattle.fluent_command.specs.Inside.OutputProgress.{Took};
+ghost use Rattle.fluent_command.specs.Inside.Said.{At};
+ghost use Rattle.fluent_command.specs.Program.{junk_errors, start};
 
 use crate::plurals::Plurals;
 use crate::report::Ending;
 use crate::request::{Request, name_and_value};
+use crate::task::Task;
 use fluent_bundle::{
     AddFault, Counting, FluentArgs, FluentBundle, FluentError, FluentResource, FluentValue,
-    NoCustom, NoFormatter, NoFunction, NoTransform, ParserError, TryNewFault, WriteFault, ast,
+    NoCustom, NoFormatter, NoFunction, NoTransform, ParserError, TryNewFault, WriteFault,
 };
 use fluent_chain::{Chain, Link};
 use fluent_syntax::put;
@@ -50,8 +52,7 @@ fn arguments<'w>(alloc: Global, words: &'w [String]) -> Result<FluentArgs<'w, No
 
 /// Adds an error for each part of a source that could not be read.
 fn report_junk(found: &[ParserError], errors: &mut Vec<FluentError>) -> Result<(), AllocError>
-    ensures { Added result (map (λ e. error_at (error_range e)) found.now)
-        errors.old.items errors.new.items }
+    ensures { AddsErrors result (of.junk found.now) errors.old errors.new }
 {
     for error in found {
         errors.push(FluentError::from(*error))?;
@@ -66,7 +67,7 @@ fn read<'s>(
     errors: &mut Vec<FluentError>,
 ) -> Result<FluentResource<'s>, AllocError>
     ensures entries { IfOk result (λ resource. entries_of resource ≡ grammar.entries source.now) }
-    ensures errors { Added result (junk_errors source.now) errors.old.items errors.new.items }
+    ensures errors { AddsErrors result (junk_errors source.now) errors.old errors.new }
 {
     match FluentResource::try_new(alloc, source) {
         Ok(resource) => Ok(resource),
@@ -99,18 +100,14 @@ fn start<'p, 'r, 's>(
 /// A bundle of one resource, with a report of each id that stands there twice, or is that of the built-in function.
 fn bundle_of<'p, 'r, 's>(
     alloc: Global,
-    plurals: Plurals<'p>,
-    isolate: bool,
+    task: Task<'_, 'p>,
     resource: &'r FluentResource<'s>,
     errors: &mut Vec<FluentError>,
 ) -> Result<Bundle<'p, 'r, 's>, AllocError>
-    ensures bundle { IfOk result (λ bundle. bundle_view bundle
-        ≡ bundle_of (plurals_view plurals.entry) isolate (entries_of resource.now)) }
-    ensures errors { Added result
-        (adding_errors (plurals_view plurals.entry) isolate (entries_of resource.now))
-        errors.old.items errors.new.items }
+    ensures bundle { IfOk result (λ bundle. bundle_view bundle ≡ of.bundle task.entry resource.now) }
+    ensures errors { AddsErrors result (of.adding task.entry resource.now) errors.old errors.new }
 {
-    let mut bundle = start(alloc, plurals, isolate)?;
+    let mut bundle = start(alloc, task.plurals, task.request.options.isolate)?;
     match bundle.add_resource(resource) {
         Ok(()) => Ok(bundle),
         Err(AddFault::Overriding(mut found)) => {
@@ -123,29 +120,7 @@ fn bundle_of<'p, 'r, 's>(
 
 // ---- the input alone
 
-/// Writes a pattern's text under the arguments, and a line feed.
-fn write_value<'p, 'r, 's: 'r, W: Write>(
-    alloc: Global,
-    bundle: &Bundle<'p, 'r, 's>,
-    words: &[String],
-    pattern: &ast::Pattern<'s>,
-    out: &mut Counting<W>,
-    errors: &mut Vec<FluentError>,
-) -> Result<(), WriteFault>
-    ensures text { Puts result (of.pattern bundle.now words.now pattern.now)
-        W.contents out.old out.new }
-    ensures part { PutsPart result (of.pattern bundle.now words.now pattern.now)
-        W.contents out.old out.new }
-    ensures errors { Adds result (of.pattern bundle.now words.now pattern.now)
-        errors.old errors.new }
-    ensures fault { CountsFault out.old out.new result }
-{
-    let args = arguments(alloc, words)?;
-    bundle.write_pattern(out, pattern, Some(&args), errors)?;
-    put(out, b"\n")
-}
-
-/// Writes the value of the message that was asked for, if there is one.
+/// Writes the value of the message that was asked for under the arguments, and a line feed, if there is one.
 fn show_value<'w, 'p, 'r, 's: 'r, W: Write>(
     alloc: Global,
     request: Request<'w>,
@@ -154,141 +129,99 @@ fn show_value<'w, 'p, 'r, 's: 'r, W: Write>(
     errors: &mut Vec<FluentError>,
 ) -> Result<Ending<'w>, WriteFault>
     ensures text { Puts result (of.value request.entry bundle.now) W.contents out.old out.new }
+    ensures part { PutsPart result (of.value request.entry bundle.now) W.contents out.old out.new }
     ensures errors { Adds result (of.value request.entry bundle.now) errors.old errors.new }
-    ensures stops { StopsIn result (of.value request.entry bundle.now)
-        errors.old errors.new W.contents out.old out.new }
+    ensures stops { StopsAs result (of.value request.entry bundle.now) errors.new out.old out.new }
     ensures ending { EndsAs result (of.value request.entry bundle.now) }
     ensures fault { CountsFault out.old out.new result }
 {
-    let Some(message) = bundle.get_message(request.id) else {
-        return Ok(Ending::NoMessage(request.id));
-    };
-    let Some(pattern) = message.value() else {
-        return Ok(Ending::NoMessage(request.id));
-    };
-    write_value(alloc, bundle, request.arguments, pattern, out, errors)?;
-    Ok(Ending::Shown)
+    let args = arguments(alloc, request.arguments)?;
+    if bundle.write_value(out, request.id, Some(&args), errors)? {
+        put(out, b"\n")?;
+        return Ok(Ending::Shown);
+    }
+    Ok(Ending::NoMessage(request.id))
 }
 
-/// The same in a bundle of one resource.
-fn show_resource<'w, W: Write>(
-    alloc: Global,
-    request: Request<'w>,
-    plurals: Plurals<'_>,
-    resource: &FluentResource<'_>,
-    out: &mut Counting<W>,
-    errors: &mut Vec<FluentError>,
-) -> Result<Ending<'w>, WriteFault>
-    ensures text { Puts result (of.entries request.entry plurals.entry resource.now)
-        W.contents out.old out.new }
-    ensures errors { Adds result (of.entries request.entry plurals.entry resource.now)
-        errors.old errors.new }
-    ensures stops { StopsIn result (of.entries request.entry plurals.entry resource.now)
-        errors.old errors.new W.contents out.old out.new }
-    ensures ending { EndsAs result (of.entries request.entry plurals.entry resource.now) }
-    ensures fault { CountsFault out.old out.new result }
-{
-    let bundle = bundle_of(alloc, plurals, request.options.isolate, resource, errors)?;
-    show_value(alloc, request, &bundle, out, errors)
-}
-
-/// The same of a source.
+/// The same in a bundle of one source.
 fn show_alone<'w, W: Write>(
     alloc: Global,
-    request: Request<'w>,
-    plurals: Plurals<'_>,
+    task: Task<'w, '_>,
     source: &str,
     out: &mut Counting<W>,
     errors: &mut Vec<FluentError>,
 ) -> Result<Ending<'w>, WriteFault>
-    ensures text { Puts result (of.alone request.entry plurals.entry source.now)
-        W.contents out.old out.new }
-    ensures errors { Adds result (of.alone request.entry plurals.entry source.now)
-        errors.old errors.new }
-    ensures stops { StopsIn result (of.alone request.entry plurals.entry source.now)
-        errors.old errors.new W.contents out.old out.new }
-    ensures ending { EndsAs result (of.alone request.entry plurals.entry source.now) }
+    requires { errors.old.items ≡ [] }
+    ensures text { Puts result (of.alone task.entry source.now) W.contents out.old out.new }
+    ensures part { PutsPart result (of.alone task.entry source.now) W.contents out.old out.new }
+    ensures errors { Adds result (of.alone task.entry source.now) errors.old errors.new }
+    ensures stops { StopsAs result (of.alone task.entry source.now) errors.new out.old out.new }
+    ensures ending { EndsAs result (of.alone task.entry source.now) }
     ensures fault { CountsFault out.old out.new result }
 {
     let resource = read(alloc, source, errors)?;
-    show_resource(alloc, request, plurals, &resource, out, errors)
+    let bundle = bundle_of(alloc, task, &resource, errors)?;
+    show_value(alloc, task.request, &bundle, out, errors)
 }
 
 // ---- the input, and a source that stands in for it
 
-/// Writes what a chain of two bundles gives for the message, and a line feed.
-fn write_chain<'p, 'r, 's: 'r, W: Write>(
+/// The text that a chain of two bundles gives for the message.
+fn chain_text<'p, 'r, 's: 'r>(
     alloc: Global,
-    request: Request<'_>,
+    request: Request<'s>,
     first: &Bundle<'p, 'r, 's>,
     second: &Bundle<'p, 'r, 's>,
-    out: &mut Counting<W>,
     errors: &mut Vec<FluentError>,
-) -> Result<(), WriteFault>
-    ensures text { Puts result (of.chain request.entry first.now second.now)
-        W.contents out.old out.new }
-    ensures errors { Adds result (of.chain request.entry first.now second.now)
-        errors.old errors.new }
-    ensures stops { StopsIn result (of.chain request.entry first.now second.now)
-        errors.old errors.new W.contents out.old out.new }
-    ensures fault { CountsFault out.old out.new result }
+) -> Result<CowStr<'s>, AllocError>
+    ensures text { Gives result (of.chain request.entry first.now second.now) }
+    ensures errors { Adds result (of.chain request.entry first.now second.now) errors.old errors.new }
 {
     let args = arguments(alloc, request.arguments)?;
     let links = [Link(first), Link(second)];
-    let text = Chain::new(&links).format_value(request.id, Some(&args), errors)?;
-    put(out, text.as_str().as_bytes())?;
-    put(out, b"\n")
+    Chain::new(&links).format_value(request.id, Some(&args), errors)
 }
 
 /// The same in bundles of one resource each.
-fn show_both<'w, 'r, 's, W: Write>(
+fn both_text<'r, 's>(
     alloc: Global,
-    request: Request<'w>,
-    plurals: Plurals<'_>,
+    task: Task<'s, '_>,
     first: &'r FluentResource<'s>,
     second: &'r FluentResource<'s>,
-    out: &mut Counting<W>,
     errors: &mut Vec<FluentError>,
-) -> Result<Ending<'w>, WriteFault>
-    ensures text { Puts result (of.both request.entry plurals.entry first.now second.now)
-        W.contents out.old out.new }
-    ensures errors { Adds result (of.both request.entry plurals.entry first.now second.now)
-        errors.old errors.new }
-    ensures stops { StopsIn result (of.both request.entry plurals.entry first.now second.now)
-        errors.old errors.new W.contents out.old out.new }
-    ensures ending { EndsAs result (of.both request.entry plurals.entry first.now second.now) }
-    ensures fault { CountsFault out.old out.new result }
+) -> Result<CowStr<'s>, AllocError>
+    ensures text { Gives result (of.both task.entry first.now second.now) }
+    ensures errors { Adds result (of.both task.entry first.now second.now) errors.old errors.new }
 {
-    let isolate = request.options.isolate;
-    let first = bundle_of(alloc, plurals, isolate, first, errors)?;
-    let second = bundle_of(alloc, plurals, isolate, second, errors)?;
-    write_chain(alloc, request, &first, &second, out, errors)?;
-    Ok(Ending::Shown)
+    let first = bundle_of(alloc, task, first, errors)?;
+    let second = bundle_of(alloc, task, second, errors)?;
+    chain_text(alloc, task.request, &first, &second, errors)
 }
 
 /// The same of a source each.
-fn show_fallback<'w, W: Write>(
+fn fallback_text<'s>(
     alloc: Global,
-    request: Request<'w>,
-    plurals: Plurals<'_>,
-    source: &str,
-    fallback: &str,
-    out: &mut Counting<W>,
+    task: Task<'s, '_>,
+    source: &'s str,
+    other: &'s str,
     errors: &mut Vec<FluentError>,
-) -> Result<Ending<'w>, WriteFault>
-    ensures text { Puts result (of.fallback request.entry plurals.entry source.now fallback.now)
-        W.contents out.old out.new }
-    ensures errors { Adds result (of.fallback request.entry plurals.entry source.now fallback.now)
-        errors.old errors.new }
-    ensures stops { StopsIn result (of.fallback request.entry plurals.entry source.now fallback.now)
-        errors.old errors.new W.contents out.old out.new }
-    ensures ending { EndsAs result
-        (of.fallback request.entry plurals.entry source.now fallback.now) }
-    ensures fault { CountsFault out.old out.new result }
+) -> Result<CowStr<'s>, AllocError>
+    ensures text { Gives result (of.fallback task.entry source.now other.now) }
+    ensures errors { Adds result (of.fallback task.entry source.now other.now) errors.old errors.new }
 {
     let first = read(alloc, source, errors)?;
-    let second = read(alloc, fallback, errors)?;
-    show_both(alloc, request, plurals, &first, &second, out, errors)
+    let second = read(alloc, other, errors)?;
+    both_text(alloc, task, &first, &second, errors)
+}
+
+/// Writes a text, and a line feed.
+fn put_line<W: Write>(text: &str, out: &mut Counting<W>) -> Result<(), WriteFault>
+    ensures took { At W.contents out.old out.new (Took result (line text.now)) }
+    ensures fault { CountsFault out.old out.new result }
+    ensures memory { result ≢ Err WriteFault.Memory }
+{
+    put(out, text.as_bytes())?;
+    put(out, b"\n")
 }
 
 // ---- both
@@ -302,23 +235,25 @@ fn show_fallback<'w, W: Write>(
 /// and with a fallback nothing.
 pub fn show<'w, W: Write>(
     alloc: Global,
-    request: Request<'w>,
-    plurals: Plurals<'_>,
+    task: Task<'w, '_>,
     source: &str,
     out: &mut Counting<W>,
     errors: &mut Vec<FluentError>,
 ) -> Result<Ending<'w>, WriteFault>
-    ensures text { Puts result (of.source request.entry plurals.entry source.now)
-        W.contents out.old out.new }
-    ensures errors { Adds result (of.source request.entry plurals.entry source.now)
-        errors.old errors.new }
-    ensures stops { StopsIn result (of.source request.entry plurals.entry source.now)
-        errors.old errors.new W.contents out.old out.new }
-    ensures ending { EndsAs result (of.source request.entry plurals.entry source.now) }
+    requires { errors.old.items ≡ [] }
+    ensures text { Puts result (of.source task.entry source.now) W.contents out.old out.new }
+    ensures part { PutsPart result (of.source task.entry source.now) W.contents out.old out.new }
+    ensures errors { Adds result (of.source task.entry source.now) errors.old errors.new }
+    ensures stops { StopsAs result (of.source task.entry source.now) errors.new out.old out.new }
+    ensures ending { EndsAs result (of.source task.entry source.now) }
     ensures fault { CountsFault out.old out.new result }
 {
-    match request.options.fallback {
-        None => show_alone(alloc, request, plurals, source, out, errors),
-        Some(fallback) => { show_fallback(alloc, request, plurals, source, fallback, out, errors) }
+    match task.request.options.fallback {
+        None => show_alone(alloc, task, source, out, errors),
+        Some(fallback) => {
+            let text = fallback_text(alloc, task, source, fallback, errors)?;
+            put_line(text.as_str(), out)?;
+            Ok(Ending::Shown)
+        }
     }
 }

@@ -1,5 +1,7 @@
--- What comes of a request of the code, and how far a call came with it.
-use Rattle.std.specs.Prelude.{◌≡◌, ◌∷◌, [], List, map, Option, Result, Err, IfOk, IfErr, String, string_bytes}
+-- What comes of a task of the code, and how far a call came with it.
+use Rattle.std.specs.Prelude.{◌≡◌, ◌∷◌, ◌⊎◌, [], List, map, Option, Result, Err, IfOk, IfErr, String, string_bytes}
+use Rattle.std.specs.Cow.{cow_str_bytes}
+use Rattle.std.specs.declared.borrow.CowStr.{CowStr}
 use Rattle.std.specs.declared.vec.Vec.{Vec}
 use Rattle.std.proofs.Common.{Global}
 use Rattle.fluent_text.specs.Writer.{writer_in}
@@ -7,11 +9,13 @@ use Rattle.fluent_text.specs.declared.counting.Counting.{Counting}
 use Rattle.fluent_text.specs.declared.counting.WriteFault.{WriteFault}
 use Rattle.fluent_text.specs.declared.counting.WriteFault.TheVariants.{Memory}
 use Rattle.fluent_tree.specs.Tree.{Text}
-use Rattle.fluent_tree.specs.View.{pattern_view}
-use Rattle.fluent_tree.specs.declared.ast.Pattern as tree
-use Rattle.fluent_meaning.specs.Result.{written_pattern}
-use Rattle.fluent_meaning.specs.Value.{Value}
+use Rattle.fluent_tree.specs.declared.errors.ParserError.{ParserError}
+use Rattle.fluent_syntax.specs.Parsed.{error_range}
 use Rattle.fluent_meaning.specs.Arguments.{Map}
+use Rattle.fluent_meaning.specs.Bundle as m
+use Rattle.fluent_meaning.specs.Errors.{Error}
+use Rattle.fluent_meaning.specs.Value.{Value}
+use Rattle.fluent_resolver.specs.Status.{reported}
 use Rattle.fluent_entries.specs.declared.errors.FluentError.{FluentError}
 use Rattle.fluent_bundle.specs.BundleView.{entries_of}
 use Rattle.fluent_bundle.specs.declared.bundle.FluentBundle.{FluentBundle}
@@ -21,9 +25,9 @@ use Rattle.fluent_values.specs.declared.function.NoFunction.{NoFunction}
 use Rattle.fluent_values.specs.declared.transform.NoTransform.{NoTransform}
 use Rattle.fluent_values.specs.declared.types.custom.NoCustom.{NoCustom}
 use Rattle.fluent_chain.specs.Chain.{chain_value, value_at}
+use Rattle.fluent_command.specs.Ending.{line}
 use Rattle.fluent_command.specs.EndingView.{ending_view}
-use Rattle.fluent_command.specs.Outlet.{outlet}
-use Rattle.fluent_command.specs.Program.{Run, First, arguments_of, run_pattern, run_chain, run_value, run_entries, run_alone, run_both, run_fallback, run_source, all_first, in_pieces, first_of_entries, first_alone, first_of_source}
+use Rattle.fluent_command.specs.Program.{Run, First, adding_errors, all_first, arguments_of, bundle_of, error_at, first_alone, first_of_source, in_pieces, run_alone, run_both, run_chain, run_fallback, run_source, run_value}
 use Rattle.fluent_command.specs.Words.{name_and_value}
 use Rattle.fluent_command.specs.Inside.BundleView.{bundle_view}
 use Rattle.fluent_command.specs.Inside.OutputProgress.{Added, Stops, Took, TookPart}
@@ -32,6 +36,7 @@ use Rattle.fluent_command.specs.Inside.WordsView.{asked_view}
 use Rattle.fluent_command.specs.declared.plurals.Plurals.{Plurals}
 use Rattle.fluent_command.specs.declared.report.Ending.{Ending}
 use Rattle.fluent_command.specs.declared.request.Request.{Request}
+use Rattle.fluent_command.specs.declared.task.Task.{Task}
 
 -- a list of errors, and a bundle, of the code
 abbrev pub Errors : Type 0
@@ -49,14 +54,21 @@ pub record Comes : Type 0 where
   pub run : Run
   pub first : First
 
--- ---- what comes of it
+-- ---- what is wrong with a source of the code, and the bundle of a resource
 
--- of a pattern under the arguments of words
-abbrev pub pattern : Bundle → List (String Global) → tree.Pattern → Comes
-pattern bundle words p = record {
-  run = run_pattern (written_pattern (bundle_view bundle) (words_arguments words) (pattern_view p));
-  first = in_pieces [];
-}
+abbrev pub junk : List ParserError → List Error
+junk found = map (λ e. error_at (error_range e)) found
+
+abbrev pub bundle : Task → FluentResource → m.Bundle Text
+bundle task r =
+    bundle_of (plurals_view task.plurals) task.request.options.isolate (entries_of r)
+
+-- the errors of adding it
+abbrev pub adding : Task → FluentResource → List Error
+adding task r =
+    adding_errors (plurals_view task.plurals) task.request.options.isolate (entries_of r)
+
+-- ---- what comes of it
 
 -- in one bundle
 abbrev pub value : Request → Bundle → Comes
@@ -65,18 +77,11 @@ value request bundle = record {
   first = in_pieces [];
 }
 
--- in a bundle of one resource
-abbrev pub entries : Request → Plurals → FluentResource → Comes
-entries request plurals r = record {
-  run = run_entries (asked_view request) (plurals_view plurals) (entries_of r);
-  first = first_of_entries (asked_view request) (plurals_view plurals) (entries_of r);
-}
-
--- of a source
-abbrev pub alone : Request → Plurals → Text → Comes
-alone request plurals source = record {
-  run = run_alone (asked_view request) (plurals_view plurals) source;
-  first = first_alone (asked_view request) (plurals_view plurals) source;
+-- in a bundle of one source
+abbrev pub alone : Task → Text → Comes
+alone task source = record {
+  run = run_alone (asked_view task.request) (plurals_view task.plurals) source;
+  first = first_alone (asked_view task.request) (plurals_view task.plurals) source;
 }
 
 -- where all is found before anything is written
@@ -91,20 +96,21 @@ chain request first second =
     found (run_chain (chain_value asked.id (arguments_of asked.arguments) bundles))
 
 -- in bundles of one resource each
-abbrev pub both : Request → Plurals → FluentResource → FluentResource → Comes
-both request plurals first second =
-    found (run_both (asked_view request) (plurals_view plurals) (entries_of first) (entries_of second))
+abbrev pub both : Task → FluentResource → FluentResource → Comes
+both task first second =
+    let asked = asked_view task.request in
+    found (run_both asked (plurals_view task.plurals) (entries_of first) (entries_of second))
 
 -- of a source each
-abbrev pub fallback : Request → Plurals → Text → Text → Comes
-fallback request plurals source other =
-    found (run_fallback (asked_view request) (plurals_view plurals) source other)
+abbrev pub fallback : Task → Text → Text → Comes
+fallback task source other =
+    found (run_fallback (asked_view task.request) (plurals_view task.plurals) source other)
 
 -- of the input
-abbrev pub source : Request → Plurals → Text → Comes
-source request plurals text = record {
-  run = run_source (asked_view request) (plurals_view plurals) text;
-  first = first_of_source (asked_view request) (plurals_view plurals) text;
+abbrev pub source : Task → Text → Comes
+source task text = record {
+  run = run_source (asked_view task.request) (plurals_view task.plurals) text;
+  first = first_of_source (asked_view task.request) (plurals_view task.plurals) text;
 }
 
 -- ---- how far a call came with it
@@ -115,24 +121,30 @@ abbrev pub Puts : {W T E : Type 0} → Result T E → Comes → (W → Option Te
 Puts result comes contents out out' =
     Took result comes.run.output (contents (writer_in out)) (contents (writer_in out'))
 
--- where an allocation failed, a part of it
+-- where an allocation failed, nothing was written, or a part of it
 abbrev pub PutsPart : {W T : Type 0} → Result T WriteFault → Comes → (W → Option Text)
     → Counting W → Counting W → Type 0
 PutsPart result comes contents out out' =
-    result ≡ Err Memory
-    → TookPart comes.run.output (contents (writer_in out)) (contents (writer_in out'))
+    result ≡ Err Memory → (out' ≡ out)
+    ⊎ TookPart comes.run.output (contents (writer_in out)) (contents (writer_in out'))
+
+-- the text that is given, a line without its end
+abbrev pub Gives : {E : Type 0} → Result (CowStr Global) E → Comes → Type 0
+Gives result comes = IfOk result (λ text. line (cow_str_bytes text) ≡ comes.run.output)
 
 -- the errors that were added
+abbrev pub AddsErrors : {T E : Type 0} → Result T E → List Error → Errors → Errors → Type 0
+AddsErrors result all errors errors' = Added result all errors.items errors'.items
+
 abbrev pub Adds : {T E : Type 0} → Result T E → Comes → Errors → Errors → Type 0
-Adds result comes errors errors' = Added result comes.run.errors errors.items errors'.items
+Adds result comes errors errors' = AddsErrors result comes.run.errors errors errors'
 
 -- the ending
 abbrev pub EndsAs : {E : Type 0} → Result Ending E → Comes → Type 0
 EndsAs result comes = IfOk result (λ ending. ending_view ending ≡ comes.run.ending)
 
--- where it was stopped
-abbrev pub StopsIn : {W T : Type 0} → Result T WriteFault → Comes → Errors → Errors
-    → (W → Option Text) → Counting W → Counting W → Type 0
-StopsIn result comes errors errors' contents out out' =
-    IfErr result (Stops comes.run comes.first errors.items errors'.items
-    (outlet contents out) (outlet contents out'))
+-- where it was stopped, with these errors in a list that was empty
+abbrev pub StopsAs : {W T : Type 0} → Result T WriteFault → Comes → Errors
+    → Counting W → Counting W → Type 0
+StopsAs result comes errors out out' =
+    IfErr result (Stops comes.run.ending comes.first (reported errors.items) out out')

@@ -14,11 +14,11 @@ use Rattle.fluent_command.specs.Outlet.{outlet}
 use Rattle.fluent_command.specs.Program.{first_of, first_of_source, run_input, run_of}
 use Rattle.fluent_command.specs.Inside.PluralsView.{plurals_view}
 use Rattle.fluent_command.specs.Inside.WordsView.{asked_view}
+use Rattle.fluent_command.specs.declared.input.InputState.{InputState}
 use Rattle.fluent_command.specs.declared.input.InputState.TheVariants.{AtEnd}
 use Rattle.fluent_command.specs.declared.input.Reads.{Reads}
-use Rattle.fluent_command.specs.declared.plurals.Plurals.{Plurals}
 use Rattle.fluent_command.specs.declared.report.Ending.{Ending}
-use Rattle.fluent_command.specs.declared.request.Request.{Request}
+use Rattle.fluent_command.specs.declared.task.Task.{Task}
 
 abbrev pub Errors : Type 0
 Errors = Vec FluentError Global
@@ -32,23 +32,28 @@ abbrev pub ReadAs : {R : Type 0} → (R → Option (List ℕ)) → Reads R → R
 ReadAs remaining input input' ending =
     ReadFor (ending_view ending) (inlet remaining input) (inlet remaining input')
 
--- of a request, over the bytes of an input
-abbrev pub EndsOver : {W : Type 0} → (W → Option Text) → Request → Plurals → List ℕ
+-- the errors of a list that was empty, and the ending, of a task over the bytes of an input
+abbrev pub EndsWith : {W : Type 0} → (W → Option Text) → Task → List ℕ → InputState
     → Counting W → Counting W → Ending → Errors → Type 0
-EndsOver held request plurals bytes out out' ending errors =
-    EndsRun (run_input (asked_view request) (plurals_view plurals) bytes)
-    (first_of_source (asked_view request) (plurals_view plurals) bytes) AtEnd
+EndsWith held task bytes state out out' ending errors =
+    let asked = asked_view task.request in
+    let plurals = plurals_view task.plurals in
+    EndsRun (run_input asked plurals bytes) (first_of_source asked plurals bytes) state
     (outlet held out) (outlet held out') (ending_view ending) (reported errors.items)
 
+-- that were read to their end
+abbrev pub EndsOver : {W : Type 0} → (W → Option Text) → Task → List ℕ
+    → Counting W → Counting W → Ending → Errors → Type 0
+EndsOver held task bytes out out' ending errors =
+    EndsWith held task bytes AtEnd out out' ending errors
+
 module _ {R W : Type 0} (remaining : R → Option (List ℕ)) (held : W → Option Text) where
-  -- over what a reader has left
-  abbrev pub EndsReading : Request → Plurals → Reads R → Reads R → Counting W → Counting W
+  -- that a reader has left
+  abbrev pub EndsReading : Task → Reads R → Reads R → Counting W → Counting W
       → Ending → Errors → Type 0
-  EndsReading request plurals input input' out out' ending errors =
+  EndsReading task input input' out out' ending errors =
       (bytes : List ℕ) × AreLeft (remaining (reader_in input)) bytes
-      × EndsRun (run_input (asked_view request) (plurals_view plurals) bytes)
-      (first_of_source (asked_view request) (plurals_view plurals) bytes) (state_in input')
-      (outlet held out) (outlet held out') (ending_view ending) (reported errors.items)
+      × EndsWith held task bytes (state_in input') out out' ending errors
 
   -- of words
   abbrev pub EndsAsked : List (String Global) → Reads R → Reads R → Counting W → Counting W

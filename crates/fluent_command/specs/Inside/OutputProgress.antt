@@ -1,16 +1,18 @@
 -- How far a call came with what it writes and reports.
-use Rattle.std.specs.Prelude.{◌≡◌, List, ◌++◌, false, Option, Result, OnOk}
+use Rattle.std.specs.Prelude.{◌≡◌, List, false, Option, Result, OnOk}
 use Rattle.std.specs.Io.KnownBytes.{Appends}
 use Rattle.fluent_text.specs.Taken.{TookPrefix}
+use Rattle.fluent_text.specs.declared.counting.Counting.{Counting}
 use Rattle.fluent_text.specs.declared.counting.WriteFault.{WriteFault}
 use Rattle.fluent_text.specs.declared.counting.WriteFault.TheVariants.{Memory}
 use Rattle.fluent_tree.specs.Tree.{Text}
 use Rattle.fluent_meaning.specs.Errors.{Error}
+use Rattle.fluent_meaning.specs.Laws.{Begins}
 use Rattle.fluent_entries.specs.declared.errors.FluentError.{FluentError}
 use Rattle.fluent_bundle.specs.Formatted.{AddsAll, AddsPrefix}
-use Rattle.fluent_command.specs.Ending.{shown}
-use Rattle.fluent_command.specs.Outlet.{Outlet, Precedes}
-use Rattle.fluent_command.specs.Program.{Run, First}
+use Rattle.fluent_command.specs.Ending.{Ending, shown}
+use Rattle.fluent_command.specs.Outlet.{Precedes}
+use Rattle.fluent_command.specs.Program.{First}
 
 -- A beginning of the errors was added, and all of them where the answer is Ok.
 pub record Added {T E : Type 0} (result : Result T E) (errors : List Error)
@@ -28,14 +30,12 @@ pub record Took {T E : Type 0} (result : Result T E) (text : Text)
 abbrev pub TookPart : Text → Option Text → Option Text → Type 0
 TookPart text old new = (prefix : Text) × Precedes prefix text × Appends old new prefix
 
--- Where a call was stopped that makes this run, and has these first things before it writes.
-pub data Stops (run : Run) (first : First) (old new : List FluentError) (out out' : Outlet)
-    (fault : WriteFault) : Type 0 where
+-- Where a call was stopped whose run ends so, and has these first things before it writes.
+pub data Stops {W : Type 0} (ending : Ending) (first : First) (errors : List Error)
+    (out out' : Counting W) (fault : WriteFault) : Type 0 where
   -- an allocation failed, and nothing was written
-  before : fault ≡ Memory → out' ≡ out → Stops run first old new out out' fault
-  -- there was a text to show, the first errors were added, and others after them;
-  -- where it was an allocation that failed, the text is written in pieces, and all but the last of it
-  after : run.ending ≡ shown → (others : List Error)
-      → AddsAll (first.errors ++ others) old new
-      → (fault ≡ Memory → (first.whole ≡ false) × TookPart run.output out.held out'.held)
-      → Stops run first old new out out' fault
+  before : fault ≡ Memory → out' ≡ out → Stops ending first errors out out' fault
+  -- there was a text to show, and the first errors had been found;
+  -- where it was an allocation that failed, the text is written in pieces
+  after : ending ≡ shown → Begins first.errors errors → (fault ≡ Memory → first.whole ≡ false)
+      → Stops ending first errors out out' fault

@@ -1,9 +1,14 @@
 -- The plural rules of a run, by content.
-use Rattle.std.specs.Prelude.{Option, Some, None}
+use Rattle.std.specs.Prelude.{◌≡◌, ◌≢◌, Option, Some, None}
 use Rattle.fluent_intl.specs.Plurals.{english}
 use Rattle.fluent_intl.specs.RuleTexts.{category_of}
 use Rattle.fluent_intl.specs.declared.rule_texts.RuleTexts.{RuleTexts}
+use Rattle.fluent_intl.specs.declared.rule_texts.fault.RuleFault.{RuleFault}
+use Rattle.fluent_intl.specs.declared.rule_texts.fault.RuleFault.TheVariants.{Memory}
 use Rattle.fluent_meaning.specs.Value as m
+use Rattle.fluent_command.specs.Plurals.{plurals_asked}
+use Rattle.fluent_command.specs.Inside.WordsView.{options_view}
+use Rattle.fluent_command.specs.declared.options.Options.{Options}
 use Rattle.fluent_command.specs.declared.plurals.Plurals.{Plurals}
 use Rattle.fluent_command.specs.declared.plurals.Plurals.TheVariants.{English, Rules}
 
@@ -15,3 +20,11 @@ plurals_view (Rules texts) = category_of texts.now
 abbrev pub read_view : Option RuleTexts → m.Plurals
 read_view None = english
 read_view (Some texts) = category_of texts
+
+-- they are those that the options ask for
+abbrev pub AreAsked : Options → Option RuleTexts → Type 0
+AreAsked options read = plurals_asked (options_view options) ≡ Some (read_view read)
+
+-- any fault but one of memory: those can't be read
+abbrev pub TellsBadRule : Options → RuleFault → Type 0
+TellsBadRule options fault = fault ≢ Memory → plurals_asked (options_view options) ≡ None

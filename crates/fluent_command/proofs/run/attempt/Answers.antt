@@ -15,8 +15,8 @@ returns-in_default-clause-ends g c =
 pub returns-in-Ok-clause-ends : goal.returns-in-Ok-clause-ends
 returns-in-Ok-clause-ends g c =
     let asked = asked_view c.in-Some.request in
-    let plurals = plurals_view c.of-in-Ok.result in
-    let read : plurals_asked asked.options ≡ Some plurals = c.in-Ok.ensures.ok ∙ ap Some (sym c.of-in-Ok.ensures) in
+    let plurals = plurals_view c.of-plurals.result in
+    let read : plurals_asked asked.options ≡ Some plurals = c.in-Ok.ensures.ok ∙ ap Some (sym c.of-plurals.ensures) in
     let ends = c.show_input.ensures.ends in (
       ends.0,
       ends.1,
@@ -29,15 +29,15 @@ returns-in-Ok-clause-ends g c =
 pub returns-in-Ok-clause-rule : goal.returns-in-Ok-clause-rule
 returns-in-Ok-clause-rule g c bad =
     let asked = asked_view c.in-Some.request in
-    let plurals = plurals_view c.of-in-Ok.result in
-    let read : plurals_asked asked.options ≡ Some plurals = c.in-Ok.ensures.ok ∙ ap Some (sym c.of-in-Ok.ensures) in
+    let plurals = plurals_view c.of-plurals.result in
+    let read : plurals_asked asked.options ≡ Some plurals = c.in-Ok.ensures.ok ∙ ap Some (sym c.of-plurals.ensures) in
     absurd (never_bad asked _ plurals c.in-Some.ensures read bad)
 
 pub returns-in-Ok-clause-untouched : goal.returns-in-Ok-clause-untouched
 returns-in-Ok-clause-untouched g c bad =
     let asked = asked_view c.in-Some.request in
-    let plurals = plurals_view c.of-in-Ok.result in
-    let read : plurals_asked asked.options ≡ Some plurals = c.in-Ok.ensures.ok ∙ ap Some (sym c.of-in-Ok.ensures) in
+    let plurals = plurals_view c.of-plurals.result in
+    let read : plurals_asked asked.options ≡ Some plurals = c.in-Ok.ensures.ok ∙ ap Some (sym c.of-plurals.ensures) in
     absurd (never_bad asked _ plurals c.in-Some.ensures read bad)
 
 pub returns-in-Err-clause-ends : goal.returns-in-Err-clause-ends

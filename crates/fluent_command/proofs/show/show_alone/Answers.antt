@@ -1,44 +1,83 @@
-use Rattle.std.proofs.Common.{rules, ◌≡◌, ◌++◌, refl, List, Result, subst}
+use Rattle.std.proofs.Common.{rules, ◌≡◌, ◌++◌, ◌⊎◌, refl, false, is_ok, List, Err, subst}
 use Rattle.std.specs.Result.{IfErr}
 use Rattle.fluent_tree.specs.Tree.{Text, Entry}
 use Rattle.fluent_syntax.specs.Chunks.{entries}
-use Rattle.fluent_text.specs.declared.counting.WriteFault.{WriteFault}
+use Rattle.fluent_text.specs.Writer.{writer_in}
+use Rattle.fluent_text.specs.declared.counting.WriteFault.TheVariants.{Memory}
+use Rattle.fluent_meaning.specs.Bundle.{Bundle}
+use Rattle.fluent_meaning.specs.Errors.{Error}
 use Rattle.fluent_meaning.specs.Value.{Plurals}
-use Rattle.fluent_entries.specs.declared.errors.FluentError.{FluentError}
+use Rattle.fluent_resolver.specs.Status.{reported}
 use Rattle.fluent_bundle.specs.BundleView.{entries_of}
-use Rattle.fluent_bundle.specs.Formatted.{AddsAll}
-use Rattle.fluent_command.specs.Outlet.{Outlet}
+use Rattle.fluent_chain.specs.Chain.{value_at}
 use Rattle.fluent_command.specs.Words.{Asked}
 use Rattle.fluent_command.specs.Inside.WordsView.{asked_view}
 use Rattle.fluent_command.specs.Inside.PluralsView.{plurals_view}
-use Rattle.fluent_command.specs.Program.{junk_errors, run_entries, run_alone, first_of_entries, first_alone}
-use Rattle.fluent_command.specs.Inside.OutputProgress.{Added, Stops}
-use Rattle.fluent_command.proofs.Adding.{added_then, whole_added}
-use Rattle.fluent_command.proofs.Stopping.{stops_before, stops_after}
+use Rattle.fluent_command.specs.Inside.BundleView.{bundle_view}
+use Rattle.fluent_command.specs.Program.{Run, adding_errors, after_errors, bundle_of, in_pieces, junk_errors, run_alone, run_entries, run_value}
+use Rattle.fluent_command.specs.Inside.OutputProgress.{Added, Stops, Took, TookPart}
+use Rattle.fluent_command.proofs.Adding.{added_short, added_then, adds_then, whole_added}
+use Rattle.fluent_command.proofs.Stopping.{stops_before, stops_later}
 use Rattle.fluent_command.proofs.show.show_alone.Goals as goal
 
--- what was added over entries, which are those of the source
-over : {T E : Type 0} (r : Result T E) (asked : Asked) (plurals : Plurals) (source : Text) (es : List Entry) (old new : List FluentError) → es ≡ entries source
-    → Added r (junk_errors source ++ (run_entries asked plurals es).errors) old new → Added r (run_alone asked plurals source).errors old new
-over r asked plurals source es old new is h = subst (λ w. Added r (junk_errors source ++ (run_entries asked plurals w).errors) old new) is h
+-- a run in a bundle, after what was found before
+abbrev run_over : Asked → Plurals → Text → List Entry → Bundle Text → Run
+run_over asked plurals source es bundle =
+    after_errors (junk_errors source) (after_errors (adding_errors plurals asked.options.isolate es) (run_value asked bundle (value_at asked.id bundle)))
+
+abbrev found_over : Asked → Plurals → Text → List Entry → List Error
+found_over asked plurals source es = junk_errors source ++ adding_errors plurals asked.options.isolate es
+
+-- what holds of it holds of the source, where the bundle is that of its entries
+of_source : (P : Run → List Error → Type 0) (asked : Asked) (plurals : Plurals) (source : Text) (es : List Entry) (bundle : Bundle Text) → es ≡ entries source → bundle ≡ bundle_of plurals asked.options.isolate es
+    → P (run_over asked plurals source es bundle) (found_over asked plurals source es) → P (run_alone asked plurals source) (found_over asked plurals source (entries source))
+of_source P asked plurals source es bundle read made h =
+    subst (λ w. P (after_errors (junk_errors source) (run_entries asked plurals w)) (found_over asked plurals source w)) read
+    (subst (λ b. P (run_over asked plurals source es b) (found_over asked plurals source es)) made h)
+
+pub returns-clause-text : goal.returns-clause-text
+returns-clause-text g c =
+    let contents = g.W.Write.contents in
+    of_source (λ run found. Took c.show_value.result run.output (contents (writer_in c.args.out.now)) (contents (writer_in c.show_value.new.out)))
+    (asked_view c.args.task.request) (plurals_view c.args.task.plurals) c.args.source.now (entries_of c.in_ok-resource.resource) (bundle_view c.in_ok-bundle.bundle)
+    c.in_ok-resource.ensures.entries c.in_ok-bundle.ensures.bundle c.show_value.ensures.text
+
+pub returns-clause-part : goal.returns-clause-part
+returns-clause-part g c =
+    let contents = g.W.Write.contents in
+    of_source (λ run found. c.show_value.result ≡ Err Memory → (c.show_value.new.out ≡ c.args.out.now) ⊎ TookPart run.output (contents (writer_in c.args.out.now)) (contents (writer_in c.show_value.new.out)))
+    (asked_view c.args.task.request) (plurals_view c.args.task.plurals) c.args.source.now (entries_of c.in_ok-resource.resource) (bundle_view c.in_ok-bundle.bundle)
+    c.in_ok-resource.ensures.entries c.in_ok-bundle.ensures.bundle c.show_value.ensures.part
 
 pub returns-clause-errors : goal.returns-clause-errors
 returns-clause-errors g c =
-    over c.show_resource.result (asked_view c.args.request) (plurals_view c.args.plurals) c.args.source.now (entries_of c.in_ok-resource.resource) _ _ c.in_ok-resource.ensures.entries
-    (added_then c.read.result c.show_resource.result _ _ _ _ _ _ c.in_ok-resource.was c.read.ensures.errors c.show_resource.ensures.errors)
-
--- where it stops over such entries
-over_stops : {T : Type 0} (r : Result T WriteFault) (asked : Asked) (plurals : Plurals) (source : Text) (es : List Entry) (old mid new : List FluentError) (out out' : Outlet) → es ≡ entries source
-    → AddsAll (junk_errors source) old mid → IfErr r (Stops (run_entries asked plurals es) (first_of_entries asked plurals es) mid new out out')
-    → IfErr r (Stops (run_alone asked plurals source) (first_alone asked plurals source) old new out out')
-over_stops r asked plurals source es old mid new out out' is adds h =
-    stops_after r (junk_errors source) (run_entries asked plurals (entries source)) (first_of_entries asked plurals (entries source)) old mid new out out' adds
-    (subst (λ w. IfErr r (Stops (run_entries asked plurals w) (first_of_entries asked plurals w) mid new out out')) is h)
+    of_source (λ run found. Added c.show_value.result run.errors c.args.errors.now.items c.show_value.new.errors.items)
+    (asked_view c.args.task.request) (plurals_view c.args.task.plurals) c.args.source.now (entries_of c.in_ok-resource.resource) (bundle_view c.in_ok-bundle.bundle)
+    c.in_ok-resource.ensures.entries c.in_ok-bundle.ensures.bundle
+    (added_then c.read.result c.show_value.result _ _ _ _ _ _ c.in_ok-resource.was c.read.ensures.errors
+    (added_then c.bundle_of.result c.show_value.result _ _ _ _ _ _ c.in_ok-bundle.was c.bundle_of.ensures.errors c.show_value.ensures.errors))
 
 pub returns-clause-stops : goal.returns-clause-stops
 returns-clause-stops g c =
-    over_stops c.show_resource.result (asked_view c.args.request) (plurals_view c.args.plurals) c.args.source.now (entries_of c.in_ok-resource.resource) _ _ _ _ _ c.in_ok-resource.ensures.entries
-    (whole_added c.read.result _ _ _ _ c.in_ok-resource.was c.read.ensures.errors) c.show_resource.ensures.stops
+    let before = adds_then _ _ _ _ _ (whole_added c.read.result _ _ _ _ c.in_ok-resource.was c.read.ensures.errors) (whole_added c.bundle_of.result _ _ _ _ c.in_ok-bundle.was c.bundle_of.ensures.errors) in
+    of_source (λ run found. IfErr c.show_value.result (Stops run.ending (in_pieces found) (reported c.show_value.new.errors.items) c.args.out.now c.show_value.new.out))
+    (asked_view c.args.task.request) (plurals_view c.args.task.plurals) c.args.source.now (entries_of c.in_ok-resource.resource) (bundle_view c.in_ok-bundle.bundle)
+    c.in_ok-resource.ensures.entries c.in_ok-bundle.ensures.bundle
+    (stops_later c.show_value.result _ _ _ _ _ _ _ _ c.requires before c.show_value.ensures.errors c.show_value.ensures.stops)
+
+pub returns-in_err-bundle-clause-errors : goal.returns-in_err-bundle-clause-errors
+returns-in_err-bundle-clause-errors g c =
+    let faulted : is_ok c.from_residual-in_err-bundle.result ≡ false = search rules in
+    let asked = asked_view c.args.task.request in
+    let plurals = plurals_view c.args.task.plurals in
+    let of = bundle_of plurals asked.options.isolate (entries_of c.in_ok-resource.resource) in
+    of_source (λ run found. Added c.from_residual-in_err-bundle.result run.errors c.args.errors.now.items c.bundle_of.new.errors.items)
+    asked plurals c.args.source.now (entries_of c.in_ok-resource.resource) of c.in_ok-resource.ensures.entries refl
+    (added_then c.read.result c.from_residual-in_err-bundle.result _ _ _ _ _ _ c.in_ok-resource.was c.read.ensures.errors
+    (added_short c.bundle_of.result c.from_residual-in_err-bundle.result _ _ _ _ faulted c.bundle_of.ensures.errors))
+
+pub returns-in_err-bundle-clause-stops : goal.returns-in_err-bundle-clause-stops
+returns-in_err-bundle-clause-stops g c = stops_before c.from_residual-in_err-bundle.result _ _ _ _ _ (search rules) refl
 
 pub returns-in_err-resource-clause-stops : goal.returns-in_err-resource-clause-stops
-returns-in_err-resource-clause-stops g c = stops_before c.from_residual.result _ _ _ _ _ _ (search rules) refl
+returns-in_err-resource-clause-stops g c = stops_before c.from_residual.result _ _ _ _ _ (search rules) refl

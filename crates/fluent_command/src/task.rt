@@ -1,0 +1,11 @@
+//! What a run is to show, once its words are read.
+
+use crate::plurals::Plurals;
+use crate::request::Request;
+
+/// A request, and who chooses plural categories for it.
+#[derive(Clone, Copy)]
+pub(crate) struct Task<'w, 'p> {
+    pub request: Request<'w>,
+    pub plurals: Plurals<'p>,
+}
