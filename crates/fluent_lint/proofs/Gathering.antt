@@ -1,17 +1,17 @@
 -- Variables are gathered from a place and the messages that it leads to.
-use Rattle.std.proofs.Common.{◌≡◌, ◌⊎◌, ◌↔◌, ◌∙◌, ℕ, zero, suc, ◌+◌, ◌<◌, ◌≤◌, List, [], ◌∷◌, ◌++◌, length, get_or, map, take, Option, Some, None, inl, inr, refl, sym, ap, subst, add-one, arith}
+use Rattle.std.proofs.Common.{◌≡◌, ◌⊎◌, ◌∙◌, ℕ, zero, suc, ◌+◌, ◌<◌, ◌≤◌, List, [], ◌∷◌, ◌++◌, length, get_or, map, take, None, inl, inr, refl, sym, ap, subst, add-one, arith}
 use Rattle.std.specs.List.{AllByRecursion}
 use Rattle.std.specs.Result.{OnOk}
 use Rattle.std.specs.Prelude.{Result}
 use Rattle.std.proofs.lemmas.List.{append_assoc, append-nil}
 use Rattle.fluent_tree.specs.Tree.{Text, Attribute, Pattern}
-use Rattle.fluent_meaning.specs.Bundle.{Target, unknown, without_value, found, message_target}
+use Rattle.fluent_meaning.specs.Bundle.{Target, unknown, without_value, found}
 use Rattle.fluent_clean.specs.Places.{Place, of_message, Names, place_target}
 use Rattle.fluent_clean.specs.Needs.{Need, a_message, a_term, a_function, a_variable, a_default, needs}
 use Rattle.fluent_clean.specs.Clean.{IsAmong, AsksFor, itself, by_message}
 use Rattle.fluent_lint.specs.Asked.{AsksForAt, AreAsked, AreDistinct}
 use Rattle.fluent_lint.specs.PlaceView.{pattern_in, place_view}
-use Rattle.fluent_lint.specs.Inside.Reached.{Adds, IsReference, NotesOf, NotedAt, needs_there, needs_at, IsThrough, Gathered}
+use Rattle.fluent_lint.specs.Inside.Reached.{Adds, IsReference, NotesOf, needs_there, needs_at, IsThrough, Gathered}
 use Rattle.fluent_lint.proofs.Growing.{all_map, prefix, last_of, wider, at_last}
 use Rattle.fluent_lint.specs.NeedsView.{need_view}
 use Rattle.fluent_lint.specs.declared.listing.Need as code
@@ -140,7 +140,7 @@ none_there unknown h = refl
 none_there without_value h = refl
 none_there (found p) h = absurd cc
 
-pub all_noted : {R : Type 0} (result : Result (Unit {0}) R) (named : Names Text) (x : Place) (q : Pattern) (ns : List Need) (xs xs' : List Place) (vs vs' : List Text) → ns ≡ needs q → place_target named x ≡ found q → OnOk result (NotesOf ns xs xs' vs vs') → OnOk result (NotedAt named x xs xs' vs vs')
+pub all_noted : {R : Type 0} (result : Result (Unit {0}) R) (named : Names Text) (x : Place) (q : Pattern) (ns : List Need) (xs xs' : List Place) (vs vs' : List Text) → ns ≡ needs q → place_target named x ≡ found q → OnOk result (NotesOf ns xs xs' vs vs') → OnOk result (NotesOf (needs_at named x) xs xs' vs vs')
 all_noted result named x q ns xs xs' vs vs' listed at h = subst (λ l. OnOk result (NotesOf l xs xs' vs vs')) (listed ∙ sym (ap needs_there at)) h
 
 -- ---- place by place
@@ -170,7 +170,7 @@ next_all P f (z ∷ zs) rest zero x h is all p = (subst (λ w. P (f w)) is p, tt
 next_all P f (z ∷ zs) rest (suc i) x h is all p = (all.0, next_all P f zs rest i x (omega arith) is all.1 p)
 
 pub gathered_more : {A : Type 0} (f : A → Place) (named : Names Text) (from : Place) (i : ℕ) (xs : List A) (y : A) (xs' : List Place) (vs vs' : List Text) → i < length xs → y ≡ get_or xs i y
-    → Gathered named from i (map f xs) vs → NotedAt named (f y) (map f xs) xs' vs vs' → IsAmong (f y) (map f xs) → Gathered named from (i + 1) xs' vs'
+    → Gathered named from i (map f xs) vs → NotesOf (needs_at named (f y)) (map f xs) xs' vs vs' → IsAmong (f y) (map f xs) → Gathered named from (i + 1) xs' vs'
 gathered_more f named from i xs y xs' vs vs' h is old notes here =
     let longer : (x : Place) → IsAmong x (map f xs) → IsAmong x xs' = λ x among. subst (IsAmong x) (sym notes.prefix.1) (prepended x (map f xs) notes.prefix.0 among) in
     let asks_here : (v : Text) → AsksForAt named (f y) v → AsksForAt named from v = old.leads (f y) here in record {

@@ -1,5 +1,7 @@
 -- Lists of places, one after the other.
 use Rattle.std.proofs.Common.{◌≡◌, ℕ, ◌+◌, ◌<◌, ◌≤◌, List, [], ◌∷◌, ◌++◌, length, get_or, drop, map, refl, sym, ap, ◌∙◌}
+use Rattle.std.proofs.Common.{Global}
+use Rattle.std.specs.declared.vec.Vec.{Vec}
 use Rattle.std.proofs.lemmas.List.{append_assoc, append-nil, map-append, at_drop_more, at_drop_all}
 use Rattle.fluent_tree.specs.Tree.{Attribute, attribute}
 use Rattle.fluent_tree.specs.View.{attribute_view, entry_view}
@@ -16,8 +18,8 @@ pub pushed : (old new : List code.Place) (x : code.Place) → new ≡ old ++ x �
 pushed old new x e = ap views e ∙ map-append place_view old (x ∷ [])
 
 -- one is pushed, then others are added
-pub pushed_then : (old mid new : List code.Place) (x : code.Place) (these : List Place) → mid ≡ old ++ x ∷ [] → AddsPlaces mid new these → AddsPlaces old new (place_view x ∷ these)
-pushed_then old mid new x these e adds = adds ∙ (ap (λ l. l ++ these) (pushed old mid x e) ∙ append_assoc (views old) (place_view x ∷ []) these)
+pub pushed_then : (old mid new : Vec code.Place Global) (x : code.Place) (these : List Place) → mid.items ≡ old.items ++ x ∷ [] → AddsPlaces mid new these → AddsPlaces old new (place_view x ∷ these)
+pushed_then old mid new x these e adds = adds ∙ (ap (λ l. l ++ these) (pushed old.items mid.items x e) ∙ append_assoc (views old.items) (place_view x ∷ []) these)
 
 one_more : {A : Type 0} (all : List A → List Place) (one : A → List Place) → ((x : A) (xs : List A) → all (x ∷ xs) ≡ one x ++ all xs)
     → (xs : List A) (i : ℕ) (x : A) (old new whole : List Place) → i < length xs → x ≡ get_or xs i x → old ++ all (drop i xs) ≡ whole → new ≡ old ++ one x → new ++ all (drop (i + 1) xs) ≡ whole
@@ -35,9 +37,9 @@ attribute_more at xs i x old new p whole h is e push this =
 pub attributes_end : (at : Attribute → Place) (xs : List of_attribute.Attribute) (i : ℕ) (old : List code.Place) (whole : List Place) → length xs ≤ i → views old ++ attribute_places at (map attribute_view (drop i xs)) ≡ whole → views old ≡ whole
 attributes_end at xs i old whole = none_left (λ ys. attribute_places at (map attribute_view ys)) refl xs i (views old) whole
 
-pub entry_more : (xs : List of_entry.Entry) (i : ℕ) (x : of_entry.Entry) (old new : List code.Place) (whole : List Place) → i < length xs → x ≡ get_or xs i x
-    → views old ++ places_in (map entry_view (drop i xs)) ≡ whole → AddsPlaces old new (places_of (entry_view x)) → views new ++ places_in (map entry_view (drop (i + 1) xs)) ≡ whole
-entry_more xs i x old new whole h is e adds = one_more (λ ys. places_in (map entry_view ys)) (λ y. places_of (entry_view y)) (λ y ys. refl) xs i x (views old) (views new) whole h is e adds
+pub entry_more : (xs : List of_entry.Entry) (i : ℕ) (x : of_entry.Entry) (old new : Vec code.Place Global) (whole : List Place) → i < length xs → x ≡ get_or xs i x
+    → views old.items ++ places_in (map entry_view (drop i xs)) ≡ whole → AddsPlaces old new (places_of (entry_view x)) → views new.items ++ places_in (map entry_view (drop (i + 1) xs)) ≡ whole
+entry_more xs i x old new whole h is e adds = one_more (λ ys. places_in (map entry_view ys)) (λ y. places_of (entry_view y)) (λ y ys. refl) xs i x (views old.items) (views new.items) whole h is e adds
 
 pub entries_end : (xs : List of_entry.Entry) (i : ℕ) (old : List code.Place) (whole : List Place) → length xs ≤ i → views old ++ places_in (map entry_view (drop i xs)) ≡ whole → views old ≡ whole
 entries_end xs i old whole = none_left (λ ys. places_in (map entry_view ys)) refl xs i (views old) whole

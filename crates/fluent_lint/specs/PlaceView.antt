@@ -1,12 +1,15 @@
 -- The content of the code's places, and what stands there.
+use Rattle.std.specs.Borrow.{Bor}
+use Rattle.std.specs.Option.{option_map}
 use Rattle.std.specs.Prelude.{◌≡◌, ℕ, List, [], ◌++◌, Option, Some, None, IsTrue}
 use Rattle.std.proofs.Common.{ap, sym}
 use Rattle.std.specs.Hash as fed
 use mathlib.Core.Bool.{true≢false}
 use Rattle.fluent_tree.specs.Tree.{Attribute, no_attribute, attribute, Pattern, is_yes}
-use Rattle.fluent_tree.specs.View.{attribute_of}
+use Rattle.fluent_tree.specs.View.{attribute_of, pattern_view}
+use Rattle.fluent_tree.specs.declared.ast.Pattern as tree
 use Rattle.fluent_meaning.specs.Bundle.{Target, unknown, without_value, found}
-use Rattle.fluent_clean.specs.Places.{Place, of_message, of_term, place_same}
+use Rattle.fluent_clean.specs.Places.{Place, of_message, of_term, Names, place_same, place_target}
 use Rattle.fluent_lint.specs.declared.place.Place as code
 use Rattle.fluent_lint.specs.declared.place.Place.TheVariants as place
 
@@ -18,6 +21,14 @@ abbrev pub pattern_in : Target → Option Pattern
 pattern_in unknown = None
 pattern_in without_value = None
 pattern_in (found p) = Some p
+
+-- the pattern that stands at a place
+abbrev pub pattern_at : {C : Type 0} → Names C → code.Place → Option Pattern
+pattern_at named x = pattern_in (place_target named (place_view x))
+
+-- a pattern, if there is one
+abbrev pub pattern_seen : Option (Bor tree.Pattern) → Option Pattern
+pattern_seen seen = option_map (λ p. pattern_view p.now) seen
 
 -- ---- what of a place is hashed: its id, and the name of its attribute
 

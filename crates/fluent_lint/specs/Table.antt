@@ -1,9 +1,12 @@
 -- What is known of the places that are looked at.
 use Rattle.std.specs.Prelude.{◌≡◌, ℕ, ◌≤◌, ◌-◌, ◌^◌, min, List, Option, Some, None, IfSome}
 use Rattle.std.specs.Map.{lookup}
+use Rattle.indexmap.specs.IndexMap.{IndexMap}
 use Rattle.fluent_tree.specs.Tree.{is_yes}
+use Rattle.fluent_tree.specs.View.{pattern_view}
+use Rattle.fluent_tree.specs.declared.ast.Pattern as tree
 use Rattle.fluent_clean.specs.Places.{Place, of_message, of_term, Names, place_same, place_target}
-use Rattle.fluent_clean.specs.Needs.{Need, a_message, a_term, a_function, a_variable, a_default}
+use Rattle.fluent_clean.specs.Needs.{Need, a_message, a_term, a_function, a_variable, a_default, needs}
 use Rattle.fluent_clean.specs.Clean.{IsAmong, IsCleanAt, IsMet}
 use Rattle.fluent_clean.specs.Placeables.{at_place, placeables_deep}
 use Rattle.fluent_lint.specs.PlaceView.{place_view}
@@ -29,6 +32,10 @@ count_in _ = 0
 -- the count of a place, or 0 where none is known
 abbrev pub count_of : Known → Place → ℕ
 count_of known x = count_in (known_of known x)
+
+-- those of a table of the code
+abbrev pub counts : {S : Type 0} → IndexMap code.Place (Option ℕ) S → Place → ℕ
+counts table = count_of table.entries
 
 -- From some depth on, so many placeables are opened at a place.
 abbrev pub CountsAs : {C : Type 0} → Names C → Place → ℕ → Type 0
@@ -65,3 +72,7 @@ IsOfPlace x n = place_of n ≡ Some x
 -- one of these does
 abbrev pub RefersIn : List Need → Place → Type 0
 RefersIn ns x = (n : Need) × IsAmong n ns × IsOfPlace x n
+
+-- the same of what a pattern of the code asks for
+abbrev pub Refers : tree.Pattern → code.Place → Type 0
+Refers p x = RefersIn (needs (pattern_view p)) (place_view x)

@@ -1,12 +1,10 @@
 //! Why a pattern isn't clean, by what is known of those that it refers to.
 
-ghost use Rattle.std.specs.Prelude.{◌≡◌, IfOk};
-ghost use Rattle.fluent_tree.specs.View.{pattern_view};
-ghost use Rattle.fluent_clean.specs.Needs.{needs};
+ghost use Rattle.std.specs.Prelude.{IfOk};
 ghost use Rattle.fluent_lint.specs.NeedsView.{need_view};
 ghost use Rattle.fluent_lint.specs.PlaceView.{place_view};
 ghost use Rattle.fluent_lint.specs.Table.{AreRight};
-ghost use Rattle.fluent_lint.specs.Inside.Steps.{Answers, AnswersAt, Explained, IsLook};
+ghost use Rattle.fluent_lint.specs.Inside.Steps.{Answers, AnswersAt, IsExplainedBy, IsLook};
 
 use crate::counting::{Table, most_opened};
 use crate::finding::Cause;
@@ -60,8 +58,8 @@ fn causes_of<'s, F, B: GetEntry<'s, F>>(
     pattern: &Pattern<'s>,
 ) -> Result<Vec<Cause<'s>>, AllocError>
     requires { AreRight (B.named bundle.now) table.now.entries }
-    ensures { IfOk result (λ causes. Explained (B.named bundle.now) table.now.entries
-        (needs (pattern_view pattern.now)) (needs (pattern_view pattern.now)) causes.items) }
+    ensures { IfOk result
+        (IsExplainedBy (B.named bundle.now) table.now.entries pattern.now) }
 {
     let list = needs(alloc, pattern)?;
     let mut causes = Vec::new(alloc);

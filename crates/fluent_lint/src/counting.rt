@@ -5,7 +5,7 @@ ghost use Rattle.fluent_tree.specs.References.{inlines_view, nameds_view, varian
 ghost use Rattle.fluent_tree.specs.View.{arguments_view, element_view, expression_view, inline_view, pattern_view};
 ghost use Rattle.fluent_clean.specs.Placeables.{in_arguments, in_element, in_expression, in_inline, in_largest, in_named, in_pattern, in_positional};
 ghost use Rattle.fluent_lint.specs.PlaceView.{place_view};
-ghost use Rattle.fluent_lint.specs.Table.{capped, count_of};
+ghost use Rattle.fluent_lint.specs.Table.{capped, counts};
 
 use crate::place::Place;
 use fluent_tree::ast::{
@@ -20,7 +20,7 @@ pub(crate) type Table<'s> = IndexMap<Place<'s>, Option<u64>>;
 /// known. Takes no memory.
 #[cycle(counting)]
 pub(crate) fn most_opened<'s>(pattern: &Pattern<'s>, table: &Table<'s>) -> u64
-    ensures { result ≡ capped (in_pattern (count_of table.now.entries) (pattern_view pattern.now)) }
+    ensures { result ≡ capped (in_pattern (counts table.now) (pattern_view pattern.now)) }
 {
     let mut total: u64 = 0;
     for element in &pattern.elements {
@@ -32,7 +32,7 @@ pub(crate) fn most_opened<'s>(pattern: &Pattern<'s>, table: &Table<'s>) -> u64
 
 #[cycle(counting)]
 fn in_element<'s>(element: &PatternElement<'s>, table: &Table<'s>) -> u64
-    ensures { result ≡ capped (in_element (count_of table.now.entries) (element_view element.now)) }
+    ensures { result ≡ capped (in_element (counts table.now) (element_view element.now)) }
 {
     match element {
         PatternElement::TextElement { .. } => 0,
@@ -45,7 +45,7 @@ fn in_element<'s>(element: &PatternElement<'s>, table: &Table<'s>) -> u64
 #[cycle(counting)]
 fn in_expression<'s>(expression: &Expression<'s>, table: &Table<'s>) -> u64
     ensures { result
-        ≡ capped (in_expression (count_of table.now.entries) (expression_view expression.now)) }
+        ≡ capped (in_expression (counts table.now) (expression_view expression.now)) }
 {
     match expression {
         Expression::Inline(inline) => in_inline(inline, table),
@@ -61,7 +61,7 @@ fn in_expression<'s>(expression: &Expression<'s>, table: &Table<'s>) -> u64
 #[cycle(counting)]
 fn in_largest<'s>(variants: &[Variant<'s>], table: &Table<'s>) -> u64
     ensures { result
-        ≡ capped (in_largest (count_of table.now.entries) (variants_view variants.now)) }
+        ≡ capped (in_largest (counts table.now) (variants_view variants.now)) }
 {
     let mut largest: u64 = 0;
     for variant in variants {
@@ -75,7 +75,7 @@ fn in_largest<'s>(variants: &[Variant<'s>], table: &Table<'s>) -> u64
 
 #[cycle(counting)]
 fn in_inline<'s>(inline: &InlineExpression<'s>, table: &Table<'s>) -> u64
-    ensures { result ≡ capped (in_inline (count_of table.now.entries) (inline_view inline.now)) }
+    ensures { result ≡ capped (in_inline (counts table.now) (inline_view inline.now)) }
 {
     match inline {
         InlineExpression::StringLiteral { .. }
@@ -103,7 +103,7 @@ fn in_inline<'s>(inline: &InlineExpression<'s>, table: &Table<'s>) -> u64
 #[cycle(counting)]
 fn in_arguments<'s>(arguments: &CallArguments<'s>, table: &Table<'s>) -> u64
     ensures { result
-        ≡ capped (in_arguments (count_of table.now.entries) (arguments_view arguments.now)) }
+        ≡ capped (in_arguments (counts table.now) (arguments_view arguments.now)) }
 {
     let positional = in_positional(&arguments.positional, table);
     let named = in_named(&arguments.named, table);
@@ -113,7 +113,7 @@ fn in_arguments<'s>(arguments: &CallArguments<'s>, table: &Table<'s>) -> u64
 #[cycle(counting)]
 fn in_positional<'s>(positional: &[InlineExpression<'s>], table: &Table<'s>) -> u64
     ensures { result
-        ≡ capped (in_positional (count_of table.now.entries) (inlines_view positional.now)) }
+        ≡ capped (in_positional (counts table.now) (inlines_view positional.now)) }
 {
     let mut total: u64 = 0;
     for argument in positional {
@@ -125,7 +125,7 @@ fn in_positional<'s>(positional: &[InlineExpression<'s>], table: &Table<'s>) -> 
 
 #[cycle(counting)]
 fn in_named<'s>(named: &[NamedArgument<'s>], table: &Table<'s>) -> u64
-    ensures { result ≡ capped (in_named (count_of table.now.entries) (nameds_view named.now)) }
+    ensures { result ≡ capped (in_named (counts table.now) (nameds_view named.now)) }
 {
     let mut total: u64 = 0;
     for argument in named {
@@ -137,7 +137,7 @@ fn in_named<'s>(named: &[NamedArgument<'s>], table: &Table<'s>) -> u64
 
 /// The count of a place, or 0 where none is known.
 fn count_at<'s>(place: &Place<'s>, table: &Table<'s>) -> u64
-    ensures { result ≡ capped (count_of table.now.entries (place_view place.now)) }
+    ensures { result ≡ capped (counts table.now (place_view place.now)) }
 {
     match table.get(place) {
         Some(Some(count)) => *count,

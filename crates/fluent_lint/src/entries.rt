@@ -1,10 +1,8 @@
 //! The places of entries.
 
 ghost use Rattle.std.specs.Prelude.{◌≡◌, IfOk, OnOk, map};
-ghost use Rattle.fluent_tree.specs.Tree.{no_attribute};
-ghost use Rattle.fluent_tree.specs.View.{attribute_view, entry_view};
-ghost use Rattle.fluent_clean.specs.Places.{of_message, of_term};
-ghost use Rattle.fluent_lint.specs.EntryPlaces.{AddsPlaces, places_in, places_of, attribute_places};
+ghost use Rattle.fluent_tree.specs.View.{entry_view};
+ghost use Rattle.fluent_lint.specs.EntryPlaces.{AddsOfMessage, AddsOfTerm, AddsPlaces, places_in, places_of};
 ghost use Rattle.fluent_lint.specs.Findings.{views};
 
 use crate::place::Place;
@@ -28,8 +26,7 @@ pub fn places_of<'s>(alloc: Global, entries: &[Entry<'s>]) -> Result<Vec<Place<'
 
 #[tactic(auto, using(crate::proofs::PlaceLists::pushed_then))]
 fn add_entry<'s>(entry: &Entry<'s>, places: &mut Vec<Place<'s>>) -> Result<(), AllocError>
-    ensures { OnOk result
-        (AddsPlaces places.old.items places.new.items (places_of (entry_view entry.now))) }
+    ensures { OnOk result (AddsPlaces places.old places.new (places_of (entry_view entry.now))) }
 {
     match entry {
         Entry::Message(message) => {
@@ -49,8 +46,7 @@ fn add_of_message<'s>(
     attributes: &[Attribute<'s>],
     places: &mut Vec<Place<'s>>,
 ) -> Result<(), AllocError>
-    ensures { OnOk result (AddsPlaces places.old.items places.new.items
-        (attribute_places (of_message id.entry.name.now) (map attribute_view attributes.now))) }
+    ensures { OnOk result (AddsOfMessage id.entry attributes.now places.old places.new) }
 {
     for attribute in attributes {
         places.push(Place::Message(id, Some(attribute.id)))?;
@@ -63,8 +59,7 @@ fn add_of_term<'s>(
     attributes: &[Attribute<'s>],
     places: &mut Vec<Place<'s>>,
 ) -> Result<(), AllocError>
-    ensures { OnOk result (AddsPlaces places.old.items places.new.items
-        (attribute_places (of_term id.entry.name.now) (map attribute_view attributes.now))) }
+    ensures { OnOk result (AddsOfTerm id.entry attributes.now places.old places.new) }
 {
     for attribute in attributes {
         places.push(Place::Term(id, Some(attribute.id)))?;

@@ -3,10 +3,10 @@
 ghost use Rattle.std.specs.Prelude.{◌≡◌, ◌↔◌, IfOk, OnOk, IsTrue};
 ghost use Rattle.fluent_tree.specs.View.{arguments_view, expression_view, inline_view, pattern_view};
 ghost use Rattle.fluent_tree.specs.References.{inlines_view, nameds_view, variants_view};
-ghost use Rattle.fluent_clean.specs.Needs.{a_default, has_default, unless, needs, in_arguments, in_expression, in_inline, in_named, in_positional, in_variants};
-ghost use Rattle.fluent_lint.specs.NeedsView.{AddsNeeds, need_view, needs_view};
+ghost use Rattle.fluent_clean.specs.Needs.{has_default, needs, in_arguments, in_expression, in_inline, in_named, in_positional, in_variants};
+ghost use Rattle.fluent_lint.specs.NeedsView.{Appends, missing_default, need_view, needs_view};
 ghost use Rattle.fluent_lint.specs.PlaceView.{place_view};
-ghost use Rattle.fluent_lint.specs.Table.{IsOfPlace, RefersIn};
+ghost use Rattle.fluent_lint.specs.Table.{IsOfPlace, Refers};
 
 use crate::place::{Place, same_place};
 use fluent_tree::ast::{
@@ -54,8 +54,7 @@ pub fn refers_to<'s>(
     pattern: &Pattern<'s>,
     place: &Place<'s>,
 ) -> Result<bool, AllocError>
-    ensures { IfOk result (λ yes. IsTrue yes
-        ↔ RefersIn (needs (pattern_view pattern.now)) (place_view place.now)) }
+    ensures { IfOk result (λ yes. IsTrue yes ↔ Refers pattern.now place.now) }
 {
     let list = needs(alloc, pattern)?;
     for need in &list {
@@ -82,7 +81,7 @@ fn add_pattern<'t, 's>(
     list: &mut Vec<Need<'t, 's>>,
     pattern: &'t Pattern<'s>,
 ) -> Result<(), AllocError>
-    ensures { OnOk result (AddsNeeds list.old list.new (needs (pattern_view pattern.now))) }
+    ensures { OnOk result (Appends list.old list.new (needs (pattern_view pattern.now))) }
 {
     for element in &pattern.elements {
         if let PatternElement::Placeable { expression } = element {
@@ -98,7 +97,7 @@ fn add_expression<'t, 's>(
     expression: &'t Expression<'s>,
 ) -> Result<(), AllocError>
     ensures { OnOk result
-        (AddsNeeds list.old list.new (in_expression (expression_view expression.now))) }
+        (Appends list.old list.new (in_expression (expression_view expression.now))) }
 {
     match expression {
         Expression::Inline(inline) => add_inline(list, inline),
@@ -116,7 +115,7 @@ fn add_default<'t, 's>(
     variants: &[Variant<'s>],
 ) -> Result<(), AllocError>
     ensures { OnOk result
-        (AddsNeeds list.old list.new (unless (has_default (variants_view variants.now)) a_default)) }
+        (Appends list.old list.new (missing_default variants.now)) }
 {
     if !has_default(variants) {
         list.push(Need::Default)?;
@@ -141,7 +140,7 @@ fn add_variants<'t, 's>(
     list: &mut Vec<Need<'t, 's>>,
     variants: &'t [Variant<'s>],
 ) -> Result<(), AllocError>
-    ensures { OnOk result (AddsNeeds list.old list.new (in_variants (variants_view variants.now))) }
+    ensures { OnOk result (Appends list.old list.new (in_variants (variants_view variants.now))) }
 {
     for variant in variants {
         add_pattern(list, &variant.value)?;
@@ -154,7 +153,7 @@ fn add_inline<'t, 's>(
     list: &mut Vec<Need<'t, 's>>,
     inline: &'t InlineExpression<'s>,
 ) -> Result<(), AllocError>
-    ensures { OnOk result (AddsNeeds list.old list.new (in_inline (inline_view inline.now))) }
+    ensures { OnOk result (Appends list.old list.new (in_inline (inline_view inline.now))) }
 {
     match inline {
         InlineExpression::FunctionReference { id, arguments } => {
@@ -190,7 +189,7 @@ fn add_arguments<'t, 's>(
     list: &mut Vec<Need<'t, 's>>,
     arguments: &'t CallArguments<'s>,
 ) -> Result<(), AllocError>
-    ensures { OnOk result (AddsNeeds list.old list.new (in_arguments (arguments_view arguments.now))) }
+    ensures { OnOk result (Appends list.old list.new (in_arguments (arguments_view arguments.now))) }
 {
     add_positional(list, &arguments.positional)?;
     add_named(list, &arguments.named)
@@ -201,7 +200,7 @@ fn add_positional<'t, 's>(
     list: &mut Vec<Need<'t, 's>>,
     positional: &'t [InlineExpression<'s>],
 ) -> Result<(), AllocError>
-    ensures { OnOk result (AddsNeeds list.old list.new (in_positional (inlines_view positional.now))) }
+    ensures { OnOk result (Appends list.old list.new (in_positional (inlines_view positional.now))) }
 {
     for argument in positional {
         add_inline(list, argument)?;
@@ -214,7 +213,7 @@ fn add_named<'t, 's>(
     list: &mut Vec<Need<'t, 's>>,
     named: &'t [NamedArgument<'s>],
 ) -> Result<(), AllocError>
-    ensures { OnOk result (AddsNeeds list.old list.new (in_named (nameds_view named.now))) }
+    ensures { OnOk result (Appends list.old list.new (in_named (nameds_view named.now))) }
 {
     for argument in named {
         add_inline(list, &argument.value)?;

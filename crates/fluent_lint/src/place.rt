@@ -1,11 +1,9 @@
 //! Patterns of a bundle, by how they are referred to.
 
 ghost use Rattle.std.specs.Prelude.{◌≡◌, ◌↔◌, IsTrue, map};
-ghost use Rattle.std.specs.Option.{option_map};
-ghost use Rattle.fluent_tree.specs.View.{attribute_of, attribute_view, pattern_view};
+ghost use Rattle.fluent_tree.specs.View.{attribute_of, attribute_view};
 ghost use Rattle.fluent_meaning.specs.Bundle.{first_of};
-ghost use Rattle.fluent_clean.specs.Places.{place_target};
-ghost use Rattle.fluent_lint.specs.PlaceView.{pattern_in, place_view};
+ghost use Rattle.fluent_lint.specs.PlaceView.{pattern_at, pattern_in, pattern_seen, place_view};
 
 use fluent_entries::GetEntry;
 use fluent_tree::ast::{Attribute, Identifier, Pattern};
@@ -86,8 +84,7 @@ pub fn pattern_at<'b, 's, F, B: GetEntry<'s, F>>(
     bundle: &'b B,
     place: &Place<'s>,
 ) -> Option<&'b Pattern<'s>>
-    ensures { option_map (λ p. pattern_view p.now) result
-        ≡ pattern_in (place_target (B.named bundle.now) (place_view place.now)) }
+    ensures { pattern_seen result ≡ pattern_at (B.named bundle.now) place.now }
 {
     match place {
         Place::Message(id, attribute) => {
@@ -109,7 +106,7 @@ pub fn pattern_at<'b, 's, F, B: GetEntry<'s, F>>(
 
 /// The first attribute of a name.
 fn attribute_named<'b, 's>(attributes: &'b [Attribute<'s>], name: &str) -> Option<&'b Pattern<'s>>
-    ensures { option_map (λ p. pattern_view p.now) result
+    ensures { pattern_seen result
         ≡ pattern_in (first_of name.now (map attribute_view attributes.now)) }
 {
     for attribute in attributes {

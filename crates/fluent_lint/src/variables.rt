@@ -2,9 +2,9 @@
 
 ghost use Rattle.std.specs.Prelude.{◌≡◌, ◌↔◌, IfOk, OnOk, IsTrue, map};
 ghost use Rattle.fluent_clean.specs.Clean.{IsAmong};
-ghost use Rattle.fluent_lint.specs.Asked.{AreAsked, AreDistinct, texts};
+ghost use Rattle.fluent_lint.specs.Asked.{AreAskedAt, AreDistinct, texts};
 ghost use Rattle.fluent_lint.specs.Findings.{views};
-ghost use Rattle.fluent_lint.specs.Inside.Reached.{Adds, NotedAt, NotesOf};
+ghost use Rattle.fluent_lint.specs.Inside.Reached.{Adds, AddsPlace, NotedAt, Notes};
 ghost use Rattle.fluent_lint.specs.NeedsView.{need_view};
 ghost use Rattle.fluent_lint.specs.PlaceView.{place_view};
 
@@ -25,8 +25,7 @@ pub fn variables_of<'s, F, B: GetEntry<'s, F>>(
     bundle: &B,
     place: &Place<'s>,
 ) -> Result<Vec<&'s str>, AllocError>
-    ensures asked { IfOk result (λ names. AreAsked (B.named bundle.now) (place_view place.now)
-        (texts names.items)) }
+    ensures asked { IfOk result (AreAskedAt (B.named bundle.now) place.now) }
     ensures distinct { IfOk result (λ names. AreDistinct (texts names.items)) }
 {
     let mut reached: Vec<Place<'s>> = Vec::new(alloc);
@@ -49,9 +48,8 @@ fn note<'s, F, B: GetEntry<'s, F>>(
     reached: &mut Vec<Place<'s>>,
     names: &mut Vec<&'s str>,
 ) -> Result<(), AllocError>
-    ensures { OnOk result (NotedAt (B.named bundle.now) (place_view place.now)
-        (views reached.old.items) (views reached.new.items)
-        (texts names.old.items) (texts names.new.items)) }
+    ensures { OnOk result
+        (NotedAt (B.named bundle.now) place.now reached.old reached.new names.old names.new) }
 {
     let Some(pattern) = pattern_at(bundle, place) else {
         return Ok(());
@@ -66,9 +64,8 @@ fn note_all<'s>(
     reached: &mut Vec<Place<'s>>,
     names: &mut Vec<&'s str>,
 ) -> Result<(), AllocError>
-    ensures { OnOk result (NotesOf (map need_view list.now)
-        (views reached.old.items) (views reached.new.items)
-        (texts names.old.items) (texts names.new.items)) }
+    ensures { OnOk result
+        (Notes (map need_view list.now) reached.old reached.new names.old names.new) }
 {
     for need in list {
         match need {
@@ -111,8 +108,7 @@ fn same_name(a: &str, b: &str) -> bool
 
 /// Adds a place that isn't there.
 fn add_place<'s>(places: &mut Vec<Place<'s>>, place: Place<'s>) -> Result<(), AllocError>
-    ensures { OnOk result
-        (Adds (place_view place.entry) (views places.old.items) (views places.new.items)) }
+    ensures { OnOk result (AddsPlace place.entry places.old places.new) }
 {
     if !has_place(places, &place) {
         places.push(place)?;

@@ -2,5 +2,5 @@ mod Among
 mod Missing
 mod Telling
 mod Round
+mod Again
 mod Linted
-mod Defined

@@ -11,10 +11,9 @@ use Rattle.fluent_meaning.specs.Result.{written_pattern, substituted_pattern}
 use Rattle.fluent_meaning.specs.Value.{Value}
 use Rattle.fluent_clean.specs.Places.{Place, place_target}
 use Rattle.fluent_clean.specs.Clean.{names_of, AreGiven}
-use Rattle.fluent_lint.specs.Asked.{AreAsked, AreDistinct, texts}
+use Rattle.fluent_lint.specs.Asked.{AreAskedAt, AreDistinct, texts}
 use Rattle.fluent_lint.specs.EntryPlaces as entries
 use Rattle.fluent_lint.specs.Findings.{IsFine}
-use Rattle.fluent_lint.specs.PlaceView.{place_view}
 use Rattle.fluent_lint.specs.declared.place.Place as code
 use Rattle.fluent_bundle.specs.BundleView.{entries_of}
 use Rattle.fluent_bundle.specs.declared.bundle.FluentBundle.{FluentBundle}
@@ -45,4 +44,4 @@ lints of b rs result = IfOk result (λ fs. Lints (of b) (places_in rs) fs.items)
 
 -- what stands at a place asks the arguments for exactly these variables, each of which is listed once
 abbrev pub asks : {M C F G X E : Type 0} → (FluentBundle M C F G X → Bundle Text) → FluentBundle M C F G X → code.Place → Result (Vec (Bor Text) Global) E → Type 0
-asks of b x result = IfOk result (λ names. AreAsked (names_of (of b)) (place_view x) (texts names.items) × AreDistinct (texts names.items))
+asks of b x result = IfOk result (λ names. AreAskedAt (names_of (of b)) x names × AreDistinct (texts names.items))

@@ -1,7 +1,6 @@
 -- What is told of sources: ids that are defined again, and parts that can't be read.
-use Rattle.std.specs.Prelude.{◌≡◌, ◌⊎◌, ◌<◌, List, map, Option, Some, None}
-use Rattle.std.specs.List.{AllByRecursion, slice_get}
-use Rattle.std.specs.Option.{option_and_then}
+use Rattle.std.specs.Prelude.{◌≡◌, ℕ, suc, List, [], ◌∷◌, ◌++◌, map, Option, Some, None, bytes_eq}
+use Rattle.std.specs.Map.{lookup}
 use Rattle.std.specs.declared.vec.Vec.{Vec}
 use Rattle.std.proofs.Common.{Global}
 use Rattle.fluent_tree.specs.Tree.{Text, Entry, message_entry, term_entry, junk_entry}
@@ -13,31 +12,58 @@ use Rattle.fluent_bundle.specs.declared.resource.FluentResource.{FluentResource}
 use Rattle.fluent_linter.specs.declared.sources.Definition.{Definition}
 use Rattle.fluent_linter.specs.declared.sources.Twice.{Twice}
 
+-- ---- what is defined
+
+-- an id, and where it is defined
+abbrev pub Defined : Type 0
+Defined = Text × Definition
+
 abbrev pub id_of : Entry → Option Text
 id_of (message_entry id v as') = Some id
 id_of (term_entry id p as') = Some id
 id_of (junk_entry source) = None
 
--- the id of the entry that stands there, if it has one
-abbrev pub id_at : List FluentResource → Definition → Option Text
-id_at rs d = option_and_then (λ r. option_and_then id_of (slice_get (entries_of r) d.entry)) (slice_get rs d.resource)
+-- what an entry that stands there defines
+abbrev pub defined_if : Option Text → Definition → List Defined
+defined_if None here = []
+defined_if (Some id) here = (id, here) ∷ []
 
--- in an earlier resource, or earlier in the same
-abbrev pub IsBefore : Definition → Definition → Type 0
-IsBefore a b = (a.resource < b.resource) ⊎ ((a.resource ≡ b.resource) × (a.entry < b.entry))
+-- what entries of a resource define, of which the first is its entry k
+abbrev pub defined_from : ℕ → ℕ → List Entry → List Defined
+defined_from r k [] = []
+defined_from r k (e ∷ es) = defined_if (id_of e) (record { resource = r; entry = k }) ++ defined_from r (suc k) es
 
--- Both entries have the id, one after the other.
-pub record IsTwice (rs : List FluentResource) (t : Twice) : Type 0 where
-  pub first : id_at rs t.first ≡ Some t.id.now
-  pub again : id_at rs t.again ≡ Some t.id.now
-  pub before : IsBefore t.first t.again
+-- what resources define, in order, of which the first has the number r
+abbrev pub defined_in : ℕ → List FluentResource → List Defined
+defined_in r [] = []
+defined_in r (x ∷ xs) = defined_from r 0 (entries_of x) ++ defined_in (suc r) xs
 
+-- ---- what is defined again
+
+-- an id, its first definition, and another one after it
+abbrev pub Again : Type 0
+Again = Text × (Definition × Definition)
+
+abbrev pub first_of : Text → List Defined → Option Definition
+first_of id ds = lookup (bytes_eq id) ds
+
+abbrev pub again_if : Option Definition → Defined → List Again
+again_if None d = []
+again_if (Some first) d = (d.0, (first, d.1)) ∷ []
+
+-- Of some definitions, each whose id was defined before it, with the first one of that id; before them stand others.
+abbrev pub again_after : List Defined → List Defined → List Again
+again_after before [] = []
+again_after before (d ∷ ds) = again_if (first_of d.0 before) d ++ again_after (before ++ d ∷ []) ds
+
+abbrev pub again_view : Twice → Again
+again_view t = (t.id.now, (t.first, t.again))
+
+-- these are all that is defined again, in order
 abbrev pub AreTwice : List FluentResource → Vec Twice Global → Type 0
-AreTwice rs list = AllByRecursion (IsTwice rs) list.items
+AreTwice rs list = map again_view list.items ≡ again_after [] (defined_in 0 rs)
 
--- more are such ones
-abbrev pub KeepsTwice : List FluentResource → Vec Twice Global → Vec Twice Global → Type 0
-KeepsTwice rs old new = AreTwice rs old → AreTwice rs new
+-- ---- what can't be read
 
 -- these are the byte ranges of what can't be read
 abbrev pub AreUnreadable : Text → Vec ParserError Global → Type 0

@@ -2,7 +2,7 @@
 
 ghost use Rattle.std.specs.Prelude.{IfOk, OnOk};
 ghost use Rattle.fluent_tree.specs.View.{attribute_of};
-ghost use Rattle.fluent_linter.specs.Inside.Telling.{AddsFor, AddsLarge, FindsAll, Makes, MakesMissing, MissesMessage, MissesTerm};
+ghost use Rattle.fluent_linter.specs.Inside.Telling.{Adds, AddsLarge, FindsAll, Makes, MakesMissing, MissesMessage, MissesTerm};
 
 use crate::cycles::add_cycles;
 use crate::finding::{Finding, Kind};
@@ -37,7 +37,7 @@ fn add_causes<'s, F, B: GetEntry<'s, F>>(
     findings: &mut Vec<Finding<'s>>,
 ) -> Result<(), AllocError>
     ensures { OnOk result
-        (AddsFor (B.named bundle.now) place.now causes.now findings.old findings.new) }
+        (Adds (B.named bundle.now) place.now causes.now findings.old findings.new) }
 {
     for cause in causes {
         findings.push(Finding {

@@ -1,9 +1,10 @@
 //! What is told of sources, without a bundle.
 
-ghost use Rattle.std.specs.Prelude.{◌≡◌, ◌↔◌, IfOk, OnOk, IsTrue, Some};
+ghost use Rattle.std.specs.Prelude.{◌≡◌, [], ◌∷◌, IfOk, OnOk, map};
 ghost use Rattle.std.specs.Option.{option_map};
 ghost use Rattle.fluent_tree.specs.View.{entry_view};
-ghost use Rattle.fluent_linter.specs.Twice.{AreTwice, AreUnreadable, IsBefore, KeepsTwice, id_at, id_of};
+ghost use Rattle.fluent_linter.specs.Twice.{AreTwice, AreUnreadable, defined_from, defined_if, id_of};
+ghost use Rattle.fluent_linter.specs.Inside.Seen.{GoesOver, noted_first};
 ghost use Rattle.fluent_lint.specs.Findings.{views};
 ghost use Rattle.fluent_linter.specs.Lints.{places_in};
 ghost use Rattle.fluent_bundle.specs.BundleView.{source_in};
@@ -27,6 +28,13 @@ pub struct Twice<'s> {
     /// The first definition of it.
     pub first: Definition,
     pub again: Definition,
+}
+
+/// What is noted of definitions: where each id is defined first, and what is defined again.
+#[derive(Drop)]
+pub(crate) struct Seen<'s> {
+    firsts: IndexMap<&'s str, Definition>,
+    list: Vec<Twice<'s>>,
 }
 
 /// The values and attributes of resources, in order.
@@ -62,7 +70,8 @@ pub fn unreadable(
     }
 }
 
-/// The ids that are defined again, in order.
+/// The ids that are defined again, in order: of each entry whose id an earlier one has, in the same resource or in one
+/// before it, where it stands, and where the first entry with that id does.
 ///
 /// # Errors
 ///
@@ -73,76 +82,73 @@ pub fn defined_twice<'s>(
 ) -> Result<Vec<Twice<'s>>, AllocError>
     ensures { IfOk result (AreTwice resources.now) }
 {
-    let mut firsts: IndexMap<&'s str, Definition> = IndexMap::new(alloc);
-    let mut list = Vec::new(alloc);
+    let mut seen = Seen {
+        firsts: IndexMap::new(alloc),
+        list: Vec::new(alloc),
+    };
     for (i, resource) in resources.iter().enumerate() {
-        for (k, entry) in resource.entries().enumerate() {
-            if let Some(id) = id_of(entry) {
-                let here = Definition {
-                    resource: i,
-                    entry: k,
-                };
-                match first_of(&mut firsts, id, here)? {
-                    Some(first) => add_twice(resources, id, first, here, &mut list)?,
-                    None => {}
-                }
-            }
-        }
+        add_entries(i, resource.entries().as_slice(), &mut seen)?;
     }
-    Ok(list)
+    Ok(seen.list)
 }
 
-/// The first definition of an id, or `None` where it is this one, which is noted then.
-fn first_of<'s>(
-    firsts: &mut IndexMap<&'s str, Definition>,
-    id: &'s str,
-    here: Definition,
-) -> Result<Option<Definition>, AllocError> {
-    match firsts.get(&id) {
-        Some(first) => Ok(Some(*first)),
-        None => {
-            firsts.insert(id, here)?;
-            Ok(None)
-        }
-    }
-}
-
-/// Adds what is defined twice, once it is seen again that it is.
-fn add_twice<'s>(
-    resources: &[FluentResource<'s>],
-    id: &'s str,
-    first: Definition,
-    again: Definition,
-    list: &mut Vec<Twice<'s>>,
+/// Goes over the entries of a resource.
+fn add_entries<'s>(
+    resource: usize,
+    entries: &[ast::Entry<'s>],
+    seen: &mut Seen<'s>,
 ) -> Result<(), AllocError>
-    ensures { OnOk result (KeepsTwice resources.now list.old list.new) }
+    ensures { OnOk result
+        (GoesOver (defined_from resource 0 (map entry_view entries.now)) seen.old seen.new) }
 {
-    if defines(resources, first, id) && defines(resources, again, id) && is_before(first, again) {
-        list.push(Twice { id, first, again })?;
+    for (k, entry) in entries.iter().enumerate() {
+        let here = Definition { resource, entry: k };
+        add_entry(here, entry, seen)?;
     }
     Ok(())
 }
 
-/// Whether one entry stands before another.
-fn is_before(a: Definition, b: Definition) -> bool
-    ensures { IsTrue result ↔ IsBefore a b }
+/// Goes over an entry that stands there.
+fn add_entry<'s>(
+    here: Definition,
+    entry: &ast::Entry<'s>,
+    seen: &mut Seen<'s>,
+) -> Result<(), AllocError>
+    ensures { OnOk result
+        (GoesOver (defined_if (id_of (entry_view entry.now)) here) seen.old seen.new) }
 {
-    a.resource < b.resource || (a.resource == b.resource && a.entry < b.entry)
+    match id_of(entry) {
+        Some(id) => add_id(id, here, seen),
+        None => Ok(()),
+    }
 }
 
-/// Whether an id is defined there.
-fn defines(resources: &[FluentResource<'_>], at: Definition, id: &str) -> bool
-    ensures { IsTrue result → id_at resources.now at ≡ Some id.now }
+/// Notes an id that is defined there: as the first one, or again.
+fn add_id<'s>(id: &'s str, here: Definition, seen: &mut Seen<'s>) -> Result<(), AllocError>
+    ensures { OnOk result (GoesOver ((id.now, here) ∷ []) seen.old seen.new) }
 {
-    let Some(resource) = resources.get(at.resource) else {
-        return false;
-    };
-    let Some(entry) = resource.get_entry(at.entry) else {
-        return false;
-    };
-    match id_of(entry) {
-        Some(found) => found == id,
-        None => false,
+    match first_of(seen, id) {
+        Some(first) => {
+            seen.list.push(Twice {
+                id,
+                first,
+                again: here,
+            })?;
+        }
+        None => {
+            seen.firsts.insert(id, here)?;
+        }
+    }
+    Ok(())
+}
+
+/// Where an id is defined first, if it was seen.
+fn first_of(seen: &Seen<'_>, id: &str) -> Option<Definition>
+    ensures { result ≡ noted_first id.now seen.now }
+{
+    match seen.firsts.get(&id) {
+        Some(first) => Some(*first),
+        None => None,
     }
 }
 

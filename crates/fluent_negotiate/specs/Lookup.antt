@@ -1,8 +1,10 @@
 -- The languages that serve somebody, by the look-up of RFC 4647, section 3.4. Language ranges and tags are texts, as
 -- `zh-Hant-CN`; letters are alike in either case, and so are `-` and `_`.
-use Rattle.std.specs.Prelude.{ℕ, Bool, ◌==◌, ◌&&◌, ◌||◌, ◌-◌, not, List, [], ◌∷◌, ◌++◌, length, drop, slice_index, map, Option, None}
+use Rattle.std.specs.Prelude.{◌≡◌, ℕ, Bool, ◌==◌, ◌&&◌, ◌||◌, ◌-◌, not, List, [], ◌∷◌, ◌++◌, length, drop, slice_index, map, Option, None}
 use Rattle.std.specs.List.{filter, filter_map, position_from}
 use Rattle.std.specs.Option.{option_or}
+use Rattle.std.specs.declared.vec.Vec.{Vec}
+use Rattle.std.proofs.Common.{Global}
 use Rattle.fluent_text.specs.Parser.{Text}
 use Rattle.fluent_intl.specs.Languages.{is_separator, same_tag, shortened}
 
@@ -46,3 +48,7 @@ negotiated requested available default = each_once (filter_map (lookup available
 -- the same of what holds the ranges and the tags
 abbrev pub served : {R A : Type 0} → (R → Text) → (A → Text) → List R → List A → Text → List ℕ
 served range tag requested available default = negotiated (map range requested) (map tag available) default
+
+-- these are the places of those languages
+abbrev pub AreServed : {R A : Type 0} → (R → Text) → (A → Text) → List R → List A → Text → Vec ℕ Global → Type 0
+AreServed range tag requested available default places = places.items ≡ served range tag requested available default

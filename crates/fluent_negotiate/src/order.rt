@@ -1,7 +1,7 @@
 //! The languages that serve somebody, in order.
 ghost use Rattle.std.specs.Prelude.{◌≡◌, [], IfOk, OnOk, IsOk};
 ghost use Rattle.fluent_negotiate.specs.Inside.PlaceAmong.{with_place};
-ghost use Rattle.fluent_negotiate.specs.Lookup.{served};
+ghost use Rattle.fluent_negotiate.specs.Lookup.{AreServed, served};
 
 use crate::ranges::lookup;
 use std::alloc::{AllocError, Global};
@@ -22,8 +22,8 @@ pub fn negotiate<R: AsStr, A: AsStr>(
     available: &[A],
     default: &str,
 ) -> Result<Vec<usize>, AllocError>
-    ensures order { IfOk result (λ places. places.items
-        ≡ served R.text A.text requested.now available.now default.now) }
+    ensures order { IfOk result
+        (AreServed R.text A.text requested.now available.now default.now) }
     ensures succeeds { served R.text A.text requested.now available.now default.now ≡ [] → IsOk result }
 {
     let mut places = Vec::new(alloc);

@@ -1,12 +1,18 @@
 -- What is noted of places while variables are gathered.
 use Rattle.std.specs.Prelude.{◌≡◌, ◌⊎◌, ℕ, List, [], ◌∷◌, ◌++◌, take}
 use Rattle.std.specs.List.{AllByRecursion}
-use Rattle.fluent_tree.specs.Tree.{Text, Attribute, Pattern}
+use Rattle.std.specs.Borrow.{Bor}
+use Rattle.std.specs.declared.vec.Vec.{Vec}
+use Rattle.std.proofs.Common.{Global}
+use Rattle.fluent_tree.specs.Tree.{Text, Attribute}
 use Rattle.fluent_meaning.specs.Bundle.{Target, unknown, without_value, found}
 use Rattle.fluent_clean.specs.Places.{Place, of_message, Names, place_target}
 use Rattle.fluent_clean.specs.Needs.{Need, a_message, a_variable, needs}
 use Rattle.fluent_clean.specs.Clean.{IsAmong}
-use Rattle.fluent_lint.specs.Asked.{AsksForAt, AreDistinct}
+use Rattle.fluent_lint.specs.Asked.{AsksForAt, AreDistinct, texts}
+use Rattle.fluent_lint.specs.Findings.{views}
+use Rattle.fluent_lint.specs.PlaceView.{place_view}
+use Rattle.fluent_lint.specs.declared.place.Place as code
 
 -- it is added where it isn't there
 abbrev pub Adds : {A : Type 0} → A → List A → List A → Type 0
@@ -35,9 +41,19 @@ needs_there (found p) = needs p
 abbrev pub needs_at : Names Text → Place → List Need
 needs_at named x = needs_there (place_target named x)
 
--- those of what stands at a place
-abbrev pub NotedAt : Names Text → Place → List Place → List Place → List Text → List Text → Type 0
-NotedAt named x xs xs' vs vs' = NotesOf (needs_at named x) xs xs' vs vs'
+-- ---- of the code's lists
+
+-- a place is added where it isn't there
+abbrev pub AddsPlace : code.Place → Vec code.Place Global → Vec code.Place Global → Type 0
+AddsPlace x old new = Adds (place_view x) (views old.items) (views new.items)
+
+-- the messages and the variables among these needs are added
+abbrev pub Notes : List Need → Vec code.Place Global → Vec code.Place Global → Vec (Bor Text) Global → Vec (Bor Text) Global → Type 0
+Notes ns xs xs' vs vs' = NotesOf ns (views xs.items) (views xs'.items) (texts vs.items) (texts vs'.items)
+
+-- those among the needs of what stands at a place
+abbrev pub NotedAt : Names Text → code.Place → Vec code.Place Global → Vec code.Place Global → Vec (Bor Text) Global → Vec (Bor Text) Global → Type 0
+NotedAt named x xs xs' vs vs' = Notes (needs_at named (place_view x)) xs xs' vs vs'
 
 -- What stands at a place was gone through: its variables and its messages are there.
 abbrev pub IsThrough : Names Text → List Place → List Text → Place → Type 0

@@ -1,10 +1,14 @@
 -- What is known of causes and findings while places are looked at.
 use Rattle.std.specs.Prelude.{◌≡◌, ◌⊎◌, ℕ, ◌+◌, List, [], ◌∷◌, false, Option, Some, None, map}
 use Rattle.std.specs.List.{AllByRecursion}
+use Rattle.std.specs.declared.vec.Vec.{Vec}
+use Rattle.std.proofs.Common.{Global}
 use Rattle.fluent_tree.specs.Tree.{Text}
+use Rattle.fluent_tree.specs.View.{pattern_view}
+use Rattle.fluent_tree.specs.declared.ast.Pattern as tree
 use Rattle.fluent_meaning.specs.Bundle.{is_function}
 use Rattle.fluent_clean.specs.Places.{Place, Names, place_target}
-use Rattle.fluent_clean.specs.Needs.{Need, a_function, a_default}
+use Rattle.fluent_clean.specs.Needs.{Need, a_function, a_default, needs}
 use Rattle.fluent_clean.specs.Clean.{IsAmong, LeadsOn}
 use Rattle.fluent_lint.specs.PlaceView.{place_view}
 use Rattle.fluent_lint.specs.Table.{Known, known_of, count_of, AreRight, IsRight, IsWell, place_of}
@@ -52,6 +56,10 @@ IsAnswered named known cs n = IsWell named known n ⊎ ((c : Cause) × IsAmong c
 pub record Explained (named : Names Text) (known : Known) (all some : List Need) (cs : List Cause) : Type 0 where
   pub each : AllByRecursion (λ c. (n : Need) × IsAmong n all × Explains named known n c) cs
   pub every : AllByRecursion (IsAnswered named known cs) some
+
+-- each need of a pattern of the code is answered by these causes, which are of its needs
+abbrev pub IsExplainedBy : Names Text → Known → tree.Pattern → Vec Cause Global → Type 0
+IsExplainedBy named known p cs = Explained named known (needs (pattern_view p)) (needs (pattern_view p)) cs.items
 
 -- the same of the needs of what stands at a place
 pub record ExplainedAt (named : Names Text) (known : Known) (x : Place) (cs : List Cause) : Type 0 where

@@ -72,8 +72,8 @@ pub record AddsLarge (limit : ℕ) (ls : List Large) (old new : List Finding) : 
 -- ---- of the code's lists
 
 -- to old findings, one for each of these causes at a place
-abbrev pub AddsFor : Names Text → code.Place → List Cause → Vec Finding Global → Vec Finding Global → Type 0
-AddsFor named x cs old new = AddsCauses named (place_view x) cs old.items new.items
+abbrev pub Adds : Names Text → code.Place → List Cause → Vec Finding Global → Vec Finding Global → Type 0
+Adds named x cs old new = AddsCauses named (place_view x) cs old.items new.items
 
 -- whatever the limit, only true ones
 abbrev pub AddsCycles : Names Text → Vec Finding Global → Vec Finding Global → Type 0

@@ -2,8 +2,6 @@ use mathlib.Core.Bool.{true≢false}
 use Rattle.std.proofs.Common.{inl, inr, refl, sym, subst, ◌∙◌}
 use Rattle.fluent_clean.specs.Clean.{IsAmong}
 use Rattle.fluent_lint.specs.Asked.{texts}
-use Rattle.fluent_lint.specs.Findings.{views}
-use Rattle.fluent_lint.specs.PlaceView.{place_view}
 use Rattle.fluent_lint.proofs.Growing.{among_at, so_far}
 use Rattle.fluent_lint.proofs.Gathering.{got_self}
 use Rattle.fluent_lint.proofs.variables.has_name.Goals as goal

@@ -1,8 +1,6 @@
 use Rattle.std.proofs.Common.{take}
 use Rattle.fluent_clean.specs.Clean.{IsAmong}
 use Rattle.fluent_lint.specs.Asked.{texts}
-use Rattle.fluent_lint.specs.Findings.{views}
-use Rattle.fluent_lint.specs.PlaceView.{place_view}
 use Rattle.fluent_lint.proofs.variables.has_name.Given as goal
 
 abbrev pub invariant-loop-one : goal.invariant-loop-one

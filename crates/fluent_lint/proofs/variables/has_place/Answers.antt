@@ -1,7 +1,6 @@
 use mathlib.Core.Bool.{true≢false}
 use Rattle.std.proofs.Common.{inl, inr, refl, sym, subst, ◌∙◌}
 use Rattle.fluent_clean.specs.Clean.{IsAmong}
-use Rattle.fluent_lint.specs.Asked.{texts}
 use Rattle.fluent_lint.specs.Findings.{views}
 use Rattle.fluent_lint.specs.PlaceView.{place_view}
 use Rattle.fluent_lint.proofs.Growing.{among_at, so_far}

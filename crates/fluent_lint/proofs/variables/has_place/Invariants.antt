@@ -1,6 +1,5 @@
 use Rattle.std.proofs.Common.{take}
 use Rattle.fluent_clean.specs.Clean.{IsAmong}
-use Rattle.fluent_lint.specs.Asked.{texts}
 use Rattle.fluent_lint.specs.Findings.{views}
 use Rattle.fluent_lint.specs.PlaceView.{place_view}
 use Rattle.fluent_lint.proofs.variables.has_place.Given as goal

@@ -1,6 +1,5 @@
 use Rattle.std.proofs.Common.{◌≡◌, ◌<◌, ◌≤◌, get_or, length, rules, arith}
 use Rattle.fluent_lint.specs.Asked.{texts}
-use Rattle.fluent_lint.specs.Findings.{views}
 use Rattle.fluent_lint.specs.PlaceView.{place_view}
 use Rattle.fluent_lint.proofs.Growing.{among_at}
 use Rattle.fluent_lint.proofs.Gathering.{gathered_all, gathered_more}

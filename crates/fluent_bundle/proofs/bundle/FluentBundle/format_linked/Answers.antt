@@ -1,4 +1,4 @@
-use Rattle.std.proofs.Common.{rules, refl, sym, ap, ◌∙◌, [], append-nil}
+use Rattle.std.proofs.Common.{refl, sym, ap, ◌∙◌, [], append-nil}
 use Rattle.std.specs.Option.{option_map, unwrap_or}
 use Rattle.fluent_tree.specs.View.{pattern_view}
 use Rattle.fluent_meaning.specs.Bundle.{transform_of, formatter_of}
