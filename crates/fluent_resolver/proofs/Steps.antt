@@ -1,8 +1,9 @@
 -- What each function of the resolver is to do, from its scope, as the steps of its code.
-use Rattle.std.proofs.Common.{[], ◌≡◌, refl, sym, ap, subst, ◌∙◌, ℕ, zero, suc, ◌<◌, length, get_or, List, ◌∷◌, ◌++◌, Bool, true, false, Option, Some, None, map, arith, unwrap_or, Result, Ok, IfOk}
+use Rattle.std.proofs.Common.{[], ◌≡◌, refl, sym, ap, subst, ◌∙◌, ℕ, zero, suc, ◌<◌, length, get_or, List, ◌∷◌, ◌++◌, Bool, true, false, Option, Some, None, map, arith, unwrap_or, Result, Ok, IfOk, true≢false, ◌&&◌, nat_eq}
+use Rattle.std.proofs.lemmas.Bool.{eqb-true}
 use Rattle.std.specs.Bool.{OnTrue, OnFalse}
 use Rattle.std.specs.Option.{option_map}
-use Rattle.fluent_tree.specs.Tree.{Text, Pattern, Inline, Expression, Attribute, Call, Arguments, placeable, select, text, function, term, pattern_of, inlines_of, nameds_of, variants_of, Element, more}
+use Rattle.fluent_tree.specs.Tree.{Text, Pattern, Inline, Expression, Attribute, Call, Arguments, placeable, select, text, string, number, message, variable, nested, call, function, term, pattern_of, inlines_of, nameds_of, variants_of, Element, more}
 use Rattle.fluent_tree.specs.Fallback.{fallback, in_braces}
 use Rattle.fluent_tree.specs.View.{pattern_view, element_view, expression_view, inline_view, named_view, variant_view, arguments_view}
 use Rattle.fluent_tree.specs.declared.ast.CallArguments as of_call
@@ -23,11 +24,12 @@ use Rattle.fluent_meaning.specs.Work.{Worked, with_work, work}
 use Rattle.fluent_meaning.specs.Laws.{CountsByItself}
 use Rattle.fluent_state.specs.WalkProgress.{Below, Walk, walked, from_here, given, mapping, Elsewhere, StartsPattern, EndsPattern, Enters, Leaves}
 use Rattle.fluent_state.specs.Choice.{choice, choosing, first_default}
+use Rattle.fluent_state.specs.Locals.{are_literals, has_literals_alone, is_literal, literal_value, literal_values}
 use Rattle.fluent_state.specs.Status.{Status}
 use Rattle.fluent_values.specs.View.{value_view}
 use Rattle.fluent_values.specs.declared.types.value.FluentValue.{FluentValue}
 use Rattle.fluent_values.specs.declared.types.value.FluentValue.TheVariants as values
-use Rattle.fluent_state.specs.Facts.Cases.{sequence, prepend, and_then, elements_end, elements_limit_reached, elements_more, part_text, positional_none, positional_more, named_none, named_more, given_first, tells, loses_is, expression_inline, expression_select, chosen, chosen_is, meant, entering, go_cyclic, go_entered, inner_longer, whole_is, written_term, written_function, and_then_is, mapping_then, then_give, called_is}
+use Rattle.fluent_state.specs.Facts.Cases.{sequence, prepend, and_then, elements_end, elements_limit_reached, elements_more, part_text, positional_none, positional_more, named_none, named_more, given_first, tells, loses_is, expression_inline, expression_select, chosen, chosen_is, meant, entering, go_cyclic, go_entered, inner_longer, whole_is, written_term, written_function, and_then_is, mapping_then, then_give, give_then, called_is, local_some, resolved_string, resolved_number}
 use Rattle.fluent_resolver.proofs.Bare.{entering_bare}
 use Rattle.fluent_state.specs.Facts.Views.{view_pattern, view_named, view_in, view_arguments}
 use Rattle.fluent_entries.specs.Texts.{IsTextAlone}
@@ -69,6 +71,14 @@ giving_limit_reached a one es b h =
     ∙ ap (given []) (sym h)
 
 -- ARGUMENTS
+
+and_true : (x y : Bool) → x && y ≡ true → (x ≡ true) × (y ≡ true)
+and_true true y h = (refl, h)
+and_true false y h = absurd (true≢false (sym h))
+
+no_items : {X : Type 0} (xs : List X) → nat_eq (length xs) 0 ≡ true → xs ≡ []
+no_items [] h = refl
+no_items (x ∷ xs) h = let none : length (x ∷ xs) ≡ 0 = eqb-true (length (x ∷ xs)) 0 h in absurd (omega (arith, none))
 
 abbrev pub place_walk : List of_inline.InlineExpression → Walk (List (Value Text))
 place_walk xs s f env path = positional with_work s f env path (inlines_of (map inline_view xs))
@@ -129,6 +139,45 @@ calling_at a x ps ns b hp hn =
     ∙ ap (λ ps. and_then (walked a (place_walk ps) b) (λ vs n. mapping (λ m. (vs, set_all m [])) (walked a (label_walk (named_in x)) n))) (sym hp)
     ∙ ap (λ ns. and_then (walked a (place_walk ps) b) (λ vs n. mapping (λ m. (vs, set_all m [])) (walked a (label_walk ns) n))) (sym hn)
     ∙ and_then_is (walked a (place_walk ps) b) (λ vs n. mapping (λ m. (vs, set_all m [])) (walked a (label_walk ns) n)) (naming_after a ns) (λ vs n. sym (then_give (walked a (naming ns) n) (λ m. (vs, m))))
+
+-- what the arguments of a term reference make
+abbrev pub locals : Call → Walk (Map (Value Text))
+locals k s f env path = local_of with_work s f env path k
+
+-- arguments that are literals have these values, and report nothing
+literal_resolved : {K : Type 0} (a : Status K) (x : Inline) (b : Budget) → is_literal x ≡ true → walked a (resolving x) b ≡ given (literal_value x) b
+literal_resolved a (string t) b h = resolved_string a.bundle (work a.bundle) a.environment a.path t b
+literal_resolved a (number t) b h = resolved_number a.bundle (work a.bundle) a.environment a.path t b
+literal_resolved a (function f k) b h = absurd (true≢false (sym h))
+literal_resolved a (message m at) b h = absurd (true≢false (sym h))
+literal_resolved a (term t at k) b h = absurd (true≢false (sym h))
+literal_resolved a (variable v) b h = absurd (true≢false (sym h))
+literal_resolved a (nested e) b h = absurd (true≢false (sym h))
+
+literals_given : {K : Type 0} (a : Status K) (xs : List of_named.NamedArgument) (b : Budget) → are_literals xs ≡ true → walked a (label_walk xs) b ≡ given (literal_values xs) b
+literals_given a [] b h = labelling_end a [] b refl
+literals_given a (x ∷ rest) b h =
+    let both = and_true (is_literal (inline_view x.value)) (are_literals rest) h in
+    let v = literal_value (inline_view x.value) in
+    let k : Value Text → Budget → Worked (List (Text × Value Text)) = λ v n. mapping (λ vs. (x.name.name.now, v) ∷ vs) (walked a (label_walk rest) n) in
+    labelling_next a (x ∷ rest) rest x b refl
+    ∙ ap (λ w. and_then w k) (literal_resolved a (inline_view x.value) b both.0)
+    ∙ give_then v b k
+    ∙ ap (mapping (λ vs. (x.name.name.now, v) ∷ vs)) (literals_given a rest b both.1)
+
+-- so these are the arguments of a term that has no others
+pub local_literals : {K : Type 0} (a : Status K) (x : of_call.CallArguments) (b : Budget) → has_literals_alone x ≡ true → walked a (locals (call (arguments_view x))) b ≡ given (set_all (literal_values (named_in x)) []) b
+local_literals a x b h =
+    let both = and_true (nat_eq (length (of_call.out-CallArguments x).positional.items) 0) (are_literals (named_in x)) h in
+    let none = no_items (of_call.out-CallArguments x).positional.items both.0 in
+    let k = naming_after a (named_in x) in
+    local_some a.bundle (work a.bundle) a.environment a.path (arguments_view x) b
+    ∙ ap (mapping (λ c. c.1)) (
+    calling_at a x [] (named_in x) b (sym none) refl
+    ∙ ap (λ w. and_then w k) (placing_end a [] b refl)
+    ∙ give_then [] b k
+    ∙ ap (λ w. and_then (mapping (λ m. set_all m []) w) (pairing [])) (literals_given a (named_in x) b both.1)
+    ∙ give_then (set_all (literal_values (named_in x)) []) b (pairing []))
 
 -- the map with one more argument
 pub set_all_next : (es : List (Text × Value Text)) (k : Text) (v : Value Text) (m : Map (Value Text)) → set_all (es ++ (k, v) ∷ []) m ≡ set k v (set_all es m)
@@ -222,9 +271,6 @@ left_again r false p is h k j = j.kept ∙ k ∙ if_off is h.same
 -- what a term's pattern gives in the environment that its arguments make
 abbrev pub inside : {K : Type 0} → Status K → Inline → Text → Attribute → Map (Value Text) → Budget → Worked Text
 inside a x t at m b = follow with_work a.bundle (work a.bundle) a.environment (local m) a.path x t (term_target (get t a.bundle.ids) at) b
-
-abbrev pub locals : Call → Walk (Map (Value Text))
-locals k s f env path = local_of with_work s f env path k
 
 pub term_at : {K : Type 0} (a : Status K) (x : Inline) (t : Text) (at : Attribute) (k : Call) (b : Budget) → x ≡ term t at k → walked a (writing x) b ≡ and_then (walked a (locals k) b) (inside a x t at)
 term_at a x t at k b h =

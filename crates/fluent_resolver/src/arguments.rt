@@ -12,10 +12,11 @@ ghost use Rattle.fluent_values.specs.Sinks.{writer};
 use crate::inline_expression::write_inline;
 use crate::says::Gives;
 use fluent_links::Place;
-use fluent_state::State;
 use fluent_state::found::answer_of;
 use fluent_state::gathered::{Gathered, push_value};
+use fluent_state::locals::has_literals_alone;
 use fluent_state::variable::resolve_variable;
+use fluent_state::{Locals, State};
 use fluent_text::{Counting, unescape_unicode_to_string};
 use fluent_tree::ast::{CallArguments, Identifier, InlineExpression, NamedArgument};
 use fluent_values::output::{Halt, Output};
@@ -97,7 +98,8 @@ fn write_beside<'p, 's, W: Write, C: FluentType, F: FluentFunction<C>, B: Contex
     write_inline(scope, &mut out, inline, place)
 }
 
-/// The environment that a term's arguments make: its named ones. The positional ones are resolved and thrown away.
+/// The environment that a term's arguments make: its named ones, which stay in the tree where there are no others and
+/// each is a literal. The positional ones are resolved and thrown away.
 #[cycle(resolve)]
 #[inline(always)]
 pub(crate) fn resolve_local<'p, 's, W: Write, C: FluentType, F: FluentFunction<C>, B: Context<C>>(
@@ -105,15 +107,19 @@ pub(crate) fn resolve_local<'p, 's, W: Write, C: FluentType, F: FluentFunction<C
     w: &mut Counting<W>,
     arguments: &'p Option<Box<CallArguments<'s>>>,
     place: Place<'p>,
-) -> Result<FluentArgs<'p, C>, Halt>
+) -> Result<Locals<'p, 's, C>, Halt>
     requires { IsPlaced scope.old.ids.now (in_call (call_view arguments.now)) place }
     ensures { ⟦<W as Gives<C, F, B>>⟧.local arguments.now result w.old w.new scope.old scope.new }
 {
     match arguments {
-        None => Ok(FluentArgs::new(scope.bundle.allocator())),
+        None => Ok(Locals::Literals(None)),
         Some(arguments) => {
+            let arguments: &CallArguments<'s> = arguments;
+            if has_literals_alone(arguments) {
+                return Ok(Locals::Literals(Some(arguments)));
+            }
             let (_positional, named) = resolve_call(scope, w, arguments, place)?;
-            Ok(named)
+            Ok(Locals::Values(named))
         }
     }
 }

@@ -13,6 +13,7 @@ ghost use Rattle.fluent_tree.specs.declared.ast.Variant.{Variant};
 ghost use Rattle.fluent_state.specs.Said.{Writing};
 ghost use Rattle.fluent_state.specs.declared.found.Found.{Found};
 ghost use Rattle.fluent_state.specs.declared.found.Target.{Target};
+ghost use Rattle.fluent_state.specs.declared.locals.Locals.{Locals};
 ghost use Rattle.fluent_state.specs.declared.state.State.{State};
 ghost use Rattle.fluent_state.specs.declared.variants.Chosen.{Chosen};
 ghost use Rattle.fluent_resolver.specs.Said.{Giving, WritingBeside};
@@ -116,7 +117,7 @@ pub(crate) trait Gives<C, F, B> {
     ghost text: { InlineExpression → WritingBeside Self C F B };
 
     /// The named arguments of a term reference.
-    ghost local: { Option (Box CallArguments) → Giving (FluentArgs C) Self C F B };
+    ghost local: { Option (Box CallArguments) → Giving (Locals C) Self C F B };
 
     /// Positional arguments and named ones.
     ghost call: { CallArguments → Giving (Vec (FluentValue C) Global × FluentArgs C) Self C F B };
@@ -134,6 +135,7 @@ pub(crate) trait Gives<C, F, B> {
 impl<W: Write, C: FluentType, F: FluentFunction<C>, B: Context<C>> Gives<C, F, B> for W {
     ghost use Rattle.std.specs.Prelude.{map};
     ghost use Rattle.fluent_state.specs.ChosenView.{chosen_view};
+    ghost use Rattle.fluent_state.specs.Locals.{locals_view};
     ghost use Rattle.fluent_state.specs.Said as said;
     ghost use Rattle.fluent_resolver.specs.Said as of;
     ghost use Rattle.fluent_values.specs.View.{named as named_view, value_view};
@@ -145,7 +147,7 @@ impl<W: Write, C: FluentType, F: FluentFunction<C>, B: Context<C>> Gives<C, F, B
         (said.inline x) };
 
     ghost local = { λ a. of.gives B.meant B.is_plain F.answer C.content W.contents
-        (named_view C.content) (of.local a) };
+        (locals_view C.content) (of.local a) };
 
     ghost call = { λ a. of.gives B.meant B.is_plain F.answer C.content W.contents
         (λ v. (map (value_view C.content) v.0.items, named_view C.content v.1)) (of.call a) };

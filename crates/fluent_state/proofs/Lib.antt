@@ -2,4 +2,5 @@ pub mod Choice
 pub mod Classed
 pub mod InTurn
 pub mod Kept
+pub mod LocalArguments
 pub mod TextElements

@@ -1,4 +1,5 @@
 pub mod Gathered
+pub mod Locals
 pub mod FoundView
 pub mod PathContents
 pub mod Status

@@ -14,6 +14,7 @@ use Rattle.fluent_meaning.specs.Walk.{Environment, application, local}
 use Rattle.fluent_meaning.specs.Meaning.{Budget, left, limit_reached, at_most}
 use Rattle.fluent_entries.specs.EntryView.{ids}
 use Rattle.fluent_entries.specs.IdNumbers.{numbers, table}
+use Rattle.fluent_state.specs.Locals.{locals_view}
 use Rattle.fluent_state.specs.PathContents.{on_path}
 use Rattle.fluent_values.specs.View.{error_view, named}
 use Rattle.fluent_values.specs.declared.args.FluentArgs.{FluentArgs}
@@ -33,7 +34,7 @@ arguments_view content (Some a) = named content a.now
 
 abbrev pub environment_view : {C : Type 0} → (C → Text) → environments.Environment C → Environment Text
 environment_view content (environment.Application a) = application (arguments_view content a)
-environment_view content (environment.Local a) = local (named content a)
+environment_view content (environment.Local l) = local (locals_view content l)
 
 -- a list of errors, by content
 abbrev pub reported : List FluentError → List Error

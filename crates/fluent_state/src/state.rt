@@ -22,7 +22,7 @@ pub struct State<'errors, 'p, 'r, 's, 'args, C, F, B> {
     /// What the bundle's ids name.
     pub ids: &'p Ids<'r, 's, F>,
     /// Where variables are looked up.
-    pub environment: Environment<'p, 'args, C>,
+    pub environment: Environment<'p, 'args, 's, C>,
     /// The patterns that are being written.
     pub path: Path<'p, 's>,
     /// How many more placeables may be opened.

@@ -10,7 +10,7 @@ ghost use Rattle.fluent_state.specs.Status.{arguments_view as given_arguments};
 ghost use Rattle.fluent_values.specs.View.{value_view};
 
 use crate::environment::Environment;
-use crate::fallback::put_in_braces;
+use crate::locals::put_local;
 use crate::lost::{lose, report_lost};
 use crate::says::{Says, Sees};
 use crate::state::State;
@@ -34,10 +34,7 @@ pub fn write_variable<W: Write, C: FluentType, F: FluentFunction<C>, B: Context<
     ensures { ⟦<W as Says<C, F, B>>⟧.inline inline.now result out.old out.new scope.old scope.new }
 {
     match &scope.environment {
-        Environment::Local(args) => match args.get(id.name) {
-            Some(value) => put_value(scope.bundle, out, value),
-            None => put_in_braces(out, inline),
-        },
+        Environment::Local(locals) => put_local(scope.bundle, out, locals, inline, id.name),
         Environment::Application(args) => match argument(*args, id.name) {
             Some(value) => put_value(scope.bundle, out, value),
             None => lose(scope, out, inline),
@@ -58,10 +55,7 @@ pub fn resolve_variable<'p, C: FluentType, F: FluentFunction<C>, B: Context<C>>(
 {
     let alloc = scope.bundle.allocator();
     match &scope.environment {
-        Environment::Local(args) => match args.get(id.name) {
-            Some(value) => value.try_clone(alloc),
-            None => Ok(FluentValue::Error),
-        },
+        Environment::Local(locals) => locals.value(alloc, id.name),
         Environment::Application(args) => match argument(*args, id.name) {
             Some(value) => borrowed(alloc, value),
             None => {

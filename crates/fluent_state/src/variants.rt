@@ -9,9 +9,11 @@ ghost use Rattle.fluent_meaning.specs.Bundle.{goes_to};
 ghost use Rattle.fluent_meaning.specs.Value.{try_number};
 ghost use Rattle.fluent_state.specs.Choice.{choice, first_default, is_like};
 ghost use Rattle.fluent_state.specs.ChosenView.{BeginsIn, chosen, chosen_view, has_key, is_like_value};
+ghost use Rattle.fluent_state.specs.Locals.{literal_value, locals_view, value_of};
 ghost use Rattle.fluent_values.specs.View.{value_view};
 
 use crate::environment::Environment;
+use crate::locals::{Locals, literal, literal_value};
 use crate::lost::report_lost;
 use crate::says::Sees;
 use crate::state::State;
@@ -58,10 +60,7 @@ pub fn choose_by_variable<'p, 's, C: FluentType, F: FluentFunction<C>, B: Contex
     ensures placed { IfOk result (λ chosen. BeginsIn variants.now place.entry chosen) }
 {
     match &scope.environment {
-        Environment::Local(args) => match args.get(id.name) {
-            Some(value) => Ok(choose(scope.bundle, value, variants, place)),
-            None => Ok(first_default(variants, place)),
-        },
+        Environment::Local(locals) => choose_local(scope.bundle, locals, id.name, variants, place),
         Environment::Application(args) => match argument(*args, id.name) {
             Some(value) => Ok(choose(scope.bundle, value, variants, place)),
             None => {
@@ -70,6 +69,47 @@ pub fn choose_by_variable<'p, 's, C: FluentType, F: FluentFunction<C>, B: Contex
             }
         },
     }
+}
+
+/// The variant that the value of a term's argument goes to; where there is none, the first default.
+#[inline(always)]
+fn choose_local<'p, 's, C: FluentType, B: Context<C>>(
+    bundle: &B,
+    locals: &Locals<'_, '_, C>,
+    name: &str,
+    variants: &'p [Variant<'s>],
+    place: Place<'p>,
+) -> Result<Option<Chosen<'p, 's>>, AllocError>
+    ensures chose { IfOk result (λ o. chosen_view o ≡ chosen (goes_to (B.meant bundle.now)
+        (value_of name.now (locals_view C.content locals.now))) variants.now) }
+    ensures placed { IfOk result (BeginsIn variants.now place.entry) }
+{
+    match locals {
+        Locals::Values(args) => match args.get(name) {
+            Some(value) => Ok(choose(bundle, value, variants, place)),
+            None => Ok(choose(bundle, &FluentValue::Error, variants, place)),
+        },
+        Locals::Literals(arguments) => match literal(*arguments, name) {
+            Some(found) => choose_by_literal(bundle, found, variants, place),
+            None => Ok(choose(bundle, &FluentValue::Error, variants, place)),
+        },
+    }
+}
+
+/// The variant that a literal's value goes to. It stands by itself, as what a call may hold costs at its entry.
+#[inline(never)]
+fn choose_by_literal<'p, 's, C: FluentType, B: Context<C>>(
+    bundle: &B,
+    literal: &InlineExpression<'_>,
+    variants: &'p [Variant<'s>],
+    place: Place<'p>,
+) -> Result<Option<Chosen<'p, 's>>, AllocError>
+    ensures chose { IfOk result (λ o. chosen_view o ≡ chosen (goes_to (B.meant bundle.now)
+        (literal_value (inline_view literal.now))) variants.now) }
+    ensures placed { IfOk result (BeginsIn variants.now place.entry) }
+{
+    let value = literal_value::<C>(bundle.allocator(), literal)?;
+    Ok(choose(bundle, &value, variants, place))
 }
 
 /// The first variant whose key matches a value, else the first default. What category a number has is asked once.

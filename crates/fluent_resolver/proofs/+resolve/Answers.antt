@@ -23,6 +23,7 @@ use Rattle.fluent_resolver.proofs.Placeables.{marked_as, marks, reaches_limit}
 use Rattle.fluent_resolver.proofs.Placed.{ok_value, placed_as, placed_back, placed_after, placed_first, placed_prefix, placed_still, some_value}
 use Rattle.fluent_state.specs.Choice.{choice, first_default}
 use Rattle.fluent_resolver.specs.Sizes.{size, bound, IsBelow, element_size, expression_size, variants_size, inline_size, call_size, arguments_size, inlines_size, nameds_size}
+use Rattle.fluent_state.specs.Locals.{literal_values, locals_view}
 use Rattle.fluent_state.specs.Status.{Status, environment_view, state, state_parts}
 use Rattle.fluent_values.specs.Sinks.{Sink}
 use Rattle.fluent_entries.specs.Texts.{IsTextAlone}
@@ -34,7 +35,7 @@ use Rattle.fluent_values.specs.Facts.Outputs.{still}
 use Rattle.fluent_state.specs.Facts.Passing.{passed_still, keeps_elsewhere, keeps_around, keeps_back, entered_counts}
 use Rattle.fluent_state.specs.Facts.Lists.{next_of, none_left}
 use Rattle.fluent_state.specs.Facts.Lookups.{answering, writing, resolving}
-use Rattle.fluent_resolver.proofs.Steps.{inline_at, cyclic_at, entered_at, begun_at, back, term_at, inside, inside_at, left_again, selecting_at, chosen_walk, function_at, answered_value, elementing, following, giving, giving_all, giving_text, giving_placeable, giving_end, giving_limit_reached, no_placeable, expressing, locals, valued, place_walk, label_walk, placing_next, placing_end, placing_more, labelled, labelling_next, labelling_end, labelling_more, named_in, naming_after, pairing, calling_at, set_all_next}
+use Rattle.fluent_resolver.proofs.Steps.{local_literals, named_in, inline_at, cyclic_at, entered_at, begun_at, back, term_at, inside, inside_at, left_again, selecting_at, chosen_walk, function_at, answered_value, elementing, following, giving, giving_all, giving_text, giving_placeable, giving_end, giving_limit_reached, no_placeable, expressing, locals, valued, place_walk, label_walk, placing_next, placing_end, placing_more, labelled, labelling_next, labelling_end, labelling_more, named_in, naming_after, pairing, calling_at, set_all_next}
 use Rattle.fluent_values.specs.Facts.Took.{at_err, at_ok, took_same}
 use Rattle.fluent_state.specs.Facts.Values.{gave_outward, asks, ask_stops, misses, begins, reads, gets, gets_part, got_if, got_as, got_part_as, misses_as, rests_memory, rests_same, rests_err, rests_ok, rests_on, by_buffer, as_got, beside_rests, got, gathers_none, gathers_as, gathers_same, gathers_one, gathers_part, gathers_all, gathers_stops, gathers_stops_as}
 use Rattle.fluent_state.specs.Facts.Views.{view_pattern, view_text_in, view_placeable_in, view_string_in, view_number_in, view_message_in, view_nested_in, view_function_in, view_in, view_select_in, view_term_in, view_variable_in, view_arguments, view_written}
@@ -435,20 +436,29 @@ arguments::resolve_local-returns-in-None g t c =
     let means = ap (λ o. from_here a (locals (call_view o))) c.in-None.is ∙ local_none a.bundle (work a.bundle) a.environment a.path a.budget in
     record { got = got_if [] means (search rules); rests = rests_same _ }
 
+pub arguments::resolve_local-returns-then-has_literals_alone : goal.arguments::resolve_local-returns-then-has_literals_alone
+unfolding state_parts
+arguments::resolve_local-returns-then-has_literals_alone g t c =
+    let a = state g.B.Context.meant g.B.Context.is_plain g.F.FluentFunction.answer g.C.FluentType.content c.args.scope.now in
+    let x = c.deref-arguments.result.now in
+    let given = ap call_view c.in-Some.is ∙ sym (ap (λ a. call (arguments_view a)) c.deref-arguments.ensures) in
+    let means = ap (λ k. from_here a (locals k)) given ∙ local_literals a x a.budget (sym c.has_literals_alone.ensures ∙ c.if-has_literals_alone.true) in
+    record { got = got_if (set_all (literal_values (named_in x)) []) means (search rules); rests = rests_same _ }
+
 pub arguments::resolve_local-returns-in_err-_positional-in-Some : goal.arguments::resolve_local-returns-in_err-_positional-in-Some
 unfolding state_parts
 arguments::resolve_local-returns-in_err-_positional-in-Some g t c =
     let a = state g.B.Context.meant g.B.Context.is_plain g.F.FluentFunction.answer g.C.FluentType.content c.args.scope.now in
-    let given = ap call_view c.in-Some.is ∙ sym (ap (λ a. call (arguments_view a)) c.deref.ensures) in
-    let means = ap (λ k. from_here a (locals k)) given ∙ local_some a.bundle (work a.bundle) a.environment a.path (arguments_view c.deref.result.now) a.budget in
+    let given = ap call_view c.in-Some.is ∙ sym (ap (λ a. call (arguments_view a)) c.deref-arguments.ensures) in
+    let means = ap (λ k. from_here a (locals k)) given ∙ local_some a.bundle (work a.bundle) a.environment a.path (arguments_view c.deref-arguments.result.now) a.budget in
     record { got = got_part_as (λ p. p.1) c.in_err-_positional-in-Some.was (search rules) means c.resolve_call.ensures.got; rests = rests_err c.in_err-_positional-in-Some.was (search rules) c.resolve_call.ensures.rests }
 
 pub arguments::resolve_local-returns-in_ok-_positional-in-Some : goal.arguments::resolve_local-returns-in_ok-_positional-in-Some
 unfolding state_parts
 arguments::resolve_local-returns-in_ok-_positional-in-Some g t c =
     let a = state g.B.Context.meant g.B.Context.is_plain g.F.FluentFunction.answer g.C.FluentType.content c.args.scope.now in
-    let given = ap call_view c.in-Some.is ∙ sym (ap (λ a. call (arguments_view a)) c.deref.ensures) in
-    let means = ap (λ k. from_here a (locals k)) given ∙ local_some a.bundle (work a.bundle) a.environment a.path (arguments_view c.deref.result.now) a.budget in
+    let given = ap call_view c.in-Some.is ∙ sym (ap (λ a. call (arguments_view a)) c.deref-arguments.ensures) in
+    let means = ap (λ k. from_here a (locals k)) given ∙ local_some a.bundle (work a.bundle) a.environment a.path (arguments_view c.deref-arguments.result.now) a.budget in
     record { got = got_as (λ p. p.1) c.in_ok-_positional-in-Some.was refl means c.resolve_call.ensures.got; rests = rests_ok c.in_ok-_positional-in-Some.was c.resolve_call.ensures.rests }
 
 -- WHAT THE CALLS REQUIRE
@@ -522,10 +532,10 @@ pub arguments::resolve_local-resolve_call-requires : goal.arguments::resolve_loc
 unfolding state_parts
 arguments::resolve_local-resolve_call-requires g t c =
     let a = state g.B.Context.meant g.B.Context.is_plain g.F.FluentFunction.answer g.C.FluentType.content c.args.scope.now in
-    let given = ap call_view c.in-Some.is ∙ sym (ap (λ a. call (arguments_view a)) c.deref.ensures) in
-    let sized : call_size (call_view c.args.arguments.now) ≡ 1 + arguments_size (arguments_view c.deref.result.now) = ap call_size given in
-    let less = falls_to c.decreases (same_weight a (arguments_size (arguments_view c.deref.result.now)) (call_size (call_view c.args.arguments.now)) (omega (arith, sized))) in
-    let placed = placed_as a.stored.numbers (in_call (call_view c.args.arguments.now)) (in_arguments (arguments_view c.deref.result.now)) c.args.place (ap in_call given) c.requires in
+    let given = ap call_view c.in-Some.is ∙ sym (ap (λ a. call (arguments_view a)) c.deref-arguments.ensures) in
+    let sized : call_size (call_view c.args.arguments.now) ≡ 1 + arguments_size (arguments_view c.deref-arguments.result.now) = ap call_size given in
+    let less = falls_to c.decreases (same_weight a (arguments_size (arguments_view c.deref-arguments.result.now)) (call_size (call_view c.args.arguments.now)) (omega (arith, sized))) in
+    let placed = placed_as a.stored.numbers (in_call (call_view c.args.arguments.now)) (in_arguments (arguments_view c.deref-arguments.result.now)) c.args.place (ap in_call given) c.requires in
     λ κs h. (less, (h.0, (h.1.0, (h.1.1.0, (h.1.1.1, placed)))))
 
 pub arguments::resolve_positional-resolve-requires : goal.arguments::resolve_positional-resolve-requires
@@ -811,7 +821,7 @@ inline_expression::write_term-returns g t c =
     let kept = c.resolve_local.ensures.got.toward.passed.keeps in
     let w = c.follow-written.ensures in
     let b = state g.B.Context.meant g.B.Context.is_plain g.F.FluentFunction.answer g.C.FluentType.content (record c.resolve_local.new.scope { environment = c.replace-outer.new.dest }) in
-    let m = named g.C.FluentType.content c.in_ok-local.local in
+    let m = locals_view g.C.FluentType.content c.in_ok-local.local in
     let led = c.term-found.ensures.content g.F.FluentFunction.answer ∙ ap (λ s. term_target (get id s.ids) at) kept.bundle in
     let inner = ap (environment_view g.C.FluentType.content) c.replace-outer.ensures.after in
     let outer = ap (environment_view g.C.FluentType.content) c.replace-outer.ensures.value in

@@ -1,6 +1,6 @@
 -- What variables and the answers of functions give.
 use Rattle.std.proofs.Common.{◌≡◌, refl, sym, ap, subst, ◌∙◌, List, Option, Some, None}
-use Rattle.std.specs.Option.{option_map}
+use Rattle.std.specs.Option.{option_map, unwrap_or}
 use Rattle.fluent_tree.specs.Tree.{Text, Inline, variable}
 use Rattle.fluent_tree.specs.Fallback.{fallback, in_braces}
 use Rattle.fluent_meaning.specs.Arguments.{Map, get}
@@ -10,6 +10,7 @@ use Rattle.fluent_meaning.specs.Meaning.{Budget}
 use Rattle.fluent_meaning.specs.Walk.{application, local, variables, missing, loses, variable_text, variable_value, function_text, answer_text, written, resolved}
 use Rattle.fluent_meaning.specs.Work.{Worked, with_work, work}
 use Rattle.fluent_state.specs.WalkProgress.{Walk, walked, given, mapping, lost_of, shown_answer}
+use Rattle.fluent_state.specs.Locals.{shown_or_fallback, value_of}
 use Rattle.fluent_state.specs.Status.{Status}
 use Rattle.fluent_values.specs.View.{value_view}
 use Rattle.fluent_values.specs.declared.types.value.FluentValue.{FluentValue}
@@ -60,6 +61,14 @@ variable_unseen a x id m b h env is =
     ∙ ap (λ e. missing with_work a.bundle (work a.bundle) a.environment e x b) env
     ∙ missing_local a.bundle (work a.bundle) a.environment a.path m x b
 
+-- among the arguments of a term
+pub variable_local : {K : Type 0} (a : Status K) (x : Inline) (id : Text) (m : Map (Value Text)) (b : Budget) → x ≡ variable id → a.environment ≡ local m → walked a (writing x) b ≡ given (shown_or_fallback a.bundle x (get id m)) b
+variable_local a x id m b h env = by_case (get id m) refl
+  where
+    by_case : (o : Option (Value Text)) → get id m ≡ o → walked a (writing x) b ≡ given (shown_or_fallback a.bundle x o) b
+    by_case None is = variable_unseen a x id m b h env is
+    by_case (Some v) is = variable_found a x id v b h (ap (λ e. get id (variables e)) env ∙ is)
+
 valuing : {K : Type 0} → Status K → Inline → Text → Budget → Worked (Value Text)
 valuing a x id b = variable_value with_work a.bundle (work a.bundle) a.environment x (get id (variables a.environment)) b
 
@@ -91,6 +100,13 @@ value_unseen a x id m b h env is =
     ∙ variable_value_none a.bundle (work a.bundle) a.environment a.path x b
     ∙ ap (λ e. mapping (λ t. error_value) (missing with_work a.bundle (work a.bundle) a.environment e x b)) env
     ∙ ap (mapping (λ t. error_value)) (missing_local a.bundle (work a.bundle) a.environment a.path m x b)
+
+pub value_local : {K : Type 0} (a : Status K) (x : Inline) (id : Text) (m : Map (Value Text)) (b : Budget) → x ≡ variable id → a.environment ≡ local m → walked a (resolving x) b ≡ given (value_of id m) b
+value_local a x id m b h env = by_case (get id m) refl
+  where
+    by_case : (o : Option (Value Text)) → get id m ≡ o → walked a (resolving x) b ≡ given (unwrap_or o error_value) b
+    by_case None is = value_unseen a x id m b h env is
+    by_case (Some v) is = value_found a x id v b h (ap (λ e. get id (variables e)) env ∙ is)
 
 -- FUNCTIONS
 
