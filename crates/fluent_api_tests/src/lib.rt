@@ -43,6 +43,8 @@ mod own;
 #[cfg(test)]
 mod says;
 #[cfg(test)]
+mod sole;
+#[cfg(test)]
 mod taken;
 #[cfg(test)]
 mod trees;

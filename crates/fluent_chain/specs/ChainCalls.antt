@@ -99,6 +99,6 @@ module _ {M C F G X : Type 0} (of : FluentBundle M C F G X → Bundle Text) wher
   abbrev pub borrows : Chain M C F G X → Text → Option (Bor Text) → Result (CowStr Global) AllocError → Type 0
   borrows chain id name result = BorrowsFound id (bundle_with of chain id name) result
 
-  -- success is owed, as far as memory goes
-  abbrev pub owes : Chain M C F G X → Text → Option (Bor Text) → Result (Unit {0}) WriteFault → Type 0
-  owes chain id name result = NeedsNoMemory (bundle_with of chain id name) → result ≢ Err Memory
+  -- no allocation fails
+  abbrev pub needs_no_memory : Chain M C F G X → Text → Option (Bor Text) → Result (Unit {0}) WriteFault → Type 0
+  needs_no_memory chain id name result = NeedsNoMemory (bundle_with of chain id name) → result ≢ Err Memory

@@ -203,7 +203,7 @@ impl<
         ensures text { ⟦<W as Takes<Self>>⟧.text self.now id.now None args.entry result
             w.old w.new errors.old errors.new }
         ensures fault { CountsFault w.old w.new result }
-        ensures memory { ⟦<Self as Says>⟧.owes self.now id.now None result }
+        ensures memory { ⟦<Self as Says>⟧.needs_no_memory self.now id.now None result }
     {
         self.write(w, id, None, args, errors)
     }
@@ -225,7 +225,7 @@ impl<
         ensures text { ⟦<W as Takes<Self>>⟧.text self.now id.now (Some name.entry) args.entry result
             w.old w.new errors.old errors.new }
         ensures fault { CountsFault w.old w.new result }
-        ensures memory { ⟦<Self as Says>⟧.owes self.now id.now (Some name.entry) result }
+        ensures memory { ⟦<Self as Says>⟧.needs_no_memory self.now id.now (Some name.entry) result }
     {
         self.write(w, id, Some(name), args, errors)
     }
@@ -266,7 +266,7 @@ impl<
         ensures text { ⟦<W as Takes<Self>>⟧.text self.now id.now attribute.entry args.entry result
             w.old w.new errors.old errors.new }
         ensures fault { CountsFault w.old w.new result }
-        ensures memory { ⟦<Self as Says>⟧.owes self.now id.now attribute.entry result }
+        ensures memory { ⟦<Self as Says>⟧.needs_no_memory self.now id.now attribute.entry result }
     {
         for place in 0..self.len() {
             if let Some(bundle) = self.bundle_at(place) {

@@ -48,8 +48,8 @@ pub(crate) trait Says {
     /// Borrowed, where it is one text.
     ghost borrows: { Self → Text → Option (Bor Text) → Result (CowStr Global) AllocFailed → Type 0 };
 
-    /// Success is owed as to memory, where it is texts alone.
-    ghost owes: { Self → Text → Option (Bor Text) → Result (Unit {0}) WriteFault → Type 0 };
+    /// No allocation fails, where it is texts alone.
+    ghost needs_no_memory: { Self → Text → Option (Bor Text) → Result (Unit {0}) WriteFault → Type 0 };
 }
 
 impl<
@@ -96,7 +96,7 @@ impl<
 
     ghost borrows = { call.borrows (meant M.category C.shown C.alike F.answer G.formatted T.changed) };
 
-    ghost owes = { call.owes (meant M.category C.shown C.alike F.answer G.formatted T.changed) };
+    ghost needs_no_memory = { call.needs_no_memory (meant M.category C.shown C.alike F.answer G.formatted T.changed) };
 }
 
 /// Of a writer, with a chain.

@@ -108,6 +108,6 @@ module _ {C F B : Type 0} (meant : B → Bundle Text) (is_plain : B → Bool) (a
   abbrev pub writes_beside : {W : Type 0} → (W → Option Text) → Walk Text → WritingBeside W C F B
   writes_beside contents walk result w w' text text' s s' = Wrote result walk (beside contents w text) (beside contents w' text') (state meant is_plain answer content s) (state meant is_plain answer content s')
 
--- Success is owed, as far as memory goes, of texts alone, where the bundle changes none and no buffer takes them.
-abbrev pub owes : {W C F B : Type 0} → (B → Bool) → Pattern → Result (Unit {0}) Halt → Output W → State C F B → Type 0
-owes is_plain p result w s = IsTextAlone (pattern_view p) → IsTrue (is_plain (state_parts s).bundle.now) → w.is_buffered ≡ false → result ≢ Err halt.Memory
+-- No allocation fails for texts alone, where the bundle changes none and no buffer takes them.
+abbrev pub needs_no_memory : {W C F B : Type 0} → (B → Bool) → Pattern → Result (Unit {0}) Halt → Output W → State C F B → Type 0
+needs_no_memory is_plain p result w s = IsTextAlone (pattern_view p) → IsTrue (is_plain (state_parts s).bundle.now) → w.is_buffered ≡ false → result ≢ Err halt.Memory

@@ -41,9 +41,9 @@ Tracking W S = Result (Unit {0}) WriteFault → Counting W → Counting W → S 
 abbrev pub Writing : Type 0 → Type 0 → Type 1
 Writing W S = Result (Unit {0}) Halt → Output W → Output W → S → S → Type 0
 
--- Success is owed, as far as memory goes, of texts alone, where the bundle changes none and no buffer takes them.
-abbrev pub owes : {W C F B : Type 0} → (B → Bool) → Pattern → Result (Unit {0}) Halt → Output W → Scope C F B → Type 0
-owes is_plain p result w s = IsTextAlone (pattern_view p) → IsTrue (is_plain (bundle_in s).now) → w.is_buffered ≡ false → result ≢ Err halt.Memory
+-- No allocation fails for texts alone, where the bundle changes none and no buffer takes them.
+abbrev pub needs_no_memory : {W C F B : Type 0} → (B → Bool) → Pattern → Result (Unit {0}) Halt → Output W → Scope C F B → Type 0
+needs_no_memory is_plain p result w s = IsTextAlone (pattern_view p) → IsTrue (is_plain (bundle_in s).now) → w.is_buffered ≡ false → result ≢ Err halt.Memory
 
 module _ {C F B : Type 0} (meant : B → Bundle Text) (is_plain : B → Bool) (answer : F → Function Text) (content : C → Text) where
   abbrev pub begins : B → Ids F → Option (Bor (FluentArgs C)) → Scope C F B → Type 0

@@ -32,7 +32,7 @@ pub fn write_pattern<'p, 's, W: Write, C: FluentType, F: FluentFunction<C>, B: C
 ) -> Result<(), Halt>
     requires { IsPlaced (state_parts scope.old).ids (references (pattern_view pattern.now)) place }
     ensures text { ⟦<W as Says<C, F, B>>⟧.whole pattern.now result out.old out.new scope.old scope.new }
-    ensures memory { ⟦<W as Says<C, F, B>>⟧.owes pattern.now result out.old scope.old }
+    ensures memory { ⟦<W as Says<C, F, B>>⟧.needs_no_memory pattern.now result out.old scope.old }
 {
     let begun = scope.begin(pattern);
     let written = write_elements(scope, out, pattern, place);
@@ -50,7 +50,7 @@ pub(crate) fn write_elements<'p, 's, W: Write, C: FluentType, F: FluentFunction<
 ) -> Result<(), Halt>
     requires { IsPlaced scope.old.ids.now (references (pattern_view pattern.now)) place }
     ensures text { ⟦<W as Says<C, F, B>>⟧.parts pattern.now result out.old out.new scope.old scope.new }
-    ensures memory { ⟦<W as Says<C, F, B>>⟧.owes pattern.now result out.old scope.old }
+    ensures memory { ⟦<W as Says<C, F, B>>⟧.needs_no_memory pattern.now result out.old scope.old }
 {
     let one = has_one(pattern);
     let mut place = place;

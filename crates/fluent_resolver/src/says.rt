@@ -62,7 +62,7 @@ pub(crate) trait Says<C, F, B> {
     ghost closed: { Expression → Writing Self C F B };
 
     /// No allocation fails for a pattern of texts alone, where the bundle changes none and no buffer takes them.
-    ghost owes: { Pattern → Result (Unit {0}) Halt → Output Self → State C F B → Type 0 };
+    ghost needs_no_memory: { Pattern → Result (Unit {0}) Halt → Output Self → State C F B → Type 0 };
 }
 
 impl<W: Write, C: FluentType, F: FluentFunction<C>, B: Context<C>> Says<C, F, B> for W {
@@ -104,7 +104,7 @@ impl<W: Write, C: FluentType, F: FluentFunction<C>, B: Context<C>> Says<C, F, B>
     ghost closed = { λ e. said.writes B.meant B.is_plain F.answer C.content W.contents
         (track.closes (expression_view e)) };
 
-    ghost owes = { of.owes B.is_plain };
+    ghost needs_no_memory = { of.needs_no_memory B.is_plain };
 }
 
 /// Of a value that a part has, with a writer at hand: where the answer is `Ok` it is that value, and nothing was

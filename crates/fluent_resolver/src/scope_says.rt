@@ -146,7 +146,7 @@ pub(crate) trait Writes<C, F, B> {
     ghost whole: { Pattern → Writing Self (Scope C F B) };
 
     /// No allocation fails for a pattern of texts alone, where the bundle changes none and no buffer takes them.
-    ghost owes: { Pattern → Result (Unit {0}) Halt → Output Self → Scope C F B → Type 0 };
+    ghost needs_no_memory: { Pattern → Result (Unit {0}) Halt → Output Self → Scope C F B → Type 0 };
 }
 
 impl<W: Write, C: FluentType, F: FluentFunction<C>, B: Context<C>> Writes<C, F, B> for W {
@@ -156,5 +156,5 @@ impl<W: Write, C: FluentType, F: FluentFunction<C>, B: Context<C>> Writes<C, F, 
     ghost whole = { λ p. said.writes B.meant B.is_plain F.answer C.content W.contents
         (walk.whole p) };
 
-    ghost owes = { said.owes B.is_plain };
+    ghost needs_no_memory = { said.needs_no_memory B.is_plain };
 }

@@ -43,9 +43,9 @@ impl<'p, 's, C: FluentType, F: FluentFunction<C>, B: Context<C>> Scope<
     ///
     /// # Errors
     ///
-    /// `Writer` where a write failed, `Zero` where a write of a nonempty piece took no byte, `Memory` where memory
-    /// was refused. Then what was written begins the text, and what was added begins the errors. Bundle, environment
-    /// and path are as before, a limit that was reached stays so, and no count falls, whatever is answered.
+    /// `Writer` where a write failed, `Zero` where a write of a nonempty piece took no byte, `Memory` where an
+    /// allocation failed. Then what was written begins the text, and what was added begins the errors. Bundle,
+    /// environment and path are as before, a limit that was reached stays so, and no count falls, whatever is answered.
     pub fn track<W: Write>(
         &mut self,
         w: &mut Counting<W>,
@@ -70,9 +70,9 @@ impl<'p, 's, C: FluentType, F: FluentFunction<C>, B: Context<C>> Scope<
     ///
     /// # Errors
     ///
-    /// `Writer` where a write failed, `Zero` where a write of a nonempty piece took no byte, `Memory` where memory
-    /// was refused. Then what was written begins the text, and what was added begins the errors. Bundle, environment
-    /// and path are as before, a limit that was reached stays so, and no count falls, whatever is answered.
+    /// `Writer` where a write failed, `Zero` where a write of a nonempty piece took no byte, `Memory` where an
+    /// allocation failed. Then what was written begins the text, and what was added begins the errors. Bundle,
+    /// environment and path are as before, a limit that was reached stays so, and no count falls, whatever is answered.
     pub fn maybe_track<W: Write>(
         &mut self,
         w: &mut Counting<W>,
@@ -96,9 +96,9 @@ impl<'p, 's, C: FluentType, F: FluentFunction<C>, B: Context<C>> Scope<
     ///
     /// # Errors
     ///
-    /// `Writer` where a write failed, `Zero` where a write of a nonempty piece took no byte, `Memory` where memory
-    /// was refused, which only a reference can meet. Then what was written begins the text, and what was added begins
-    /// the errors. Bundle, environment and path are as before, a limit that was reached stays so, and no count falls,
+    /// `Writer` where a write failed, `Zero` where a write of a nonempty piece took no byte, `Memory` where an
+    /// allocation failed, which only a reference can meet. Then what was written begins the text, and what was added
+    /// begins the errors. Bundle, environment and path are as before, a limit that was reached stays so, and no count falls,
     /// whatever is answered.
     pub fn write_ref_error<W: Write>(
         &mut self,

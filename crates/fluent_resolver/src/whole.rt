@@ -26,7 +26,7 @@ pub fn write_pattern<'p, 's, W: Write, C: FluentType, F: FluentFunction<C>, B: C
     requires { IsPlaced (scope_parts scope.old).ids (references (pattern_view pattern.now)) place }
     ensures wrote { ⟦<W as Writes<C, F, B>>⟧.whole pattern.now result out.old out.new
         scope.old scope.new }
-    ensures memory { ⟦<W as Writes<C, F, B>>⟧.owes pattern.now result out.old scope.old }
+    ensures memory { ⟦<W as Writes<C, F, B>>⟧.needs_no_memory pattern.now result out.old scope.old }
 {
     write_in(&mut scope.state, out, pattern, place)
 }

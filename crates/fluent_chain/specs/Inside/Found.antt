@@ -47,6 +47,6 @@ module _ {M C F G X : Type 0} (of : FluentBundle M C F G X → Bundle Text) wher
   abbrev pub borrows_in : FluentBundle M C F G X → Text → Option (Bor Text) → Result (Option (CowStr Global)) AllocError → Type 0
   borrows_in b id name = BorrowsAsked b (pattern_of of id name b)
 
-  -- success is owed, as far as memory goes
+  -- no allocation fails
   abbrev pub owes_in : FluentBundle M C F G X → Text → Option (Bor Text) → Result Bool WriteFault → Type 0
   owes_in b id name = TakesNoMemory b (pattern_of of id name b)
