@@ -1,2 +1,1 @@
 pub mod Equal
-pub mod Sole

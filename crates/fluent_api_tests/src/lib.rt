@@ -43,8 +43,6 @@ mod own;
 #[cfg(test)]
 mod says;
 #[cfg(test)]
-mod sole;
-#[cfg(test)]
 mod taken;
 #[cfg(test)]
 mod trees;

@@ -1,8 +1,6 @@
 //! What is told of sources before their messages are formatted, also where an allocation fails.
 use crate::check::{check, check_same};
 use crate::common::{Bundle, Setting, bundle_of, read};
-use crate::sole::sole;
-use crate::trees::{Case, Leaf, Tree, pattern};
 use fluent_bundle::Call;
 use fluent_bundle::ast::Identifier;
 use fluent_lint::{Cause, Place, Report, lint_places, places_of, position, variables_of};
@@ -108,19 +106,6 @@ fn each_cause_is_reported(rt: HostRuntime) -> Result<(), Fail> {
 fn what_was_not_looked_at_is_elsewhere(rt: HostRuntime) -> Result<(), Fail> {
     let lines = reported(rt.alloc(), "a = { b }\nb = B", 1, 2)?;
     check_same(&rt, lines.as_str(), "a: elsewhere b\n");
-    Ok(())
-}
-
-const NO_DEFAULT: Tree = Tree::Choice(Leaf::Variable("n"), &[Case::Name("one", "1")]);
-
-/// No source is read as a select without a default.
-#[test]
-fn a_select_without_a_default_is_reported(rt: HostRuntime) -> Result<(), Fail> {
-    let message = sole(rt.alloc(), "a", pattern(rt.alloc(), NO_DEFAULT)?);
-    let places = [Place::Message(Identifier { name: "a" }, None)];
-    let report = lint_places(rt.alloc(), &message, &places, 2)?;
-    let lines = lines_of(rt.alloc(), &report)?;
-    check_same(&rt, lines.as_str(), "a: no default\n");
     Ok(())
 }
 

@@ -54,7 +54,7 @@ pub record Are (all : List Argument) (bytes : List ℕ) : Type 0 where
   pub whole : StandBefore all bytes []
   pub texts : All AreTexts all
 
--- After some arguments there is something, and no argument at its prefix.
+-- After some arguments there is something, and no argument at its start.
 pub record IsCut (bytes : List ℕ) : Type 0 where
   pub all : List Argument
   pub rest : List ℕ

@@ -1,0 +1,4 @@
+pub mod Alone
+pub mod Found
+pub mod Split
+pub mod Statuses

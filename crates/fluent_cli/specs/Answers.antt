@@ -1,5 +1,6 @@
 -- Statuses.
-use Rattle.std.specs.Prelude.{◌≡◌, ℕ, Bool, true, false, List, [], ◌∷◌, ◌++◌, codes, String, string_bytes}
+use Rattle.std.specs.Prelude.{◌≡◌, ◌==◌, ◌&&◌, ℕ, Bool, true, false, List, [], ◌∷◌, ◌++◌, codes, String, string_bytes, if◌then◌else◌}
+use Rattle.std.specs.Fmt.{decimal}
 use Rattle.std.proofs.Common.{Global}
 use Rattle.fluent_tree.specs.Tree.{Text}
 use Rattle.fluent_cli.specs.declared.answer.Answer.{Answer}
@@ -13,22 +14,37 @@ code_of Found = 1
 code_of Usage = 2
 code_of Fault = 3
 
--- where something may be found, and this was
-abbrev pub status_over : {A : Type 0} → List A → Status
-status_over [] = Fine
-status_over (x ∷ xs) = Found
+-- nothing is printed, and this is said on standard error
+pub record IsFault (with : Status) (text : Text) (answer : Answer) : Type 0 where
+  pub status : answer.status ≡ with
+  pub output : string_bytes answer.output ≡ []
+  pub errors : string_bytes answer.errors ≡ text
 
--- what is printed where nothing was found
-abbrev pub nothing_found : Text
-nothing_found = codes "0 errors, 0 warnings" ++ 10 ∷ []
+-- a file that can't be read is named, for some reason
+abbrev pub IsUnreadable : Text → Answer → Type 0
+IsUnreadable name answer =
+    (reason : Text) × IsFault Fault ((codes "fluent: " ++ name) ++ (codes ": " ++ (reason ++ 10 ∷ []))) answer
+
+-- where the linter finds nothing and there is no error, or not
+abbrev pub status_over : Bool → ℕ → Status
+status_over is_clean errors = if is_clean && errors == 0 then Fine else Found
+
+-- a number with its noun
+abbrev pub counted : ℕ → Text → Text
+counted n noun = if n == 1 then codes "1 " ++ noun else (decimal n ++ codes " ") ++ noun ++ codes "s"
+
+-- the line with the counts
+abbrev pub counts_line : ℕ → ℕ → Text
+counts_line errors warnings =
+    counted errors (codes "error") ++ codes ", " ++ counted warnings (codes "warning") ++ 10 ∷ []
+
+-- a text ends with this
+abbrev pub EndsWith : Text → String Global → Type 0
+EndsWith text all = (before : Text) × (string_bytes all ≡ before ++ text)
 
 -- a text was added to another
 abbrev pub Adds : Text → String Global → String Global → Type 0
 Adds text old new = string_bytes new ≡ string_bytes old ++ text
-
--- where the status is that of nothing, no more is printed
-abbrev pub CountsNone : Answer → Type 0
-CountsNone answer = answer.status ≡ Fine → string_bytes answer.output ≡ nothing_found
 
 -- of a message that is shown: whether a file has it, whether errors count, and whether there were any
 abbrev pub status_shown : Bool → Bool → Bool → Status

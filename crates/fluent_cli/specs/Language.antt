@@ -7,7 +7,7 @@ use Rattle.fluent_intl.specs.RuleTree.{Rule, Rules}
 use Rattle.fluent_intl.specs.RuleGrammar.{rules}
 use Rattle.fluent_intl.specs.RuleTexts.{category_of}
 use Rattle.fluent_meaning.specs.Value.{Value, Custom, error_value}
-use Rattle.fluent_meaning.specs.Bundle.{Bundle, empty_bundle, after, add_resource, add_builtins}
+use Rattle.fluent_meaning.specs.Bundle.{Bundle, empty_bundle, after, after_all, add_resource, add_builtins}
 use Rattle.fluent_bundle.specs.BundleView.{meant, entries_of}
 use Rattle.fluent_bundle.specs.declared.bundle.FluentBundle.{FluentBundle}
 use Rattle.fluent_bundle.specs.declared.resource.FluentResource.{FluentResource}
@@ -64,3 +64,11 @@ adding resource b = after (add_resource (entries_of resource)) b
 
 abbrev pub alone : Text → FluentResource → Bundle Text
 alone tag resource = bundle_of tag (entries_of resource)
+
+-- a bundle with the entries of all of these files, in order
+abbrev pub all_of : Text → List (List Entry) → Bundle Text
+all_of tag files = after_all (map (λ entries. add_resource entries) files) (start_of tag)
+
+-- the entries of each resource
+abbrev pub entries_of_all : List FluentResource → List (List Entry)
+entries_of_all resources = map entries_of resources

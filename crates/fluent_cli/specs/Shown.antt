@@ -1,14 +1,15 @@
 -- What `show` prints.
-use Rattle.std.specs.Prelude.{ℕ, Bool, true, false, List, [], ◌∷◌, ◌++◌, map, Option}
+use Rattle.std.specs.Prelude.{◌≡◌, ◌==◌, ℕ, Bool, true, false, not, List, [], ◌∷◌, ◌++◌, map, Option, is_some, string_bytes, string_len}
+use Rattle.std.specs.List.{list_any}
 use Rattle.std.specs.Option.{option_map}
 use Rattle.fluent_tree.specs.Tree.{Text, Entry, Pattern}
 use Rattle.fluent_meaning.specs.Value.{Value, text_value, try_number}
 use Rattle.fluent_meaning.specs.Arguments.{Map, set_all}
 use Rattle.fluent_meaning.specs.Bundle.{Bundle}
 use Rattle.fluent_chain.specs.Chain.{Shown, pattern_at, first_with, shown_of}
-use Rattle.fluent_bundle.specs.BundleView.{entries_of}
+use Rattle.fluent_cli.specs.Answers.{status_shown}
 use Rattle.fluent_cli.specs.Language.{bundle_of}
-use Rattle.fluent_cli.specs.declared.source.Sources.{Sources}
+use Rattle.fluent_cli.specs.declared.answer.Answer.{Answer}
 use Rattle.fluent_cli.specs.declared.words.Argument.{Argument}
 use Rattle.fluent_cli.specs.declared.words.ShowRequest.{ShowRequest}
 
@@ -24,10 +25,16 @@ argument a = (a.name.now, value_of a.is_text a.value.now)
 abbrev pub arguments_of : List Argument → Map (Value Text)
 arguments_of list = set_all (map argument list) []
 
--- the first of some bundles that has what is asked for
+-- what is asked for, of a bundle
+abbrev pub asked_of : ShowRequest → Bundle Text → Option Pattern
+asked_of request = pattern_at request.id.now (option_map (λ name. name.now) request.attribute)
+
+-- whether one of some bundles has it, and the first that has
+abbrev pub is_there : ShowRequest → List (Bundle Text) → Bool
+is_there request bundles = list_any (λ b. is_some (asked_of request b)) bundles
+
 abbrev pub found_in : ShowRequest → List (Bundle Text) → Option (Bundle Text × Pattern)
-found_in request bundles =
-    first_with (pattern_at request.id.now (option_map (λ name. name.now) request.attribute)) bundles
+found_in request bundles = first_with (asked_of request) bundles
 
 -- what these bundles give
 abbrev pub shown_by : ShowRequest → List (Bundle Text) → Shown
@@ -38,11 +45,16 @@ shown_by request bundles =
 abbrev pub printed : Shown → Text
 printed shown = shown.text ++ 10 ∷ []
 
--- of files, by the entries that each has
-abbrev pub show : {A : Type 0} → ShowRequest → (A → List Entry) → List A → Text
-show request entries files =
-    printed (shown_by request (map (λ file. bundle_of request.language.now (entries file)) files))
+-- ---- of files, by the entries that each has
 
--- of sources that were read
-abbrev pub show_sources : ShowRequest → Sources → Text
-show_sources request sources = show request entries_of sources.resources.items
+abbrev pub bundles_for : ShowRequest → List (List Entry) → List (Bundle Text)
+bundles_for request files = map (bundle_of request.language.now) files
+
+abbrev pub show : ShowRequest → List (List Entry) → Text
+show request files = printed (shown_by request (bundles_for request files))
+
+-- What is shown, with the status that it has by whether it is there and anything is said on standard error.
+pub record IsShown (request : ShowRequest) (files : List (List Entry)) (answer : Answer) : Type 0 where
+  pub output : string_bytes answer.output ≡ show request files
+  pub status : answer.status
+      ≡ status_shown (is_there request (bundles_for request files)) request.is_strict (not (string_len answer.errors == 0))

@@ -1,16 +1,16 @@
 //! What a run leaves: its status, what it prints, and what it says on standard error.
 
-ghost use Rattle.std.specs.Prelude.{◌≡◌};
-ghost use Rattle.fluent_cli.specs.Answers.{code_of};
+ghost use Rattle.std.specs.Prelude.{◌≡◌, IfOk, string_bytes};
+ghost use Rattle.fluent_cli.specs.Answers.{IsFault, IsUnreadable, code_of};
 
 use std::alloc::{AllocError, Global};
 
 /// How a run ends.
 #[derive(Clone, Copy, Debug, PartialEq, Eq)]
 pub enum Status {
-    /// Nothing was found.
+    /// No error was found. There may be warnings.
     Fine,
-    /// Something was found: a finding, or an error in a text that is shown strictly.
+    /// Something was found: an error, also one in a text that is shown strictly.
     Found,
     /// The words are not of the form that the program takes.
     Usage,
@@ -44,7 +44,9 @@ pub struct Answer {
 
 impl Answer {
     /// A fault of the words, or of a file, with its line on standard error.
-    pub(crate) fn fault(alloc: Global, status: Status, errors: String) -> Answer {
+    pub(crate) fn fault(alloc: Global, status: Status, errors: String) -> Answer
+        ensures { IsFault status (string_bytes errors) result }
+    {
         Answer {
             status,
             output: String::new(alloc),
@@ -61,8 +63,12 @@ impl Answer {
         alloc: Global,
         name: &str,
         error: &std::io::Error,
-    ) -> Result<Answer, AllocError> {
-        let errors = format!(in alloc; "fluent: {name}: {error}\n")?;
+    ) -> Result<Answer, AllocError>
+        ensures { IfOk result (IsUnreadable name.now) }
+    {
+        let text = format!(in alloc; "{error}")?;
+        let reason = text.as_str();
+        let errors = format!(in alloc; "fluent: {name}: {reason}\n")?;
         Ok(Answer::fault(alloc, Status::Fault, errors))
     }
 }

@@ -1,6 +1,6 @@
 //! Bundles of sources.
 ghost use Rattle.std.specs.Prelude.{◌≡◌, IfOk, OnOk, map};
-ghost use Rattle.fluent_cli.specs.Language.{adding, alone, bundle_view, language_rules, start_of};
+ghost use Rattle.fluent_cli.specs.Language.{adding, all_of, alone, bundle_view, entries_of_all, language_rules, start_of};
 
 use fluent_bundle::{
     AddFault, FluentBundle, FluentResource, NoCustom, NoFormatter, NoFunction, NoTransform,
@@ -81,7 +81,10 @@ pub(crate) fn bundle_of_all<'r, 's>(
     alloc: Global,
     tag: &str,
     resources: &'r [FluentResource<'s>],
-) -> Result<Bundle<'r, 's>, AllocError> {
+) -> Result<Bundle<'r, 's>, AllocError>
+    ensures { IfOk result
+        (λ b. bundle_view b ≡ all_of tag.now (entries_of_all resources.now)) }
+{
     let mut bundle = start(alloc, tag)?;
     for resource in resources {
         add(&mut bundle, resource)?;

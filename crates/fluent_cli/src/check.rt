@@ -1,7 +1,10 @@
 //! What is wrong with the files of a language.
 
-ghost use Rattle.std.specs.Prelude.{◌≡◌, [], IfOk, OnOk};
-ghost use Rattle.fluent_cli.specs.Answers.{Adds, CountsNone, nothing_found, status_over};
+ghost use Rattle.std.specs.Prelude.{◌≡◌, IfOk};
+ghost use Rattle.fluent_cli.specs.Answers.{EndsWith, counts_line, status_over};
+ghost use Rattle.fluent_cli.specs.Checked.{IsChecked, Tells, TellsAll, tag_of};
+ghost use Rattle.fluent_cli.specs.Files.{entries_read};
+ghost use Rattle.fluent_cli.specs.Language.{bundle_view};
 
 use crate::answer::{Answer, Status};
 use crate::bundle::{Bundle, bundle_of_all};
@@ -10,7 +13,8 @@ use crate::linted::add_linted;
 use crate::places::{Places, places_of};
 use crate::plurals::add_pattern;
 use crate::reference::{Side, add_differences};
-use crate::report::{Finding, put_counts, put_findings, sort};
+use crate::report::{Counts, Finding, put_counts, put_findings, sort};
+use crate::silent::{add_no_number, add_ungiven, asking_of};
 use crate::source::{Source, Sources};
 use crate::spots::Spots;
 use crate::words::CheckRequest;
@@ -18,20 +22,32 @@ use fluent_intl::{LanguageRules, cldr_plurals, rules_for};
 use fluent_lint::place::pattern_at;
 use std::alloc::{AllocError, Global};
 
-/// Adds what is wrong with selects on numbers.
-fn add_selects<'s>(
+/// What is found, and whether the linter found nothing.
+#[derive(Drop)]
+struct Found<'s> {
+    findings: Vec<Finding<'s>>,
+    is_clean: bool,
+}
+
+/// Adds what gives no error in a pattern, and what is wrong with its selects on numbers, where a language has rules.
+fn add_silent<'s>(
     alloc: Global,
-    rules: &LanguageRules<'_>,
+    rules: Option<LanguageRules<'static>>,
     bundle: &Bundle<'_, 's>,
     places: &Places<'s>,
     findings: &mut Vec<Finding<'s>>,
 ) -> Result<(), AllocError> {
+    let asking = asking_of(alloc, bundle, places)?;
     for (place, spot) in places {
         let Some(pattern) = pattern_at(bundle, place) else {
             continue;
         };
         let mut kinds = Vec::new(alloc);
-        add_pattern(rules, place, pattern, &mut kinds)?;
+        add_ungiven(asking.as_slice(), place, pattern, &mut kinds)?;
+        add_no_number(place, pattern, &mut kinds)?;
+        if let Some(rules) = &rules {
+            add_pattern(rules, place, pattern, &mut kinds)?;
+        }
         for kind in &kinds {
             findings.push(Finding {
                 file: spot.file,
@@ -84,7 +100,7 @@ fn add_faults<'s>(
     add_repeated(alloc, spots, findings)
 }
 
-/// Adds what is wrong with the patterns of a bundle of these sources.
+/// Adds what is wrong with the patterns of a bundle of these sources, and says whether the linter finds nothing.
 fn add_of_patterns<'r, 's: 'r>(
     alloc: Global,
     language: Option<&str>,
@@ -92,15 +108,28 @@ fn add_of_patterns<'r, 's: 'r>(
     references: &Sources<'s>,
     side: &Side<'_, 'r, 's>,
     findings: &mut Vec<Finding<'s>>,
-) -> Result<(), AllocError> {
+) -> Result<bool, AllocError>
+    ensures { Tells (bundle_view side.now.bundle.now) (entries_read sources.now) result }
+{
     let resources = sources.resources.as_slice();
-    add_linted(alloc, side.bundle, resources, side.places, findings)?;
-    if let Some(tag) = language {
-        if let Some(rules) = rules_for(cldr_plurals(), tag) {
-            add_selects(alloc, &rules, side.bundle, side.places, findings)?;
-        }
+    let is_clean = add_linted(alloc, side.bundle, resources, side.places, findings)?;
+    let rules = match language {
+        Some(tag) => rules_for(cldr_plurals(), tag),
+        None => None,
+    };
+    add_silent(alloc, rules, side.bundle, side.places, findings)?;
+    add_compared(alloc, side, references, resources.len(), findings)?;
+    Ok(is_clean)
+}
+
+/// The language of the files.
+fn tag_of<'w>(language: Option<&'w str>) -> &'w str
+    ensures { result.now ≡ tag_of language.entry }
+{
+    match language {
+        Some(tag) => tag,
+        None => "en",
     }
-    add_compared(alloc, side, references, resources.len(), findings)
 }
 
 /// All that is found in these sources, in order.
@@ -109,20 +138,21 @@ fn findings_of<'s>(
     language: Option<&str>,
     sources: &Sources<'s>,
     references: &Sources<'s>,
-) -> Result<Vec<Finding<'s>>, AllocError> {
+) -> Result<Found<'s>, AllocError>
+    ensures { IfOk result (TellsAll language.entry sources.now) }
+{
     let mut findings = Vec::new(alloc);
     let spots = spots_in(alloc, sources)?;
     add_faults(alloc, sources, spots.as_slice(), &mut findings)?;
-    let tag = language.unwrap_or("en");
-    let bundle = bundle_of_all(alloc, tag, sources.resources.as_slice())?;
+    let bundle = bundle_of_all(alloc, tag_of(language), sources.resources.as_slice())?;
     let places = places_of(alloc, &bundle, spots.as_slice(), 0)?;
     let side = Side {
         bundle: &bundle,
         places: &places,
     };
-    add_of_patterns(alloc, language, sources, references, &side, &mut findings)?;
+    let is_clean = add_of_patterns(alloc, language, sources, references, &side, &mut findings)?;
     sort(alloc, &mut findings)?;
-    Ok(findings)
+    Ok(Found { findings, is_clean })
 }
 
 /// The texts of both.
@@ -137,50 +167,49 @@ fn texts_of<'s>(
     Ok(texts)
 }
 
-/// The status of a run with these findings.
-fn status_of(findings: &[Finding<'_>]) -> Status
-    ensures { result ≡ status_over findings.now }
+/// The status of a run with so many errors.
+fn status_of(is_clean: bool, errors: usize) -> Status
+    ensures { result ≡ status_over is_clean errors }
 {
-    if findings.is_empty() {
+    if is_clean && errors == 0 {
         Status::Fine
     } else {
         Status::Found
     }
 }
 
-/// Writes a line for each finding, and after these a line with their counts.
+/// Writes a line for each finding, and after these a line with their counts, which it gives.
 fn put_report(
     alloc: Global,
     texts: &[Source<'_>],
     findings: &[Finding<'_>],
     output: &mut String,
-) -> Result<(), AllocError>
-    ensures { OnOk result (findings.now ≡ [] → Adds nothing_found output.old output.new) }
+) -> Result<Counts, AllocError>
+    ensures { IfOk result (λ counts. EndsWith (counts_line counts.errors counts.warnings) output.new) }
 {
-    if findings.is_empty() {
-        return output.push_str("0 errors, 0 warnings\n");
-    }
     let counts = put_findings(alloc, texts, findings, output)?;
-    put_counts(counts, output)
+    put_counts(counts, output)?;
+    Ok(counts)
 }
 
-/// Checks sources, each finding on a line, and after these a line with their counts.
+/// Checks sources, each finding on a line, and after these a line with their counts. Status 0 says that no value and
+/// no attribute of them ever shows an error, for all arguments that give what it asks for; there may be warnings.
 pub(crate) fn check<'s>(
     alloc: Global,
     request: &CheckRequest<'_>,
     sources: &Sources<'s>,
     references: &Sources<'s>,
 ) -> Result<Answer, AllocError>
-    ensures { IfOk result CountsNone }
+    ensures { IfOk result (IsChecked (tag_of request.now.language) (entries_read sources.now)) }
 {
-    let findings = findings_of(alloc, request.language, sources, references)?;
+    let found = findings_of(alloc, request.language, sources, references)?;
     let texts = texts_of(alloc, sources, references)?;
     let mut output = String::new(alloc);
-    put_report(alloc, texts.as_slice(), findings.as_slice(), &mut output)?;
+    let counts = put_report(alloc, texts.as_slice(), found.findings.as_slice(), &mut output)?;
     let mut errors = String::new(alloc);
     say_faults(alloc, references, &mut errors)?;
     Ok(Answer {
-        status: status_of(findings.as_slice()),
+        status: status_of(found.is_clean, counts.errors),
         output,
         errors,
     })

@@ -57,7 +57,7 @@ pub(crate) enum Kind<'s> {
     Missing(Place<'s>, Place<'s>),
     /// A pattern refers to the value of a message that has none: first that, then the pattern.
     NoValue(Place<'s>, Place<'s>),
-    /// A pattern calls a function that isn't there.
+    /// A pattern calls a function that isn't there, unless an application adds it.
     NoFunction(&'s str, Place<'s>),
     /// A pattern refers to itself.
     Cyclic(Place<'s>),
@@ -69,6 +69,10 @@ pub(crate) enum Kind<'s> {
     NoDefault(Place<'s>),
     /// A pattern opens this many placeables, which are more than a bundle's limit.
     Large(Place<'s>, u64, u32),
+    /// A pattern refers to a term that shows a variable, and doesn't give it: that, the term, then the pattern.
+    NotGiven(&'s str, Place<'s>, Place<'s>),
+    /// A pattern calls `NUMBER` with what is no number, whatever the arguments are.
+    NoNumber(Place<'s>),
     /// A select on a number lacks a category that the language has.
     Lacks(PluralCategory, Place<'s>),
     /// A select on a number has a category that the language lacks.
@@ -91,6 +95,7 @@ impl Kind<'_> {
             | Kind::Builtin(_)
             | Kind::Missing(..)
             | Kind::NoValue(..)
+            | Kind::NoFunction(..)
             | Kind::Cyclic(_)
             | Kind::Circular(..)
             | Kind::LeadsTo(..)
@@ -99,7 +104,8 @@ impl Kind<'_> {
             | Kind::Untranslated(_)
             | Kind::AsksFor(..) => Weight::Error,
             Kind::Repeated(_)
-            | Kind::NoFunction(..)
+            | Kind::NotGiven(..)
+            | Kind::NoNumber(_)
             | Kind::Lacks(..)
             | Kind::NeverComes(..)
             | Kind::Obsolete(_)
@@ -189,6 +195,15 @@ impl fmt::Display for Kind<'_> {
                     f,
                     "'{name}' can open {count} placeables, and no more than {limit} are opened"
                 )
+            }
+            Kind::NotGiven(variable, term, within) => {
+                let name = Named(*term);
+                let within = Named(*within);
+                write!(f, "'{name}' is not given ${variable} (in '{within}')")
+            }
+            Kind::NoNumber(within) => {
+                let within = Named(*within);
+                write!(f, "NUMBER of what is no number (in '{within}')")
             }
             Kind::Lacks(category, within) => {
                 let key = key_of(*category);

@@ -1,4 +1,9 @@
 //! What the linter finds.
+
+ghost use Rattle.std.specs.Prelude.{◌≡◌, [], IsTrue};
+ghost use Rattle.fluent_cli.specs.Checked.{Tells};
+ghost use Rattle.fluent_cli.specs.Language.{bundle_view, entries_of_all};
+
 use crate::bundle::Bundle;
 use crate::finding::Kind;
 use crate::places::Places;
@@ -58,7 +63,7 @@ fn is_of_another(linted: &Linted<'_>) -> bool {
     }
 }
 
-/// Where a place stands, or else the prefix of the first source.
+/// Where a place stands, or else the start of the first source.
 fn found<'s>(places: &Places<'s>, place: &Place<'s>, kind: Kind<'s>) -> Finding<'s> {
     match places.get(place) {
         Some(spot) => Finding {
@@ -74,21 +79,40 @@ fn found<'s>(places: &Places<'s>, place: &Place<'s>, kind: Kind<'s>) -> Finding<
     }
 }
 
-/// Adds what the linter finds in the patterns of these resources. That a pattern leads to another that has a finding is
-/// told only where nothing else is, since it is well again as soon as that other one is.
+/// Adds a finding for each of the linter. That a pattern leads to another that has a finding is told only where nothing
+/// else is, since it is well again as soon as that other one is.
+fn add_all<'s>(
+    list: &[Linted<'s>],
+    places: &Places<'s>,
+    findings: &mut Vec<Finding<'s>>,
+) -> Result<(), AllocError> {
+    let has_causes = list.iter().any(|linted| !is_of_another(linted));
+    for linted in list {
+        if !has_causes || !is_of_another(linted) {
+            findings.push(found(places, &linted.place, kind_of(linted)))?;
+        }
+    }
+    Ok(())
+}
+
+/// Whether there are none.
+fn is_none(list: &[Linted<'_>]) -> bool
+    ensures { IsTrue result → list.now ≡ [] }
+{
+    list.is_empty()
+}
+
+/// Adds what the linter finds in the patterns of these resources, and says whether it finds nothing.
 pub(crate) fn add_linted<'r, 's: 'r>(
     alloc: Global,
     bundle: &Bundle<'r, 's>,
     resources: &[FluentResource<'s>],
     places: &Places<'s>,
     findings: &mut Vec<Finding<'s>>,
-) -> Result<(), AllocError> {
+) -> Result<bool, AllocError>
+    ensures { Tells (bundle_view bundle.now) (entries_of_all resources.now) result }
+{
     let list = lint(alloc, bundle, resources)?;
-    let has_causes = list.iter().any(|linted| !is_of_another(linted));
-    for linted in &list {
-        if !has_causes || !is_of_another(linted) {
-            findings.push(found(places, &linted.place, kind_of(linted)))?;
-        }
-    }
-    Ok(())
+    add_all(list.as_slice(), places, findings)?;
+    Ok(is_none(list.as_slice()))
 }

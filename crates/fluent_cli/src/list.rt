@@ -1,4 +1,7 @@
 //! What messages and terms ask for.
+
+ghost use Rattle.std.specs.Prelude.{◌≡◌, IfOk};
+
 use crate::answer::{Answer, Status};
 use crate::bundle::{Bundle, bundle_of_all};
 use crate::faults::{say_faults, spots_in};
@@ -24,7 +27,9 @@ fn put_place<'s>(
 }
 
 /// Lists the values and attributes of these sources, each on a line with the variables that it asks for.
-pub(crate) fn list(alloc: Global, sources: &Sources<'_>) -> Result<Answer, AllocError> {
+pub(crate) fn list(alloc: Global, sources: &Sources<'_>) -> Result<Answer, AllocError>
+    ensures { IfOk result (λ answer. answer.status ≡ Status.Fine) }
+{
     let bundle = bundle_of_all(alloc, "en", sources.resources.as_slice())?;
     let spots = spots_in(alloc, sources)?;
     let mut output = String::new(alloc);

@@ -1,4 +1,8 @@
 //! Findings with their places, and how they are printed.
+
+ghost use Rattle.std.specs.Prelude.{OnOk};
+ghost use Rattle.fluent_cli.specs.Answers.{Adds, counted, counts_line};
+
 use crate::finding::{Kind, Weight};
 use crate::source::Source;
 use fluent_lint::LineColumn;
@@ -79,7 +83,9 @@ pub(crate) fn put_findings(
 }
 
 /// A number with its noun, which is in the plural but for one.
-fn put_number(number: usize, noun: &str, text: &mut String) -> Result<(), AllocError> {
+fn put_number(number: usize, noun: &str, text: &mut String) -> Result<(), AllocError>
+    ensures { OnOk result (Adds (counted number noun.now) text.old text.new) }
+{
     if number == 1 {
         write!(text, "1 {noun}")
     } else {
@@ -88,7 +94,9 @@ fn put_number(number: usize, noun: &str, text: &mut String) -> Result<(), AllocE
 }
 
 /// Writes the line with the counts.
-pub(crate) fn put_counts(counts: Counts, text: &mut String) -> Result<(), AllocError> {
+pub(crate) fn put_counts(counts: Counts, text: &mut String) -> Result<(), AllocError>
+    ensures { OnOk result (Adds (counts_line counts.errors counts.warnings) text.old text.new) }
+{
     put_number(counts.errors, "error", text)?;
     text.push_str(", ")?;
     put_number(counts.warnings, "warning", text)?;

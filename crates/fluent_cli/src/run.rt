@@ -1,6 +1,9 @@
 //! A run of the program, over the contents of its files.
 
-ghost use Rattle.std.specs.Prelude.{◌≤◌};
+ghost use Rattle.std.specs.Prelude.{◌≡◌, IfOk};
+ghost use Rattle.fluent_cli.specs.Answers.{IsFault};
+ghost use Rattle.fluent_cli.specs.Files.{entries_read};
+ghost use Rattle.fluent_cli.specs.Runs.{Gives, Runs, no_text_line, own_count};
 
 use crate::answer::{Answer, Status};
 use crate::check::check;
@@ -12,7 +15,9 @@ use crate::words::Request;
 use std::alloc::{AllocError, Global};
 
 /// What is left where a file is no text.
-fn no_text(alloc: Global, name: &str) -> Result<Answer, AllocError> {
+fn no_text(alloc: Global, name: &str) -> Result<Answer, AllocError>
+    ensures { IfOk result (IsFault Status.Fault (no_text_line name.now)) }
+{
     let errors = format!(in alloc; "fluent: {name}: not UTF-8\n")?;
     Ok(Answer::fault(alloc, Status::Fault, errors))
 }
@@ -23,7 +28,9 @@ fn answer<'s>(
     request: &Request<'_>,
     sources: &Sources<'s>,
     references: &Sources<'s>,
-) -> Result<Answer, AllocError> {
+) -> Result<Answer, AllocError>
+    ensures { IfOk result (Gives request.now (entries_read sources.now)) }
+{
     match request {
         Request::Check(request) => check(alloc, request, sources, references),
         Request::Show(request) => show(alloc, request, sources),
@@ -33,7 +40,7 @@ fn answer<'s>(
 
 /// How many of a request's files are no references.
 fn own_files(request: &Request<'_>, files: usize) -> usize
-    ensures { result ≤ files }
+    ensures { result ≡ own_count request.now files }
 {
     match request {
         Request::Check(request) => files.min(request.files.len()),
@@ -41,7 +48,11 @@ fn own_files(request: &Request<'_>, files: usize) -> usize
     }
 }
 
-/// What a request gives over the contents of its files, in the order of [`Request::file_names`].
+/// What a request gives over the contents of its files, in the order of [`Request::file_names`]. The first file that is
+/// not UTF-8 is named, with status 3. Otherwise status, output and what is said come from the request and the entries of
+/// the files alone, after a line for each byte order mark. Status 0 of a check says that no value and no attribute of its
+/// files ever shows an error, for all arguments that give what it asks for; what is shown is the text that a bundle of
+/// the first file that has it writes.
 ///
 /// # Errors
 ///
@@ -50,7 +61,9 @@ pub fn run<'f>(
     alloc: Global,
     request: &Request<'_>,
     files: &[File<'f>],
-) -> Result<Answer, AllocError> {
+) -> Result<Answer, AllocError>
+    ensures { IfOk result (Runs request.now files.now) }
+{
     let (own, others) = files.split_at(own_files(request, files.len()));
     let sources = match read_sources(alloc, own)? {
         Ok(sources) => sources,

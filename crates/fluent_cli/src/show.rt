@@ -4,8 +4,9 @@ ghost use Rattle.std.specs.Prelude.{◌≡◌, [], IfOk, map, string_bytes};
 ghost use Rattle.fluent_chain.specs.ChainView.{bundles_of};
 ghost use Rattle.fluent_values.specs.View.{named, value_view};
 ghost use Rattle.fluent_cli.specs.Answers.{status_shown};
+ghost use Rattle.fluent_cli.specs.Files.{entries_read};
 ghost use Rattle.fluent_cli.specs.Language.{bundle_view};
-ghost use Rattle.fluent_cli.specs.Shown.{arguments_of, show_sources, shown_by, value_of};
+ghost use Rattle.fluent_cli.specs.Shown.{IsShown, arguments_of, is_there, shown_by, value_of};
 
 use crate::answer::{Answer, Status};
 use crate::bundle::bundles_of;
@@ -76,7 +77,9 @@ fn text_of<'s>(
 }
 
 /// Whether one of the bundles has what was asked for.
-fn has(texts: &Texts<'_, '_, '_>, request: &ShowRequest<'_>) -> bool {
+fn has(texts: &Texts<'_, '_, '_>, request: &ShowRequest<'_>) -> bool
+    ensures { result ≡ is_there request.now (map bundle_view (bundles_of texts.now)) }
+{
     match request.attribute {
         Some(name) => texts.has_attribute(request.id, name),
         None => texts.has_value(request.id),
@@ -117,8 +120,7 @@ pub(crate) fn show(
     request: &ShowRequest<'_>,
     sources: &Sources<'_>,
 ) -> Result<Answer, AllocError>
-    ensures { IfOk result
-        (λ answer. string_bytes answer.output ≡ show_sources request.now sources.now) }
+    ensures { IfOk result (IsShown request.now (entries_read sources.now)) }
 {
     let bundles = bundles_of(alloc, request.language, sources.resources.as_slice())?;
     let texts = Chain::of(bundles.as_slice());

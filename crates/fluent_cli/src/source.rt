@@ -1,4 +1,9 @@
 //! Files, and the texts and entries in them.
+
+ghost use Rattle.std.specs.Prelude.{◌≡◌, ◌≤◌, [], IfOk, IsTrue, OnOk, length, map};
+ghost use Rattle.fluent_cli.specs.Answers.{Adds};
+ghost use Rattle.fluent_cli.specs.Files.{AreRead, IsTextOf, ReadsAll, ReadsFile, ReadsMore, has_mark, mark_line, mark_lines, read_view, without_mark};
+
 use fluent_bundle::{FluentResource, ParserError, TryNewFault};
 use std::alloc::{AllocError, Global};
 use std::str;
@@ -29,27 +34,50 @@ pub(crate) struct Sources<'f> {
     pub unreadable: Vec<Vec<ParserError>>,
 }
 
+/// A byte order mark.
+const MARK: &[u8] = b"\xef\xbb\xbf";
+
+/// Whether bytes begin with a byte order mark.
+fn has_mark(bytes: &[u8]) -> bool
+    ensures is { result ≡ has_mark bytes.now }
+    ensures room { IsTrue result → 3 ≤ length bytes.now }
+{
+    bytes.starts_with(MARK)
+}
+
+fn without_mark(bytes: &[u8]) -> &[u8]
+    ensures { result.now ≡ without_mark bytes.now }
+{
+    if has_mark(bytes) { &bytes[3..] } else { bytes }
+}
+
+/// A text, where bytes are one.
+fn text_of(bytes: &[u8]) -> Option<&str>
+    ensures { IsTextOf bytes.now result }
+{
+    match str::from_utf8(bytes) {
+        Ok(text) => Some(text),
+        Err(_) => None,
+    }
+}
+
 /// The text of a file; `None` where it is not UTF-8.
-pub(crate) fn source_of<'f>(file: &File<'f>) -> Option<Source<'f>> {
-    let text = str::from_utf8(file.bytes).ok()?;
-    let name = file.name;
-    Some(match text.strip_prefix('\u{feff}') {
-        Some(text) => Source {
-            name,
-            text,
-            had_mark: true,
-        },
-        None => Source {
-            name,
-            text,
-            had_mark: false,
-        },
+pub(crate) fn source_of<'f>(file: &File<'f>) -> Option<Source<'f>>
+    ensures { ReadsFile file.now result }
+{
+    let text = text_of(without_mark(file.bytes))?;
+    Some(Source {
+        name: file.name,
+        text,
+        had_mark: has_mark(file.bytes),
     })
 }
 
 impl<'f> Sources<'f> {
     /// No source.
-    pub(crate) fn new(alloc: Global) -> Sources<'f> {
+    pub(crate) fn new(alloc: Global) -> Sources<'f>
+        ensures { AreRead [] result }
+    {
         Sources {
             texts: Vec::new(alloc),
             resources: Vec::new(alloc),
@@ -58,7 +86,9 @@ impl<'f> Sources<'f> {
     }
 
     /// Reads a source, and adds it.
-    pub(crate) fn add(&mut self, alloc: Global, source: Source<'f>) -> Result<(), AllocError> {
+    pub(crate) fn add(&mut self, alloc: Global, source: Source<'f>) -> Result<(), AllocError>
+        ensures { OnOk result (ReadsMore (read_view source.entry) self.old self.new) }
+    {
         self.texts.push(source)?;
         match FluentResource::try_new(alloc, source.text) {
             Ok(resource) => {
@@ -79,7 +109,9 @@ impl<'f> Sources<'f> {
 pub(crate) fn read_sources<'f>(
     alloc: Global,
     files: &[File<'f>],
-) -> Result<Result<Sources<'f>, &'f str>, AllocError> {
+) -> Result<Result<Sources<'f>, &'f str>, AllocError>
+    ensures { IfOk result (ReadsAll files.now) }
+{
     let mut sources = Sources::new(alloc);
     for file in files {
         match source_of(file) {
@@ -90,16 +122,26 @@ pub(crate) fn read_sources<'f>(
     Ok(Ok(sources))
 }
 
+/// Says that a byte order mark was taken off, where there was one.
+fn say_mark(source: &Source<'_>, errors: &mut String) -> Result<(), AllocError>
+    ensures { OnOk result (Adds (mark_line (read_view source.now)) errors.old errors.new) }
+{
+    if source.had_mark {
+        let name = source.name;
+        write!(
+            errors,
+            "fluent: warning: {name}: a byte order mark was taken off\n"
+        )?;
+    }
+    Ok(())
+}
+
 /// Says of which files a byte order mark was taken off.
-pub(crate) fn say_marks(sources: &[Source<'_>], errors: &mut String) -> Result<(), AllocError> {
+pub(crate) fn say_marks(sources: &[Source<'_>], errors: &mut String) -> Result<(), AllocError>
+    ensures { OnOk result (Adds (mark_lines (map read_view sources.now)) errors.old errors.new) }
+{
     for source in sources {
-        if source.had_mark {
-            let name = source.name;
-            write!(
-                errors,
-                "fluent: warning: {name}: a byte order mark was taken off\n"
-            )?;
-        }
+        say_mark(source, errors)?;
     }
     Ok(())
 }

@@ -40,7 +40,7 @@ fn names(line: &str, mark: &str, name: &str) -> bool {
     }
 }
 
-/// The line without the blanks at its prefix.
+/// The line without the blanks at its start.
 fn unindented(line: &str) -> &str {
     line.trim_start_matches(' ')
 }

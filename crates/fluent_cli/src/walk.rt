@@ -27,7 +27,7 @@ fn after(byte: u8, at: LineColumn) -> LineColumn {
 }
 
 impl<'s> Walk<'s> {
-    /// The prefix of a source.
+    /// The start of a source.
     pub(crate) fn new(source: &'s str) -> Walk<'s> {
         Walk {
             bytes: source.as_bytes(),
@@ -36,7 +36,7 @@ impl<'s> Walk<'s> {
         }
     }
 
-    /// Goes on to a byte, or stays where that is after: the line and column there.
+    /// Goes on to a byte, or stays where that byte was passed: the line and column there.
     pub(crate) fn to(&mut self, offset: usize) -> LineColumn {
         if let Some(passed) = self.bytes.get(self.offset..offset) {
             for byte in passed {

@@ -1,4 +1,8 @@
 //! What the words of a call ask for.
+
+ghost use Rattle.std.specs.Prelude.{◌≡◌, IfOk};
+ghost use Rattle.fluent_cli.specs.Runs.{IsAsked, file_names};
+
 use crate::answer::{Answer, Status};
 use clap::error::ErrorKind;
 use clap::{Arg, ArgAction, ArgMatches, Command, Error};
@@ -61,7 +65,9 @@ impl<'w> Request<'w> {
     /// # Errors
     ///
     /// An allocation failed.
-    pub fn file_names(&self, alloc: Global) -> Result<Vec<&'w str>, AllocError> {
+    pub fn file_names(&self, alloc: Global) -> Result<Vec<&'w str>, AllocError>
+        ensures { IfOk result (λ names. names.items ≡ file_names self.now) }
+    {
         let mut names = Vec::new(alloc);
         match self {
             Request::Check(request) => {
@@ -99,7 +105,7 @@ fn check_command<'a>(alloc: Global) -> Result<Command<'a>, AllocError> {
         .help("A file of the language that the files were translated from (may be given again)");
     Command::new(alloc, "check")
         .about(
-            "Finds what is wrong with files, which count as one source: status 1 if there is anything",
+            "Finds what is wrong with files, which count as one source: status 1 if there is an error",
         )
         .arg(language_option(
             alloc,
@@ -178,13 +184,17 @@ fn command<'a>(alloc: Global) -> Result<Command<'a>, AllocError> {
 }
 
 /// A fault of the words, in the form in which `clap` says its own.
-fn refused<'w>(alloc: Global, text: &str) -> Result<Asked<'w>, AllocError> {
+fn refused<'w>(alloc: Global, text: &str) -> Result<Asked<'w>, AllocError>
+    ensures { IfOk result IsAsked }
+{
     let errors = format!(in alloc; "error: {text}\n\nFor more information, try '--help'.\n")?;
     Ok(Asked::Answer(Answer::fault(alloc, Status::Usage, errors)))
 }
 
 /// What is said where the words ask for help, or are not of the form.
-fn said<'w>(alloc: Global, error: Error) -> Result<Asked<'w>, AllocError> {
+fn said<'w>(alloc: Global, error: Error) -> Result<Asked<'w>, AllocError>
+    ensures { IfOk result IsAsked }
+{
     if error.kind() == ErrorKind::OutOfMemory {
         return Err(AllocError);
     }
@@ -254,7 +264,9 @@ fn id_and_attribute(word: &str) -> (&str, Option<&str>) {
     }
 }
 
-fn asked_to_show<'w>(alloc: Global, matches: &ArgMatches<'w>) -> Result<Asked<'w>, AllocError> {
+fn asked_to_show<'w>(alloc: Global, matches: &ArgMatches<'w>) -> Result<Asked<'w>, AllocError>
+    ensures { IfOk result IsAsked }
+{
     let mut arguments = Vec::new(alloc);
     let plain = values(alloc, matches, "argument")?;
     let texts = values(alloc, matches, "text")?;
@@ -279,12 +291,15 @@ fn asked_to_show<'w>(alloc: Global, matches: &ArgMatches<'w>) -> Result<Asked<'w
     })))
 }
 
-/// What these words ask for, of which the first is the one after the program's name.
+/// What these words ask for, of which the first is the one after the program's name. An answer in place of a request is
+/// help, with status 0, or says what is wrong with the words, with status 2.
 ///
 /// # Errors
 ///
 /// An allocation failed.
-pub fn ask<'w>(alloc: Global, words: &'w [String]) -> Result<Asked<'w>, AllocError> {
+pub fn ask<'w>(alloc: Global, words: &'w [String]) -> Result<Asked<'w>, AllocError>
+    ensures { IfOk result IsAsked }
+{
     let matches = match command(alloc)?.try_get_matches_from(words) {
         Ok(matches) => matches,
         Err(error) => return said(alloc, error),

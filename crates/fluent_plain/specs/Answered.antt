@@ -51,14 +51,14 @@ NotFormattedIn bundle id name args fault.Memory = Unit {0}
 -- ---- the same of what the code is handed
 
 -- a run of bytes, as a clause has it
-abbrev pub BorrowsAsked : Type 0
-BorrowsAsked = Both (Bor (List ℕ)) (Bor (List ℕ))
+abbrev pub Bytes : Type 0
+Bytes = Both (Bor (List ℕ)) (Bor (List ℕ))
 
-abbrev pub bytes : BorrowsAsked → List ℕ
+abbrev pub bytes : Bytes → List ℕ
 bytes borrowed = borrowed.entry.now
 
-abbrev pub Formats : FluentBundle Rules NoCustom NoFunction NoFormatter NoTransform → BorrowsAsked → BorrowsAsked → BorrowsAsked → List ℕ → List ℕ → List ℕ → List ℕ → Lengths → Type 0
+abbrev pub Formats : FluentBundle Rules NoCustom NoFunction NoFormatter NoTransform → Bytes → Bytes → Bytes → List ℕ → List ℕ → List ℕ → List ℕ → Lengths → Type 0
 Formats bundle id name args = FormatsIn (bundle_view bundle) (bytes id) (bytes name) (bytes args)
 
-abbrev pub NotFormatted : FluentBundle Rules NoCustom NoFunction NoFormatter NoTransform → BorrowsAsked → BorrowsAsked → BorrowsAsked → FormatFault → Type 0
+abbrev pub NotFormatted : FluentBundle Rules NoCustom NoFunction NoFormatter NoTransform → Bytes → Bytes → Bytes → FormatFault → Type 0
 NotFormatted bundle id name args = NotFormattedIn (bundle_view bundle) (bytes id) (bytes name) (bytes args)

@@ -4,7 +4,7 @@ use Rattle.std.specs.Str.{IsUtf8}
 use Rattle.fluent_tree.specs.Tree.{Text}
 use Rattle.fluent_syntax.specs.Chunks.{entries}
 use Rattle.fluent_meaning.specs.Bundle.{Bundle, add_resource, after}
-use Rattle.fluent_plain.specs.Answered.{FormatsIn, BorrowsAsked, NotFormattedIn, bytes}
+use Rattle.fluent_plain.specs.Answered.{FormatsIn, Bytes, NotFormattedIn, bytes}
 use Rattle.fluent_plain.specs.Opened.{Opened, NotOpened}
 use Rattle.fluent_plain.specs.declared.answering.FormatFault.{FormatFault}
 use Rattle.fluent_plain.specs.declared.answering.Lengths.{Lengths}
@@ -36,8 +36,8 @@ RefusesOf tag on source id name args fault.Memory = Unit {0}
 
 -- ---- the same of what the code is handed
 
-abbrev pub Gives : BorrowsAsked → Bool → BorrowsAsked → BorrowsAsked → BorrowsAsked → BorrowsAsked → List ℕ → List ℕ → List ℕ → List ℕ → Lengths → Type 0
+abbrev pub Gives : Bytes → Bool → Bytes → Bytes → Bytes → Bytes → List ℕ → List ℕ → List ℕ → List ℕ → Lengths → Type 0
 Gives tag on source id name args = GivesOf (bytes tag) on (bytes source) (bytes id) (bytes name) (bytes args)
 
-abbrev pub Refuses : BorrowsAsked → Bool → BorrowsAsked → BorrowsAsked → BorrowsAsked → BorrowsAsked → SourceFault → Type 0
+abbrev pub Refuses : Bytes → Bool → Bytes → Bytes → Bytes → Bytes → SourceFault → Type 0
 Refuses tag on source id name args = RefusesOf (bytes tag) on (bytes source) (bytes id) (bytes name) (bytes args)

@@ -5,7 +5,7 @@ use Rattle.std.specs.Str.{IsUtf8}
 use Rattle.fluent_intl.specs.declared.rule_texts.fault.RuleFault.TheVariants as rule
 use Rattle.fluent_catalog.specs.declared.language.LanguageFault.TheVariants as language
 use Rattle.fluent_buffers.specs.declared.encoded.Fault.TheVariants as argument
-use Rattle.fluent_plain.specs.Answered.{BorrowsAsked, bytes}
+use Rattle.fluent_plain.specs.Answered.{Bytes, bytes}
 use Rattle.fluent_plain.specs.Sources.{GivesOf, RefusesOf}
 use Rattle.fluent_plain.specs.declared.answering.FormatFault.TheVariants as format
 use Rattle.fluent_plain.specs.declared.answering.Lengths.{Lengths}
@@ -48,5 +48,5 @@ pub record AnswersOf (tag : Text) (on : Bool) (source id name args out out' err 
   pub owed : ¬ (IsUtf8 source) → status ≡ 3
 
 -- the same of what the code is handed
-abbrev pub Answers : BorrowsAsked → Bool → BorrowsAsked → BorrowsAsked → BorrowsAsked → BorrowsAsked → List ℕ → List ℕ → List ℕ → List ℕ → Lengths → ℕ → Type 0
+abbrev pub Answers : Bytes → Bool → Bytes → Bytes → Bytes → Bytes → List ℕ → List ℕ → List ℕ → List ℕ → Lengths → ℕ → Type 0
 Answers tag on source id name args = AnswersOf (bytes tag) on (bytes source) (bytes id) (bytes name) (bytes args)

@@ -1,0 +1,10 @@
+use Rattle.std.proofs.Common.{◌≡◌, drop}
+use Rattle.fluent_tree.specs.References.{nameds_view}
+use Rattle.fluent_clean.specs.Needs.{names_in}
+use Rattle.fluent_cli.specs.Parts.{gives}
+use Rattle.fluent_cli.proofs.parts.gives.Given as goal
+
+abbrev pub invariant-loop-argument : goal.invariant-loop-argument
+invariant-loop-argument l =
+    gives l.name (names_in (nameds_view (drop l.argument-index l.argument-items)))
+    ≡ gives l.name (names_in (nameds_view l.argument-items))

@@ -1,0 +1,6 @@
+use Rattle.fluent_cli.specs.Language.{bundle_view}
+use Rattle.fluent_cli.specs.Silent.{AreAsking}
+use Rattle.fluent_cli.proofs.silent.asking_of.Given as goal
+
+abbrev pub invariant-loop-place : goal.invariant-loop-place
+invariant-loop-place l = AreAsking (bundle_view l.bundle) l.list.items
