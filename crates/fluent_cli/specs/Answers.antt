@@ -25,9 +25,9 @@ abbrev pub IsUnreadable : Text → Answer → Type 0
 IsUnreadable name answer =
     (reason : Text) × IsFault Fault ((codes "fluent: " ++ name) ++ (codes ": " ++ (reason ++ 10 ∷ []))) answer
 
--- where the linter finds nothing and there is no error, or not
-abbrev pub status_over : Bool → ℕ → Status
-status_over is_clean errors = if is_clean && errors == 0 then Fine else Found
+-- where the linter finds nothing, and no error and no warning is counted, or not
+abbrev pub status_over : Bool → ℕ → ℕ → Status
+status_over is_clean errors warnings = if (is_clean && errors == 0) && warnings == 0 then Fine else Found
 
 -- a number with its noun
 abbrev pub counted : ℕ → Text → Text

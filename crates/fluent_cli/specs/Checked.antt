@@ -1,5 +1,5 @@
 -- What a check that finds nothing says.
-use Rattle.std.specs.Prelude.{◌≡◌, ◌⊎◌, ℕ, Bool, IsTrue, List, [], ◌∷◌, ◌++◌, Option, Some, None, Result, IfOk, codes}
+use Rattle.std.specs.Prelude.{◌≡◌, ◌⊎◌, Bool, IsTrue, List, [], ◌∷◌, ◌++◌, Option, Some, None, Result, IfOk, codes}
 use Rattle.std.specs.Borrow.{Bor}
 use Rattle.std.specs.List.{AllByRecursion}
 use Rattle.fluent_tree.specs.Tree.{Text, Entry}
@@ -43,9 +43,9 @@ abbrev pub TellsAll : Option (Bor Text) → Sources → check.Found → Type 0
 TellsAll language sources found =
     IsTrue found.is_clean → NothingFails (tag_of language) (entries_read sources)
 
--- What a check of files gives: status 0 says that nothing in them fails.
+-- What a check of files gives: status 0 says that nothing in them fails, and that nothing was found.
 pub record IsChecked (tag : Text) (files : List (List Entry)) (answer : Answer) : Type 0 where
   pub status : (answer.status ≡ Fine) ⊎ (answer.status ≡ Found)
   pub clean : answer.status ≡ Fine → NothingFails tag files
   -- the last line of what is printed
-  pub counts : answer.status ≡ Fine → (warnings : ℕ) × EndsWith (counts_line 0 warnings) answer.output
+  pub counts : answer.status ≡ Fine → EndsWith (counts_line 0 0) answer.output

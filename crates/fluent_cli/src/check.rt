@@ -167,11 +167,11 @@ fn texts_of<'s>(
     Ok(texts)
 }
 
-/// The status of a run with so many errors.
-fn status_of(is_clean: bool, errors: usize) -> Status
-    ensures { result ≡ status_over is_clean errors }
+/// The status of a run with so many findings.
+fn status_of(is_clean: bool, counts: Counts) -> Status
+    ensures { result ≡ status_over is_clean counts.errors counts.warnings }
 {
-    if is_clean && errors == 0 {
+    if is_clean && counts.errors == 0 && counts.warnings == 0 {
         Status::Fine
     } else {
         Status::Found
@@ -192,8 +192,8 @@ fn put_report(
     Ok(counts)
 }
 
-/// Checks sources, each finding on a line, and after these a line with their counts. Status 0 says that no value and
-/// no attribute of them ever shows an error, for all arguments that give what it asks for; there may be warnings.
+/// Checks sources, each finding on a line, and after these a line with their counts. Status 0 says that nothing was
+/// found, and that no value and no attribute of them ever shows an error, for all arguments that give what it asks for.
 pub(crate) fn check<'s>(
     alloc: Global,
     request: &CheckRequest<'_>,
@@ -209,7 +209,7 @@ pub(crate) fn check<'s>(
     let mut errors = String::new(alloc);
     say_faults(alloc, references, &mut errors)?;
     Ok(Answer {
-        status: status_of(found.is_clean, counts.errors),
+        status: status_of(found.is_clean, counts),
         output,
         errors,
     })

@@ -95,7 +95,6 @@ impl Kind<'_> {
             | Kind::Builtin(_)
             | Kind::Missing(..)
             | Kind::NoValue(..)
-            | Kind::NoFunction(..)
             | Kind::Cyclic(_)
             | Kind::Circular(..)
             | Kind::LeadsTo(..)
@@ -104,6 +103,7 @@ impl Kind<'_> {
             | Kind::Untranslated(_)
             | Kind::AsksFor(..) => Weight::Error,
             Kind::Repeated(_)
+            | Kind::NoFunction(..)
             | Kind::NotGiven(..)
             | Kind::NoNumber(_)
             | Kind::Lacks(..)

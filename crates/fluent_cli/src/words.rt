@@ -105,7 +105,7 @@ fn check_command<'a>(alloc: Global) -> Result<Command<'a>, AllocError> {
         .help("A file of the language that the files were translated from (may be given again)");
     Command::new(alloc, "check")
         .about(
-            "Finds what is wrong with files, which count as one source: status 1 if there is an error",
+            "Finds what is wrong with files, which count as one source: status 1 if there is anything",
         )
         .arg(language_option(
             alloc,
