@@ -1,4 +1,5 @@
 pub mod Alone
+pub mod Anywhere
 pub mod Found
 pub mod Split
 pub mod Statuses

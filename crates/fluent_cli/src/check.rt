@@ -205,7 +205,12 @@ pub(crate) fn check<'s>(
     let found = findings_of(alloc, request.language, sources, references)?;
     let texts = texts_of(alloc, sources, references)?;
     let mut output = String::new(alloc);
-    let counts = put_report(alloc, texts.as_slice(), found.findings.as_slice(), &mut output)?;
+    let counts = put_report(
+        alloc,
+        texts.as_slice(),
+        found.findings.as_slice(),
+        &mut output,
+    )?;
     let mut errors = String::new(alloc);
     say_faults(alloc, references, &mut errors)?;
     Ok(Answer {

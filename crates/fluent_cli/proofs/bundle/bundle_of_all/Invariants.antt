@@ -6,5 +6,5 @@ use Rattle.fluent_cli.proofs.bundle.bundle_of_all.Given as goal
 abbrev pub invariant-loop-resource : goal.invariant-loop-resource
 invariant-loop-resource l =
     after_all (map (λ entries. add_resource entries) (entries_of_all (drop l.resource-index l.resources)))
-        (bundle_view l.bundle)
+    (bundle_view l.bundle)
     ≡ all_of l.tag (entries_of_all l.resources)

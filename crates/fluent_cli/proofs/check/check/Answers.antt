@@ -14,6 +14,6 @@ returns c =
       status = subst (λ s. (s ≡ Fine) ⊎ (s ≡ Found)) said (fine_or_found is_clean counts.errors counts.warnings);
       clean = λ fine. c.in_ok-found.ensures (fine_is_clean is_clean counts.errors counts.warnings (said ∙ fine));
       counts = λ fine.
-        subst (λ n. EndsWith (counts_line 0 n) printed) (fine_has_no_warning is_clean counts.errors counts.warnings (said ∙ fine))
+          subst (λ n. EndsWith (counts_line 0 n) printed) (fine_has_no_warning is_clean counts.errors counts.warnings (said ∙ fine))
           (subst (λ n. EndsWith (counts_line n counts.warnings) printed) (fine_has_no_error is_clean counts.errors counts.warnings (said ∙ fine)) c.in_ok-counts.ensures);
     }
