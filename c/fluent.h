@@ -1,9 +1,10 @@
-/* Fluent for C: messages of a source, formatted as the proved crates below say.
+/* Fluent for C: messages of one source, or of a bundle that is kept, formatted as the proved crates below say.
 
    Texts are UTF-8, each by where it begins and how many bytes it has; a zero byte is a byte like any other. No pointer is
-   null, also of an empty text or buffer. What is written lies apart from all else that is handed over. A call keeps nothing
-   of what it was given, and calls in several threads at once have nothing in common. Memory is taken by malloc and realloc
-   and given back by free, all of it before a call ends. No call belongs into a signal handler. */
+   null, also of an empty text or buffer. What is written lies apart from all else that is handed over. A call keeps none of
+   the memory that it was given: a bundle has copies of its sources. Memory is taken by malloc and realloc and given back by
+   free, all of it before a call ends, but for that of a bundle, which fluent_close gives back. Calls in several threads at
+   once have nothing in common; a bundle stays on the thread that opened it. No call belongs into a signal handler. */
 #ifndef FLUENT_H
 #define FLUENT_H
 #include <stdbool.h>
@@ -26,7 +27,9 @@ enum fluent_status {
     FLUENT_ID_NOT_UTF8 = 7,           /* the id, or the name of the attribute */
     FLUENT_NO_MESSAGE = 8,            /* no such message with a value, or with that attribute */
     FLUENT_ARGUMENTS_CUT = 9,         /* the arguments are cut short, or begin with no kind of value */
-    FLUENT_ARGUMENTS_NOT_UTF8 = 10    /* the name or the value of one of them */
+    FLUENT_ARGUMENTS_NOT_UTF8 = 10,   /* the name or the value of one of them */
+    FLUENT_CLOSED_BUNDLE = 11,        /* the bundle is not open */
+    FLUENT_OPEN_BUNDLE = 12           /* the bundle is open, and stays as it was */
 };
 
 /* How many bytes a text has, and the lines of its errors. */
@@ -48,6 +51,34 @@ uint8_t fluent_format_source(const uint8_t *language, size_t language_length, bo
                              size_t source_length, const uint8_t *id, size_t id_length, const uint8_t *attribute,
                              size_t attribute_length, const uint8_t *arguments, size_t arguments_length, uint8_t *out,
                              size_t out_room, uint8_t *err, size_t err_room, struct fluent_lengths *lengths);
+
+/* A bundle that is kept: its sources, what was read in them, and the plural rules of its language. Its fields belong to the
+   library. It begins as FLUENT_CLOSED, or with all its bytes zero, is in one place until it is closed, and is closed by
+   fluent_close alone. */
+struct fluent_bundle {
+    uint8_t *at;
+    bool is_open;
+};
+
+#define FLUENT_CLOSED {0}
+
+/* Opens a bundle that is closed, for the plural rules of a language: FLUENT_OK, or it stays closed. */
+uint8_t fluent_open(struct fluent_bundle *bundle, const uint8_t *language, size_t language_length, bool isolate);
+
+/* Adds a source, of which the bundle takes a copy: FLUENT_OK, or nothing was added. What can't be read in it is passed over,
+   and so is a message whose id is there. */
+uint8_t fluent_add(struct fluent_bundle *bundle, const uint8_t *source, size_t source_length);
+
+/* Whether there is a message of the id: FLUENT_OK or FLUENT_NO_MESSAGE. */
+uint8_t fluent_has(struct fluent_bundle *bundle, const uint8_t *id, size_t id_length);
+
+/* Formats the value of a message of the bundle, or its attribute, as fluent_format_source does. The bundle stays as it was. */
+uint8_t fluent_format(struct fluent_bundle *bundle, const uint8_t *id, size_t id_length, const uint8_t *attribute,
+                      size_t attribute_length, const uint8_t *arguments, size_t arguments_length, uint8_t *out,
+                      size_t out_room, uint8_t *err, size_t err_room, struct fluent_lengths *lengths);
+
+/* Gives back all memory of the bundle, which is closed then. Nothing happens where it is closed. */
+void fluent_close(struct fluent_bundle *bundle);
 
 /* The kinds of values: a text, or the text of a number, which keeps the digits after its point. A text that is no number
    is taken as a text. */

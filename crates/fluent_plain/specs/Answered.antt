@@ -1,5 +1,8 @@
 -- What a bundle answers.
-use Rattle.std.specs.Prelude.{◌≡◌, List, [], ◌∷◌, ◌++◌, ℕ, Some, None}
+use Rattle.std.specs.Prelude.{◌≡◌, List, [], ◌∷◌, ◌++◌, ℕ, Some, None, String, string_bytes}
+use Rattle.std.specs.Cow.{cow_str_bytes}
+use Rattle.std.specs.declared.borrow.CowStr.{CowStr}
+use Rattle.std.proofs.Common.{Global}
 use denote.Triple.Both.{Both}
 use Rattle.std.specs.Borrow.{Bor}
 use Rattle.std.specs.Str.{IsUtf8}
@@ -32,7 +35,16 @@ error_lines (error ∷ errors) = error_line error ++ error_lines errors
 
 -- ---- what is answered
 
--- The message is there and the arguments can be read: its text and the lines of its errors were given.
+-- The message is there and the arguments can be read: these are its text and the lines of its errors.
+pub record TextsIn (bundle : Bundle Text) (id name args shown told : List ℕ) : Type 0 where
+  pub pattern : Pattern
+  pub all : List Argument
+  pub found : asked_at id name bundle ≡ Some pattern
+  pub read : Are all args
+  pub text : shown ≡ formatted bundle (written_pattern bundle (arguments_of all) pattern).value
+  pub lines : told ≡ error_lines (written_pattern bundle (arguments_of all) pattern).errors
+
+-- The same, and they were given.
 pub record FormatsIn (bundle : Bundle Text) (id name args out out' err err' : List ℕ) (lengths : Lengths) : Type 0 where
   pub pattern : Pattern
   pub all : List Argument
@@ -56,6 +68,10 @@ Bytes = Both (Bor (List ℕ)) (Bor (List ℕ))
 
 abbrev pub bytes : Bytes → List ℕ
 bytes borrowed = borrowed.entry.now
+
+abbrev pub GivesTexts : FluentBundle Rules NoCustom NoFunction NoFormatter NoTransform → Bytes → Bytes → Bytes → CowStr Global × String Global → Type 0
+GivesTexts bundle id name args texts =
+    TextsIn (bundle_view bundle) (bytes id) (bytes name) (bytes args) (cow_str_bytes texts.0) (string_bytes texts.1)
 
 abbrev pub Formats : FluentBundle Rules NoCustom NoFunction NoFormatter NoTransform → Bytes → Bytes → Bytes → List ℕ → List ℕ → List ℕ → List ℕ → Lengths → Type 0
 Formats bundle id name args = FormatsIn (bundle_view bundle) (bytes id) (bytes name) (bytes args)

@@ -1,7 +1,7 @@
 //! What a bundle answers, into buffers of the caller.
 ghost use Rattle.std.specs.Prelude.{◌≡◌, IfOk, IfErr, OnErr, string_bytes};
 ghost use Rattle.fluent_resolver.specs.Status.{reported};
-ghost use Rattle.fluent_plain.specs.Answered.{Formats, NotFormatted, error_line, error_lines};
+ghost use Rattle.fluent_plain.specs.Answered.{Formats, GivesTexts, NotFormatted, error_line, error_lines};
 ghost use Rattle.fluent_values.specs.View.{error_view};
 ghost use Rattle.fluent_plain.specs.PlainView.{bundle_view};
 ghost use Rattle.fluent_plain.specs.Inside.Shown.{Shows};
@@ -55,6 +55,31 @@ pub fn format(
     ensures err { IfErr result (NotFormatted bundle.now id name args) }
     ensures left { OnErr result ((out.new ≡ out.old) × (err.new ≡ err.old)) }
 {
+    match texts(alloc, bundle, id, name, args) {
+        Ok((text, lines)) => Ok(Lengths {
+            text: put_text(text.as_str(), out),
+            errors: put_text(lines.as_str(), err),
+        }),
+        Err(fault) => Err(fault),
+    }
+}
+
+/// The text of the value of a message, or of its attribute of a name that is not empty, with arguments that
+/// [`arguments`] reads, and a line for each error in the text.
+///
+/// # Errors
+///
+/// As [`FormatFault`] says.
+pub fn texts<'r, 's: 'r>(
+    alloc: Global,
+    bundle: &Plain<'r, 's>,
+    id: &[u8],
+    name: &[u8],
+    args: &[u8],
+) -> Result<(CowStr<'s>, String), FormatFault>
+    ensures ok { IfOk result (GivesTexts bundle.now id name args) }
+    ensures err { IfErr result (NotFormatted bundle.now id name args) }
+{
     let (Ok(id), Ok(name)) = (str::from_utf8(id), str::from_utf8(name)) else {
         return Err(FormatFault::NotText);
     };
@@ -66,10 +91,7 @@ pub fn format(
         return Err(FormatFault::Memory);
     };
     match shown(alloc, bundle, id, name, &args) {
-        Ok(Some((text, lines))) => Ok(Lengths {
-            text: put_text(text.as_str(), out),
-            errors: put_text(lines.as_str(), err),
-        }),
+        Ok(Some(texts)) => Ok(texts),
         Ok(None) => Err(FormatFault::NoMessage),
         Err(AllocError) => Err(FormatFault::Memory),
     }

@@ -8,7 +8,7 @@ mod opening;
 mod sources;
 mod statuses;
 
-pub use answering::{FormatFault, Lengths, format};
+pub use answering::{FormatFault, Lengths, format, texts};
 pub use opening::{OpenFault, Plain, open};
 pub use sources::{SourceFault, format_source};
-pub use statuses::answer;
+pub use statuses::{answer, status};

@@ -45,7 +45,7 @@ pub fn answer(
 }
 
 /// The status of a fault, from 2 on.
-fn status(fault: SourceFault) -> u8
+pub fn status(fault: SourceFault) -> u8
     ensures status { result ≡ status_of fault }
     ensures above { 1 < result }
 {

@@ -1,0 +1,5 @@
+pub mod Steps
+pub mod Words
+pub mod Global
+pub mod Handles
+pub mod Still
