@@ -3,7 +3,7 @@ use crate::check::check;
 use crate::common::{Bundle, bundle_of, read};
 use crate::own::{Bracketed, Own, Upper};
 use fluent_bundle::{EnglishPlurals, FluentResource, NoCustom};
-use fluent_chain::{Chain, Link};
+use fluent_chain::{BundleRef, Chain};
 use std::alloc::{AllocError, Global};
 use std::collections::BTreeMap;
 use std::process::Abort;
@@ -109,7 +109,11 @@ fn a_list_says_which_bundle_answers(rt: HostRuntime) -> Result<(), Fail> {
 fn chosen(rt: &impl Abort, by_tag: &BTreeMap<&'static str, Bundle<'_, 'static>>) {
     match (by_tag.get("pl"), by_tag.get("en")) {
         (Some(first), Some(second)) => {
-            answers(rt, &Chain::new(&[Link(first), Link(second)]), PLACES);
+            answers(
+                rt,
+                &Chain::new(&[BundleRef(first), BundleRef(second)]),
+                PLACES,
+            );
         }
         _ => check(rt, false, "a bundle by its tag"),
     }

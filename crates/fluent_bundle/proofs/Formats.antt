@@ -1,10 +1,10 @@
 -- What a whole pattern wrote and reported.
-use Rattle.std.proofs.Common.{◌≡◌, ℕ, Bool, true, false, String, string_bytes, Global, refl, sym, ap, subst, ◌∙◌, List, [], ◌++◌, append-nil, Option, Some, None, Result, Ok, Err, OnOk}
+use Rattle.std.proofs.Common.{◌≡◌, ℕ, Bool, true, false, String, string_bytes, Global, refl, sym, ap, subst, ◌∙◌, List, [], ◌++◌, append-nil, Option, Some, None, Result, Ok, Err, OnOk, OnErr}
 use Rattle.std.specs.Option.{option_map}
 use Rattle.std.specs.Io.KnownBytes.{Appends}
 use Rattle.std.specs.Prelude.{◌≤◌}
 use Rattle.fluent_tree.specs.Tree.{Text, Pattern}
-use Rattle.fluent_text.specs.Taken.{Faulted}
+use Rattle.fluent_text.specs.Taken.{Faulted, TookPrefix}
 use Rattle.fluent_text.specs.declared.counting.WriteFault.{WriteFault}
 use Rattle.fluent_text.specs.declared.counting.WriteFault.TheVariants as fault
 use Rattle.fluent_values.specs.declared.output.Halt.{Halt}
@@ -182,6 +182,14 @@ takes_text {m = m} {w = w} {w' = w'} r is h = record {
   whole = h.prefix.whole;
   taken = h.prefix.taken;
 }
+
+-- a text that was written at once
+pub takes_at_once : {T E : Type 0} (r : Result T E) (text t : Text) {held held' : Option Text} → text ≡ t → OnOk r (Appends held held' t) → OnErr r (TookPrefix held held' t) → TakesText r text held held'
+takes_at_once (Ok x) text t {held = held} {held' = held'} is all prefix =
+    let taken = subst (Appends held held') (sym is) all in
+    record { all = taken; prefix = text; rest = []; whole = append-nil text; taken = taken }
+takes_at_once (Err e) text t is all prefix =
+    record { all = tt; prefix = prefix.0; rest = prefix.1; whole = sym prefix.2 ∙ sym is; taken = prefix.3 }
 
 -- both
 pub writes_all : {T E : Type 0} (r : Result T E) {text : Text} (errors : List Error) {held held' : Option Text} (list list' : List FluentError) → TakesText r text held held' → OnOk r (AddsAll errors list list') → OnOk r (WritesAll text errors held held' list list')

@@ -3,11 +3,12 @@ use Rattle.std.proofs.Common.{rules, ◌≡◌, refl, sym, ap, subst, ◌∙◌,
 use Rattle.std.specs.Prelude.{ℕ, Bool, true, ◌≤◌, ◌&&◌, not, is_some, if◌then◌else◌}
 use Rattle.std.specs.declared.borrow.CowStr.{CowStr}
 use Rattle.fluent_tree.specs.Tree.{Text, Pattern, nothing, more, text, placeable}
+use Rattle.fluent_meaning.specs.Errors.{Error}
 use Rattle.fluent_meaning.specs.Value.{Value, text_value}
 use Rattle.fluent_meaning.specs.Arguments.{Map}
 use Rattle.fluent_meaning.specs.Bundle.{Bundle, unless_formatted}
 use Rattle.fluent_meaning.specs.Result.{formatted, written_pattern, substituted_pattern}
-use Rattle.fluent_bundle.specs.Formatted.{AddsAll, GivesText}
+use Rattle.fluent_bundle.specs.Formatted.{AddsAll, AddsPrefix, GivesText}
 use Rattle.fluent_meaning.specs.Walk.{Environment, application, elements, deep, inner, has_one}
 use Rattle.fluent_meaning.specs.Meaning.{Budget, Ran, left, ran, after_text, within_budget}
 use Rattle.fluent_values.specs.Texts.{sole_text, is_text, texts_of}
@@ -31,6 +32,11 @@ pub sole_known : {X Y : Type 0} (o : Option X) (f : Option Y) (p : Pattern) (t :
 sole_known None None p t r h is a b = h ∙ is
 sole_known None (Some f) p t r h is a b = absurd cc
 sole_known (Some x) f p t r h is a b = absurd cc
+
+-- where it is written at once, there is no transform
+pub at_once_where : {X : Type 0} (o : Option X) (p : Pattern) (t : Text) → Some t ≡ (if not (is_some o) then sole_text p else None) → (o ≡ None) × (sole_text p ≡ Some t)
+at_once_where None p t h = (refl, sym h)
+at_once_where (Some x) p t h = cc
 
 -- where its texts are written as they stand, there is no transform and nothing else in it
 pub texts_where : {X : Type 0} (o : Option X) (p : Pattern) → (not (is_some o) && is_text p) ≡ true → (o ≡ None) × (is_text p ≡ true)
@@ -75,3 +81,6 @@ sole_formatted b env p t plain bare is = sym (ap (formatted b) (sole_value b env
 
 pub none_added : (b : Bundle Text) (env : Map (Value Text)) (p : Pattern) (t : Text) (list : List FluentError) → sole_text p ≡ Some t → AddsAll (written_pattern b env p).errors list list
 none_added b env p t list is = record { added = sym (ap (λ es. reported list ++ es) (sole_errors b env p t is) ∙ append-nil (reported list)) }
+
+pub no_prefix_added : (errors : List Error) (list : List FluentError) → AddsPrefix errors list list
+no_prefix_added errors list = record { prefix = []; rest = errors; whole = refl; adds = record { added = sym (append-nil (reported list)) } }

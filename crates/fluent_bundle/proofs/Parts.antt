@@ -42,7 +42,7 @@ prefix_second es fs list list' list'' h k = record {
   adds = adds_both es k.prefix list list' list'' h k.adds;
 }
 
--- ---- a list up to a place
+-- ---- a list up to an index
 
 next_one : {A B : Type 0} (f : A → B) (xs : List A) (i : ℕ) (x : A) → i < length xs → x ≡ get_or xs i x → map f (take (suc i) xs) ≡ map f (take i xs) ++ f x ∷ []
 next_one f [] i x fits is = absurd (omega arith)

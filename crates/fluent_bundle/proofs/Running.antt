@@ -1,5 +1,5 @@
 -- A list of calls, one more at its end.
-use Rattle.std.specs.Prelude.{◌≡◌, List, [], ◌∷◌, ◌++◌, map, Option, refl, Result, Ok, Err, OnErr}
+use Rattle.std.specs.Prelude.{◌≡◌, List, [], ◌∷◌, ◌++◌, map, Option, refl, Result, Ok, Err, OnOk, OnErr}
 use Rattle.std.proofs.Common.{sym, ◌∙◌, ap, subst}
 use Rattle.std.specs.List.{All}
 use Rattle.std.proofs.lemmas.List.{map-append, map-id}
@@ -16,6 +16,10 @@ use Rattle.fluent_bundle.specs.declared.calls.Call.{Call}
 pub on_err : {T E P : Type 0} (r : Result T E) → P → OnErr r P
 on_err (Ok x) p = tt
 on_err (Err e) p = p
+
+pub on_ok : {T E P : Type 0} (r : Result T E) → P → OnOk r P
+on_ok (Ok x) p = p
+on_ok (Err e) p = tt
 
 -- ---- one list of calls after another
 

@@ -133,7 +133,7 @@ impl<
         laws::limits_are_kept();
         match self.target(id, name) {
             Some(target) => {
-                match self.format_linked(target.pattern, target.place, args, errors) {
+                match self.format_linked(target.pattern, target.cursor, args, errors) {
                     Ok(text) => Ok(Some(text)),
                     Err(AllocError) => Err(AllocError),
                 }
@@ -159,7 +159,7 @@ impl<
         laws::limits_are_kept();
         match self.target(id, name) {
             Some(target) => {
-                match self.write_linked(w, target.pattern, target.place, args, errors) {
+                match self.write_linked(w, target.pattern, target.cursor, args, errors) {
                     Ok(()) => Ok(true),
                     Err(fault) => Err(fault),
                 }

@@ -11,7 +11,7 @@ ghost use Rattle.fluent_entries.specs.IdNumbers.{IsPlaced};
 ghost use Rattle.fluent_values.specs.Texts.{sole_text, is_text};
 ghost use Rattle.fluent_bundle.specs.BundleView.{entries_in, transform_in};
 ghost use Rattle.fluent_bundle.specs.Inside.Outputs.{CountsHalt, PutsFree};
-ghost use Rattle.fluent_bundle.specs.Inside.Unchanged.{unchanged_text};
+ghost use Rattle.fluent_bundle.specs.Inside.Unchanged.{unchanged_text, untransformed_text};
 ghost use Rattle.fluent_bundle.specs.PatternsWithoutMemory.{BorrowsText, WritesFree};
 
 use crate::bundle::FluentBundle;
@@ -22,9 +22,9 @@ use crate::text_says::{Adds, Gives, Takes};
 use fluent_intl::MemoizerKind;
 use fluent_resolver::output::through;
 use fluent_resolver::texts::{is_text, put_texts};
-use fluent_resolver::{Place, Scope, calls_are_walks, write_pattern};
+use fluent_resolver::{Cursor, Scope, calls_are_walks, write_pattern};
 use fluent_syntax::ast::{Pattern, PatternElement};
-use fluent_syntax::{Counting, WriteFault};
+use fluent_syntax::{Counting, WriteFault, put};
 use fluent_values::output::{Halt, Output, with_error};
 use fluent_values::types::{FluentType, FluentValue};
 use fluent_values::{FluentArgs, FluentError, FluentFormatter, FluentFunction, Transform};
@@ -81,7 +81,7 @@ impl<
         ensures memory { WritesFree self.now (pattern_view pattern.now) result }
     {
         laws::limits_are_kept();
-        self.write_linked(w, pattern, Place::by_name(), args, errors)
+        self.write_linked(w, pattern, Cursor::by_name(), args, errors)
     }
 
     /// The text of a pattern, as [`FluentBundle::write_pattern`] writes it, and then as the formatter shows it as a
@@ -107,7 +107,7 @@ impl<
         ensures borrowed { BorrowsText self.now (pattern_view pattern.now) result }
     {
         laws::limits_are_kept();
-        self.format_linked(pattern, Place::by_name(), args, errors)
+        self.format_linked(pattern, Cursor::by_name(), args, errors)
     }
 
     /// Writes a pattern whose references go by their links, or by name where there are none.
@@ -115,11 +115,11 @@ impl<
         &self,
         w: &mut Counting<W>,
         pattern: &Pattern<'s>,
-        place: Place<'_>,
+        cursor: Cursor<'_>,
         args: Option<&FluentArgs<'_, C>>,
         errors: &mut Vec<FluentError>,
     ) -> Result<(), WriteFault>
-        requires { IsPlaced (entries_in self.now) (references (pattern_view pattern.now)) place }
+        requires { IsPlaced (entries_in self.now) (references (pattern_view pattern.now)) cursor }
         ensures text { ⟦<W as Takes<Self>>⟧.text self.now pattern.now args.entry result w.old w.new }
         ensures errors { ⟦<Self as Adds>⟧.all self.now pattern.now args.entry result
             errors.old errors.new }
@@ -128,9 +128,12 @@ impl<
         ensures fault { CountsFault w.old w.new result }
         ensures memory { WritesFree self.now (pattern_view pattern.now) result }
     {
+        if let Some(text) = self.untransformed_text(pattern) {
+            return put(w, text.as_bytes());
+        }
         let mut unused = String::new(self.alloc);
         let mut out = through(w, &mut unused);
-        let written = self.write_out(&mut out, pattern, place, args, errors);
+        let written = self.write_out(&mut out, pattern, cursor, args, errors);
         with_error(written, out.error)
     }
 
@@ -139,11 +142,11 @@ impl<
     pub(crate) fn format_linked(
         &self,
         pattern: &Pattern<'s>,
-        place: Place<'_>,
+        cursor: Cursor<'_>,
         args: Option<&FluentArgs<'_, C>>,
         errors: &mut Vec<FluentError>,
     ) -> Result<CowStr<'s>, AllocError>
-        requires { IsPlaced (entries_in self.now) (references (pattern_view pattern.now)) place }
+        requires { IsPlaced (entries_in self.now) (references (pattern_view pattern.now)) cursor }
         ensures whole { ⟦<Self as Gives>⟧.all self.now pattern.now args.entry result
             errors.old errors.new }
         ensures prefix { ⟦<Self as Adds>⟧.prefix self.now pattern.now args.entry
@@ -153,7 +156,7 @@ impl<
         if let Some(text) = self.sole_text(pattern) {
             return Ok(CowStr::Borrowed(text));
         }
-        let text = self.gather(pattern, place, args, errors)?;
+        let text = self.gather(pattern, cursor, args, errors)?;
         match self.formatted_text(text.as_str())? {
             Some(shown) => Ok(CowStr::Owned(shown)),
             None => Ok(CowStr::Owned(text)),
@@ -166,6 +169,18 @@ impl<
         ensures { option_map (λ t. t.now) result ≡ unchanged_text self.now (pattern_view pattern.now) }
     {
         if self.transform.is_none() && self.formatter.is_none() {
+            only_text(pattern)
+        } else {
+            None
+        }
+    }
+
+    /// The text of a pattern that is one text, where no transform is set.
+    #[inline(always)]
+    fn untransformed_text<'p>(&self, pattern: &Pattern<'p>) -> Option<&'p str>
+        ensures { option_map (λ t. t.now) result ≡ untransformed_text self.now (pattern_view pattern.now) }
+    {
+        if self.transform.is_none() {
             only_text(pattern)
         } else {
             None
@@ -193,11 +208,11 @@ impl<
         &self,
         out: &mut Output<W>,
         pattern: &Pattern<'s>,
-        place: Place<'_>,
+        cursor: Cursor<'_>,
         args: Option<&FluentArgs<'_, C>>,
         errors: &mut Vec<FluentError>,
     ) -> Result<(), Halt>
-        requires { IsPlaced (entries_in self.now) (references (pattern_view pattern.now)) place }
+        requires { IsPlaced (entries_in self.now) (references (pattern_view pattern.now)) cursor }
         ensures writes { ⟦<W as Takes<Self>>⟧.put self.now pattern.now args.entry result
             out.old out.new errors.old errors.new }
         ensures memory { PutsFree self.now (pattern_view pattern.now) out.old result }
@@ -207,7 +222,7 @@ impl<
         }
         calls_are_walks();
         let mut scope = Scope::new(self, &self.entries, args, Some(errors));
-        let written = write_pattern(&mut scope, out, pattern, place);
+        let written = write_pattern(&mut scope, out, pattern, cursor);
         match scope.into_errors() {
             Some(_list) => written,
             None => written,
@@ -218,11 +233,11 @@ impl<
     fn gather(
         &self,
         pattern: &Pattern<'s>,
-        place: Place<'_>,
+        cursor: Cursor<'_>,
         args: Option<&FluentArgs<'_, C>>,
         errors: &mut Vec<FluentError>,
     ) -> Result<String, AllocError>
-        requires { IsPlaced (entries_in self.now) (references (pattern_view pattern.now)) place }
+        requires { IsPlaced (entries_in self.now) (references (pattern_view pattern.now)) cursor }
         ensures text { IfOk result (⟦<Self as Gives>⟧.text self.now pattern.now args.entry) }
         ensures errors { ⟦<Self as Adds>⟧.all self.now pattern.now args.entry result
             errors.old errors.new }
@@ -231,7 +246,7 @@ impl<
     {
         let mut text = String::with_capacity(self.alloc, ROOM)?;
         let mut unused = Counting::new(Vec::new(self.alloc));
-        match self.write_into(&mut text, &mut unused, pattern, place, args, errors) {
+        match self.write_into(&mut text, &mut unused, pattern, cursor, args, errors) {
             Ok(()) => Ok(text),
             Err(_) => Err(AllocError),
         }
@@ -243,11 +258,11 @@ impl<
         text: &mut String,
         unused: &mut Counting<W>,
         pattern: &Pattern<'s>,
-        place: Place<'_>,
+        cursor: Cursor<'_>,
         args: Option<&FluentArgs<'_, C>>,
         errors: &mut Vec<FluentError>,
     ) -> Result<(), Halt>
-        requires { IsPlaced (entries_in self.now) (references (pattern_view pattern.now)) place }
+        requires { IsPlaced (entries_in self.now) (references (pattern_view pattern.now)) cursor }
         ensures text { ⟦<Self as Gives>⟧.extends self.now pattern.now args.entry result
             text.old text.new }
         ensures errors { ⟦<Self as Adds>⟧.all self.now pattern.now args.entry result
@@ -262,7 +277,7 @@ impl<
             is_buffered: true,
             error: None,
         };
-        self.write_out(&mut out, pattern, place, args, errors)
+        self.write_out(&mut out, pattern, cursor, args, errors)
     }
 }
 

@@ -9,7 +9,7 @@ use Rattle.fluent_tree.specs.Tree.{Text}
 use Rattle.fluent_meaning.specs.Bundle.{Bundle}
 use Rattle.fluent_resolver.specs.Status.{arguments_view}
 use Rattle.fluent_bundle.specs.declared.bundle.FluentBundle.{FluentBundle}
-use Rattle.fluent_chain.specs.Chain.{pattern_at, first_with, place_with}
+use Rattle.fluent_chain.specs.Chain.{pattern_at, first_with, index_with}
 use Rattle.fluent_chain.specs.ChainCalls.{Giving, GivesFound, BorrowsFound}
 use Rattle.fluent_chain.specs.ChainView.{pattern_of}
 use Rattle.fluent_catalog.specs.CatalogView.{bundles_in, tag_in}
@@ -20,7 +20,7 @@ use Rattle.fluent_catalog.specs.declared.catalog.Catalog.{Catalog}
 module _ {M C F G X : Type 0} (of : FluentBundle M C F G X → Bundle Text) where
   -- the tag of the first language that has it
   abbrev pub tag : Catalog M C F G X → Text → Option (Bor Text) → Option Text
-  tag catalog id name = tag_in catalog (place_with (pattern_of of id name) (bundles_in catalog))
+  tag catalog id name = tag_in catalog (index_with (pattern_of of id name) (bundles_in catalog))
 
   -- its text is given
   abbrev pub gives : (C → Text) → Giving (Catalog M C F G X) C (CowStr Global)

@@ -15,9 +15,9 @@ tags_in catalog = map (λ tag. tag.now) catalog.tags.items
 abbrev pub tag_seen : Option (Bor Text) → Option Text
 tag_seen found = option_map (λ tag. tag.now) found
 
--- the tag at a place, if one is given and a language stands there
+-- the tag at an index, if one is given and a language stands there
 abbrev pub tag_in : {M C F G X : Type 0} → Catalog M C F G X → Option ℕ → Option Text
-tag_in catalog place = option_and_then (slice_get (tags_in catalog)) place
+tag_in catalog index = option_and_then (slice_get (tags_in catalog)) index
 
 -- the bundles of its languages, in the same order
 abbrev pub bundles_in : {M C F G X : Type 0} → Catalog M C F G X → List (FluentBundle M C F G X)

@@ -151,11 +151,11 @@ impl<
         self.tag_at(Chain::of(self.bundles.as_slice()).find_attribute(id, name))
     }
 
-    /// The tag at a place, if there is one.
-    fn tag_at(&self, place: Option<usize>) -> Option<&'s str>
-        ensures { tag_seen result ≡ tag_in self.now place }
+    /// The tag at an index, if there is one.
+    fn tag_at(&self, index: Option<usize>) -> Option<&'s str>
+        ensures { tag_seen result ≡ tag_in self.now index }
     {
-        match self.tags.as_slice().get(place?) {
+        match self.tags.as_slice().get(index?) {
             Some(tag) => Some(*tag),
             None => None,
         }

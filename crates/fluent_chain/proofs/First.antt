@@ -95,7 +95,7 @@ pub owned : {D : Type 0} (all : Text) (errors : List Error) (text : CowStr Globa
 owned all errors text (Ok s) list list' gives same = record { text = same ∙ gives.text; adds = gives.adds }
 owned all errors text (Err e) list list' gives same = record { text = tt; adds = tt }
 
--- ---- bundles that are asked by their places
+-- ---- bundles that are asked by their indices
 
 -- what stands at an index begins what is left
 pub drop-at : {X : Type 0} (xs : List X) (i : ℕ) (x : X) → slice_get xs i ≡ Some x → drop i xs ≡ x ∷ drop (suc i) xs
@@ -116,7 +116,7 @@ module _ {B : Type 0} (has : B → Option Pattern) (bs : List B) (i : ℕ) (firs
   pub passes : (b : B) → slice_get bs i ≡ Some b → has b ≡ None → first_with has (drop (i + 1) bs) ≡ first_with has bs
   passes b at none = next (sym (ap (first_with has) (drop-at bs i b at) ∙ first_with-none has b (drop (suc i) bs) none))
 
-  -- and so is a place where none stands
+  -- and so is an index where none stands
   pub passes_end : slice_get bs i ≡ None → first_with has (drop (i + 1) bs) ≡ first_with has bs
   passes_end none = next (ap (first_with has) (drop-none bs i none))
 
@@ -128,15 +128,15 @@ module _ {B : Type 0} (has : B → Option Pattern) (bs : List B) (i : ℕ) (firs
   pub none_left : length bs ≤ i → None ≡ first_with has bs
   none_left past = sym (ap (first_with has) (drop_of_length-le bs past)) ∙ first
 
-module _ {B : Type 0} (test : B → Bool) (bs : List B) (i : ℕ) (b : B) (at : slice_get bs i ≡ Some b) (place : Option ℕ) (first : position_from test i (drop i bs) ≡ place) where
-  here : cond (test b) (Some i) (position_from test (i + 1) (drop (suc i) bs)) ≡ place
+module _ {B : Type 0} (test : B → Bool) (bs : List B) (i : ℕ) (b : B) (at : slice_get bs i ≡ Some b) (index : Option ℕ) (first : position_from test i (drop i bs) ≡ index) where
+  here : cond (test b) (Some i) (position_from test (i + 1) (drop (suc i) bs)) ≡ index
   here = sym (ap (position_from test i) (drop-at bs i b at)) ∙ first
 
-  pub place_here : test b ≡ true → Some i ≡ place
-  place_here there = sym (ap (λ t. cond t (Some i) (position_from test (i + 1) (drop (suc i) bs))) there) ∙ here
+  pub index_here : test b ≡ true → Some i ≡ index
+  index_here there = sym (ap (λ t. cond t (Some i) (position_from test (i + 1) (drop (suc i) bs))) there) ∙ here
 
-  pub place_after : test b ≡ false → position_from test (i + 1) (drop (i + 1) bs) ≡ place
-  place_after gone =
+  pub index_after : test b ≡ false → position_from test (i + 1) (drop (i + 1) bs) ≡ index
+  index_after gone =
       ap (λ n. position_from test (i + 1) (drop n bs)) (add-one i)
       ∙ sym (ap (λ t. cond t (Some i) (position_from test (i + 1) (drop (suc i) bs))) gone) ∙ here
 
@@ -145,8 +145,8 @@ drop-end [] i h = drop-nil i
 drop-end (x ∷ xs) zero h = cc
 drop-end (x ∷ xs) (suc i) h = drop-end xs i h
 
-pub place_past : {B : Type 0} (test : B → Bool) (bs : List B) (i : ℕ) (place : Option ℕ) → slice_get bs i ≡ None → position_from test i (drop i bs) ≡ place → position_from test (i + 1) (drop (i + 1) bs) ≡ place
-place_past test bs i place none first =
+pub index_past : {B : Type 0} (test : B → Bool) (bs : List B) (i : ℕ) (index : Option ℕ) → slice_get bs i ≡ None → position_from test i (drop i bs) ≡ index → position_from test (i + 1) (drop (i + 1) bs) ≡ index
+index_past test bs i index none first =
     ap (λ n. position_from test (i + 1) (drop n bs)) (add-one i)
     ∙ ap (position_from test (i + 1)) (drop-none bs i none ∙ drop-end bs i none)
     ∙ sym (ap (position_from test i) (drop-end bs i none)) ∙ first

@@ -41,9 +41,9 @@ abbrev pub first_with : {B : Type 0} → (B → Option Pattern) → List B → O
 first_with has [] = None
 first_with has (b ∷ bs) = or_others b (has b) (first_with has bs)
 
--- its place among them, from 0 on
-abbrev pub place_with : {B : Type 0} → (B → Option Pattern) → List B → Option ℕ
-place_with has bundles = position_from (λ b. is_some (has b)) 0 bundles
+-- its index among them, from 0 on
+abbrev pub index_with : {B : Type 0} → (B → Option Pattern) → List B → Option ℕ
+index_with has bundles = position_from (λ b. is_some (has b)) 0 bundles
 
 -- ---- what it answers
 

@@ -6,18 +6,18 @@ use Rattle.std.specs.Borrow.{Bor}
 use Rattle.fluent_tree.specs.Tree.{Text, Pattern}
 use Rattle.fluent_meaning.specs.Bundle.{Bundle}
 use Rattle.fluent_bundle.specs.declared.bundle.FluentBundle.{FluentBundle}
-use Rattle.fluent_chain.specs.Chain.{pattern_at, first_with, place_with}
+use Rattle.fluent_chain.specs.Chain.{pattern_at, first_with, index_with}
 use Rattle.fluent_chain.specs.declared.chain.Bundles.{Bundles}
 use Rattle.fluent_chain.specs.declared.chain.Bundles.TheVariants as by
 use Rattle.fluent_chain.specs.declared.chain.Chain.{Chain}
-use Rattle.fluent_chain.specs.declared.chain.Link.{Link}
+use Rattle.fluent_chain.specs.declared.chain.BundleRef.{BundleRef}
 
 -- the bundles that are borrowed
-abbrev pub linked : {M C F G X : Type 0} → List (Link M C F G X) → List (FluentBundle M C F G X)
-linked links = map (λ link. link.0.now) links
+abbrev pub referred : {M C F G X : Type 0} → List (BundleRef M C F G X) → List (FluentBundle M C F G X)
+referred refs = map (λ r. r.0.now) refs
 
 abbrev pub bundles_in : {M C F G X : Type 0} → Bundles M C F G X → List (FluentBundle M C F G X)
-bundles_in (by.Links links) = linked links.now
+bundles_in (by.Refs refs) = referred refs.now
 bundles_in (by.List bundles) = bundles.now
 
 -- the bundles of a chain, the first that is asked first
@@ -35,10 +35,10 @@ abbrev pub has : {M C F G X : Type 0} → (FluentBundle M C F G X → Bundle Tex
     → Chain M C F G X → Text → Option (Bor Text) → Bool
 has of chain id name = list_any (λ b. is_some (pattern_of of id name b)) (bundles_of chain)
 
--- the place of the first that has it
-abbrev pub place : {M C F G X : Type 0} → (FluentBundle M C F G X → Bundle Text)
+-- the index of the first that has it
+abbrev pub index : {M C F G X : Type 0} → (FluentBundle M C F G X → Bundle Text)
     → Chain M C F G X → Text → Option (Bor Text) → Option ℕ
-place of chain id name = place_with (pattern_of of id name) (bundles_of chain)
+index of chain id name = index_with (pattern_of of id name) (bundles_of chain)
 
 -- that bundle with its pattern
 abbrev pub bundle_with : {M C F G X : Type 0} → (FluentBundle M C F G X → Bundle Text)

@@ -2,7 +2,7 @@
 ghost use Rattle.std.specs.Prelude.{◌≡◌, length, slice_get};
 ghost use Rattle.std.specs.Option.{option_map};
 ghost use Rattle.fluent_text.specs.Writer.{CountsFault};
-ghost use Rattle.fluent_chain.specs.ChainView.{bundles_of, linked};
+ghost use Rattle.fluent_chain.specs.ChainView.{bundles_of, referred};
 ghost use Rattle.fluent_chain.specs.Inside.Found.{pattern_seen};
 
 use crate::says::{Says, Takes};
@@ -17,21 +17,21 @@ use std::io::Write;
 
 /// A bundle of a chain, which is borrowed.
 #[derive(Clone, Copy, Drop)]
-pub struct Link<'b, 'r, 's, M, C, F, G, T = Box<dyn Transform>>(
+pub struct BundleRef<'b, 'r, 's, M, C, F, G, T = Box<dyn Transform>>(
     pub &'b FluentBundle<'r, 's, M, C, F, G, T>,
 );
 
 /// The bundles of a chain.
 #[derive(Drop)]
 enum Bundles<'c, 'b, 'r, 's, M, C, F, G, T> {
-    /// Each at a place of its own.
-    Links(&'c [Link<'b, 'r, 's, M, C, F, G, T>]),
+    /// Each at an index of its own.
+    Refs(&'c [BundleRef<'b, 'r, 's, M, C, F, G, T>]),
     /// In a list.
     List(&'c [FluentBundle<'r, 's, M, C, F, G, T>]),
 }
 
 /// Bundles in the order in which they are asked, such as one for each language that somebody reads, the one that is
-/// read best first: `Chain::of(&bundles)` of a list, or `Chain::new(&[Link(&polish), Link(&english)])`.
+/// read best first: `Chain::of(&bundles)` of a list, or `Chain::new(&[BundleRef(&polish), BundleRef(&english)])`.
 ///
 /// They have one type, and may have different plural rules of that type, transforms, formatters, functions and
 /// limits: the bundle that answers answers by its own, and looks up references in itself alone.
@@ -52,11 +52,11 @@ impl<
     T: Transform,
 > Chain<'c, 'b, 'r, 's, M, C, F, G, T> {
     /// A chain of these bundles, of which the first is asked first.
-    pub fn new(bundles: &'c [Link<'b, 'r, 's, M, C, F, G, T>]) -> Self
-        ensures { bundles_of result ≡ linked bundles.now }
+    pub fn new(bundles: &'c [BundleRef<'b, 'r, 's, M, C, F, G, T>]) -> Self
+        ensures { bundles_of result ≡ referred bundles.now }
     {
         Chain {
-            bundles: Bundles::Links(bundles),
+            bundles: Bundles::Refs(bundles),
         }
     }
 
@@ -84,17 +84,17 @@ impl<
         self.find_attribute(id, name).is_some()
     }
 
-    /// Which bundle answers for the value of a message: its place among the bundles, from 0 on. `None` where none has
+    /// Which bundle answers for the value of a message: its index among the bundles, from 0 on. `None` where none has
     /// a value for it, and the id stands for the text.
     pub fn find_value(&self, id: &str) -> Option<usize>
-        ensures { result ≡ ⟦<Self as Says>⟧.place self.now id.now None }
+        ensures { result ≡ ⟦<Self as Says>⟧.index self.now id.now None }
     {
         self.find(id, None)
     }
 
     /// Which bundle answers for an attribute of a message, by the rule of [`Chain::find_value`].
     pub fn find_attribute(&self, id: &str, name: &str) -> Option<usize>
-        ensures { result ≡ ⟦<Self as Says>⟧.place self.now id.now (Some name.entry) }
+        ensures { result ≡ ⟦<Self as Says>⟧.index self.now id.now (Some name.entry) }
     {
         self.find(id, Some(name))
     }
@@ -244,8 +244,8 @@ impl<
             errors.old errors.new }
         ensures borrowed { ⟦<Self as Says>⟧.borrows self.now id.now attribute.entry result }
     {
-        for place in 0..self.len() {
-            if let Some(bundle) = self.bundle_at(place) {
+        for index in 0..self.len() {
+            if let Some(bundle) = self.bundle_at(index) {
                 if let Some(text) = Self::format_in(bundle, id, attribute, args, errors)? {
                     return Ok(text);
                 }
@@ -268,8 +268,8 @@ impl<
         ensures fault { CountsFault w.old w.new result }
         ensures memory { ⟦<Self as Says>⟧.needs_no_memory self.now id.now attribute.entry result }
     {
-        for place in 0..self.len() {
-            if let Some(bundle) = self.bundle_at(place) {
+        for index in 0..self.len() {
+            if let Some(bundle) = self.bundle_at(index) {
                 if Self::write_in(bundle, w, id, attribute, args, errors)? {
                     return Ok(());
                 }
@@ -278,14 +278,14 @@ impl<
         put(w, id.as_bytes())
     }
 
-    /// The place of the first bundle that has the value of the message, or its attribute where a name is given.
+    /// The index of the first bundle that has the value of the message, or its attribute where a name is given.
     fn find(&self, id: &str, attribute: Option<&str>) -> Option<usize>
-        ensures { result ≡ ⟦<Self as Says>⟧.place self.now id.now attribute.entry }
+        ensures { result ≡ ⟦<Self as Says>⟧.index self.now id.now attribute.entry }
     {
-        for place in 0..self.len() {
-            if let Some(bundle) = self.bundle_at(place) {
+        for index in 0..self.len() {
+            if let Some(bundle) = self.bundle_at(index) {
                 if Self::pattern_in(bundle, id, attribute).is_some() {
-                    return Some(place);
+                    return Some(index);
                 }
             }
         }
@@ -297,18 +297,18 @@ impl<
         ensures { result ≡ length (bundles_of self.now) }
     {
         match self.bundles {
-            Bundles::Links(links) => links.len(),
+            Bundles::Refs(refs) => refs.len(),
             Bundles::List(bundles) => bundles.len(),
         }
     }
 
-    /// The bundle at a place.
-    fn bundle_at(&self, place: usize) -> Option<&'c FluentBundle<'r, 's, M, C, F, G, T>>
-        ensures { option_map (λ b. b.now) result ≡ slice_get (bundles_of self.now) place }
+    /// The bundle at an index.
+    fn bundle_at(&self, index: usize) -> Option<&'c FluentBundle<'r, 's, M, C, F, G, T>>
+        ensures { option_map (λ b. b.now) result ≡ slice_get (bundles_of self.now) index }
     {
         match self.bundles {
-            Bundles::Links(links) => Some(links.get(place)?.0),
-            Bundles::List(bundles) => bundles.get(place),
+            Bundles::Refs(refs) => Some(refs.get(index)?.0),
+            Bundles::List(bundles) => bundles.get(index),
         }
     }
 

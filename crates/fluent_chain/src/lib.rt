@@ -5,4 +5,4 @@ pub mod chain;
 pub mod examples;
 mod says;
 
-pub use chain::{Chain, Link};
+pub use chain::{BundleRef, Chain};

@@ -36,8 +36,8 @@ pub(crate) trait Says {
     /// Whether one has it.
     ghost has: { Self → Text → Option (Bor Text) → Bool };
 
-    /// The place of the first that has it.
-    ghost place: { Self → Text → Option (Bor Text) → Option ℕ };
+    /// The index of the first that has it.
+    ghost index: { Self → Text → Option (Bor Text) → Option ℕ };
 
     /// Its text is given.
     ghost gives: { Giving Self Self.Own (CowStr Global) };
@@ -86,7 +86,7 @@ impl<
 
     ghost has = { view.has (meant M.category C.shown C.alike F.answer G.formatted T.changed) };
 
-    ghost place = { view.place (meant M.category C.shown C.alike F.answer G.formatted T.changed) };
+    ghost index = { view.index (meant M.category C.shown C.alike F.answer G.formatted T.changed) };
 
     ghost gives = { call.gives (meant M.category C.shown C.alike F.answer G.formatted T.changed)
         C.content };

@@ -21,7 +21,7 @@ use fluent_bundle::{
     AddFault, Counting, FluentArgs, FluentBundle, FluentError, FluentResource, FluentValue,
     NoCustom, NoFormatter, NoFunction, NoTransform, ParserError, TryNewFault, WriteFault,
 };
-use fluent_chain::{Chain, Link};
+use fluent_chain::{BundleRef, Chain};
 use fluent_syntax::put;
 use std::alloc::{AllocError, Global};
 use std::borrow::CowStr;
@@ -178,7 +178,7 @@ fn chain_text<'p, 'r, 's: 'r>(
     ensures errors { Adds result (of.chain request.entry first.now second.now) errors.old errors.new }
 {
     let args = arguments(alloc, request.arguments)?;
-    let links = [Link(first), Link(second)];
+    let links = [BundleRef(first), BundleRef(second)];
     Chain::new(&links).format_value(request.id, Some(&args), errors)
 }
 

@@ -18,14 +18,14 @@ use Rattle.fluent_meaning.specs.Errors.{Error, Kind, overriding}
 use Rattle.fluent_entries.specs.IdNumbers.{numbers}
 use Rattle.fluent_entries.specs.declared.ids.Ids.{Ids}
 
--- the place that an index from a list's prefix gives
+-- the index that an index from a list's prefix gives
 placed : (b : Bool) (m n : ℕ) → cond b (Some m) None ≡ Some n → (b ≡ true) × (m ≡ n)
 placed true m n h = (refl, ap (λ o. unwrap_or o m) h)
 placed false m n h = absurd cc
 
-same_place : {X : Type 0} (q id : Text) (ss : List (Text × X)) (n : ℕ) → position_or_len (bytes_eq q) (keys_of ss) ≡ n → position_or_len (bytes_eq id) (keys_of ss) ≡ n → n < length (keys_of ss) → q ≡ id
-same_place q id [] n a b within = absurd (omega (arith, within))
-same_place q id (s ∷ ss) n a b within = by (bytes_eq q s.0) (bytes_eq id s.0) refl refl (same_place q id ss)
+same_index : {X : Type 0} (q id : Text) (ss : List (Text × X)) (n : ℕ) → position_or_len (bytes_eq q) (keys_of ss) ≡ n → position_or_len (bytes_eq id) (keys_of ss) ≡ n → n < length (keys_of ss) → q ≡ id
+same_index q id [] n a b within = absurd (omega (arith, within))
+same_index q id (s ∷ ss) n a b within = by (bytes_eq q s.0) (bytes_eq id s.0) refl refl (same_index q id ss)
   where
     first : (t : Text) (r : Bool) → bytes_eq t s.0 ≡ r → position_or_len (bytes_eq t) (keys_of (s ∷ ss)) ≡ cond (not r) (1 + position_or_len (bytes_eq t) (keys_of ss)) 0
     first t r is = ap (λ b. cond (not b) (1 + position_or_len (bytes_eq t) (keys_of ss)) 0) is
@@ -45,7 +45,7 @@ same_id : {X : Type 0} (ss : List (Text × Option X)) (q id : Text) (n : ℕ) �
 same_id ss q id n h k =
     let at = placed _ (position_or_len (bytes_eq q) (keys_of ss)) n h in
     let at' = placed _ (position_or_len (bytes_eq id) (keys_of ss)) n k in
-    same_place q id ss n at.1 at'.1 (subst (λ m. m < length (keys_of ss)) at.1 (ltb-true _ _ at.0))
+    same_index q id ss n at.1 at'.1 (subst (λ m. m < length (keys_of ss)) at.1 (ltb-true _ _ at.0))
 
 pub one_id : {F : Type 0} (m : Ids F) (q id : Text) (n : ℕ) → numbers m q ≡ Some n → numbers m id ≡ Some n → q ≡ id
 unfolding numbers

@@ -25,7 +25,7 @@ use Rattle.fluent_entries.specs.declared.slot.Kept.{Kept}
 use Rattle.fluent_entries.specs.KeptLinks.{IsKeptOf, borrowed_value, patterns}
 use Rattle.fluent_entries.specs.ErrorView.{kind_view}
 use Rattle.fluent_entries.specs.IdNumbers.{numbers}
-use Rattle.fluent_entries.specs.Inside.WaitingEntries.{AreMarked, AreReady, HasParts, IsJunk, IsReady, Waits, at_place, given, given_at, given_by, has_number, is_marked}
+use Rattle.fluent_entries.specs.Inside.WaitingEntries.{AreMarked, AreReady, HasParts, IsJunk, IsReady, Waits, at_index, given, given_at, given_by, has_number, is_marked}
 use Rattle.fluent_entries.proofs.Linking.{still_kept_of}
 use Rattle.fluent_entries.proofs.OneId.{got_set, one_id}
 
@@ -49,23 +49,23 @@ none_there : {A : Type 0} (i : ℕ) (o : Option A) → slice_get [] i ≡ o → 
 none_there i None there = refl
 none_there i (Some x) there = absurd (none_at i x there)
 
-one_step : (es : List code.Entry) (i : ℕ) → map entry_view (take (suc i) es) ≡ map entry_view (take i es) ++ at_place es i
+one_step : (es : List code.Entry) (i : ℕ) → map entry_view (take (suc i) es) ≡ map entry_view (take i es) ++ at_index es i
 one_step [] zero = refl
 one_step [] (suc i) = ap (λ o. map entry_view (option_to_list o)) (sym (none_there (suc i) (slice_get [] (suc i)) refl))
 one_step (e ∷ es) zero = refl
 one_step (e ∷ es) (suc i) = ap (λ r. entry_view e ∷ r) (one_step es i)
 
 -- one entry more
-pub one_more : (es : List code.Entry) (i : ℕ) → map entry_view (take (i + 1) es) ≡ map entry_view (take i es) ++ at_place es i
+pub one_more : (es : List code.Entry) (i : ℕ) → map entry_view (take (i + 1) es) ≡ map entry_view (take i es) ++ at_index es i
 one_more es i = let next : i + 1 ≡ suc i = omega arith in ap (λ k. map entry_view (take k es)) next ∙ one_step es i
 
-pub one_at : (es : List code.Entry) (i : ℕ) (e : code.Entry) → slice_get es i ≡ Some e → at_place es i ≡ entry_view e ∷ []
+pub one_at : (es : List code.Entry) (i : ℕ) (e : code.Entry) → slice_get es i ≡ Some e → at_index es i ≡ entry_view e ∷ []
 one_at es i e there = ap (λ o. map entry_view (option_to_list o)) there
 
 pub some_is : {A : Type 0} (x y : A) → Some x ≡ Some y → x ≡ y
 some_is x y h = ap (λ o. unwrap_or o x) h
 
--- the entry that is read at a place is the one that is there
+-- the entry that is read at an index is the one that is there
 pub same_at : (es : List code.Entry) (i : ℕ) (e x : code.Entry) → slice_get es i ≡ Some e → x ≡ get_or es i x → e ≡ x
 same_at es i e x there is = some_is e x (sym there ∙ slice_get_read es (length es) i x refl (slice_get_within es i e there) is)
 
@@ -121,9 +121,9 @@ given_junk (entries.Junk c) junk = refl
 
 module _ (es : List code.Entry) where
   -- one more waits
-  pub given_more : (rs : List Ready) (r : Ready) → given_by es (rs ++ r ∷ []) ≡ given_by es rs ++ given_at es r.place
-  given_more [] r = append-nil (given_at es r.place)
-  given_more (x ∷ rs) r = ap (λ l. given_at es x.place ++ l) (given_more rs r) ∙ sym (append_assoc (given_at es x.place) (given_by es rs) (given_at es r.place))
+  pub given_more : (rs : List Ready) (r : Ready) → given_by es (rs ++ r ∷ []) ≡ given_by es rs ++ given_at es r.index
+  given_more [] r = append-nil (given_at es r.index)
+  given_more (x ∷ rs) r = ap (λ l. given_at es x.index ++ l) (given_more rs r) ∙ sym (append_assoc (given_at es x.index) (given_by es rs) (given_at es r.index))
 
 module _ (n n' : Text → Option ℕ) (t t' : List Pattern) (kept : KeepsNumbers n n') (grows : Grows t t') where
   still_ready : (k : ℕ) (o : Option (Box Kept)) (e : code.Entry) → IsReady n t k o e → IsReady n' t' k o e
@@ -183,8 +183,8 @@ module _ {F : Type 0} (m' : Ids F) (id : Text) (n : ℕ) (at_id : numbers m' id 
   set_here q k e ids at_q = ap is_some (got_set q id e ids) ∙ (one_set (bytes_eq q id) (get id ids) e ∙ ap (λ b. b || is_some (get id ids)) (same_test q k at_q))
 
   module _ (t : List Pattern) (es : List code.Entry) where
-    one_waits : (r : Ready) (o : Option (Box Kept)) (e : code.Entry) → slice_get es r.place ≡ Some e → IsReady (numbers m') t r.number o e → (ids : Map (m.Entry Text))
-        → is_some (get id (set_all (given_at es r.place) ids)) ≡ (nat_eq r.number n || is_some (get id ids))
+    one_waits : (r : Ready) (o : Option (Box Kept)) (e : code.Entry) → slice_get es r.index ≡ Some e → IsReady (numbers m') t r.number o e → (ids : Map (m.Entry Text))
+        → is_some (get id (set_all (given_at es r.index) ids)) ≡ (nat_eq r.number n || is_some (get id ids))
     one_waits r o (entries.Message x) there h ids =
         ap (λ s. is_some (get id (set_all (given (map entry_view (option_to_list s))) ids))) there ∙ set_here x.id.name.now r.number _ ids h.0
     one_waits r o (entries.Term x) there h ids =
@@ -195,8 +195,8 @@ module _ {F : Type 0} (m' : Ids F) (id : Text) (n : ℕ) (at_id : numbers m' id 
     is_taken : (rs : List Ready) (ks : List (Box Kept)) → AreReady (numbers m') t es rs ks → (ids : Map (m.Entry Text)) → is_some (get id (set_all (given_by es rs) ids)) ≡ (has_number rs n || is_some (get id ids))
     is_taken [] ks h ids = refl
     is_taken (r ∷ rs) ks h ids =
-        ap (λ x. is_some (get id x)) (set_more (given_at es r.place) (given_by es rs) ids)
-        ∙ (is_taken rs h.1 h.4 (set_all (given_at es r.place) ids)
+        ap (λ x. is_some (get id x)) (set_more (given_at es r.index) (given_by es rs) ids)
+        ∙ (is_taken rs h.1 h.4 (set_all (given_at es r.index) ids)
         ∙ (ap (λ b. has_number rs n || b) (one_waits r h.0 h.3.1 h.3.2 h.3.3 ids)
         ∙ moved (has_number rs n) (nat_eq r.number n) (is_some (get id ids))))
 

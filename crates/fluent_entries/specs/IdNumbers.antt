@@ -4,10 +4,10 @@ use Rattle.fluent_tree.specs.Tree.{Text, Pattern}
 use Rattle.fluent_tree.specs.References.{Reference}
 use Rattle.fluent_links.specs.Classes.{AreDistinct, Grows}
 use Rattle.fluent_links.specs.Links.{IsBefore, KeepsNumbers}
-use Rattle.fluent_links.specs.Places.{seen}
+use Rattle.fluent_links.specs.Cursors.{seen}
 use Rattle.fluent_links.specs.Slots.{slots, number}
 use Rattle.fluent_links.specs.Table as contents
-use Rattle.fluent_links.specs.declared.place.Place.{Place}
+use Rattle.fluent_links.specs.declared.cursor.Cursor.{Cursor}
 use Rattle.fluent_entries.specs.declared.ids.Ids.{Ids}
 
 -- the number of an id
@@ -30,6 +30,6 @@ table_is_distinct m = contents.table_is_distinct m.classes
 abbrev pub Grown : {F : Type 0} → Ids F → Ids F → Type 0
 Grown old new = KeepsNumbers (numbers old) (numbers new) × Grows (table old) (table new)
 
--- a place stands before these references
-abbrev pub IsPlaced : {F : Type 0} → Ids F → List Reference → Place → Type 0
+-- a cursor stands before these references
+abbrev pub IsPlaced : {F : Type 0} → Ids F → List Reference → Cursor → Type 0
 IsPlaced m rs p = IsBefore (numbers m) rs (seen p)

@@ -73,7 +73,7 @@ Keeps value attributes (Some k) = (k.value.value ≡ value) × (k.value.attribut
 abbrev pub RefersToNothing : Pattern → Type 0
 RefersToNothing p = are_some (references p) ≡ false
 
--- Of each attribute's pattern that refers to anything, something is kept at its place; what is kept is of its pattern, and there is one for each, or none.
+-- Of each attribute's pattern that refers to anything, something is kept at its index; what is kept is of its pattern, and there is one for each, or none.
 pub record AreKept (number : Text → Option ℕ) (table ps : List Pattern) (ls : List Linked) : Type 0 where
   pub each : (k : ℕ) (p : Pattern) (l : Linked) → slice_get ps k ≡ Some p → slice_get ls k ≡ Some l → IsOf number table p l
   pub left : (k : ℕ) (p : Pattern) → slice_get ps k ≡ Some p → slice_get ls k ≡ None → RefersToNothing p

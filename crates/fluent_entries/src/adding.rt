@@ -133,44 +133,44 @@ fn parts_of<'r, 's>(entry: &'r ast::Entry<'s>) -> Option<Parts<'r, 's>>
 fn make_ready<'r, 's, F: Drop>(
     alloc: Global,
     known: &mut Ids<'r, 's, F>,
-    place: u32,
+    index: u32,
     number: u32,
     parts: Parts<'r, 's>,
     waiting: &mut Waiting,
 ) -> Result<(), AllocError>
     requires { numbers known.old parts.id.now ≡ Some number }
-    ensures ready { OnOk result ((es : List tree.Entry) → HasPartsAt es place parts.entry →
+    ensures ready { OnOk result ((es : List tree.Entry) → HasPartsAt es index parts.entry →
         AreReadyFor known.old es waiting.old → AreReadyFor known.new es waiting.new) }
-    ensures more { OnOk result ((es : List tree.Entry) → WaitsToo es place waiting.old waiting.new) }
+    ensures more { OnOk result ((es : List tree.Entry) → WaitsToo es index waiting.old waiting.new) }
     ensures number { OnOk result (HasNumberToo number waiting.old waiting.new) }
     ensures grown { Grown known.old known.new }
     ensures same { KeepsEntries known.old known.new }
 {
     let kept = kept_of(alloc, known, parts.value, parts.attributes)?;
-    waiting.push(place, number, kept)?;
+    waiting.push(index, number, kept)?;
     Ok(())
 }
 
-/// Has the entry at a place wait to be put in place of what its id names. Junk is passed over.
+/// Has the entry at an index wait to be put in place of what its id names. Junk is passed over.
 fn override_entry<'r, 's, F: Drop>(
     alloc: Global,
     known: &mut Ids<'r, 's, F>,
     entries: &'r [ast::Entry<'s>],
-    place: u32,
+    index: u32,
     waiting: &mut Waiting,
 ) -> Result<(), AllocError>
-    requires within { place < length entries.now }
+    requires within { index < length entries.now }
     requires ready { AreReadyFor known.old entries.now waiting.old }
     ensures ready { OnOk result (AreReadyFor known.new entries.now waiting.new) }
-    ensures given { OnOk result (WaitsToo entries.now place waiting.old waiting.new) }
+    ensures given { OnOk result (WaitsToo entries.now index waiting.old waiting.new) }
     ensures grown { Grown known.old known.new }
     ensures same { KeepsEntries known.old known.new }
 {
-    let Some(parts) = parts_of(&entries[place as usize]) else {
+    let Some(parts) = parts_of(&entries[index as usize]) else {
         return Ok(());
     };
     let number = known.number_of(CowStr::Borrowed(parts.id))?;
-    make_ready(alloc, known, place, number, parts, waiting)
+    make_ready(alloc, known, index, number, parts, waiting)
 }
 
 /// Has each message and term wait to be put in place of what its id names.
@@ -185,8 +185,8 @@ fn override_all<'r, 's, F: Drop>(
     ensures same { KeepsEntries known.old known.new }
 {
     let mut waiting = Waiting::with_capacity(alloc, entries.len())?;
-    'entries: for place in 0..as_place(entries.len())? {
-        override_entry(alloc, known, entries, place, &mut waiting)?;
+    'entries: for index in 0..as_index(entries.len())? {
+        override_entry(alloc, known, entries, index, &mut waiting)?;
     }
     Ok(waiting)
 }
@@ -198,27 +198,27 @@ fn is_taken<'r, 's, F>(known: &Ids<'r, 's, F>, marks: &[bool], number: u32) -> b
     is_marked(marks, number) || known.is_filled(number)
 }
 
-/// Has the entry at a place wait where its id is free, and reports it otherwise. Junk is passed over.
+/// Has the entry at an index wait where its id is free, and reports it otherwise. Junk is passed over.
 fn add_entry<'r, 's, F: Drop>(
     alloc: Global,
     known: &mut Ids<'r, 's, F>,
     entries: &'r [ast::Entry<'s>],
-    place: u32,
+    index: u32,
     waiting: &mut Waiting,
     marks: &mut Vec<bool>,
     errors: &mut Vec<FluentError>,
 ) -> Result<(), AllocError>
-    requires within { place < length entries.now }
+    requires within { index < length entries.now }
     requires ready { AreReadyFor known.old entries.now waiting.old }
     requires marked { AreMarked marks.old.items waiting.old.list.items }
     ensures ready { OnOk result (AreReadyFor known.new entries.now waiting.new) }
     ensures marked { OnOk result (AreMarked marks.new.items waiting.new.list.items) }
-    ensures after { OnOk result (AddsAt known.old entries.now place waiting.old waiting.new) }
-    ensures told { OnOk result (ReportsAt known.old entries.now place waiting.old errors.old errors.new) }
+    ensures after { OnOk result (AddsAt known.old entries.now index waiting.old waiting.new) }
+    ensures told { OnOk result (ReportsAt known.old entries.now index waiting.old errors.old errors.new) }
     ensures grown { Grown known.old known.new }
     ensures same { KeepsEntries known.old known.new }
 {
-    let Some(parts) = parts_of(&entries[place as usize]) else {
+    let Some(parts) = parts_of(&entries[index as usize]) else {
         return Ok(());
     };
     let number = known.number_of(CowStr::Borrowed(parts.id))?;
@@ -227,7 +227,7 @@ fn add_entry<'r, 's, F: Drop>(
         return Ok(());
     }
     mark(marks, number)?;
-    make_ready(alloc, known, place, number, parts, waiting)
+    make_ready(alloc, known, index, number, parts, waiting)
 }
 
 /// Has each message and term wait whose id is free when its turn comes, and reports the others.
@@ -245,12 +245,12 @@ fn add_all<'r, 's, F: Drop>(
 {
     let mut waiting = Waiting::with_capacity(alloc, entries.len())?;
     let mut marks = Vec::with_capacity(alloc, entries.len())?;
-    'entries: for place in 0..as_place(entries.len())? {
+    'entries: for index in 0..as_index(entries.len())? {
         add_entry(
             alloc,
             known,
             entries,
-            place,
+            index,
             &mut waiting,
             &mut marks,
             errors,
@@ -269,9 +269,9 @@ fn put_one<'r, 's, F: Drop>(
     requires { Waits (numbers known.old) (table known.old) entries.now ready kept }
     ensures numbers { (id : Text) → numbers known.new id ≡ numbers known.old id }
     ensures table { table known.new ≡ table known.old }
-    ensures after { Becomes known.old known.new (set_all (given_at entries.now ready.place)) }
+    ensures after { Becomes known.old known.new (set_all (given_at entries.now ready.index)) }
 {
-    match &entries[ready.place as usize] {
+    match &entries[ready.index as usize] {
         ast::Entry::Message(message) => {
             let entry = Entry::Message(message);
             known.put(ready.number, Slot { entry, kept });
@@ -312,7 +312,7 @@ fn put_all<'r, 's, F: Drop>(
 }
 
 /// The number of entries, which has 32 bits.
-fn as_place(count: usize) -> Result<u32, AllocError>
+fn as_index(count: usize) -> Result<u32, AllocError>
     ensures { IfOk result (λ n. n ≡ count) }
 {
     u32::try_from(count).map_err(|_| AllocError)

@@ -7,18 +7,18 @@ ghost use Rattle.fluent_entries.specs.Inside.WaitingEntries.{is_marked};
 use crate::slot::Kept;
 use std::alloc::{AllocError, Global};
 
-/// An entry that waits: its place among the entries of the call, the number of its id, and whether anything is kept of
+/// An entry that waits: its index among the entries of the call, the number of its id, and whether anything is kept of
 /// its patterns.
 #[derive(Drop)]
 pub(crate) struct Ready {
-    pub(crate) place: u32,
+    pub(crate) index: u32,
     pub(crate) number: u32,
     pub(crate) is_linked: bool,
 }
 
 /// The entries that wait, in order, and in the same order what is kept of those of which anything is.
 ///
-/// Each takes twelve bytes, since it is found again by its place; what is put into its slot has 32.
+/// Each takes twelve bytes, since it is found again by its index; what is put into its slot has 32.
 #[derive(Drop)]
 pub(crate) struct Waiting {
     pub(crate) list: Vec<Ready>,
@@ -40,16 +40,16 @@ impl Waiting {
     /// Puts one more after them.
     pub(crate) fn push(
         &mut self,
-        place: u32,
+        index: u32,
         number: u32,
         kept: Option<Box<Kept>>,
     ) -> Result<(), AllocError>
-        ensures list { OnOk result (self.new.list.items ≡ self.old.list.items ++ ready place number kept ∷ []) }
+        ensures list { OnOk result (self.new.list.items ≡ self.old.list.items ++ ready index number kept ∷ []) }
         ensures kept { OnOk result (self.new.kept.items ≡ self.old.kept.items ++ option_to_list kept) }
     {
         let is_linked = kept.is_some();
         self.list.push(Ready {
-            place,
+            index,
             number,
             is_linked,
         })?;
@@ -74,10 +74,10 @@ pub(crate) fn is_marked(marks: &[bool], number: u32) -> bool
 pub(crate) fn mark(marks: &mut Vec<bool>, number: u32) -> Result<(), AllocError>
     ensures { OnOk result (IsMarkedToo number marks.old.items marks.new.items) }
 {
-    let place = number as usize;
-    if marks.len() <= place {
-        marks.resize(place + 1, false)?;
+    let index = number as usize;
+    if marks.len() <= index {
+        marks.resize(index + 1, false)?;
     }
-    marks[place] = true;
+    marks[index] = true;
     Ok(())
 }

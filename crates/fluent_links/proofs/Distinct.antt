@@ -1,4 +1,4 @@
--- A set of contents has each once, and keeps the places of those that it has.
+-- A set of contents has each once, and keeps the indices of those that it has.
 use Rattle.std.proofs.Common.{◌≡◌, ℕ, zero, suc, List, [], ◌∷◌, ◌++◌, true, false, Bool, ap, sym, subst, ◌∙◌, refl, map, Some, slice_get, unwrap_or, if◌then◌else◌, ◌||◌}
 use Rattle.std.specs.List.{IsDistinct, list_any, AllByRecursion}
 use Rattle.std.proofs.lemmas.Map.Keys.{IsDistinct-tail, IsDistinct-head}

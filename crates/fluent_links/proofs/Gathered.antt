@@ -10,7 +10,7 @@ use Rattle.fluent_links.specs.Linked.{IsClassOf, are_some, with_referring}
 use Rattle.fluent_links.specs.Links.{id_of, KeepsNumbers}
 use Rattle.fluent_links.specs.LinkGrowth.{AppendsLinks, SlotsOfPrefix, with_slots}
 use Rattle.fluent_links.specs.LinkNumbers.{AreNumbers, keeps_numbers}
-use Rattle.fluent_links.specs.PlaceSteps.{IsInTurn, here}
+use Rattle.fluent_links.specs.CursorSteps.{IsInTurn, here}
 use Rattle.fluent_links.specs.Slots.{number, named, with_slot}
 use Rattle.fluent_links.proofs.Slotted.{number_kept, named_new}
 

@@ -9,9 +9,9 @@ use Rattle.fluent_tree.specs.declared.ast.InlineExpression as of_inline
 use Rattle.fluent_tree.specs.declared.ast.CallArguments as of_call
 use Rattle.fluent_tree.specs.declared.ast.Variant as of_variant
 use Rattle.fluent_links.specs.Links.{Links, past}
-use Rattle.fluent_links.specs.PlaceLaws.{after_append, after_last}
-use Rattle.fluent_links.specs.PlaceSteps.{in_elements}
-use Rattle.fluent_links.specs.PlaceParts.{in_pattern_is, in_select_is, in_arguments_is}
+use Rattle.fluent_links.specs.CursorLaws.{after_append, after_last}
+use Rattle.fluent_links.specs.CursorSteps.{in_elements}
+use Rattle.fluent_links.specs.CursorParts.{in_pattern_is, in_select_is, in_arguments_is}
 
 two_parts : (xs ys : List Reference) (p q r : Links) → q ≡ past xs p → r ≡ past ys q → r ≡ past (xs ++ ys) p
 two_parts xs ys p q r first second = second ∙ (ap (past ys) first ∙ sym (after_append xs ys p))

@@ -23,7 +23,7 @@ use Rattle.fluent_links.specs.Slots.{number, named, flat, slot_at, with_slot}
 pub by_number : {X : Type 0} (ss : List (Text × Option X)) (id : Text) (n : ℕ) → number ss id ≡ Some n → slot_at n ss ≡ named id ss
 by_number ss id n h = ap flat (sym ((Found-position (bytes_eq id) ss n h).value ∙ slice_get-map (λ e. e.1) ss n))
 
--- the place that an index from a list's prefix gives
+-- the index that an index from a list's prefix gives
 placed : (b : Bool) (m n : ℕ) → cond b (Some m) None ≡ Some n → (b ≡ true) × (m ≡ n)
 placed true m n h = (refl, ap (λ o. unwrap_or o m) h)
 placed false m n h = absurd cc
@@ -50,7 +50,7 @@ module _ {X : Type 0} (ss : List (Text × Option X)) (id : Text) (x : Option X) 
       ∙ ap (λ n. cond (nat_lt n (length (ks ++ id ∷ []))) (Some n) None) here
       ∙ ap (λ b. cond b (Some (position_or_len (bytes_eq id) ks)) None) (lt-ltb _ _ within)
 
-  -- and the number of its id is the place after the others
+  -- and the number of its id is the index after the others
   pub number_new : number ss id ≡ None → number (ss ++ (id, x) ∷ []) id ≡ Some (length ss)
   number_new none = number_placed ∙ ap Some (Missing-position (bytes_eq id) ss none).or_len
 
@@ -104,7 +104,7 @@ module _ {K X : Type 0} (key : K → Text) where
   set_seen (e ∷ es) zero w = refl
   set_seen (e ∷ es) (suc n) w = ap (λ fs. (key e.0, e.1) ∷ fs) (set_seen es n w)
 
-  -- there is no value at a place beyond them
+  -- there is no value at an index beyond them
   past : (es : List (K × X)) (n : ℕ) (w : X) → slice_get (map (λ e. e.1) es) n ≡ None → set_value_at es n w ≡ es
   past [] n w h = refl
   past (e ∷ es) zero w h = absurd cc
@@ -127,7 +127,7 @@ module _ {K X : Type 0} (key : K → Text) where
       sym (ap (λ b. cond b (Some w) (Some v)) (ap (bytes_eq id) ((bytes_eq-Decides q k).0 at) ∙ other))
   set_after false id q k w v rest rest' other at more = more
 
-  -- the value at the first place of an id is what the id names, and other ids name what they named
+  -- the value at the first index of an id is what the id names, and other ids name what they named
   pub set_at : (es : List (K × X)) (n : ℕ) (w : X) (id q : Text) → position_or_len (bytes_eq id) (keys_of (seen es)) ≡ n → n < length es
       → lookup (bytes_eq q) (seen (set_value_at es n w)) ≡ cond (bytes_eq id q) (Some w) (lookup (bytes_eq q) (seen es))
   set_at [] n w id q first h = absurd (omega arith)
@@ -175,10 +175,10 @@ added_seen m k es none is =
     nothing None h = refl
     nothing (Some x) h = absurd (true≢false h)
 
--- a place that may have been too large for a number
-pub if_ok : {E : Type 0} (r : Result ℕ E) (place : ℕ) (at : Option ℕ) → IfOk r (λ n. n ≡ place) → at ≡ Some place → IfOk r (λ n. at ≡ Some n)
-if_ok (Ok n) place at h is = is ∙ ap Some (sym h)
-if_ok (Err e) place at h is = tt
+-- an index that may have been too large for a number
+pub if_ok : {E : Type 0} (r : Result ℕ E) (index : ℕ) (at : Option ℕ) → IfOk r (λ n. n ≡ index) → at ≡ Some index → IfOk r (λ n. at ≡ Some n)
+if_ok (Ok n) index at h is = is ∙ ap Some (sym h)
+if_ok (Err e) index at h is = tt
 
 pub on_ok : {A E P : Type 0} (r : Result A E) → P → OnOk r P
 on_ok (Ok a) p = p

@@ -1,9 +1,9 @@
 pub mod Links
 pub mod Slots
-pub mod Places
-pub mod PlaceLaws
-pub mod PlaceSteps
-pub mod PlaceParts
+pub mod Cursors
+pub mod CursorLaws
+pub mod CursorSteps
+pub mod CursorParts
 pub mod Hashed
 pub mod Content
 pub mod Classes

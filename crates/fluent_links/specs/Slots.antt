@@ -15,7 +15,7 @@ slots s = map (λ e. (cow_str_bytes e.0, e.1)) s.ids.entries
 abbrev pub room : {X : Type 0} → Slots X → ℕ
 room s = spare s.ids
 
--- the place of an id among them
+-- the index of an id among them
 abbrev pub number : {X : Type 0} → List (Text × Option X) → Text → Option ℕ
 number ss id = position (bytes_eq id) (keys_of ss)
 

@@ -9,7 +9,7 @@ use fluent_tree::ast::Pattern;
 use indexmap::IndexSet;
 use std::alloc::{AllocError, Global};
 
-/// The contents of the patterns that are stored, each once. A content's class is its place among them, so that patterns
+/// The contents of the patterns that are stored, each once. A content's class is its index among them, so that patterns
 /// of equal classes are equal.
 #[derive(Drop)]
 pub struct Classes<'r, 's> {

@@ -3,15 +3,15 @@
 #![tactic(auto)]
 
 mod classes;
+mod cursor;
 mod hashing;
 mod linked;
 mod linking;
 mod passing;
-mod place;
 mod slots;
 mod stored;
 
 pub use classes::Classes;
+pub use cursor::Cursor;
 pub use linked::Linked;
-pub use place::Place;
 pub use slots::Slots;

@@ -5,13 +5,13 @@ ghost use Rattle.fluent_tree.specs.ReferencesOf.{references_of};
 ghost use Rattle.fluent_links.specs.Adding.{AddsContent, AddsPrefix, AddsSlots};
 ghost use Rattle.fluent_links.specs.Links.{KeepsNumbers};
 ghost use Rattle.fluent_links.specs.Classes.{Grows};
-ghost use Rattle.fluent_links.specs.Places.{seen};
+ghost use Rattle.fluent_links.specs.Cursors.{seen};
 ghost use Rattle.fluent_links.specs.Slots.{named, number, slots as slots_of};
 ghost use Rattle.fluent_links.specs.Table.{table};
 
 use crate::classes::Classes;
+use crate::cursor::Cursor;
 use crate::linking::link_pattern;
-use crate::place::Place;
 use crate::slots::Slots;
 use fluent_tree::ast::Pattern;
 use std::alloc::{AllocError, Global};
@@ -34,12 +34,12 @@ impl Linked {
         self.class
     }
 
-    /// The place before all that it refers to.
-    pub fn place(&self) -> Place<'_>
+    /// The cursor before all that it refers to.
+    pub fn cursor(&self) -> Cursor<'_>
         ensures links { seen result ≡ links_of self.now }
         ensures before { IsBeforeAll self.now (seen result) }
     {
-        Place::from_links(&self.links)
+        Cursor::from_links(&self.links)
     }
 
     /// Links a pattern that is going to be stored: each id that it refers to gets a number, and the pattern its class,

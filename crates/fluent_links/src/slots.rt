@@ -12,12 +12,12 @@ use indexmap::IndexMap;
 use std::alloc::{AllocError, Global};
 use std::borrow::CowStr;
 
-/// The place as a number, which has 32 bits.
-fn as_number(place: usize) -> Result<u32, AllocError>
-    ensures number { IfOk result (λ n. n ≡ place) }
-    ensures succeeds { place < 2 ^ 32 → IsOk result }
+/// The index as a number, which has 32 bits.
+fn as_number(index: usize) -> Result<u32, AllocError>
+    ensures number { IfOk result (λ n. n ≡ index) }
+    ensures succeeds { index < 2 ^ 32 → IsOk result }
 {
-    u32::try_from(place).map_err(|_| AllocError)
+    u32::try_from(index).map_err(|_| AllocError)
 }
 
 /// A slot for each id that was seen, in the order in which they were seen: what the id names, or nothing.
@@ -75,8 +75,8 @@ impl<'s, X: Drop> Slots<'s, X> {
         ensures succeeds { 0 < room self.old → length (slots self.old) < 2 ^ 32 → IsOk result }
         ensures room { room self.old ≤ room self.new + 1 }
     {
-        if let Some(place) = self.ids.get_index_of(id.as_str()) {
-            return as_number(place);
+        if let Some(index) = self.ids.get_index_of(id.as_str()) {
+            return as_number(index);
         }
         let number = as_number(self.ids.len())?;
         self.add(id)?;

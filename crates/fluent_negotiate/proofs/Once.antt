@@ -7,7 +7,7 @@ use Rattle.std.specs.Prelude.{not, ◌||◌}
 use Rattle.std.specs.List.{filter, filter_map, list_any}
 use Rattle.fluent_text.specs.Parser.{Text}
 use Rattle.fluent_negotiate.specs.Lookup.{each_once}
-use Rattle.fluent_negotiate.specs.Inside.PlaceAmong.{with_place}
+use Rattle.fluent_negotiate.specs.Inside.IndexAmong.{with_index}
 
 -- the numbers but this one
 abbrev without : ℕ → List ℕ → List ℕ
@@ -33,21 +33,21 @@ push_other : (x p : ℕ) (b : Bool) (xs : List ℕ) → (p == x) ≡ false
 push_other x p true xs off = refl
 push_other x p false xs off = ap (λ ys. x ∷ ys) (filter-append (λ m. not (m == x)) xs (p ∷ []) ∙ rw off refl)
 
-with_place-cons : (x p : ℕ) (xs : List ℕ) → x ∷ without x (with_place xs p) ≡ with_place (x ∷ without x xs) p
-with_place-cons x p xs = ⊎_elim
+with_index-cons : (x p : ℕ) (xs : List ℕ) → x ∷ without x (with_index xs p) ≡ with_index (x ∷ without x xs) p
+with_index-cons x p xs = ⊎_elim
     (λ here. let at : p ≡ x = sym here.1 in rw (here.0, at) (ap (λ ys. x ∷ ys) (push_same x (list_any (λ m. m == x) xs) xs)))
     (λ other. let off : (p == x) ≡ false = grind (arith, nat_tests) in
     rw (other.0, any-without x p other.1 xs) (push_other x p (list_any (λ m. m == p) xs) xs off))
     (eqb_tells x p)
 
-each_once-push : (xs : List ℕ) (p : ℕ) → each_once (xs ++ p ∷ []) ≡ with_place (each_once xs) p
+each_once-push : (xs : List ℕ) (p : ℕ) → each_once (xs ++ p ∷ []) ≡ with_index (each_once xs) p
 each_once-push [] p = refl
-each_once-push (x ∷ xs) p = rw (each_once-push xs p) (with_place-cons x p (each_once xs))
+each_once-push (x ∷ xs) p = rw (each_once-push xs p) (with_index-cons x p (each_once xs))
 
 -- ---- over ranges, of which each may have a number
 
 module _ (h : Text → Option ℕ) where
-  pub push_some : (xs : List Text) (x : Text) (p : ℕ) → h x ≡ Some p → each_once (filter_map h (xs ++ x ∷ [])) ≡ with_place (each_once (filter_map h xs)) p
+  pub push_some : (xs : List Text) (x : Text) (p : ℕ) → h x ≡ Some p → each_once (filter_map h (xs ++ x ∷ [])) ≡ with_index (each_once (filter_map h xs)) p
   push_some xs x p is = rw (filter_map-append h xs (x ∷ []), is) (each_once-push (filter_map h xs) p)
 
   pub push_none : (xs : List Text) (x : Text) → h x ≡ None → each_once (filter_map h (xs ++ x ∷ [])) ≡ each_once (filter_map h xs)

@@ -7,12 +7,12 @@ use Rattle.fluent_text.specs.Parser.{Text}
 use Rattle.fluent_intl.specs.Languages.{is_separator, shortened}
 use Rattle.fluent_negotiate.specs.Lookup.{ends_in_single, tried}
 
--- the prefix before one place, if a separator stands there
+-- the prefix before one index, if a separator stands there
 abbrev pub prefix_at : Bool → ℕ → Text → List Text
 prefix_at true k tag = take k tag ∷ []
 prefix_at false k tag = []
 
--- the prefixes before the separators below a place, the longest first
+-- the prefixes before the separators below an index, the longest first
 abbrev pub prefixes : ℕ → Text → List Text
 prefixes zero tag = []
 prefixes (suc k) tag = prefix_at (is_separator (get_or tag k 0)) k tag ++ prefixes k tag

@@ -22,17 +22,17 @@ tried range = range ∷ filter (λ prefix. not (ends_in_single prefix)) (drop 1 
 
 -- ---- which language serves it
 
--- the place of the first language with this tag
-abbrev pub place_of : List Text → Text → Option ℕ
-place_of available tag = position_from (λ t. same_tag t tag) 0 available
+-- the index of the first language with this tag
+abbrev pub index_of : List Text → Text → Option ℕ
+index_of available tag = position_from (λ t. same_tag t tag) 0 available
 
 -- that of the first of these tags that is there
-abbrev pub first_place : List Text → List Text → Option ℕ
-first_place available [] = None
-first_place available (tag ∷ more) = option_or (place_of available tag) (first_place available more)
+abbrev pub first_index : List Text → List Text → Option ℕ
+first_index available [] = None
+first_index available (tag ∷ more) = option_or (index_of available tag) (first_index available more)
 
 abbrev pub lookup : List Text → Text → Option ℕ
-lookup available range = first_place available (tried range)
+lookup available range = first_index available (tried range)
 
 -- ---- which serve a list of ranges
 
@@ -49,6 +49,6 @@ negotiated requested available default = each_once (filter_map (lookup available
 abbrev pub served : {R A : Type 0} → (R → Text) → (A → Text) → List R → List A → Text → List ℕ
 served range tag requested available default = negotiated (map range requested) (map tag available) default
 
--- these are the places of those languages
+-- these are the indices of those languages
 abbrev pub AreServed : {R A : Type 0} → (R → Text) → (A → Text) → List R → List A → Text → Vec ℕ Global → Type 0
-AreServed range tag requested available default places = places.items ≡ served range tag requested available default
+AreServed range tag requested available default indices = indices.items ≡ served range tag requested available default

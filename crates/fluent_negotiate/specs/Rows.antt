@@ -7,13 +7,13 @@ use Rattle.fluent_negotiate.specs.Lookup.{tried, lookup, negotiated}
 abbrev pub Tries : String → List String → Type 0
 Tries range tags = tried (codes range) ≡ map codes tags
 
--- this range is served by the language at this place
+-- this range is served by the language at this index
 abbrev pub Serves : List String → String → Option ℕ → Type 0
-Serves available range place = lookup (map codes available) (codes range) ≡ place
+Serves available range index = lookup (map codes available) (codes range) ≡ index
 
--- these ranges and this default are served by the languages at these places
+-- these ranges and this default are served by the languages at these indices
 abbrev pub Orders : List String → List String → String → List ℕ → Type 0
-Orders available requested default places = negotiated (map codes requested) (map codes available) (codes default) ≡ places
+Orders available requested default indices = negotiated (map codes requested) (map codes available) (codes default) ≡ indices
 
 pub record Trials : Type 0 where
   pub rfc : Tries "zh-Hant-CN-x-private1-private2" ("zh-Hant-CN-x-private1-private2" ∷ "zh-Hant-CN-x-private1" ∷ "zh-Hant-CN" ∷ "zh-Hant" ∷ "zh" ∷ [])

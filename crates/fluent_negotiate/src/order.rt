@@ -1,6 +1,6 @@
 //! The languages that serve somebody, in order.
 ghost use Rattle.std.specs.Prelude.{◌≡◌, [], IfOk, OnOk, IsOk};
-ghost use Rattle.fluent_negotiate.specs.Inside.PlaceAmong.{with_place};
+ghost use Rattle.fluent_negotiate.specs.Inside.IndexAmong.{with_index};
 ghost use Rattle.fluent_negotiate.specs.Lookup.{AreServed, served};
 
 use crate::ranges::lookup;
@@ -9,7 +9,7 @@ use std::convert::AsStr;
 
 /// Which of the available languages serve somebody, the one that serves best first: for each language range that was
 /// requested, in order, the language that [`lookup`] finds, and then the one that it finds for the default. Each is
-/// given by its place among the available languages, from 0 on, and each once.
+/// given by its index among the available languages, from 0 on, and each once.
 ///
 /// The list is empty where none of the ranges, nor the default, is served; that takes no memory.
 ///
@@ -26,26 +26,26 @@ pub fn negotiate<R: AsStr, A: AsStr>(
         (AreServed R.text A.text requested.now available.now default.now) }
     ensures succeeds { served R.text A.text requested.now available.now default.now ≡ [] → IsOk result }
 {
-    let mut places = Vec::new(alloc);
+    let mut indices = Vec::new(alloc);
     for range in requested {
         match lookup(available, range.as_str()) {
-            Some(place) => add_place(&mut places, place)?,
+            Some(index) => add_index(&mut indices, index)?,
             None => {}
         }
     }
     match lookup(available, default) {
-        Some(place) => add_place(&mut places, place)?,
+        Some(index) => add_index(&mut indices, index)?,
         None => {}
     }
-    Ok(places)
+    Ok(indices)
 }
 
-/// Adds a place after the others, unless it stands among them.
-fn add_place(places: &mut Vec<usize>, place: usize) -> Result<(), AllocError>
-    ensures { OnOk result (places.new.items ≡ with_place places.old.items place) }
+/// Adds an index after the others, unless it stands among them.
+fn add_index(indices: &mut Vec<usize>, index: usize) -> Result<(), AllocError>
+    ensures { OnOk result (indices.new.items ≡ with_index indices.old.items index) }
 {
-    if !places.contains(&place) {
-        places.push(place)?;
+    if !indices.contains(&index) {
+        indices.push(index)?;
     }
     Ok(())
 }

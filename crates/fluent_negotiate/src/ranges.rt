@@ -1,11 +1,11 @@
 //! The language that serves one range.
 ghost use Rattle.std.specs.Prelude.{◌≡◌, map};
-ghost use Rattle.fluent_negotiate.specs.Lookup.{lookup, place_of};
+ghost use Rattle.fluent_negotiate.specs.Lookup.{lookup, index_of};
 
 use crate::tags::{cut, is_same_tag};
 use std::convert::AsStr;
 
-/// Which of the available languages serves a language range, by the look-up of RFC 4647, section 3.4: its place among
+/// Which of the available languages serves a language range, by the look-up of RFC 4647, section 3.4: its index among
 /// them, from 0 on, or `None` where none does.
 ///
 /// The language whose tag is the range serves it, and where there is none, one for what is left when the last subtag is
@@ -19,20 +19,20 @@ pub fn lookup<A: AsStr>(available: &[A], range: &str) -> Option<usize>
 {
     let mut asked = range.as_bytes();
     loop {
-        if let Some(place) = place_of(available, asked) {
-            return Some(place);
+        if let Some(index) = index_of(available, asked) {
+            return Some(index);
         }
         asked = cut(asked)?;
     }
 }
 
-/// The place of the first language with this very tag.
-fn place_of<A: AsStr>(available: &[A], tag: &[u8]) -> Option<usize>
-    ensures { result ≡ place_of (map A.text available.now) tag.now }
+/// The index of the first language with this very tag.
+fn index_of<A: AsStr>(available: &[A], tag: &[u8]) -> Option<usize>
+    ensures { result ≡ index_of (map A.text available.now) tag.now }
 {
-    for (place, language) in available.iter().enumerate() {
+    for (index, language) in available.iter().enumerate() {
         if is_same_tag(language.as_str().as_bytes(), tag) {
-            return Some(place);
+            return Some(index);
         }
     }
     None

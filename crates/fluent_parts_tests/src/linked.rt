@@ -54,14 +54,14 @@ fn value_of<'r>(entry: &'r Entry<'static>) -> Option<&'r Pattern<'static>> {
 
 /// That a pattern has this class, or none, and that its links are these numbers.
 fn is_linked(linked: &Linked, class: Option<u32>, numbers: &[u32]) -> bool {
-    let mut place = linked.place();
+    let mut cursor = linked.cursor();
     for number in numbers {
-        if place.first() != Some(*number) {
+        if cursor.first() != Some(*number) {
             return false;
         }
-        place = place.after_one();
+        cursor = cursor.after_one();
     }
-    place.first().is_none() && linked.class() == class
+    cursor.first().is_none() && linked.class() == class
 }
 
 /// Links a pattern, again where an allocation fails.

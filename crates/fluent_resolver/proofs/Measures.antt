@@ -87,12 +87,12 @@ element_less (x ∷ xs) zero e h is =
     omega (arith, same, some_size (pattern_of (map element_view xs)))
 element_less (x ∷ xs) (suc i) e h is = omega (arith, element_less xs i e (omega arith) is)
 
-pub place_less : (xs : List InlineExpression) (i : ℕ) (e : InlineExpression) → i < length xs → e ≡ get_or xs i e → 2 + inline_size (inline_view e) < inlines_size (inlines_of (map inline_view xs))
-place_less [] i e h is = absurd (omega arith)
-place_less (x ∷ xs) zero e h is =
+pub cursor_less : (xs : List InlineExpression) (i : ℕ) (e : InlineExpression) → i < length xs → e ≡ get_or xs i e → 2 + inline_size (inline_view e) < inlines_size (inlines_of (map inline_view xs))
+cursor_less [] i e h is = absurd (omega arith)
+cursor_less (x ∷ xs) zero e h is =
     let same : inline_size (inline_view e) ≡ inline_size (inline_view x) = ap (λ v. inline_size (inline_view v)) is in
     omega (arith, same)
-place_less (x ∷ xs) (suc i) e h is = omega (arith, place_less xs i e (omega arith) is)
+cursor_less (x ∷ xs) (suc i) e h is = omega (arith, cursor_less xs i e (omega arith) is)
 
 pub label_less : (xs : List NamedArgument) (i : ℕ) (e : NamedArgument) → i < length xs → e ≡ get_or xs i e → 2 + inline_size (inline_view e.value) < nameds_size (nameds_of (map named_view xs))
 label_less [] i e h is = absurd (omega arith)

@@ -80,19 +80,19 @@ no_items : {X : Type 0} (xs : List X) → nat_eq (length xs) 0 ≡ true → xs �
 no_items [] h = refl
 no_items (x ∷ xs) h = let none : length (x ∷ xs) ≡ 0 = eqb-true (length (x ∷ xs)) 0 h in absurd (omega (arith, none))
 
-abbrev pub place_walk : List of_inline.InlineExpression → Walk (List (Value Text))
-place_walk xs s f env path = positional with_work s f env path (inlines_of (map inline_view xs))
+abbrev pub cursor_walk : List of_inline.InlineExpression → Walk (List (Value Text))
+cursor_walk xs s f env path = positional with_work s f env path (inlines_of (map inline_view xs))
 
 abbrev pub label_walk : List of_named.NamedArgument → Walk (List (Text × Value Text))
 label_walk xs s f env path = named with_work s f env path (nameds_of (map named_view xs))
 
-pub placing_next : {K : Type 0} (a : Status K) (xs rest : List of_inline.InlineExpression) (x : of_inline.InlineExpression) (b : Budget) → xs ≡ x ∷ rest → walked a (place_walk xs) b ≡ and_then (walked a (resolving (inline_view x)) b) (λ v n. mapping (λ vs. v ∷ vs) (walked a (place_walk rest) n))
+pub placing_next : {K : Type 0} (a : Status K) (xs rest : List of_inline.InlineExpression) (x : of_inline.InlineExpression) (b : Budget) → xs ≡ x ∷ rest → walked a (cursor_walk xs) b ≡ and_then (walked a (resolving (inline_view x)) b) (λ v n. mapping (λ vs. v ∷ vs) (walked a (cursor_walk rest) n))
 placing_next a xs rest x b h =
-    ap (λ xs. walked a (place_walk xs) b) h
+    ap (λ xs. walked a (cursor_walk xs) b) h
     ∙ positional_more a.bundle (work a.bundle) a.environment a.path (inline_view x) (inlines_of (map inline_view rest)) b
 
-pub placing_end : {K : Type 0} (a : Status K) (xs : List of_inline.InlineExpression) (b : Budget) → xs ≡ [] → walked a (place_walk xs) b ≡ given [] b
-placing_end a xs b h = ap (λ xs. walked a (place_walk xs) b) h ∙ positional_none a.bundle (work a.bundle) a.environment a.path b
+pub placing_end : {K : Type 0} (a : Status K) (xs : List of_inline.InlineExpression) (b : Budget) → xs ≡ [] → walked a (cursor_walk xs) b ≡ given [] b
+placing_end a xs b h = ap (λ xs. walked a (cursor_walk xs) b) h ∙ positional_none a.bundle (work a.bundle) a.environment a.path b
 
 pub labelling_next : {K : Type 0} (a : Status K) (xs rest : List of_named.NamedArgument) (x : of_named.NamedArgument) (b : Budget) → xs ≡ x ∷ rest → walked a (label_walk xs) b ≡ and_then (walked a (resolving (inline_view x.value)) b) (λ v n. mapping (λ vs. (x.name.name.now, v) ∷ vs) (walked a (label_walk rest) n))
 labelling_next a xs rest x b h =
@@ -105,7 +105,7 @@ labelling_end a xs b h = ap (λ xs. walked a (label_walk xs) b) h ∙ named_none
 
 -- what is made of the value of an argument, where these are still to come
 abbrev pub placing_more : {K : Type 0} → Status K → List of_inline.InlineExpression → Value Text → Budget → Worked (List (Value Text))
-placing_more a rest v b = mapping (λ vs. v ∷ vs) (walked a (place_walk rest) b)
+placing_more a rest v b = mapping (λ vs. v ∷ vs) (walked a (cursor_walk rest) b)
 
 abbrev pub labelled : Text → Value Text → Text × Value Text
 labelled k v = (k, v)
@@ -132,13 +132,13 @@ naming_after a ns vs b = and_then (walked a (naming ns) b) (pairing vs)
 abbrev pub calling : Arguments → Walk (List (Value Text) × Map (Value Text))
 calling x s f env path = called with_work s f env path x
 
-pub calling_at : {K : Type 0} (a : Status K) (x : of_call.CallArguments) (ps : List of_inline.InlineExpression) (ns : List of_named.NamedArgument) (b : Budget) → ps ≡ (of_call.out-CallArguments x).positional.items → ns ≡ named_in x → walked a (calling (arguments_view x)) b ≡ and_then (walked a (place_walk ps) b) (naming_after a ns)
+pub calling_at : {K : Type 0} (a : Status K) (x : of_call.CallArguments) (ps : List of_inline.InlineExpression) (ns : List of_named.NamedArgument) (b : Budget) → ps ≡ (of_call.out-CallArguments x).positional.items → ns ≡ named_in x → walked a (calling (arguments_view x)) b ≡ and_then (walked a (cursor_walk ps) b) (naming_after a ns)
 calling_at a x ps ns b hp hn =
     ap (λ x. walked a (calling x) b) (view_arguments x)
     ∙ called_is a.bundle (work a.bundle) a.environment a.path (inlines_of (map inline_view (of_call.out-CallArguments x).positional.items)) (nameds_of (map named_view (named_in x))) b
-    ∙ ap (λ ps. and_then (walked a (place_walk ps) b) (λ vs n. mapping (λ m. (vs, set_all m [])) (walked a (label_walk (named_in x)) n))) (sym hp)
-    ∙ ap (λ ns. and_then (walked a (place_walk ps) b) (λ vs n. mapping (λ m. (vs, set_all m [])) (walked a (label_walk ns) n))) (sym hn)
-    ∙ and_then_is (walked a (place_walk ps) b) (λ vs n. mapping (λ m. (vs, set_all m [])) (walked a (label_walk ns) n)) (naming_after a ns) (λ vs n. sym (then_give (walked a (naming ns) n) (λ m. (vs, m))))
+    ∙ ap (λ ps. and_then (walked a (cursor_walk ps) b) (λ vs n. mapping (λ m. (vs, set_all m [])) (walked a (label_walk (named_in x)) n))) (sym hp)
+    ∙ ap (λ ns. and_then (walked a (cursor_walk ps) b) (λ vs n. mapping (λ m. (vs, set_all m [])) (walked a (label_walk ns) n))) (sym hn)
+    ∙ and_then_is (walked a (cursor_walk ps) b) (λ vs n. mapping (λ m. (vs, set_all m [])) (walked a (label_walk ns) n)) (naming_after a ns) (λ vs n. sym (then_give (walked a (naming ns) n) (λ m. (vs, m))))
 
 -- what the arguments of a term reference make
 abbrev pub locals : Call → Walk (Map (Value Text))

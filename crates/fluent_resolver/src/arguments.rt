@@ -11,7 +11,7 @@ ghost use Rattle.fluent_values.specs.Sinks.{writer};
 
 use crate::inline_expression::write_inline;
 use crate::says::Gives;
-use fluent_links::Place;
+use fluent_links::Cursor;
 use fluent_state::found::answer_of;
 use fluent_state::gathered::{Gathered, push_value};
 use fluent_state::locals::has_literals_alone;
@@ -31,9 +31,9 @@ pub(crate) fn resolve<'p, 's, W: Write, C: FluentType, F: FluentFunction<C>, B: 
     scope: &mut State<'_, 'p, '_, 's, '_, C, F, B>,
     w: &mut Counting<W>,
     inline: &'p InlineExpression<'s>,
-    place: Place<'p>,
+    cursor: Cursor<'p>,
 ) -> Result<FluentValue<'p, C>, Halt>
-    requires { IsPlaced scope.old.ids.now (in_inline (inline_view inline.now)) place }
+    requires { IsPlaced scope.old.ids.now (in_inline (inline_view inline.now)) cursor }
     ensures { ⟦<W as Gives<C, F, B>>⟧.value inline.now result w.old w.new scope.old scope.new }
 {
     match inline {
@@ -43,12 +43,12 @@ pub(crate) fn resolve<'p, 's, W: Write, C: FluentType, F: FluentFunction<C>, B: 
         }
         InlineExpression::NumberLiteral { value } => Ok(FluentValue::try_number(value)),
         InlineExpression::FunctionReference { id, arguments } => {
-            resolve_function(scope, w, inline, id, arguments, place)
+            resolve_function(scope, w, inline, id, arguments, cursor)
         }
         InlineExpression::VariableReference { id } => Ok(resolve_variable(scope, inline, id)?),
         _ => {
             let mut text = String::new(scope.bundle.allocator());
-            write_beside(scope, w, &mut text, inline, place)?;
+            write_beside(scope, w, &mut text, inline, cursor)?;
             Ok(FluentValue::String(CowStr::Owned(text)))
         }
     }
@@ -63,16 +63,16 @@ fn resolve_function<'p, 's, W: Write, C: FluentType, F: FluentFunction<C>, B: Co
     inline: &InlineExpression<'_>,
     id: &Identifier<'_>,
     arguments: &'p CallArguments<'s>,
-    place: Place<'p>,
+    cursor: Cursor<'p>,
 ) -> Result<FluentValue<'p, C>, Halt>
     requires view { inline_view inline.now
         ≡ function id.now.name.now (arguments_view arguments.now) }
-    requires placed { IsPlaced scope.old.ids.now (in_inline (inline_view inline.now)) place }
+    requires placed { IsPlaced scope.old.ids.now (in_inline (inline_view inline.now)) cursor }
     ensures { ⟦<W as Gives<C, F, B>>⟧.value inline.now result w.old w.new scope.old scope.new }
 {
-    let (positional, named) = resolve_call(scope, w, arguments, place.after_one())?;
+    let (positional, named) = resolve_call(scope, w, arguments, cursor.after_one())?;
     let alloc = scope.bundle.allocator();
-    let answer = answer_of(scope.ids, alloc, id.name, &positional, &named, place)?;
+    let answer = answer_of(scope.ids, alloc, id.name, &positional, &named, cursor)?;
     Ok(answer.unwrap_or(FluentValue::Error))
 }
 
@@ -83,9 +83,9 @@ fn write_beside<'p, 's, W: Write, C: FluentType, F: FluentFunction<C>, B: Contex
     w: &mut Counting<W>,
     text: &mut String,
     inline: &'p InlineExpression<'s>,
-    place: Place<'p>,
+    cursor: Cursor<'p>,
 ) -> Result<(), Halt>
-    requires { IsPlaced scope.old.ids.now (in_inline (inline_view inline.now)) place }
+    requires { IsPlaced scope.old.ids.now (in_inline (inline_view inline.now)) cursor }
     ensures { ⟦<W as Gives<C, F, B>>⟧.text inline.now result w.old w.new text.old text.new
         scope.old scope.new }
 {
@@ -95,7 +95,7 @@ fn write_beside<'p, 's, W: Write, C: FluentType, F: FluentFunction<C>, B: Contex
         is_buffered: true,
         error: None,
     };
-    write_inline(scope, &mut out, inline, place)
+    write_inline(scope, &mut out, inline, cursor)
 }
 
 /// The environment that a term's arguments make: its named ones, which stay in the tree where there are no others and
@@ -106,9 +106,9 @@ pub(crate) fn resolve_local<'p, 's, W: Write, C: FluentType, F: FluentFunction<C
     scope: &mut State<'_, 'p, '_, 's, '_, C, F, B>,
     w: &mut Counting<W>,
     arguments: &'p Option<Box<CallArguments<'s>>>,
-    place: Place<'p>,
+    cursor: Cursor<'p>,
 ) -> Result<Locals<'p, 's, C>, Halt>
-    requires { IsPlaced scope.old.ids.now (in_call (call_view arguments.now)) place }
+    requires { IsPlaced scope.old.ids.now (in_call (call_view arguments.now)) cursor }
     ensures { ⟦<W as Gives<C, F, B>>⟧.local arguments.now result w.old w.new scope.old scope.new }
 {
     match arguments {
@@ -118,7 +118,7 @@ pub(crate) fn resolve_local<'p, 's, W: Write, C: FluentType, F: FluentFunction<C
             if has_literals_alone(arguments) {
                 return Ok(Locals::Literals(Some(arguments)));
             }
-            let (_positional, named) = resolve_call(scope, w, arguments, place)?;
+            let (_positional, named) = resolve_call(scope, w, arguments, cursor)?;
             Ok(Locals::Values(named))
         }
     }
@@ -131,13 +131,13 @@ pub(crate) fn resolve_call<'p, 's, W: Write, C: FluentType, F: FluentFunction<C>
     scope: &mut State<'_, 'p, '_, 's, '_, C, F, B>,
     w: &mut Counting<W>,
     arguments: &'p CallArguments<'s>,
-    place: Place<'p>,
+    cursor: Cursor<'p>,
 ) -> Result<(Vec<FluentValue<'p, C>>, FluentArgs<'p, C>), Halt>
-    requires { IsPlaced scope.old.ids.now (in_arguments (arguments_view arguments.now)) place }
+    requires { IsPlaced scope.old.ids.now (in_arguments (arguments_view arguments.now)) cursor }
     ensures { ⟦<W as Gives<C, F, B>>⟧.call arguments.now result w.old w.new scope.old scope.new }
 {
-    let positional = resolve_positional(scope, w, &arguments.positional, place)?;
-    let after = place.after_positional(&arguments.positional);
+    let positional = resolve_positional(scope, w, &arguments.positional, cursor)?;
+    let after = cursor.after_positional(&arguments.positional);
     let named = resolve_named(scope, w, &arguments.named, after)?;
     Ok((positional, named))
 }
@@ -149,17 +149,17 @@ fn resolve_positional<'p, 's, W: Write, C: FluentType, F: FluentFunction<C>, B: 
     scope: &mut State<'_, 'p, '_, 's, '_, C, F, B>,
     w: &mut Counting<W>,
     arguments: &'p [InlineExpression<'s>],
-    place: Place<'p>,
+    cursor: Cursor<'p>,
 ) -> Result<Vec<FluentValue<'p, C>>, Halt>
-    requires { IsPlaced scope.old.ids.now (in_positional (inlines_view arguments.now)) place }
+    requires { IsPlaced scope.old.ids.now (in_positional (inlines_view arguments.now)) cursor }
     ensures { ⟦<W as Gives<C, F, B>>⟧.positional arguments.now result w.old w.new scope.old scope.new }
 {
     let mut values = Vec::new(scope.bundle.allocator());
-    let mut place = place;
+    let mut cursor = cursor;
     for argument in arguments {
-        let value = resolve(scope, w, argument, place)?;
+        let value = resolve(scope, w, argument, cursor)?;
         push_value(&mut values, value)?;
-        place = place.after_inline(argument);
+        cursor = cursor.after_inline(argument);
     }
     Ok(values)
 }
@@ -171,17 +171,17 @@ fn resolve_named<'p, 's, W: Write, C: FluentType, F: FluentFunction<C>, B: Conte
     scope: &mut State<'_, 'p, '_, 's, '_, C, F, B>,
     w: &mut Counting<W>,
     arguments: &'p [NamedArgument<'s>],
-    place: Place<'p>,
+    cursor: Cursor<'p>,
 ) -> Result<FluentArgs<'p, C>, Halt>
-    requires { IsPlaced scope.old.ids.now (in_named (nameds_view arguments.now)) place }
+    requires { IsPlaced scope.old.ids.now (in_named (nameds_view arguments.now)) cursor }
     ensures { ⟦<W as Gives<C, F, B>>⟧.named arguments.now result w.old w.new scope.old scope.new }
 {
     let mut values = Gathered::new(scope.bundle.allocator(), arguments.len());
-    let mut place = place;
+    let mut cursor = cursor;
     for argument in arguments {
-        let value = resolve(scope, w, &argument.value, place)?;
+        let value = resolve(scope, w, &argument.value, cursor)?;
         values.set(CowStr::Borrowed(argument.name.name), value)?;
-        place = place.after_inline(&argument.value);
+        cursor = cursor.after_inline(&argument.value);
     }
     let args = values.finish(scope.bundle.allocator())?;
     Ok(args)

@@ -10,7 +10,7 @@ use crate::inline_expression::write_inline;
 use crate::pattern::write_pattern;
 use crate::says::Says;
 use crate::variants::choose_variant;
-use fluent_links::Place;
+use fluent_links::Cursor;
 use fluent_state::State;
 use fluent_tree::ast::{Expression, InlineExpression, Variant};
 use fluent_values::output::{Halt, Output};
@@ -31,15 +31,15 @@ pub(crate) fn write_expression<
     scope: &mut State<'_, 'p, '_, 's, '_, C, F, B>,
     out: &mut Output<W>,
     expression: &'p Expression<'s>,
-    place: Place<'p>,
+    cursor: Cursor<'p>,
 ) -> Result<(), Halt>
-    requires { IsPlaced scope.old.ids.now (in_expression (expression_view expression.now)) place }
+    requires { IsPlaced scope.old.ids.now (in_expression (expression_view expression.now)) cursor }
     ensures { ⟦<W as Says<C, F, B>>⟧.shown expression.now result out.old out.new scope.old scope.new }
 {
     match expression {
-        Expression::Inline(inline) => write_inline(scope, out, inline, place),
+        Expression::Inline(inline) => write_inline(scope, out, inline, cursor),
         Expression::Select { selector, variants } => {
-            write_select(scope, out, selector, variants, place)
+            write_select(scope, out, selector, variants, cursor)
         }
     }
 }
@@ -52,13 +52,13 @@ fn write_select<'p, 's, W: Write, C: FluentType, F: FluentFunction<C>, B: Contex
     out: &mut Output<W>,
     selector: &'p InlineExpression<'s>,
     variants: &'p [Variant<'s>],
-    place: Place<'p>,
+    cursor: Cursor<'p>,
 ) -> Result<(), Halt>
-    requires { IsPlaced scope.old.ids.now (in_select selector.now variants.now) place }
+    requires { IsPlaced scope.old.ids.now (in_select selector.now variants.now) cursor }
     ensures { ⟦<W as Says<C, F, B>>⟧.selected selector.now variants.now result out.old out.new scope.old scope.new }
 {
-    match choose_variant(scope, out.writer, selector, variants, place)? {
-        Some(chosen) => write_pattern(scope, out, chosen.pattern, chosen.place),
+    match choose_variant(scope, out.writer, selector, variants, cursor)? {
+        Some(chosen) => write_pattern(scope, out, chosen.pattern, chosen.cursor),
         None => {
             scope.add_error(ResolverError::MissingDefault)?;
             Ok(())

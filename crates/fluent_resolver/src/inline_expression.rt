@@ -15,7 +15,7 @@ use crate::arguments::{resolve_call, resolve_local};
 use crate::expression::write_expression;
 use crate::pattern::write_elements;
 use crate::says::{Says, Sees};
-use fluent_links::Place;
+use fluent_links::Cursor;
 use fluent_state::fallback::{put_id_in_braces, put_in_braces};
 use fluent_state::laws::references_are_walked;
 use fluent_state::lost::{lose, report_no_value};
@@ -34,9 +34,9 @@ pub(crate) fn write_inline<'p, 's, W: Write, C: FluentType, F: FluentFunction<C>
     scope: &mut State<'_, 'p, '_, 's, '_, C, F, B>,
     out: &mut Output<W>,
     inline: &'p InlineExpression<'s>,
-    place: Place<'p>,
+    cursor: Cursor<'p>,
 ) -> Result<(), Halt>
-    requires { IsPlaced scope.old.ids.now (in_inline (inline_view inline.now)) place }
+    requires { IsPlaced scope.old.ids.now (in_inline (inline_view inline.now)) cursor }
     ensures { ⟦<W as Says<C, F, B>>⟧.inline inline.now result out.old out.new scope.old scope.new }
 {
     match inline {
@@ -45,20 +45,20 @@ pub(crate) fn write_inline<'p, 's, W: Write, C: FluentType, F: FluentFunction<C>
         }
         InlineExpression::NumberLiteral { value } => { put_number(scope.bundle, out, value) }
         InlineExpression::FunctionReference { id, arguments } => {
-            write_function(scope, out, inline, id, arguments, place)
+            write_function(scope, out, inline, id, arguments, cursor)
         }
         InlineExpression::MessageReference { id, attribute } => {
-            let found = found::message(scope.ids, id.name, attribute, place);
+            let found = found::message(scope.ids, id.name, attribute, cursor);
             follow(scope, out, inline, id, found)
         }
         InlineExpression::TermReference {
             id,
             attribute,
             arguments,
-        } => write_term(scope, out, inline, id, attribute, arguments, place),
+        } => write_term(scope, out, inline, id, attribute, arguments, cursor),
         InlineExpression::VariableReference { id } => write_variable(scope, out, inline, id),
         InlineExpression::Placeable { expression } => {
-            write_expression(scope, out, expression, place)
+            write_expression(scope, out, expression, cursor)
         }
     }
 }
@@ -71,15 +71,15 @@ fn write_function<'p, 's, W: Write, C: FluentType, F: FluentFunction<C>, B: Cont
     inline: &'p InlineExpression<'s>,
     id: &Identifier<'_>,
     arguments: &'p CallArguments<'s>,
-    place: Place<'p>,
+    cursor: Cursor<'p>,
 ) -> Result<(), Halt>
     requires view { inline_view inline.now
         ≡ function id.now.name.now (arguments_view arguments.now) }
-    requires placed { IsPlaced scope.old.ids.now (in_inline (inline_view inline.now)) place }
+    requires placed { IsPlaced scope.old.ids.now (in_inline (inline_view inline.now)) cursor }
     ensures { ⟦<W as Says<C, F, B>>⟧.inline inline.now result out.old out.new scope.old scope.new }
 {
-    let (positional, named) = resolve_call(scope, out.writer, arguments, place.after_one())?;
-    put_answer(scope, out, inline, id, &positional, &named, place)
+    let (positional, named) = resolve_call(scope, out.writer, arguments, cursor.after_one())?;
+    put_answer(scope, out, inline, id, &positional, &named, cursor)
 }
 
 /// Writes a term's pattern, in the environment that its arguments make.
@@ -92,14 +92,14 @@ fn write_term<'p, 's, W: Write, C: FluentType, F: FluentFunction<C>, B: Context<
     id: &Identifier<'_>,
     attribute: &Option<Identifier<'_>>,
     arguments: &'p Option<Box<CallArguments<'s>>>,
-    place: Place<'p>,
+    cursor: Cursor<'p>,
 ) -> Result<(), Halt>
     requires view { inline_view inline.now ≡ term_view id.now attribute.now arguments.now }
-    requires placed { IsPlaced scope.old.ids.now (in_inline (inline_view inline.now)) place }
+    requires placed { IsPlaced scope.old.ids.now (in_inline (inline_view inline.now)) cursor }
     ensures { ⟦<W as Says<C, F, B>>⟧.inline inline.now result out.old out.new scope.old scope.new }
 {
-    let local = resolve_local(scope, out.writer, arguments, place.after_one())?;
-    let found = found::term(scope.ids, id.name, attribute, place);
+    let local = resolve_local(scope, out.writer, arguments, cursor.after_one())?;
+    let found = found::term(scope.ids, id.name, attribute, cursor);
     let outer = mem::replace(&mut scope.environment, Environment::Local(local));
     let written = follow(scope, out, inline, id, found);
     scope.environment = outer;
@@ -149,7 +149,7 @@ fn go<'p, 's, W: Write, C: FluentType, F: FluentFunction<C>, B: Context<C>>(
     }
     references_are_walked();
     let put = scope.enter(target.pattern, target.class)?;
-    let written = write_elements(scope, out, target.pattern, target.place);
+    let written = write_elements(scope, out, target.pattern, target.cursor);
     scope.leave(put);
     written
 }

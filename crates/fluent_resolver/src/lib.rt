@@ -14,7 +14,7 @@ mod whole;
 
 pub use fluent_entries::errors::resolver as errors;
 pub use fluent_entries::{ReferenceKind, ResolverError};
-pub use fluent_links::Place;
+pub use fluent_links::Cursor;
 pub use fluent_state::laws::calls_are_walks;
 pub use fluent_state::{Budget, Counts, Found, Target, environment, found, output, texts};
 pub use fluent_values::{Context, HasBundle};

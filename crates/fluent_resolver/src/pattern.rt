@@ -12,7 +12,7 @@ ghost use Rattle.fluent_state.specs.Status.{budget_view, state_parts};
 
 use crate::expression::write_expression;
 use crate::says::Says;
-use fluent_links::Place;
+use fluent_links::Cursor;
 use fluent_state::State;
 use fluent_state::placeable::{has_one, is_marked, put_ending, put_first_mark, put_last_mark};
 use fluent_state::texts::put_changed;
@@ -28,14 +28,14 @@ pub fn write_pattern<'p, 's, W: Write, C: FluentType, F: FluentFunction<C>, B: C
     scope: &mut State<'_, 'p, '_, 's, '_, C, F, B>,
     out: &mut Output<W>,
     pattern: &'p Pattern<'s>,
-    place: Place<'p>,
+    cursor: Cursor<'p>,
 ) -> Result<(), Halt>
-    requires { IsPlaced (state_parts scope.old).ids (references (pattern_view pattern.now)) place }
+    requires { IsPlaced (state_parts scope.old).ids (references (pattern_view pattern.now)) cursor }
     ensures text { ⟦<W as Says<C, F, B>>⟧.whole pattern.now result out.old out.new scope.old scope.new }
     ensures memory { ⟦<W as Says<C, F, B>>⟧.needs_no_memory pattern.now result out.old scope.old }
 {
     let begun = scope.begin(pattern);
-    let written = write_elements(scope, out, pattern, place);
+    let written = write_elements(scope, out, pattern, cursor);
     scope.end(begun);
     written
 }
@@ -46,14 +46,14 @@ pub(crate) fn write_elements<'p, 's, W: Write, C: FluentType, F: FluentFunction<
     scope: &mut State<'_, 'p, '_, 's, '_, C, F, B>,
     out: &mut Output<W>,
     pattern: &'p Pattern<'s>,
-    place: Place<'p>,
+    cursor: Cursor<'p>,
 ) -> Result<(), Halt>
-    requires { IsPlaced scope.old.ids.now (references (pattern_view pattern.now)) place }
+    requires { IsPlaced scope.old.ids.now (references (pattern_view pattern.now)) cursor }
     ensures text { ⟦<W as Says<C, F, B>>⟧.parts pattern.now result out.old out.new scope.old scope.new }
     ensures memory { ⟦<W as Says<C, F, B>>⟧.needs_no_memory pattern.now result out.old scope.old }
 {
     let one = has_one(pattern);
-    let mut place = place;
+    let mut cursor = cursor;
     for element in &pattern.elements {
         if scope.dirty() {
             break;
@@ -61,10 +61,10 @@ pub(crate) fn write_elements<'p, 's, W: Write, C: FluentType, F: FluentFunction<
         match element {
             PatternElement::TextElement { value } => put_changed(scope, out, value)?,
             PatternElement::Placeable { expression } => write_placeable(
-                scope, out, one, expression, place,
+                scope, out, one, expression, cursor,
             )?,
         }
-        place = place.after_element(element);
+        cursor = cursor.after_element(element);
     }
     Ok(())
 }
@@ -76,10 +76,10 @@ fn write_placeable<'p, 's, W: Write, C: FluentType, F: FluentFunction<C>, B: Con
     out: &mut Output<W>,
     one: bool,
     expression: &'p Expression<'s>,
-    place: Place<'p>,
+    cursor: Cursor<'p>,
 ) -> Result<(), Halt>
     requires left { budget_view scope.old.budget ≢ limit_reached }
-    requires placed { IsPlaced scope.old.ids.now (in_shown expression.now) place }
+    requires placed { IsPlaced scope.old.ids.now (in_shown expression.now) cursor }
     ensures { ⟦<W as Says<C, F, B>>⟧.part one expression.now result out.old out.new scope.old scope.new }
 {
     if !scope.take_one() {
@@ -88,7 +88,7 @@ fn write_placeable<'p, 's, W: Write, C: FluentType, F: FluentFunction<C>, B: Con
     }
     let marked = is_marked(scope.bundle, one, expression);
     put_first_mark(out, marked)?;
-    write_expression(scope, out, expression, place)?;
+    write_expression(scope, out, expression, cursor)?;
     put_ending(out, expression, scope.budget)?;
     put_last_mark(out, marked)
 }

@@ -15,7 +15,7 @@ use crate::pattern::write_pattern;
 use crate::says::Says;
 use crate::scope::Scope;
 use crate::scope_says::{Tells, Tracks};
-use fluent_links::Place;
+use fluent_links::Cursor;
 use fluent_state::State;
 use fluent_state::laws::{calls_are_walks, references_are_walked};
 use fluent_state::lost::lose;
@@ -142,7 +142,7 @@ impl<'p, 's, C: FluentType, F: FluentFunction<C>, B: Context<C>> Scope<
             return Ok((Vec::new(alloc), FluentArgs::new(alloc)));
         }
         let mut unused = Counting::new(Vec::new(alloc));
-        match resolve_call(&mut self.state, &mut unused, arguments, Place::by_name()) {
+        match resolve_call(&mut self.state, &mut unused, arguments, Cursor::by_name()) {
             Ok(values) => Ok(values),
             Err(_) => Err(AllocError),
         }
@@ -166,7 +166,7 @@ fn write_tracked<'p, 's, W: Write, C: FluentType, F: FluentFunction<C>, B: Conte
     ensures { ⟦<W as Says<C, F, B>>⟧.tracked pattern.now result out.old out.new scope.old scope.new }
 {
     references_are_walked();
-    write_pattern(scope, out, pattern, Place::by_name())
+    write_pattern(scope, out, pattern, Cursor::by_name())
 }
 
 /// Writes a placeable's expression, with the pattern on the path where that is empty.
@@ -193,6 +193,6 @@ fn write_closed<'p, 's, W: Write, C: FluentType, F: FluentFunction<C>, B: Contex
 ) -> Result<(), Halt>
     ensures { ⟦<W as Says<C, F, B>>⟧.closed expression.now result out.old out.new scope.old scope.new }
 {
-    write_expression(scope, out, expression, Place::by_name())?;
+    write_expression(scope, out, expression, Cursor::by_name())?;
     put_ending(out, expression, scope.budget)
 }

@@ -8,7 +8,7 @@ ghost use Rattle.fluent_resolver.specs.Said.{in_select};
 
 use crate::arguments::resolve;
 use crate::says::Gives;
-use fluent_links::Place;
+use fluent_links::Cursor;
 use fluent_state::State;
 use fluent_state::variants::{Chosen, choose, choose_by_variable};
 use fluent_text::Counting;
@@ -24,19 +24,19 @@ pub(crate) fn choose_variant<'p, 's, W: Write, C: FluentType, F: FluentFunction<
     w: &mut Counting<W>,
     selector: &'p InlineExpression<'s>,
     variants: &'p [Variant<'s>],
-    place: Place<'p>,
+    cursor: Cursor<'p>,
 ) -> Result<Option<Chosen<'p, 's>>, Halt>
-    requires { IsPlaced scope.old.ids.now (in_select selector.now variants.now) place }
+    requires { IsPlaced scope.old.ids.now (in_select selector.now variants.now) cursor }
     ensures chose { ⟦<W as Gives<C, F, B>>⟧.choice selector.now variants.now result w.old w.new
         scope.old scope.new }
     ensures placed { IfOk result (λ chosen. BeginsAt (numbers scope.old.ids.now) chosen) }
 {
     match selector {
         InlineExpression::VariableReference { id } => {
-            let place = place.after_inline(selector);
-            Ok(choose_by_variable(scope, selector, id, variants, place)?)
+            let cursor = cursor.after_inline(selector);
+            Ok(choose_by_variable(scope, selector, id, variants, cursor)?)
         }
-        _ => choose_by_value(scope, w, selector, variants, place),
+        _ => choose_by_value(scope, w, selector, variants, cursor),
     }
 }
 
@@ -47,13 +47,18 @@ fn choose_by_value<'p, 's, W: Write, C: FluentType, F: FluentFunction<C>, B: Con
     w: &mut Counting<W>,
     selector: &'p InlineExpression<'s>,
     variants: &'p [Variant<'s>],
-    place: Place<'p>,
+    cursor: Cursor<'p>,
 ) -> Result<Option<Chosen<'p, 's>>, Halt>
-    requires { IsPlaced scope.old.ids.now (in_select selector.now variants.now) place }
+    requires { IsPlaced scope.old.ids.now (in_select selector.now variants.now) cursor }
     ensures chose { ⟦<W as Gives<C, F, B>>⟧.choice selector.now variants.now result w.old w.new
         scope.old scope.new }
     ensures placed { IfOk result (λ chosen. BeginsAt (numbers scope.old.ids.now) chosen) }
 {
-    let value = resolve(scope, w, selector, place)?;
-    Ok(choose(scope.bundle, &value, variants, place.after_inline(selector)))
+    let value = resolve(scope, w, selector, cursor)?;
+    Ok(choose(
+        scope.bundle,
+        &value,
+        variants,
+        cursor.after_inline(selector),
+    ))
 }

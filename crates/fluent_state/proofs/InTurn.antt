@@ -7,18 +7,18 @@ use Rattle.fluent_tree.specs.View.{key_view, pattern_view, variant_view}
 use Rattle.fluent_tree.specs.declared.ast.Variant as of_the_variant
 use Rattle.fluent_tree.specs.declared.ast.Variant.{Variant}
 use Rattle.fluent_links.specs.Links.{IsBefore, Links, past}
-use Rattle.fluent_links.specs.PlaceSteps.{enters, leaves, of_variant, variant_in_turn}
-use Rattle.fluent_links.specs.Places.{seen}
-use Rattle.fluent_links.specs.declared.place.Place.{Place}
+use Rattle.fluent_links.specs.CursorSteps.{enters, leaves, of_variant, variant_in_turn}
+use Rattle.fluent_links.specs.Cursors.{seen}
+use Rattle.fluent_links.specs.declared.cursor.Cursor.{Cursor}
 use Rattle.fluent_state.specs.Choice.{choice, first_default}
 use Rattle.fluent_state.specs.declared.variants.Chosen.{Chosen}
 use Rattle.fluent_state.specs.Facts.Lists.{next_of}
 
 module _ (number : Text → Option ℕ) (vs : List Variant) (i : ℕ) (v : Variant) (h : i < length vs) (is : v ≡ get_or vs i v) where
   -- the next variant begins there
-  pub begins_here : (c : Chosen) (p : Place) → pattern_view c.pattern.now ≡ pattern_view v.value → c.place ≡ p → IsBefore number (of_variants (drop i vs)) (seen p) → IsBefore number (references (pattern_view c.pattern.now)) (seen c.place)
+  pub begins_here : (c : Chosen) (p : Cursor) → pattern_view c.pattern.now ≡ pattern_view v.value → c.cursor ≡ p → IsBefore number (of_variants (drop i vs)) (seen p) → IsBefore number (references (pattern_view c.pattern.now)) (seen c.cursor)
   begins_here c p same at before =
-      subst (λ x. IsBefore number (references x) (seen c.place)) (sym same)
+      subst (λ x. IsBefore number (references x) (seen c.cursor)) (sym same)
       (subst (λ q. IsBefore number (of_variant v) (seen q)) (sym at) (enters of_variant of_variants variant_in_turn vs i v h is number (seen p) before))
 
   -- the others begin after it

@@ -9,14 +9,14 @@ use Rattle.fluent_meaning.specs.Bundle.{first_of, found}
 use Rattle.fluent_meaning.specs.Number.{is_text}
 use Rattle.fluent_state.specs.Facts.Lists.{next_of}
 
--- the first after so many is the one at that place
+-- the first after so many is the one at that cursor
 pub first_after : {X : Type 0} (xs : List X) (i : ℕ) → slice_get (drop i xs) 0 ≡ slice_get xs i
 first_after [] zero = refl
 first_after [] (suc i) = refl
 first_after (x ∷ xs) zero = refl
 first_after (x ∷ xs) (suc i) = first_after xs i
 
--- the pattern of the attribute at a place
+-- the pattern of the attribute at a cursor
 pub pattern_at : (xs : List Attribute) (i : ℕ) (x : Attribute) → i < length xs → x ≡ get_or xs i x → slice_get (map (λ a. pattern_view a.value) xs) i ≡ Some (pattern_view x.value)
 pattern_at [] i x h is = absurd (omega arith)
 pattern_at (y ∷ ys) zero x h is = ap (λ x. Some (pattern_view x.value)) (sym is)

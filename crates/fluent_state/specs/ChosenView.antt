@@ -11,8 +11,8 @@ use Rattle.fluent_intl.specs.declared.number.FluentNumber.{FluentNumber}
 use Rattle.fluent_meaning.specs.Bundle.{key_value}
 use Rattle.fluent_meaning.specs.Value.{Value}
 use Rattle.fluent_links.specs.Links.{IsBefore}
-use Rattle.fluent_links.specs.Places.{seen}
-use Rattle.fluent_links.specs.declared.place.Place.{Place}
+use Rattle.fluent_links.specs.Cursors.{seen}
+use Rattle.fluent_links.specs.declared.cursor.Cursor.{Cursor}
 use Rattle.fluent_state.specs.Choice.{choice, first_default, is_like}
 use Rattle.fluent_state.specs.declared.variants.Chosen.{Chosen}
 
@@ -30,10 +30,10 @@ is_like_value word n value = is_like word (option_map (λ n. number_of n.now) n)
 abbrev pub has_key : Text → Option (Bor FluentNumber) → Key → Bool
 has_key word n key = is_like_value word n (key_value key)
 
--- its place stands before what its pattern refers to
+-- its cursor stands before what its pattern refers to
 abbrev pub BeginsAt : (Text → Option ℕ) → Option Chosen → Type 0
-BeginsAt number o = IfSome o (λ c. IsBefore number (references (pattern_view c.pattern.now)) (seen c.place))
+BeginsAt number o = IfSome o (λ c. IsBefore number (references (pattern_view c.pattern.now)) (seen c.cursor))
 
--- the same where a place stood before these variants
-abbrev pub BeginsIn : List Variant → Place → Option Chosen → Type 0
-BeginsIn vs place o = (number : Text → Option ℕ) → IsBefore number (in_variants (variants_view vs)) (seen place) → BeginsAt number o
+-- the same where a cursor stood before these variants
+abbrev pub BeginsIn : List Variant → Cursor → Option Chosen → Type 0
+BeginsIn vs cursor o = (number : Text → Option ℕ) → IsBefore number (in_variants (variants_view vs)) (seen cursor) → BeginsAt number o

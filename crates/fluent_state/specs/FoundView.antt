@@ -8,7 +8,7 @@ use Rattle.fluent_tree.specs.View.{attribute_of, pattern_view}
 use Rattle.fluent_tree.specs.declared.ast.Identifier.{Identifier}
 use Rattle.fluent_links.specs.Linked.{IsClassOf, IsOf}
 use Rattle.fluent_links.specs.Links.{IsBefore}
-use Rattle.fluent_links.specs.Places.{seen}
+use Rattle.fluent_links.specs.Cursors.{seen}
 use Rattle.fluent_links.specs.declared.linked.Linked.{Linked}
 use Rattle.fluent_meaning.specs.Arguments.{get}
 use Rattle.fluent_meaning.specs.Bundle.{Function, Target, unknown, without_value, found, message_target, term_target}
@@ -30,10 +30,10 @@ found_view leads.Unknown = unknown
 found_view leads.WithoutValue = without_value
 found_view (leads.Pattern t) = found (content_at t)
 
--- a pattern of a bundle: its class is its content's number, and its place stands before what it refers to
+-- a pattern of a bundle: its class is its content's number, and its cursor stands before what it refers to
 pub record IsStoredBy (number : Text → Option ℕ) (table : List Pattern) (t : code.Target) : Type 0 where
   pub classed : IsClassOf table (content_at t) t.class
-  pub placed : IsBefore number (references (content_at t)) (seen t.place)
+  pub placed : IsBefore number (references (content_at t)) (seen t.cursor)
 
 abbrev pub IsStored : {F : Type 0} → Ids F → code.Target → Type 0
 IsStored ids t = IsStoredBy (numbers ids) (table ids) t

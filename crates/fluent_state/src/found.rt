@@ -11,7 +11,7 @@ ghost use Rattle.fluent_entries.specs.IdNumbers.{IsNumberOf, IsPlaced, numbers, 
 
 use crate::says::Answers;
 use fluent_entries::{Entry, Ids, Slot};
-use fluent_links::{Linked, Place};
+use fluent_links::{Cursor, Linked};
 use fluent_tree::ast::{Attribute, Identifier, Pattern};
 use fluent_values::builtins::NUMBER;
 use fluent_values::{FluentArgs, FluentFunction, FluentType, FluentValue};
@@ -22,7 +22,7 @@ use std::alloc::{AllocError, Global};
 pub struct Target<'p, 's> {
     pub pattern: &'p Pattern<'s>,
     pub class: Option<u32>,
-    pub place: Place<'p>,
+    pub cursor: Cursor<'p>,
 }
 
 /// What a reference leads to: nothing, a message without a value, or a pattern.
@@ -54,13 +54,13 @@ pub fn message<'p, 's, F>(
     ids: &'p Ids<'_, 's, F>,
     id: &str,
     attribute: &Option<Identifier<'_>>,
-    place: Place<'_>,
+    cursor: Cursor<'_>,
 ) -> Found<'p, 's>
-    requires { IsPlaced ids.now (a_message id.now ∷ []) place }
+    requires { IsPlaced ids.now (a_message id.now ∷ []) cursor }
     ensures content { IsMessage ids.now id.now attribute.now result }
     ensures led { IsLed ids.now result }
 {
-    let Some(slot) = slot_of(ids, id, place.first()) else {
+    let Some(slot) = slot_of(ids, id, cursor.first()) else {
         return Found::Unknown;
     };
     match &slot.entry {
@@ -81,7 +81,7 @@ pub fn by_id<'p, 's, F>(
     ensures content { IsMessage ids.now id.now attribute.now result }
     ensures led { IsLed ids.now result }
 {
-    message(ids, id, attribute, Place::by_name())
+    message(ids, id, attribute, Cursor::by_name())
 }
 
 /// What a term's id leads to, or its attribute of a name. Takes no memory.
@@ -90,13 +90,13 @@ pub fn term<'p, 's, F>(
     ids: &'p Ids<'_, 's, F>,
     id: &str,
     attribute: &Option<Identifier<'_>>,
-    place: Place<'_>,
+    cursor: Cursor<'_>,
 ) -> Found<'p, 's>
-    requires { IsPlaced ids.now (a_term id.now ∷ []) place }
+    requires { IsPlaced ids.now (a_term id.now ∷ []) cursor }
     ensures content { IsTerm ids.now id.now attribute.now result }
     ensures led { IsLed ids.now result }
 {
-    let Some(slot) = slot_of(ids, id, place.first()) else {
+    let Some(slot) = slot_of(ids, id, cursor.first()) else {
         return Found::Unknown;
     };
     match &slot.entry {
@@ -118,12 +118,12 @@ impl<'p, 's> Target<'p, 's> {
             Some(linked) => Target {
                 pattern,
                 class: linked.class(),
-                place: linked.place(),
+                cursor: linked.cursor(),
             },
             None => Target {
                 pattern,
                 class: None,
-                place: Place::by_name(),
+                cursor: Cursor::by_name(),
             },
         }
     }
@@ -137,12 +137,12 @@ pub fn answer_of<'a, C: FluentType, F: FluentFunction<C>>(
     id: &str,
     positional: &[FluentValue<'a, C>],
     arguments: &FluentArgs<'a, C>,
-    place: Place<'_>,
+    cursor: Cursor<'_>,
 ) -> Result<Option<FluentValue<'a, C>>, AllocError>
-    requires { IsPlaced ids.now (a_function id.now ∷ []) place }
+    requires { IsPlaced ids.now (a_function id.now ∷ []) cursor }
     ensures { ⟦<F as Answers<C>>⟧.answers ids.now id.now positional.now arguments.now result }
 {
-    let Some(slot) = slot_of(ids, id, place.first()) else {
+    let Some(slot) = slot_of(ids, id, cursor.first()) else {
         return Ok(None);
     };
     match &slot.entry {

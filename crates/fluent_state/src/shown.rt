@@ -15,7 +15,7 @@ use crate::found::answer_of;
 use crate::lost::lose;
 use crate::says::{Puts, Says};
 use crate::state::State;
-use fluent_links::Place;
+use fluent_links::Cursor;
 use fluent_tree::ast::{Identifier, InlineExpression};
 use fluent_values::output::{Halt, Output};
 use fluent_values::shown::put_value;
@@ -41,9 +41,9 @@ pub fn put_answer<'p, W: Write, C: FluentType, F: FluentFunction<C>, B: Context<
     id: &Identifier<'_>,
     positional: &[FluentValue<'p, C>],
     arguments: &FluentArgs<'p, C>,
-    place: Place<'p>,
+    cursor: Cursor<'p>,
 ) -> Result<(), Halt>
-    requires { IsPlaced scope.old.ids.now (a_function id.now.name.now ∷ []) place }
+    requires { IsPlaced scope.old.ids.now (a_function id.now.name.now ∷ []) cursor }
     ensures { ⟦<W as Says<C, F, B>>⟧.answer inline.now id.now.name.now positional.now arguments.now
         result out.old out.new scope.old scope.new }
 {
@@ -53,7 +53,7 @@ pub fn put_answer<'p, W: Write, C: FluentType, F: FluentFunction<C>, B: Context<
         id.name,
         positional,
         arguments,
-        place,
+        cursor,
     )? {
         None => lose(scope, out, inline),
         Some(answer) => put_shown(scope.bundle, out, inline, &answer),

@@ -19,7 +19,7 @@ use crate::says::Sees;
 use crate::state::State;
 use crate::variable::argument;
 use fluent_intl::FluentNumber;
-use fluent_links::Place;
+use fluent_links::Cursor;
 use fluent_meaning::laws::numbers_read_as_defined;
 use fluent_tree::ast::{Identifier, InlineExpression, Pattern, Variant, VariantKey};
 use fluent_values::{Context, FluentFunction, FluentType, FluentValue};
@@ -30,18 +30,18 @@ use std::str::FromStr;
 #[derive(Clone, Copy, Drop)]
 pub struct Chosen<'p, 's> {
     pub pattern: &'p Pattern<'s>,
-    pub place: Place<'p>,
+    pub cursor: Cursor<'p>,
 }
 
 impl<'p, 's> Chosen<'p, 's> {
     /// A variant, whose pattern begins there.
-    fn of(variant: &'p Variant<'s>, place: Place<'p>) -> Self
+    fn of(variant: &'p Variant<'s>, cursor: Cursor<'p>) -> Self
         ensures pattern { pattern_view result.pattern.now ≡ pattern_view variant.now.value }
-        ensures place { result.place ≡ place.entry }
+        ensures cursor { result.cursor ≡ cursor.entry }
     {
         Chosen {
             pattern: &variant.value,
-            place,
+            cursor,
         }
     }
 }
@@ -53,19 +53,19 @@ pub fn choose_by_variable<'p, 's, C: FluentType, F: FluentFunction<C>, B: Contex
     selector: &InlineExpression<'_>,
     id: &Identifier<'_>,
     variants: &'p [Variant<'s>],
-    place: Place<'p>,
+    cursor: Cursor<'p>,
 ) -> Result<Option<Chosen<'p, 's>>, AllocError>
     requires { inline_view selector.now ≡ variable id.now.name.now }
     ensures chose { ⟦<B as Sees<C, F>>⟧.choice selector.now variants.now result scope.old scope.new }
-    ensures placed { IfOk result (λ chosen. BeginsIn variants.now place.entry chosen) }
+    ensures placed { IfOk result (λ chosen. BeginsIn variants.now cursor.entry chosen) }
 {
     match &scope.environment {
-        Environment::Local(locals) => choose_local(scope.bundle, locals, id.name, variants, place),
+        Environment::Local(locals) => choose_local(scope.bundle, locals, id.name, variants, cursor),
         Environment::Application(args) => match argument(*args, id.name) {
-            Some(value) => Ok(choose(scope.bundle, value, variants, place)),
+            Some(value) => Ok(choose(scope.bundle, value, variants, cursor)),
             None => {
                 report_lost(scope, selector)?;
-                Ok(first_default(variants, place))
+                Ok(first_default(variants, cursor))
             }
         },
     }
@@ -78,20 +78,20 @@ fn choose_local<'p, 's, C: FluentType, B: Context<C>>(
     locals: &Locals<'_, '_, C>,
     name: &str,
     variants: &'p [Variant<'s>],
-    place: Place<'p>,
+    cursor: Cursor<'p>,
 ) -> Result<Option<Chosen<'p, 's>>, AllocError>
     ensures chose { IfOk result (λ o. chosen_view o ≡ chosen (goes_to (B.meant bundle.now)
         (value_of name.now (locals_view C.content locals.now))) variants.now) }
-    ensures placed { IfOk result (BeginsIn variants.now place.entry) }
+    ensures placed { IfOk result (BeginsIn variants.now cursor.entry) }
 {
     match locals {
         Locals::Values(args) => match args.get(name) {
-            Some(value) => Ok(choose(bundle, value, variants, place)),
-            None => Ok(choose(bundle, &FluentValue::Error, variants, place)),
+            Some(value) => Ok(choose(bundle, value, variants, cursor)),
+            None => Ok(choose(bundle, &FluentValue::Error, variants, cursor)),
         },
         Locals::Literals(arguments) => match literal(*arguments, name) {
-            Some(found) => choose_by_literal(bundle, found, variants, place),
-            None => Ok(choose(bundle, &FluentValue::Error, variants, place)),
+            Some(found) => choose_by_literal(bundle, found, variants, cursor),
+            None => Ok(choose(bundle, &FluentValue::Error, variants, cursor)),
         },
     }
 }
@@ -102,14 +102,14 @@ fn choose_by_literal<'p, 's, C: FluentType, B: Context<C>>(
     bundle: &B,
     literal: &InlineExpression<'_>,
     variants: &'p [Variant<'s>],
-    place: Place<'p>,
+    cursor: Cursor<'p>,
 ) -> Result<Option<Chosen<'p, 's>>, AllocError>
     ensures chose { IfOk result (λ o. chosen_view o ≡ chosen (goes_to (B.meant bundle.now)
         (literal_value (inline_view literal.now))) variants.now) }
-    ensures placed { IfOk result (BeginsIn variants.now place.entry) }
+    ensures placed { IfOk result (BeginsIn variants.now cursor.entry) }
 {
     let value = literal_value::<C>(bundle.allocator(), literal)?;
-    Ok(choose(bundle, &value, variants, place))
+    Ok(choose(bundle, &value, variants, cursor))
 }
 
 /// The first variant whose key matches a value, else the first default. What category a number has is asked once.
@@ -117,22 +117,22 @@ pub fn choose<'p, 's, C: FluentType, B: Context<C>>(
     bundle: &B,
     value: &FluentValue<'_, C>,
     variants: &'p [Variant<'s>],
-    place: Place<'p>,
+    cursor: Cursor<'p>,
 ) -> Option<Chosen<'p, 's>>
     ensures chose { chosen_view result
         ≡ chosen (goes_to (B.meant bundle.now) (value_view C.content value.now)) variants.now }
-    ensures placed { BeginsIn variants.now place.entry result }
+    ensures placed { BeginsIn variants.now cursor.entry result }
 {
     match value {
-        FluentValue::String(text) => first_like(text.as_str(), None, variants, place),
+        FluentValue::String(text) => first_like(text.as_str(), None, variants, cursor),
         FluentValue::Number(number) => first_like(
             bundle.category_word(number),
             Some(number),
             variants,
-            place,
+            cursor,
         ),
         FluentValue::Custom(_) | FluentValue::None | FluentValue::Error => {
-            first_default(variants, place)
+            first_default(variants, cursor)
         }
     }
 }
@@ -142,19 +142,19 @@ fn first_like<'p, 's>(
     word: &str,
     number: Option<&FluentNumber>,
     variants: &'p [Variant<'s>],
-    place: Place<'p>,
+    cursor: Cursor<'p>,
 ) -> Option<Chosen<'p, 's>>
     ensures chose { chosen_view result ≡ chosen (has_key word.now number.entry) variants.now }
-    ensures placed { BeginsIn variants.now place.entry result }
+    ensures placed { BeginsIn variants.now cursor.entry result }
 {
-    let mut at = place;
+    let mut at = cursor;
     for variant in variants {
         if is_like(word, number, &variant.key) {
             return Some(Chosen::of(variant, at));
         }
         at = at.after_pattern(&variant.value);
     }
-    first_default(variants, place)
+    first_default(variants, cursor)
 }
 
 /// Whether a key is a word, or a number like that one.
@@ -182,11 +182,11 @@ fn is_source_like(word: &str, number: Option<&FluentNumber>, source: &str) -> bo
 }
 
 /// The first default among variants.
-fn first_default<'p, 's>(variants: &'p [Variant<'s>], place: Place<'p>) -> Option<Chosen<'p, 's>>
+fn first_default<'p, 's>(variants: &'p [Variant<'s>], cursor: Cursor<'p>) -> Option<Chosen<'p, 's>>
     ensures chose { chosen_view result ≡ first_default (variants_view variants.now) }
-    ensures placed { BeginsIn variants.now place.entry result }
+    ensures placed { BeginsIn variants.now cursor.entry result }
 {
-    let mut at = place;
+    let mut at = cursor;
     for variant in variants {
         if variant.default {
             return Some(Chosen::of(variant, at));

@@ -5,14 +5,14 @@ use crate::objects::{Formatter, Function, Plurals, Star, Upper};
 use crate::values::{Args, arguments};
 use crate::ways::{are_told, call_by_id, call_for, finds_nothing, hold, stops_after};
 use fluent_bundle::ast::Pattern;
-use fluent_chain::{Chain, Link};
+use fluent_chain::{BundleRef, Chain};
 use fluent_rows::fixture::{Fixture, Row, Told, Wanted};
 use fluent_rows::reader::read;
 use fluent_rows::report::Report;
 use std::alloc::{AllocError, Global};
 
 /// A bundle of a chain.
-type Linked<'b, 'r, 's> = Link<'b, 'r, 's, Plurals, Star, Function<'s>, Formatter, Upper>;
+type Linked<'b, 'r, 's> = BundleRef<'b, 'r, 's, Plurals, Star, Function<'s>, Formatter, Upper>;
 
 /// The first of these bundles that has the value or the attribute of a row, and its pattern there.
 fn first_with<'b, 'r, 's>(
@@ -199,7 +199,7 @@ fn links_to<'b, 'r, 's>(
         if !described.is_link {
             links.clear();
         }
-        links.push(Link(bundle))?;
+        links.push(BundleRef(bundle))?;
     }
     Ok(links)
 }

@@ -13,7 +13,7 @@ use Rattle.fluent_meaning.specs.Bundle as m
 use Rattle.fluent_entries.specs.EntryView.{ids}
 use Rattle.fluent_entries.specs.ErrorView.{error_view}
 use Rattle.fluent_entries.specs.IdNumbers.{numbers}
-use Rattle.fluent_entries.specs.Inside.WaitingEntries.{at_place, given, given_at, given_by, has_number, is_marked}
+use Rattle.fluent_entries.specs.Inside.WaitingEntries.{at_index, given, given_at, given_by, has_number, is_marked}
 use Rattle.fluent_entries.specs.declared.errors.FluentError.{FluentError}
 use Rattle.fluent_entries.specs.declared.ids.Ids.{Ids}
 use Rattle.fluent_entries.specs.declared.ready.Ready.{Ready}
@@ -22,9 +22,9 @@ use Rattle.fluent_entries.specs.declared.slot.Kept.{Kept}
 
 -- ---- one step
 
--- the entry at this place waits after the others, unless it is Junk
+-- the entry at this index waits after the others, unless it is Junk
 abbrev pub WaitsToo : List Entry → ℕ → Waiting → Waiting → Type 0
-WaitsToo es place old new = given_by es new.list.items ≡ given_by es old.list.items ++ given_at es place
+WaitsToo es index old new = given_by es new.list.items ≡ given_by es old.list.items ++ given_at es index
 
 -- this number too is that of an entry that waits
 abbrev pub HasNumberToo : ℕ → Waiting → Waiting → Type 0
@@ -38,13 +38,13 @@ IsMarkedToo number old new = (n : ℕ) → is_marked new n ≡ (nat_eq number n 
 abbrev pub once_put : {F : Type 0} → (F → Function Text) → Ids F → List Entry → Waiting → Map (m.Entry Text)
 once_put answer known es w = set_all (given_by es w.list.items) (ids answer known)
 
--- once all that wait are put, the entry at this place is added to the others
+-- once all that wait are put, the entry at this index is added to the others
 abbrev pub AddsAt : {F : Type 0} → Ids F → List Entry → ℕ → Waiting → Waiting → Type 0
-AddsAt {F} known es place old new = (answer : F → Function Text) → once_put answer known es new ≡ added (at_place es place) (once_put answer known es old)
+AddsAt {F} known es index old new = (answer : F → Function Text) → once_put answer known es new ≡ added (at_index es index) (once_put answer known es old)
 
--- if the id of the entry at this place is taken by then, that is one more error
+-- if the id of the entry at this index is taken by then, that is one more error
 abbrev pub ReportsAt : {F : Type 0} → Ids F → List Entry → ℕ → Waiting → Vec FluentError Global → Vec FluentError Global → Type 0
-ReportsAt {F} known es place w old new = (answer : F → Function Text) → map error_view new.items ≡ map error_view old.items ++ not_added (at_place es place) (once_put answer known es w)
+ReportsAt {F} known es index w old new = (answer : F → Function Text) → map error_view new.items ≡ map error_view old.items ++ not_added (at_index es index) (once_put answer known es w)
 
 -- whether the id of this number names something, or the number is marked
 abbrev pub TellsTaken : {F : Type 0} → Ids F → List Bool → ℕ → Bool → Type 0
@@ -68,7 +68,7 @@ ReportsAll {F} known es old new = (answer : F → Function Text) → map error_v
 
 -- one that waits
 abbrev pub ready : ℕ → ℕ → Option (Box Kept) → Ready
-ready place number kept = record { place = place; number = number; is_linked = is_some kept }
+ready index number kept = record { index = index; number = number; is_linked = is_some kept }
 
 -- what is kept of the first is taken, if anything is, and the rest is left
 abbrev pub TakesFirst : List (Box Kept) → Bool → Option (Box Kept) → List (Box Kept) → Type 0

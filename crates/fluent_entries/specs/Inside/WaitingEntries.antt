@@ -27,18 +27,18 @@ given (message_entry id v as' ∷ es) = (id, a_message v as') ∷ given es
 given (term_entry id p as' ∷ es) = (id, a_term p as') ∷ given es
 given (junk_entry source ∷ es) = given es
 
--- the entry at a place, if there is one
-abbrev pub at_place : List Entry → ℕ → List t.Entry
-at_place es place = map entry_view (option_to_list (slice_get es place))
+-- the entry at an index, if there is one
+abbrev pub at_index : List Entry → ℕ → List t.Entry
+at_index es index = map entry_view (option_to_list (slice_get es index))
 
--- the entry at a place with its id, if it is a message or a term
+-- the entry at an index with its id, if it is a message or a term
 abbrev pub given_at : List Entry → ℕ → List (Text × m.Entry Text)
-given_at es place = given (at_place es place)
+given_at es index = given (at_index es index)
 
 -- the entries that wait, each with its id
 abbrev pub given_by : List Entry → List Ready → List (Text × m.Entry Text)
 given_by es [] = []
-given_by es (r ∷ rs) = given_at es r.place ++ given_by es rs
+given_by es (r ∷ rs) = given_at es r.index ++ given_by es rs
 
 -- an entry is a message or a term of these parts
 abbrev pub HasParts : Entry → Parts → Type 0
@@ -46,9 +46,9 @@ HasParts (entries.Message x) p = (kind_view p.kind ≡ message_kind) × (x.id.na
 HasParts (entries.Term x) p = (kind_view p.kind ≡ term_kind) × (x.id.name.now ≡ p.id.now) × (Some (pattern_view x.value) ≡ borrowed_value p.value) × (patterns x.attributes.items ≡ patterns p.attributes.now)
 HasParts (entries.Junk source) p = ⊥
 
--- the entry at a place has these parts
+-- the entry at an index has these parts
 abbrev pub HasPartsAt : List Entry → ℕ → Parts → Type 0
-HasPartsAt es place p = (e : Entry) × (slice_get es place ≡ Some e) × HasParts e p
+HasPartsAt es index p = (e : Entry) × (slice_get es index ≡ Some e) × HasParts e p
 
 abbrev pub IsJunk : Entry → Type 0
 IsJunk (entries.Message x) = ⊥
@@ -63,7 +63,7 @@ IsReady number table n kept (entries.Junk source) = ⊥
 
 -- one that waits has the number of its id, and what is kept of its patterns if anything is
 abbrev pub Waits : (Text → Option ℕ) → List Pattern → List Entry → Ready → Option (Box Kept) → Type 0
-Waits number table es r kept = (r.is_linked ≡ is_some kept) × (e : Entry) × (slice_get es r.place ≡ Some e) × IsReady number table r.number kept e
+Waits number table es r kept = (r.is_linked ≡ is_some kept) × (e : Entry) × (slice_get es r.index ≡ Some e) × IsReady number table r.number kept e
 
 -- each that waits has the number of its id; what is kept of them stands in their order
 abbrev pub AreReady : (Text → Option ℕ) → List Pattern → List Entry → List Ready → List (Box Kept) → Type 0

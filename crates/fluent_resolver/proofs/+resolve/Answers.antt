@@ -14,9 +14,9 @@ use Rattle.fluent_state.specs.FoundView.{IsLed, content_at, found_view}
 use Rattle.fluent_tree.specs.References.{a_function, a_term, in_arguments, in_call, in_expression, in_inline, in_variants, references}
 use Rattle.fluent_tree.specs.ReferencesOf.{of_element, of_inline, of_inlines, of_nameds, of_variants}
 use Rattle.fluent_links.specs.Links.{IsBefore, past}
-use Rattle.fluent_links.specs.PlaceParts.{in_arguments_is, in_nested_is, in_one_is, in_pattern_is, in_placeable_is, in_select_is}
-use Rattle.fluent_links.specs.PlaceSteps.{element_in_turn, enters, in_elements, leaves, named_in_turn, of_named, positional_in_turn}
-use Rattle.fluent_links.specs.Places.{seen}
+use Rattle.fluent_links.specs.CursorParts.{in_arguments_is, in_nested_is, in_one_is, in_pattern_is, in_placeable_is, in_select_is}
+use Rattle.fluent_links.specs.CursorSteps.{element_in_turn, enters, in_elements, leaves, named_in_turn, of_named, positional_in_turn}
+use Rattle.fluent_links.specs.Cursors.{seen}
 use Rattle.fluent_state.specs.ChosenView.{BeginsAt, chosen_view}
 use Rattle.fluent_state.specs.declared.variants.Chosen.{Chosen}
 use Rattle.fluent_resolver.proofs.Placeables.{marked_as, marks, reaches_limit}
@@ -30,12 +30,12 @@ use Rattle.fluent_entries.specs.Texts.{IsTextAlone}
 use Rattle.fluent_values.specs.View.{value_view, named}
 use Rattle.fluent_state.specs.Facts.WritesUpTo.{starts, turns, passes, put, puts_last, tail, wrote, ends, stops, memory_halts, refuses, adds, calls, lends, goes_on, at_value}
 use Rattle.fluent_state.specs.Facts.Cases.{sequence, closing, written_string, written_number, written_message, written_nested, resolved_number, resolved_string, resolved_function, local_none, local_some, resolved_text}
-use Rattle.fluent_resolver.proofs.Measures.{falls_to, less_weight, same_weight, kept_weight, taken_weight, still_weight, less_found, element_less, place_less, label_less, some_variants, chosen_less, below_message, below_term}
+use Rattle.fluent_resolver.proofs.Measures.{falls_to, less_weight, same_weight, kept_weight, taken_weight, still_weight, less_found, element_less, cursor_less, label_less, some_variants, chosen_less, below_message, below_term}
 use Rattle.fluent_values.specs.Facts.Outputs.{still}
 use Rattle.fluent_state.specs.Facts.Passing.{passed_still, keeps_elsewhere, keeps_around, keeps_back, entered_counts}
 use Rattle.fluent_state.specs.Facts.Lists.{next_of, none_left}
 use Rattle.fluent_state.specs.Facts.Lookups.{answering, writing, resolving}
-use Rattle.fluent_resolver.proofs.Steps.{local_literals, named_in, inline_at, cyclic_at, entered_at, begun_at, back, term_at, inside, inside_at, left_again, selecting_at, chosen_walk, function_at, answered_value, elementing, following, giving, giving_all, giving_text, giving_placeable, giving_end, giving_limit_reached, no_placeable, expressing, locals, valued, place_walk, label_walk, placing_next, placing_end, placing_more, labelled, labelling_next, labelling_end, labelling_more, named_in, naming_after, pairing, calling_at, set_all_next}
+use Rattle.fluent_resolver.proofs.Steps.{local_literals, named_in, inline_at, cyclic_at, entered_at, begun_at, back, term_at, inside, inside_at, left_again, selecting_at, chosen_walk, function_at, answered_value, elementing, following, giving, giving_all, giving_text, giving_placeable, giving_end, giving_limit_reached, no_placeable, expressing, locals, valued, cursor_walk, label_walk, placing_next, placing_end, placing_more, labelled, labelling_next, labelling_end, labelling_more, named_in, naming_after, pairing, calling_at, set_all_next}
 use Rattle.fluent_values.specs.Facts.Took.{at_err, at_ok, took_same}
 use Rattle.fluent_state.specs.Facts.Values.{gave_outward, asks, ask_stops, misses, begins, reads, gets, gets_part, got_if, got_as, got_part_as, misses_as, rests_memory, rests_same, rests_err, rests_ok, rests_on, by_buffer, as_got, beside_rests, got, gathers_none, gathers_as, gathers_same, gathers_one, gathers_part, gathers_all, gathers_stops, gathers_stops_as}
 use Rattle.fluent_state.specs.Facts.Views.{view_pattern, view_text_in, view_placeable_in, view_string_in, view_number_in, view_message_in, view_nested_in, view_function_in, view_in, view_select_in, view_term_in, view_variable_in, view_arguments, view_written}
@@ -263,7 +263,7 @@ pattern::write_elements-loop-element-init g t c =
     let one = has_one (pattern_view c.args.pattern.now) in
     record {
       along = turns (giving_all a one c.args.pattern.now a.budget ∙ ap (λ es. giving a one es a.budget) (sym c.deref-element-items.ensures.value)) (starts _ _ _);
-      placed = placed_as a.stored.numbers (references (pattern_view c.args.pattern.now)) (in_elements c.deref-element-items.result.now) c.args.place (in_pattern_is c.args.pattern.now ∙ ap in_elements (sym c.deref-element-items.ensures.value)) c.requires;
+      placed = placed_as a.stored.numbers (references (pattern_view c.args.pattern.now)) (in_elements c.deref-element-items.result.now) c.args.cursor (in_pattern_is c.args.pattern.now ∙ ap in_elements (sym c.deref-element-items.ensures.value)) c.requires;
     }
 
 pub pattern::write_elements-loop-element-preserved : goal.pattern::write_elements-loop-element-preserved
@@ -281,7 +281,7 @@ pattern::write_elements-loop-element-preserved g t c =
         | goal.pattern::write_elements-in-TextElement+in_ok-put_changed-in-TextElement r ↦ rw r.out-is (rw r.scope-is (goes_on r.in_ok-put_changed-in-TextElement.was (put (giving a one rest b.budget) (took_same (ap (λ s. s.transform r.in-TextElement.value.now) c.loop-element.invariant.along.passed.keeps.bundle) r.put_changed.ensures.took) (turns (giving_text a one _ rest x _ b.budget next (search rules) (view_text_in x r.in-TextElement.value r.in-TextElement.is)) c.loop-element.invariant.along))))
         | goal.pattern::write_elements-in-Placeable+in_ok-write_placeable-in-Placeable r ↦ rw r.out-is (rw r.scope-is (goes_on r.in_ok-write_placeable-in-Placeable.was (calls (giving a one rest) r.write_placeable.ensures (turns (giving_placeable a one _ rest x _ b.budget next (search rules) (view_placeable_in x r.in-Placeable.expression r.in-Placeable.is) ∙ ap (λ one. sequence (walked a (λ s f env path. part with_work s f env path one (placeable (expression_view r.in-Placeable.expression))) b.budget) (giving a (has_one (pattern_view c.args.pattern.now)) rest)) (sym c.has_one-one.ensures)) c.loop-element.invariant.along))))
       ];
-      placed = leaves of_element in_elements element_in_turn items c.loop-element.element-index x c.loop-element-test.true c.element-item.is a.stored.numbers (seen c.loop-element.place) (seen c.after_element-place.result) c.after_element-place.ensures c.loop-element.invariant.placed;
+      placed = leaves of_element in_elements element_in_turn items c.loop-element.element-index x c.loop-element-test.true c.element-item.is a.stored.numbers (seen c.loop-element.cursor) (seen c.after_element-cursor.result) c.after_element-cursor.ensures c.loop-element.invariant.placed;
     }
 
 pub pattern::write_elements-returns-in_err-put_changed-in-TextElement-clause-text : goal.pattern::write_elements-returns-in_err-put_changed-in-TextElement-clause-text
@@ -478,7 +478,7 @@ unfolding state_parts
 arguments::resolve_function-resolve_call-requires g t c =
     let a = state g.B.Context.meant g.B.Context.is_plain g.F.FluentFunction.answer g.C.FluentType.content c.args.scope.now in
     let less = falls_to c.decreases (same_weight a (arguments_size (arguments_view c.args.arguments.now)) (1 + arguments_size (arguments_view c.args.arguments.now)) (omega arith)) in
-    let placed = placed_after a.stored.numbers (in_inline (inline_view c.args.inline.now)) (a_function c.args.id.now.name.now) (in_arguments (arguments_view c.args.arguments.now)) c.args.place c.after_one.result (ap in_inline c.requires.view) c.after_one.ensures c.requires.placed in
+    let placed = placed_after a.stored.numbers (in_inline (inline_view c.args.inline.now)) (a_function c.args.id.now.name.now) (in_arguments (arguments_view c.args.arguments.now)) c.args.cursor c.after_one.result (ap in_inline c.requires.view) c.after_one.ensures c.requires.placed in
     λ κs h. (less, (h.0, (h.1.0, (h.1.1.0, (h.1.1.1, placed)))))
 
 pub arguments::resolve_function-answer_of-requires : goal.arguments::resolve_function-answer_of-requires
@@ -488,7 +488,7 @@ arguments::resolve_function-answer_of-requires g t c =
     let b = state g.B.Context.meant g.B.Context.is_plain g.F.FluentFunction.answer g.C.FluentType.content c.resolve_call.new.scope in
     let kept = c.resolve_call.ensures.got.toward.passed.keeps in
     let r = a_function c.args.id.now.name.now in
-    placed_still a b (r ∷ []) c.args.place kept.stored (placed_first a.stored.numbers (in_inline (inline_view c.args.inline.now)) r (in_arguments (arguments_view c.args.arguments.now)) c.args.place (ap in_inline c.requires.view) c.requires.placed)
+    placed_still a b (r ∷ []) c.args.cursor kept.stored (placed_first a.stored.numbers (in_inline (inline_view c.args.inline.now)) r (in_arguments (arguments_view c.args.arguments.now)) c.args.cursor (ap in_inline c.requires.view) c.requires.placed)
 
 pub arguments::resolve-resolve_variable-requires : goal.arguments::resolve-resolve_variable-requires
 unfolding state_parts
@@ -509,8 +509,8 @@ arguments::resolve_call-resolve_positional-requires g t c =
     let here : inlines_size (inlines_of (map inline_view c.deref.result.now)) ≡ inlines_size (inlines_of (map inline_view (of_call.out-CallArguments c.args.arguments.now).positional.items)) = ap (λ xs. inlines_size (inlines_of (map inline_view xs))) c.deref.ensures.value in
     let less = falls_to c.decreases (same_weight a (inlines_size (inlines_of (map inline_view c.deref.result.now))) (arguments_size (arguments_view c.args.arguments.now)) (omega (arith, sized, here))) in
     let parts = of_call.out-CallArguments c.args.arguments.now in
-    let first = placed_prefix a.stored.numbers (in_arguments (arguments_view c.args.arguments.now)) (of_inlines parts.positional.items) (of_nameds parts.named.items) c.args.place (in_arguments_is c.args.arguments.now) c.requires in
-    let placed = subst (λ xs. IsBefore a.stored.numbers (of_inlines xs) (seen c.args.place)) (sym c.deref.ensures.value) first in
+    let first = placed_prefix a.stored.numbers (in_arguments (arguments_view c.args.arguments.now)) (of_inlines parts.positional.items) (of_nameds parts.named.items) c.args.cursor (in_arguments_is c.args.arguments.now) c.requires in
+    let placed = subst (λ xs. IsBefore a.stored.numbers (of_inlines xs) (seen c.args.cursor)) (sym c.deref.ensures.value) first in
     λ κs h. (less, (h.0, (h.1.0, (h.1.1.0, (h.1.1.1, placed)))))
 
 pub arguments::resolve_call-resolve_named-requires : goal.arguments::resolve_call-resolve_named-requires
@@ -522,8 +522,8 @@ arguments::resolve_call-resolve_named-requires g t c =
     let here : nameds_size (nameds_of (map named_view c.deref-3.result.now)) ≡ nameds_size (nameds_of (map named_view (of_call.out-CallArguments c.args.arguments.now).named.items)) = ap (λ xs. nameds_size (nameds_of (map named_view xs))) c.deref-3.ensures.value in
     let less = falls_to c.decreases (kept_weight (nameds_size (nameds_of (map named_view c.deref-3.result.now))) (arguments_size (arguments_view c.args.arguments.now)) c.resolve_positional.ensures.got.toward.passed.keeps (omega (arith, sized, here))) in
     let parts = of_call.out-CallArguments c.args.arguments.now in
-    let at = c.after_positional-after.ensures ∙ ap (λ xs. past (of_inlines xs) (seen c.args.place)) c.deref-2.ensures.value in
-    let second = placed_back a.stored.numbers (in_arguments (arguments_view c.args.arguments.now)) (of_inlines parts.positional.items) (of_nameds parts.named.items) c.args.place c.after_positional-after.result (in_arguments_is c.args.arguments.now) at c.requires in
+    let at = c.after_positional-after.ensures ∙ ap (λ xs. past (of_inlines xs) (seen c.args.cursor)) c.deref-2.ensures.value in
+    let second = placed_back a.stored.numbers (in_arguments (arguments_view c.args.arguments.now)) (of_inlines parts.positional.items) (of_nameds parts.named.items) c.args.cursor c.after_positional-after.result (in_arguments_is c.args.arguments.now) at c.requires in
     let here = subst (λ xs. IsBefore a.stored.numbers (of_nameds xs) (seen c.after_positional-after.result)) (sym c.deref-3.ensures.value) second in
     let placed = placed_still a b (of_nameds c.deref-3.result.now) c.after_positional-after.result c.resolve_positional.ensures.got.toward.passed.keeps.stored here in
     λ κs h. (less, (h.0, (h.1.0, (h.1.1.0, (h.1.1.1, placed)))))
@@ -535,17 +535,17 @@ arguments::resolve_local-resolve_call-requires g t c =
     let given = ap call_view c.in-Some.is ∙ sym (ap (λ a. call (arguments_view a)) c.deref-arguments.ensures) in
     let sized : call_size (call_view c.args.arguments.now) ≡ 1 + arguments_size (arguments_view c.deref-arguments.result.now) = ap call_size given in
     let less = falls_to c.decreases (same_weight a (arguments_size (arguments_view c.deref-arguments.result.now)) (call_size (call_view c.args.arguments.now)) (omega (arith, sized))) in
-    let placed = placed_as a.stored.numbers (in_call (call_view c.args.arguments.now)) (in_arguments (arguments_view c.deref-arguments.result.now)) c.args.place (ap in_call given) c.requires in
+    let placed = placed_as a.stored.numbers (in_call (call_view c.args.arguments.now)) (in_arguments (arguments_view c.deref-arguments.result.now)) c.args.cursor (ap in_call given) c.requires in
     λ κs h. (less, (h.0, (h.1.0, (h.1.1.0, (h.1.1.1, placed)))))
 
 pub arguments::resolve_positional-resolve-requires : goal.arguments::resolve_positional-resolve-requires
 unfolding state_parts
 arguments::resolve_positional-resolve-requires g t c =
     let a = state g.B.Context.meant g.B.Context.is_plain g.F.FluentFunction.answer g.C.FluentType.content c.args.scope.now in
-    let less = falls_to c.decreases (kept_weight (2 + inline_size (inline_view c.argument-item.result)) (inlines_size (inlines_of (map inline_view c.args.arguments.now))) c.loop-argument.invariant.gathers.passed.keeps (place_less c.args.arguments.now c.loop-argument.argument-index c.argument-item.result c.loop-argument-test.true c.argument-item.is)) in
+    let less = falls_to c.decreases (kept_weight (2 + inline_size (inline_view c.argument-item.result)) (inlines_size (inlines_of (map inline_view c.args.arguments.now))) c.loop-argument.invariant.gathers.passed.keeps (cursor_less c.args.arguments.now c.loop-argument.argument-index c.argument-item.result c.loop-argument-test.true c.argument-item.is)) in
     let b = state g.B.Context.meant g.B.Context.is_plain g.F.FluentFunction.answer g.C.FluentType.content c.loop-argument.scope in
-    let here = enters of_inline of_inlines positional_in_turn c.args.arguments.now c.loop-argument.argument-index c.argument-item.result c.loop-argument-test.true c.argument-item.is a.stored.numbers (seen c.loop-argument.place) c.loop-argument.invariant.placed in
-    let placed = placed_still a b (of_inline c.argument-item.result) c.loop-argument.place c.loop-argument.invariant.gathers.passed.keeps.stored here in
+    let here = enters of_inline of_inlines positional_in_turn c.args.arguments.now c.loop-argument.argument-index c.argument-item.result c.loop-argument-test.true c.argument-item.is a.stored.numbers (seen c.loop-argument.cursor) c.loop-argument.invariant.placed in
+    let placed = placed_still a b (of_inline c.argument-item.result) c.loop-argument.cursor c.loop-argument.invariant.gathers.passed.keeps.stored here in
     λ κs h. (less, (h.0, (h.1.0, (h.1.1.0, (h.1.1.1, placed)))))
 
 pub arguments::resolve_named-resolve-requires : goal.arguments::resolve_named-resolve-requires
@@ -554,8 +554,8 @@ arguments::resolve_named-resolve-requires g t c =
     let a = state g.B.Context.meant g.B.Context.is_plain g.F.FluentFunction.answer g.C.FluentType.content c.args.scope.now in
     let less = falls_to c.decreases (kept_weight (2 + inline_size (inline_view c.argument-item.result.value)) (nameds_size (nameds_of (map named_view c.args.arguments.now))) c.loop-argument.invariant.gathers.passed.keeps (label_less c.args.arguments.now c.loop-argument.argument-index c.argument-item.result c.loop-argument-test.true c.argument-item.is)) in
     let b = state g.B.Context.meant g.B.Context.is_plain g.F.FluentFunction.answer g.C.FluentType.content c.loop-argument.scope in
-    let here = enters of_named of_nameds named_in_turn c.args.arguments.now c.loop-argument.argument-index c.argument-item.result c.loop-argument-test.true c.argument-item.is a.stored.numbers (seen c.loop-argument.place) c.loop-argument.invariant.placed in
-    let placed = placed_still a b (of_named c.argument-item.result) c.loop-argument.place c.loop-argument.invariant.gathers.passed.keeps.stored here in
+    let here = enters of_named of_nameds named_in_turn c.args.arguments.now c.loop-argument.argument-index c.argument-item.result c.loop-argument-test.true c.argument-item.is a.stored.numbers (seen c.loop-argument.cursor) c.loop-argument.invariant.placed in
+    let placed = placed_still a b (of_named c.argument-item.result) c.loop-argument.cursor c.loop-argument.invariant.gathers.passed.keeps.stored here in
     λ κs h. (less, (h.0, (h.1.0, (h.1.1.0, (h.1.1.1, placed)))))
 
 pub arguments::write_beside-write_inline-requires : goal.arguments::write_beside-write_inline-requires
@@ -571,7 +571,7 @@ expression::write_expression-write_inline-requires g t c =
     let a = state g.B.Context.meant g.B.Context.is_plain g.F.FluentFunction.answer g.C.FluentType.content c.args.scope.now in
     let sized : expression_size (expression_view c.args.expression.now) ≡ 1 + inline_size (inline_view c.in-Inline.inline) = ap expression_size (view_in c.args.expression.now c.in-Inline.inline c.in-Inline.is) in
     let less = falls_to c.decreases (same_weight a (inline_size (inline_view c.in-Inline.inline)) (expression_size (expression_view c.args.expression.now)) (omega (arith, sized))) in
-    let placed = placed_as a.stored.numbers (in_expression (expression_view c.args.expression.now)) (in_inline (inline_view c.in-Inline.inline)) c.args.place (in_one_is c.args.expression.now c.in-Inline.inline c.in-Inline.is) c.requires in
+    let placed = placed_as a.stored.numbers (in_expression (expression_view c.args.expression.now)) (in_inline (inline_view c.in-Inline.inline)) c.args.cursor (in_one_is c.args.expression.now c.in-Inline.inline c.in-Inline.is) c.requires in
     λ κs h. (less, (h.0, (h.1.0, (h.1.1.0, (h.1.1.1, placed)))))
 
 pub expression::write_expression-write_select-requires : goal.expression::write_expression-write_select-requires
@@ -585,7 +585,7 @@ expression::write_expression-write_select-requires g t c =
     let same : variants_size here ≡ variants_size vs = ap (λ vs. variants_size (variants_of (map variant_view vs))) c.deref.ensures.value in
     let less = falls_to c.decreases (same_weight a (4 + inline_size x + variants_size here) (expression_size (expression_view c.args.expression.now)) (omega (arith, sized, same))) in
     let refers = in_select_is c.args.expression.now c.in-Select.selector c.in-Select.variants c.in-Select.is ∙ ap (λ vs. in_inline x ++ of_variants vs) (sym c.deref.ensures.value) in
-    let placed = placed_as a.stored.numbers (in_expression (expression_view c.args.expression.now)) (in_inline x ++ of_variants c.deref.result.now) c.args.place refers c.requires in
+    let placed = placed_as a.stored.numbers (in_expression (expression_view c.args.expression.now)) (in_inline x ++ of_variants c.deref.result.now) c.args.cursor refers c.requires in
     λ κs h. (less, (h.0, (h.1.0, (h.1.1.0, (h.1.1.1, placed)))))
 
 pub expression::write_select-write_pattern-requires : goal.expression::write_select-write_pattern-requires
@@ -604,8 +604,8 @@ expression::write_select-write_pattern-requires g t c =
     let kept = got.toward.passed.keeps in
     let less = falls_to c.decreases (less_weight a.bundle b.bundle (1 + size p) (4 + inline_size (inline_view c.args.selector.now) + variants_size vs) (at_most b.budget) (1 + at_most a.budget) kept.bundle (omega (arith, chosen_less (goes_to a.bundle value) vs p is)) (omega (arith, kept.less))) in
     let chose = ok_value _ _ (BeginsAt a.stored.numbers) c.in_ok-chosen.was c.choose_variant.ensures.placed in
-    let begins = some_value _ _ (λ c. IsBefore a.stored.numbers (references (pattern_view c.pattern.now)) (seen c.place)) c.in-Some.is chose in
-    let placed = placed_still a b (references p) c.in-Some.chosen.place kept.stored begins in
+    let begins = some_value _ _ (λ c. IsBefore a.stored.numbers (references (pattern_view c.pattern.now)) (seen c.cursor)) c.in-Some.is chose in
+    let placed = placed_still a b (references p) c.in-Some.chosen.cursor kept.stored begins in
     λ κs h. (less, (h.0, (h.1.0, (h.1.1.0, (h.1.1.1, placed)))))
 
 pub variants::choose_by_value-resolve-requires : goal.variants::choose_by_value-resolve-requires
@@ -614,7 +614,7 @@ variants::choose_by_value-resolve-requires g t c =
     let a = state g.B.Context.meant g.B.Context.is_plain g.F.FluentFunction.answer g.C.FluentType.content c.args.scope.now in
     let vs = variants_of (map variant_view c.args.variants.now) in
     let less = falls_to c.decreases (same_weight a (2 + inline_size (inline_view c.args.selector.now)) (2 + inline_size (inline_view c.args.selector.now) + variants_size vs) (omega (arith, some_variants vs))) in
-    let placed = placed_prefix a.stored.numbers _ (in_inline (inline_view c.args.selector.now)) (in_variants vs) c.args.place refl c.requires in
+    let placed = placed_prefix a.stored.numbers _ (in_inline (inline_view c.args.selector.now)) (in_variants vs) c.args.cursor refl c.requires in
     λ κs h. (less, (h.0, (h.1.0, (h.1.1.0, (h.1.1.1, placed)))))
 
 pub variants::choose_by_value-returns-in_err-value-clause-chose : goal.variants::choose_by_value-returns-in_err-value-clause-chose
@@ -644,7 +644,7 @@ inline_expression::go-write_elements-written-requires g t c =
     let p = content_at c.args.target in
     let less = falls_to c.decreases (still_weight (size p) (2 + size p) c.enter.ensures.elsewhere (omega arith)) in
     let b = state g.B.Context.meant g.B.Context.is_plain g.F.FluentFunction.answer g.C.FluentType.content c.enter.new.self in
-    let placed = placed_still a b (references p) c.args.target.place c.enter.ensures.elsewhere.stored c.requires.stored.placed in
+    let placed = placed_still a b (references p) c.args.target.cursor c.enter.ensures.elsewhere.stored c.requires.stored.placed in
     λ κs h. (less, (h.0, (h.1.0, (h.1.1.0, (h.1.1.1, placed)))))
 
 pub inline_expression::write_inline-write_function-requires : goal.inline_expression::write_inline-write_function-requires
@@ -662,7 +662,7 @@ unfolding state_parts
 inline_expression::write_function-resolve_call-requires g t c =
     let a = state g.B.Context.meant g.B.Context.is_plain g.F.FluentFunction.answer g.C.FluentType.content c.args.scope.now in
     let less = falls_to c.decreases (same_weight a (arguments_size (arguments_view c.args.arguments.now)) (1 + arguments_size (arguments_view c.args.arguments.now)) (omega arith)) in
-    let placed = placed_after a.stored.numbers (in_inline (inline_view c.args.inline.now)) (a_function c.args.id.now.name.now) (in_arguments (arguments_view c.args.arguments.now)) c.args.place c.after_one.result (ap in_inline c.requires.view) c.after_one.ensures c.requires.placed in
+    let placed = placed_after a.stored.numbers (in_inline (inline_view c.args.inline.now)) (a_function c.args.id.now.name.now) (in_arguments (arguments_view c.args.arguments.now)) c.args.cursor c.after_one.result (ap in_inline c.requires.view) c.after_one.ensures c.requires.placed in
     λ κs h. (less, (h.0, (h.1.0, (h.1.1.0, (h.1.1.1, placed)))))
 
 pub inline_expression::write_function-put_answer-requires : goal.inline_expression::write_function-put_answer-requires
@@ -672,7 +672,7 @@ inline_expression::write_function-put_answer-requires g t c =
     let b = state g.B.Context.meant g.B.Context.is_plain g.F.FluentFunction.answer g.C.FluentType.content c.resolve_call.new.scope in
     let kept = c.resolve_call.ensures.got.toward.passed.keeps in
     let r = a_function c.args.id.now.name.now in
-    placed_still a b (r ∷ []) c.args.place kept.stored (placed_first a.stored.numbers (in_inline (inline_view c.args.inline.now)) r (in_arguments (arguments_view c.args.arguments.now)) c.args.place (ap in_inline c.requires.view) c.requires.placed)
+    placed_still a b (r ∷ []) c.args.cursor kept.stored (placed_first a.stored.numbers (in_inline (inline_view c.args.inline.now)) r (in_arguments (arguments_view c.args.arguments.now)) c.args.cursor (ap in_inline c.requires.view) c.requires.placed)
 
 pub inline_expression::write_inline-follow-requires : goal.inline_expression::write_inline-follow-requires
 unfolding state_parts
@@ -704,7 +704,7 @@ inline_expression::write_inline-write_expression-requires g t c =
     let here : expression_size (expression_view c.deref-in-Placeable.result.now) ≡ expression_size (expression_view c.in-Placeable.expression.value) = ap (λ e. expression_size (expression_view e)) c.deref-in-Placeable.ensures in
     let less = falls_to c.decreases (same_weight a (expression_size (expression_view c.deref-in-Placeable.result.now)) (inline_size (inline_view c.args.inline.now)) (omega (arith, sized, here))) in
     let refers = in_nested_is c.args.inline.now c.in-Placeable.expression c.in-Placeable.is ∙ ap (λ e. in_expression (expression_view e)) (sym c.deref-in-Placeable.ensures) in
-    let placed = placed_as a.stored.numbers (in_inline (inline_view c.args.inline.now)) (in_expression (expression_view c.deref-in-Placeable.result.now)) c.args.place refers c.requires in
+    let placed = placed_as a.stored.numbers (in_inline (inline_view c.args.inline.now)) (in_expression (expression_view c.deref-in-Placeable.result.now)) c.args.cursor refers c.requires in
     λ κs h. (less, (h.0, (h.1.0, (h.1.1.0, (h.1.1.1, placed)))))
 
 pub inline_expression::write_term-resolve_local-requires : goal.inline_expression::write_term-resolve_local-requires
@@ -713,7 +713,7 @@ inline_expression::write_term-resolve_local-requires g t c =
     let a = state g.B.Context.meant g.B.Context.is_plain g.F.FluentFunction.answer g.C.FluentType.content c.args.scope.now in
     let less = falls_to c.decreases (same_weight a (call_size (call_view c.args.arguments.now)) (1 + call_size (call_view c.args.arguments.now)) (omega arith)) in
     let call = call_view c.args.arguments.now in
-    let placed = placed_after a.stored.numbers (in_inline (inline_view c.args.inline.now)) (a_term c.args.id.now.name.now) (in_call call) c.args.place c.after_one.result (ap in_inline c.requires.view) c.after_one.ensures c.requires.placed in
+    let placed = placed_after a.stored.numbers (in_inline (inline_view c.args.inline.now)) (a_term c.args.id.now.name.now) (in_call call) c.args.cursor c.after_one.result (ap in_inline c.requires.view) c.after_one.ensures c.requires.placed in
     λ κs h. (less, (h.0, (h.1.0, (h.1.1.0, (h.1.1.1, placed)))))
 
 pub inline_expression::write_term-term-found-requires : goal.inline_expression::write_term-term-found-requires
@@ -723,7 +723,7 @@ inline_expression::write_term-term-found-requires g t c =
     let b = state g.B.Context.meant g.B.Context.is_plain g.F.FluentFunction.answer g.C.FluentType.content c.resolve_local.new.scope in
     let kept = c.resolve_local.ensures.got.toward.passed.keeps in
     let r = a_term c.args.id.now.name.now in
-    placed_still a b (r ∷ []) c.args.place kept.stored (placed_first a.stored.numbers (in_inline (inline_view c.args.inline.now)) r (in_call (call_view c.args.arguments.now)) c.args.place (ap in_inline c.requires.view) c.requires.placed)
+    placed_still a b (r ∷ []) c.args.cursor kept.stored (placed_first a.stored.numbers (in_inline (inline_view c.args.inline.now)) r (in_call (call_view c.args.arguments.now)) c.args.cursor (ap in_inline c.requires.view) c.requires.placed)
 
 pub inline_expression::write_term-follow-written-requires : goal.inline_expression::write_term-follow-written-requires
 unfolding state_parts
@@ -746,8 +746,8 @@ pattern::write_elements-write_placeable-requires g t c =
     let whole : size (pattern_view c.args.pattern.now) ≡ size (pattern_of (map element_view items)) = ap size (view_pattern c.args.pattern.now) ∙ ap (λ es. size (pattern_of (map element_view es))) (sym c.deref-element-items.ensures.value) in
     let less = falls_to c.decreases (less_weight a.bundle b.bundle (1 + expression_size (expression_view c.in-Placeable.expression)) (size (pattern_view c.args.pattern.now)) (at_most b.budget) (at_most a.budget) kept.bundle (omega (arith, sized, whole, element_less items c.loop-element.element-index x c.loop-element-test.true c.element-item.is)) kept.less) in
     let left : b.budget ≡ limit_reached → ⊥ = search rules in
-    let here = enters of_element in_elements element_in_turn items c.loop-element.element-index x c.loop-element-test.true c.element-item.is a.stored.numbers (seen c.loop-element.place) c.loop-element.invariant.placed in
-    let placed = placed_still a b (in_expression (expression_view c.in-Placeable.expression)) c.loop-element.place kept.stored (placed_as a.stored.numbers (of_element x) (in_expression (expression_view c.in-Placeable.expression)) c.loop-element.place (in_placeable_is x c.in-Placeable.expression c.in-Placeable.is) here) in
+    let here = enters of_element in_elements element_in_turn items c.loop-element.element-index x c.loop-element-test.true c.element-item.is a.stored.numbers (seen c.loop-element.cursor) c.loop-element.invariant.placed in
+    let placed = placed_still a b (in_expression (expression_view c.in-Placeable.expression)) c.loop-element.cursor kept.stored (placed_as a.stored.numbers (of_element x) (in_expression (expression_view c.in-Placeable.expression)) c.loop-element.cursor (in_placeable_is x c.in-Placeable.expression c.in-Placeable.is) here) in
     λ κs h. (less, (h.0, (h.1.0, (h.1.1.0, (h.1.1.1, (left, placed))))))
 
 pub pattern::write_pattern-write_elements-written-requires : goal.pattern::write_pattern-write_elements-written-requires
@@ -756,7 +756,7 @@ pattern::write_pattern-write_elements-written-requires g t c =
     let a = state g.B.Context.meant g.B.Context.is_plain g.F.FluentFunction.answer g.C.FluentType.content c.args.scope.now in
     let less = falls_to c.decreases (still_weight (size (pattern_view c.args.pattern.now)) (1 + size (pattern_view c.args.pattern.now)) c.begin-begun.ensures.elsewhere (omega arith)) in
     let b = state g.B.Context.meant g.B.Context.is_plain g.F.FluentFunction.answer g.C.FluentType.content c.begin-begun.new.self in
-    let placed = placed_still a b (references (pattern_view c.args.pattern.now)) c.args.place c.begin-begun.ensures.elsewhere.stored c.requires in
+    let placed = placed_still a b (references (pattern_view c.args.pattern.now)) c.args.cursor c.begin-begun.ensures.elsewhere.stored c.requires in
     λ κs h. (less, (h.0, (h.1.0, (h.1.1.0, (h.1.1.1, placed)))))
 
 pub pattern::write_placeable-write_expression-requires : goal.pattern::write_placeable-write_expression-requires
@@ -765,7 +765,7 @@ pattern::write_placeable-write_expression-requires g t c =
     let a = state g.B.Context.meant g.B.Context.is_plain g.F.FluentFunction.answer g.C.FluentType.content c.args.scope.now in
     let less = falls_to c.decreases (taken_weight (expression_size (expression_view c.args.expression.now)) (1 + expression_size (expression_view c.args.expression.now)) c.if-not-take_one.false c.take_one.ensures.takes (omega arith)) in
     let b = state g.B.Context.meant g.B.Context.is_plain g.F.FluentFunction.answer g.C.FluentType.content c.take_one.new.self in
-    let placed = placed_still a b (in_expression (expression_view c.args.expression.now)) c.args.place c.take_one.ensures.takes.keeps.stored c.requires.placed in
+    let placed = placed_still a b (in_expression (expression_view c.args.expression.now)) c.args.cursor c.take_one.ensures.takes.keeps.stored c.requires.placed in
     λ κs h. (less, (h.0, (h.1.0, (h.1.1.0, (h.1.1.1, placed)))))
 
 pub inline_expression::write_function-returns-in_err-positional : goal.inline_expression::write_function-returns-in_err-positional
@@ -923,8 +923,8 @@ arguments::resolve_positional-loop-argument-preserved g t c =
     let next = next_of c.args.arguments.now c.loop-argument.argument-index x c.loop-argument-test.true c.argument-item.is in
     let before = c.loop-argument.invariant in
     let here = gathers_as (placing_next a _ rest x b.budget next) before.gathers in
-    let one = gathers_one (λ v. v) (λ n. walked a (place_walk rest) n) c.in_ok-value.was c.resolve.ensures.got here in
-    record { gathers = gathers_same (sym c.in_ok-push_value.ensures) one; rests = rests_on before.rests (rests_ok c.in_ok-value.was c.resolve.ensures.rests); placed = leaves of_inline of_inlines positional_in_turn c.args.arguments.now c.loop-argument.argument-index x c.loop-argument-test.true c.argument-item.is a.stored.numbers (seen c.loop-argument.place) (seen c.after_inline-place.result) c.after_inline-place.ensures before.placed }
+    let one = gathers_one (λ v. v) (λ n. walked a (cursor_walk rest) n) c.in_ok-value.was c.resolve.ensures.got here in
+    record { gathers = gathers_same (sym c.in_ok-push_value.ensures) one; rests = rests_on before.rests (rests_ok c.in_ok-value.was c.resolve.ensures.rests); placed = leaves of_inline of_inlines positional_in_turn c.args.arguments.now c.loop-argument.argument-index x c.loop-argument-test.true c.argument-item.is a.stored.numbers (seen c.loop-argument.cursor) (seen c.after_inline-cursor.result) c.after_inline-cursor.ensures before.placed }
 
 pub arguments::resolve_positional-returns-in_err-value : goal.arguments::resolve_positional-returns-in_err-value
 unfolding state_parts
@@ -936,7 +936,7 @@ arguments::resolve_positional-returns-in_err-value g t c =
     let next = next_of c.args.arguments.now c.loop-argument.argument-index x c.loop-argument-test.true c.argument-item.is in
     let before = c.loop-argument.invariant in
     let here = gathers_as (placing_next a _ rest x b.budget next) before.gathers in
-    record { got = gathers_stops_as (place_walk c.args.arguments.now) (λ vs. vs) c.in_err-value.was (search rules) refl (gathers_part (placing_more a rest) c.resolve.ensures.got here); rests = rests_on before.rests (rests_err c.in_err-value.was (search rules) c.resolve.ensures.rests) }
+    record { got = gathers_stops_as (cursor_walk c.args.arguments.now) (λ vs. vs) c.in_err-value.was (search rules) refl (gathers_part (placing_more a rest) c.resolve.ensures.got here); rests = rests_on before.rests (rests_err c.in_err-value.was (search rules) c.resolve.ensures.rests) }
 
 pub arguments::resolve_positional-returns-in_err-push_value : goal.arguments::resolve_positional-returns-in_err-push_value
 unfolding state_parts
@@ -948,8 +948,8 @@ arguments::resolve_positional-returns-in_err-push_value g t c =
     let next = next_of c.args.arguments.now c.loop-argument.argument-index x c.loop-argument-test.true c.argument-item.is in
     let before = c.loop-argument.invariant in
     let here = gathers_as (placing_next a _ rest x b.budget next) before.gathers in
-    let one = gathers_one (λ v. v) (λ n. walked a (place_walk rest) n) c.in_ok-value.was c.resolve.ensures.got here in
-    record { got = gathers_stops {e = fault.Memory} (place_walk c.args.arguments.now) (λ vs. vs) (search rules) refl one; rests = rests_on (rests_on before.rests (rests_ok {T = Unit {0}} {x = tt} c.in_ok-value.was c.resolve.ensures.rests)) (rests_memory _ (search rules)) }
+    let one = gathers_one (λ v. v) (λ n. walked a (cursor_walk rest) n) c.in_ok-value.was c.resolve.ensures.got here in
+    record { got = gathers_stops {e = fault.Memory} (cursor_walk c.args.arguments.now) (λ vs. vs) (search rules) refl one; rests = rests_on (rests_on before.rests (rests_ok {T = Unit {0}} {x = tt} c.in_ok-value.was c.resolve.ensures.rests)) (rests_memory _ (search rules)) }
 
 pub arguments::resolve_positional-returns : goal.arguments::resolve_positional-returns
 unfolding state_parts
@@ -958,7 +958,7 @@ arguments::resolve_positional-returns g t c =
     let b = state g.B.Context.meant g.B.Context.is_plain g.F.FluentFunction.answer g.C.FluentType.content c.loop-argument.scope in
     let before = c.loop-argument.invariant in
     let none = none_left c.args.arguments.now c.loop-argument.argument-index c.loop-argument-test.false in
-    record { got = gathers_all (place_walk c.args.arguments.now) (λ vs. vs) c.loop-argument.values refl refl (gathers_as (placing_end a _ b.budget none) before.gathers); rests = rests_ok {v = tt} refl before.rests }
+    record { got = gathers_all (cursor_walk c.args.arguments.now) (λ vs. vs) c.loop-argument.values refl refl (gathers_as (placing_end a _ b.budget none) before.gathers); rests = rests_ok {v = tt} refl before.rests }
 
 pub arguments::resolve_named-loop-argument-init : goal.arguments::resolve_named-loop-argument-init
 unfolding state_parts
@@ -979,7 +979,7 @@ arguments::resolve_named-loop-argument-preserved g t c =
     let here = gathers_as (labelling_next a _ rest x b.budget next) before.gathers in
     let v = value_view g.C.FluentType.content c.in_ok-value.value in
     let one = gathers_one (labelled k) (λ n. walked a (label_walk rest) n) c.in_ok-value.was c.resolve.ensures.got here in
-    record { done = before.done ++ labelled k v ∷ []; is = c.in_ok-set.ensures ∙ ap (set k v) before.is ∙ sym (set_all_next before.done k v []); gathers = one; rests = rests_on before.rests (rests_ok c.in_ok-value.was c.resolve.ensures.rests); placed = leaves of_named of_nameds named_in_turn c.args.arguments.now c.loop-argument.argument-index x c.loop-argument-test.true c.argument-item.is a.stored.numbers (seen c.loop-argument.place) (seen c.after_inline-place.result) c.after_inline-place.ensures before.placed }
+    record { done = before.done ++ labelled k v ∷ []; is = c.in_ok-set.ensures ∙ ap (set k v) before.is ∙ sym (set_all_next before.done k v []); gathers = one; rests = rests_on before.rests (rests_ok c.in_ok-value.was c.resolve.ensures.rests); placed = leaves of_named of_nameds named_in_turn c.args.arguments.now c.loop-argument.argument-index x c.loop-argument-test.true c.argument-item.is a.stored.numbers (seen c.loop-argument.cursor) (seen c.after_inline-cursor.result) c.after_inline-cursor.ensures before.placed }
 
 pub arguments::resolve_named-returns-in_err-value : goal.arguments::resolve_named-returns-in_err-value
 unfolding state_parts
@@ -1034,5 +1034,5 @@ unfolding state_parts
 variants::choose_by_value-returns-clause-placed g t c =
     let a = state g.B.Context.meant g.B.Context.is_plain g.F.FluentFunction.answer g.C.FluentType.content c.args.scope.now in
     let vs = variants_of (map variant_view c.args.variants.now) in
-    let second = placed_back a.stored.numbers _ (in_inline (inline_view c.args.selector.now)) (in_variants vs) c.args.place c.after_inline.result refl c.after_inline.ensures c.requires in
+    let second = placed_back a.stored.numbers _ (in_inline (inline_view c.args.selector.now)) (in_variants vs) c.args.cursor c.after_inline.result refl c.after_inline.ensures c.requires in
     c.choose.ensures.placed a.stored.numbers second

@@ -7,8 +7,8 @@ use Rattle.fluent_meaning.specs.Arguments.{set_all}
 use Rattle.fluent_meaning.specs.Meaning.{at_most}
 use Rattle.fluent_meaning.specs.Walk.{has_one}
 use Rattle.fluent_links.specs.Links.{IsBefore}
-use Rattle.fluent_links.specs.PlaceSteps.{in_elements}
-use Rattle.fluent_links.specs.Places.{seen}
+use Rattle.fluent_links.specs.CursorSteps.{in_elements}
+use Rattle.fluent_links.specs.Cursors.{seen}
 use Rattle.fluent_state.specs.WalkProgress.{WritesUpTo, from_here, walked, WritesNothing}
 use Rattle.fluent_resolver.specs.Sizes.{bound, size, expression_size, variants_size, inline_size, inlines_size, nameds_size, call_size, arguments_size}
 use Rattle.fluent_state.specs.Status.{state}
@@ -16,7 +16,7 @@ use Rattle.fluent_values.specs.View.{value_view}
 use Rattle.fluent_state.specs.Gathered.{gathered}
 use Rattle.fluent_values.specs.Sinks.{sink, writer}
 use Rattle.fluent_resolver.proofs.Measures.{weight}
-use Rattle.fluent_resolver.proofs.Steps.{elementing, giving, place_walk, label_walk}
+use Rattle.fluent_resolver.proofs.Steps.{elementing, giving, cursor_walk, label_walk}
 use Rattle.fluent_state.specs.Facts.Values.{Gathers}
 use Rattle.fluent_resolver.proofs.+resolve.Given as goal
 
@@ -123,7 +123,7 @@ invariant-pattern::write_elements-loop-element g l =
     record {
       along : WritesUpTo {T = Unit {0}} (Ok tt) (from_here a (elementing (pattern_view l.pattern))) (giving a one (drop l.element-index l.element-items) b.budget)
           (sink g.W.Write.contents l.initial.out) (sink g.W.Write.contents l.out) a b;
-      placed : IsBefore a.stored.numbers (in_elements (drop l.element-index l.element-items)) (seen l.place);
+      placed : IsBefore a.stored.numbers (in_elements (drop l.element-index l.element-items)) (seen l.cursor);
     }
 
 abbrev pub invariant-arguments::resolve_positional-loop-argument : goal.invariant-arguments::resolve_positional-loop-argument
@@ -131,9 +131,9 @@ invariant-arguments::resolve_positional-loop-argument g l =
     let a = state g.B.Context.meant g.B.Context.is_plain g.F.FluentFunction.answer g.C.FluentType.content l.initial.scope in
     let b = state g.B.Context.meant g.B.Context.is_plain g.F.FluentFunction.answer g.C.FluentType.content l.scope in
     record {
-      gathers : Gathers (from_here a (place_walk l.arguments)) (walked a (place_walk (drop l.argument-index l.arguments)) b.budget) (map (value_view g.C.FluentType.content) l.values.items) a b;
+      gathers : Gathers (from_here a (cursor_walk l.arguments)) (walked a (cursor_walk (drop l.argument-index l.arguments)) b.budget) (map (value_view g.C.FluentType.content) l.values.items) a b;
       rests : WritesNothing {T = Unit {0}} (Ok tt) (writer g.W.Write.contents l.initial.w) (writer g.W.Write.contents l.w);
-      placed : IsBefore a.stored.numbers (of_inlines (drop l.argument-index l.arguments)) (seen l.place);
+      placed : IsBefore a.stored.numbers (of_inlines (drop l.argument-index l.arguments)) (seen l.cursor);
     }
 
 abbrev pub invariant-arguments::resolve_named-loop-argument : goal.invariant-arguments::resolve_named-loop-argument
@@ -145,5 +145,5 @@ invariant-arguments::resolve_named-loop-argument g l =
       is : gathered g.C.FluentType.content l.values ≡ set_all done [];
       gathers : Gathers (from_here a (label_walk l.arguments)) (walked a (label_walk (drop l.argument-index l.arguments)) b.budget) done a b;
       rests : WritesNothing {T = Unit {0}} (Ok tt) (writer g.W.Write.contents l.initial.w) (writer g.W.Write.contents l.w);
-      placed : IsBefore a.stored.numbers (of_nameds (drop l.argument-index l.arguments)) (seen l.place);
+      placed : IsBefore a.stored.numbers (of_nameds (drop l.argument-index l.arguments)) (seen l.cursor);
     }

@@ -78,9 +78,9 @@ module _ {X : Type 0} where
   no_snoc [] x e = refl
   no_snoc (y ∷ ys) x e = let n : 0 ≡ suc (length (ys ++ x ∷ [])) = ap length e in absurd (omega (arith, n))
 
-pub some_places : (n : ℕ) (b : Bool) → b ≡ nat_eq n 0 → b ≡ false → 0 < n
-some_places zero b is h = absurd (true≢false (sym is ∙ h))
-some_places (suc n) b is h = omega arith
+pub some_cursors : (n : ℕ) (b : Bool) → b ≡ nat_eq n 0 → b ≡ false → 0 < n
+some_cursors zero b is h = absurd (true≢false (sym is ∙ h))
+some_cursors (suc n) b is h = omega arith
 
 -- the last is taken off
 pub taken_off : (table : List Pattern) (o : Option Pattern) (old new : List ℕ) (r : Option ℕ) → old ≡ new ++ option_to_list r → (IsSome r ↔ (0 < length old)) → 0 < length old

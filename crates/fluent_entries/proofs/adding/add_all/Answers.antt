@@ -2,7 +2,7 @@ use Rattle.std.proofs.Common.{◌∙◌, ◌++◌, ap, sym, append_assoc, map, t
 use Rattle.fluent_tree.specs.View.{entry_view}
 use Rattle.fluent_meaning.specs.Arguments.{set_all}
 use Rattle.fluent_meaning.specs.Bundle.{added, not_added}
-use Rattle.fluent_entries.specs.Inside.WaitingEntries.{at_place, given_by}
+use Rattle.fluent_entries.specs.Inside.WaitingEntries.{at_index, given_by}
 use Rattle.fluent_entries.specs.EntryView.{ids}
 use Rattle.fluent_entries.specs.ErrorView.{error_view}
 use Rattle.fluent_entries.proofs.Added.{added_append, not_added_append}
@@ -13,7 +13,7 @@ use Rattle.fluent_entries.proofs.adding.add_all.Goals as goal
 pub entries-preserved : goal.entries-preserved
 entries-preserved g c =
     let es = c.args.entries.now in
-    let i = c.entries.place in
+    let i = c.entries.index in
     let far = map entry_view (take i es) in
     let list = c.entries.waiting.list.items in
     let first = map error_view c.args.errors.now.items in
@@ -25,19 +25,19 @@ entries-preserved g c =
           let same = c.entries.invariant.same answer in
           ap (set_all (given_by es c.add_entry.new.waiting.list.items)) (sym same)
           ∙ (c.in_ok-add_entry.ensures.after answer
-          ∙ (ap (λ x. added (at_place es i) (set_all (given_by es list) x)) same
-          ∙ (ap (added (at_place es i)) (c.entries.invariant.after answer)
-          ∙ (sym (added_append far (at_place es i) now)
+          ∙ (ap (λ x. added (at_index es i) (set_all (given_by es list) x)) same
+          ∙ (ap (added (at_index es i)) (c.entries.invariant.after answer)
+          ∙ (sym (added_append far (at_index es i) now)
           ∙ ap (λ p. added p now) (sym (one_more es i))))));
       told = λ answer.
           let now = ids answer c.args.known.now in
           let so = map error_view c.entries.errors.items in
           c.in_ok-add_entry.ensures.told answer
-          ∙ (ap (λ x. so ++ not_added (at_place es i) (set_all (given_by es list) x)) (c.entries.invariant.same answer)
-          ∙ (ap (λ m. so ++ not_added (at_place es i) m) (c.entries.invariant.after answer)
-          ∙ (ap (λ s. s ++ not_added (at_place es i) (added far now)) (c.entries.invariant.told answer)
-          ∙ (append_assoc first (not_added far now) (not_added (at_place es i) (added far now))
-          ∙ (sym (ap (λ l. first ++ l) (not_added_append far (at_place es i) now))
+          ∙ (ap (λ x. so ++ not_added (at_index es i) (set_all (given_by es list) x)) (c.entries.invariant.same answer)
+          ∙ (ap (λ m. so ++ not_added (at_index es i) m) (c.entries.invariant.after answer)
+          ∙ (ap (λ s. s ++ not_added (at_index es i) (added far now)) (c.entries.invariant.told answer)
+          ∙ (append_assoc first (not_added far now) (not_added (at_index es i) (added far now))
+          ∙ (sym (ap (λ l. first ++ l) (not_added_append far (at_index es i) now))
           ∙ ap (λ p. first ++ not_added p now) (sym (one_more es i)))))));
       grown = grown_twice c.args.known.now c.entries.known c.add_entry.new.known c.entries.invariant.grown c.in_ok-add_entry.ensures.grown;
       same = λ answer. c.in_ok-add_entry.ensures.same answer ∙ c.entries.invariant.same answer;

@@ -15,8 +15,8 @@ abbrev pub invariant-entries : goal.invariant-entries
 invariant-entries g l = record {
   ready : AreReadyFor l.known l.entries l.waiting;
   marked : AreMarked l.marks.items l.waiting.list.items;
-  after : (answer : _ → Function Text) → once_put answer l.fn.known l.entries l.waiting ≡ added (map entry_view (take l.place l.entries)) (ids answer l.fn.known);
-  told : (answer : _ → Function Text) → map error_view l.errors.items ≡ map error_view l.fn.errors.items ++ not_added (map entry_view (take l.place l.entries)) (ids answer l.fn.known);
+  after : (answer : _ → Function Text) → once_put answer l.fn.known l.entries l.waiting ≡ added (map entry_view (take l.index l.entries)) (ids answer l.fn.known);
+  told : (answer : _ → Function Text) → map error_view l.errors.items ≡ map error_view l.fn.errors.items ++ not_added (map entry_view (take l.index l.entries)) (ids answer l.fn.known);
   grown : Grown l.fn.known l.known;
   same : KeepsEntries l.fn.known l.known;
 }

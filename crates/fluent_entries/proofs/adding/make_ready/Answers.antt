@@ -15,7 +15,7 @@ returns-clause-ready g c = λ es here h.
     let o = c.in_ok-kept.kept in
     let rs = c.args.waiting.now.list.items in
     let ks = c.args.waiting.now.kept.items in
-    let r : Ready = record { place = c.args.place; number = c.args.number; is_linked = is_some o } in
+    let r : Ready = record { index = c.args.index; number = c.args.number; is_linked = is_some o } in
     let waits : Waits n t es r o = (refl, here.0, here.1, is_ready n t c.args.number o here.0 c.args.parts here.2 (step.0 c.args.parts.id.now c.args.number c.requires) c.in_ok-kept.ensures.linked) in
     subst (λ rs. AreReady n t es rs c.push.new.self.kept.items) (sym c.in_ok-push.ensures.list)
     (subst (AreReady n t es (rs ++ r ∷ [])) (sym c.in_ok-push.ensures.kept)

@@ -9,7 +9,7 @@ use Rattle.fluent_entries.proofs.adding.override_all.Given as goal
 abbrev pub invariant-entries : goal.invariant-entries
 invariant-entries g l = record {
   ready : AreReadyFor l.known l.entries l.waiting;
-  given : given_by l.entries l.waiting.list.items ≡ given (map entry_view (take l.place l.entries));
+  given : given_by l.entries l.waiting.list.items ≡ given (map entry_view (take l.index l.entries));
   grown : Grown l.fn.known l.known;
   same : KeepsEntries l.fn.known l.known;
 }

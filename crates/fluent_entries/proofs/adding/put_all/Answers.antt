@@ -26,7 +26,7 @@ loop-ready-preserved g c =
       grown = grown_twice c.args.known.now m m' c.loop-ready.invariant.grown (grown_by m m' c.put_one.ensures.numbers c.put_one.ensures.table);
       same = λ answer.
           ap (set_all (given_by es rest)) (c.put_one.ensures.after answer)
-          ∙ (sym (set_more (given_at es r.place) (given_by es rest) (ids answer m))
+          ∙ (sym (set_more (given_at es r.index) (given_by es rest) (ids answer m))
           ∙ (ap (λ rs. set_all (given_by es rs) (ids answer m)) (sym c.in-Some.ensures.steps.0)
           ∙ c.loop-ready.invariant.same answer));
     }

@@ -4,8 +4,8 @@ use Rattle.fluent_tree.specs.References.{a_function, a_message, a_term, in_argum
 use Rattle.fluent_tree.specs.ReferencesOf.{of_element, of_inline, of_inlines, of_nameds, of_variants}
 use Rattle.fluent_tree.specs.View.{arguments_view, call_view, expression_view, inline_view, pattern_view}
 use Rattle.fluent_tree.specs.declared.ast.CallArguments as of_call
-use Rattle.fluent_links.specs.PlaceParts.{in_pattern_is, in_select_is, in_function_is, in_message_is, in_term_is, in_arguments_is}
-use Rattle.fluent_links.specs.PlaceSteps.{in_elements, of_variant, of_named, element_in_turn, variant_in_turn, positional_in_turn, named_in_turn}
+use Rattle.fluent_links.specs.CursorParts.{in_pattern_is, in_select_is, in_function_is, in_message_is, in_term_is, in_arguments_is}
+use Rattle.fluent_links.specs.CursorSteps.{in_elements, of_variant, of_named, element_in_turn, variant_in_turn, positional_in_turn, named_in_turn}
 use Rattle.fluent_links.specs.Slots.{slots}
 use Rattle.fluent_links.proofs.Gathered.{adds_on, adds_as, adds_next, begins_as, begins_more, begins_next, begins_on, some_in}
 use Rattle.fluent_links.proofs.Slotted.{err_is, ok_is, on_err}

@@ -1,9 +1,9 @@
 use Rattle.std.proofs.Common.{◌≡◌, length, map}
-use Rattle.fluent_negotiate.specs.Lookup.{first_place, lookup, tried}
+use Rattle.fluent_negotiate.specs.Lookup.{first_index, lookup, tried}
 use Rattle.fluent_negotiate.proofs.ranges.lookup.Given as goal
 
-abbrev pub invariant-loop-place : goal.invariant-loop-place
-invariant-loop-place g l = first_place (map g.A.AsStr.text l.available) (tried l.asked) ≡ lookup (map g.A.AsStr.text l.available) l.range
+abbrev pub invariant-loop-index : goal.invariant-loop-index
+invariant-loop-index g l = first_index (map g.A.AsStr.text l.available) (tried l.asked) ≡ lookup (map g.A.AsStr.text l.available) l.range
 
-abbrev pub decreases-loop-place : goal.decreases-loop-place
-decreases-loop-place g l = length l.asked
+abbrev pub decreases-loop-index : goal.decreases-loop-index
+decreases-loop-index g l = length l.asked

@@ -1,11 +1,11 @@
 use Rattle.std.proofs.Common.{◌∙◌}
-use Rattle.fluent_links.specs.Places.{seen}
+use Rattle.fluent_links.specs.Cursors.{seen}
 use Rattle.fluent_state.proofs.InTurn.{begins_after, begins_here, not_default}
 use Rattle.fluent_state.proofs.variants.first_default.Goals as goal
 
 pub returns-then-variant-clause-placed : goal.returns-then-variant-clause-placed
 returns-then-variant-clause-placed c = λ number before.
-    begins_here number c.args.variants.now c.loop-variant.variant-index c.variant-item.result c.loop-variant-test.true c.variant-item.is c.of.result c.loop-variant.at c.of.ensures.pattern c.of.ensures.place (c.loop-variant.invariant.placed number before)
+    begins_here number c.args.variants.now c.loop-variant.variant-index c.variant-item.result c.loop-variant-test.true c.variant-item.is c.of.result c.loop-variant.at c.of.ensures.pattern c.of.ensures.cursor (c.loop-variant.invariant.placed number before)
 
 pub loop-variant-preserved : goal.loop-variant-preserved
 loop-variant-preserved c = record {

@@ -5,13 +5,13 @@ use Rattle.fluent_tree.specs.View.{variant_view}
 use Rattle.fluent_intl.specs.Number.{number_of}
 use Rattle.fluent_meaning.specs.Bundle.{key_value}
 use Rattle.fluent_state.specs.Choice.{first_default, is_like}
-use Rattle.fluent_links.specs.Places.{seen}
+use Rattle.fluent_links.specs.Cursors.{seen}
 use Rattle.fluent_state.proofs.InTurn.{begins_after, begins_here, not_like}
 use Rattle.fluent_state.proofs.variants.first_like.Goals as goal
 
 pub returns-then-is_like-clause-placed : goal.returns-then-is_like-clause-placed
 returns-then-is_like-clause-placed c = λ number before.
-    begins_here number c.args.variants.now c.loop-variant.variant-index c.variant-item.result c.loop-variant-test.true c.variant-item.is c.of.result c.loop-variant.at c.of.ensures.pattern c.of.ensures.place (c.loop-variant.invariant.placed number before)
+    begins_here number c.args.variants.now c.loop-variant.variant-index c.variant-item.result c.loop-variant-test.true c.variant-item.is c.of.result c.loop-variant.at c.of.ensures.pattern c.of.ensures.cursor (c.loop-variant.invariant.placed number before)
 
 pub loop-variant-preserved : goal.loop-variant-preserved
 loop-variant-preserved c =

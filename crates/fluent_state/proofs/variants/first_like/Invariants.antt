@@ -6,11 +6,11 @@ use Rattle.fluent_tree.specs.View.{variant_view}
 use Rattle.fluent_intl.specs.Number.{number_of}
 use Rattle.fluent_meaning.specs.Bundle.{key_value}
 use Rattle.fluent_links.specs.Links.{IsBefore}
-use Rattle.fluent_links.specs.Places.{seen}
+use Rattle.fluent_links.specs.Cursors.{seen}
 use Rattle.fluent_state.specs.Choice.{choice, first_default, is_like}
 use Rattle.fluent_state.proofs.variants.first_like.Given as goal
 
--- the choice among those left is the choice among all, and the place stands before them
+-- the choice among those left is the choice among all, and the cursor stands before them
 abbrev pub invariant-loop-variant : goal.invariant-loop-variant
 invariant-loop-variant l =
     let vs = variants_of (map variant_view l.variants) in
@@ -18,5 +18,5 @@ invariant-loop-variant l =
     let among = choice (λ key. like (key_value key)) (first_default vs) in
     record {
       chose : among vs ≡ among (variants_of (map variant_view (drop l.variant-index l.variants)));
-      placed : (number : Text → Option ℕ) → IsBefore number (in_variants (variants_view l.variants)) (seen l.place) → IsBefore number (in_variants (variants_view (drop l.variant-index l.variants))) (seen l.at);
+      placed : (number : Text → Option ℕ) → IsBefore number (in_variants (variants_view l.variants)) (seen l.cursor) → IsBefore number (in_variants (variants_view (drop l.variant-index l.variants))) (seen l.at);
     }

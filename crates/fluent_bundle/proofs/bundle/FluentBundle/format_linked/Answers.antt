@@ -1,10 +1,10 @@
-use Rattle.std.proofs.Common.{refl, sym, ap, ◌∙◌, [], append-nil}
+use Rattle.std.proofs.Common.{sym, ap, ◌∙◌}
 use Rattle.std.specs.Option.{option_map, unwrap_or}
 use Rattle.fluent_tree.specs.View.{pattern_view}
 use Rattle.fluent_meaning.specs.Bundle.{transform_of, formatter_of}
 use Rattle.fluent_bundle.specs.BundleView.{formatter_in, intls_in, meant, transform_in}
-use Rattle.fluent_resolver.specs.Status.{arguments_view, reported}
-use Rattle.fluent_bundle.proofs.Givings.{borrowed_where, sole_formatted, sole_known, none_added}
+use Rattle.fluent_resolver.specs.Status.{arguments_view}
+use Rattle.fluent_bundle.proofs.Givings.{borrowed_where, no_prefix_added, none_added, sole_formatted, sole_known}
 use Rattle.fluent_bundle.proofs.bundle.FluentBundle.format_linked.Goals as goal
 
 pub returns-in-Some-clause-whole : goal.returns-in-Some-clause-whole
@@ -28,9 +28,4 @@ returns-in-Some-clause-borrowed g c = λ t is a b.
     ap (λ o. unwrap_or o t) (sym (ap (option_map (λ t. t.now)) c.in-Some.is) ∙ sole_known (transform_in c.args.self.now) (formatter_in c.args.self.now) (pattern_view c.args.pattern.now) t _ c.sole_text.ensures is a b)
 
 pub returns-in-Some-clause-prefix : goal.returns-in-Some-clause-prefix
-returns-in-Some-clause-prefix g c = record {
-  prefix = [];
-  rest = _;
-  whole = refl;
-  adds = record { added = sym (append-nil (reported c.args.errors.now.items)) };
-}
+returns-in-Some-clause-prefix g c = no_prefix_added _ c.args.errors.now.items

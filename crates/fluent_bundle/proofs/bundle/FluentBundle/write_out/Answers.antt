@@ -45,4 +45,4 @@ returns-in-None-clause-writes g c =
 
 pub write_pattern-written-requires : goal.write_pattern-written-requires
 unfolding bundle_parts
-write_pattern-written-requires g c = subst (λ m. IsPlaced m (references (pattern_view c.args.pattern.now)) c.args.place) (sym c.new-scope.ensures.ids) c.requires
+write_pattern-written-requires g c = subst (λ m. IsPlaced m (references (pattern_view c.args.pattern.now)) c.args.cursor) (sym c.new-scope.ensures.ids) c.requires

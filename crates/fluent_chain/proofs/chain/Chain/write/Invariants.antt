@@ -5,11 +5,11 @@ use Rattle.fluent_chain.specs.ChainView.{bundles_of, pattern_of}
 use Rattle.fluent_chain.proofs.chain.Chain.write.Given as goal
 
 -- the first of those that are left is the first of all; nothing was written, and nothing was added
-abbrev pub invariant-loop-place : goal.invariant-loop-place
-invariant-loop-place g l =
+abbrev pub invariant-loop-index : goal.invariant-loop-index
+invariant-loop-index g l =
     let has = pattern_of (meant g.M.MemoizerKind.category g.C.FluentType.shown g.C.FluentType.alike g.F.FluentFunction.answer g.G.FluentFormatter.formatted g.T.Transform.changed) l.id l.attribute in
     record {
-      first : first_with has (drop l.place (bundles_of l.self)) ≡ first_with has (bundles_of l.self);
+      first : first_with has (drop l.index (bundles_of l.self)) ≡ first_with has (bundles_of l.self);
       errors : l.errors ≡ l.fn.errors;
       writer : l.w ≡ l.fn.w;
     }

@@ -9,7 +9,7 @@ use Rattle.fluent_links.proofs.slots.Slots.number_of.Goals as goal
 pub returns-in-Some-clause-number : goal.returns-in-Some-clause-number
 unfolding slots
 returns-in-Some-clause-number g c =
-    if_ok c.as_number.result c.in-Some.place (number (slots c.args.self.now) (cow_str_bytes c.args.id)) c.as_number.ensures.number
+    if_ok c.as_number.result c.in-Some.index (number (slots c.args.self.now) (cow_str_bytes c.args.id)) c.as_number.ensures.number
     (position_by cow_str_bytes (cow_str_bytes c.args.id) c.as_str.result.now c.args.self.now.ids.entries c.as_str.ensures.value
     ∙ (sym c.get_index_of.ensures.index ∙ c.in-Some.is))
 
@@ -27,7 +27,7 @@ returns-clause-named g c = λ q.
 pub returns-in-Some-clause-ok : goal.returns-in-Some-clause-ok
 unfolding slots
 returns-in-Some-clause-ok g c =
-    on_ok c.as_number.result (slot_stays (slots c.args.self.now) (cow_str_bytes c.args.id) c.in-Some.place
+    on_ok c.as_number.result (slot_stays (slots c.args.self.now) (cow_str_bytes c.args.id) c.in-Some.index
     (position_by cow_str_bytes (cow_str_bytes c.args.id) c.as_str.result.now c.args.self.now.ids.entries c.as_str.ensures.value
     ∙ (sym c.get_index_of.ensures.index ∙ c.in-Some.is)))
 

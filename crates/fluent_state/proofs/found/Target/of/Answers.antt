@@ -10,7 +10,7 @@ returns-in-Some-clause-stored c = λ number table kept.
     let is = kept.0 c.in-Some.linked c.in-Some.is in
     record {
       classed = (λ n at. is.0.0 n (sym c.class.ensures ∙ at), λ none. is.0.1 (sym c.class.ensures ∙ none));
-      placed = c.place.ensures.before number table p is;
+      placed = c.cursor.ensures.before number table p is;
     }
 
 pub returns-in-None-clause-stored : goal.returns-in-None-clause-stored

@@ -12,7 +12,7 @@ use Rattle.fluent_tree.specs.declared.ast.Variant.{Variant}
 use Rattle.fluent_tree.specs.declared.ast.NamedArgument as of_the_argument
 use Rattle.fluent_tree.specs.declared.ast.NamedArgument.{NamedArgument}
 use Rattle.fluent_links.specs.Links.{Links, past, IsBefore}
-use Rattle.fluent_links.specs.PlaceLaws.{prefix, back, after_append}
+use Rattle.fluent_links.specs.CursorLaws.{prefix, back, after_append}
 
 -- what each part of a list refers to, and what the list does
 

@@ -1,11 +1,11 @@
--- Places before references, and how they pass over parts.
+-- Cursors before references, and how they pass over parts.
 use Rattle.std.specs.Prelude.{◌≡◌, ℕ, List, [], ◌∷◌, ◌++◌, Option, Some, IfSome, refl}
 use Rattle.fluent_tree.specs.Tree.{Text}
 use Rattle.fluent_tree.specs.References.{Reference}
 use Rattle.fluent_links.specs.Links.{Links, next, past, id_of, IsBefore, KeepsNumbers}
-use Rattle.fluent_links.specs.Places.{first_of}
+use Rattle.fluent_links.specs.Cursors.{first_of}
 
--- a place before two parts is before the first
+-- a cursor before two parts is before the first
 pub prefix : (number : Text → Option ℕ) (xs ys : List Reference) (p : Links) → IsBefore number (xs ++ ys) p → IsBefore number xs p
 prefix number xs ys [] h = tt
 prefix number [] ys (l ∷ ls) h = tt

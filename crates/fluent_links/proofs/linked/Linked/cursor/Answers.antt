@@ -3,7 +3,7 @@ use Rattle.fluent_tree.specs.References.{references}
 use Rattle.fluent_links.specs.Links.{IsBefore}
 use Rattle.fluent_links.specs.Linked.{links_of}
 use Rattle.fluent_links.specs.LinkNumbers.{are_links}
-use Rattle.fluent_links.proofs.linked.Linked.place.Goals as goal
+use Rattle.fluent_links.proofs.linked.Linked.cursor.Goals as goal
 
 pub returns-clause-before : goal.returns-clause-before
 returns-clause-before c = λ number table p is_of.

@@ -1,11 +1,11 @@
--- What a place sees of the links.
+-- What a cursor sees of the links.
 use Rattle.std.specs.Prelude.{◌≡◌, ℕ, List, [], ◌∷◌, Option, Some, None}
 use Rattle.fluent_tree.specs.References.{Reference}
 use Rattle.fluent_links.specs.Links.{Links, past}
-use Rattle.fluent_links.specs.declared.place.Place.{Place}
+use Rattle.fluent_links.specs.declared.cursor.Cursor.{Cursor}
 
--- the links from a place on
-abbrev pub seen : Place → Links
+-- the links from a cursor on
+abbrev pub seen : Cursor → Links
 seen p = p.links.now
 
 -- the number of the next reference, where it is known

@@ -1,8 +1,8 @@
-//! Places among the links of a pattern, and how they pass over its parts.
+//! Cursors among the links of a pattern, and how they pass over its parts.
 ghost use Rattle.std.specs.Prelude.{◌≡◌, []};
 ghost use Rattle.fluent_tree.specs.ReferencesOf.{of_arguments, of_call, of_element, of_expression, of_inline, of_inlines, of_variants, references_of};
 ghost use Rattle.fluent_links.specs.Links.{past, next};
-ghost use Rattle.fluent_links.specs.Places.{first_of, seen};
+ghost use Rattle.fluent_links.specs.Cursors.{first_of, seen};
 
 use crate::passing::{
     pass_arguments, pass_element, pass_expression, pass_inline, pass_one, pass_pattern,
@@ -15,23 +15,23 @@ use fluent_tree::ast::{
 /// Where a part of a pattern stands among the links of the whole: the links from it on. Where there are none, ids are
 /// looked up. (A slice alone goes in registers; in an `Option`, through memory, calls took up to three times as long.)
 #[derive(Clone, Copy, Drop)]
-pub struct Place<'b> {
+pub struct Cursor<'b> {
     links: &'b [u32],
 }
 
-impl<'b> Place<'b> {
+impl<'b> Cursor<'b> {
     /// Every id is looked up.
     pub fn by_name() -> Self
         ensures { seen result ≡ [] }
     {
-        Place { links: &[] }
+        Cursor { links: &[] }
     }
 
     /// Before these links.
     pub fn from_links(links: &'b [u32]) -> Self
         ensures { seen result ≡ links.now }
     {
-        Place { links }
+        Cursor { links }
     }
 
     /// The number of the reference that comes next. Where there is none, its id is looked up.
@@ -45,42 +45,42 @@ impl<'b> Place<'b> {
     pub fn after_one(self) -> Self
         ensures { seen result ≡ next (seen self.entry) }
     {
-        Place::from_links(pass_one(self.links))
+        Cursor::from_links(pass_one(self.links))
     }
 
     /// After a pattern.
     pub fn after_pattern(self, pattern: &Pattern<'_>) -> Self
         ensures { seen result ≡ past (references_of pattern.now) (seen self.entry) }
     {
-        Place::from_links(pass_pattern(self.links, pattern))
+        Cursor::from_links(pass_pattern(self.links, pattern))
     }
 
     /// After an element of a pattern.
     pub fn after_element(self, element: &PatternElement<'_>) -> Self
         ensures { seen result ≡ past (of_element element.now) (seen self.entry) }
     {
-        Place::from_links(pass_element(self.links, element))
+        Cursor::from_links(pass_element(self.links, element))
     }
 
     /// After what stands between the braces of a placeable.
     pub fn after_expression(self, expression: &Expression<'_>) -> Self
         ensures { seen result ≡ past (of_expression expression.now) (seen self.entry) }
     {
-        Place::from_links(pass_expression(self.links, expression))
+        Cursor::from_links(pass_expression(self.links, expression))
     }
 
     /// After all of these variants.
     pub fn after_variants(self, variants: &[Variant<'_>]) -> Self
         ensures { seen result ≡ past (of_variants variants.now) (seen self.entry) }
     {
-        Place::from_links(pass_variants(self.links, variants))
+        Cursor::from_links(pass_variants(self.links, variants))
     }
 
     /// After an inline expression.
     pub fn after_inline(self, inline: &InlineExpression<'_>) -> Self
         ensures { seen result ≡ past (of_inline inline.now) (seen self.entry) }
     {
-        Place::from_links(pass_inline(self.links, inline))
+        Cursor::from_links(pass_inline(self.links, inline))
     }
 
     /// After the arguments of a term, which may have none.
@@ -97,13 +97,13 @@ impl<'b> Place<'b> {
     pub fn after_positional(self, positional: &[InlineExpression<'_>]) -> Self
         ensures { seen result ≡ past (of_inlines positional.now) (seen self.entry) }
     {
-        Place::from_links(pass_positional(self.links, positional))
+        Cursor::from_links(pass_positional(self.links, positional))
     }
 
     /// After the arguments of a function or a term.
     pub fn after_arguments(self, arguments: &CallArguments<'_>) -> Self
         ensures { seen result ≡ past (of_arguments arguments.now) (seen self.entry) }
     {
-        Place::from_links(pass_arguments(self.links, arguments))
+        Cursor::from_links(pass_arguments(self.links, arguments))
     }
 }

@@ -15,7 +15,7 @@ use Rattle.fluent_tree.specs.declared.ast.InlineExpression as of_inline
 use Rattle.fluent_tree.specs.declared.ast.InlineExpression.TheVariants as inlines
 use Rattle.fluent_tree.specs.declared.ast.CallArguments as of_call
 use Rattle.fluent_tree.specs.declared.ast.Variant.{Variant}
-use Rattle.fluent_links.specs.PlaceSteps.{in_elements}
+use Rattle.fluent_links.specs.CursorSteps.{in_elements}
 
 -- a pattern: its elements
 pub in_pattern_is : (p : of_pattern.Pattern) → references (pattern_view p) ≡ in_elements p.elements.items
