@@ -1,4 +1,4 @@
-## Where the limit is struck, each placeable that was open ends with its fallback, of a select with that of its selector.
+## Where the limit is reached, each placeable that was open ends with its fallback, of a select with that of its selector.
 #@ limit 1
 #@ function FIRST = first
 m = { $n }

@@ -1,4 +1,4 @@
-## Where the limit is struck without isolation.
+## Where the limit is reached without isolation.
 #@ limit 1
 #@ isolating off
 m = { $n }

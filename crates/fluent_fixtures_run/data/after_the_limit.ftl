@@ -1,4 +1,4 @@
-## Once the limit is struck, further arguments are resolved, functions called and references looked up, and their errors follow; patterns give nothing.
+## Once the limit is reached, further arguments are resolved, functions called and references looked up, and their errors follow; patterns give nothing.
 #@ limit 1
 #@ function SECOND = second
 m = { $n }

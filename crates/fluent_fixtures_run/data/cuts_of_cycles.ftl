@@ -1,4 +1,4 @@
-## Cycles, a limit that is struck, and nested placeables, cut at each place.
+## Cycles, a limit that's reached, and nested placeables, cut at each place.
 #@ function FIRST = first
 #@ function NAMED = named
 #@ cut

@@ -1,4 +1,4 @@
-## A missing variable, a select on an ordinal number, a function in whose argument the limit is struck, and a thousandfold reference.
+## A missing variable, a select on an ordinal number, a function in whose argument the limit is reached, and a thousandfold reference.
 p = Welcome, { $name }.
 #= Welcome, \u{2068}{$name}\u{2069}.
 #! Unknown variable: $name
