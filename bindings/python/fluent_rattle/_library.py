@@ -1,0 +1,79 @@
+"""libfluent as ctypes sees it: what c/fluent.h declares."""
+import ctypes
+import enum
+import functools
+import os
+
+
+class Status(enum.IntEnum):
+    """What a call answers."""
+
+    OK = 0
+    TOO_SMALL = 1
+    NO_MEMORY = 2
+    SOURCE_NOT_UTF8 = 3
+    LANGUAGE_NOT_UTF8 = 4
+    NO_LANGUAGE = 5
+    BAD_RULES = 6
+    ID_NOT_UTF8 = 7
+    NO_MESSAGE = 8
+    ARGUMENTS_CUT = 9
+    ARGUMENTS_NOT_UTF8 = 10
+    CLOSED_BUNDLE = 11
+    OPEN_BUNDLE = 12
+
+
+class Lengths(ctypes.Structure):
+    """How many bytes a text and the lines of its errors have."""
+
+    _fields_ = [("text", ctypes.c_size_t), ("errors", ctypes.c_size_t)]
+
+
+class Handle(ctypes.Structure):
+    """A bundle of the library. As it is made, it is closed."""
+
+    _fields_ = [("at", ctypes.c_void_p), ("is_open", ctypes.c_bool)]
+
+
+_BUNDLE = ctypes.POINTER(Handle)
+_TEXT = [ctypes.c_char_p, ctypes.c_size_t]
+_ROOM = [ctypes.c_void_p, ctypes.c_size_t]
+
+_SIGNATURES = {
+    "fluent_open": (ctypes.c_uint8, [_BUNDLE, *_TEXT, ctypes.c_bool]),
+    "fluent_add": (ctypes.c_uint8, [_BUNDLE, *_TEXT]),
+    "fluent_has": (ctypes.c_uint8, [_BUNDLE, *_TEXT]),
+    "fluent_format": (
+        ctypes.c_uint8,
+        [_BUNDLE, *_TEXT, *_TEXT, *_TEXT, *_ROOM, *_ROOM, ctypes.POINTER(Lengths)],
+    ),
+    "fluent_close": (None, [_BUNDLE]),
+}
+
+
+def path_of(given=None):
+    """Where the library is: as given, else by FLUENT_LIBRARY, else in the package's folder or beside that."""
+    named = given or os.environ.get("FLUENT_LIBRARY")
+    if named:
+        return os.fspath(named)
+    package = os.path.dirname(os.path.abspath(__file__))
+    places = [os.path.join(folder, "libfluent.so") for folder in (package, os.path.dirname(package))]
+    for place in places:
+        if os.path.exists(place):
+            return place
+    raise OSError(f"no libfluent.so: name it by FLUENT_LIBRARY, or put it at {places[0]}")
+
+
+@functools.lru_cache(maxsize=None)
+def _loaded(path):
+    library = ctypes.CDLL(path)
+    for name, (answer, arguments) in _SIGNATURES.items():
+        function = getattr(library, name)
+        function.restype = answer
+        function.argtypes = arguments
+    return library
+
+
+def load(given=None):
+    """The library at a path, or where it is found; each is loaded once."""
+    return _loaded(path_of(given))
