@@ -43,7 +43,7 @@ struct fluent_lengths {
    language    a tag such as "en" or "pt-PT", whose plural rules choose
    isolate     whether placeables stand between U+2068 and U+2069
    source      FTL; what can't be read in it is passed over, and so is a message whose id stands in it before
-   arguments   one behind the other, as fluent_put_argument writes them; the last of a repeated name stands
+   arguments   one after the other, as fluent_put_argument writes them; the last of a repeated name stands
    out         the text
    err         a line for each error in it
    lengths     how many bytes both have, so also how much room they need */

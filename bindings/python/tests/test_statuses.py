@@ -191,9 +191,9 @@ class NoMemory(unittest.TestCase):
 
     @classmethod
     def setUpClass(cls):
-        cls.folder = tempfile.TemporaryDirectory()
-        made = os.path.join(cls.folder.name, "libfluent.so")
-        source = os.path.join(cls.folder.name, "heap.c")
+        folder = tempfile.TemporaryDirectory()
+        cls.addClassCleanup(folder.cleanup)
+        made, source = (os.path.join(folder.name, name) for name in ("libfluent.so", "heap.c"))
         with open(source, "w") as file:
             file.write(HEAP.format(heap=TOP / "c/heap.c"))
         calls = [f"-Wl,-u,fluent_{call}" for call in ("open", "add", "has", "format", "close")]
@@ -201,10 +201,6 @@ class NoMemory(unittest.TestCase):
                         "-o", made], check=True)
         cls.path, library = made, ctypes.CDLL(made)
         cls.blocks, cls.taken = ctypes.c_long.in_dll(library, "blocks"), ctypes.c_long.in_dll(library, "taken")
-
-    @classmethod
-    def tearDownClass(cls):
-        cls.folder.cleanup()
 
     def in_turn(self, call, check):
         """Makes a call with no block, then with one, .., until it has enough, and gives how often it had not."""
