@@ -4,7 +4,8 @@
    null, also of an empty text or buffer. What is written lies apart from all else that is handed over. A call keeps none of
    the memory that it was given: a bundle has copies of its sources. Memory is taken by malloc and realloc and given back by
    free, all of it before a call ends, but for that of a bundle, which fluent_close gives back. Calls in several threads at
-   once have nothing in common; a bundle stays on the thread that opened it. No call belongs into a signal handler. */
+   once have nothing in common; a bundle is asked by one thread at a time (tried, and not proved). No call belongs into a
+   signal handler. */
 #ifndef FLUENT_H
 #define FLUENT_H
 #include <stdbool.h>
@@ -84,7 +85,7 @@ void fluent_close(struct fluent_bundle *bundle);
    is taken as a text. */
 enum fluent_kind { FLUENT_TEXT = 't', FLUENT_NUMBER = 'n' };
 
-/* How many bytes an argument takes: its kind, and its name and its value, each behind its length in four bytes, the lowest
+/* How many bytes an argument takes: its kind, and its name and its value, each after its length in four bytes, the lowest
    first. */
 static inline size_t fluent_argument_length(size_t name_length, size_t value_length) {
     return 9 + name_length + value_length;

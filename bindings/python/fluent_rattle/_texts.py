@@ -1,4 +1,4 @@
-"""What a call hands over: texts in UTF-8, and arguments one behind the other."""
+"""What a call hands over: texts in UTF-8, and arguments one after the other."""
 from decimal import Decimal
 
 
@@ -36,7 +36,7 @@ def _value(value, what):
 
 
 def _sized(text):
-    """A text behind its length in four bytes, the lowest first."""
+    """A text after its length in four bytes, the lowest first."""
     return len(text).to_bytes(4, "little") + text
 
 

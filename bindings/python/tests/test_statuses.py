@@ -89,7 +89,7 @@ class ByCause(unittest.TestCase):
         self.raw.close()
         self.assertIs(self.raw.handle.is_open, False)
 
-    def test_nothing_is_written_behind_a_bundle(self):
+    def test_nothing_is_written_after_a_bundle(self):
         class Fenced(ctypes.Structure):
             _fields_ = [("before", ctypes.c_uint64), ("handle", Handle), ("after", ctypes.c_uint64)]
 
