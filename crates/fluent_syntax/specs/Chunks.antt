@@ -99,6 +99,17 @@ abbrev pub ranges_from : ℕ → List Chunk → List (ℕ × ℕ)
 ranges_from at [] = []
 ranges_from at (c ∷ cs) = junk_range at c ++ ranges_from (at + length c.bytes) cs
 
+-- the offset of a part that begins there, if it leaves an entry in the tree
+abbrev pub start_of_part : ℕ → Part → List ℕ
+start_of_part at (entry_part e) = at ∷ []
+start_of_part at blank_part = []
+start_of_part at junk_part = at ∷ []
+
+-- the same of all chunks, of which the first begins at an offset
+abbrev pub starts_from : ℕ → List Chunk → List ℕ
+starts_from at [] = []
+starts_from at (c ∷ cs) = start_of_part at c.part ++ starts_from (at + length c.bytes) cs
+
 -- the entries of a source in order: its messages, terms and Junks
 abbrev pub entries : Text → List Entry
 entries s = entries_of (chunks s)
@@ -106,3 +117,7 @@ entries s = entries_of (chunks s)
 -- the byte range of each Junk of a source in order
 abbrev pub junk_ranges : Text → List (ℕ × ℕ)
 junk_ranges s = ranges_from 0 (chunks s)
+
+-- the offset at which each entry of a source begins, in order
+abbrev pub entry_starts : Text → List ℕ
+entry_starts s = starts_from 0 (chunks s)

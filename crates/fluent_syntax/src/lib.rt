@@ -5,4 +5,4 @@ mod parser;
 
 pub use fluent_text::{Counting, WriteFault, put, unescape_unicode, unescape_unicode_to_string};
 pub use fluent_tree::{ParserError, Reference, ast, references};
-pub use parser::{ParseFault, parse_runtime};
+pub use parser::{ParseFault, entry_starts, parse_runtime};

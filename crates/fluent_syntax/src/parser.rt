@@ -22,5 +22,5 @@ mod select;
 mod stop;
 mod text;
 
-pub use chunks::parse_runtime;
+pub use chunks::{entry_starts, parse_runtime};
 pub use errors::ParseFault;

@@ -8,7 +8,7 @@ use Rattle.fluent_tree.specs.Tree.{Entry}
 use Rattle.fluent_text.specs.Parser.{Read, ◌>>◌, ◌<$>◌, pure, ignore, skip, count, run_len, run, byte, first}
 use Rattle.fluent_text.specs.Lexical.{is_inside, blank_block}
 use Rattle.fluent_syntax.specs.Entries.{entry}
-use Rattle.fluent_syntax.specs.Chunks.{may_begin_entry, rest_of_line, comment_line, junk_line, junk, Part, part, entry_part, blank_part, junk_part, Chunk, chunk, with_bytes, taken, followed_by, chunks_within, chunks, entry_of, entries_of, junk_range, ranges_from}
+use Rattle.fluent_syntax.specs.Chunks.{may_begin_entry, rest_of_line, comment_line, junk_line, junk, Part, part, entry_part, blank_part, junk_part, Chunk, chunk, with_bytes, taken, followed_by, chunks_within, chunks, entry_of, entries_of, junk_range, ranges_from, start_of_part, starts_from}
 use Rattle.fluent_text.specs.Facts.Runs.{run_len-stops}
 use Rattle.fluent_syntax.specs.Facts.Prefixes.{TakesTo, Takes, takes-then, takes-map, takes-or, takes-pure, takes-ignore, takes-skip, takes-unless, takes-count, takes-run, takes-byte, Lessens, Eats, eats-then, eats-map, eats-or, eats-byte, run_less, then_less, no_longer}
 use Rattle.fluent_syntax.specs.Facts.LexicalPrefixes.{takes-blank_block}
@@ -166,6 +166,17 @@ ranges-step found longer at next s c rest whole n e m l w =
     rw m (ap (λ es. es ++ ranges_from (at + length c.bytes) (chunks rest)) l
     ∙ (append_assoc found (junk_range at c) (ranges_from (at + length c.bytes) (chunks rest))
     ∙ (ap (λ cs. found ++ ranges_from at cs) (sym (chunks-next s c rest n e)) ∙ w)))
+
+pub starts-step : (found longer : List ℕ) (at next : ℕ) (s : List ℕ) (c : Chunk) (rest : List ℕ) (whole : List ℕ)
+    → 0 < length s → chunk s ≡ Some (c, rest) → next ≡ at + length c.bytes → longer ≡ found ++ start_of_part at c.part → found ++ starts_from at (chunks s) ≡ whole → longer ++ starts_from next (chunks rest) ≡ whole
+starts-step found longer at next s c rest whole n e m l w =
+    rw m (ap (λ es. es ++ starts_from (at + length c.bytes) (chunks rest)) l
+    ∙ (append_assoc found (start_of_part at c.part) (starts_from (at + length c.bytes) (chunks rest))
+    ∙ (ap (λ cs. found ++ starts_from at cs) (sym (chunks-next s c rest n e)) ∙ w)))
+
+pub starts-end : (found : List ℕ) (at : ℕ) (s : List ℕ) (whole : List ℕ) → length s ≡ 0 → found ++ starts_from at (chunks s) ≡ whole → found ≡ whole
+starts-end found at [] whole n w = sym (append-nil found) ∙ (ap (λ cs. found ++ starts_from at cs) (sym chunks-none) ∙ w)
+starts-end found at (b ∷ s) whole n w = absurd (omega arith)
 
 pub entries-end : (found : List Entry) (s : List ℕ) (whole : List Entry) → length s ≡ 0 → found ++ entries_of (chunks s) ≡ whole → found ≡ whole
 entries-end found [] whole n w = sym (append-nil found) ∙ (ap (λ cs. found ++ entries_of cs) (sym chunks-none) ∙ w)

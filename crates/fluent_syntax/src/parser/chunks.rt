@@ -1,7 +1,7 @@
 //! A source as chunks: entries, comment lines, blank lines and Junk.
-ghost use Rattle.std.specs.Prelude.{◌≡◌, ◌+◌, ◌^◌, ◌<◌, [], Some, length, OnOk, IfOk, IsOk};
+ghost use Rattle.std.specs.Prelude.{◌≡◌, ◌+◌, ◌^◌, ◌<◌, ◌++◌, [], Some, length, OnOk, IfOk, IsOk};
 ghost use Rattle.fluent_syntax.specs.Chunks as spec;
-ghost use Rattle.fluent_syntax.specs.Chunks.{entries, junk_ranges};
+ghost use Rattle.fluent_syntax.specs.Chunks.{entries, entry_starts, junk_ranges};
 ghost use Rattle.fluent_syntax.specs.Leaving.{LeavesEntry, LeavesError};
 ghost use Rattle.fluent_syntax.specs.Parsed.{HoldsEntries, HoldsErrors, HasSome, error_range};
 ghost use Rattle.fluent_syntax.specs.PartView.{part_view, chunk_view};
@@ -97,6 +97,38 @@ fn read_chunks<'s>(alloc: Global, source: &'s str) -> Result<Found<'s>, AllocErr
         rest = after;
     }
     Ok(found)
+}
+
+/// Where each entry of a source begins: the offset of its first byte, in the order of the entries that [`parse_runtime`]
+/// gives, Junk among them. The source is read once more.
+///
+/// # Errors
+///
+/// An allocation failed.
+pub fn entry_starts(alloc: Global, source: &str) -> Result<Vec<usize>, AllocError>
+    ensures { IfOk result (λ starts. starts.items ≡ entry_starts source.now) }
+{
+    let mut starts = Vec::new(alloc);
+    let mut rest = source;
+    'chunks: while !rest.is_empty() {
+        let (next, after) = next_chunk(alloc, rest)?;
+        add_start(source.len() - rest.len(), next, &mut starts)?;
+        rest = after;
+    }
+    Ok(starts)
+}
+
+/// Adds the offset of a chunk that leaves an entry.
+fn add_start(start: usize, chunk: Chunk<'_>, starts: &mut Vec<usize>) -> Result<(), AllocError>
+    ensures { OnOk result (starts.new.items ≡ starts.old.items
+        ++ spec.start_of_part start (part_view chunk.entry.part)) }
+{
+    let Chunk { text: _, part } = chunk;
+    match part {
+        Part::Entry(_) => push(starts, start),
+        Part::Junk => push(starts, start),
+        Part::Blank => Ok(()),
+    }
 }
 
 fn next_chunk<'s>(alloc: Global, s: &'s str) -> Result<(Chunk<'s>, &'s str), AllocError>
