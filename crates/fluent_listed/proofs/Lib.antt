@@ -1,0 +1,4 @@
+mod Gathered
+mod Inserted
+mod Line
+mod Ordered

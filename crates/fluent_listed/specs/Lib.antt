@@ -1,0 +1,4 @@
+pub mod Given
+pub mod Listed
+pub mod Gathered
+pub mod Facts

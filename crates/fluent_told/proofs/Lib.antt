@@ -1,0 +1,5 @@
+mod ToldRows
+pub mod Counting
+pub mod Going
+pub mod Writing
+pub mod Placing

@@ -1,0 +1,4 @@
+pub mod Counted
+pub mod Lines
+pub mod Seen
+pub mod Telling
