@@ -1,5 +1,5 @@
 -- A handle's lifetimes are taken out of what it owns, and put back.
-use Rattle.fluent_kept.proofs.Steps.{ℕ, [], ◌∷◌, Ptr, Fml, flft, ftrue, full_share, Option, Some, None, SProp, Logic, Ura, ent, sep, sem, ‵, ◌$◌, ◌∵◌, !, qed, keep, move, done, updating, now, fpick, fpack, fsplit, fjoin, nothing, lft_new}
+use Rattle.fluent_loans.specs.Facts.Steps.{ℕ, [], ◌∷◌, Ptr, Fml, flft, ftrue, full_share, Option, Some, None, SProp, Logic, Ura, ent, sep, sem, ‵, ◌$◌, ◌∵◌, !, qed, keep, move, done, updating, now, fpick, fpack, fsplit, fjoin, nothing, lft_new}
 use base.Logic.{ex}
 use base.Fml.{fex, fsep}
 use types.Kit.{show}

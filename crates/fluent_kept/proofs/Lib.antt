@@ -1,5 +1,6 @@
-pub mod Steps
-pub mod Words
+pub mod From
 pub mod Global
 pub mod Handles
+pub mod Limits
+pub mod Opening
 pub mod Still

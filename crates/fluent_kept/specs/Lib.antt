@@ -1,4 +1,6 @@
 pub mod Asked
+pub mod Read
+pub mod Held
 pub mod Turns
 pub mod Handles
 pub mod Calls

@@ -1,8 +1,11 @@
 //! A bundle that keeps its sources and is asked from C: what stands after each call.
 #![tactic(auto)]
 
+mod adding;
 mod asks;
+mod finding;
 mod handle;
+mod shelves;
 mod slot;
 mod stock;
 mod turns;

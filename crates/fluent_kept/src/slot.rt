@@ -1,8 +1,7 @@
 //! A handle in the memory of C, and what stands after each call on it.
 ghost use Rattle.std.specs.Prelude.{◌≡◌, None, is_some};
 ghost use Rattle.fluent_kept.specs.Turns.{Turned};
-ghost use Rattle.fluent_kept.specs.Calls.{Does, Formats, GivenBy, after, status_by};
-ghost use Rattle.fluent_kept.specs.declared.asks.Ask.TheVariants as ask;
+ghost use Rattle.fluent_kept.specs.Calls.{GivenBy, GivenOneBy, after, status_by};
 
 use crate::asks::{Answer, Ask};
 use crate::handle::Handle;
@@ -21,6 +20,8 @@ pub struct Slot {
 }
 
 impl Slot {
+    ghost use Rattle.fluent_kept.specs.Exports.{AddsToSlot, FindsInSlot, Formats, HasInSlot, IsClosed, LimitsSlot, ListsIdsOfSlot, OpensSlot, OpensSlotByRules, OverridesInSlot, ReportsOfSlot};
+
     /// Holds nothing.
     fn closed(alloc: Global) -> Slot
         ensures { result.handle.held ≡ None }
@@ -45,23 +46,77 @@ impl Slot {
 
     /// Opens a bundle, by the tag of its language.
     pub fn open(&mut self, alloc: Global, tag: &[u8], isolate: bool) -> u8
-        ensures { Does self.old.handle.held (ask.Open tag.entry isolate) self.new.handle.held result }
+        ensures { OpensSlot tag isolate self.old self.new result }
     {
         status_of(&self.ask(alloc, &Ask::Open { tag, isolate }))
     }
 
+    /// Opens a bundle, by the texts of its plural rules.
+    pub fn open_rules(
+        &mut self,
+        alloc: Global,
+        cardinal: &[u8],
+        ordinal: &[u8],
+        isolate: bool,
+    ) -> u8
+        ensures { OpensSlotByRules cardinal ordinal isolate self.old self.new result }
+    {
+        let ask = Ask::OpenRules {
+            cardinal,
+            ordinal,
+            isolate,
+        };
+        status_of(&self.ask(alloc, &ask))
+    }
+
+    /// Sets how many placeables one call opens.
+    pub fn set_limit(&mut self, alloc: Global, limit: usize) -> u8
+        ensures { LimitsSlot limit self.old self.new result }
+    {
+        status_of(&self.ask(alloc, &Ask::Limit { limit }))
+    }
+
     /// Adds a source.
     pub fn add(&mut self, alloc: Global, source: &[u8]) -> u8
-        ensures { Does self.old.handle.held (ask.Add source.entry) self.new.handle.held result }
+        ensures { AddsToSlot source self.old self.new result }
     {
         status_of(&self.ask(alloc, &Ask::Add { source }))
     }
 
+    /// Adds a source whose entries take the place of what has their ids.
+    pub fn add_overriding(&mut self, alloc: Global, source: &[u8]) -> u8
+        ensures { OverridesInSlot source self.old self.new result }
+    {
+        status_of(&self.ask(alloc, &Ask::AddOverriding { source }))
+    }
+
+    /// Gives what was passed over in the source that was added last: a line for each part that can't be read, and for each
+    /// entry whose id was there.
+    pub fn report(&mut self, alloc: Global, out: &mut [u8], length: &mut usize) -> u8
+        ensures { ReportsOfSlot self.old self.new out.old out.new length.new result }
+    {
+        give_one(&self.ask(alloc, &Ask::Report), out, length)
+    }
+
+    /// Gives the ids of all messages, a line each.
+    pub fn ids(&mut self, alloc: Global, out: &mut [u8], length: &mut usize) -> u8
+        ensures { ListsIdsOfSlot self.old self.new out.old out.new length.new result }
+    {
+        give_one(&self.ask(alloc, &Ask::Ids), out, length)
+    }
+
     /// Whether there is a message.
     pub fn has(&mut self, alloc: Global, id: &[u8]) -> u8
-        ensures { Does self.old.handle.held (ask.Has id.entry) self.new.handle.held result }
+        ensures { HasInSlot id self.old self.new result }
     {
         status_of(&self.ask(alloc, &Ask::Has { id }))
+    }
+
+    /// Whether there is a message with a value, or with an attribute of a name that is not empty.
+    pub fn find(&mut self, alloc: Global, id: &[u8], name: &[u8]) -> u8
+        ensures { FindsInSlot id name self.old self.new result }
+    {
+        status_of(&self.ask(alloc, &Ask::Find { id, name }))
     }
 
     /// Formats the value of a message, or its attribute of a name that is not empty.
@@ -75,8 +130,7 @@ impl Slot {
         err: &mut [u8],
         sizes: &mut Lengths,
     ) -> u8
-        ensures { Formats self.old.handle.held (ask.Format id.entry name.entry args.entry) self.new.handle.held
-            out.old out.new err.old err.new sizes.new result }
+        ensures { Formats id name args self.old self.new out.old out.new err.old err.new sizes.new result }
     {
         let answer = self.ask(alloc, &Ask::Format { id, name, args });
         give(&answer, out, err, sizes)
@@ -84,7 +138,7 @@ impl Slot {
 
     /// Drops the bundle and frees its resources and sources.
     pub fn close(&mut self, alloc: Global)
-        ensures { self.new.handle.held ≡ None }
+        ensures { IsClosed self.new }
     {
         let Slot { handle, is_open } = mem::replace(self, Slot::closed(alloc));
         if is_open {
@@ -112,6 +166,7 @@ fn status_of(answer: &Answer) -> u8
         Answer::Texts { .. } => 0,
         Answer::Closed => 11,
         Answer::Open => 12,
+        Answer::OutOfRange => 13,
         Answer::Fault(fault) => status(*fault),
     }
 }
@@ -135,4 +190,18 @@ fn give(answer: &Answer, out: &mut [u8], err: &mut [u8], sizes: &mut Lengths) ->
     } else {
         1
     }
+}
+
+/// Writes the text of an answer to a buffer.
+fn give_one(answer: &Answer, out: &mut [u8], length: &mut usize) -> u8
+    ensures { GivenOneBy answer.now out.old out.new length.new result }
+{
+    let Answer::Texts { text, lines: _ } = answer else {
+        *length = 0;
+        return status_of(answer);
+    };
+    let room = out.len();
+    let needed = put_text(text.as_str(), out);
+    *length = needed;
+    if needed <= room { 0 } else { 1 }
 }

@@ -2,15 +2,16 @@
 ghost use Rattle.std.specs.Prelude.{◌≡◌, is_some, None};
 ghost use Rattle.fluent_loans.specs.Owned.{IsHeld};
 ghost use Rattle.fluent_loans.specs.Loans.{AreFor};
-ghost use Rattle.fluent_plain.specs.PlainView.{bundle_view};
-ghost use Rattle.fluent_kept.specs.Turns.{ClosedTurn, OpenTurn, Turned, meant_by};
+ghost use Rattle.fluent_plain.specs.Opened.{Opened, NotOpened};
+ghost use Rattle.fluent_kept.specs.Held.{meant, meant_by};
+ghost use Rattle.fluent_kept.specs.Turns.{Boxed, ClosedTurn, OpenTurn, Opens, OpensByRules, Turned};
 
 use crate::asks::{Answer, Ask};
 use crate::stock::Stock;
 use fluent_bundle::FluentResource;
 use fluent_loans::{Ended, Lifetime, Loan, RawBox, Shelf, regain_all};
-use fluent_plain::SourceFault;
-use std::alloc::Global;
+use fluent_plain::{OpenFault, SourceFault};
+use std::alloc::{AllocError, Global};
 
 /// Does what is asked.
 pub(crate) fn turn<'r, 's: 'r>(
@@ -39,10 +40,56 @@ fn when_closed<'r, 's: 'r>(
     requires { none.held ≡ None }
     ensures { ClosedTurn ask.now (meant_by result.0.held) result.1 }
 {
-    let Ask::Open { tag, isolate } = *ask else {
-        return (none, Answer::Closed);
-    };
-    match Stock::open(alloc, tag, isolate) {
+    match *ask {
+        Ask::Open { tag, isolate } => open_by_tag(alloc, none, tag, isolate),
+        Ask::OpenRules {
+            cardinal,
+            ordinal,
+            isolate,
+        } => open_by_texts(alloc, none, cardinal, ordinal, isolate),
+        _ => (none, Answer::Closed),
+    }
+}
+
+/// Opens a bundle by the tag of its language.
+fn open_by_tag<'r, 's: 'r>(
+    alloc: Global,
+    none: RawBox<Stock<'r, 's>, Global>,
+    tag: &[u8],
+    isolate: bool,
+) -> (RawBox<Stock<'r, 's>, Global>, Answer)
+    requires { none.held ≡ None }
+    ensures { Opens (Opened tag.now isolate) (NotOpened tag.now) (meant_by result.0.held) result.1 }
+{
+    let opened = Stock::open(alloc, tag, isolate);
+    boxed(alloc, none, opened)
+}
+
+/// Opens a bundle by the texts of its rules.
+fn open_by_texts<'r, 's: 'r>(
+    alloc: Global,
+    none: RawBox<Stock<'r, 's>, Global>,
+    cardinal: &[u8],
+    ordinal: &[u8],
+    isolate: bool,
+) -> (RawBox<Stock<'r, 's>, Global>, Answer)
+    requires { none.held ≡ None }
+    ensures { OpensByRules cardinal.now ordinal.now isolate (meant_by result.0.held) result.1 }
+{
+    let opened = Stock::open_by_rules(alloc, cardinal, ordinal, isolate);
+    boxed(alloc, none, opened)
+}
+
+/// Puts a bundle that was opened into a box.
+fn boxed<'r, 's: 'r>(
+    alloc: Global,
+    none: RawBox<Stock<'r, 's>, Global>,
+    opened: Result<Stock<'r, 's>, OpenFault>,
+) -> (RawBox<Stock<'r, 's>, Global>, Answer)
+    requires { none.held ≡ None }
+    ensures { Boxed opened.entry (meant_by result.0.held) result.1 }
+{
+    match opened {
         Ok(stock) => match Box::new(alloc, stock) {
             Ok(stock) => (RawBox::of(stock), Answer::Done),
             Err(_) => (none, Answer::Fault(SourceFault::Memory)),
@@ -53,15 +100,45 @@ fn when_closed<'r, 's: 'r>(
 
 /// Does what is asked of an open bundle.
 fn when_open<'r, 's: 'r>(alloc: Global, stock: &mut Stock<'r, 's>, ask: &Ask<'_>) -> Answer
-    ensures { OpenTurn (bundle_view stock.old.bundle) ask.now (bundle_view stock.new.bundle) result }
+    ensures { OpenTurn (meant stock.old) ask.now (meant stock.new) result }
 {
     match *ask {
         Ask::Open { .. } => Answer::Open,
+        Ask::OpenRules { .. } => Answer::Open,
+        Ask::Limit { limit } => {
+            if stock.set_limit(limit) {
+                Answer::Done
+            } else {
+                Answer::OutOfRange
+            }
+        }
         Ask::Add { source } => match stock.add(alloc, source) {
             Ok(()) => Answer::Done,
             Err(fault) => Answer::Fault(fault),
         },
+        Ask::AddOverriding { source } => match stock.add_overriding(alloc, source) {
+            Ok(()) => Answer::Done,
+            Err(fault) => Answer::Fault(fault),
+        },
+        Ask::Report => match stock.report(alloc) {
+            Ok(text) => Answer::Texts {
+                text,
+                lines: String::new(alloc),
+            },
+            Err(AllocError) => Answer::Fault(SourceFault::Memory),
+        },
+        Ask::Ids => match stock.ids(alloc) {
+            Ok(text) => Answer::Texts {
+                text,
+                lines: String::new(alloc),
+            },
+            Err(AllocError) => Answer::Fault(SourceFault::Memory),
+        },
         Ask::Has { id } => match stock.has(id) {
+            Ok(()) => Answer::Done,
+            Err(fault) => Answer::Fault(SourceFault::Format(fault)),
+        },
+        Ask::Find { id, name } => match stock.find(id, name) {
             Ok(()) => Answer::Done,
             Err(fault) => Answer::Fault(SourceFault::Format(fault)),
         },

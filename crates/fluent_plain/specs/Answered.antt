@@ -37,6 +37,7 @@ error_lines (error ∷ errors) = error_line error ++ error_lines errors
 
 -- The message is there and the arguments can be read: these are its text and the lines of its errors.
 pub record TextsIn (bundle : Bundle Text) (id name args shown told : List ℕ) : Type 0 where
+  pub texts : IsUtf8 id × IsUtf8 name
   pub pattern : Pattern
   pub all : List Argument
   pub found : asked_at id name bundle ≡ Some pattern
@@ -58,7 +59,7 @@ abbrev pub NotFormattedIn : Bundle Text → Text → Text → List ℕ → Forma
 NotFormattedIn bundle id name args fault.NotText = ¬ (IsUtf8 id × IsUtf8 name)
 NotFormattedIn bundle id name args (fault.Arguments f) = Stops args f
 NotFormattedIn bundle id name args fault.NoMessage = asked_at id name bundle ≡ None
-NotFormattedIn bundle id name args fault.Memory = Unit {0}
+NotFormattedIn bundle id name args fault.Memory = IsUtf8 id × IsUtf8 name
 
 -- ---- the same of what the code is handed
 

@@ -32,7 +32,7 @@ abbrev pub RefusesOf : Text → Bool → Text → Text → Text → List ℕ →
 RefusesOf tag on source id name args fault.NotText = ¬ (IsUtf8 source)
 RefusesOf tag on source id name args (fault.Open f) = NotOpened tag f
 RefusesOf tag on source id name args (fault.Format f) = FailsOf tag on source id name args f
-RefusesOf tag on source id name args fault.Memory = Unit {0}
+RefusesOf tag on source id name args fault.Memory = IsUtf8 source
 
 -- ---- the same of what the code is handed
 

@@ -1,7 +1,7 @@
-//! A bundle by the tag of a language.
+//! A bundle by the tag of a language, or by the texts of its rules.
 ghost use Rattle.std.specs.Prelude.{◌≡◌, IfOk, IfErr};
 ghost use Rattle.fluent_intl.specs.RuleTexts.{category_of};
-ghost use Rattle.fluent_plain.specs.Opened.{Opened, NotOpened, start};
+ghost use Rattle.fluent_plain.specs.Opened.{Opened, OpenedBy, NotOpened, NotOpenedBy, start};
 ghost use Rattle.fluent_plain.specs.PlainView.{bundle_view};
 
 use fluent_bundle::{FluentBundle, NoCustom, NoFormatter, NoFunction, NoTransform};
@@ -24,9 +24,9 @@ pub type Plain<'r, 's> = FluentBundle<
 /// Why no bundle was made.
 #[derive(Clone, Copy, Debug, Drop, PartialEq, Eq)]
 pub enum OpenFault {
-    /// The tag is not UTF-8.
+    /// The tag, or a text of rules, is not UTF-8.
     NotText,
-    /// The language has no plural rules, or they could not be read.
+    /// The language has no plural rules, or the rules could not be read.
     Language(LanguageFault),
     /// An allocation failed.
     Memory,
@@ -50,6 +50,32 @@ pub fn open<'r, 's>(alloc: Global, tag: &[u8], isolate: bool) -> Result<Plain<'r
             Err(AllocError) => Err(OpenFault::Memory),
         },
         Err(fault) => Err(OpenFault::Language(fault)),
+    }
+}
+
+/// A bundle with the plural rules of two texts, as [`RuleTexts::parse`] reads them, and the built-in function alone.
+///
+/// # Errors
+///
+/// As [`OpenFault`] says; a language is never unknown.
+pub fn open_by_rules<'r, 's>(
+    alloc: Global,
+    cardinal: &[u8],
+    ordinal: &[u8],
+    isolate: bool,
+) -> Result<Plain<'r, 's>, OpenFault>
+    ensures ok { IfOk result (λ b. OpenedBy cardinal.now ordinal.now isolate (bundle_view b)) }
+    ensures err { IfErr result (NotOpenedBy cardinal.now ordinal.now) }
+{
+    let (Ok(cardinal), Ok(ordinal)) = (str::from_utf8(cardinal), str::from_utf8(ordinal)) else {
+        return Err(OpenFault::NotText);
+    };
+    match RuleTexts::parse(alloc, cardinal, ordinal) {
+        Ok(plurals) => match with_plurals(alloc, plurals, isolate) {
+            Ok(bundle) => Ok(bundle),
+            Err(AllocError) => Err(OpenFault::Memory),
+        },
+        Err(fault) => Err(OpenFault::Language(LanguageFault::Rules(fault))),
     }
 }
 

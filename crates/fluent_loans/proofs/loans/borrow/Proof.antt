@@ -1,5 +1,5 @@
 -- `borrow` borrows what the box owned for the lifetime, and shares it out.
-use Rattle.fluent_loans.proofs.Steps.{◌≡◌, ◌∙◌, List, [], ◌∷◌, ◌++◌, ap, refl, proved_at, leaves, Lft, Incl-trans, Fml, flft, ftrue, fsep, flent, ent, subst, sym, id⊢, emp, Val, vptr, Item, ⋆, ◌⊛◌, later, at_ret, ◌$◌, ◌∵◌, !, qed, by, keep, move, drop, fjoin, fsplit, fsplit3, split, split3, join, nothing, use0, use1, use2, await, heard, rewrite, feq_i, in_a_block, enter, of_opd, addr, through, stop, fld, no_more, and_then, first, blocks, exec, env, returns, alloc_all, pass_all, free_all, look_at, get, get_in, sub, whole, sets, sets_last, agg, as_fields, Stays, stay_dropped, walk_of, tables, ‵, raw, fact, fact_i, Ptr, block_ptr, null_ptr, lies_at, full_share, bare, lone, inst_fn, param, param_laws, bounded, a_type, dcons, dnil, plain, no, Some, None, ◌⊑◌, ⊑_refl, bor_new, SProp, never, fst∗, sem, RattleType, layout}
+use Rattle.fluent_loans.specs.Facts.Steps.{◌≡◌, ◌∙◌, List, [], ◌∷◌, ◌++◌, ap, refl, proved_at, leaves, Lft, Incl-trans, Fml, flft, ftrue, fsep, flent, ent, subst, sym, id⊢, emp, Val, vptr, Item, ⋆, ◌⊛◌, later, at_ret, ◌$◌, ◌∵◌, !, qed, by, keep, move, drop, fjoin, fsplit, fsplit3, split, split3, join, nothing, use0, use1, use2, await, heard, rewrite, feq_i, in_a_block, enter, of_opd, addr, through, stop, fld, no_more, and_then, first, blocks, exec, env, returns, alloc_all, pass_all, free_all, look_at, get, get_in, sub, whole, sets, sets_last, agg, as_fields, Stays, stay_dropped, walk_of, tables, ‵, raw, fact, fact_i, Ptr, block_ptr, null_ptr, lies_at, full_share, bare, lone, inst_fn, param, param_laws, bounded, a_type, dcons, dnil, plain, no, Some, None, ◌⊑◌, ⊑_refl, bor_new, SProp, never, fst∗, sem, RattleType, layout}
 use prog.Wp.{WpFn}
 use denote.Opens.{hide}
 use mir.Syntax.{Ty}
@@ -11,7 +11,7 @@ use Rattle.std.specs.Box.Ownership.{box_owns}
 use Rattle.std.proofs.alloc.Calls.{Al, Goes-blank}
 use Rattle.std.proofs.VecSteps.Shapes.{after}
 use Rattle.fluent_loans.specs.Owned.{IsHeld, maybe_owns}
-use Rattle.fluent_loans.proofs.Words.{P, word, word_in, word_out, word_typed, lifetime, lifetime_in, lifetime_out, three, three_in, held_value}
+use Rattle.fluent_loans.specs.Facts.Words.{P, word, word_in, word_out, word_typed, lifetime, lifetime_in, lifetime_out, three, three_in, held_value}
 use Rattle.fluent_loans.specs.contracts.raw_box.RawBox as L
 use Rattle.fluent_loans.specs.contracts.loans.Lifetime as M-type
 use Rattle.fluent_loans.specs.contracts.loans.Loan as N

@@ -1,10 +1,10 @@
 -- `regain` takes what was lent, since the lifetime is ended.
-use Rattle.fluent_loans.proofs.Steps.{◌≡◌, ◌∙◌, List, [], ◌∷◌, ◌++◌, ap, refl, proved_at, leaves, Lft, Fml, flft, fdead, ftrue, fsep, ent, subst, sym, emp, Val, Item, ⋆, ◌⊛◌, ◌$◌, ◌∵◌, !, qed, by, keep, move, drop, fjoin, fsplit, fsplit3, split, nothing, use0, use1, heard, rewrite, enter, of_opd, stop, fld, no_more, and_then, returns, alloc_all, pass_all, free_all, look_at, get, get_in, sub, whole, sets, agg, as_fields, Stays, stay_dropped, Goes-dropped, walk_of, tables, ‵, raw, fact, fact_i, Ptr, lies_at, full_share, inst_fn, param, bounded, a_type, dcons, dnil, plain, yes, no, Some, ◌⊑◌, lent_back, RattleType, layout}
+use Rattle.fluent_loans.specs.Facts.Steps.{◌≡◌, ◌∙◌, List, [], ◌∷◌, ◌++◌, ap, refl, proved_at, leaves, Lft, Fml, flft, fdead, ftrue, fsep, ent, subst, sym, emp, Val, Item, ⋆, ◌⊛◌, ◌$◌, ◌∵◌, !, qed, by, keep, move, drop, fjoin, fsplit, fsplit3, split, nothing, use0, use1, heard, rewrite, enter, of_opd, stop, fld, no_more, and_then, returns, alloc_all, pass_all, free_all, look_at, get, get_in, sub, whole, sets, agg, as_fields, Stays, stay_dropped, Goes-dropped, walk_of, tables, ‵, raw, fact, fact_i, Ptr, lies_at, full_share, inst_fn, param, bounded, a_type, dcons, dnil, plain, yes, no, Some, ◌⊑◌, lent_back, RattleType, layout}
 use prog.Wp.{WpFn}
 use mir.Syntax.{Ty}
 use Rattle.fluent_loans.specs.Owned.{loan_owns}
 use Rattle.std.proofs.alloc.Calls.{Al, Goes-blank}
-use Rattle.fluent_loans.proofs.Words.{P, word, word_in, word_out, word_typed, ptr_typed, ended, ended_in, ended_out, pair, pair_in}
+use Rattle.fluent_loans.specs.Facts.Words.{P, word, word_in, word_out, word_typed, ptr_typed, ended, ended_in, ended_out, pair, pair_in}
 use Rattle.fluent_loans.specs.contracts.raw_box.RawBox as L
 use Rattle.fluent_loans.specs.contracts.loans.Ended as O
 use Rattle.fluent_loans.specs.contracts.loans.Loan as N

@@ -1,5 +1,5 @@
 -- `close` ends the lifetime of the resources once the bundle is dropped, and that of the sources once the resources are freed.
-use Rattle.fluent_kept.proofs.Steps.{◌≡◌, ◌∙◌, ℕ, List, [], ◌∷◌, ◌++◌, ap, refl, proved_at, leaves, Lft, Fml, flft, fdead, ftrue, fsep, ent, subst, sym, id⊢, emp, Val, vunit, Item, ⋆, ◌⊛◌, some, later, ◌$◌, ◌∵◌, !, qed, by, keep, move, drop, fjoin, fpick, feq_l, feq_i, fsplit, split, split3, join, nothing, pick, await, use0, use1, use2, heard, rewrite, enter, of_opd, unit_lit, stop, fld, no_more, and_then, returns, alloc_all, pass_all, free_all, look_at, get, get_in, sub, whole, sets, lands_as, agg, as_fields, calls_at, framed, only, Lasts, lasts, triple_of, Stays, stay_dropped, walk_of, tables, ‵, raw, fact, fact_i, Ptr, Tuple, full_share, unit, plain, yes, RattleType, layout, lft_end, vstruct, of_list}
+use Rattle.fluent_loans.specs.Facts.Steps.{◌≡◌, ◌∙◌, ℕ, List, [], ◌∷◌, ◌++◌, ap, refl, proved_at, leaves, Lft, Fml, flft, fdead, ftrue, fsep, ent, subst, sym, id⊢, emp, Val, vunit, Item, ⋆, ◌⊛◌, some, later, ◌$◌, ◌∵◌, !, qed, by, keep, move, drop, fjoin, fpick, feq_l, feq_i, fsplit, split, split3, join, nothing, pick, await, use0, use1, use2, heard, rewrite, enter, of_opd, unit_lit, stop, fld, no_more, and_then, returns, alloc_all, pass_all, free_all, look_at, get, get_in, sub, whole, sets, lands_as, agg, as_fields, calls_at, framed, only, Lasts, lasts, triple_of, Stays, stay_dropped, walk_of, tables, ‵, raw, fact, fact_i, Ptr, Tuple, full_share, unit, plain, yes, RattleType, layout, lft_end, vstruct, of_list}
 use prog.Wp.{WpFn}
 use base.Share
 use contract.BorrowLft.{meet_⊑_left, meet_⊑_right}
@@ -13,7 +13,7 @@ use Rattle.fluent_loans.specs.contracts.raw_box.RawBox as RB
 use Rattle.fluent_kept.specs.Handles.{numbered, stock_row, handle_owns}
 use Rattle.fluent_kept.proofs.Global.{Y, Hn, Ls, frees}
 use Rattle.fluent_kept.proofs.Handles.{opens}
-use Rattle.fluent_kept.proofs.Words.{P, word, word_in, word_out, word_typed, ptr_typed, lifetime, lifetime_out, ended, ended_in}
+use Rattle.fluent_loans.specs.Facts.Words.{P, word, word_in, word_out, word_typed, ptr_typed, lifetime, lifetime_out, ended, ended_in}
 use Rattle.fluent_kept.specs.contracts.turns.Rest as S
 use Rattle.fluent_kept.proofs.turns.Rest.TheLaws.{the_row_laws as rest_laws}
 use Rattle.fluent_kept.specs.contracts.turns.Last as Z

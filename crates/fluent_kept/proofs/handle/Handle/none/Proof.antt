@@ -1,9 +1,9 @@
 -- `none` owns nothing.
-use Rattle.fluent_kept.proofs.Steps.{◌≡◌, List, [], ◌∷◌, ◌++◌, refl, proved_at, leaves, ftrue, fsep, ent, subst, sym, emp, Val, Item, ⋆, ◌⊛◌, ◌$◌, ◌∵◌, !, qed, by, move, drop, keep, fjoin, fsplit, split, nothing, use0, enter, lit, no_more, and_then, returns, alloc_all, pass_all, free_all, look_at, get, sets, agg, Stays, stay_dropped, walk_of, tables, ‵, raw, fact, fact_i, null_ptr, plain, yes, None}
+use Rattle.fluent_loans.specs.Facts.Steps.{◌≡◌, List, [], ◌∷◌, ◌++◌, refl, proved_at, leaves, ftrue, fsep, ent, subst, sym, emp, Val, Item, ⋆, ◌⊛◌, ◌$◌, ◌∵◌, !, qed, by, move, drop, keep, fjoin, fsplit, split, nothing, use0, enter, lit, no_more, and_then, returns, alloc_all, pass_all, free_all, look_at, get, sets, agg, Stays, stay_dropped, walk_of, tables, ‵, raw, fact, fact_i, null_ptr, plain, yes, None}
 use prog.Wp.{WpFn}
 use Rattle.std.proofs.alloc.Calls.{Al, Goes-blank, handle_tells}
 use Rattle.fluent_kept.proofs.Global.{Y, Hn}
-use Rattle.fluent_kept.proofs.Words.{P, word, word_in, word_typed}
+use Rattle.fluent_loans.specs.Facts.Words.{P, word, word_in, word_typed}
 use Rattle.fluent_kept.specs.contracts.handle.Handle.none as f
 use Rattle.fluent_kept.proofs.handle.Handle.none.Statement.{statement}
 use Rattle.fluent_kept.proofs.handle.Handle.none.Code as code

@@ -1,5 +1,5 @@
 -- `turn` hands the lifetimes of the bundle to what is done, and takes them back.
-use Rattle.fluent_kept.proofs.Steps.{◌≡◌, ◌∙◌, ℕ, List, [], ◌∷◌, ◌++◌, ap, refl, proved_at, leaves, Lft, Fml, flft, ftrue, fsep, ent, subst, sym, id⊢, emp, Val, Item, ⋆, ◌⊛◌, some, later, ◌$◌, ◌∵◌, !, qed, by, keep, move, drop, fjoin, fpick, feq_l, fsplit, split, split3, join, nothing, pick, await, use0, use1, use2, use3, heard, rewrite, enter, of_opd, stop, fld, no_more, and_then, returns, alloc_all, pass_all, free_all, look_at, get, get_in, sub, whole, sets, lands_as, agg, as_fields, calls_at, framed, only, Lasts, lasts, triple_of, Stays, stay_dropped, Goes-dropped, walk_of, tables, ‵, raw, fact, fact_i, Ptr, Tuple, full_share, bool, plain, yes, ◌⊑◌, RattleType, layout, named, vstruct, of_list}
+use Rattle.fluent_loans.specs.Facts.Steps.{◌≡◌, ◌∙◌, ℕ, List, [], ◌∷◌, ◌++◌, ap, refl, proved_at, leaves, Lft, Fml, flft, ftrue, fsep, ent, subst, sym, id⊢, emp, Val, Item, ⋆, ◌⊛◌, some, later, ◌$◌, ◌∵◌, !, qed, by, keep, move, drop, fjoin, fpick, feq_l, fsplit, split, split3, join, nothing, pick, await, use0, use1, use2, use3, heard, rewrite, enter, of_opd, stop, fld, no_more, and_then, returns, alloc_all, pass_all, free_all, look_at, get, get_in, sub, whole, sets, lands_as, agg, as_fields, calls_at, framed, only, Lasts, lasts, triple_of, Stays, stay_dropped, Goes-dropped, walk_of, tables, ‵, raw, fact, fact_i, Ptr, Tuple, full_share, bool, plain, yes, ◌⊑◌, RattleType, layout, named, vstruct, of_list}
 use prog.Wp.{WpFn}
 use base.Share
 use mir.Val.{vbool}
@@ -16,7 +16,7 @@ use Rattle.fluent_kept.specs.Handles.{stock_row, handle_owns}
 use Rattle.fluent_kept.specs.Turns.{Turned}
 use Rattle.fluent_kept.proofs.Global.{Y, Hn, An, Ya, frees}
 use Rattle.fluent_kept.proofs.Handles.{opens, shuts}
-use Rattle.fluent_kept.proofs.Words.{P, word, word_in, word_out, word_typed, ptr_typed, pair, pair_in}
+use Rattle.fluent_loans.specs.Facts.Words.{P, word, word_in, word_out, word_typed, ptr_typed, pair, pair_in}
 use Rattle.fluent_kept.specs.contracts.asks.Ask as Q
 use Rattle.fluent_kept.specs.contracts.turns.turn as callee
 use Rattle.fluent_kept.proofs.turns.turn.Met as callee_met

@@ -1,5 +1,5 @@
 -- `new` names the lifetime.
-use Rattle.fluent_loans.proofs.Steps.{[], ◌∷◌, refl, proved, leaves, flft, ftrue, ◌⊛◌, ◌$◌, ◌∵◌, !, qed, by, keep, split, use0, enter, no_more, and_then, returns, alloc_all, pass_all, free_all, look_at, get, sets, agg, walk_of, tables, ‵, vstruct, vcons, vnil, Val, makes_shadow}
+use Rattle.fluent_loans.specs.Facts.Steps.{[], ◌∷◌, refl, proved, leaves, flft, ftrue, ◌⊛◌, ◌$◌, ◌∵◌, !, qed, by, keep, split, use0, enter, no_more, and_then, returns, alloc_all, pass_all, free_all, look_at, get, sets, agg, walk_of, tables, ‵, vstruct, vcons, vnil, Val, makes_shadow}
 use Rattle.fluent_loans.specs.contracts.loans.Lifetime.new as f
 use Rattle.fluent_loans.specs.contracts.loans.Lifetime as M
 use Rattle.fluent_loans.specs.declared.loans.Lifetime.{Lifetime}

@@ -1,5 +1,5 @@
 -- `into_box` makes the box again.
-use Rattle.fluent_loans.proofs.Steps.{◌≡◌, ◌∙◌, List, [], ◌∷◌, ◌++◌, ap, refl, proved_at, leaves, Lft, Fml, flft, ftrue, fsep, ent, subst, sym, id⊢, emp, Val, T, has_ty, WT, Item, ⋆, ◌⊛◌, some, later, at_ret, ◌$◌, ◌∵◌, !, qed, by, keep, move, drop, fjoin, fjoin3, fsplit, split, split3, join, nothing, pick, await, use0, use1, heard, rewrite, feq_i, enter, of_opd, stop, fld, no_more, and_then, first, blocks, exec, env, returns, alloc_all, pass_all, free_all, look_at, get, get_in, sub, whole, sets, lands_last, calls_at_last, framed, only, Lasts, lasts, triple_of, Stays, stay_dropped, walk_of, tables, ‵, raw, fact, fact_i, Ptr, ptr_val, inst_fn, param, bounded, a_type, dcons, dnil, plain, no, Some, ◌⊑◌, RattleType}
+use Rattle.fluent_loans.specs.Facts.Steps.{◌≡◌, ◌∙◌, List, [], ◌∷◌, ◌++◌, ap, refl, proved_at, leaves, Lft, Fml, flft, ftrue, fsep, ent, subst, sym, id⊢, emp, Val, T, has_ty, WT, Item, ⋆, ◌⊛◌, some, later, at_ret, ◌$◌, ◌∵◌, !, qed, by, keep, move, drop, fjoin, fjoin3, fsplit, split, split3, join, nothing, pick, await, use0, use1, heard, rewrite, feq_i, enter, of_opd, stop, fld, no_more, and_then, first, blocks, exec, env, returns, alloc_all, pass_all, free_all, look_at, get, get_in, sub, whole, sets, lands_last, calls_at_last, framed, only, Lasts, lasts, triple_of, Stays, stay_dropped, walk_of, tables, ‵, raw, fact, fact_i, Ptr, ptr_val, inst_fn, param, bounded, a_type, dcons, dnil, plain, no, Some, ◌⊑◌, RattleType}
 use prog.Wp.{WpFn}
 use mir.Syntax.{Ty}
 use Rattle.std.specs.Box.Ownership.{box_owns}
@@ -10,7 +10,7 @@ use Rattle.std.proofs.VecSteps.Shapes.{after}
 use Rattle.std.specs.contracts.boxed.Box.from_raw as callee
 use Rattle.std.proofs.boxed.Box.from_raw.Met as callee_met
 use Rattle.fluent_loans.specs.Owned.{IsHeld, maybe_owns}
-use Rattle.fluent_loans.proofs.Words.{P, word, word_out, word_typed, ptr_typed, held_value}
+use Rattle.fluent_loans.specs.Facts.Words.{P, word, word_out, word_typed, ptr_typed, held_value}
 use Rattle.fluent_loans.specs.contracts.raw_box.RawBox as L
 use Rattle.fluent_loans.specs.contracts.raw_box.RawBox.into_box as f
 use Rattle.fluent_loans.proofs.raw_box.RawBox.into_box.Statement.{statement}

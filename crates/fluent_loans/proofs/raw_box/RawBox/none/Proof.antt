@@ -1,8 +1,8 @@
 -- `none` owns nothing.
-use Rattle.fluent_loans.proofs.Steps.{◌≡◌, List, [], ◌∷◌, ◌++◌, refl, proved_at, leaves, flft, ftrue, fsep, ent, subst, sym, id⊢, Val, Item, ⋆, ◌⊛◌, ◌$◌, ◌∵◌, !, qed, by, keep, move, drop, fjoin, fsplit, split, join, nothing, use0, heard, enter, of_opd, lit, no_more, and_then, returns, alloc_all, pass_all, free_all, look_at, get, sets, agg, Stays, stay_dropped, param, walk_of, tables, ‵, raw, fact, fact_i, emp, null_ptr, inst_fn, bounded, a_type, dcons, dnil, plain, no, None, ◌⊑◌}
+use Rattle.fluent_loans.specs.Facts.Steps.{◌≡◌, List, [], ◌∷◌, ◌++◌, refl, proved_at, leaves, flft, ftrue, fsep, ent, subst, sym, id⊢, Val, Item, ⋆, ◌⊛◌, ◌$◌, ◌∵◌, !, qed, by, keep, move, drop, fjoin, fsplit, split, join, nothing, use0, heard, enter, of_opd, lit, no_more, and_then, returns, alloc_all, pass_all, free_all, look_at, get, sets, agg, Stays, stay_dropped, param, walk_of, tables, ‵, raw, fact, fact_i, emp, null_ptr, inst_fn, bounded, a_type, dcons, dnil, plain, no, None, ◌⊑◌}
 use prog.Wp.{WpFn}
 use Rattle.std.proofs.alloc.Calls.{Al, Goes-blank}
-use Rattle.fluent_loans.proofs.Words.{P, word, word_in, word_typed}
+use Rattle.fluent_loans.specs.Facts.Words.{P, word, word_in, word_typed}
 use Rattle.std.proofs.alloc.Calls.{handle_tells}
 use Rattle.fluent_loans.specs.contracts.raw_box.RawBox as L
 use Rattle.fluent_loans.specs.contracts.raw_box.RawBox.none as f

@@ -1,5 +1,5 @@
 -- `of` takes the box apart.
-use Rattle.fluent_loans.proofs.Steps.{◌≡◌, ◌∙◌, List, [], ◌∷◌, ◌++◌, ap, refl, proved_at, leaves, Lft, Fml, flft, ftrue, fsep, ent, subst, sym, id⊢, emp, Val, Item, ⋆, ◌⊛◌, some, later, ◌$◌, ◌∵◌, !, qed, by, keep, move, drop, fjoin, fsplit, split, split3, join, nothing, pick, await, use0, use1, heard, rewrite, enter, of_opd, stop, fld, no_more, and_then, returns, alloc_all, pass_all, free_all, look_at, get, get_in, sub, whole, sets, lands_as, agg, calls_at, framed, only, Lasts, lasts, triple_of, Stays, stay_dropped, walk_of, tables, ‵, raw, fact, fact_i, Ptr, RawPtr, Tuple, inst_fn, param, bounded, a_type, dcons, dnil, plain, no, Some, ◌⊑◌, RattleType}
+use Rattle.fluent_loans.specs.Facts.Steps.{◌≡◌, ◌∙◌, List, [], ◌∷◌, ◌++◌, ap, refl, proved_at, leaves, Lft, Fml, flft, ftrue, fsep, ent, subst, sym, id⊢, emp, Val, Item, ⋆, ◌⊛◌, some, later, ◌$◌, ◌∵◌, !, qed, by, keep, move, drop, fjoin, fsplit, split, split3, join, nothing, pick, await, use0, use1, heard, rewrite, enter, of_opd, stop, fld, no_more, and_then, returns, alloc_all, pass_all, free_all, look_at, get, get_in, sub, whole, sets, lands_as, agg, calls_at, framed, only, Lasts, lasts, triple_of, Stays, stay_dropped, walk_of, tables, ‵, raw, fact, fact_i, Ptr, RawPtr, Tuple, inst_fn, param, bounded, a_type, dcons, dnil, plain, no, Some, ◌⊑◌, RattleType}
 use prog.Wp.{WpFn}
 use mir.Syntax.{Ty}
 use Rattle.std.specs.Box.Ownership.{box_owns}
@@ -8,7 +8,7 @@ use Rattle.std.proofs.BoxSteps.Form as box
 use Rattle.std.proofs.BoxSteps.Steps.{box_out, box_in}
 use Rattle.std.specs.contracts.boxed.Box.into_raw_with_allocator as callee
 use Rattle.std.proofs.boxed.Box.into_raw_with_allocator.Met as callee_met
-use Rattle.fluent_loans.proofs.Words.{P, word, word_in, word_out, word_typed, ptr_typed}
+use Rattle.fluent_loans.specs.Facts.Words.{P, word, word_in, word_out, word_typed, ptr_typed}
 use Rattle.fluent_loans.specs.contracts.raw_box.RawBox as L
 use Rattle.fluent_loans.specs.contracts.raw_box.RawBox.of as f
 use Rattle.fluent_loans.proofs.raw_box.RawBox.of.Statement.{statement}

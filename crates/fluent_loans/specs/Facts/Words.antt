@@ -1,5 +1,6 @@
 -- A struct of a pointer and an allocator, as the machine has it.
-use Rattle.fluent_kept.proofs.Steps.{◌≡◌, List, [], ◌∷◌, ◌++◌, refl, sym, subst, lit<, ◌∙◌, ap, T, Val, vstruct, vcons, vnil, of_list, ptr_val, has_ty, WT, RattleType, Struct, Shape, within, Valss, Ptr, RawPtr, block_ptr, null_ptr, Item, Goal, Seq, Step, step, ‵, ◌$◌, fsplit, feq_l, feq_i, fjoin, fpick, fpack, move, drop, nothing, Logic, Ura}
+use Rattle.std.specs.Prelude.{◌≡◌, List, [], ◌∷◌, ◌++◌, Option, Some, None}
+use Rattle.fluent_loans.specs.Facts.Steps.{refl, sym, subst, lit<, ◌∙◌, ap, T, Val, vstruct, vcons, vnil, of_list, ptr_val, has_ty, WT, RattleType, Struct, Shape, within, Valss, Ptr, RawPtr, block_ptr, null_ptr, Item, Goal, Seq, Step, step, ‵, ◌$◌, fsplit, feq_l, feq_i, fjoin, fpick, fpack, move, drop, nothing, Logic, Ura}
 use mir.Syntax.{ty_ptr, ty_struct, tcons, tnil}
 use Rattle.std.proofs.alloc.Calls.{Al, α, Fits, handle_tells}
 use Rattle.std.proofs.ResultValues.{and_tt}
@@ -9,7 +10,6 @@ use denote.Ref.{NamedLft}
 use denote.Struct.Tuple.{Tuple, tuple_type}
 use denote.Struct.Declared.{shape as declared}
 use base.Fml.{fdead}
-use Rattle.std.proofs.Common.{Option, Some, None}
 use Rattle.fluent_loans.specs.Owned.{IsHeld}
 use Rattle.fluent_loans.specs.contracts.loans.Lifetime as M-type
 use Rattle.fluent_loans.specs.declared.loans.Lifetime.{Lifetime}
