@@ -1,80 +1,60 @@
-/* A bundle that is opened, given sources, asked many times and closed: each status by its cause, and memory that is refused
-   at each call in turn. Built with c/heap.c in it, so that nothing else of the program meets refused memory. */
-#include "fluent.h"
-#include <stdio.h>
-#include <stdlib.h>
+/* A bundle that is kept: each status by its cause, and memory that is refused at each call of its life in turn. */
+#include "check.h"
 
-/* How many more blocks there are: below 0, all that are asked for. */
-static long blocks = -1;
-
-/* How many blocks are taken and not given back. */
-static long taken;
-
-static void *malloc_or_not(size_t size) {
-    if (blocks >= 0 && blocks-- == 0)
-        return blocks = 0, (void *)NULL;
-    taken++;
-    return malloc(size);
-}
-
-static void *realloc_or_not(void *at, size_t size) {
-    if (blocks >= 0 && blocks-- == 0)
-        return blocks = 0, (void *)NULL;
-    return realloc(at, size);
-}
-
-static void free_one(void *at) {
-    taken--;
-    free(at);
-}
-
-#define malloc malloc_or_not
-#define realloc realloc_or_not
-#define free free_one
-#include "heap.c"
-#undef malloc
-#undef realloc
-#undef free
-
-#define TEXT(s) (const uint8_t *)(s), sizeof(s) - 1
-
-static int wrong;
-
-static void check(bool holds, const char *what) {
-    if (!holds) {
-        printf("wrong: %s\n", what);
-        wrong = 1;
-    }
-}
+static struct fluent_bundle bundle = FLUENT_CLOSED;
 
 /* Formats a message into 16 bytes, and compares its text. */
-static uint8_t format(struct fluent_bundle *bundle, const char *id, const char *text) {
+static uint8_t format(const char *id, const char *text) {
     uint8_t out[16], err[64];
     struct fluent_lengths lengths;
-    uint8_t status = fluent_format(bundle, (const uint8_t *)id, strlen(id), TEXT(""), TEXT(""), out, sizeof out, err,
+    uint8_t status = fluent_format(&bundle, (const uint8_t *)id, strlen(id), TEXT(""), TEXT(""), out, sizeof out, err,
                                    sizeof err, &lengths);
     if (status == FLUENT_OK)
         check(lengths.text == strlen(text) && !memcmp(out, text, lengths.text), id);
     return status;
 }
 
+/* Compares a text that a call gives by itself. */
+static uint8_t gives(uint8_t (*call)(struct fluent_bundle *, uint8_t *, size_t, size_t *), const char *text) {
+    uint8_t out[64];
+    size_t length;
+    uint8_t status = call(&bundle, out, sizeof out, &length);
+    if (status == FLUENT_OK)
+        check(length == strlen(text) && !memcmp(out, text, length), text);
+    return status;
+}
+
 #define FIRST TEXT("a = { 1 }{ b }\nb = B\n")
 #define SECOND TEXT("b = again\nc = { b } and { b }\n")
+#define RULES TEXT("one: i = 1 and v = 0; other:"), TEXT("few: n % 10 = 3; other:")
 
-/* All calls of a bundle's life; the first status from 2 on ends it. */
-static uint8_t live(bool isolate) {
-    struct fluent_bundle bundle = FLUENT_CLOSED;
-    uint8_t status = fluent_open(&bundle, TEXT("pt-AO"), isolate);
+/* All calls of a bundle's life; the first status from 1 on ends it. */
+static uint8_t live(bool by_rules) {
+    uint8_t status = by_rules ? fluent_open_rules(&bundle, RULES, true) : fluent_open(&bundle, TEXT("pt-AO"), false);
+    if (!status)
+        status = fluent_set_limit(&bundle, 2);
     if (!status)
         status = fluent_add(&bundle, FIRST);
     if (!status)
-        status = format(&bundle, "a", isolate ? "\xe2\x81\xa8" "1\xe2\x81\xa9" "B" : "1B");
+        status = format("a", by_rules ? "\xe2\x81\xa8" "1\xe2\x81\xa9" "B" : "1B");
     if (!status)
         status = fluent_add(&bundle, SECOND);
     if (!status)
-        status = format(&bundle, "b", "B");
-    if (!status && !isolate)
-        status = format(&bundle, "c", "B and B");
+        status = gives(fluent_report, "1: Attempt to override an existing message: \"b\".\n");
+    if (!status)
+        status = gives(fluent_ids, "a\nb\nc\n");
+    if (!status)
+        status = fluent_has(&bundle, TEXT("c"));
+    if (!status)
+        status = fluent_find(&bundle, TEXT("c"), TEXT(""));
+    if (!status)
+        status = format("c", "B and B");
+    if (!status)
+        status = fluent_add_overriding(&bundle, TEXT("b = O\n?\n"));
+    if (!status)
+        status = gives(fluent_report, "2: unreadable entry at bytes 6..8\n");
+    if (!status)
+        status = format("c", "O and O");
     fluent_close(&bundle);
     check(!bundle.is_open, "open after it was closed");
     fluent_close(&bundle);
@@ -82,46 +62,119 @@ static uint8_t live(bool isolate) {
     return status;
 }
 
-static void by_cause(void) {
-    struct fluent_bundle bundle = FLUENT_CLOSED;
-    check(fluent_add(&bundle, FIRST) == FLUENT_CLOSED_BUNDLE, "adds to nothing");
-    check(format(&bundle, "a", "") == FLUENT_CLOSED_BUNDLE, "formats of nothing");
-    check(fluent_has(&bundle, TEXT("a")) == FLUENT_CLOSED_BUNDLE, "finds in nothing");
+static void closed(void) {
+    for (int turn = 0; turn < 2; turn++) {
+        check(fluent_add(&bundle, FIRST) == FLUENT_CLOSED_BUNDLE, "adds to nothing");
+        check(fluent_add_overriding(&bundle, FIRST) == FLUENT_CLOSED_BUNDLE, "overrides in nothing");
+        check(format("a", "") == FLUENT_CLOSED_BUNDLE, "formats of nothing");
+        check(fluent_has(&bundle, TEXT("a")) == FLUENT_CLOSED_BUNDLE, "has in nothing");
+        check(fluent_find(&bundle, TEXT("a"), TEXT("")) == FLUENT_CLOSED_BUNDLE, "finds in nothing");
+        fluent_close(&bundle);
+        check(live(false) == FLUENT_OK, "can't be opened");
+    }
+}
+
+static void opened(void) {
     check(fluent_open(&bundle, TEXT("xx"), false) == FLUENT_NO_LANGUAGE, "opens no language");
-    check(fluent_open(&bundle, TEXT("\xff"), false) == FLUENT_LANGUAGE_NOT_UTF8, "opens what is not UTF-8");
+    check(!bundle.is_open, "open for no language");
     check(fluent_open(&bundle, TEXT("en"), false) == FLUENT_OK, "does not open");
+    check(fluent_add(&bundle, FIRST) == FLUENT_OK, "does not add");
     check(fluent_open(&bundle, TEXT("en"), false) == FLUENT_OPEN_BUNDLE, "opens twice");
-    check(fluent_add(&bundle, TEXT("a = \xff")) == FLUENT_SOURCE_NOT_UTF8, "adds what is not UTF-8");
-    check(fluent_has(&bundle, TEXT("a")) == FLUENT_NO_MESSAGE, "has what was not added");
-    check(fluent_add(&bundle, TEXT("??\na = A text that is longer than its buffer\n")) == FLUENT_OK, "does not add");
-    check(fluent_has(&bundle, TEXT("a")) == FLUENT_OK, "has not what was added");
-    check(fluent_has(&bundle, TEXT("\xff")) == FLUENT_ID_NOT_UTF8, "has what is not UTF-8");
-    check(format(&bundle, "a", "") == FLUENT_TOO_SMALL, "formats into a buffer that is too small");
-    check(format(&bundle, "c", "") == FLUENT_NO_MESSAGE, "formats what is not there");
-    check(format(&bundle, "\xff", "") == FLUENT_ID_NOT_UTF8, "formats what is not UTF-8");
+    check(fluent_open(&bundle, TEXT("xx"), false) == FLUENT_OPEN_BUNDLE, "opens twice, for no language");
+    check(format("a", "1B") == FLUENT_OK, "is not as it was");
     fluent_close(&bundle);
 }
 
-static void refuse_in_turn(void) {
-    long refused = 0;
-    for (;; refused++) {
-        blocks = refused;
-        uint8_t status = live(false);
-        bool is_enough = status == FLUENT_OK;
-        blocks = -1;
-        if (is_enough)
-            break;
-        check(status == FLUENT_NO_MEMORY, "refused memory gives another status");
+static void asked(void) {
+    check(fluent_open(&bundle, TEXT("en"), false) == FLUENT_OK, "does not open");
+    check(fluent_has(&bundle, TEXT("a")) == FLUENT_NO_MESSAGE, "has what was not added");
+    check(fluent_add(&bundle, TEXT("??\na = A text that is longer than its buffer\n")) == FLUENT_OK, "does not add");
+    check(fluent_has(&bundle, TEXT("a")) == FLUENT_OK, "has not what was added");
+    check(format("a", "") == FLUENT_TOO_SMALL, "formats into a buffer that is too small");
+    check(format("c", "") == FLUENT_NO_MESSAGE, "formats what is not there");
+    fluent_close(&bundle);
+}
+
+static void looked_for(void) {
+    check(fluent_open(&bundle, TEXT("en"), false) == FLUENT_OK, "does not open");
+    check(fluent_add(&bundle, TEXT("a = A\nb =\n    .c = C\n-t = T\n    .c = C\n")) == FLUENT_OK, "does not add");
+    check(fluent_find(&bundle, TEXT("a"), TEXT("")) == FLUENT_OK, "a value");
+    check(fluent_find(&bundle, TEXT("b"), TEXT("c")) == FLUENT_OK, "an attribute");
+    check(fluent_find(&bundle, TEXT("b"), TEXT("")) == FLUENT_NO_MESSAGE, "a message without a value");
+    check(fluent_find(&bundle, TEXT("b"), TEXT("d")) == FLUENT_NO_MESSAGE, "an attribute that is not there");
+    check(fluent_find(&bundle, TEXT("t"), TEXT("")) == FLUENT_NO_MESSAGE, "a term");
+    check(fluent_find(&bundle, TEXT("t"), TEXT("c")) == FLUENT_NO_MESSAGE, "an attribute of a term");
+    fluent_close(&bundle);
+}
+
+static void with_limits(void) {
+    check(fluent_set_limit(&bundle, 1) == FLUENT_CLOSED_BUNDLE, "a limit of nothing");
+    check(fluent_open(&bundle, TEXT("en"), false) == FLUENT_OK, "does not open");
+    check(fluent_add(&bundle, TEXT("a = { 1 }{ 2 }{ 3 }\n")) == FLUENT_OK, "does not add");
+    check(format("a", "123") == FLUENT_OK, "at first");
+    check(fluent_set_limit(&bundle, 2) == FLUENT_OK && format("a", "12") == FLUENT_OK, "two placeables");
+    check(fluent_set_limit(&bundle, 0) == FLUENT_OUT_OF_RANGE, "none");
+    check(fluent_set_limit(&bundle, 10001) == FLUENT_OUT_OF_RANGE, "one too many");
+    check(fluent_set_limit(&bundle, SIZE_MAX) == FLUENT_OUT_OF_RANGE, "very many");
+    check(format("a", "12") == FLUENT_OK, "is not as it was");
+    check(fluent_set_limit(&bundle, 1) == FLUENT_OK && format("a", "1") == FLUENT_OK, "one placeable");
+    check(fluent_set_limit(&bundle, 10000) == FLUENT_OK && format("a", "123") == FLUENT_OK, "the most");
+    fluent_close(&bundle);
+}
+
+/* What a plural form of 2 and an ordinal of 2 are by some rules. */
+static uint8_t try_rules(const char *cardinal, const char *ordinal, const char *shown) {
+    uint8_t status = fluent_open_rules(&bundle, (const uint8_t *)cardinal, strlen(cardinal), (const uint8_t *)ordinal,
+                                       strlen(ordinal), false);
+    check(bundle.is_open == (status == FLUENT_OK), "whether it is open");
+    if (bundle.is_open) {
+        check(fluent_add(&bundle, TEXT("a = { 2 ->\n    [few] few\n   *[other] other\n }{ NUMBER(2, type: \"ordinal\") ->"
+                                       "\n    [two] nd\n   *[other] th\n }\n")) == FLUENT_OK, "does not add");
+        check(format("a", shown) == FLUENT_OK, "does not format");
+        check(fluent_open_rules(&bundle, TEXT("?"), TEXT(""), false) == FLUENT_OPEN_BUNDLE, "opens twice");
     }
-    check(refused > 10, "memory is hardly asked for");
+    fluent_close(&bundle);
+    return status;
+}
+
+static void by_rules(void) {
+    check(try_rules("few: n = 2; other:", "two: n = 2; other:", "fewnd") == FLUENT_OK, "two texts of rules");
+    check(try_rules("", "", "otherth") == FLUENT_OK, "no rules");
+    check(try_rules("few: n = ", "", "") == FLUENT_BAD_RULES, "cardinal rules that can't be read");
+    check(try_rules("", "two", "") == FLUENT_BAD_RULES, "ordinal rules that can't be read");
+    check(try_rules("\xff", "", "") == FLUENT_LANGUAGE_NOT_UTF8, "cardinal rules that are not UTF-8");
+    check(try_rules("", "\xff", "") == FLUENT_LANGUAGE_NOT_UTF8, "ordinal rules that are not UTF-8");
+}
+
+static void lived(void) {
+    check(live(false) == FLUENT_OK && live(true) == FLUENT_OK, "another status");
+}
+
+/* Refuses the first block, then the second, .., until there are enough. */
+static void refuse_in_turn(bool by_rules) {
+    long refused = 0;
+    for (uint8_t status = FLUENT_NO_MEMORY; status == FLUENT_NO_MEMORY; refused++) {
+        blocks = refused;
+        status = live(by_rules);
+        blocks = -1;
+        check(status == FLUENT_NO_MEMORY || status == FLUENT_OK, "refused memory gives another status");
+    }
+    check(refused > 50, "memory is hardly asked for");
+}
+
+static void refused(void) {
+    refuse_in_turn(false);
+    refuse_in_turn(true);
 }
 
 int main(void) {
-    by_cause();
-    check(live(false) == FLUENT_OK && live(true) == FLUENT_OK, "another status");
-    refuse_in_turn();
-    for (int i = 0; i < 2000; i++)
-        check(live(false) == FLUENT_OK, "another status after many");
-    printf("%s\n", wrong ? "WRONG" : "all calls answer as they should, and all memory is given back");
-    return wrong;
+    run("a closed bundle", closed);
+    run("a bundle is opened", opened);
+    run("a bundle is asked", asked);
+    run("values and attributes are looked for", looked_for);
+    run("limits of placeables", with_limits);
+    run("plural rules as texts", by_rules);
+    run("a bundle's life", lived);
+    run("memory is refused", refused);
+    return finish();
 }

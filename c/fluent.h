@@ -1,9 +1,10 @@
 /* Fluent for C: messages of one source, or of a bundle that is kept, formatted as the proved crates below say.
 
-   Texts are UTF-8, each by where it begins and how many bytes it has; a zero byte is a byte like any other. No pointer is
-   null, also of an empty text or buffer. What is written lies apart from all else that is handed over. A call keeps none of
-   the memory that it was given: a bundle has copies of its sources. Memory is taken by malloc and realloc and given back by
-   free, all of it before a call ends, but for that of a bundle, which fluent_close gives back. Calls in several threads at
+   Texts are UTF-8, each by where it begins and how many bytes it has; a zero byte is a byte like any other. A pointer to a
+   text or a buffer may be null where that has no bytes. Every other null pointer, as to a bundle or to lengths, is the
+   caller's fault, and no call looks for it. What is written lies apart from all else that is handed over. A call keeps none
+   of the memory that it was given: a bundle has copies of its sources. Memory is taken by malloc and realloc and given back
+   by free, all of it before a call ends, but for that of a bundle, which fluent_close gives back. Calls in several threads at
    once have nothing in common; a bundle is asked by one thread at a time (tried, and not proved). No call belongs into a
    signal handler. */
 #ifndef FLUENT_H
@@ -16,21 +17,22 @@
 extern "C" {
 #endif
 
-/* What a call answers. From FLUENT_NO_MEMORY on no buffer is written, and both lengths are 0. */
+/* What a call answers. From FLUENT_NO_MEMORY on no buffer is written, and each length is 0. */
 enum fluent_status {
     FLUENT_OK = 0,                    /* the text and the lines of its errors are in their buffers */
     FLUENT_TOO_SMALL = 1,             /* the lengths are written; a buffer that is too small for its text is as it was */
     FLUENT_NO_MEMORY = 2,             /* malloc or realloc answered null */
     FLUENT_SOURCE_NOT_UTF8 = 3,       /* told before any memory is taken */
-    FLUENT_LANGUAGE_NOT_UTF8 = 4,
+    FLUENT_LANGUAGE_NOT_UTF8 = 4,     /* the tag, or a text of plural rules */
     FLUENT_NO_LANGUAGE = 5,           /* the Unicode CLDR has no plural rules for the tag */
-    FLUENT_BAD_RULES = 6,             /* its rules can't be read */
+    FLUENT_BAD_RULES = 6,             /* the plural rules can't be read */
     FLUENT_ID_NOT_UTF8 = 7,           /* the id, or the name of the attribute */
     FLUENT_NO_MESSAGE = 8,            /* no such message with a value, or with that attribute */
     FLUENT_ARGUMENTS_CUT = 9,         /* the arguments are cut short, or begin with no kind of value */
     FLUENT_ARGUMENTS_NOT_UTF8 = 10,   /* the name or the value of one of them */
     FLUENT_CLOSED_BUNDLE = 11,        /* the bundle is not open */
-    FLUENT_OPEN_BUNDLE = 12           /* the bundle is open, and stays as it was */
+    FLUENT_OPEN_BUNDLE = 12,          /* the bundle is open, and stays as it was */
+    FLUENT_OUT_OF_RANGE = 13          /* the limit is 0 or above 10,000, and the bundle stays as it was */
 };
 
 /* How many bytes a text has, and the lines of its errors. */
@@ -66,17 +68,57 @@ struct fluent_bundle {
 /* Opens a bundle that is closed, for the plural rules of a language: FLUENT_OK, or it stays closed. */
 uint8_t fluent_open(struct fluent_bundle *bundle, const uint8_t *language, size_t language_length, bool isolate);
 
+/* Opens a bundle that is closed, for the plural rules of two texts, which are written as in the Unicode CLDR: a rule on each
+   line, such as "one: i = 1 and v = 0". A text may be empty: what no rule takes is "other". FLUENT_OK, or it stays closed. */
+uint8_t fluent_open_rules(struct fluent_bundle *bundle, const uint8_t *cardinal, size_t cardinal_length,
+                          const uint8_t *ordinal, size_t ordinal_length, bool isolate);
+
+/* Sets how many placeables one call opens, 1 to 10,000; a bundle opens with 100. FLUENT_OK or FLUENT_OUT_OF_RANGE. */
+uint8_t fluent_set_limit(struct fluent_bundle *bundle, size_t limit);
+
 /* Adds a source, of which the bundle takes a copy: FLUENT_OK, or nothing was added. What can't be read in it is passed over,
-   and so is a message whose id is there. */
+   and so is a message whose id is there; fluent_report tells what was passed over. */
 uint8_t fluent_add(struct fluent_bundle *bundle, const uint8_t *source, size_t source_length);
+
+/* The same, but that its messages and terms take the place of what has their ids. */
+uint8_t fluent_add_overriding(struct fluent_bundle *bundle, const uint8_t *source, size_t source_length);
+
+/* Gives what was passed over in the source that was added last: a line for each part that can't be read, and then one for
+   each entry whose id was there, each with the number of its line in the source. The text is empty where all was added, and
+   before anything was. A call that adds and does not answer FLUENT_OK leaves it.
+
+   out      the text
+   length   how many bytes it has, so also how much room it needs */
+uint8_t fluent_report(struct fluent_bundle *bundle, uint8_t *out, size_t out_room, size_t *length);
+
+/* Gives the ids of all messages of the bundle in the order of their bytes, a line each, as fluent_report gives its text. */
+uint8_t fluent_ids(struct fluent_bundle *bundle, uint8_t *out, size_t out_room, size_t *length);
 
 /* Whether there is a message of the id: FLUENT_OK or FLUENT_NO_MESSAGE. */
 uint8_t fluent_has(struct fluent_bundle *bundle, const uint8_t *id, size_t id_length);
+
+/* Whether there is a message with a value, or with the attribute where the length of the attribute's name is not 0, so that
+   fluent_format has a text for it: FLUENT_OK or FLUENT_NO_MESSAGE. */
+uint8_t fluent_find(struct fluent_bundle *bundle, const uint8_t *id, size_t id_length, const uint8_t *attribute,
+                    size_t attribute_length);
 
 /* Formats the value of a message of the bundle, or its attribute, as fluent_format_source does. The bundle stays as it was. */
 uint8_t fluent_format(struct fluent_bundle *bundle, const uint8_t *id, size_t id_length, const uint8_t *attribute,
                       size_t attribute_length, const uint8_t *arguments, size_t arguments_length, uint8_t *out,
                       size_t out_room, uint8_t *err, size_t err_room, struct fluent_lengths *lengths);
+
+/* Formats the value of a message, or its attribute, by the first of some bundles that has it, as fluent_format of that one
+   does. All bundles stay as they were.
+
+   bundles     an array of them, each opened where it lies, of which bundles[0] is asked first
+   count       how many there are, which may be 0
+
+   FLUENT_ID_NOT_UTF8 is told before any bundle is asked. FLUENT_CLOSED_BUNDLE says that one which is not open stands before
+   the first that has the message, or anywhere where none has it, and FLUENT_NO_MESSAGE that all are open and none has it. */
+uint8_t fluent_format_chain(struct fluent_bundle *bundles, size_t count, const uint8_t *id, size_t id_length,
+                            const uint8_t *attribute, size_t attribute_length, const uint8_t *arguments,
+                            size_t arguments_length, uint8_t *out, size_t out_room, uint8_t *err, size_t err_room,
+                            struct fluent_lengths *lengths);
 
 /* Gives back all memory of the bundle, which is closed then. Nothing happens where it is closed. */
 void fluent_close(struct fluent_bundle *bundle);

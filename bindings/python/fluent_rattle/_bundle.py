@@ -1,95 +1,31 @@
 """A bundle: messages of one language, which are asked for by their ids."""
-import ctypes
+import operator
 import os
-import threading
-import weakref
 from decimal import Decimal
 from typing import Iterable, List, Mapping, Optional, Tuple, Union
 
-from ._library import Handle, Lengths, Status, load
-from ._texts import arguments, utf8
+from ._calls import Calls, fault
+from ._library import Status, load
+from ._texts import lent
 
 Args = Mapping[str, Union[str, int, float, Decimal]]
-
-# How many bytes a text, and the lines of its errors, have room for at the first try.
-ROOM = 256
-
-
-def _fault(status, missing):
-    """The exception of a status, where `missing` says what is not there."""
-    if status == Status.NO_MEMORY:
-        return MemoryError("libfluent got no memory")
-    if status in (Status.NO_MESSAGE, Status.NO_LANGUAGE):
-        return LookupError(missing)
-    if status == Status.CLOSED_BUNDLE:
-        return ValueError("the bundle is closed")
-    return RuntimeError(f"libfluent answers status {status}")
+Languages = Union[str, Iterable[str]]
+Library = Union[str, "os.PathLike[str]", None]
 
 
-def _close(library, handle, lock):
-    with lock:
-        library.fluent_close(ctypes.byref(handle))
+def _no_value(message_id):
+    return f"no message {message_id!r} with a value"
 
 
-class FluentBundle:
-    """Messages of one language. It is closed by close(), at the end of a `with`, or once nothing refers to it.
+def _no_attribute(message_id, name):
+    return f"no attribute {name!r} of a message {message_id!r}"
 
-    languages       tags such as "pt-PT": the first that has plural rules in the Unicode CLDR chooses the forms
-    use_isolating   whether placeables stand between U+2068 and U+2069, which keep texts of other directions apart
-    library         the path of libfluent.so; else FLUENT_LIBRARY names it, or it is in the package's folder
 
-    LookupError: none of the languages has plural rules. OSError: the library is not found.
+class Formats:
+    """What has messages that can be formatted, and is closed in the end."""
 
-    Calls from several threads wait for one another. Each call may raise MemoryError, where an allocation failed and the
-    bundle stays as it was, and ValueError, where the bundle is closed or a text has a lone surrogate.
-    """
-
-    def __init__(
-        self,
-        languages: Union[str, Iterable[str]],
-        use_isolating: bool = True,
-        *,
-        library: Union[str, "os.PathLike[str]", None] = None,
-    ) -> None:
-        tags = [languages] if isinstance(languages, str) else list(languages)
-        self._library = load(library)
-        self._handle = Handle()
-        self._at = ctypes.byref(self._handle)
-        # A handler of signals may run within a call, and call again in the same thread.
-        self._lock = threading.RLock()
-        self._closing = weakref.finalize(self, _close, self._library, self._handle, self._lock)
-        self._open(tags, bool(use_isolating))
-
-    def _open(self, tags, isolate):
-        for tag in tags:
-            sent = utf8(tag, "a language")
-            with self._lock:
-                status = self._library.fluent_open(self._at, sent, len(sent), isolate)
-            if status == Status.OK:
-                return
-            if status != Status.NO_LANGUAGE:
-                raise _fault(status, None)
-        raise LookupError(f"no plural rules for {', '.join(tags) or 'no language'}")
-
-    def add_resource(self, source: str) -> None:
-        """Adds the messages and terms of an FTL source. What can't be read in it is passed over, and so is an entry whose
-        id is there."""
-        sent = utf8(source, "a source")
-        with self._lock:
-            status = self._library.fluent_add(self._at, sent, len(sent))
-        if status != Status.OK:
-            raise _fault(status, None)
-
-    def has_message(self, message_id: str) -> bool:
-        """Whether there is a message of the id, also one without a value."""
-        sent = utf8(message_id, "an id")
-        with self._lock:
-            status = self._library.fluent_has(self._at, sent, len(sent))
-        if status == Status.NO_MESSAGE:
-            return False
-        if status != Status.OK:
-            raise _fault(status, None)
-        return True
+    def _format(self, message_id, attribute, args, missing):
+        raise NotImplementedError
 
     def format_value(self, message_id: str, args: Optional[Args] = None) -> Tuple[str, List[str]]:
         """The text of a message's value, and a line for each error in it: a text is given whatever went wrong.
@@ -97,41 +33,134 @@ class FluentBundle:
         Numbers are sent with the digits that str() gives them, so that a float 1.0 and a Decimal 1.0 keep their zero.
         LookupError: there is no such message, or it has no value. ValueError: a number is not finite.
         """
-        return self._format(message_id, "", args, f"no message {message_id!r} with a value")
+        return self._format(message_id, "", args, _no_value(message_id))
 
     def format_attribute(self, message_id: str, name: str, args: Optional[Args] = None) -> Tuple[str, List[str]]:
         """The same for an attribute of a message. LookupError: it is not there."""
-        missing = f"no attribute {name!r} of a message {message_id!r}"
+        missing = _no_attribute(message_id, name)
         if name == "":
             raise LookupError(missing)
         return self._format(message_id, name, args, missing)
 
-    def _format(self, message_id, name, args, missing):
-        message_id, name = utf8(message_id, "an id"), utf8(name, "the name of an attribute")
-        sent, lengths = arguments(args), Lengths()
-        text_room = errors_room = ROOM
-        while True:
-            text, errors = (ctypes.c_char * text_room)(), (ctypes.c_char * errors_room)()
-            with self._lock:
-                status = self._library.fluent_format(
-                    self._at, message_id, len(message_id), name, len(name), sent, len(sent), text, text_room, errors,
-                    errors_room, lengths)
-            if status == Status.OK:
-                lines = errors[: lengths.errors].decode("utf-8").split("\n")[:-1]
-                return text[: lengths.text].decode("utf-8"), lines
-            if status != Status.TOO_SMALL:
-                raise _fault(status, missing)
-            text_room, errors_room = max(text_room, lengths.text), max(errors_room, lengths.errors)
-
     def close(self) -> None:
-        """Gives back the memory of the bundle, which can't be asked any more. Closing it again does nothing."""
-        self._closing()
+        raise NotImplementedError
 
-    def __enter__(self) -> "FluentBundle":
+    def __enter__(self):
         return self
 
     def __exit__(self, *_: object) -> None:
         self.close()
 
     def __reduce__(self):
-        raise TypeError("a bundle is neither copied nor pickled")
+        raise TypeError("bundles are neither copied nor pickled")
+
+
+class FluentBundle(Formats):
+    """Messages of one language. It is closed by close(), at the end of a `with`, or once nothing refers to it.
+
+    languages         tags such as "pt-PT": the first that has plural rules in the Unicode CLDR chooses the forms
+    use_isolating     whether placeables stand between U+2068 and U+2069, which keep texts of other directions apart
+    placeable_limit   how many placeables a text may have before it ends, from 1 to 10000; else it is 100
+    library           the path of libfluent.so; else FLUENT_LIBRARY names it, or it is in the package's folder
+
+    LookupError: none of the languages has plural rules. ValueError: there is no such limit. OSError: the library is not
+    found.
+
+    Calls from several threads wait for one another. Each call may raise MemoryError, where an allocation failed and the
+    bundle stays as it was, and ValueError, where the bundle is closed or a text has a lone surrogate.
+    """
+
+    def __init__(
+        self,
+        languages: Languages,
+        use_isolating: bool = True,
+        *,
+        placeable_limit: Optional[int] = None,
+        library: Library = None,
+    ) -> None:
+        tags = [languages] if isinstance(languages, str) else list(languages)
+        self._calls, self._index = Calls(load(library), 1), 0
+        self._open(tags, use_isolating)
+        self._limit(placeable_limit)
+
+    @classmethod
+    def from_rules(
+        cls,
+        cardinal: str,
+        ordinal: str = "",
+        use_isolating: bool = True,
+        *,
+        placeable_limit: Optional[int] = None,
+        library: Library = None,
+    ) -> "FluentBundle":
+        """A bundle whose plural forms are chosen by the texts of rules, as the Unicode CLDR has them, with ';' between them:
+        "one: n = 1; other:". Without rules, each number is `other`. ValueError: they can't be read."""
+        made = cls._at(Calls(load(library), 1), 0)
+        rules = *lent(cardinal, "a text of rules"), *lent(ordinal, "a text of rules")
+        made._calls.make("fluent_open_rules", 0, *rules, bool(use_isolating))
+        made._limit(placeable_limit)
+        return made
+
+    @classmethod
+    def _at(cls, calls, index):
+        """The bundle of a handle that is closed."""
+        made = cls.__new__(cls)
+        made._calls, made._index = calls, index
+        return made
+
+    def _open(self, tags, use_isolating):
+        for tag in tags:
+            sent = lent(tag, "a language")
+            status = self._calls.status("fluent_open", self._index, *sent, bool(use_isolating))
+            if status == Status.OK:
+                return
+            if status != Status.NO_LANGUAGE:
+                raise fault(status, None)
+        raise LookupError(f"no plural rules for {', '.join(tags) or 'no language'}")
+
+    def _limit(self, limit):
+        if limit is None:
+            return
+        # More than a size_t holds would come as another number.
+        if not 0 <= operator.index(limit) < 2**32:
+            raise fault(Status.OUT_OF_RANGE, None)
+        self._calls.make("fluent_set_limit", self._index, limit)
+
+    def add_resource(self, source: str, allow_overrides: bool = False) -> List[str]:
+        """Adds the messages and terms of an FTL source. What can't be read in it is passed over, and so is an entry whose
+        id is there: a line tells of each, with the number of its line in the source before it. With allow_overrides entries
+        take the place of what has their ids."""
+        sent = lent(source, "a source")
+        with self._calls.lock:
+            self._calls.make("fluent_add_overriding" if allow_overrides else "fluent_add", self._index, *sent)
+            return self._calls.lines("fluent_report", self._index)
+
+    def message_ids(self) -> List[str]:
+        """The ids of all messages, in the order of their characters."""
+        return self._calls.lines("fluent_ids", self._index)
+
+    def _is_there(self, name, *words):
+        status = self._calls.status(name, self._index, *words)
+        if status not in (Status.OK, Status.NO_MESSAGE):
+            raise fault(status, None)
+        return status == Status.OK
+
+    def has_message(self, message_id: str) -> bool:
+        """Whether there is a message of the id, also one without a value."""
+        return self._is_there("fluent_has", *lent(message_id, "an id"))
+
+    def has_value(self, message_id: str) -> bool:
+        """Whether there is a message of the id that has a value."""
+        return self._is_there("fluent_find", *lent(message_id, "an id"), b"", 0)
+
+    def has_attribute(self, message_id: str, name: str) -> bool:
+        """Whether there is a message of the id that has an attribute of the name."""
+        words = *lent(message_id, "an id"), *lent(name, "the name of an attribute")
+        return name != "" and self._is_there("fluent_find", *words)
+
+    def _format(self, message_id, attribute, args, missing):
+        return self._calls.format("fluent_format", self._index, (), message_id, attribute, args, missing)
+
+    def close(self) -> None:
+        """Gives back the memory of the bundle, which can't be asked any more. Closing it again does nothing."""
+        self._calls.status("fluent_close", self._index)

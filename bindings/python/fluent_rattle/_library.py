@@ -21,6 +21,7 @@ class Status(enum.IntEnum):
     ARGUMENTS_NOT_UTF8 = 10
     CLOSED_BUNDLE = 11
     OPEN_BUNDLE = 12
+    OUT_OF_RANGE = 13
 
 
 class Lengths(ctypes.Structure):
@@ -38,16 +39,23 @@ class Handle(ctypes.Structure):
 _BUNDLE = ctypes.POINTER(Handle)
 _TEXT = [ctypes.c_char_p, ctypes.c_size_t]
 _ROOM = [ctypes.c_void_p, ctypes.c_size_t]
+_LENGTH = ctypes.POINTER(ctypes.c_size_t)
+_FORMAT = [*_TEXT, *_TEXT, *_TEXT, *_ROOM, *_ROOM, ctypes.POINTER(Lengths)]
 
-_SIGNATURES = {
-    "fluent_open": (ctypes.c_uint8, [_BUNDLE, *_TEXT, ctypes.c_bool]),
-    "fluent_add": (ctypes.c_uint8, [_BUNDLE, *_TEXT]),
-    "fluent_has": (ctypes.c_uint8, [_BUNDLE, *_TEXT]),
-    "fluent_format": (
-        ctypes.c_uint8,
-        [_BUNDLE, *_TEXT, *_TEXT, *_TEXT, *_ROOM, *_ROOM, ctypes.POINTER(Lengths)],
-    ),
-    "fluent_close": (None, [_BUNDLE]),
+# What each call takes. All but fluent_close answer a status.
+SIGNATURES = {
+    "fluent_open": [_BUNDLE, *_TEXT, ctypes.c_bool],
+    "fluent_open_rules": [_BUNDLE, *_TEXT, *_TEXT, ctypes.c_bool],
+    "fluent_set_limit": [_BUNDLE, ctypes.c_size_t],
+    "fluent_add": [_BUNDLE, *_TEXT],
+    "fluent_add_overriding": [_BUNDLE, *_TEXT],
+    "fluent_report": [_BUNDLE, *_ROOM, _LENGTH],
+    "fluent_ids": [_BUNDLE, *_ROOM, _LENGTH],
+    "fluent_has": [_BUNDLE, *_TEXT],
+    "fluent_find": [_BUNDLE, *_TEXT, *_TEXT],
+    "fluent_format": [_BUNDLE, *_FORMAT],
+    "fluent_format_chain": [_BUNDLE, ctypes.c_size_t, *_FORMAT],
+    "fluent_close": [_BUNDLE],
 }
 
 
@@ -67,9 +75,9 @@ def path_of(given=None):
 @functools.lru_cache(maxsize=None)
 def _loaded(path):
     library = ctypes.CDLL(path)
-    for name, (answer, arguments) in _SIGNATURES.items():
+    for name, arguments in SIGNATURES.items():
         function = getattr(library, name)
-        function.restype = answer
+        function.restype = None if name == "fluent_close" else ctypes.c_uint8
         function.argtypes = arguments
     return library
 

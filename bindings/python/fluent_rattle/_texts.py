@@ -12,6 +12,12 @@ def utf8(text, what):
         raise ValueError(f"{what} has a lone surrogate at {error.start}") from None
 
 
+def lent(text, what):
+    """The bytes of a text, and how many they are."""
+    sent = utf8(text, what)
+    return sent, len(sent)
+
+
 def _digits(typed, number, what):
     """A number as it is typed; where it has an exponent and the library can hold it, by its digits alone."""
     if not number.is_finite():

@@ -1,6 +1,7 @@
-"""Reads fixtures, the files of crates/fluent_fixtures_run/data: docs/FIXTURES.md says what stands in them."""
+"""Reads fixtures, the files of crates/fluent_fixtures_run/data: FIXTURES.md beside that folder says what stands in them."""
 import re
 from dataclasses import dataclass, field, replace
+from typing import Optional
 
 SIGNS = "#= #< #+ #: #! #none #absent #attributes #junk #left #end #@ #--- #===".split()
 ESCAPE = re.compile(r"\\(?:u\{([0-9a-fA-F]+)\}|(.?))", re.DOTALL)
@@ -15,6 +16,10 @@ class Settings:
 
     isolating: bool = True
     language: str = "en"
+    # The cardinal and the ordinal rules that are set as texts, in place of those of the language.
+    cardinal: Optional[str] = None
+    ordinal: Optional[str] = None
+    limit: int = 100
     # What an object of the application's does: the library for C has none of these.
     objects: tuple = ()
 
@@ -26,11 +31,26 @@ class Settings:
 
 
 @dataclass
+class Source:
+    """A source, and what must be told of it: which bytes can't be read, and the ids of entries that are left."""
+
+    text: str = ""
+    junk: list = field(default_factory=list)
+    left: list = field(default_factory=list)
+    # Whether its entries take the place of what has their ids.
+    is_overriding: bool = False
+
+
+@dataclass
 class Bundle:
     settings: Settings
     sources: list = field(default_factory=list)
-    is_link: bool = False
-    is_overriding: bool = False
+    # In a chain, the link that is asked before this one.
+    before: Optional["Bundle"] = None
+
+    def links(self):
+        """The bundles of the chain that ends with this one, in order."""
+        return [*(self.before.links() if self.before else []), self]
 
 
 @dataclass
@@ -60,11 +80,13 @@ def set_by(settings, words):
     if word == "isolating":
         return replace(settings, isolating=rest == "on")
     if word == "plurals":
-        return replace(settings.without("cardinal", "ordinal"), language="en" if rest == "english" else rest)
+        return replace(settings, language="en" if rest == "english" else rest, cardinal=None, ordinal=None)
+    if word in ("cardinal", "ordinal"):
+        return replace(settings, **{word: rest})
+    if word == "limit":
+        return replace(settings, limit=int(rest))
     if words in ("functions none", "builtins on", "transform none", "formatter none"):
         return settings.without(word.rstrip("s"))
-    if words == "limit 100":
-        return settings.without("limit")
     if words in ("objects first", "objects last"):
         # Where they are last, the built-in function comes after the sources too.
         return settings.without(word).having("objects NUMBER") if rest == "last" else settings.without(word)
@@ -77,10 +99,9 @@ class Reader:
     def __init__(self, text):
         self.text = text
         self.rows = []
-        self.reports = 0
         self.above = ""
         self.bundle = Bundle(Settings())
-        self.start = 0
+        self.begin_source(0)
         place = 0
         for number, line in enumerate(text.split("\n"), 1):
             end = place + len(line) + 1
@@ -88,9 +109,14 @@ class Reader:
             place = end
         self.end_source(len(text))
 
+    def begin_source(self, start):
+        self.start = start
+        self.source = Source()
+        self.bundle.sources.append(self.source)
+
     def end_source(self, end):
         if self.start is not None:
-            self.bundle.sources.append(self.text[self.start:end])
+            self.source.text = self.text[self.start:end]
         self.start = None
 
     def take(self, number, line, start, end):
@@ -111,8 +137,10 @@ class Reader:
             self.end_source(max(start - 1, 0))
         elif sign == "#@":
             self.bundle.settings = set_by(self.bundle.settings, rest)
-        elif sign in ("#junk", "#left"):
-            self.reports += 1
+        elif sign == "#junk":
+            self.source.junk.append(tuple(map(int, rest.split(".."))))
+        elif sign == "#left":
+            self.source.left.append(rest)
         elif sign == "#+":
             self.rows[-1].text += "\n" + unescaped(rest)
         elif sign == "#!":
@@ -124,18 +152,15 @@ class Reader:
 
     def begin(self, sign, rest, end):
         self.above = ""
-        if sign == "#---":
-            self.bundle.is_overriding |= rest == "overriding"
-            self.start = end
-            return
         before = self.bundle
-        self.bundle = Bundle(before.settings)
-        self.bundle.is_link = rest == "chain"
-        if rest == "again":
-            self.bundle.sources = before.sources
-            self.bundle.is_overriding = before.is_overriding
+        if sign == "#---":
+            self.begin_source(end)
+            self.source.is_overriding = rest == "overriding"
+        elif rest == "again":
+            self.bundle = Bundle(before.settings, before.sources)
         else:
-            self.start = end
+            self.bundle = Bundle(before.settings, before=before if rest == "chain" else None)
+            self.begin_source(end)
 
     def call(self, number, sign, rest):
         bar = BAR.match(rest)

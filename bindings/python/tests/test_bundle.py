@@ -166,6 +166,43 @@ class Lookups(unittest.TestCase):
             with self.assertRaises(TypeError):
                 call()
 
+    def test_values_and_attributes(self):
+        made = bundle()
+        self.assertEqual([made.has_value(i) for i in ("hello", "only", "gone", "-term", "")],
+                         [True, False, False, False, False])
+        found = [made.has_attribute(*pair) for pair in (("mails", "title"), ("only", "title"), ("only", ""), ("a", "b"))]
+        self.assertEqual(found, [True, True, False, False])
+        self.assertIs(made.has_value("hello"), True)
+
+    def test_ids(self):
+        made = FluentBundle("en")
+        self.assertEqual(made.message_ids(), [])
+        made.add_resource(SOURCE)
+        made.add_resource("hello = again\nlater = l\n-other = t\n")
+        self.assertEqual(made.message_ids(), ["broken", "hello", "later", "mails", "only", "shown", "terms"])
+        made.add_resource("".join(f"message-{i} = m\n" for i in range(1_000)))
+        self.assertEqual(made.message_ids()[-4], "message-999")
+        self.assertEqual(len(made.message_ids()), 1_007)
+
+
+class Reports(unittest.TestCase):
+    def test_nothing(self):
+        self.assertEqual(FluentBundle("en").add_resource("a = A\n"), [])
+        self.assertEqual(FluentBundle("en").add_resource(""), [])
+
+    def test_what_is_not_read_or_left(self):
+        made = FluentBundle("en")
+        self.assertEqual(made.add_resource("a = A\n?? x\nb = {\na = again\n"), [
+            "2: unreadable entry at bytes 6..11", "3: unreadable entry at bytes 11..17",
+            '4: Attempt to override an existing message: "a".'])
+        self.assertEqual(made.add_resource("-a = term\n"), ['1: Attempt to override an existing term: "a".'])
+        self.assertEqual(made.add_resource("c = C\n"), [])
+
+    def test_many(self):
+        lines = FluentBundle("en").add_resource("a = A\n" * 1_001)
+        self.assertEqual(len(lines), 1_000)
+        self.assertEqual(lines[-1], '1001: Attempt to override an existing message: "a".')
+
 
 class Languages(unittest.TestCase):
     def test_the_first_that_has_rules(self):
@@ -180,24 +217,68 @@ class Languages(unittest.TestCase):
                 FluentBundle(languages)
 
 
+class Rules(unittest.TestCase):
+    SOURCE = "m = { $n ->\n [one] one\n [few] few\n *[other] other\n }\n" \
+             "o = { NUMBER($n, type: \"ordinal\") ->\n [two] nd\n *[other] th\n }\n"
+
+    def test_rules(self):
+        made = FluentBundle.from_rules("one: n = 1; few: n = 2..4; other:", "two: n = 2; other:")
+        made.add_resource(self.SOURCE)
+        self.assertEqual([made.format_value("m", {"n": n})[0] for n in (1, 3, 5)], ["one", "few", "other"])
+        self.assertEqual([made.format_value("o", {"n": n})[0] for n in (1, 2)], ["th", "nd"])
+        self.assertIsInstance(made, FluentBundle)
+
+    def test_no_rules(self):
+        made = FluentBundle.from_rules("", use_isolating=False, placeable_limit=2)
+        made.add_resource(self.SOURCE)
+        self.assertEqual(made.format_value("m", {"n": 1}), ("other", []))
+
+    def test_bad_rules(self):
+        for cardinal, ordinal in (("one", ""), ("one: n = ", ""), ("", "one: n = 1 and"), ("lots: n = 1", "")):
+            with self.assertRaisesRegex(ValueError, "can't be read"):
+                FluentBundle.from_rules(cardinal, ordinal)
+        for rules in ((LONE,), ("", LONE)):
+            with self.assertRaisesRegex(ValueError, "lone surrogate"):
+                FluentBundle.from_rules(*rules)
+
+
+class Limits(unittest.TestCase):
+    def test_a_limit(self):
+        source = "long = { 1 }{ 2 }{ 3 }\n"
+        for limit, text in ((1, "1"), (2, "12"), (3, "123"), (10_000, "123")):
+            made = FluentBundle("en", False, placeable_limit=limit)
+            made.add_resource(source)
+            errors = [] if text == "123" else ["Resolver error: Too many placeables"]
+            self.assertEqual(made.format_value("long"), (text, errors))
+
+    def test_no_such_limit(self):
+        for limit in (0, -1, 10_001, 2**64, 2**64 + 1):
+            with self.assertRaisesRegex(ValueError, "from 1 to 10000"):
+                FluentBundle("en", placeable_limit=limit)
+        for limit in ("1", 1.0):
+            with self.assertRaises(TypeError):
+                FluentBundle("en", placeable_limit=limit)
+
+
 class Ends(unittest.TestCase):
     def test_closed(self):
         made = bundle()
         made.close()
         made.close()
         for call in (lambda: made.add_resource(SOURCE), lambda: made.has_message("hello"),
-                     lambda: made.format_value("hello"), lambda: made.format_attribute("mails", "title")):
+                     lambda: made.format_value("hello"), lambda: made.format_attribute("mails", "title"),
+                     lambda: made.has_value("hello"), lambda: made.message_ids()):
             with self.assertRaisesRegex(ValueError, "the bundle is closed"):
                 call()
 
     def test_context(self):
         with bundle() as made:
             self.assertEqual(made.format_value("terms"), ("a term", []))
-        self.assertFalse(made._handle.is_open)
+        self.assertFalse(made._calls.handles[0].is_open)
 
     def test_garbage(self):
         made = bundle()
-        handle = made._handle
+        handle = made._calls.handles[0]
         made.itself = made
         self.assertTrue(handle.is_open)
         del made

@@ -10,33 +10,6 @@ from fluent_rattle._library import Handle, Lengths, Status, load
 
 from . import LIBRARY, TOP
 
-# Memory of which the next blocks can be counted, after which there is none; below 0, there is enough.
-HEAP = """\
-#include <stdlib.h>
-long blocks = -1, taken;
-static void *take(size_t size) {{
-    if (blocks == 0)
-        return NULL;
-    blocks -= blocks > 0;
-    taken++;
-    return malloc(size);
-}}
-static void *grow(void *at, size_t size) {{
-    if (blocks == 0)
-        return NULL;
-    blocks -= blocks > 0;
-    return realloc(at, size);
-}}
-static void give(void *at) {{
-    taken--;
-    free(at);
-}}
-#define malloc take
-#define realloc grow
-#define free give
-#include "{heap}"
-"""
-
 
 class Raw:
     """Calls of the library, by their statuses."""
@@ -168,22 +141,28 @@ class Stub:
     """A library that answers one status to all calls."""
 
     def __init__(self, status):
-        self.fluent_open = self.fluent_add = self.fluent_has = self.fluent_format = lambda *_: status
+        self.status = status
+
+    def __getattr__(self, _):
+        return lambda *_: self.status
 
 
 class OfThePackage(unittest.TestCase):
-    EXCEPTIONS = {Status.NO_MEMORY: MemoryError, Status.NO_LANGUAGE: LookupError, Status.CLOSED_BUNDLE: ValueError}
+    EXCEPTIONS = {Status.NO_MEMORY: MemoryError, Status.NO_LANGUAGE: LookupError, Status.CLOSED_BUNDLE: ValueError,
+                  Status.BAD_RULES: ValueError, Status.OUT_OF_RANGE: ValueError}
+    CALLS = [lambda b: b._open(["en"], True), lambda b: b._limit(1), lambda b: b.add_resource(""),
+             lambda b: b.message_ids(), lambda b: b.has_message("a"), lambda b: b.has_value("a"),
+             lambda b: b.format_value("a")]
 
     def test_each(self):
         for status in Status:
             if status in (Status.OK, Status.TOO_SMALL, Status.NO_MESSAGE):
                 continue
             bundle = FluentBundle("en")
-            bundle._library = Stub(status)
-            for call in (lambda: bundle._open(["en"], True), lambda: bundle.add_resource(""),
-                         lambda: bundle.has_message("a"), lambda: bundle.format_value("a")):
+            bundle._calls.library = Stub(status)
+            for call in self.CALLS:
                 with self.subTest(status=status), self.assertRaises(self.EXCEPTIONS.get(status, RuntimeError)):
-                    call()
+                    call(bundle)
 
 
 class NoMemory(unittest.TestCase):
@@ -193,13 +172,12 @@ class NoMemory(unittest.TestCase):
     def setUpClass(cls):
         folder = tempfile.TemporaryDirectory()
         cls.addClassCleanup(folder.cleanup)
-        made, source = (os.path.join(folder.name, name) for name in ("libfluent.so", "heap.c"))
-        with open(source, "w") as file:
-            file.write(HEAP.format(heap=TOP / "c/heap.c"))
-        calls = [f"-Wl,-u,fluent_{call}" for call in ("open", "add", "has", "format", "close")]
-        subprocess.run([os.environ.get("CC", "cc"), "-shared", "-fPIC", source, *calls, LIBRARY.with_suffix(".a"),
-                        "-o", made], check=True)
-        cls.path, library = made, ctypes.CDLL(made)
+        cls.path = os.path.join(folder.name, "libfluent.so")
+        wrapped = [f"-Wl,--wrap={name}" for name in ("malloc", "realloc", "free")]
+        whole = ["-Wl,--whole-archive", LIBRARY.with_suffix(".a"), "-Wl,--no-whole-archive"]
+        subprocess.run([os.environ.get("CC", "cc"), "-shared", "-fPIC", TOP / "c/blocks.c", *wrapped, *whole,
+                        "-o", cls.path], check=True)
+        library = ctypes.CDLL(cls.path)
         cls.blocks, cls.taken = ctypes.c_long.in_dll(library, "blocks"), ctypes.c_long.in_dll(library, "taken")
 
     def in_turn(self, call, check):
@@ -229,6 +207,7 @@ class NoMemory(unittest.TestCase):
         turns, answer = self.in_turn(lambda: bundle.format_value("b", {"x": "x", "n": 1}), there)
         self.assertGreater(turns, 0)
         self.assertEqual(answer, ("A\u2068x\u2069\u20681\u2069", []))
+        self.assertEqual(self.in_turn(bundle.message_ids, there)[1], ["a", "b"])
         self.assertGreater(self.taken.value, 0)
         bundle.close()
         self.assertEqual(self.taken.value, 0)

@@ -4,7 +4,7 @@ import resource
 import threading
 import unittest
 
-from fluent_rattle import FluentBundle
+from fluent_rattle import FluentBundle, FluentChain
 
 SOURCE = "m = { $n ->\n [one] one\n *[other] { $n } of { $who }\n }\n"
 TURNS = 2_000
@@ -60,6 +60,21 @@ class Threads(unittest.TestCase):
         works = [lambda who=who: ask(bundle, who) for who in ("a" * 9, "b" * 99, "c" * 999)]
         self.assertEqual(in_threads(*works, add), [])
         self.assertEqual(bundle.format_value("x299", {"n": 1}), ("one", []))
+
+    def test_a_chain(self):
+        chain = FluentChain(["pl", "en"], False)
+        polish, english = chain.bundles
+        english.add_resource(SOURCE)
+
+        def add():
+            for i in range(300):
+                told = polish.add_resource(f"x{i} = X\nx{i} = X\n")
+                if told != [f'2: Attempt to override an existing message: "x{i}".']:
+                    raise AssertionError(told)
+
+        works = [lambda who=who: ask(chain, who) for who in ("a" * 9, "b" * 99)]
+        self.assertEqual(in_threads(*works, lambda: ask(english, "c"), add), [])
+        self.assertEqual(len(polish.message_ids()), 300)
 
     def test_a_bundle_that_is_closed_meanwhile(self):
         bundle = FluentBundle("en", False)
