@@ -14,3 +14,5 @@ pub mod Marked
 pub mod Whole
 pub mod Quiet
 pub mod Readings
+pub mod AheadAlike
+pub mod EventsRun

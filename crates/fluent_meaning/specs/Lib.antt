@@ -7,6 +7,8 @@ pub mod Walk
 pub mod Meaning
 pub mod Limit
 pub mod Work
+pub mod Events
+pub mod Ahead
 pub mod Result
 pub mod Laws
 pub mod Users

@@ -8,6 +8,7 @@ ghost use Rattle.fluent_meaning.specs.Value.{Value};
 ghost use Rattle.fluent_meaning.specs.Bundle.{Entry};
 ghost use Rattle.fluent_meaning.specs.Marks.{MarksAreBalanced, TextsAreWhole, is_whole};
 ghost use Rattle.fluent_meaning.specs.Users.{IsMap, MeansOneThing, AddingKeeps, LastWins, CutsAlike, NothingIsSame, TermsAreClosed, ReachesLimitOnce, AlikeGiveTheSame, ReadsAsDefined};
+ghost use Rattle.fluent_meaning.specs.Ahead.{ComesByItself, EventsAreTheRun};
 ghost use Rattle.fluent_meaning.specs.Laws.{RunsByItself, CountsByItself, CallsByThemselves, NeverAdds, IsSettled, ReachesLimitBeyond, SameWithin, LimitBeginsBoth, WorkIsBounded};
 
 /// The work of each run is bounded by its limit.
@@ -32,6 +33,12 @@ pub fn budgets_pass_through<C>()
     ensures runs { RunsByItself C }
     ensures counts { CountsByItself C }
     ensures never_adds { NeverAdds C }
+{}
+
+/// What is ahead of a pattern is one walk over it, with itself below, and its events are those of the run.
+pub fn events_are_the_run<C>()
+    ensures by_itself { ComesByItself C }
+    ensures events { EventsAreTheRun C }
 {}
 
 /// What a scope's calls give, and a formatting call, stands beside the counts of the walk over its part.
