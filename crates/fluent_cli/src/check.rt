@@ -7,6 +7,7 @@ ghost use Rattle.fluent_cli.specs.Files.{entries_read};
 ghost use Rattle.fluent_cli.specs.Language.{bundle_view};
 
 use crate::answer::{Answer, Status};
+use crate::asking::{asking_in, parts_of};
 use crate::bundle::{Bundle, bundle_of_all};
 use crate::faults::{add_builtin, add_repeated, add_taken, add_unreadable, say_faults, spots_in};
 use crate::linted::add_linted;
@@ -38,12 +39,14 @@ fn add_silent<'s>(
     findings: &mut Vec<Finding<'s>>,
 ) -> Result<(), AllocError> {
     let asking = asking_of(alloc, bundle, places)?;
+    let parts = parts_of(alloc, asking.as_slice())?;
     for (place, spot) in places {
         let Some(pattern) = pattern_at(bundle, place) else {
             continue;
         };
         let mut kinds = Vec::new(alloc);
-        add_ungiven(asking.as_slice(), place, pattern, &mut kinds)?;
+        let asked = asking_in(alloc, asking.as_slice(), &parts, pattern)?;
+        add_ungiven(asked.as_slice(), place, pattern, &mut kinds)?;
         add_no_number(place, pattern, &mut kinds)?;
         if let Some(rules) = &rules {
             add_pattern(rules, place, pattern, &mut kinds)?;

@@ -3,6 +3,7 @@
 #![tactic(auto)]
 
 pub mod answer;
+mod asking;
 mod bundle;
 mod check;
 mod faults;

@@ -3,25 +3,26 @@
 ghost use Rattle.std.specs.Prelude.{◌≡◌, IfOk};
 
 use crate::answer::{Answer, Status};
-use crate::bundle::{Bundle, bundle_of_all};
+use crate::bundle::bundle_of_all;
 use crate::faults::{say_faults, spots_in};
 use crate::finding::Named;
-use crate::places::places_of;
+use crate::places::{asked_at, places_of};
 use crate::source::Sources;
-use fluent_lint::{Place, variables_of};
+use fluent_lint::{Asked, Place};
 use std::alloc::{AllocError, Global};
 
 /// Writes the line of a value or an attribute: its name, and the variables that it asks for.
 fn put_place<'s>(
-    alloc: Global,
-    bundle: &Bundle<'_, 's>,
+    asked: &Asked<'s>,
     place: &Place<'s>,
     text: &mut String,
 ) -> Result<(), AllocError> {
     let name = Named(*place);
     write!(text, "{name}")?;
-    for variable in &variables_of(alloc, bundle, place)? {
-        write!(text, " ${variable}")?;
+    if let Some(variables) = asked.of(place) {
+        for variable in variables.as_slice() {
+            write!(text, " ${variable}")?;
+        }
     }
     text.push_str("\n")
 }
@@ -33,8 +34,10 @@ pub(crate) fn list(alloc: Global, sources: &Sources<'_>) -> Result<Answer, Alloc
     let bundle = bundle_of_all(alloc, "en", sources.resources.as_slice())?;
     let spots = spots_in(alloc, sources)?;
     let mut output = String::new(alloc);
-    for (place, _) in &places_of(alloc, &bundle, spots.as_slice(), 0)? {
-        put_place(alloc, &bundle, place, &mut output)?;
+    let places = places_of(alloc, &bundle, spots.as_slice(), 0)?;
+    let asked = asked_at(alloc, &bundle, &places)?;
+    for (place, _) in &places {
+        put_place(&asked, place, &mut output)?;
     }
     let mut errors = String::new(alloc);
     say_faults(alloc, sources, &mut errors)?;

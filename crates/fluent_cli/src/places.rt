@@ -3,7 +3,7 @@ use crate::bundle::Bundle;
 use crate::source::Sources;
 use crate::spots::Spots;
 use fluent_lint::place::pattern_at;
-use fluent_lint::{LineColumn, Place};
+use fluent_lint::{Asked, LineColumn, Place, variables_at};
 use indexmap::IndexMap;
 use std::alloc::{AllocError, Global};
 
@@ -34,6 +34,19 @@ pub(crate) fn places_of<'s>(
         }
     }
     Ok(places)
+}
+
+/// The variables that these places ask for.
+pub(crate) fn asked_at<'s>(
+    alloc: Global,
+    bundle: &Bundle<'_, 's>,
+    places: &Places<'s>,
+) -> Result<Asked<'s>, AllocError> {
+    let mut list = Vec::new(alloc);
+    for (place, _) in places {
+        list.push(*place)?;
+    }
+    variables_at(alloc, bundle, list.as_slice())
 }
 
 /// The place of the value of the same entry.

@@ -1,9 +1,10 @@
 //! A translation against the files that it was made from.
 use crate::bundle::Bundle;
 use crate::finding::Kind;
-use crate::places::{Places, Spotted, value_of};
+use crate::places::{Places, Spotted, asked_at, value_of};
 use crate::report::Finding;
-use fluent_lint::{Place, variables_of};
+use fluent_lint::Place;
+use indexmap::IndexSet;
 use std::alloc::{AllocError, Global};
 
 /// A bundle with the places of its sources.
@@ -61,35 +62,49 @@ fn found<'s>(spot: &Spotted, kind: Kind<'s>) -> Finding<'s> {
     }
 }
 
-/// Whether a name is one of these.
-fn is_among(names: &[&str], name: &str) -> bool {
-    for one in names {
-        if *one == name {
-            return true;
-        }
-    }
-    false
-}
-
 /// Adds the variables that one of the two texts of a message asks for, and the other doesn't.
 fn add_variables<'s>(
-    alloc: Global,
-    reference: &Side<'_, '_, 's>,
-    translation: &Side<'_, '_, 's>,
+    asked: &IndexSet<&'s str>,
+    given: &IndexSet<&'s str>,
     place: &Place<'s>,
     spot: &Spotted,
     findings: &mut Vec<Finding<'s>>,
 ) -> Result<(), AllocError> {
-    let asked = variables_of(alloc, translation.bundle, place)?;
-    let given = variables_of(alloc, reference.bundle, place)?;
-    for name in &asked {
-        if !is_among(given.as_slice(), *name) {
+    for name in asked.as_slice() {
+        if !given.contains(name) {
             findings.push(found(spot, Kind::AsksFor(*name, *place)))?;
         }
     }
-    for name in &given {
-        if !is_among(asked.as_slice(), *name) {
+    for name in given.as_slice() {
+        if !asked.contains(name) {
             findings.push(found(spot, Kind::LeavesOut(*name, *place)))?;
+        }
+    }
+    Ok(())
+}
+
+/// Whether a place is one of a message that the reference has.
+fn is_compared<'s>(reference: &Side<'_, '_, 's>, place: &Place<'s>) -> bool {
+    match place {
+        Place::Message(..) => reference.places.contains_key(place),
+        Place::Term(..) => false,
+    }
+}
+
+/// Adds how the variables differ that messages of both sides ask for.
+fn add_all_variables<'s>(
+    alloc: Global,
+    reference: &Side<'_, '_, 's>,
+    translation: &Side<'_, '_, 's>,
+    findings: &mut Vec<Finding<'s>>,
+) -> Result<(), AllocError> {
+    let asked = asked_at(alloc, translation.bundle, translation.places)?;
+    let given = asked_at(alloc, reference.bundle, reference.places)?;
+    for (place, spot) in translation.places {
+        if is_compared(reference, place) {
+            if let (Some(asked), Some(given)) = (asked.of(place), given.of(place)) {
+                add_variables(asked, given, place, spot, findings)?;
+            }
         }
     }
     Ok(())
@@ -104,12 +119,5 @@ pub(crate) fn add_differences<'s>(
 ) -> Result<(), AllocError> {
     add_untranslated(reference, translation, findings)?;
     add_obsolete(reference, translation, findings)?;
-    for (place, spot) in translation.places {
-        if let Place::Message(..) = place {
-            if reference.places.contains_key(place) {
-                add_variables(alloc, reference, translation, place, spot, findings)?;
-            }
-        }
-    }
-    Ok(())
+    add_all_variables(alloc, reference, translation, findings)
 }

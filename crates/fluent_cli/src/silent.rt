@@ -10,7 +10,8 @@ use crate::parts::{Sought, has};
 use crate::places::Places;
 use fluent_bundle::ast::Pattern;
 use fluent_lint::place::pattern_at;
-use fluent_lint::{Place, variables_of};
+use fluent_lint::{Need, Place, needs};
+use indexmap::IndexSet;
 use std::alloc::{AllocError, Global};
 
 /// A variable that a term, or an attribute of it, shows.
@@ -18,6 +19,17 @@ use std::alloc::{AllocError, Global};
 pub(crate) struct Asking<'s> {
     pub term: Place<'s>,
     pub variable: &'s str,
+}
+
+/// The variables that a pattern names, each once.
+fn named_in<'s>(alloc: Global, pattern: &Pattern<'s>) -> Result<IndexSet<&'s str>, AllocError> {
+    let mut names: IndexSet<&'s str> = IndexSet::new(alloc);
+    for need in &needs(alloc, pattern)? {
+        if let Need::Variable(id) = need {
+            names.insert(id.name)?;
+        }
+    }
+    Ok(names)
 }
 
 /// Adds the variables that the pattern of a term shows.
@@ -32,7 +44,7 @@ fn add_asking<'s>(
     let Some(pattern) = pattern_at(bundle, term) else {
         return Ok(());
     };
-    for variable in &variables_of(alloc, bundle, term)? {
+    for variable in named_in(alloc, pattern)?.as_slice() {
         if has(pattern, &Sought::Variable(*variable)) {
             list.push(Asking {
                 term: *term,

@@ -1,18 +1,24 @@
 -- Variables are gathered from a place and the messages that it leads to.
-use Rattle.std.proofs.Common.{◌≡◌, ◌⊎◌, ◌∙◌, ℕ, zero, suc, ◌+◌, ◌<◌, ◌≤◌, List, [], ◌∷◌, ◌++◌, length, get_or, map, take, None, inl, inr, refl, sym, ap, subst, add-one, arith}
-use Rattle.std.specs.List.{AllByRecursion}
+use mathlib.Core.Bool.{true≢false}
+use Rattle.std.proofs.Common.{◌≡◌, ◌⊎◌, ◌∙◌, ◌||◌, if◌then◌else◌, Bool, true, false, ℕ, zero, suc, ◌+◌, ◌<◌, ◌≤◌, List, [], ◌∷◌, ◌++◌, length, get_or, map, take, None, inl, inr, refl, sym, ap, subst, add-one, arith}
+use Rattle.std.specs.List.{AllByRecursion, list_any}
 use Rattle.std.specs.Result.{OnOk}
 use Rattle.std.specs.Prelude.{Result}
-use Rattle.std.proofs.lemmas.List.{append_assoc, append-nil}
-use Rattle.fluent_tree.specs.Tree.{Text, Attribute, Pattern}
+use Rattle.std.specs.Bool.{Decides}
+use Rattle.std.specs.Borrow.{Bor}
+use Rattle.std.specs.Str.{bytes_eq}
+use Rattle.std.proofs.lemmas.Slice.Eq.{bytes_eq-Decides}
+use Rattle.indexmap.specs.IndexSet.{insert_key}
+use Rattle.std.proofs.lemmas.List.{append_assoc, append-nil, map-append}
+use Rattle.fluent_tree.specs.Tree.{Text, Attribute, Pattern, is_yes}
 use Rattle.fluent_meaning.specs.Bundle.{Target, unknown, without_value, found}
-use Rattle.fluent_clean.specs.Places.{Place, of_message, Names, place_target}
+use Rattle.fluent_clean.specs.Places.{Place, of_message, Names, place_target, place_same}
 use Rattle.fluent_clean.specs.Needs.{Need, a_message, a_term, a_function, a_variable, a_default, needs}
 use Rattle.fluent_clean.specs.Clean.{IsAmong, AsksFor, itself, by_message}
-use Rattle.fluent_lint.specs.Asked.{AsksForAt, AreAsked, AreDistinct}
+use Rattle.fluent_lint.specs.Asked.{AsksForAt, AreAsked, AreDistinct, texts}
 use Rattle.fluent_lint.specs.PlaceView.{pattern_in, place_view}
-use Rattle.fluent_lint.specs.Inside.Reached.{Adds, IsReference, NotesOf, needs_there, needs_at, IsThrough, Gathered}
-use Rattle.fluent_lint.proofs.Growing.{all_map, prefix, last_of, wider, at_last}
+use Rattle.fluent_lint.specs.Inside.Reached.{Adds, AddsNames, IsReference, NotesOf, TellsAll, needs_there, needs_at, IsThrough, Gathered}
+use Rattle.fluent_lint.proofs.Growing.{all_map, among_at, prefix, last_of, wider, at_last}
 use Rattle.fluent_lint.specs.NeedsView.{need_view}
 use Rattle.fluent_lint.specs.declared.listing.Need as code
 use Rattle.fluent_lint.specs.declared.place.Place as places
@@ -52,6 +58,67 @@ distinct_snoc x (y ∷ ys) new d = (
 pub adds_distinct : {A : Type 0} (x : A) (old new : List A) → Adds x old new → AreDistinct old → AreDistinct new
 adds_distinct x old new (inl h) d = subst AreDistinct (sym h.1) d
 adds_distinct x old new (inr h) d = subst AreDistinct (sym h.1) (distinct_snoc x old h.0 d)
+
+-- ---- one that is inserted into a set
+
+module _ {A B : Type 0} (f : A → B) (eq : A → A → Bool) (test : (a b : A) → Decides (eq a b) (f a ≡ f b)) where
+  among_head : (x y : A) (ys : List A) (b : Bool) → eq x y ≡ b → (list_any (eq x) ys ≡ true → IsAmong (f x) (map f ys)) → (b || list_any (eq x) ys) ≡ true → IsAmong (f x) (f y ∷ map f ys)
+  among_head x y ys true e rest h = inl ((test x y).0 e)
+  among_head x y ys false e rest h = inr (rest h)
+
+  pub found_among : (x : A) (ys : List A) → list_any (eq x) ys ≡ true → IsAmong (f x) (map f ys)
+  found_among x [] h = absurd (true≢false (sym h))
+  found_among x (y ∷ ys) h = among_head x y ys (eq x y) refl (found_among x ys) h
+
+  missing_head : (x y : A) (ys : List A) (b : Bool) → eq x y ≡ b → (list_any (eq x) ys ≡ false → IsAmong (f x) (map f ys) → ⊥) → (b || list_any (eq x) ys) ≡ false → IsAmong (f x) (f y ∷ map f ys) → ⊥
+  missing_head x y ys true e rest h among = true≢false h
+  missing_head x y ys false e rest h (inl same) = true≢false (sym ((test x y).1 same) ∙ e)
+  missing_head x y ys false e rest h (inr later) = rest h later
+
+  not_among : (x : A) (ys : List A) → list_any (eq x) ys ≡ false → IsAmong (f x) (map f ys) → ⊥
+  not_among x [] h among = among
+  not_among x (y ∷ ys) h among = missing_head x y ys (eq x y) refl (not_among x ys) h among
+
+  adds_by : (x : A) (old : List A) (b : Bool) → list_any (eq x) old ≡ b → Adds (f x) (map f old) (map f (if b then old else old ++ x ∷ []))
+  adds_by x old true e = inl (found_among x old e, refl)
+  adds_by x old false e = inr (not_among x old e, map-append f old (x ∷ []))
+
+  pub adds_inserted : (x : A) (old new : List A) → new ≡ insert_key eq old x → Adds (f x) (map f old) (map f new)
+  adds_inserted x old new e = subst (λ l. Adds (f x) (map f old) (map f l)) (sym e) (adds_by x old (list_any (eq x) old) refl)
+
+pub place_test : (a b : places.Place) → Decides (is_yes (place_same (place_view a) (place_view b))) (place_view a ≡ place_view b)
+place_test a b = by (place_same (place_view a) (place_view b))
+  where
+    by : (d : Dec (place_view a ≡ place_view b)) → Decides (is_yes d) (place_view a ≡ place_view b)
+    by (yes p) = (λ h. p, λ h. refl)
+    by (no other) = (λ h. absurd (true≢false (sym h)), λ h. absurd (other h))
+
+pub text_test : (a b : Bor Text) → Decides (bytes_eq a.now b.now) (a.now ≡ b.now)
+text_test a b = bytes_eq-Decides a.now b.now
+
+-- ---- names that are added
+
+pub added_none : (vs : List Text) → AddsNames [] vs vs
+added_none vs = record { kept = λ v h. h; named = λ v h. inl h; added = λ v h. absurd h; distinct = λ d. d }
+
+pub added_one : (all vs vs' vs'' : List Text) (v : Text) → AddsNames all vs vs' → Adds v vs' vs'' → AddsNames (all ++ v ∷ []) vs vs''
+added_one all vs vs' vs'' v h adds = record {
+  kept = λ w among. adds_kept v w vs' vs'' adds (h.kept w among);
+  named = λ w among. elim (adds_only v w vs' vs'' adds among) [
+    | inl there ↦ elim (h.named w there) [ inl old ↦ inl old | inr new ↦ inr (wider w v all new) ]
+    | inr same ↦ inr (subst (λ u. IsAmong u (all ++ v ∷ [])) (sym same) (at_last v all))
+  ];
+  added = λ w among. elim (last_of w v all among) [
+    | inl there ↦ adds_kept v w vs' vs'' adds (h.added w there)
+    | inr same ↦ subst (λ u. IsAmong u vs'') (sym same) (adds_here v vs' vs'' adds)
+  ];
+  distinct = λ d. adds_distinct v vs' vs'' adds (h.distinct d);
+}
+
+pub added_more : (items : List (Bor Text)) (i : ℕ) (d : Bor Text) (vs vs' vs'' : List Text) → i < length items → AddsNames (texts (take i items)) vs vs' → Adds (get_or items i d).now vs' vs'' → AddsNames (texts (take (i + 1) items)) vs vs''
+added_more items i d vs vs' vs'' h so_far adds =
+    let x = get_or items i d in
+    subst (λ all. AddsNames all vs vs'') (sym (prefix (λ b. b.now) items i x h (got_self items i d h))) (added_one (texts (take i items)) vs vs' vs'' x.now so_far adds)
 
 -- ---- the needs so far, and one more
 
@@ -164,6 +231,10 @@ asks_by named y v m a unknown e h asks = absurd h
 asks_by named y v m a without_value e h asks = absurd h
 asks_by named y v m a (found p) e h asks = (p, e, by_message m a h asks.1 asks.2)
 
+-- by a reference to a message that asks for it
+pub asks_through : (named : Names Text) (y z : Place) (v : Text) → IsReference (needs_at named y) z → AsksForAt named z v → AsksForAt named y v
+asks_through named y z v r asks = asks_by named y v r.0 r.1 (place_target named y) refl r.2 (subst (λ x. AsksForAt named x v) r.3 asks)
+
 next_all : {A B : Type 0} (P : B → Type 0) (f : A → B) (xs : List A) (rest : List B) (i : ℕ) (x : A) → i < length xs → x ≡ get_or xs i x → AllByRecursion P (take i (map f xs)) → P (f x) → AllByRecursion P (take (suc i) (map f xs ++ rest))
 next_all P f [] rest i x h is all p = absurd (omega arith)
 next_all P f (z ∷ zs) rest zero x h is all p = (subst (λ w. P (f w)) is p, tt)
@@ -184,7 +255,10 @@ gathered_more f named from i xs y xs' vs vs' h is old notes here =
         | inr new ↦ asks_here v (asks_itself named (f y) v (place_target named (f y)) refl new)
       ];
       through = rw add-one (subst (λ l. AllByRecursion (IsThrough named xs' vs') (take (suc i) l)) (sym notes.prefix.1)
-          (next_all (IsThrough named xs' vs') f xs notes.prefix.0 i y h is (all_map _ _ (take i (map f xs)) (λ x t. (λ z r. longer z (t.0 z r), λ v r. notes.kept v (t.1 v r))) old.through) (notes.messages, notes.variables)));
+          (next_all (IsThrough named xs' vs') f xs notes.prefix.0 i y h is (all_map _ _ (take i (map f xs)) (λ x t. elim t [
+            | inl goes ↦ inl (λ z r. longer z (goes.0 z r), λ v r. notes.kept v (goes.1 v r))
+            | inr told ↦ inr (λ v asks. notes.kept v (told v asks))
+          ]) old.through) (inl (notes.messages, notes.variables))));
       distinct = notes.distinct old.distinct;
     }
   where
@@ -192,6 +266,29 @@ gathered_more f named from i xs y xs' vs vs' h is old notes here =
     prepended x [] rest among = absurd among
     prepended x (z ∷ zs) rest (inl same) = inl same
     prepended x (z ∷ zs) rest (inr later) = inr (prepended x zs rest later)
+
+-- the same where all that a place asks for is known
+pub gathered_told : {A : Type 0} (f : A → Place) (named : Names Text) (from : Place) (i : ℕ) (xs : List A) (y : A) (xs' : List Place) (vs vs' : List Text) → i < length xs → y ≡ get_or xs i y
+    → Gathered named from i (map f xs) vs → TellsAll named (f y) (map f xs) xs' vs vs' → IsAmong (f y) (map f xs) → Gathered named from (i + 1) xs' vs'
+gathered_told f named from i xs y xs' vs vs' h is old tells here =
+    let adds = tells.1.2 in
+    let asked = tells.1.1 in record {
+      started = subst (IsAmong from) (sym tells.0) old.started;
+      leads = λ x among v asks. old.leads x (subst (IsAmong x) tells.0 among) v asks;
+      told = λ v among. elim (adds.named v among) [ inl there ↦ old.told v there | inr new ↦ old.leads (f y) here v ((asked v).0 new) ];
+      through = rw add-one (subst (λ l. AllByRecursion (IsThrough named xs' vs') (take (suc i) l)) (append-nil (map f xs) ∙ sym tells.0)
+          (next_all (IsThrough named xs' vs') f xs [] i y h is (all_map _ _ (take i (map f xs)) (λ x t. elim t [
+            | inl goes ↦ inl (λ z r. subst (IsAmong z) (sym tells.0) (goes.0 z r), λ v r. adds.kept v (goes.1 v r))
+            | inr told ↦ inr (λ v asks. adds.kept v (told v asks))
+          ]) old.through) (inr (λ v asks. adds.added v ((asked v).1 asks)))));
+      distinct = adds.distinct old.distinct;
+    }
+
+-- by what was noted
+pub gathered_on : {A : Type 0} (f : A → Place) (named : Names Text) (from : Place) (i : ℕ) (xs : List A) (y : A) (xs' : List Place) (vs vs' : List Text) → i < length xs → y ≡ get_or xs i y
+    → Gathered named from i (map f xs) vs → NotesOf (needs_at named (f y)) (map f xs) xs' vs vs' ⊎ TellsAll named (f y) (map f xs) xs' vs vs' → Gathered named from (i + 1) xs' vs'
+gathered_on f named from i xs y xs' vs vs' h is old (inl notes) = gathered_more f named from i xs y xs' vs vs' h is old notes (among_at f xs i y h is)
+gathered_on f named from i xs y xs' vs vs' h is old (inr tells) = gathered_told f named from i xs y xs' vs vs' h is old tells (among_at f xs i y h is)
 
 -- ---- at the end
 
@@ -201,9 +298,14 @@ one_of P (y ∷ ys) x (inl same) all = subst P (sym same) all.0
 one_of P (y ∷ ys) x (inr later) all = one_of P ys x later all.1
 
 all_told : (named : Names Text) (xs : List Place) (vs : List Text) (v : Text) → AllByRecursion (IsThrough named xs vs) xs → (p : Pattern) → AsksFor named v p → (y : Place) → IsAmong y xs → place_target named y ≡ found p → IsAmong v vs
-all_told named xs vs v all p (itself h) y among at = (one_of (IsThrough named xs vs) xs y among all).1 v (subst (λ t. IsAmong (a_variable v) (needs_there t)) (sym at) h)
-all_told named xs vs v all p (by_message m a h there asks) y among at =
-    all_told named xs vs v all _ asks (of_message m a) ((one_of (IsThrough named xs vs) xs y among all).0 (of_message m a) (m, a, subst (λ t. IsAmong (a_message m a) (needs_there t)) (sym at) h, refl)) there
+all_told named xs vs v all p (itself h) y among at = elim (one_of (IsThrough named xs vs) xs y among all) [
+  | inl goes ↦ goes.1 v (subst (λ t. IsAmong (a_variable v) (needs_there t)) (sym at) h)
+  | inr told ↦ told v (p, at, itself h)
+]
+all_told named xs vs v all p (by_message m a h there asks) y among at = elim (one_of (IsThrough named xs vs) xs y among all) [
+  | inl goes ↦ all_told named xs vs v all _ asks (of_message m a) (goes.0 (of_message m a) (m, a, subst (λ t. IsAmong (a_message m a) (needs_there t)) (sym at) h, refl)) there
+  | inr told ↦ told v (p, at, by_message m a h there asks)
+]
 
 map_length : {A B : Type 0} (f : A → B) (xs : List A) (i : ℕ) → length xs ≤ i → take i (map f xs) ≡ map f xs
 map_length f [] zero h = refl

@@ -8,3 +8,4 @@ pub mod CountedEnds
 pub mod PlaceLists
 pub mod LinesOn
 pub mod Gathering
+pub mod Shared

@@ -74,7 +74,7 @@ holds named limit seen known us ls told listing n (cause.Missing x) h = h
 holds named limit seen known us ls told listing n (cause.UnknownFunction id) h = h
 holds named limit seen known us ls told listing n cause.NoDefault h = h
 holds named limit seen known us ls told listing n (cause.Unclean x) h = (h.0, unknown_told named limit us ls known told (place_view x) h.1 h.2)
-holds named limit seen known us ls told listing n (cause.Elsewhere x) h = (h.0, λ among. none_known known (place_view x) h.1 (listing.listed (place_view x) among))
+holds named limit seen known us ls told listing n (cause.Elsewhere x) h = (h.0, h.1, λ among. none_known known (place_view x) h.2 (listing.listed (place_view x) among))
 
 answered : (named : Names Text) (limit : ℕ) (seen : List Place) (known : Known) (us : List Finding) (ls : List Large) (cs : List Cause) → AreTold named limit us ls known → IsListing seen known → (n : Need) → IsAnswered named known cs n
     → IsMet named n ⊎ ((c : Cause) × IsAmong c cs × Holds named seen us n c)

@@ -41,7 +41,7 @@ Holds named seen us n (cause.Missing x) = (place_of n ≡ Some (place_view x)) �
 Holds named seen us n (cause.UnknownFunction id) = (n ≡ a_function id.name.now) × (is_function (named id.name.now) ≡ false)
 Holds named seen us n cause.NoDefault = n ≡ a_default
 Holds named seen us n (cause.Unclean x) = (place_of n ≡ Some (place_view x)) × Reported us (place_view x)
-Holds named seen us n (cause.Elsewhere x) = (place_of n ≡ Some (place_view x)) × (IsAmong (place_view x) seen → ⊥)
+Holds named seen us n (cause.Elsewhere x) = (place_of n ≡ Some (place_view x)) × LeadsOn (place_target named (place_view x)) × (IsAmong (place_view x) seen → ⊥)
 
 -- Its pattern asks for something of which the cause holds.
 abbrev pub HoldsAt : Names Text → List Place → List Finding → Place → Cause → Type 0

@@ -6,4 +6,5 @@ pub mod EntryPlaces
 pub mod Laws
 pub mod Columns
 pub mod Asked
+pub mod Lists
 pub mod Inside

@@ -3,9 +3,9 @@ use Rattle.std.specs.Prelude.{◌≡◌, ◌⊎◌, ℕ, ◌<◌, List, [], ◌�
 use Rattle.std.specs.List.{AllByRecursion}
 use Rattle.fluent_tree.specs.Tree.{Text, Attribute, no_attribute, attribute}
 use Rattle.fluent_meaning.specs.Bundle.{unknown, without_value, message_target, term_target, is_message, is_term, is_function}
-use Rattle.fluent_clean.specs.Places.{Place, Names}
+use Rattle.fluent_clean.specs.Places.{Place, Names, place_target}
 use Rattle.fluent_clean.specs.Needs.{Need, a_message, a_term, a_function, a_default}
-use Rattle.fluent_clean.specs.Clean.{IsAmong, IsMet}
+use Rattle.fluent_clean.specs.Clean.{IsAmong, IsMet, LeadsOn}
 use Rattle.fluent_lint.specs.PlaceView.{place_view}
 use Rattle.fluent_lint.specs.Table.{CountsAs, place_of}
 use Rattle.fluent_lint.specs.Findings.{AsksAt, IsFine, views}
@@ -53,7 +53,7 @@ Says named seen told n (kind.UnknownTermAttribute id a) = (names : List Text) ×
 Says named seen told n (kind.UnknownFunction id) = (n ≡ a_function id.now) × (is_function (named id.now) ≡ false)
 Says named seen told n kind.NoDefault = n ≡ a_default
 Says named seen told n (kind.LeadsTo y) = (place_of n ≡ Some (place_view y)) × IsAmong (place_view y) told
-Says named seen told n (kind.Elsewhere y) = (place_of n ≡ Some (place_view y)) × (IsAmong (place_view y) seen → ⊥)
+Says named seen told n (kind.Elsewhere y) = (place_of n ≡ Some (place_view y)) × LeadsOn (place_target named (place_view y)) × (IsAmong (place_view y) seen → ⊥)
 Says named seen told n (kind.Cycle ys) = ⊥
 Says named seen told n (kind.TooManyPlaceables count limit) = ⊥
 

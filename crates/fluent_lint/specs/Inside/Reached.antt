@@ -1,18 +1,21 @@
 -- What is noted of places while variables are gathered.
 use Rattle.std.specs.Prelude.{◌≡◌, ◌⊎◌, ℕ, List, [], ◌∷◌, ◌++◌, take}
 use Rattle.std.specs.List.{AllByRecursion}
-use Rattle.std.specs.Borrow.{Bor}
-use Rattle.std.specs.declared.vec.Vec.{Vec}
-use Rattle.std.proofs.Common.{Global}
+use Rattle.std.specs.Borrow.{Bor, MutBor}
+use denote.Triple.Both.{Both}
+use Rattle.indexmap.specs.IndexSet.{IndexSet}
 use Rattle.fluent_tree.specs.Tree.{Text, Attribute}
 use Rattle.fluent_meaning.specs.Bundle.{Target, unknown, without_value, found}
 use Rattle.fluent_clean.specs.Places.{Place, of_message, Names, place_target}
 use Rattle.fluent_clean.specs.Needs.{Need, a_message, a_variable, needs}
 use Rattle.fluent_clean.specs.Clean.{IsAmong}
-use Rattle.fluent_lint.specs.Asked.{AsksForAt, AreDistinct, texts}
+use Rattle.fluent_lint.specs.Asked.{AsksForAt, AreAsked, AreDistinct, texts}
 use Rattle.fluent_lint.specs.Findings.{views}
 use Rattle.fluent_lint.specs.PlaceView.{place_view}
 use Rattle.fluent_lint.specs.declared.place.Place as code
+
+abbrev Change : Type 0 → Type 0
+Change A = Both (MutBor A) (MutBor A)
 
 -- it is added where it isn't there
 abbrev pub Adds : {A : Type 0} → A → List A → List A → Type 0
@@ -41,23 +44,48 @@ needs_there (found p) = needs p
 abbrev pub needs_at : Names Text → Place → List Need
 needs_at named x = needs_there (place_target named x)
 
--- ---- of the code's lists
+-- From names to others: these are added.
+pub record AddsNames (all vs vs' : List Text) : Type 0 where
+  pub kept : (v : Text) → IsAmong v vs → IsAmong v vs'
+  pub named : (v : Text) → IsAmong v vs' → IsAmong v vs ⊎ IsAmong v all
+  pub added : (v : Text) → IsAmong v all → IsAmong v vs'
+  pub distinct : AreDistinct vs → AreDistinct vs'
+
+-- No place is added, and all that a place asks for is.
+abbrev pub TellsAll : Names Text → Place → List Place → List Place → List Text → List Text → Type 0
+TellsAll named x xs xs' vs vs' = (xs' ≡ xs) × ((all : List Text) × AreAsked named x all × AddsNames all vs vs')
+
+-- ---- of the code's sets
 
 -- a place is added where it isn't there
-abbrev pub AddsPlace : code.Place → Vec code.Place Global → Vec code.Place Global → Type 0
-AddsPlace x old new = Adds (place_view x) (views old.items) (views new.items)
+abbrev pub AddsPlace : {S : Type 0} → code.Place → IndexSet code.Place S → IndexSet code.Place S → Type 0
+AddsPlace x old new = Adds (place_view x) (views old.keys) (views new.keys)
+
+-- so is a name
+abbrev pub AddsName : {S : Type 0} → Text → IndexSet (Bor Text) S → IndexSet (Bor Text) S → Type 0
+AddsName v old new = Adds v (texts old.keys) (texts new.keys)
+
+-- so is each of a set
+abbrev pub AddsAll : {S : Type 0} → IndexSet (Bor Text) S → IndexSet (Bor Text) S → IndexSet (Bor Text) S → Type 0
+AddsAll all old new = AddsNames (texts all.keys) (texts old.keys) (texts new.keys)
 
 -- the messages and the variables among these needs are added
-abbrev pub Notes : List Need → Vec code.Place Global → Vec code.Place Global → Vec (Bor Text) Global → Vec (Bor Text) Global → Type 0
-Notes ns xs xs' vs vs' = NotesOf ns (views xs.items) (views xs'.items) (texts vs.items) (texts vs'.items)
+abbrev pub Notes : {S T : Type 0} → List Need → IndexSet code.Place S → IndexSet code.Place S → IndexSet (Bor Text) T → IndexSet (Bor Text) T → Type 0
+Notes ns xs xs' vs vs' = NotesOf ns (views xs.keys) (views xs'.keys) (texts vs.keys) (texts vs'.keys)
 
 -- those among the needs of what stands at a place
-abbrev pub NotedAt : Names Text → code.Place → Vec code.Place Global → Vec code.Place Global → Vec (Bor Text) Global → Vec (Bor Text) Global → Type 0
-NotedAt named x xs xs' vs vs' = Notes (needs_at named (place_view x)) xs xs' vs vs'
+abbrev pub NotesPattern : {S T : Type 0} → Names Text → code.Place → Change (IndexSet code.Place S) → Change (IndexSet (Bor Text) T) → Type 0
+NotesPattern named x xs vs = Notes (needs_at named (place_view x)) xs.entry.now xs.exit.now vs.entry.now vs.exit.now
 
--- What stands at a place was gone through: its variables and its messages are there.
+-- those, or all that the place asks for
+abbrev pub NotedAt : {S T : Type 0} → Names Text → code.Place → IndexSet code.Place S → IndexSet code.Place S → IndexSet (Bor Text) T → IndexSet (Bor Text) T → Type 0
+NotedAt named x xs xs' vs vs' = Notes (needs_at named (place_view x)) xs xs' vs vs' ⊎ TellsAll named (place_view x) (views xs.keys) (views xs'.keys) (texts vs.keys) (texts vs'.keys)
+
+-- What stands at a place was gone through: its variables and its messages are there, or all that it asks for.
 abbrev pub IsThrough : Names Text → List Place → List Text → Place → Type 0
-IsThrough named xs vs y = ((x : Place) → IsReference (needs_at named y) x → IsAmong x xs) × ((v : Text) → IsAmong (a_variable v) (needs_at named y) → IsAmong v vs)
+IsThrough named xs vs y =
+    (((x : Place) → IsReference (needs_at named y) x → IsAmong x xs) × ((v : Text) → IsAmong (a_variable v) (needs_at named y) → IsAmong v vs))
+    ⊎ ((v : Text) → AsksForAt named y v → IsAmong v vs)
 
 -- From one place so many of these were gone through.
 pub record Gathered (named : Names Text) (from : Place) (n : ℕ) (xs : List Place) (vs : List Text) : Type 0 where

@@ -29,7 +29,7 @@ ExplainsAt named known x (cause.Missing y) = (x ≡ place_view y) × (LeadsOn (p
 ExplainsAt named known x (cause.UnknownFunction id) = ⊥
 ExplainsAt named known x cause.NoDefault = ⊥
 ExplainsAt named known x (cause.Unclean y) = (x ≡ place_view y) × LeadsOn (place_target named (place_view y)) × (known_of known (place_view y) ≡ Some None)
-ExplainsAt named known x (cause.Elsewhere y) = (x ≡ place_view y) × (known_of known (place_view y) ≡ None)
+ExplainsAt named known x (cause.Elsewhere y) = (x ≡ place_view y) × LeadsOn (place_target named (place_view y)) × (known_of known (place_view y) ≡ None)
 
 -- a place is there, and right, or there is a cause
 abbrev pub AnswersAt : Names Text → Known → Place → Option Cause → Type 0
@@ -42,7 +42,7 @@ Explains named known n (cause.Missing x) = (place_of n ≡ Some (place_view x)) 
 Explains named known n (cause.UnknownFunction id) = (n ≡ a_function id.name.now) × (is_function (named id.name.now) ≡ false)
 Explains named known n cause.NoDefault = n ≡ a_default
 Explains named known n (cause.Unclean x) = (place_of n ≡ Some (place_view x)) × LeadsOn (place_target named (place_view x)) × (known_of known (place_view x) ≡ Some None)
-Explains named known n (cause.Elsewhere x) = (place_of n ≡ Some (place_view x)) × (known_of known (place_view x) ≡ None)
+Explains named known n (cause.Elsewhere x) = (place_of n ≡ Some (place_view x)) × LeadsOn (place_target named (place_view x)) × (known_of known (place_view x) ≡ None)
 
 abbrev pub Answers : Names Text → Known → Need → Option Cause → Type 0
 Answers named known n None = IsWell named known n

@@ -6,4 +6,4 @@ use Rattle.fluent_lint.specs.Inside.Reached.{NotesOf}
 use Rattle.fluent_lint.proofs.variables.note_all.Given as goal
 
 abbrev pub invariant-loop-need : goal.invariant-loop-need
-invariant-loop-need l = NotesOf (map need_view (take l.need-index l.list)) (views l.initial.reached.items) (views l.reached.items) (texts l.initial.names.items) (texts l.names.items)
+invariant-loop-need l = NotesOf (map need_view (take l.need-index l.list)) (views l.initial.reached.keys) (views l.reached.keys) (texts l.initial.names.keys) (texts l.names.keys)

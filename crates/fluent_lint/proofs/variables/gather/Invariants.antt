@@ -3,10 +3,10 @@ use Rattle.fluent_lint.specs.Asked.{texts}
 use Rattle.fluent_lint.specs.Findings.{views}
 use Rattle.fluent_lint.specs.PlaceView.{place_view}
 use Rattle.fluent_lint.specs.Inside.Reached.{Gathered}
-use Rattle.fluent_lint.proofs.variables.variables_of.Given as goal
+use Rattle.fluent_lint.proofs.variables.gather.Given as goal
 
 abbrev pub invariant-loop-next : goal.invariant-loop-next
-invariant-loop-next g l = Gathered (g.B.GetEntry.named l.bundle) (place_view l.place) l.next (views l.reached.items) (texts l.names.items)
+invariant-loop-next g l = Gathered (g.B.GetEntry.named l.bundle) (place_view l.place) l.next (views l.reached.keys) (texts l.names.keys)
 
 abbrev pub decreases-loop-next : goal.decreases-loop-next
 decreases-loop-next g l = 2 ^ 64 - l.next
