@@ -40,7 +40,7 @@ IsRead source r = (source_in r ≡ source) × (entries_of r ≡ entries source)
 abbrev pub Tried : Text → Result FluentResource TryNewFault → Type 0
 Tried source (Ok r) = IsRead source r × (junk_ranges source ≡ [])
 Tried source (Err (alloc_failed.Parser r errors)) = IsRead source r × (map error_range errors.items ≡ junk_ranges source) × (junk_ranges source ≢ [])
-Tried source (Err alloc_failed.Memory) = Unit {0}
+Tried source (Err alloc_failed.Memory) = source ≢ []
 
 -- what the values of an application are, by what their type states
 abbrev pub custom_by : (Text → Text) → (Text → Text → Bool) → Custom Text
@@ -132,6 +132,10 @@ AnswersCall old call new (Err fault.Memory) = new ≡ old
 -- whether a bundle changes no text
 abbrev pub is_plain : {M C F G X : Type 0} → FluentBundle M C F G X → Bool
 is_plain b = not (is_some (transform_in b))
+
+-- whether a bundle shows each value as its own text
+abbrev pub shows_own : {M C F G X : Type 0} → FluentBundle M C F G X → Bool
+shows_own b = not (is_some (formatter_in b))
 
 -- What a bundle's meaning does not show is as before, but for its transform and its formatter: its locales and its plural source.
 pub record KeptBeside {M C F G X : Type 0} (b b' : FluentBundle M C F G X) : Type 0 where

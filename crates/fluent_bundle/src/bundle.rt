@@ -1,10 +1,10 @@
 //! The bundle: messages, terms and functions by id, and its settings.
 #![tactic(auto, unfolding(crate::specs::BundleView::bundle_parts))]
 
-ghost use Rattle.std.specs.Prelude.{◌≡◌, ◌≤◌, ◌↔◌, is_some, None, IfOk, OnOk, OnErr, IsTrue};
+ghost use Rattle.std.specs.Prelude.{◌≡◌, ◌≤◌, ◌↔◌, is_some, None, [], IfOk, IsOk, OnOk, OnErr, IsTrue};
 ghost use Rattle.std.specs.Option.{option_map};
 ghost use Rattle.fluent_intl.specs.Plurals.{english};
-ghost use Rattle.fluent_bundle.specs.BundleView.{entries_in, formatter_in, intls_in, transform_in, AreUndetermined, Kept, KeptBeside};
+ghost use Rattle.fluent_bundle.specs.BundleView.{entries_in, entries_of, formatter_in, intls_in, transform_in, AreUndetermined, Kept, KeptBeside};
 ghost use Rattle.fluent_values.specs.MessageView.{entry_seen, message_view};
 ghost use Rattle.fluent_bundle.specs.AddAnswers.{answer_of};
 
@@ -166,11 +166,12 @@ impl<
     /// # Errors
     ///
     /// `Overriding` where an id was there, also from an earlier entry of the same resource: all others are added.
-    /// `Memory` where an allocation failed: the bundle is as before.
+    /// `Memory` where an allocation failed, which a resource without entries can't meet: the bundle is as before.
     pub fn add_resource(&mut self, resource: &'r FluentResource<'s>) -> Result<(), AddFault>
         ensures step { ⟦<Self as Says>⟧.does (Call.AddResource resource.entry)
             self.old self.new result }
         ensures kept { Kept self.old self.new }
+        ensures empty { entries_of resource.now ≡ [] → IsOk result }
     {
         all_added(self.take_resource(resource))
     }
@@ -184,8 +185,13 @@ impl<
         ensures errors { IfOk result (⟦<Self as Says>⟧.left (Call.AddResource resource.entry) self.old) }
         ensures err { OnErr result (⟦<Self as Says>⟧.same self.old self.new) }
         ensures kept { Kept self.old self.new }
+        ensures empty { entries_of resource.now ≡ [] → IsOk result }
     {
-        self.entries.add_entries(self.alloc, resource.all())
+        let entries = resource.all();
+        if entries.is_empty() {
+            return Ok(Vec::new(self.alloc));
+        }
+        self.entries.add_entries(self.alloc, entries)
     }
 
     /// Adds the messages and terms of a resource in order, each in place of what had its id, a function too. Junk

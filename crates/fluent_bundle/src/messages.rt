@@ -1,7 +1,8 @@
 //! A message with all its parts as text.
-ghost use Rattle.std.specs.Prelude.{IfOk};
+ghost use Rattle.std.specs.Prelude.{◌≡◌, None, IfOk, IsOk};
 
 use crate::bundle::FluentBundle;
+use crate::says::Has;
 use crate::text_says::{Adds, Gives};
 use fluent_intl::MemoizerKind;
 use fluent_syntax::ast;
@@ -43,7 +44,7 @@ impl<
     ///
     /// # Errors
     ///
-    /// An allocation failed: what was added begins the errors.
+    /// An allocation failed: what was added begins the errors. `None` takes no memory.
     pub fn format_message(
         &self,
         id: &str,
@@ -55,6 +56,7 @@ impl<
             errors.old errors.new }
         ensures prefix { ⟦<Self as Adds>⟧.message_some self.now id.now args.entry
             errors.old errors.new }
+        ensures none { ⟦<Self as Has>⟧.message self.now id.now ≡ None → IsOk result }
     {
         match self.get_entry_message(id) {
             Some(message) => match self.format_parts(message, args, errors) {

@@ -45,7 +45,7 @@ impl<'s> FluentResource<'s> {
     /// # Errors
     ///
     /// `Parser` where the source holds Junk, with the resource and an error for each Junk, in order;
-    /// `Memory` where an allocation failed.
+    /// `Memory` where an allocation failed, which an empty source can't meet.
     pub fn try_new(alloc: Global, source: &'s str) -> Result<FluentResource<'s>, TryNewFault<'s>>
         ensures { Tried source.now result }
     {

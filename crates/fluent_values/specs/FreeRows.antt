@@ -11,7 +11,7 @@ use Rattle.fluent_intl.specs.Options.{default_options}
 use Rattle.fluent_intl.specs.declared.number.FluentNumber.{FluentNumber}
 use Rattle.fluent_meaning.specs.Value.{Value, text_value, number_value}
 use Rattle.fluent_meaning.specs.Arguments.{Map}
-use Rattle.fluent_values.specs.ValuesWithoutMemory.{IsTextless, IsBorrowed, IsTextGiven, AsksForCurrency}
+use Rattle.fluent_values.specs.ValuesWithoutMemory.{IsTextless, IsBorrowed, HasOwnText, IsEmpty, IsTextGiven, AsksForCurrency}
 use Rattle.fluent_values.specs.declared.types.custom.NoCustom.{NoCustom}
 use Rattle.fluent_values.specs.declared.types.value.FluentValue.{FluentValue}
 use Rattle.fluent_values.specs.declared.types.value.FluentValue.TheVariants as values
@@ -58,6 +58,24 @@ pub record BorrowedTexts : Type 0 where
   pub not_currency : (n : FluentNumber) (code : Owned Global) → n.options.currency ≡ Some code → IsBorrowed (number n) → ⊥
   pub not_owned : (s : Owned Global) → IsBorrowed (owned s) → ⊥
   pub not_custom : (x : NoCustom) → IsBorrowed (custom x) → ⊥
+
+-- a value whose own text is written
+pub record OwnTexts : Type 0 where
+  pub of_none : HasOwnText none
+  pub of_error : HasOwnText error
+  pub of_number : (n : FluentNumber) → HasOwnText (number n)
+  pub of_borrowed : (t : Bor Text) → HasOwnText (borrowed t)
+  pub of_owned : (s : Owned Global) → HasOwnText (owned s)
+  pub not_custom : (x : NoCustom) → HasOwnText (custom x) → ⊥
+
+-- a value without a text
+pub record Empty : Type 0 where
+  pub of_none : IsEmpty none
+  pub of_error : IsEmpty error
+  pub not_number : (n : FluentNumber) → IsEmpty (number n) → ⊥
+  pub not_borrowed : (t : Bor Text) → IsEmpty (borrowed t) → ⊥
+  pub not_owned : (s : Owned Global) → IsEmpty (owned s) → ⊥
+  pub not_custom : (x : NoCustom) → IsEmpty (custom x) → ⊥
 
 -- ---- contents
 

@@ -20,6 +20,17 @@ abbrev pub IsBorrowed : {C : Type 0} → FluentValue C → Type 0
 IsBorrowed (values.String (text.Borrowed t)) = ⊤
 IsBorrowed v = IsTextless v
 
+-- a value with a text of its own, or with none at all: each but a custom one
+abbrev pub HasOwnText : {C : Type 0} → FluentValue C → Type 0
+HasOwnText (values.Custom x) = ⊥
+HasOwnText _ = ⊤
+
+-- none or error, whose text is empty
+abbrev pub IsEmpty : {C : Type 0} → FluentValue C → Type 0
+IsEmpty values.None = ⊤
+IsEmpty values.Error = ⊤
+IsEmpty _ = ⊥
+
 -- an argument that is a text
 abbrev pub IsTextGiven : Option (Value Text) → Type 0
 IsTextGiven (Some (text_value t)) = ⊤

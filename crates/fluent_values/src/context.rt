@@ -1,6 +1,6 @@
 //! What resolving a pattern and showing a value ask of a bundle.
 
-ghost use Rattle.std.specs.Prelude.{◌≡◌, IfOk, IsOk, IsTrue, Bool};
+ghost use Rattle.std.specs.Prelude.{◌≡◌, Ok, None, IfOk, IsOk, IsTrue, Bool};
 ghost use Rattle.std.specs.declared.alloc.Global.{Global as Heap};
 ghost use Rattle.fluent_tree.specs.Tree.{Text};
 ghost use Rattle.fluent_intl.specs.Number.{number_of};
@@ -22,6 +22,9 @@ pub trait Context<C: FluentType> {
 
     /// Whether it changes no text.
     ghost is_plain: { Self → Bool };
+
+    /// Whether it shows each value as its own text.
+    ghost shows_own: { Self → Bool };
 
     /// The allocator that it works in.
     ghost memory: { Self → Heap };
@@ -54,7 +57,8 @@ pub trait Context<C: FluentType> {
     /// An allocation failed.
     fn formatted(&self, value: &FluentValue<'_, C>) -> Result<Option<String>, AllocError>
         ensures answer { IfOk result (IsFormatted C.content (meant self.now).formatter value.now) }
-        ensures custom { (meant self.now).custom ≡ record { text = C.shown; same = C.alike } };
+        ensures custom { (meant self.now).custom ≡ record { text = C.shown; same = C.alike } }
+        ensures own { IsTrue (shows_own self.now) → result ≡ Ok None };
 
     /// The word of the plural category that a number has.
     fn category_word(&self, number: &FluentNumber) -> &'static str

@@ -1,6 +1,7 @@
 //! How values are shown, and which they match.
-ghost use Rattle.std.specs.Prelude.{◌≡◌, IfOk, string_bytes};
-ghost use Rattle.fluent_values.specs.Shown.{is_match, own, shows, IsShown, Puts, Writes};
+ghost use Rattle.std.specs.Prelude.{◌≡◌, ◌≢◌, Err, false, IfOk, IsOk, string_bytes};
+ghost use Rattle.fluent_values.specs.Shown.{is_match, own, shows, GivesFree, IsShown, Puts, PutsFree, Writes, WritesFree};
+ghost use Rattle.fluent_values.specs.ValuesWithoutMemory.{HasOwnText, IsEmpty};
 
 use crate::context::{Context, HasBundle};
 use crate::output::{Halt, Output, put_text, with_error};
@@ -16,7 +17,8 @@ pub fn put_value<W: Write, C: FluentType, B: Context<C>>(
     out: &mut Output<W>,
     value: &FluentValue<'_, C>,
 ) -> Result<(), Halt>
-    ensures { Puts W.contents result (shows C.content (B.meant bundle.now) value.now) out.old out.new }
+    ensures took { Puts W.contents result (shows C.content (B.meant bundle.now) value.now) out.old out.new }
+    ensures memory { PutsFree (B.shows_own bundle.now) value.now out.old result }
 {
     match bundle.formatted(value)? {
         Some(text) => put_text(out, text.as_str()),
@@ -30,7 +32,8 @@ fn put_own<W: Write, C: FluentType>(
     out: &mut Output<W>,
     value: &FluentValue<'_, C>,
 ) -> Result<(), Halt>
-    ensures { Puts W.contents result (own C.content C.shown C.alike value.now) out.old out.new }
+    ensures took { Puts W.contents result (own C.content C.shown C.alike value.now) out.old out.new }
+    ensures memory { HasOwnText value.now → out.old.is_buffered ≡ false → result ≢ Err Halt.Memory }
 {
     match value {
         FluentValue::String(text) => put_text(out, text.as_str()),
@@ -42,7 +45,8 @@ fn put_own<W: Write, C: FluentType>(
 
 /// A value's own text.
 fn own_text<C: FluentType>(alloc: Global, value: &FluentValue<'_, C>) -> Result<String, AllocError>
-    ensures { IfOk result (λ text. string_bytes text ≡ own C.content C.shown C.alike value.now) }
+    ensures text { IfOk result (λ text. string_bytes text ≡ own C.content C.shown C.alike value.now) }
+    ensures succeeds { IsEmpty value.now → IsOk result }
 {
     match value {
         FluentValue::String(text) => String::from_str(alloc, text.as_str()),
@@ -73,13 +77,14 @@ impl<'v, C: FluentType> FluentValue<'v, C> {
     /// # Errors
     ///
     /// `Writer` where a write failed, `Zero` where a write of a nonempty piece took no byte, `Memory` where an
-    /// allocation failed. Then what was written begins the text.
+    /// allocation failed, which only a formatter or a custom value can meet. Then what was written begins the text.
     pub fn write<W: Write, S: HasBundle<C>>(
         &self,
         w: &mut Counting<W>,
         scope: &S,
     ) -> Result<(), WriteFault>
-        ensures { Writes W.contents result (shows C.content (S.Bundle.meant (S.bundle_of scope.now)) self.now) w.old w.new }
+        ensures took { Writes W.contents result (shows C.content (S.Bundle.meant (S.bundle_of scope.now)) self.now) w.old w.new }
+        ensures memory { WritesFree (S.Bundle.shows_own (S.bundle_of scope.now)) self.now result }
     {
         let bundle = scope.bundle();
         let mut unused = String::new(bundle.allocator());
@@ -99,7 +104,8 @@ impl<'v, C: FluentType> FluentValue<'v, C> {
     ///
     /// An allocation failed.
     pub fn as_string<S: HasBundle<C>>(&self, scope: &S) -> Result<CowStr<'v>, AllocError>
-        ensures { IfOk result (IsShown C.content (S.Bundle.meant (S.bundle_of scope.now)) self.now) }
+        ensures text { IfOk result (IsShown C.content (S.Bundle.meant (S.bundle_of scope.now)) self.now) }
+        ensures succeeds { GivesFree (S.Bundle.shows_own (S.bundle_of scope.now)) self.now result }
     {
         let bundle = scope.bundle();
         let text = match bundle.formatted(self)? {
@@ -115,7 +121,8 @@ impl<'v, C: FluentType> FluentValue<'v, C> {
     ///
     /// An allocation failed.
     pub fn into_string<S: HasBundle<C>>(self, scope: &S) -> Result<CowStr<'v>, AllocError>
-        ensures { IfOk result (IsShown C.content (S.Bundle.meant (S.bundle_of scope.now)) self.entry) }
+        ensures text { IfOk result (IsShown C.content (S.Bundle.meant (S.bundle_of scope.now)) self.entry) }
+        ensures succeeds { GivesFree (S.Bundle.shows_own (S.bundle_of scope.now)) self.entry result }
     {
         self.as_string(scope)
     }

@@ -1,7 +1,7 @@
 //! What a bundle answers to the resolver.
 #![tactic(auto, unfolding(crate::specs::BundleView::bundle_parts))]
 
-ghost use Rattle.std.specs.Prelude.{◌≡◌, None, IfOk, IsOk};
+ghost use Rattle.std.specs.Prelude.{◌≡◌, Ok, None, IfOk, IsOk, IsTrue};
 ghost use Rattle.fluent_intl.specs.Number.{number_of};
 ghost use Rattle.fluent_meaning.specs.Number.{category_word};
 ghost use Rattle.fluent_meaning.specs.Value.{category_of};
@@ -25,11 +25,13 @@ impl<
     G: FluentFormatter<C, M>,
     T: Transform,
 > Context<C> for FluentBundle<'r, 's, M, C, F, G, T> {
-    ghost use Rattle.fluent_bundle.specs.BundleView.{alloc_in, formatter_in, meant, is_plain};
+    ghost use Rattle.fluent_bundle.specs.BundleView.{alloc_in, formatter_in, meant, is_plain, shows_own};
 
     ghost meant = { λ b. meant M.category C.shown C.alike F.answer G.formatted T.changed b };
 
     ghost is_plain = { is_plain };
+
+    ghost shows_own = { shows_own };
 
     ghost memory = { alloc_in };
 
@@ -56,6 +58,7 @@ impl<
         ensures answer { IfOk result (⟦<Self as Has>⟧.shown self.now (value_view C.content value.now)) }
         ensures custom { (⟦<Self as Says>⟧.of self.now).custom
             ≡ record { text = C.shown; same = C.alike } }
+        ensures own { IsTrue (shows_own self.now) → result ≡ Ok None }
         ensures succeeds { formatter_in self.now ≡ None → IsOk result }
     {
         formatted(self.alloc, &self.formatter, value, &self.intls)
@@ -74,6 +77,7 @@ pub(crate) fn formatted<M, C: FluentType, G: FluentFormatter<C, M>>(
     intls: &M,
 ) -> Result<Option<String>, AllocError>
     ensures answer { IfOk result (ShownBy C.content G.formatted formatter.now value.now intls.now) }
+    ensures own { formatter.now ≡ None → result ≡ Ok None }
     ensures succeeds { formatter.now ≡ None → IsOk result }
 {
     match formatter {

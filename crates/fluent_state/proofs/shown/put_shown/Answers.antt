@@ -13,4 +13,4 @@ returns-in-Error g c =
 
 pub returns-in_default : goal.returns-in_default
 returns-in_default g c =
-    took_same (no_error g.C.FluentType.content (g.B.Context.meant c.args.bundle.now) (inline_view c.args.inline.now) c.args.answer.now c.in_default.not-Error) c.put_value.ensures
+    took_same (no_error g.C.FluentType.content (g.B.Context.meant c.args.bundle.now) (inline_view c.args.inline.now) c.args.answer.now c.in_default.not-Error) c.put_value.ensures.took

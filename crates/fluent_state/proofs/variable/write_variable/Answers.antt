@@ -28,7 +28,7 @@ returns-in-Some g c =
     let x = inline_view c.args.inline.now in
     let id = c.args.id.now.name.now in
     let there = ap (λ e. get id (variables (environment_view content e))) c.in-Application.is ∙ sym c.argument.ensures ∙ ap (option_map (λ v. value_view content v.now)) c.in-Some.is in
-    wrote (puts_last c.put_value.ensures (turns (variable_found a x id _ a.budget c.requires there) (starts a _ _)))
+    wrote (puts_last c.put_value.ensures.took (turns (variable_found a x id _ a.budget c.requires there) (starts a _ _)))
 
 pub returns-in-None : goal.returns-in-None
 unfolding state_parts
