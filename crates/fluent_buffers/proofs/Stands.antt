@@ -3,8 +3,8 @@ use Rattle.std.proofs.Common.{◌≡◌, ◌∙◌, List, [], ◌∷◌, ◌++�
 use Rattle.std.specs.Prelude.{Some}
 use Rattle.std.specs.List.{All}
 use Rattle.std.proofs.lemmas.List.{map_push}
-use Rattle.std.proofs.lemmas.List.Elements.{All-push}
-use Rattle.fluent_buffers.specs.Arguments.{Argument, AreTexts, StandBefore, argument}
+use Rattle.std.proofs.lemmas.List.Elements.{All-push, All-head}
+use Rattle.fluent_buffers.specs.Arguments.{Argument, AreTexts, StandBefore, argument, HasFirst}
 use Rattle.fluent_buffers.specs.declared.encoded.Argument as code
 use Rattle.fluent_buffers.specs.ArgumentView.{argument_view}
 
@@ -21,3 +21,8 @@ turn items items' a s rest next e read is texts =
     let all = map argument_view items in
     subst (λ l. StandBefore l s next × All AreTexts l) (sym (map_push argument_view items a) ∙ ap (map argument_view) (sym e))
     (one_more all s rest next (argument_view a) read.0 is, All-push AreTexts all (argument_view a) read.1 texts)
+
+-- there is a first one, where one stands after these
+pub has_first : (all : List Argument) (s rest next : List ℕ) (a : Argument) → StandBefore all s rest → All AreTexts all → argument rest ≡ Some (a, next) → AreTexts a → HasFirst s
+has_first [] s rest next a e texts is text = record { first = a; after = next; some = subst (λ t. argument t ≡ Some (a, next)) (sym e) is; texts = text }
+has_first (b ∷ all) s rest next a before texts is text = record { first = b; after = before.0; some = before.1; texts = All-head AreTexts b all texts }

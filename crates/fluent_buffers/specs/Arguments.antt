@@ -59,6 +59,7 @@ pub record IsCut (bytes : List ℕ) : Type 0 where
   pub all : List Argument
   pub rest : List ℕ
   pub before : StandBefore all bytes rest
+  pub texts : All AreTexts all
   pub some : rest ≢ []
   pub none : argument rest ≡ None
 
@@ -69,11 +70,19 @@ pub record HasNoText (bytes : List ℕ) : Type 0 where
   pub rest : List ℕ
   pub after : List ℕ
   pub before : StandBefore all bytes rest
+  pub texts : All AreTexts all
   pub some : argument rest ≡ Some (next, after)
   pub none : ¬ (AreTexts next)
+
+-- At the start there is an argument with texts, which takes memory.
+pub record HasFirst (bytes : List ℕ) : Type 0 where
+  pub first : Argument
+  pub after : List ℕ
+  pub some : argument bytes ≡ Some (first, after)
+  pub texts : AreTexts first
 
 -- why bytes were not read as arguments
 abbrev pub Stops : List ℕ → Fault → Type 0
 Stops bytes fault.Cut = IsCut bytes
 Stops bytes fault.NotText = HasNoText bytes
-Stops bytes fault.Memory = Unit {0}
+Stops bytes fault.Memory = HasFirst bytes

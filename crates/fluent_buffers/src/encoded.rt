@@ -40,7 +40,7 @@ struct Raw<'b> {
 ///
 /// # Errors
 ///
-/// The first [`Fault`] from the start.
+/// The first [`Fault`] from the start. No bytes take no memory.
 pub fn arguments(alloc: Global, bytes: &[u8]) -> Result<Vec<Argument<'_>>, Fault>
     ensures ok { IfOk result (λ list. Are (map argument_view list.items) bytes.now) }
     ensures err { IfErr result (Stops bytes.now) }

@@ -20,7 +20,7 @@ HasIn bundle id = IsUtf8 id × (is_some (message_at id bundle) ≡ true)
 -- why there is none
 abbrev pub HasNotIn : Bundle Text → Text → FormatFault → Type 0
 HasNotIn bundle id format.NotText = ¬ (IsUtf8 id)
-HasNotIn bundle id format.NoMessage = is_some (message_at id bundle) ≡ false
+HasNotIn bundle id format.NoMessage = IsUtf8 id × (is_some (message_at id bundle) ≡ false)
 HasNotIn bundle id f = ⊥
 
 -- whether a limit can be set
@@ -46,7 +46,7 @@ FindsIn bundle id name = IsUtf8 id × IsUtf8 name × (is_some (asked_at id name 
 -- why there is not
 abbrev pub FindsNotIn : Bundle Text → Text → Text → FormatFault → Type 0
 FindsNotIn bundle id name format.NotText = ¬ (IsUtf8 id × IsUtf8 name)
-FindsNotIn bundle id name format.NoMessage = is_some (asked_at id name bundle) ≡ false
+FindsNotIn bundle id name format.NoMessage = IsUtf8 id × IsUtf8 name × (is_some (asked_at id name bundle) ≡ false)
 FindsNotIn bundle id name f = ⊥
 
 abbrev pub TextsOf : Bundle Text → Text → Text → List ℕ → String Global × String Global → Type 0

@@ -3,7 +3,6 @@
 
 mod adding;
 mod asks;
-mod finding;
 mod handle;
 mod shelves;
 mod slot;

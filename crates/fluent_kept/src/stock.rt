@@ -12,12 +12,13 @@ ghost use Rattle.fluent_loans.specs.Loans.{AreFor};
 ghost use Rattle.fluent_kept.specs.Asked.{FindsIn, FindsNotIn, HasIn, HasNotIn, Limits, TextsOf, NotTextsOf, NotAddedIn};
 
 use crate::adding::{add_free, override_with};
-use crate::finding::is_there;
 use crate::shelves::Shelves;
 use fluent_bundle::{FluentResource, ParserError};
 use fluent_listed::{Added, listed};
 use fluent_loans::{Lifetime, Loan, Shelf};
-use fluent_plain::{FormatFault, OpenFault, Plain, SourceFault, open, open_by_rules, texts};
+use fluent_plain::{
+    FormatFault, OpenFault, Plain, SourceFault, is_there, open, open_by_rules, texts,
+};
 use fluent_told::{told, told_overriding};
 use std::alloc::{AllocError, Global};
 use std::str;

@@ -36,7 +36,7 @@ by_answer id name (Some x) (Some y) answer.OutOfRange t = absurd t
 by_answer id name (Some x) (Some y) (answer.Fault (source.Format format.NotText)) t =
     record { same = ap Some t.0; passed = λ h. cc; stopped = λ i n h. absurd (t.1 (i, n)) }
 by_answer id name (Some x) (Some y) (answer.Fault (source.Format format.NoMessage)) t =
-    record { same = ap Some t.0; passed = λ h. t.1; stopped = λ i n h. absurd (h refl) }
+    record { same = ap Some t.0; passed = λ h. t.1.2; stopped = λ i n h. absurd (h refl) }
 by_answer id name (Some x) (Some y) (answer.Fault (source.Format (format.Arguments f))) t = absurd t.1
 by_answer id name (Some x) (Some y) (answer.Fault (source.Format format.Memory)) t = absurd t.1
 by_answer id name (Some x) (Some y) (answer.Fault source.Memory) t = absurd t

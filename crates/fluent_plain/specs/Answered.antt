@@ -1,5 +1,5 @@
 -- What a bundle answers.
-use Rattle.std.specs.Prelude.{◌≡◌, List, [], ◌∷◌, ◌++◌, ℕ, Some, None, String, string_bytes}
+use Rattle.std.specs.Prelude.{◌≡◌, ◌≢◌, List, [], ◌∷◌, ◌++◌, ℕ, Some, None, String, string_bytes}
 use Rattle.std.specs.Cow.{cow_str_bytes}
 use Rattle.std.specs.declared.borrow.CowStr.{CowStr}
 use Rattle.std.proofs.Common.{Global}
@@ -54,12 +54,22 @@ pub record FormatsIn (bundle : Bundle Text) (id name args out out' err err' : Li
   pub text : Given (formatted bundle (written_pattern bundle (arguments_of all) pattern).value) out out' lengths.text
   pub errors : Given (error_lines (written_pattern bundle (arguments_of all) pattern).errors) err err' lengths.errors
 
--- why nothing is
+-- what is asked for is named by texts
+abbrev pub AreTexts : Text → Text → Type 0
+AreTexts id name = IsUtf8 id × IsUtf8 name
+
+-- and the arguments can be read
+pub record IsAsked (id name : Text) (args : List ℕ) : Type 0 where
+  pub texts : AreTexts id name
+  pub all : List Argument
+  pub read : Are all args
+
+-- why nothing is: the first of these that holds
 abbrev pub NotFormattedIn : Bundle Text → Text → Text → List ℕ → FormatFault → Type 0
-NotFormattedIn bundle id name args fault.NotText = ¬ (IsUtf8 id × IsUtf8 name)
-NotFormattedIn bundle id name args (fault.Arguments f) = Stops args f
-NotFormattedIn bundle id name args fault.NoMessage = asked_at id name bundle ≡ None
-NotFormattedIn bundle id name args fault.Memory = IsUtf8 id × IsUtf8 name
+NotFormattedIn bundle id name args fault.NotText = ¬ (AreTexts id name)
+NotFormattedIn bundle id name args (fault.Arguments f) = AreTexts id name × Stops args f
+NotFormattedIn bundle id name args fault.NoMessage = IsAsked id name args × (asked_at id name bundle ≡ None)
+NotFormattedIn bundle id name args fault.Memory = IsAsked id name args × (asked_at id name bundle ≢ None)
 
 -- ---- the same of what the code is handed
 

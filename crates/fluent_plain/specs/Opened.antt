@@ -46,9 +46,13 @@ pub record OpenedBy (cardinal ordinal : Text) (on : Bool) (bundle : Bundle Text)
   pub read : IsParse cardinal ordinal (Ok rules)
   pub is : bundle ≡ start (category_of rules) on
 
+-- rules can be read
+abbrev pub CanBeRead : Text → Text → Type 0
+CanBeRead cardinal ordinal = (rules : Rules) × IsParse cardinal ordinal (Ok rules)
+
 -- why there is none
 abbrev pub NotOpenedBy : Text → Text → OpenFault → Type 0
 NotOpenedBy cardinal ordinal fault.NotText = ¬ (IsUtf8 cardinal × IsUtf8 ordinal)
 NotOpenedBy cardinal ordinal (fault.Language (language.Rules f)) = IsParse cardinal ordinal (Err f)
 NotOpenedBy cardinal ordinal (fault.Language language.Unknown) = ⊥
-NotOpenedBy cardinal ordinal fault.Memory = IsUtf8 cardinal × IsUtf8 ordinal
+NotOpenedBy cardinal ordinal fault.Memory = IsUtf8 cardinal × IsUtf8 ordinal × CanBeRead cardinal ordinal

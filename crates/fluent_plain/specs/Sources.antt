@@ -1,5 +1,5 @@
 -- What a source alone answers.
-use Rattle.std.specs.Prelude.{Bool, List, ℕ}
+use Rattle.std.specs.Prelude.{◌≢◌, Bool, List, [], ℕ}
 use Rattle.std.specs.Str.{IsUtf8}
 use Rattle.fluent_tree.specs.Tree.{Text}
 use Rattle.fluent_syntax.specs.Chunks.{entries}
@@ -27,12 +27,19 @@ pub record FailsOf (tag : Text) (on : Bool) (source id name args : List ℕ) (f 
   pub opened : Opened tag on bundle
   pub fails : NotFormattedIn (with_source source bundle) id name args f
 
+-- There is something to read, for a bundle that is opened.
+pub record TakesMemory (tag : Text) (on : Bool) (source : Text) : Type 0 where
+  pub text : IsUtf8 source
+  pub some : source ≢ []
+  pub bundle : Bundle Text
+  pub opened : Opened tag on bundle
+
 -- why nothing is answered
 abbrev pub RefusesOf : Text → Bool → Text → Text → Text → List ℕ → SourceFault → Type 0
 RefusesOf tag on source id name args fault.NotText = ¬ (IsUtf8 source)
 RefusesOf tag on source id name args (fault.Open f) = NotOpened tag f
 RefusesOf tag on source id name args (fault.Format f) = FailsOf tag on source id name args f
-RefusesOf tag on source id name args fault.Memory = IsUtf8 source
+RefusesOf tag on source id name args fault.Memory = TakesMemory tag on source
 
 -- ---- the same of what the code is handed
 

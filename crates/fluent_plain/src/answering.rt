@@ -1,12 +1,13 @@
 //! What a bundle answers, into buffers of the caller.
-ghost use Rattle.std.specs.Prelude.{◌≡◌, IfOk, IfErr, OnErr, string_bytes};
+ghost use Rattle.std.specs.Prelude.{◌≡◌, ◌≢◌, None, IfOk, IfErr, OnErr, string_bytes};
 ghost use Rattle.fluent_resolver.specs.Status.{reported};
 ghost use Rattle.fluent_plain.specs.Answered.{Formats, GivesTexts, NotFormatted, error_line, error_lines};
 ghost use Rattle.fluent_values.specs.View.{error_view};
+ghost use Rattle.fluent_plain.specs.Asked.{asked_at};
 ghost use Rattle.fluent_plain.specs.PlainView.{bundle_view};
 ghost use Rattle.fluent_plain.specs.Inside.Shown.{Shows};
 
-use crate::asking::values;
+use crate::asking::{is_there, values};
 use crate::opening::Plain;
 use fluent_buffers::{Fault, arguments, put_text};
 use fluent_bundle::{FluentArgs, FluentError, NoCustom};
@@ -88,7 +89,11 @@ pub fn texts<'r, 's: 'r>(
         Err(fault) => return Err(FormatFault::Arguments(fault)),
     };
     let Ok(args) = values(alloc, list.as_slice()) else {
-        return Err(FormatFault::Memory);
+        return Err(if is_there(bundle, id, name) {
+            FormatFault::Memory
+        } else {
+            FormatFault::NoMessage
+        });
     };
     match shown(alloc, bundle, id, name, &args) {
         Ok(Some(texts)) => Ok(texts),
@@ -105,7 +110,8 @@ fn shown<'r, 's: 'r>(
     attribute: &str,
     args: &FluentArgs<'_, NoCustom>,
 ) -> Result<Option<(CowStr<'s>, String)>, AllocError>
-    ensures { IfOk result (Shows (bundle_view bundle.now) id.now attribute.now args.now) }
+    ensures shows { IfOk result (Shows (bundle_view bundle.now) id.now attribute.now args.now) }
+    ensures there { OnErr result (asked_at id.now attribute.now (bundle_view bundle.now) ≢ None) }
 {
     let mut errors = Vec::new(alloc);
     let text = if attribute.is_empty() {

@@ -1,14 +1,29 @@
 //! What a bundle is asked for, and with which arguments.
-ghost use Rattle.std.specs.Prelude.{◌≡◌, [], map, IfOk};
+ghost use Rattle.std.specs.Prelude.{◌≡◌, [], is_some, map, IfOk};
 ghost use Rattle.fluent_values.specs.View.{value_view};
 ghost use Rattle.fluent_buffers.specs.ArgumentView.{argument_view};
-ghost use Rattle.fluent_plain.specs.Asked.{arguments_of, value_of};
-ghost use Rattle.fluent_plain.specs.PlainView.{args_view};
+ghost use Rattle.fluent_plain.specs.Asked.{arguments_of, asked_at, value_of};
+ghost use Rattle.fluent_plain.specs.PlainView.{args_view, bundle_view};
 
+use crate::opening::Plain;
 use fluent_buffers::Argument;
 use fluent_bundle::{FluentArgs, FluentValue, NoCustom};
 use std::alloc::{AllocError, Global};
 use std::borrow::CowStr;
+
+/// Whether there is a message of the id with a value, or with an attribute of a name that is not empty. Takes no memory.
+pub fn is_there<'r, 's: 'r>(bundle: &Plain<'r, 's>, id: &str, name: &str) -> bool
+    ensures { result ≡ is_some (asked_at id.now name.now (bundle_view bundle.now)) }
+{
+    let Some(message) = bundle.get_message(id) else {
+        return false;
+    };
+    if name.is_empty() {
+        message.value().is_some()
+    } else {
+        message.get_attribute(name).is_some()
+    }
+}
 
 /// The value of an argument.
 fn value<'w>(argument: &Argument<'w>) -> FluentValue<'w, NoCustom>

@@ -9,6 +9,7 @@ mod sources;
 mod statuses;
 
 pub use answering::{FormatFault, Lengths, format, texts};
+pub use asking::is_there;
 pub use opening::{OpenFault, Plain, open, open_by_rules};
 pub use sources::{SourceFault, format_source};
 pub use statuses::{answer, status};

@@ -1,5 +1,5 @@
 //! What a source alone answers.
-ghost use Rattle.std.specs.Prelude.{◌≡◌, IfOk, IfErr, OnOk, OnErr, Err};
+ghost use Rattle.std.specs.Prelude.{◌≡◌, ◌≢◌, [], IfOk, IfErr, OnOk, OnErr, Err};
 ghost use Rattle.std.specs.Str.{IsUtf8};
 ghost use Rattle.fluent_syntax.specs.Chunks.{entries};
 ghost use Rattle.fluent_bundle.specs.BundleView.{entries_of};
@@ -50,13 +50,14 @@ pub fn format_source(
     let Ok(text) = str::from_utf8(source) else {
         return Err(SourceFault::NotText);
     };
+    let opened = match open(alloc, tag, isolate) {
+        Ok(opened) => opened,
+        Err(fault) => return Err(SourceFault::Open(fault)),
+    };
     let Ok(resource) = resource_of(alloc, text) else {
         return Err(SourceFault::Memory);
     };
-    let mut bundle = match open(alloc, tag, isolate) {
-        Ok(bundle) => bundle,
-        Err(fault) => return Err(SourceFault::Open(fault)),
-    };
+    let mut bundle = opened;
     if add(&mut bundle, &resource).is_err() {
         return Err(SourceFault::Memory);
     }
@@ -68,7 +69,8 @@ pub fn format_source(
 
 /// Reads a source.
 fn resource_of<'s>(alloc: Global, source: &'s str) -> Result<FluentResource<'s>, AllocError>
-    ensures { IfOk result (λ resource. entries_of resource ≡ entries source.now) }
+    ensures read { IfOk result (λ resource. entries_of resource ≡ entries source.now) }
+    ensures some { OnErr result (source.now ≢ []) }
 {
     match FluentResource::try_new(alloc, source) {
         Ok(resource) => Ok(resource),
@@ -82,7 +84,8 @@ fn add<'r, 's>(
     bundle: &mut Plain<'r, 's>,
     resource: &'r FluentResource<'s>,
 ) -> Result<(), AllocError>
-    ensures { OnOk result (Adds resource.now bundle.old bundle.new) }
+    ensures adds { OnOk result (Adds resource.now bundle.old bundle.new) }
+    ensures some { OnErr result (entries_of resource.now ≢ []) }
 {
     match bundle.add_resource(resource) {
         Ok(()) => Ok(()),

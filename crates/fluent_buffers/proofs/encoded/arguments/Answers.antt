@@ -1,7 +1,7 @@
 use Rattle.std.proofs.Common.{rules, map}
 use Rattle.fluent_buffers.specs.Inside.Raw.{raw_view}
 use Rattle.fluent_buffers.specs.ArgumentView.{argument_view}
-use Rattle.fluent_buffers.proofs.Stands.{turn}
+use Rattle.fluent_buffers.proofs.Stands.{turn, has_first}
 use Rattle.fluent_buffers.proofs.encoded.arguments.Goals as goal
 
 pub returns-in_default-text-clause-err : goal.returns-in_default-text-clause-err
@@ -11,9 +11,13 @@ returns-in_default-text-clause-err c = record {
   rest = c.loop-rest.rest.now;
   after = c.in-Some.after.now;
   before = c.loop-rest.invariant.0;
+  texts = c.loop-rest.invariant.1;
   some = search rules;
   none = search rules;
 }
+
+pub returns-then-is_err-clause-err : goal.returns-then-is_err-clause-err
+returns-then-is_err-clause-err c = has_first (map argument_view c.loop-rest.list.items) c.args.bytes.now c.loop-rest.rest.now c.in-Some.after.now (argument_view c.in-Some-text.argument) c.loop-rest.invariant.0 c.loop-rest.invariant.1 (search rules) (search rules)
 
 pub loop-rest-preserved : goal.loop-rest-preserved
 loop-rest-preserved c = turn c.loop-rest.list.items c.push.new.self.items c.in-Some-text.argument c.args.bytes.now c.loop-rest.rest.now c.in-Some.after.now (search rules) c.loop-rest.invariant (search rules) (search rules)
