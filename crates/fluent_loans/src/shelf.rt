@@ -1,6 +1,6 @@
 //! Many values that are borrowed for one lifetime.
-ghost use Rattle.std.specs.Prelude.{◌≡◌, IfSome};
-ghost use Rattle.fluent_loans.specs.Loans.{AreFor};
+ghost use Rattle.std.specs.Prelude.{◌≡◌, ◌<◌, None, IfSome, IsSome, vec_len, vec_capacity};
+ghost use Rattle.fluent_loans.specs.Loans.{AreFor, IsWithOneOf};
 
 use crate::loans::{Ended, Lifetime, Loan, borrow, regain};
 use crate::raw_box::RawBox;
@@ -23,9 +23,12 @@ impl<'a, T: Drop + 'a> Shelf<'a, T> {
         }
     }
 
-    /// Puts a value on the shelf and borrows it; `None` where an allocation failed.
+    /// Puts a value on the shelf and borrows it; `None` where an allocation failed. What was there stays there.
     pub fn put(self, value: Box<T>) -> (Shelf<'a, T>, Option<&'a T>)
-        ensures { IfSome result.1 (λ r. r.now ≡ value.value) }
+        ensures lent { IfSome result.1 (λ r. r.now ≡ value.value) }
+        ensures some { IfSome result.1 (λ _. IsWithOneOf value.value self.entry.loans result.0.loans) }
+        ensures none { result.1 ≡ None → result.0.loans.items ≡ self.entry.loans.items }
+        ensures room { vec_len self.entry.loans < vec_capacity self.entry.loans → IsSome result.1 }
     {
         let Shelf {
             lifetime,
@@ -41,7 +44,8 @@ impl<'a, T: Drop + 'a> Shelf<'a, T> {
 
     /// What is to be given back once the lifetime has ended.
     pub fn into_loans(self) -> (Lifetime<'a>, Vec<Loan<T, Global>>)
-        ensures { AreFor result.0.life result.1.items }
+        ensures due { AreFor result.0.life result.1.items }
+        ensures all { result.1.items ≡ self.entry.loans.items }
     {
         let Shelf { lifetime, loans } = self;
         (lifetime, loans)
