@@ -6,7 +6,10 @@
    of the memory that it was given: a bundle has copies of its sources. Memory is taken by malloc and realloc and given back
    by free, all of it before a call ends, but for that of a bundle, which fluent_close gives back. Calls in several threads at
    once have nothing in common; a bundle is asked by one thread at a time (tried, and not proved). No call belongs into a
-   signal handler. */
+   signal handler.
+
+   A call takes stack for each level of nesting, and formatting for those of all messages that are within one another: a
+   source that is made for it takes more than 50 MB with the limit of 100. Where there is less, the program ends. */
 #ifndef FLUENT_H
 #define FLUENT_H
 #include <stdbool.h>
