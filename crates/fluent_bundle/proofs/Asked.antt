@@ -6,7 +6,6 @@ use Rattle.std.specs.declared.borrow.CowStr.{CowStr}
 use Rattle.std.specs.declared.borrow.CowStr.TheVariants.{Borrowed, Owned}
 use Rattle.std.specs.declared.alloc.AllocError.{AllocError}
 use Rattle.fluent_text.specs.Unescaped.{Borrows}
-use Rattle.fluent_text.specs.Writer.{writer_in}
 use Rattle.fluent_text.specs.declared.counting.Counting.{Counting}
 use Rattle.fluent_text.specs.declared.counting.WriteFault.{WriteFault}
 use Rattle.fluent_text.specs.declared.counting.WriteFault.TheVariants as fault
@@ -21,10 +20,9 @@ use Rattle.fluent_bundle.specs.ById.{GivesAsked, GivesSome, BorrowsAsked, Borrow
 use Rattle.fluent_bundle.specs.Formatted.{GivesText}
 use Rattle.fluent_bundle.specs.PatternsWithoutMemory.{BorrowsText, WritesFree}
 use Rattle.fluent_bundle.specs.Inside.Asked.{pattern_at}
-use Rattle.fluent_bundle.specs.Inside.Taken.{TakesText}
-use Rattle.fluent_bundle.specs.Under.{AddsBeginning, AddsWhole, Errors, GivesWhole, GivesWithin, IsLimited, Under, WritesBeginning, WritesWhole, WritesWithin, means}
+use Rattle.fluent_bundle.specs.Under.{AddsBeginning, Errors, GivesWhole, GivesWithin, IsLimited, Under, WritesBeginning, WritesWhole, WritesWithin}
 use Rattle.fluent_bundle.specs.declared.bundle.FluentBundle.{FluentBundle}
-use Rattle.fluent_bundle.proofs.Formats.{substituted_of, writes_all, writes_prefix}
+use Rattle.fluent_bundle.proofs.Formats.{substituted_of}
 use Rattle.fluent_bundle.proofs.Givings.{gives_within}
 
 -- the pattern that a reference leads to, if it leads to one
@@ -103,17 +101,14 @@ module _ {M C F G X : Type 0} (b : FluentBundle M C F G X) where
 
 -- the text of a pattern that is there
 pub writes_asked : {W E : Type 0} {asked : Option Pattern} (u : Under) (p : Pattern) (contents : W → Option Text) (w w' : Counting W) (old new : Errors) → Some p ≡ asked
-    → IsLimited u p → TakesText {T = Unit {0}} {E = E} (Ok tt) (means u p).value (contents (writer_in w)) (contents (writer_in w')) → AddsWhole u p old new → AddsBeginning u p old new → WritesAsked {E = E} u asked (Ok true) contents w w' old new
-writes_asked {E = E} u p contents w w' old new is keeps text errors some =
-    let whole : WritesWhole {T = Unit {0}} {E = E} u p (Ok tt) contents w w' old new = writes_all {T = Unit {0}} {E = E} (Ok tt) (means u p).errors old.items new.items text errors in
+    → IsLimited u p → WritesWhole {T = Unit {0}} {E = E} u p (Ok tt) contents w w' old new → WritesBeginning u p contents w w' old new → WritesAsked {E = E} u asked (Ok true) contents w w' old new
+writes_asked {E = E} u p contents w w' old new is keeps whole prefix =
     let within : WritesWithin {T = Unit {0}} {E = E} u p (Ok tt) contents w w' old new = substituted_of {T = Unit {0}} {E = E} (Ok tt) _ _ old.items new.items u.bundle u.args p keeps whole in
-    let prefix : WritesBeginning u p contents w w' old new = writes_prefix text some in
     subst (λ o. WritesAsked {E = E} u o (Ok true) contents w w' old new) is (record { there = refl; nothing = tt; within = within; whole = whole; prefix = prefix })
 
 pub writes_refused : {W E : Type 0} {asked : Option Pattern} (u : Under) (p : Pattern) (e : E) (contents : W → Option Text) (w w' : Counting W) (old new : Errors) → Some p ≡ asked
-    → TakesText {T = Unit {0}} (Err e) (means u p).value (contents (writer_in w)) (contents (writer_in w')) → AddsBeginning u p old new → WritesAsked u asked (Err e) contents w w' old new
-writes_refused u p e contents w w' old new is text some =
-    let prefix : WritesBeginning u p contents w w' old new = writes_prefix text some in
+    → WritesBeginning u p contents w w' old new → WritesAsked u asked (Err e) contents w w' old new
+writes_refused u p e contents w w' old new is prefix =
     subst (λ o. WritesAsked u o (Err e) contents w w' old new) is (record { there = tt; nothing = tt; within = λ few. tt; whole = tt; prefix = prefix })
 
 pub writes_nothing : {W E : Type 0} {asked : Option Pattern} (u : Under) (contents : W → Option Text) (w : Counting W) (old : Errors) → None ≡ asked → WritesAsked {E = E} u asked (Ok false) contents w w old old

@@ -1,108 +1,112 @@
 -- What a whole pattern wrote and reported.
-use Rattle.std.proofs.Common.{◌≡◌, ℕ, Bool, true, false, String, string_bytes, Global, refl, sym, ap, subst, ◌∙◌, List, [], ◌++◌, append-nil, Option, Some, None, Result, Ok, Err, OnOk, OnErr}
+use Rattle.std.proofs.Common.{◌≡◌, ℕ, Bool, true, false, String, string_bytes, Global, refl, sym, ap, subst, ◌∙◌, List, [], ◌∷◌, ◌++◌, append-nil, Option, Some, None, Result, Ok, Err, OnOk}
+use Rattle.std.proofs.lemmas.Result.{on_ok_weaker}
 use Rattle.std.specs.Option.{option_map}
 use Rattle.std.specs.Io.KnownBytes.{Appends}
 use Rattle.std.specs.Prelude.{◌≤◌}
 use Rattle.fluent_tree.specs.Tree.{Text, Pattern}
-use Rattle.fluent_text.specs.Taken.{Faulted, TookPrefix}
+use Rattle.fluent_text.specs.Taken.{Faulted}
+use Rattle.fluent_text.specs.Writer.{writer_in}
+use Rattle.fluent_text.specs.declared.counting.Counting.{Counting}
 use Rattle.fluent_text.specs.declared.counting.WriteFault.{WriteFault}
 use Rattle.fluent_text.specs.declared.counting.WriteFault.TheVariants as fault
 use Rattle.fluent_values.specs.declared.output.Halt.{Halt}
-use Rattle.fluent_meaning.specs.Errors.{Error}
-use Rattle.fluent_meaning.specs.Value.{Value}
+use Rattle.fluent_values.specs.declared.output.Output.{Output}
+use Rattle.fluent_values.specs.Sinks.{Sink, SinkTook, CountsTell, at, keeping, outside, sink, without_error, writer}
+use Rattle.fluent_meaning.specs.Ahead.{ahead, comes, events_of}
 use Rattle.fluent_meaning.specs.Arguments.{Map}
 use Rattle.fluent_meaning.specs.Bundle.{Bundle}
-use Rattle.fluent_meaning.specs.Meaning.{Ran, left}
-use Rattle.fluent_meaning.specs.Walk.{application, whole}
-use Rattle.fluent_meaning.specs.Work.{with_work, work}
-use Rattle.fluent_meaning.specs.Laws.{CallsByThemselves}
+use Rattle.fluent_meaning.specs.Errors.{Error}
+use Rattle.fluent_meaning.specs.Events.{Event, entered, errors_in, text_in, writes}
 use Rattle.fluent_meaning.specs.Result.{written_pattern, substituted_pattern}
-use Rattle.fluent_bundle.specs.Formatted.{AddsAll, AddsPrefix, WritesAll, WritesPrefix, Writes}
-use Rattle.fluent_bundle.specs.Inside.Taken.{TakesText}
-use Rattle.fluent_resolver.specs.Status.{Status, reported, with_errors}
-use Rattle.fluent_resolver.specs.WalkProgress.{Walk, Wrote, from_here, given}
-use Rattle.fluent_bundle.specs.Limits.{KeepsLimit}
-use Rattle.fluent_values.specs.Sinks.{Sink, SinkTook, CountsTell, without_error, writer, at}
+use Rattle.fluent_meaning.specs.Value.{Value}
+use Rattle.fluent_meaning.specs.Walk.{application, whole}
 use Rattle.fluent_entries.specs.declared.errors.FluentError.{FluentError}
-use Rattle.fluent_text.specs.declared.counting.Counting.{Counting}
+use Rattle.fluent_resolver.specs.Happened.{Did}
+use Rattle.fluent_resolver.specs.Scoped.{pattern_events}
+use Rattle.fluent_resolver.specs.Status.{Status, reported, with_errors}
+use Rattle.fluent_resolver.specs.Steps.{IsAtStart}
+use Rattle.fluent_bundle.specs.Facts.Events.{errors_of, text_of, writes_on}
+use Rattle.fluent_bundle.specs.Formatted.{AddsAll, AddsPrefix, WritesAll, Writes}
+use Rattle.fluent_bundle.specs.Formatting.{EventsAreRun, written_events}
+use Rattle.fluent_bundle.specs.Limits.{KeepsLimit}
 
--- a walk over a whole pattern
-abbrev pub pattern_walk : Pattern → Walk Text
-pattern_walk p = λ b below env path. whole with_work b below env path p
-
--- the same, from the state in which a call begins
-pub fresh : {K : Type 0} → CallsByThemselves Text → (a : Status K) (b : Bundle Text) (args : Map (Value Text)) (p : Pattern) → a.bundle ≡ b → a.environment ≡ application args → a.path ≡ [] → a.budget ≡ left b.limit
-    → (from_here a (pattern_walk p)).ran ≡ written_pattern b args p
-fresh law a b args p h j k l =
-    ap (λ c. (whole with_work c (work c) a.environment a.path p a.budget).ran) h
-    ∙ ap (λ env. (whole with_work b (work b) env a.path p a.budget).ran) j
-    ∙ ap (λ path. (whole with_work b (work b) (application args) path p a.budget).ran) k
-    ∙ ap (λ budget. (whole with_work b (work b) (application args) [] p budget).ran) l
-    ∙ sym (law.pattern b args p)
+-- what a pattern does in the state in which a call begins
+pub fresh : {K : Type 0} (s : Status K) (b : Bundle Text) (args : Map (Value Text)) (p : Pattern) → IsAtStart s b args → pattern_events p s ≡ written_events b args p
+fresh s b args p at =
+    ap (λ c. events_of (whole (ahead Text) c (comes c) s.environment s.path p) s.budget) at.bundle
+    ∙ ap (λ env. events_of (whole (ahead Text) b (comes b) env s.path p) s.budget) at.environment
+    ∙ ap (λ path. events_of (whole (ahead Text) b (comes b) (application args) path p) s.budget) at.path
+    ∙ ap (λ budget. events_of (whole (ahead Text) b (comes b) (application args) [] p) budget) at.budget
 
 -- what stands in a list after these were added
 listed : {K : Type 0} (list list' : List FluentError) (added : List Error) (s s' : Status K) → s'.errors ≡ with_errors s.errors added → s.errors ≡ Some (reported list) → s'.errors ≡ Some (reported list') → reported list' ≡ reported list ++ added
 listed list list' added s s' h before after' = cc (sym after' ∙ h ∙ ap (λ l. with_errors l added) before)
 
--- what a walk wrote and added
-pub writes_of : {T K : Type 0} {r : Result T Halt} {walk : Walk Text} {w w' : Sink} {a b : Status K} {all : Ran Text} {list list' : List FluentError}
-    → Wrote r walk w w' a b → (from_here a walk).ran ≡ all → a.errors ≡ Some (reported list) → b.errors ≡ Some (reported list') → Writes r all w w' list list'
-writes_of {r = r} {w = w} {w' = w'} {a = a} {b = b} {all = all} {list = list} {list' = list'} h e before after' =
-    let way = h.went.along in
-    let text : way.taken ++ h.went.left.ran.value ≡ all.value = way.text ∙ ap (λ x. x.value) e in
-    let errors : way.passed.added ++ h.went.left.ran.errors ≡ all.errors = way.passed.errors ∙ ap (λ x. x.errors) e in
-    let grew = listed list list' way.passed.added a b way.passed.list before after' in
-    record {
-      all = by_case r h.went.done;
-      prefix = record {
-        prefix = way.taken;
-        rest = h.went.left.ran.value;
-        whole = text;
-        taken = way.held;
-        adds = record { prefix = way.passed.added; rest = h.went.left.ran.errors; whole = errors; adds = record { added = grew } };
-      };
-      fault = way.fault;
-      beside = way.beside;
-      borrowed = way.borrowed;
-    }
-  where
-    by_case : {S : Type 0} (q : Result S Halt) → OnOk q (h.went.left ≡ given [] b.budget) → OnOk q (WritesAll all.value all.errors w.held w'.held list list')
-    by_case (Ok x) nothing_left =
-        let way = h.went.along in
-        let text : way.taken ≡ all.value = sym (append-nil way.taken) ∙ ap (λ l. way.taken ++ l.ran.value) (sym nothing_left) ∙ way.text ∙ ap (λ x. x.value) e in
-        let errors : way.passed.added ≡ all.errors = sym (append-nil way.passed.added) ∙ ap (λ l. way.passed.added ++ l.ran.errors) (sym nothing_left) ∙ way.passed.errors ∙ ap (λ x. x.errors) e in
-        record {
-          taken = subst (Appends w.held w'.held) text way.held;
-          adds = record { added = listed list list' way.passed.added a b way.passed.list before after' ∙ ap (λ es. reported list ++ es) errors };
-        }
-    by_case (Err x) tt = tt
+-- what the resolver did
+pub writes_of : {T K : Type 0} {r : Result T Halt} {events all : List Event} {w w' : Sink} {a b : Status K} {list list' : List FluentError}
+    → Did r events w w' a b → events ≡ all → a.errors ≡ Some (reported list) → b.errors ≡ Some (reported list') → Writes r all w w' list list'
+writes_of {a = a} {b = b} {list = list} {list' = list'} h is before after' = record {
+  prefix = record {
+    done = h.done;
+    rest = h.rest;
+    whole = h.whole ∙ is;
+    taken = h.happened.text;
+    adds = record { added = listed list list' (errors_in h.done) a b h.happened.errors before after' };
+  };
+  finished = h.finished;
+  fault = h.fault;
+  beside = h.happened.beside;
+  borrowed = h.happened.borrowed;
+}
 
 -- what a text that is the whole of it wrote
-pub writes_text : {T : Type 0} {r : Result T Halt} {t : Text} {w w' : Sink} (all : Ran Text) (list : List FluentError) → all.value ≡ t → all.errors ≡ [] → SinkTook r t w w' → Writes r all w w' list list
-writes_text {r = r} {t = t} {w = w} {w' = w'} all list is bare k =
-    let none_added : AddsAll [] list list = record { added = sym (append-nil (reported list)) } in
-    record {
-      all = by_case r k.done;
-      prefix = record {
-        prefix = k.taken;
-        rest = k.left;
-        whole = k.begins ∙ sym is;
-        taken = k.held;
-        adds = record { prefix = []; rest = all.errors; whole = refl; adds = none_added };
-      };
-      fault = k.fault;
-      beside = k.beside;
-      borrowed = k.borrowed;
-    }
+pub writes_text : {T : Type 0} {r : Result T Halt} {t : Text} {all : List Event} {w w' : Sink} (list : List FluentError) → all ≡ entered 1 ∷ writes t → SinkTook r t w w' → Writes r all w w' list list
+writes_text {r = r} {w = w} {w' = w'} list is k = record {
+  prefix = record {
+    done = entered 1 ∷ writes k.taken;
+    rest = writes k.left;
+    whole = ap (λ es. entered 1 ∷ es) (sym (writes_on k.taken k.left) ∙ ap writes k.begins) ∙ sym is;
+    taken = subst (Appends w.held w'.held) (sym (text_of k.taken)) k.held;
+    adds = record { added = sym (ap (λ es. reported list ++ es) (errors_of k.taken) ∙ append-nil (reported list)) };
+  };
+  finished = on_ok_weaker r (ap writes) k.done;
+  fault = k.fault;
+  beside = k.beside;
+  borrowed = k.borrowed;
+}
+
+-- what was written and added where the answer is Ok
+pub writes_whole : {T : Type 0} {r : Result T Halt} {w w' : Sink} {list list' : List FluentError} (b : Bundle Text) (args : Map (Value Text)) (p : Pattern) → EventsAreRun b args p → Writes r (written_events b args p) w w' list list'
+    → OnOk r (WritesAll (written_pattern b args p).value (written_pattern b args p).errors w.held w'.held list list')
+writes_whole {r = r} {w = w} {w' = w'} {list = list} {list' = list'} b args p law h = on_ok_weaker r all_of h.finished
   where
-    by_case : {S : Type 0} (q : Result S Halt) → OnOk q (k.left ≡ []) → OnOk q (WritesAll all.value all.errors w.held w'.held list list)
-    by_case (Ok x) nothing_left =
-        let text : k.taken ≡ all.value = sym (append-nil k.taken) ∙ ap (λ l. k.taken ++ l) (sym nothing_left) ∙ k.begins ∙ sym is in
+    all_of : h.prefix.rest ≡ [] → WritesAll (written_pattern b args p).value (written_pattern b args p).errors w.held w'.held list list'
+    all_of none_left =
+        let come = law.prefix h.prefix.done [] (ap (λ es. h.prefix.done ++ es) (sym none_left) ∙ h.prefix.whole) in
         record {
-          taken = subst (Appends w.held w'.held) text k.held;
-          adds = record { added = sym (append-nil (reported list)) ∙ ap (λ es. reported list ++ es) (sym bare) };
+          taken = subst (Appends w.held w'.held) (sym (append-nil (text_in h.prefix.done)) ∙ come.text) h.prefix.taken;
+          adds = record { added = h.prefix.adds.added ∙ ap (λ es. reported list ++ es) (sym (append-nil (errors_in h.prefix.done)) ∙ come.errors) };
         }
-    by_case (Err x) tt = tt
+
+-- ---- where a text goes
+
+-- two texts never stand beside an output that keeps none
+two_beside : {W : Type 0} {x y : Option Text} (contents : W → Option Text) (n k : ℕ) (w : Counting W) (s : String Global) (b : Bool) → x ∷ y ∷ [] ≡ (at contents n w k s b).beside → ⊥
+two_beside contents n k w s true h = cc
+two_beside contents n k w s false h = cc
+
+abbrev flagged : {W : Type 0} → (W → Option Text) → Output W → Bool → Sink
+flagged contents out b = keeping b out.kept.now (contents (writer_in out.writer.now)) (string_bytes out.buffer.now) (outside contents out)
+
+by_flags : {W T : Type 0} {r : Result T Halt} {t : Text} (contents : W → Option Text) (out out' : Output W) (b b' : Bool) → b ≡ false → SinkTook r t (flagged contents out b) (flagged contents out' b') → SinkTook r t (outside contents out) (outside contents out')
+by_flags contents out out' false false is h = h
+by_flags contents out out' false true is h = absurd (two_beside contents out.writer.ghost_name out.buffer.ghost_name out.writer.now out.buffer.now out.is_buffered h.beside)
+by_flags contents out out' true b' is h = cc
+
+-- of an output that keeps none, what it took stands outside
+pub took_outside : {W T : Type 0} {r : Result T Halt} {t : Text} (contents : W → Option Text) (out out' : Output W) → out.is_kept ≡ false → SinkTook r t (sink contents out) (sink contents out') → SinkTook r t (outside contents out) (outside contents out')
+took_outside contents out out' is h = by_flags contents out out' out.is_kept out'.is_kept is h
 
 -- the same by substitution, within the limit
 pub substituted_of : {T E : Type 0} (r : Result T E) (held held' : Option Text) (list list' : List FluentError) (b : Bundle Text) (args : Map (Value Text)) (p : Pattern) → KeepsLimit b args p
@@ -117,39 +121,48 @@ which contents n k w s false = refl
 still : {W : Type 0} (contents : W → Option Text) (n n' k k' : ℕ) (w w' : Counting W) (s s' : String Global) (b b' : Bool) → (at contents n' w' k' s' b').borrowed ≡ (at contents n w k s b).borrowed → b' ≡ b
 still contents n n' k k' w w' s s' b b' same = sym (which contents n' k' w' s' b') ∙ ap (λ l. l.1.1) same ∙ which contents n k w s b
 
-abbrev To : {W T : Type 0} → Result T Halt → Ran Text → List FluentError → List FluentError → (W → Option Text) → ℕ → ℕ → ℕ → ℕ → Counting W → Counting W → String Global → String Global → Bool → Type 0
-To r m list list' contents n n' k k' w w' s s' b = Writes r m (at contents n w k s false) (at contents n' w' k' s' b) list list'
+abbrev To : {W T : Type 0} → Result T Halt → List Event → List FluentError → List FluentError → (W → Option Text) → ℕ → ℕ → ℕ → ℕ → Counting W → Counting W → String Global → String Global → Bool → Type 0
+To r all list list' contents n n' k k' w w' s s' b = Writes r all (at contents n w k s false) (at contents n' w' k' s' b) list list'
 
-by_itself : {W T : Type 0} {r : Result T Halt} {m : Ran Text} {list list' : List FluentError} (contents : W → Option Text) (n n' k k' : ℕ) (w w' : Counting W) (s s' : String Global) → To r m list list' contents n n' k k' w w' s s' false → Writes r m (writer contents w) (writer contents w') list list'
-by_itself contents n n' k k' w w' s s' h = record { all = h.all; prefix = h.prefix; fault = h.fault; beside = refl; borrowed = refl }
+by_itself : {W T : Type 0} {r : Result T Halt} {all : List Event} {list list' : List FluentError} (contents : W → Option Text) (n n' k k' : ℕ) (w w' : Counting W) (s s' : String Global) → To r all list list' contents n n' k k' w w' s s' false → Writes r all (writer contents w) (writer contents w') list list'
+by_itself contents n n' k k' w w' s s' h = record { prefix = h.prefix; finished = h.finished; fault = h.fault; beside = refl; borrowed = refl }
 
 -- what an output without a buffer wrote, its writer took
-pub written_by : {W T : Type 0} {r : Result T Halt} {m : Ran Text} {list list' : List FluentError} (contents : W → Option Text) (n n' k k' : ℕ) (w w' w'' : Counting W) (s s' : String Global) (b : Bool) → w'' ≡ w' → To r m list list' contents n n' k k' w w' s s' b → Writes r m (writer contents w) (writer contents w'') list list'
-written_by {r = r} {m = m} {list = list} {list' = list'} contents n n' k k' w w' w'' s s' b same h =
-    subst (λ v. Writes r m (writer contents w) (writer contents v) list list') (sym same)
-    (by_itself contents n n' k k' w w' s s' (subst (To r m list list' contents n n' k k' w w' s s') (still contents n n' k k' w w' s s' false b h.borrowed) h))
+pub written_by : {W T : Type 0} {r : Result T Halt} {all : List Event} {list list' : List FluentError} (contents : W → Option Text) (n n' k k' : ℕ) (w w' w'' : Counting W) (s s' : String Global) (b : Bool) → w'' ≡ w' → To r all list list' contents n n' k k' w w' s s' b → Writes r all (writer contents w) (writer contents w'') list list'
+written_by {r = r} {all = all} {list = list} {list' = list'} contents n n' k k' w w' w'' s s' b same h =
+    subst (λ v. Writes r all (writer contents w) (writer contents v) list list') (sym same)
+    (by_itself contents n n' k k' w w' s s' (subst (To r all list list' contents n n' k k' w w' s s') (still contents n n' k k' w w' s s' false b h.borrowed) h))
 
 -- the same of one that was made to write through
-pub written_through : {W T : Type 0} {r : Result T Halt} {m : Ran Text} {list list' : List FluentError} (contents : W → Option Text) (n n' k k' : ℕ) (w w₀ w' w'' : Counting W) (s s' : String Global) (b₀ b : Bool) → w'' ≡ w' → w₀ ≡ w → b₀ ≡ false → Writes r m (at contents n w₀ k s b₀) (at contents n' w' k' s' b) list list' → Writes r m (writer contents w) (writer contents w'') list list'
-written_through {r = r} {m = m} {list = list} {list' = list'} contents n n' k k' w w₀ w' w'' s s' b₀ b same was through h =
+pub written_through : {W T : Type 0} {r : Result T Halt} {all : List Event} {list list' : List FluentError} (contents : W → Option Text) (n n' k k' : ℕ) (w w₀ w' w'' : Counting W) (s s' : String Global) (b₀ b : Bool) → w'' ≡ w' → w₀ ≡ w → b₀ ≡ false → Writes r all (at contents n w₀ k s b₀) (at contents n' w' k' s' b) list list' → Writes r all (writer contents w) (writer contents w'') list list'
+written_through {r = r} {all = all} {list = list} {list' = list'} contents n n' k k' w w₀ w' w'' s s' b₀ b same was through h =
     written_by contents n n' k k' w w' w'' s s' b same
-    (subst (λ v. Writes r m (at contents n v k s false) (at contents n' w' k' s' b) list list') was
-    (subst (λ c. Writes r m (at contents n w₀ k s c) (at contents n' w' k' s' b) list list') through h))
+    (subst (λ v. Writes r all (at contents n v k s false) (at contents n' w' k' s' b) list list') was
+    (subst (λ c. Writes r all (at contents n w₀ k s c) (at contents n' w' k' s' b) list list') through h))
 
 -- what an output with a buffer wrote, its buffer took
-abbrev Into : {W T : Type 0} → Result T Halt → Ran Text → List FluentError → List FluentError → (W → Option Text) → ℕ → ℕ → ℕ → ℕ → Counting W → Counting W → String Global → String Global → Bool → Type 0
-Into r m list list' contents n n' k k' w w' s s' b = Writes r m (at contents n w k s true) (at contents n' w' k' s' b) list list'
+abbrev Into : {W T : Type 0} → Result T Halt → List Event → List FluentError → List FluentError → (W → Option Text) → ℕ → ℕ → ℕ → ℕ → Counting W → Counting W → String Global → String Global → Bool → Type 0
+Into r all list list' contents n n' k k' w w' s s' b = Writes r all (at contents n w k s true) (at contents n' w' k' s' b) list list'
 
-took_in : {W T : Type 0} {r : Result T Halt} {m : Ran Text} {list list' : List FluentError} (contents : W → Option Text) (n n' k k' : ℕ) (w w' : Counting W) (s s' : String Global) → Into r m list list' contents n n' k k' w w' s s' true → OnOk r (string_bytes s' ≡ string_bytes s ++ m.value)
-took_in {r = Ok x} contents n n' k k' w w' s s' h = h.all.taken
-took_in {r = Err e} contents n n' k k' w w' s s' h = tt
+pub gathered : {W T : Type 0} {r : Result T Halt} {list list' : List FluentError} (b : Bundle Text) (args : Map (Value Text)) (p : Pattern) → EventsAreRun b args p → (contents : W → Option Text) (n n' k k' : ℕ) (w w' : Counting W) (s s' : String Global) (c : Bool) → Into r (written_events b args p) list list' contents n n' k k' w w' s s' c
+    → OnOk r (string_bytes s' ≡ string_bytes s ++ (written_pattern b args p).value)
+gathered {W} {T} {r = r} {list = list} {list' = list'} b args p law contents n n' k k' w w' s s' c h =
+    let in_buffer = subst (Into r (written_events b args p) list list' contents n n' k k' w w' s s') (still contents n n' k k' w w' s s' true c h.borrowed) h in
+    on_ok_weaker r (λ (all : WritesAll (written_pattern b args p).value (written_pattern b args p).errors (Some (string_bytes s)) (Some (string_bytes s')) list list'). all.taken) (writes_whole b args p law in_buffer)
 
-pub gathered : {W T : Type 0} {r : Result T Halt} {m : Ran Text} {list list' : List FluentError} (contents : W → Option Text) (n n' k k' : ℕ) (w w' : Counting W) (s s' : String Global) (b : Bool) → Into r m list list' contents n n' k k' w w' s s' b → OnOk r (string_bytes s' ≡ string_bytes s ++ m.value)
-gathered {r = r} {m = m} {list = list} {list' = list'} contents n n' k k' w w' s s' b h = took_in contents n n' k k' w w' s s' (subst (Into r m list list' contents n n' k k' w w' s s') (still contents n n' k k' w w' s s' true b h.borrowed) h)
+-- the errors that were added, all where the answer is Ok
+pub adds_all : {T : Type 0} {r : Result T Halt} {w w' : Sink} {list list' : List FluentError} (b : Bundle Text) (args : Map (Value Text)) (p : Pattern) → EventsAreRun b args p → Writes r (written_events b args p) w w' list list' → OnOk r (AddsAll (written_pattern b args p).errors list list')
+adds_all {r = r} {w = w} {w' = w'} {list = list} {list' = list'} b args p law h =
+    on_ok_weaker r (λ (all : WritesAll (written_pattern b args p).value (written_pattern b args p).errors w.held w'.held list list'). all.adds) (writes_whole b args p law h)
 
-pub adds_all : {T : Type 0} {r : Result T Halt} {m : Ran Text} {w w' : Sink} {list list' : List FluentError} → Writes r m w w' list list' → OnOk r (AddsAll m.errors list list')
-adds_all {r = Ok x} h = h.all.adds
-adds_all {r = Err e} h = tt
+-- the errors that were added, whatever is answered
+pub adds_some : {T : Type 0} {r : Result T Halt} {w w' : Sink} {list list' : List FluentError} (b : Bundle Text) (args : Map (Value Text)) (p : Pattern) → EventsAreRun b args p → Writes r (written_events b args p) w w' list list' → AddsPrefix (written_pattern b args p).errors list list'
+adds_some b args p law h = record {
+  prefix = errors_in h.prefix.done;
+  rest = errors_in h.prefix.rest;
+  whole = (law.prefix h.prefix.done h.prefix.rest h.prefix.whole).errors;
+  adds = h.prefix.adds;
+}
 
 -- a list that was handed in is there at the end
 pub never_none : {A B : Type 0} (f : A → B) (o : Option A) (y : B) → o ≡ None → option_map f o ≡ Some y → ⊥
@@ -167,34 +180,3 @@ faulted_as f e f' e' (Ok x) is h = subst (CountsTell f e f' e') (sym is) h
 faulted_as f e f' e' (Err (fault.Writer x)) is h = subst (CountsTell f e f' e') (sym is) h
 faulted_as f e f' e' (Err fault.Zero) is h = subst (CountsTell f e f' e') (sym is) h
 faulted_as f e f' e' (Err fault.Memory) is h = subst (CountsTell f e f' e') (sym is) h
-
--- ---- text and errors by themselves
-
-takes_all : {T : Type 0} {r : Result T Halt} {m : Ran Text} {w w' : Sink} {list list' : List FluentError} → Writes r m w w' list list' → OnOk r (Appends w.held w'.held m.value)
-takes_all {r = Ok x} h = h.all.taken
-takes_all {r = Err e} h = tt
-
-pub takes_text : {T : Type 0} {q : Result T Halt} {m : Ran Text} {w w' : Sink} {list list' : List FluentError} (r : Result T WriteFault) → without_error r ≡ q → Writes q m w w' list list' → TakesText r m.value w.held w'.held
-takes_text {m = m} {w = w} {w' = w'} r is h = record {
-  all = ok_as (Appends w.held w'.held m.value) r is (takes_all h);
-  prefix = h.prefix.prefix;
-  rest = h.prefix.rest;
-  whole = h.prefix.whole;
-  taken = h.prefix.taken;
-}
-
--- a text that was written at once
-pub takes_at_once : {T E : Type 0} (r : Result T E) (text t : Text) {held held' : Option Text} → text ≡ t → OnOk r (Appends held held' t) → OnErr r (TookPrefix held held' t) → TakesText r text held held'
-takes_at_once (Ok x) text t {held = held} {held' = held'} is all prefix =
-    let taken = subst (Appends held held') (sym is) all in
-    record { all = taken; prefix = text; rest = []; whole = append-nil text; taken = taken }
-takes_at_once (Err e) text t is all prefix =
-    record { all = tt; prefix = prefix.0; rest = prefix.1; whole = sym prefix.2 ∙ sym is; taken = prefix.3 }
-
--- both
-pub writes_all : {T E : Type 0} (r : Result T E) {text : Text} (errors : List Error) {held held' : Option Text} (list list' : List FluentError) → TakesText r text held held' → OnOk r (AddsAll errors list list') → OnOk r (WritesAll text errors held held' list list')
-writes_all (Ok x) errors list list' h k = record { taken = h.all; adds = k }
-writes_all (Err e) errors list list' h k = tt
-
-pub writes_prefix : {T E : Type 0} {r : Result T E} {text : Text} {errors : List Error} {held held' : Option Text} {list list' : List FluentError} → TakesText r text held held' → AddsPrefix errors list list' → WritesPrefix text errors held held' list list'
-writes_prefix h k = record { prefix = h.prefix; rest = h.rest; whole = h.whole; taken = h.taken; adds = k }

@@ -1,6 +1,6 @@
 -- What formatting answers as a text.
 use Rattle.std.proofs.Common.{rules, ◌≡◌, refl, sym, ap, subst, ◌∙◌, List, [], ◌++◌, append-nil, Option, Some, None, Result, Global}
-use Rattle.std.specs.Prelude.{ℕ, Bool, true, ◌≤◌, ◌&&◌, not, is_some, if◌then◌else◌}
+use Rattle.std.specs.Prelude.{true, ◌≤◌, ◌&&◌, not, is_some, if◌then◌else◌}
 use Rattle.std.specs.declared.borrow.CowStr.{CowStr}
 use Rattle.fluent_tree.specs.Tree.{Text, Pattern, nothing, more, text, placeable}
 use Rattle.fluent_meaning.specs.Errors.{Error}
@@ -9,9 +9,9 @@ use Rattle.fluent_meaning.specs.Arguments.{Map}
 use Rattle.fluent_meaning.specs.Bundle.{Bundle, unless_formatted}
 use Rattle.fluent_meaning.specs.Result.{formatted, written_pattern, substituted_pattern}
 use Rattle.fluent_bundle.specs.Formatted.{AddsAll, AddsPrefix, GivesText}
-use Rattle.fluent_meaning.specs.Walk.{Environment, application, elements, deep, inner, has_one}
-use Rattle.fluent_meaning.specs.Meaning.{Budget, Ran, left, ran, after_text, within_budget}
-use Rattle.fluent_values.specs.Texts.{sole_text, is_text, texts_of}
+use Rattle.fluent_meaning.specs.Walk.{elements}
+use Rattle.fluent_meaning.specs.Meaning.{ran}
+use Rattle.fluent_values.specs.Texts.{sole_text, is_text}
 use Rattle.fluent_resolver.specs.Status.{reported}
 use Rattle.fluent_bundle.specs.Limits.{KeepsLimit}
 use Rattle.fluent_entries.specs.declared.errors.FluentError.{FluentError}
@@ -42,24 +42,6 @@ at_once_where (Some x) p t h = cc
 pub texts_where : {X : Type 0} (o : Option X) (p : Pattern) → (not (is_some o) && is_text p) ≡ true → (o ≡ None) × (is_text p ≡ true)
 texts_where None p h = (refl, h)
 texts_where (Some x) p h = cc
-
--- what a pattern of texts alone means there
-texts_ran : (b : Bundle Text) (below : Environment Text → List Pattern → Pattern → Budget → Ran Text) (env : Environment Text) (path : List Pattern) (one : Bool) (p : Pattern) (n : ℕ) → ((u : Text) → b.transform u ≡ u) → is_text p ≡ true
-    → elements within_budget b below env path one p (left n) ≡ record { value = texts_of p; errors = []; budget = left n }
-unfolding elements
-texts_ran b below env path one nothing n plain is = refl
-texts_ran b below env path one (more (text t) rest) n plain is =
-    ap (λ r. after_text (record { value = b.transform t; errors = []; budget = left n }) r) (texts_ran b below env path one rest n plain is)
-    ∙ ap (λ u. record { value = u ++ texts_of rest; errors = []; budget = left n }) (plain t)
-texts_ran b below env path one (more (placeable x) rest) n plain is = cc
-
-pub texts_value : (b : Bundle Text) (env : Map (Value Text)) (p : Pattern) → ((u : Text) → b.transform u ≡ u) → is_text p ≡ true → (written_pattern b env p).value ≡ texts_of p
-unfolding ran
-texts_value b env p plain is = ap (λ r. r.value) (texts_ran b (deep within_budget b b.limit) (application env) (inner [] p) (has_one p) p b.limit plain is)
-
-pub texts_errors : (b : Bundle Text) (env : Map (Value Text)) (p : Pattern) → ((u : Text) → b.transform u ≡ u) → is_text p ≡ true → (written_pattern b env p).errors ≡ []
-unfolding ran
-texts_errors b env p plain is = ap (λ r. r.errors) (texts_ran b (deep within_budget b b.limit) (application env) (inner [] p) (has_one p) p b.limit plain is)
 
 -- what a pattern of one text means there
 pub sole_value : (b : Bundle Text) (env : Map (Value Text)) (p : Pattern) (t : Text) → ((u : Text) → b.transform u ≡ u) → sole_text p ≡ Some t → (written_pattern b env p).value ≡ t

@@ -1,4 +1,5 @@
 pub mod Soles
+pub mod Events
 pub mod Formats
 pub mod Givings
 pub mod Running

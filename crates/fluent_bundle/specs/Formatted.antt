@@ -1,12 +1,12 @@
 -- What a formatting call wrote and reported.
-use Rattle.std.specs.Prelude.{◌≡◌, List, ◌++◌, Option, Result, OnOk, IfOk}
+use Rattle.std.specs.Prelude.{◌≡◌, List, [], ◌++◌, Option, Result, OnOk, IfOk}
 use Rattle.std.specs.Cow.{cow_str_bytes}
 use Rattle.std.specs.declared.borrow.CowStr.{CowStr}
 use Rattle.std.proofs.Common.{Global}
 use Rattle.std.specs.Io.KnownBytes.{Appends}
 use Rattle.fluent_tree.specs.Tree.{Text}
 use Rattle.fluent_meaning.specs.Errors.{Error}
-use Rattle.fluent_meaning.specs.Meaning.{Ran}
+use Rattle.fluent_meaning.specs.Events.{Event, text_in, errors_in}
 use Rattle.fluent_resolver.specs.Status.{reported}
 use Rattle.fluent_values.specs.Sinks.{Sink, CountsTell}
 use Rattle.fluent_values.specs.declared.output.Halt.{Halt}
@@ -28,18 +28,18 @@ pub record WritesAll (text : Text) (errors : List Error) (held held' : Option Te
   pub taken : Appends held held' text
   pub adds : AddsAll errors list list'
 
--- The same of a beginning of the text, and of a beginning of the errors.
-pub record WritesPrefix (text : Text) (errors : List Error) (held held' : Option Text) (list list' : List FluentError) : Type 0 where
-  pub prefix : Text
-  pub rest : Text
-  pub whole : prefix ++ rest ≡ text
-  pub taken : Appends held held' prefix
-  pub adds : AddsPrefix errors list list'
+-- A prefix of these events happened, and nothing else: the writer took its text, and the list has its errors after those that stood in it.
+pub record WritesPrefix (all : List Event) (held held' : Option Text) (list list' : List FluentError) : Type 0 where
+  pub done : List Event
+  pub rest : List Event
+  pub whole : done ++ rest ≡ all
+  pub taken : Appends held held' (text_in done)
+  pub adds : AddsAll (errors_in done) list list'
 
--- What a pattern means was written, or a beginning of it where the answer is no Ok.
-pub record Writes {T : Type 0} (result : Result T Halt) (meant : Ran Text) (w w' : Sink) (list list' : List FluentError) : Type 0 where
-  pub all : OnOk result (WritesAll meant.value meant.errors w.held w'.held list list')
-  pub prefix : WritesPrefix meant.value meant.errors w.held w'.held list list'
+-- These events happened, or a prefix of them where the answer is no Ok.
+pub record Writes {T : Type 0} (result : Result T Halt) (all : List Event) (w w' : Sink) (list list' : List FluentError) : Type 0 where
+  pub prefix : WritesPrefix all w.held w'.held list list'
+  pub finished : OnOk result (prefix.rest ≡ [])
   pub fault : CountsTell w.failed w.empty w'.failed w'.empty result
   pub beside : w'.beside ≡ w.beside
   pub borrowed : w'.borrowed ≡ w.borrowed

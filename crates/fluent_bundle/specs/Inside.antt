@@ -2,5 +2,4 @@
 pub mod Asked
 pub mod TextSaid
 pub mod Outputs
-pub mod Taken
 pub mod Unchanged

@@ -16,4 +16,5 @@ pub mod Under
 pub mod TextSaid
 pub mod PatternsWithoutMemory
 pub mod ById
+pub mod Facts
 pub mod Inside

@@ -20,7 +20,7 @@ use Rattle.fluent_meaning.specs.Result.{written_pattern}
 use Rattle.fluent_meaning.specs.Value.{Value}
 use Rattle.fluent_entries.specs.declared.errors.FluentError.{FluentError}
 use Rattle.fluent_values.specs.MessageView.{content_of}
-use Rattle.fluent_values.specs.Sinks.{sink}
+use Rattle.fluent_values.specs.Sinks.{outside}
 use Rattle.fluent_values.specs.declared.output.Halt.{Halt}
 use Rattle.fluent_values.specs.declared.output.Output.{Output}
 use Rattle.fluent_bundle.specs.BundleView.{message_at}
@@ -80,7 +80,7 @@ WritesBeginning u p contents w w' errors errors' =
 abbrev pub Writes : {W T : Type 0} → Under → Pattern → Result T Halt → (W → Option Text)
     → Output W → Output W → Errors → Errors → Type 0
 Writes u p result contents out out' errors errors' =
-    formatted.Writes result (means u p) (sink contents out) (sink contents out')
+    formatted.Writes result (f.written_events u.bundle u.args p) (outside contents out) (outside contents out')
     errors.items errors'.items
 
 -- ---- what is given

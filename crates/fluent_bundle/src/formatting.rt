@@ -1,7 +1,7 @@
 //! The formatting calls of a bundle.
 #![tactic(auto, unfolding(crate::specs::BundleView::bundle_parts))]
 
-ghost use Rattle.std.specs.Prelude.{◌≡◌, ◌&&◌, not, is_some, IfOk};
+ghost use Rattle.std.specs.Prelude.{◌≡◌, ◌&&◌, false, not, is_some, IfOk};
 ghost use Rattle.std.specs.Option.{option_map};
 ghost use Rattle.fluent_meaning.specs.Value.{text_value};
 ghost use Rattle.fluent_text.specs.Writer.{CountsFault};
@@ -22,7 +22,7 @@ use crate::text_says::{Adds, Gives, Takes};
 use fluent_intl::MemoizerKind;
 use fluent_resolver::output::through;
 use fluent_resolver::texts::{is_text, put_texts};
-use fluent_resolver::{Cursor, Scope, calls_are_walks, write_pattern};
+use fluent_resolver::{Cursor, Scope, write_pattern};
 use fluent_syntax::ast::{Pattern, PatternElement};
 use fluent_syntax::{Counting, WriteFault, put};
 use fluent_values::output::{Halt, Output, with_error};
@@ -56,8 +56,9 @@ impl<
     /// # Errors
     ///
     /// `Writer` where a write failed, `Zero` where a write of a nonempty piece took no byte, `Memory` where an
-    /// allocation failed. Then what was written begins the text, and what was added begins the errors. A pattern of
-    /// texts alone takes no memory where no transform is set.
+    /// allocation failed. Then what was written begins the text, and what was added begins the errors: all that the
+    /// pattern does up to one place, and nothing after it. A pattern of texts alone takes no memory where no
+    /// transform is set.
     pub fn write_pattern<W: Write>(
         &self,
         w: &mut Counting<W>,
@@ -120,19 +121,20 @@ impl<
         errors: &mut Vec<FluentError>,
     ) -> Result<(), WriteFault>
         requires { IsPlaced (entries_in self.now) (references (pattern_view pattern.now)) cursor }
-        ensures text { ⟦<W as Takes<Self>>⟧.text self.now pattern.now args.entry result w.old w.new }
-        ensures errors { ⟦<Self as Adds>⟧.all self.now pattern.now args.entry result
-            errors.old errors.new }
-        ensures prefix { ⟦<Self as Adds>⟧.prefix self.now pattern.now args.entry
-            errors.old errors.new }
+        ensures whole { ⟦<W as Takes<Self>>⟧.all self.now pattern.now args.entry result
+            w.old w.new errors.old errors.new }
+        ensures prefix { ⟦<W as Takes<Self>>⟧.prefix self.now pattern.now args.entry
+            w.old w.new errors.old errors.new }
         ensures fault { CountsFault w.old w.new result }
         ensures memory { WritesFree self.now (pattern_view pattern.now) result }
     {
+        laws::events_are_the_run();
         if let Some(text) = self.untransformed_text(pattern) {
             return put(w, text.as_bytes());
         }
         let mut unused = String::new(self.alloc);
-        let mut out = through(w, &mut unused);
+        let mut kept = String::new(self.alloc);
+        let mut out = through(w, &mut unused, &mut kept);
         let written = self.write_out(&mut out, pattern, cursor, args, errors);
         with_error(written, out.error)
     }
@@ -203,7 +205,7 @@ impl<
         formatted(self.alloc, &self.formatter, &value, &self.intls)
     }
 
-    /// Writes the text of a pattern to where an output says.
+    /// Writes the text of a pattern to where an output says, which keeps no text.
     fn write_out<W: Write>(
         &self,
         out: &mut Output<W>,
@@ -212,7 +214,8 @@ impl<
         args: Option<&FluentArgs<'_, C>>,
         errors: &mut Vec<FluentError>,
     ) -> Result<(), Halt>
-        requires { IsPlaced (entries_in self.now) (references (pattern_view pattern.now)) cursor }
+        requires placed { IsPlaced (entries_in self.now) (references (pattern_view pattern.now)) cursor }
+        requires unkept { out.old.is_kept ≡ false }
         ensures writes { ⟦<W as Takes<Self>>⟧.put self.now pattern.now args.entry result
             out.old out.new errors.old errors.new }
         ensures memory { PutsFree self.now (pattern_view pattern.now) out.old result }
@@ -220,7 +223,6 @@ impl<
         if self.writes_texts_alone(pattern) {
             return put_texts(out, pattern);
         }
-        calls_are_walks();
         let mut scope = Scope::new(self, &self.entries, args, Some(errors));
         let written = write_pattern(&mut scope, out, pattern, cursor);
         match scope.into_errors() {
@@ -271,11 +273,15 @@ impl<
             errors.old errors.new }
         ensures fault { CountsHalt unused.old unused.new result }
     {
+        laws::events_are_the_run();
+        let mut kept = String::new(self.alloc);
         let mut out = Output {
             writer: unused,
             buffer: text,
             is_buffered: true,
             error: None,
+            kept: &mut kept,
+            is_kept: false,
         };
         self.write_out(&mut out, pattern, cursor, args, errors)
     }

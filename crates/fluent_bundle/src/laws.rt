@@ -1,11 +1,13 @@
-//! What a bundle's limit does, from the laws of the meanings.
+//! What a bundle's limit does, and what the events of a formatting call come to, from the laws of the meanings.
 ghost use Rattle.fluent_tree.specs.Tree.{Pattern, Text};
 ghost use Rattle.fluent_meaning.specs.Arguments.{Map};
 ghost use Rattle.fluent_meaning.specs.Bundle.{Bundle};
 ghost use Rattle.fluent_meaning.specs.Value.{Value};
+ghost use Rattle.fluent_bundle.specs.Formatting.{EventsAreRun};
 ghost use Rattle.fluent_bundle.specs.Limits.{KeepsLimit};
 
 use fluent_meaning::laws;
+use fluent_resolver::calls_are_walks;
 use std::collections::LinkedList;
 
 /// What a pattern gives keeps the limit of its bundle, whatever the bundle, the arguments and the pattern.
@@ -14,4 +16,12 @@ pub fn limits_are_kept()
 {
     laws::meanings_agree::<LinkedList<u8>>();
     laws::work_is_bounded::<LinkedList<u8>>();
+}
+
+/// The events of a formatting call come to what its pattern gives, whatever the bundle, the arguments and the pattern.
+pub fn events_are_the_run()
+    ensures { (b : Bundle Text) (args : Map (Value Text)) (p : Pattern) → EventsAreRun b args p }
+{
+    calls_are_walks();
+    fluent_resolver::events_are_the_run();
 }

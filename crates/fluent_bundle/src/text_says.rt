@@ -242,10 +242,6 @@ pub(crate) trait Takes<B> {
     ghost prefix: { B → Pattern → Option (Bor (FluentArgs Self.Own)) →
         Counting Self → Counting Self → Errors → Errors → Type 0 };
 
-    /// Its text alone.
-    ghost text: { B → Pattern → Option (Bor (FluentArgs Self.Own)) →
-        Result (Unit {0}) WriteFault → Counting Self → Counting Self → Type 0 };
-
     /// To where an output says.
     ghost put: { B → Pattern → Writing Self.Own (Unit {0}) Halt (Output Self) };
 
@@ -283,9 +279,6 @@ impl<
         (meant M.category C.shown C.alike F.answer G.formatted T.changed) C.content W.contents };
 
     ghost prefix = { said.takes_prefix
-        (meant M.category C.shown C.alike F.answer G.formatted T.changed) C.content W.contents };
-
-    ghost text = { inside.takes_text
         (meant M.category C.shown C.alike F.answer G.formatted T.changed) C.content W.contents };
 
     ghost put = { inside.takes

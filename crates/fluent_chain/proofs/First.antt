@@ -1,5 +1,5 @@
 -- The first bundle that has a pattern.
-use Rattle.std.proofs.Common.{◌≡◌, ◌∙◌, sym, ap, subst, refl, ℕ, Bool, true, false, cond, suc, zero, ◌+◌, ◌≤◌, add-one, length, List, [], ◌∷◌, append-nil, map, drop, Option, Some, None, Result, Ok, Err, OnOk, OnErr, IfOk, String, string_bytes, Global}
+use Rattle.std.proofs.Common.{◌≡◌, ◌∙◌, sym, ap, subst, refl, ℕ, Bool, true, false, cond, suc, zero, ◌+◌, ◌≤◌, add-one, length, List, [], ◌∷◌, ◌++◌, append-nil, map, drop, Option, Some, None, Result, Ok, Err, OnOk, OnErr, IfOk, String, string_bytes, Global}
 use Rattle.std.specs.Prelude.{is_some, ◌||◌, slice_get}
 use Rattle.std.specs.Cow.{cow_str_bytes}
 use Rattle.std.specs.List.{list_any, position_from}
@@ -12,6 +12,9 @@ use Rattle.std.specs.declared.borrow.CowStr.{CowStr}
 use Rattle.fluent_tree.specs.Tree.{Text, Pattern}
 use Rattle.fluent_meaning.specs.Errors.{Error}
 use Rattle.fluent_entries.specs.declared.errors.FluentError.{FluentError}
+use Rattle.fluent_meaning.specs.Events.{writes}
+use Rattle.fluent_resolver.specs.Status.{reported}
+use Rattle.fluent_bundle.specs.Facts.Events.{errors_of, text_of, writes_on}
 use Rattle.fluent_bundle.specs.Formatted.{AddsPrefix, GivesText, WritesAll, WritesPrefix}
 use Rattle.fluent_text.specs.declared.counting.WriteFault.{WriteFault}
 use Rattle.std.specs.declared.alloc.AllocError.{AllocError}
@@ -86,9 +89,18 @@ pub puts_alone : {T E : Type 0} (r : Result T E) (piece text : Text) (held held'
 puts_alone (Ok x) piece text held held' list same took = record { taken = subst (Appends held held') same took; adds = record { added = sym (append-nil _) } }
 puts_alone (Err e) piece text held held' list same took = tt
 
-pub prefix_alone : {T E : Type 0} (r : Result T E) (piece text : Text) (held held' : Option Text) (list : List FluentError) → piece ≡ text → OnOk r (Appends held held' piece) → OnErr r (TookPrefix held held' piece) → WritesPrefix text [] held held' list list
-prefix_alone (Ok x) piece text held held' list same took left = record { prefix = text; rest = []; whole = append-nil text; taken = subst (Appends held held') same took; adds = record { prefix = []; rest = []; whole = refl; adds = record { added = sym (append-nil _) } } }
-prefix_alone (Err e) piece text held held' list same took left = record { prefix = left.0; rest = left.1; whole = sym left.2 ∙ same; taken = left.3; adds = record { prefix = []; rest = []; whole = refl; adds = record { added = sym (append-nil _) } } }
+put_so_far : (taken left text : Text) (held held' : Option Text) (list : List FluentError) → taken ++ left ≡ text → Appends held held' taken → WritesPrefix (writes text) held held' list list
+put_so_far taken left text held held' list whole took = record {
+  done = writes taken;
+  rest = writes left;
+  whole = sym (writes_on taken left) ∙ ap writes whole;
+  taken = subst (Appends held held') (sym (text_of taken)) took;
+  adds = record { added = sym (ap (λ es. reported list ++ es) (errors_of taken) ∙ append-nil (reported list)) };
+}
+
+pub prefix_alone : {T E : Type 0} (r : Result T E) (piece text : Text) (held held' : Option Text) (list : List FluentError) → piece ≡ text → OnOk r (Appends held held' piece) → OnErr r (TookPrefix held held' piece) → WritesPrefix (writes text) held held' list list
+prefix_alone (Ok x) piece text held held' list same took left = put_so_far piece [] text held held' list (append-nil piece ∙ same) took
+prefix_alone (Err e) piece text held held' list same took left = put_so_far left.0 left.1 text held held' list (sym left.2 ∙ same) left.3
 
 -- a text that is answered in memory of its own
 pub owned : {D : Type 0} (all : Text) (errors : List Error) (text : CowStr Global) (r : Result (String Global) AllocError) (list list' : List FluentError) → GivesText {E = D} all errors (Ok text) list list' → IfOk r (λ s. string_bytes s ≡ cow_str_bytes text) → GivesOwned all errors r list list'

@@ -7,9 +7,11 @@ use Rattle.fluent_meaning.specs.Value.{Value}
 use Rattle.fluent_meaning.specs.Arguments.{Map}
 use Rattle.fluent_meaning.specs.Errors.{Error}
 use Rattle.fluent_meaning.specs.Bundle.{Bundle}
+use Rattle.fluent_meaning.specs.Events.{Event, writes}
 use Rattle.fluent_meaning.specs.Result.{formatted, written_pattern, substituted_pattern}
 use Rattle.fluent_values.specs.MessageView.{first_named}
 use Rattle.fluent_bundle.specs.BundleView.{message_at}
+use Rattle.fluent_bundle.specs.Formatting.{written_events}
 
 -- ---- what a bundle has
 
@@ -81,6 +83,11 @@ written_by_substitution id args None = record { text = id; errors = [] }
 written_by_substitution id args (Some found) =
     let means = substituted_pattern found.0 args found.1 in
     record { text = means.value; errors = means.errors }
+
+-- what is done then, as events
+abbrev pub events_of : Text → Map (Value Text) → Option (Bundle Text × Pattern) → List Event
+events_of id args None = writes id
+events_of id args (Some found) = written_events found.0 args found.1
 
 -- which opens no more placeables than the limit of that bundle
 abbrev pub IsWithin : {C : Type 0} → Map (Value C) → Option (Bundle C × Pattern) → Type 0

@@ -22,7 +22,7 @@ use Rattle.fluent_entries.specs.declared.errors.FluentError.{FluentError}
 use Rattle.fluent_bundle.specs.BundleView.{formatter_in, transform_in}
 use Rattle.fluent_bundle.specs.Formatted.{AddsAll, AddsPrefix, GivesText, WritesAll, WritesPrefix}
 use Rattle.fluent_bundle.specs.declared.bundle.FluentBundle.{FluentBundle}
-use Rattle.fluent_chain.specs.Chain.{shown_of, substituted_of, written_of, written_by_substitution, IsWithin}
+use Rattle.fluent_chain.specs.Chain.{events_of, shown_of, substituted_of, written_of, written_by_substitution, IsWithin}
 use Rattle.fluent_chain.specs.ChainView.{bundle_with, meant_with}
 use Rattle.fluent_chain.specs.declared.chain.Chain.{Chain}
 
@@ -68,8 +68,8 @@ pub record WritesFound (id : Text) (args : Map (Value Text)) (found : Option (Bu
   pub within : IsWithin args found → OnOk result (WritesAll (written_by_substitution id args found).text (written_by_substitution id args found).errors held held' errors.items errors'.items)
   -- with the budget, in every case
   pub whole : OnOk result (WritesAll (written_of id args found).text (written_of id args found).errors held held' errors.items errors'.items)
-  -- whatever is answered
-  pub prefix : WritesPrefix (written_of id args found).text (written_of id args found).errors held held' errors.items errors'.items
+  -- whatever is answered, a prefix of its events happened
+  pub prefix : WritesPrefix (events_of id args found) held held' errors.items errors'.items
 
 -- What takes no memory: the id, or texts alone, of a bundle without transform.
 abbrev pub NeedsNoMemory : {M C F G X : Type 0} → Option (FluentBundle M C F G X × Pattern) → Type 0

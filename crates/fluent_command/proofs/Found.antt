@@ -1,5 +1,5 @@
 -- What comes of a value that is written by id.
-use Rattle.std.proofs.Common.{◌≡◌, ◌≢◌, ◌∙◌, sym, ap, subst, refl, Bool, true, false, [], ◌∷◌, ◌++◌, Option, Some, None, Result, Ok, Err, IfOk, is_ok}
+use Rattle.std.proofs.Common.{◌≡◌, ◌≢◌, ◌∙◌, sym, ap, subst, refl, Bool, true, false, [], ◌∷◌, ◌++◌, Option, Some, None, Result, Ok, Err, IfOk, OnOk, is_ok}
 use Rattle.std.proofs.KnownBytes.{Appends-nil}
 use Rattle.fluent_text.specs.Writer.{writer_in}
 use Rattle.fluent_text.specs.declared.counting.Counting.{Counting}
@@ -10,17 +10,18 @@ use Rattle.fluent_meaning.specs.Bundle.{Bundle}
 use Rattle.fluent_meaning.specs.Result.{written_pattern}
 use Rattle.fluent_meaning.specs.Value.{Value}
 use Rattle.fluent_bundle.specs.ById.{WritesAsked}
+use Rattle.fluent_bundle.specs.Formatting.{EventsAreRun}
 use Rattle.fluent_command.specs.Ending.{shown, no_message}
 use Rattle.fluent_command.specs.Words.{Asked}
 use Rattle.fluent_command.specs.Program.{arguments_of, only, run_value}
 use Rattle.fluent_command.specs.Inside.Comes.{Errors}
 use Rattle.fluent_command.specs.Inside.OutputProgress.{Added, Took, TookPart}
-use Rattle.fluent_command.proofs.Adding.{recast}
+use Rattle.fluent_command.proofs.Adding.{always, recast}
 use Rattle.fluent_command.proofs.Stopping.{part_written}
 use Rattle.fluent_command.proofs.Taking.{added_written, took_all, took_short, took_then, took_written}
 
 module _ {W : Type 0} (asked : Asked) (bundle : Bundle Text) (args : Map (Value Text)) (same : args ≡ arguments_of asked.arguments)
-    (contents : W → Option Text) (r : Result Bool WriteFault) (out out' : Counting W) (errors errors' : Errors) where
+    (law : (p : Pattern) → EventsAreRun bundle args p) (contents : W → Option Text) (r : Result Bool WriteFault) (out out' : Counting W) (errors errors' : Errors) where
   -- what the call says of it, if it is there
   abbrev Wrote : Option Pattern → Type 0
   Wrote value = WritesAsked (record { bundle = bundle; args = args }) value r contents out out' errors errors'
@@ -39,7 +40,7 @@ module _ {W : Type 0} (asked : Asked) (bundle : Bundle Text) (args : Map (Value 
         cc
     puts_fault (Some p) writes =
         subst (λ a. Took r' ((written_pattern bundle a p).value ++ 10 ∷ []) (contents (writer_in out)) (contents (writer_in out'))) same
-        (took_short r r' _ (10 ∷ []) _ _ faulted (took_written r _ _ _ _ _ _ writes.whole writes.prefix))
+        (took_short r r' _ (10 ∷ []) _ _ faulted (took_written r bundle args p (law p) writes.whole writes.prefix))
 
     pub adds_fault : (value : Option Pattern) → Wrote value → Added r' (run_value asked bundle value).errors errors.items errors'.items
     adds_fault None writes =
@@ -47,7 +48,7 @@ module _ {W : Type 0} (asked : Asked) (bundle : Bundle Text) (args : Map (Value 
         cc
     adds_fault (Some p) writes =
         subst (λ a. Added r' (written_pattern bundle a p).errors errors.items errors'.items) same
-        (recast r r' _ _ _ _ (faulted ∙ sym (ap is_ok is)) refl (added_written r _ _ _ _ _ _ writes.whole writes.prefix))
+        (recast r r' _ _ _ _ (faulted ∙ sym (ap is_ok is)) refl (added_written r bundle args p (law p) writes.whole writes.prefix))
 
     -- before the line feed
     pub part_fault : (value : Option Pattern) → Wrote value → TookPart (run_value asked bundle value).output (contents (writer_in out)) (contents (writer_in out'))
@@ -56,7 +57,7 @@ module _ {W : Type 0} (asked : Asked) (bundle : Bundle Text) (args : Map (Value 
         cc
     part_fault (Some p) writes =
         subst (λ a. TookPart ((written_pattern bundle a p).value ++ 10 ∷ []) (contents (writer_in out)) (contents (writer_in out'))) same
-        (part_written _ _ _ _ _ _ writes.prefix)
+        (part_written bundle args p (law p) writes.prefix)
 
   -- ---- it was written
 
@@ -68,7 +69,20 @@ module _ {W : Type 0} (asked : Asked) (bundle : Bundle Text) (args : Map (Value 
         cc
     puts_line (Some p) writes new feed =
         subst (λ a. Took r' ((written_pattern bundle a p).value ++ 10 ∷ []) (contents (writer_in out)) new) same
-        (took_then r r' true _ (10 ∷ []) _ _ _ is (took_written r _ _ _ _ _ _ writes.whole writes.prefix) feed)
+        (took_then r r' true _ (10 ∷ []) _ _ _ is (took_written r bundle args p (law p) writes.whole writes.prefix) feed)
+
+    -- its errors were added, whatever comes of the line feed
+    pub adds_line : (value : Option Pattern) → Wrote value → Added r' (run_value asked bundle value).errors errors.items errors'.items
+    adds_line None writes =
+        let never : Ok true ≡ Ok false = sym is ∙ writes.nothing.0 in
+        cc
+    adds_line (Some p) writes =
+        let added = added_written r bundle args p (law p) writes.whole writes.prefix in
+        subst (λ a. Added r' (written_pattern bundle a p).errors errors.items errors'.items) same
+        (record { all = always r' (at_true is added.all); prefix = added.prefix })
+      where
+        at_true : {P : Type 0} → r ≡ Ok true → OnOk r P → P
+        at_true {P} is h = subst (λ w. OnOk w P) is h
 
   -- ---- it isn't there
 

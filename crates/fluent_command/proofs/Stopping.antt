@@ -1,14 +1,20 @@
 -- Where a call was stopped.
 use Rattle.std.proofs.Common.{◌≡◌, ◌≢◌, ◌∙◌, sym, ap, subst, refl, ℕ, List, [], ◌∷◌, ◌++◌, append_assoc, append-nil, Option, Result, Ok, Err}
 use Rattle.std.specs.Result.{IfErr}
-use Rattle.fluent_tree.specs.Tree.{Text}
+use Rattle.fluent_tree.specs.Tree.{Text, Pattern}
 use Rattle.fluent_text.specs.declared.counting.Counting.{Counting}
 use Rattle.fluent_text.specs.declared.counting.WriteFault.{WriteFault}
 use Rattle.fluent_text.specs.declared.counting.WriteFault.TheVariants.{Memory}
+use Rattle.fluent_meaning.specs.Arguments.{Map}
+use Rattle.fluent_meaning.specs.Bundle.{Bundle}
 use Rattle.fluent_meaning.specs.Errors.{Error}
+use Rattle.fluent_meaning.specs.Events.{text_in}
+use Rattle.fluent_meaning.specs.Result.{written_pattern}
+use Rattle.fluent_meaning.specs.Value.{Value}
 use Rattle.fluent_resolver.specs.Status.{reported}
 use Rattle.fluent_entries.specs.declared.errors.FluentError.{FluentError}
 use Rattle.fluent_bundle.specs.Formatted.{AddsAll, WritesPrefix}
+use Rattle.fluent_bundle.specs.Formatting.{EventsAreRun, written_events}
 use Rattle.fluent_command.specs.Ending.{Ending, shown}
 use Rattle.fluent_command.specs.Outlet.{Precedes}
 use Rattle.fluent_command.specs.Program.{Run, First, all_first, in_pieces}
@@ -21,8 +27,10 @@ part_of_line prefix [] b = (b, ([], ap (λ w. w ++ b ∷ []) (append-nil prefix)
 part_of_line prefix (x ∷ rest) b = (x, (rest ++ b ∷ [], append_assoc prefix (x ∷ rest) (b ∷ []) ∙ sym (append_assoc prefix (x ∷ []) (rest ++ b ∷ []))))
 
 -- a formatting call that faulted, where a line feed was to follow
-pub part_written : (text : Text) (errors : List Error) (held held' : Option Text) (old new : List FluentError) → WritesPrefix text errors held held' old new → TookPart (text ++ 10 ∷ []) held held'
-part_written text errors held held' old new h = (h.prefix, subst (λ t. Precedes h.prefix (t ++ 10 ∷ [])) h.whole (part_of_line h.prefix h.rest 10), h.taken)
+pub part_written : (b : Bundle Text) (args : Map (Value Text)) (p : Pattern) → EventsAreRun b args p → {held held' : Option Text} {old new : List FluentError} → WritesPrefix (written_events b args p) held held' old new → TookPart ((written_pattern b args p).value ++ 10 ∷ []) held held'
+part_written b args p law h =
+    let taken = text_in h.done in
+    (taken, subst (λ t. Precedes taken (t ++ 10 ∷ [])) (law.prefix h.done h.rest h.whole).text (part_of_line taken (text_in h.rest) 10), h.taken)
 
 -- ---- of a call whose run ends so, with these errors in the list
 

@@ -6,10 +6,15 @@ use Rattle.std.specs.declared.borrow.CowStr.{CowStr}
 use Rattle.std.specs.Io.KnownBytes.{Appends}
 use Rattle.std.proofs.KnownBytes.{Appends-trans}
 use Rattle.std.proofs.lemmas.Result.{on_ok_weaker}
-use Rattle.fluent_tree.specs.Tree.{Text}
+use Rattle.fluent_tree.specs.Tree.{Text, Pattern}
 use Rattle.fluent_text.specs.Taken.{TookPrefix}
-use Rattle.fluent_meaning.specs.Errors.{Error}
+use Rattle.fluent_meaning.specs.Arguments.{Map}
+use Rattle.fluent_meaning.specs.Bundle.{Bundle}
+use Rattle.fluent_meaning.specs.Events.{errors_in, text_in}
+use Rattle.fluent_meaning.specs.Result.{written_pattern}
+use Rattle.fluent_meaning.specs.Value.{Value}
 use Rattle.fluent_bundle.specs.Formatted.{WritesAll, WritesPrefix}
+use Rattle.fluent_bundle.specs.Formatting.{EventsAreRun, written_events}
 use Rattle.fluent_entries.specs.declared.errors.FluentError.{FluentError}
 use Rattle.fluent_command.specs.Ending.{line}
 use Rattle.fluent_command.specs.Inside.OutputProgress.{Added, Took}
@@ -57,19 +62,24 @@ took_recast r r' s t old new same e h = record {
 }
 
 -- what a formatting call took
-pub took_written : {T E : Type 0} (r : Result T E) (text : Text) (errors : List Error) (held held' : Option Text) (old new : List FluentError)
-    → OnOk r (WritesAll text errors held held' old new) → WritesPrefix text errors held held' old new → Took r text held held'
-took_written r text errors held held' old new whole prefix = record {
-  all = on_ok_weaker r (λ (w : WritesAll text errors held held' old new). w.taken) whole;
-  prefix = (prefix.prefix, prefix.rest, sym prefix.whole, prefix.taken);
+pub took_written : {T E : Type 0} (r : Result T E) (b : Bundle Text) (args : Map (Value Text)) (p : Pattern) → EventsAreRun b args p → {held held' : Option Text} {old new : List FluentError}
+    → OnOk r (WritesAll (written_pattern b args p).value (written_pattern b args p).errors held held' old new) → WritesPrefix (written_events b args p) held held' old new → Took r (written_pattern b args p).value held held'
+took_written r b args p law {held} {held'} {old} {new} whole prefix = record {
+  all = on_ok_weaker r (λ (w : WritesAll (written_pattern b args p).value (written_pattern b args p).errors held held' old new). w.taken) whole;
+  prefix = (text_in prefix.done, text_in prefix.rest, sym (law.prefix prefix.done prefix.rest prefix.whole).text, prefix.taken);
 }
 
 -- what it added
-pub added_written : {T E : Type 0} (r : Result T E) (text : Text) (errors : List Error) (held held' : Option Text) (old new : List FluentError)
-    → OnOk r (WritesAll text errors held held' old new) → WritesPrefix text errors held held' old new → Added r errors old new
-added_written r text errors held held' old new whole prefix = record {
-  all = on_ok_weaker r (λ (w : WritesAll text errors held held' old new). w.adds) whole;
-  prefix = prefix.adds;
+pub added_written : {T E : Type 0} (r : Result T E) (b : Bundle Text) (args : Map (Value Text)) (p : Pattern) → EventsAreRun b args p → {held held' : Option Text} {old new : List FluentError}
+    → OnOk r (WritesAll (written_pattern b args p).value (written_pattern b args p).errors held held' old new) → WritesPrefix (written_events b args p) held held' old new → Added r (written_pattern b args p).errors old new
+added_written r b args p law {held} {held'} {old} {new} whole prefix = record {
+  all = on_ok_weaker r (λ (w : WritesAll (written_pattern b args p).value (written_pattern b args p).errors held held' old new). w.adds) whole;
+  prefix = record {
+    prefix = errors_in prefix.done;
+    rest = errors_in prefix.rest;
+    whole = (law.prefix prefix.done prefix.rest prefix.whole).errors;
+    adds = prefix.adds;
+  };
 }
 
 -- what holds in any case

@@ -19,7 +19,7 @@ use crate::request::{Request, name_and_value};
 use crate::task::Task;
 use fluent_bundle::{
     AddFault, Counting, FluentArgs, FluentBundle, FluentError, FluentResource, FluentValue,
-    NoCustom, NoFormatter, NoFunction, NoTransform, ParserError, TryNewFault, WriteFault,
+    NoCustom, NoFormatter, NoFunction, NoTransform, ParserError, TryNewFault, WriteFault, laws,
 };
 use fluent_chain::{BundleRef, Chain};
 use fluent_syntax::put;
@@ -136,6 +136,7 @@ fn show_value<'w, 'p, 'r, 's: 'r, W: Write>(
     ensures fault { CountsFault out.old out.new result }
 {
     let args = arguments(alloc, request.arguments)?;
+    laws::events_are_the_run();
     if bundle.write_value(out, request.id, Some(&args), errors)? {
         put(out, b"\n")?;
         return Ok(Ending::Shown);

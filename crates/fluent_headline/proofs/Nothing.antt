@@ -15,6 +15,7 @@ use Rattle.fluent_bundle.specs.ById.{GivesAsked, WritesAsked}
 use Rattle.fluent_headline.specs.ById.{GivesFound, WritesFound}
 use Rattle.fluent_headline.specs.Headline.{Errors, Gives, Writes}
 use Rattle.fluent_meaning.specs.Errors.{Error}
+use Rattle.fluent_meaning.specs.Events.{Event}
 use Rattle.fluent_bundle.specs.Formatted.{WritesPrefix, AddsPrefix}
 use Rattle.fluent_entries.specs.declared.errors.FluentError.{FluentError}
 
@@ -25,8 +26,8 @@ taken_none (Some t) = sym (append-nil t)
 pub none_added : (errors : List Error) (list : List FluentError) → AddsPrefix errors list list
 none_added errors list = record { prefix = []; rest = errors; whole = refl; adds = record { added = sym (append-nil _) } }
 
-pub none_written : (text : Text) (errors : List Error) (held : Option Text) (list : List FluentError) → WritesPrefix text errors held held list list
-none_written text errors held list = record { prefix = []; rest = text; whole = refl; taken = taken_none held; adds = none_added errors list }
+pub none_written : (events : List Event) (held : Option Text) (list : List FluentError) → WritesPrefix events held held list list
+none_written events held list = record { done = []; rest = events; whole = refl; taken = taken_none held; adds = record { added = sym (append-nil _) } }
 
 pub gives_none : (b : Bundle Text) (args : Map (Value Text)) (p : Pattern) (r : Result (CowStr Global) AllocError) (errors : Errors) → is_ok r ≡ false → Gives b args p r errors errors
 gives_none b args p (Ok x) errors h = cc
@@ -34,7 +35,7 @@ gives_none b args p (Err e) errors h = record { within = λ few. record { text =
 
 pub writes_none : (b : Bundle Text) (args : Map (Value Text)) (p : Pattern) (r : Result (Unit {0}) WriteFault) (held : Option Text) (errors : Errors) → is_ok r ≡ false → Writes b args p r held held errors errors
 writes_none b args p (Ok x) held errors h = cc
-writes_none b args p (Err e) held errors h = record { within = λ few. tt; whole = tt; prefix = none_written _ _ _ _ }
+writes_none b args p (Err e) held errors h = record { within = λ few. tt; whole = tt; prefix = none_written _ _ _ }
 
 pub of_ok : {B E : Type 0} (P : B → Type 0) (r : Result B E) (b : B) → r ≡ Ok b → IfOk r P → P b
 of_ok P r b is holds = subst (λ s. IfOk s P) is holds
@@ -55,7 +56,7 @@ gives_found_none b args (Some p) (Err e) errors h = record { nothing = tt; withi
 pub writes_found_none : (b : Bundle Text) (args : Map (Value Text)) (asked : Option Pattern) (r : Result Bool WriteFault) (held : Option Text) (errors : Errors) → is_ok r ≡ false → WritesFound b args asked r held held errors errors
 writes_found_none b args asked (Ok x) held errors h = cc
 writes_found_none b args None (Err e) held errors h = record { there = tt; nothing = (refl, refl); within = tt; whole = tt; prefix = tt }
-writes_found_none b args (Some p) (Err e) held errors h = record { there = tt; nothing = tt; within = λ few. tt; whole = tt; prefix = none_written _ _ _ _ }
+writes_found_none b args (Some p) (Err e) held errors h = record { there = tt; nothing = tt; within = λ few. tt; whole = tt; prefix = none_written _ _ _ }
 
 found : (b : Bundle Text) (args : Map (Value Text)) (asked : Option Pattern) (r : Result (Option (CowStr Global)) AllocError) (errors errors' : Errors)
     → GivesAsked (record { bundle = b; args = args }) asked r errors errors' → GivesFound b args asked r errors errors'

@@ -1,5 +1,5 @@
 -- Cursors before parts.
-use Rattle.std.proofs.Common.{[], ◌≡◌, ℕ, List, ◌∷◌, ◌++◌, sym, subst, Option, Some, Result, Ok, IfOk, IfSome}
+use Rattle.std.proofs.Common.{[], ◌≡◌, ℕ, List, ◌∷◌, ◌++◌, sym, subst, Option, Result, Ok, IfOk}
 use Rattle.fluent_tree.specs.References.{Reference}
 use Rattle.fluent_tree.specs.Tree.{Text}
 use Rattle.fluent_links.specs.Links.{IsBefore, past, next}
@@ -33,6 +33,3 @@ placed_back number all xs ys p q is at h = subst (IsBefore number ys) (sym at) (
 -- of an answer that is Ok
 pub ok_value : {T E : Type 0} (r : Result T E) (x : T) (P : T → Type 0) → r ≡ Ok x → IfOk r P → P x
 ok_value r x P is h = subst (λ r. IfOk r P) is h
-
-pub some_value : {T : Type 0} (o : Option T) (x : T) (P : T → Type 0) → o ≡ Some x → IfSome o P → P x
-some_value o x P is h = subst (λ o. IfSome o P) is h

@@ -1,8 +1,10 @@
 pub use Rattle.fluent_state.specs.FoundView
 pub use Rattle.fluent_state.specs.Status
-pub use Rattle.fluent_state.specs.WalkProgress
+pub use Rattle.fluent_state.specs.Happened
+pub use Rattle.fluent_state.specs.Steps
+pub mod Changes
+pub mod Parts
+pub mod Held
+pub mod Frames
 pub mod ScopeView
-pub mod Tracking
-pub mod Said
-pub mod ScopeSaid
-pub mod Sizes
+pub mod Scoped

@@ -1,188 +1,357 @@
 //! Values: of arguments and of selectors.
 #![tactic(auto, unfolding(fluent_state::specs::Status::state_parts))]
 
-ghost use Rattle.std.specs.Prelude.{◌≡◌};
-ghost use Rattle.fluent_tree.specs.References.{in_arguments, in_call, in_inline, in_named, in_positional, inlines_view, nameds_view};
-ghost use Rattle.fluent_tree.specs.Tree.{function};
-ghost use Rattle.fluent_tree.specs.View.{inline_view, arguments_view, call_view};
-ghost use Rattle.fluent_meaning.specs.Walk.{positional};
-ghost use Rattle.fluent_entries.specs.IdNumbers.{IsPlaced};
-ghost use Rattle.fluent_values.specs.Sinks.{writer};
+ghost use Rattle.std.specs.Prelude.{◌≡◌, [], IfErr, IfOk, None, OnOk};
+ghost use Rattle.std.specs.Option.{option_map};
+ghost use Rattle.fluent_tree.specs.References.{in_arguments, in_inline};
+ghost use Rattle.fluent_tree.specs.View.{arguments_view, inline_view};
+ghost use Rattle.fluent_meaning.specs.Ahead.{begins};
+ghost use Rattle.fluent_entries.specs.IdNumbers.{IsPlaced, numbers, table};
+ghost use Rattle.fluent_values.specs.View.{named as named_view, value_view};
+ghost use Rattle.fluent_state.specs.Gathered.{gathered, values_of};
+ghost use Rattle.fluent_resolver.specs.Held.{StaysPlaced, held};
+ghost use Rattle.fluent_resolver.specs.Parts.{after_value, next_argument};
+ghost use Rattle.fluent_resolver.specs.Parts as parts;
+ghost use Rattle.fluent_resolver.specs.Frames.{IsGivenBy, IsHeld, IsPlacedCall, IsPlacedPurpose, gathers, made, use_of, AreReady, Goes, GoesWithin, IsWhole};
 
-use crate::inline_expression::write_inline;
-use crate::says::Gives;
+use crate::expression::write_inline;
+use crate::frame::{Frame, Gathering, Purpose, Remaining};
+use crate::inline_expression::enter_term;
+use crate::machine::end_text;
+use crate::work::Work;
 use fluent_links::Cursor;
 use fluent_state::found::answer_of;
 use fluent_state::gathered::{Gathered, push_value};
-use fluent_state::locals::has_literals_alone;
+use fluent_state::shown::put_answer;
 use fluent_state::variable::resolve_variable;
 use fluent_state::{Locals, State};
-use fluent_text::{Counting, unescape_unicode_to_string};
-use fluent_tree::ast::{CallArguments, Identifier, InlineExpression, NamedArgument};
+use fluent_text::unescape_unicode_to_string;
+use fluent_tree::ast::{CallArguments, InlineExpression};
 use fluent_values::output::{Halt, Output};
 use fluent_values::{Context, FluentArgs, FluentFunction, FluentType, FluentValue};
+use std::alloc::{AllocError, Global};
 use std::borrow::CowStr;
 use std::io::Write;
+use std::mem;
 
-/// The value of a selector or an argument. What refers to a pattern, and a nested placeable, is the text that it
-/// gives.
+/// The value of a selector or an argument; none where it was put off, since no level is left or something within it was.
+/// What refers to a pattern, and a nested placeable, is the text that it gives, which is kept.
 #[cycle(resolve)]
-pub(crate) fn resolve<'p, 's, W: Write, C: FluentType, F: FluentFunction<C>, B: Context<C>>(
-    scope: &mut State<'_, 'p, '_, 's, '_, C, F, B>,
-    w: &mut Counting<W>,
+pub(crate) fn resolve<'p, 's, 'args, W: Write, C: FluentType, F: FluentFunction<C>, B: Context<C>>(
+    scope: &mut State<'_, 'p, '_, 's, 'args, C, F, B>,
+    out: &mut Output<W>,
+    work: &mut Work<'p, 'args, 's, C>,
+    levels: usize,
     inline: &'p InlineExpression<'s>,
     cursor: Cursor<'p>,
-) -> Result<FluentValue<'p, C>, Halt>
-    requires { IsPlaced scope.old.ids.now (in_inline (inline_view inline.now)) cursor }
-    ensures { ⟦<W as Gives<C, F, B>>⟧.value inline.now result w.old w.new scope.old scope.new }
+) -> Result<Option<FluentValue<'p, C>>, Halt>
+    requires placed { IsPlaced scope.old.ids.now (in_inline (inline_view inline.now)) cursor }
+    requires nothing { work.old.frames.items ≡ [] }
+    ensures goes { GoesWithin B.meant B.is_plain F.answer C.content W.contents levels result
+        (parts.resolved (inline_view inline.now))
+        (made C.content) scope out work }
+    ensures placed { OnOk result (AreReady scope.new.ids.now work.new) }
+    ensures whole { IfOk result (λ o. IsWhole o work.new) }
 {
     match inline {
         InlineExpression::StringLiteral { value } => {
             let text = unescape_unicode_to_string(scope.bundle.allocator(), value)?;
-            Ok(FluentValue::String(text))
+            Ok(Some(FluentValue::String(text)))
         }
-        InlineExpression::NumberLiteral { value } => Ok(FluentValue::try_number(value)),
-        InlineExpression::FunctionReference { id, arguments } => {
-            resolve_function(scope, w, inline, id, arguments, cursor)
+        InlineExpression::NumberLiteral { value } => Ok(Some(FluentValue::try_number(value))),
+        InlineExpression::VariableReference { id } => {
+            Ok(Some(resolve_variable(scope, inline, id)?))
         }
-        InlineExpression::VariableReference { id } => Ok(resolve_variable(scope, inline, id)?),
         _ => {
-            let mut text = String::new(scope.bundle.allocator());
-            write_beside(scope, w, &mut text, inline, cursor)?;
-            Ok(FluentValue::String(CowStr::Owned(text)))
+            if levels == 0 {
+                work.wait(Frame::Resolve { inline, cursor })?;
+                return Ok(None);
+            }
+            match inline {
+                InlineExpression::FunctionReference { id, arguments } => {
+                    let purpose = Purpose::Give { id, cursor };
+                    let at = cursor.after_one();
+                    begin_call(scope, out, work, levels - 1, purpose, arguments, at)
+                }
+                _ => keep_text(scope, out, work, levels - 1, inline, cursor),
+            }
         }
     }
 }
 
-/// A function's answer to its arguments; an error value where there is no such function. It stands by itself, as what
-/// a call may hold costs at its entry.
+/// The text of an inline expression, which is kept.
 #[cycle(resolve)]
-fn resolve_function<'p, 's, W: Write, C: FluentType, F: FluentFunction<C>, B: Context<C>>(
-    scope: &mut State<'_, 'p, '_, 's, '_, C, F, B>,
-    w: &mut Counting<W>,
-    inline: &InlineExpression<'_>,
-    id: &Identifier<'_>,
-    arguments: &'p CallArguments<'s>,
-    cursor: Cursor<'p>,
-) -> Result<FluentValue<'p, C>, Halt>
-    requires view { inline_view inline.now
-        ≡ function id.now.name.now (arguments_view arguments.now) }
-    requires placed { IsPlaced scope.old.ids.now (in_inline (inline_view inline.now)) cursor }
-    ensures { ⟦<W as Gives<C, F, B>>⟧.value inline.now result w.old w.new scope.old scope.new }
-{
-    let (positional, named) = resolve_call(scope, w, arguments, cursor.after_one())?;
-    let alloc = scope.bundle.allocator();
-    let answer = answer_of(scope.ids, alloc, id.name, &positional, &named, cursor)?;
-    Ok(answer.unwrap_or(FluentValue::Error))
-}
-
-/// Writes what an inline expression gives to a text, and leaves the writer alone.
-#[cycle(resolve)]
-fn write_beside<'p, 's, W: Write, C: FluentType, F: FluentFunction<C>, B: Context<C>>(
-    scope: &mut State<'_, 'p, '_, 's, '_, C, F, B>,
-    w: &mut Counting<W>,
-    text: &mut String,
+#[inline(never)]
+fn keep_text<'p, 's, 'args, W: Write, C: FluentType, F: FluentFunction<C>, B: Context<C>>(
+    scope: &mut State<'_, 'p, '_, 's, 'args, C, F, B>,
+    out: &mut Output<W>,
+    work: &mut Work<'p, 'args, 's, C>,
+    levels: usize,
     inline: &'p InlineExpression<'s>,
     cursor: Cursor<'p>,
-) -> Result<(), Halt>
-    requires { IsPlaced scope.old.ids.now (in_inline (inline_view inline.now)) cursor }
-    ensures { ⟦<W as Gives<C, F, B>>⟧.text inline.now result w.old w.new text.old text.new
-        scope.old scope.new }
+) -> Result<Option<FluentValue<'p, C>>, Halt>
+    requires placed { IsPlaced scope.old.ids.now (in_inline (inline_view inline.now)) cursor }
+    requires nothing { work.old.frames.items ≡ [] }
+    ensures goes { Goes B.meant B.is_plain F.answer C.content W.contents result
+        (parts.kept (inline_view inline.now))
+        (made C.content) scope out work }
+    ensures placed { OnOk result (AreReady scope.new.ids.now work.new) }
+    ensures whole { IfOk result (λ o. IsWhole o work.new) }
 {
-    let mut out = Output {
-        writer: w,
-        buffer: text,
-        is_buffered: true,
-        error: None,
-    };
-    write_inline(scope, &mut out, inline, cursor)
-}
-
-/// The environment that a term's arguments make: its named ones, which stay in the tree where there are no others and
-/// each is a literal. The positional ones are resolved and thrown away.
-#[cycle(resolve)]
-#[inline(always)]
-pub(crate) fn resolve_local<'p, 's, W: Write, C: FluentType, F: FluentFunction<C>, B: Context<C>>(
-    scope: &mut State<'_, 'p, '_, 's, '_, C, F, B>,
-    w: &mut Counting<W>,
-    arguments: &'p Option<Box<CallArguments<'s>>>,
-    cursor: Cursor<'p>,
-) -> Result<Locals<'p, 's, C>, Halt>
-    requires { IsPlaced scope.old.ids.now (in_call (call_view arguments.now)) cursor }
-    ensures { ⟦<W as Gives<C, F, B>>⟧.local arguments.now result w.old w.new scope.old scope.new }
-{
-    match arguments {
-        None => Ok(Locals::Literals(None)),
-        Some(arguments) => {
-            let arguments: &CallArguments<'s> = arguments;
-            if has_literals_alone(arguments) {
-                return Ok(Locals::Literals(Some(arguments)));
-            }
-            let (_positional, named) = resolve_call(scope, w, arguments, cursor)?;
-            Ok(Locals::Values(named))
-        }
+    let outer = mem::replace(&mut *out.kept, String::new(scope.bundle.allocator()));
+    let was_kept = out.is_kept;
+    out.is_kept = true;
+    write_inline(scope, out, work, levels, inline, cursor)?;
+    if work.is_done() {
+        return Ok(Some(end_text(out, outer, was_kept)));
     }
+    work.wait(Frame::Value { outer, was_kept })?;
+    Ok(None)
 }
 
-/// The values of arguments: positional ones, then named ones, of which the last of a name stands.
+/// What the arguments of a call are for, once they are gathered; no value where something was put off.
 #[cycle(resolve)]
-#[inline(always)]
-pub(crate) fn resolve_call<'p, 's, W: Write, C: FluentType, F: FluentFunction<C>, B: Context<C>>(
-    scope: &mut State<'_, 'p, '_, 's, '_, C, F, B>,
-    w: &mut Counting<W>,
+#[inline(never)]
+pub(crate) fn begin_call<
+    'p,
+    's,
+    'args,
+    W: Write,
+    C: FluentType,
+    F: FluentFunction<C>,
+    B: Context<C>,
+>(
+    scope: &mut State<'_, 'p, '_, 's, 'args, C, F, B>,
+    out: &mut Output<W>,
+    work: &mut Work<'p, 'args, 's, C>,
+    levels: usize,
+    purpose: Purpose<'p, 's>,
     arguments: &'p CallArguments<'s>,
     cursor: Cursor<'p>,
-) -> Result<(Vec<FluentValue<'p, C>>, FluentArgs<'p, C>), Halt>
-    requires { IsPlaced scope.old.ids.now (in_arguments (arguments_view arguments.now)) cursor }
-    ensures { ⟦<W as Gives<C, F, B>>⟧.call arguments.now result w.old w.new scope.old scope.new }
+) -> Result<Option<FluentValue<'p, C>>, Halt>
+    requires purpose { IsPlacedPurpose (numbers scope.old.ids.now) (table scope.old.ids.now) purpose }
+    requires placed { IsPlaced scope.old.ids.now (in_arguments (arguments_view arguments.now)) cursor }
+    requires nothing { work.old.frames.items ≡ [] }
+    ensures goes { Goes B.meant B.is_plain F.answer C.content W.contents result
+        (parts.calls (use_of purpose.entry) (arguments_view arguments.now))
+        (made C.content) scope out work }
+    ensures placed { OnOk result (AreReady scope.new.ids.now work.new) }
+    ensures whole { IfOk result (λ o. IsWhole o work.new) }
+    ensures given { IfOk result (IsGivenBy purpose.entry) }
 {
-    let positional = resolve_positional(scope, w, &arguments.positional, cursor)?;
-    let after = cursor.after_positional(&arguments.positional);
-    let named = resolve_named(scope, w, &arguments.named, after)?;
-    Ok((positional, named))
+    let alloc = scope.bundle.allocator();
+    let gathering = Gathering {
+        purpose,
+        positional: Vec::new(alloc),
+        named: Gathered::new(alloc, arguments.named.len()),
+        remaining: Remaining {
+            arguments,
+            taken: 0,
+            taken_named: 0,
+            cursor,
+        },
+    };
+    gather(scope, out, work, levels, gathering)
 }
 
-/// The values of positional arguments, in order.
-#[cycle(resolve)]
-#[inline(always)]
-fn resolve_positional<'p, 's, W: Write, C: FluentType, F: FluentFunction<C>, B: Context<C>>(
-    scope: &mut State<'_, 'p, '_, 's, '_, C, F, B>,
-    w: &mut Counting<W>,
-    arguments: &'p [InlineExpression<'s>],
-    cursor: Cursor<'p>,
-) -> Result<Vec<FluentValue<'p, C>>, Halt>
-    requires { IsPlaced scope.old.ids.now (in_positional (inlines_view arguments.now)) cursor }
-    ensures { ⟦<W as Gives<C, F, B>>⟧.positional arguments.now result w.old w.new scope.old scope.new }
+/// Goes on with a call, whose next argument has this value, if one was made.
+pub(crate) fn go_on<'p, 's, 'args, W: Write, C: FluentType, F: FluentFunction<C>, B: Context<C>>(
+    scope: &mut State<'_, 'p, '_, 's, 'args, C, F, B>,
+    out: &mut Output<W>,
+    work: &mut Work<'p, 'args, 's, C>,
+    levels: usize,
+    gathering: Box<Gathering<'p, 's, C>>,
+    given: Option<FluentValue<'p, C>>,
+) -> Result<Option<FluentValue<'p, C>>, Halt>
+    requires placed { IsPlacedCall (numbers scope.old.ids.now) (table scope.old.ids.now) gathering.value }
+    requires nothing { work.old.frames.items ≡ [] }
+    ensures goes { Goes B.meant B.is_plain F.answer C.content W.contents result
+        (gathers C.content gathering.entry.value (made C.content given.entry))
+        (made C.content) scope out work }
+    ensures placed { OnOk result (AreReady scope.new.ids.now work.new) }
 {
-    let mut values = Vec::new(scope.bundle.allocator());
-    let mut cursor = cursor;
-    for argument in arguments {
-        let value = resolve(scope, w, argument, cursor)?;
-        push_value(&mut values, value)?;
-        cursor = cursor.after_inline(argument);
+    let mut gathering = Box::into_inner(gathering);
+    if let Some(value) = given {
+        take(&mut gathering, value)?;
     }
-    Ok(values)
+    gather(scope, out, work, levels, gathering)
 }
 
-/// The values of named arguments, in order; the last of a name stands.
+/// Gathers the arguments of a call that are left, and does what they are for.
 #[cycle(resolve)]
-#[inline(always)]
-fn resolve_named<'p, 's, W: Write, C: FluentType, F: FluentFunction<C>, B: Context<C>>(
-    scope: &mut State<'_, 'p, '_, 's, '_, C, F, B>,
-    w: &mut Counting<W>,
-    arguments: &'p [NamedArgument<'s>],
-    cursor: Cursor<'p>,
-) -> Result<FluentArgs<'p, C>, Halt>
-    requires { IsPlaced scope.old.ids.now (in_named (nameds_view arguments.now)) cursor }
-    ensures { ⟦<W as Gives<C, F, B>>⟧.named arguments.now result w.old w.new scope.old scope.new }
+fn gather<'p, 's, 'args, W: Write, C: FluentType, F: FluentFunction<C>, B: Context<C>>(
+    scope: &mut State<'_, 'p, '_, 's, 'args, C, F, B>,
+    out: &mut Output<W>,
+    work: &mut Work<'p, 'args, 's, C>,
+    levels: usize,
+    gathering: Gathering<'p, 's, C>,
+) -> Result<Option<FluentValue<'p, C>>, Halt>
+    requires placed { IsPlacedCall (numbers scope.old.ids.now) (table scope.old.ids.now) gathering }
+    requires nothing { work.old.frames.items ≡ [] }
+    ensures goes { Goes B.meant B.is_plain F.answer C.content W.contents result
+        (gathers C.content gathering.entry None)
+        (made C.content) scope out work }
+    ensures placed { OnOk result (AreReady scope.new.ids.now work.new) }
+    ensures whole { IfOk result (λ o. IsWhole o work.new) }
+    ensures given { IfOk result (IsGivenBy gathering.entry.purpose) }
 {
-    let mut values = Gathered::new(scope.bundle.allocator(), arguments.len());
-    let mut cursor = cursor;
-    for argument in arguments {
-        let value = resolve(scope, w, &argument.value, cursor)?;
-        values.set(CowStr::Borrowed(argument.name.name), value)?;
-        cursor = cursor.after_inline(&argument.value);
+    let mut gathering = gathering;
+    while let Some(inline) = next(&gathering) {
+        let cursor = gathering.remaining.cursor;
+        match resolve(scope, out, work, levels, inline, cursor)? {
+            Some(value) => take(&mut gathering, value)?,
+            None => {
+                hold(scope.bundle.allocator(), work, gathering)?;
+                return Ok(None);
+            }
+        }
     }
-    let args = values.finish(scope.bundle.allocator())?;
-    Ok(args)
+    finish(scope, out, work, levels, gathering)
+}
+
+/// Has a call wait for its next argument, which was put off.
+///
+/// # Errors
+///
+/// An allocation failed.
+#[cold]
+fn hold<'p, 's, 'args, C: FluentType>(
+    alloc: Global,
+    work: &mut Work<'p, 'args, 's, C>,
+    gathering: Gathering<'p, 's, C>,
+) -> Result<(), Halt>
+    ensures waits { OnOk result (IsHeld gathering.entry work.old work.new) }
+    ensures values { work.new.values ≡ work.old.values }
+    ensures err { IfErr result (λ e. e ≡ Halt.Memory) }
+{
+    match Box::new(alloc, gathering) {
+        Ok(gathering) => work.wait(Frame::Gather(gathering)),
+        Err(_) => Err(Halt::Memory),
+    }
+}
+
+/// Gives the next argument of a call its value.
+///
+/// # Errors
+///
+/// An allocation failed.
+#[inline(never)]
+fn take<'p, 's, C: FluentType>(
+    gathering: &mut Gathering<'p, 's, C>,
+    value: FluentValue<'p, C>,
+) -> Result<(), AllocError>
+    ensures held { OnOk result (held C.content gathering.new
+        ≡ after_value (held C.content gathering.old) (value_view C.content value.entry)) }
+    ensures purpose { gathering.new.purpose ≡ gathering.old.purpose }
+    ensures placed { OnOk result (StaysPlaced gathering.old gathering.new) }
+{
+    let arguments = gathering.remaining.arguments;
+    if let Some(first) = arguments.positional.get(gathering.remaining.taken) {
+        push_value(&mut gathering.positional, value)?;
+        gathering.remaining.cursor = gathering.remaining.cursor.after_inline(first);
+        gathering.remaining.taken += 1;
+    } else if let Some(first) = arguments.named.get(gathering.remaining.taken_named) {
+        gathering
+            .named
+            .set(CowStr::Borrowed(first.name.name), value)?;
+        gathering.remaining.cursor = gathering.remaining.cursor.after_inline(&first.value);
+        gathering.remaining.taken_named += 1;
+    }
+    Ok(())
+}
+
+/// The next argument of a call, if one is left.
+fn next<'p, 's, C: FluentType>(gathering: &Gathering<'p, 's, C>) -> Option<&'p InlineExpression<'s>>
+    ensures { option_map (λ x. inline_view x.now) result ≡ next_argument (held C.content gathering.now) }
+{
+    let arguments = gathering.remaining.arguments;
+    if let Some(first) = arguments.positional.get(gathering.remaining.taken) {
+        return Some(first);
+    }
+    match arguments.named.get(gathering.remaining.taken_named) {
+        Some(first) => Some(&first.value),
+        None => None,
+    }
+}
+
+/// Does what the arguments of a call are for, of which none is left.
+#[cycle(resolve)]
+#[inline(never)]
+fn finish<'p, 's, 'args, W: Write, C: FluentType, F: FluentFunction<C>, B: Context<C>>(
+    scope: &mut State<'_, 'p, '_, 's, 'args, C, F, B>,
+    out: &mut Output<W>,
+    work: &mut Work<'p, 'args, 's, C>,
+    levels: usize,
+    gathering: Gathering<'p, 's, C>,
+) -> Result<Option<FluentValue<'p, C>>, Halt>
+    requires placed { IsPlacedPurpose (numbers scope.old.ids.now) (table scope.old.ids.now) gathering.purpose }
+    requires nothing { work.old.frames.items ≡ [] }
+    ensures goes { Goes B.meant B.is_plain F.answer C.content W.contents result
+        (λ b k v. begins (use_of gathering.entry.purpose (values_of C.content gathering.entry.positional)
+        (gathered C.content gathering.entry.named) b k v))
+        (made C.content) scope out work }
+    ensures placed { OnOk result (AreReady scope.new.ids.now work.new) }
+    ensures whole { IfOk result (λ o. IsWhole o work.new) }
+    ensures given { IfOk result (IsGivenBy gathering.entry.purpose) }
+{
+    let Gathering {
+        purpose,
+        positional,
+        named,
+        remaining: _,
+    } = gathering;
+    let args = named.finish(scope.bundle.allocator())?;
+    use_values(scope, out, work, levels, purpose, positional, args)
+}
+
+/// Does what the values of arguments are for.
+#[cycle(resolve)]
+#[inline(never)]
+fn use_values<'p, 's, 'args, W: Write, C: FluentType, F: FluentFunction<C>, B: Context<C>>(
+    scope: &mut State<'_, 'p, '_, 's, 'args, C, F, B>,
+    out: &mut Output<W>,
+    work: &mut Work<'p, 'args, 's, C>,
+    levels: usize,
+    purpose: Purpose<'p, 's>,
+    positional: Vec<FluentValue<'p, C>>,
+    args: FluentArgs<'p, C>,
+) -> Result<Option<FluentValue<'p, C>>, Halt>
+    requires placed { IsPlacedPurpose (numbers scope.old.ids.now) (table scope.old.ids.now) purpose }
+    requires nothing { work.old.frames.items ≡ [] }
+    ensures goes { Goes B.meant B.is_plain F.answer C.content W.contents result
+        (λ b k v. begins (use_of purpose.entry (values_of C.content positional.entry)
+        (named_view C.content args.entry) b k v))
+        (made C.content) scope out work }
+    ensures placed { OnOk result (AreReady scope.new.ids.now work.new) }
+    ensures whole { IfOk result (λ o. IsWhole o work.new) }
+    ensures given { IfOk result (IsGivenBy purpose.entry) }
+{
+    match purpose {
+        Purpose::Show { inline, id, cursor } => {
+            put_answer(scope, out, inline, id, &positional, &args, cursor)?;
+            Ok(None)
+        }
+        Purpose::Give { id, cursor } => {
+            let alloc = scope.bundle.allocator();
+            let answer = answer_of(scope.ids, alloc, id.name, &positional, &args, cursor)?;
+            Ok(Some(answer.unwrap_or(FluentValue::Error)))
+        }
+        Purpose::Local { inline, id, found } => {
+            enter_term(
+                scope,
+                out,
+                work,
+                levels,
+                inline,
+                id,
+                found,
+                Locals::Values(args),
+            )?;
+            Ok(None)
+        }
+        Purpose::Hand => {
+            work.values = Some((positional, args));
+            Ok(None)
+        }
+    }
 }

@@ -1,124 +1,184 @@
 //! Inline expressions.
 #![tactic(auto, unfolding(fluent_state::specs::Status::state_parts))]
 
-ghost use Rattle.std.specs.Prelude.{◌≡◌, ◌<◌};
-ghost use Rattle.fluent_tree.specs.References.{in_inline};
-ghost use Rattle.fluent_tree.specs.Tree.{function, term};
-ghost use Rattle.fluent_tree.specs.View.{inline_view, arguments_view};
-ghost use Rattle.fluent_meaning.specs.Walk.{written, follow, go};
-ghost use Rattle.fluent_state.specs.FoundView.{IsLed, IsStored, content_at, found_view};
+ghost use Rattle.std.specs.Prelude.{◌≡◌, [], false, None, OnOk};
+ghost use Rattle.fluent_tree.specs.References.{in_call, in_inline};
+ghost use Rattle.fluent_tree.specs.View.{call_view, inline_view};
+ghost use Rattle.fluent_meaning.specs.Ahead.{begins};
+ghost use Rattle.fluent_state.specs.Locals.{locals_view};
 ghost use Rattle.fluent_entries.specs.IdNumbers.{IsPlaced};
-ghost use Rattle.fluent_resolver.specs.Said.{term_view};
-ghost use Rattle.fluent_resolver.specs.Sizes.{size, IsBelow};
+ghost use Rattle.fluent_state.specs.FoundView.{IsLed, IsStored, content_at, found_view};
+ghost use Rattle.fluent_resolver.specs.Parts as parts;
+ghost use Rattle.fluent_resolver.specs.Parts.{is_braced};
+ghost use Rattle.fluent_resolver.specs.Frames.{AreReady, Goes};
 
-use crate::arguments::{resolve_call, resolve_local};
-use crate::expression::write_expression;
+use crate::arguments::begin_call;
+use crate::frame::{Frame, Purpose};
+use crate::leaf::put_leaf;
 use crate::pattern::write_elements;
-use crate::says::{Says, Sees};
+use crate::work::Work;
 use fluent_links::Cursor;
 use fluent_state::fallback::{put_id_in_braces, put_in_braces};
-use fluent_state::laws::references_are_walked;
+use fluent_state::laws::events_are_the_run;
+use fluent_state::locals::has_literals_alone;
 use fluent_state::lost::{lose, report_no_value};
-use fluent_state::shown::{put_answer, put_number};
-use fluent_state::variable::write_variable;
-use fluent_state::{Environment, Found, State, Target, found};
+use fluent_state::{Environment, Found, Locals, State, Target, found};
 use fluent_tree::ast::{CallArguments, Identifier, InlineExpression};
-use fluent_values::output::{Halt, Output, put_unescaped};
+use fluent_values::output::{Halt, Output};
 use fluent_values::{Context, FluentFunction, FluentType, ResolverError};
 use std::io::Write;
 use std::mem;
 
-/// Writes what an inline expression gives.
+/// Writes what an inline expression gives that is not in braces.
 #[cycle(resolve)]
-pub(crate) fn write_inline<'p, 's, W: Write, C: FluentType, F: FluentFunction<C>, B: Context<C>>(
-    scope: &mut State<'_, 'p, '_, 's, '_, C, F, B>,
+pub(crate) fn write_unbraced<
+    'p,
+    's,
+    'args,
+    W: Write,
+    C: FluentType,
+    F: FluentFunction<C>,
+    B: Context<C>,
+>(
+    scope: &mut State<'_, 'p, '_, 's, 'args, C, F, B>,
     out: &mut Output<W>,
+    work: &mut Work<'p, 'args, 's, C>,
+    levels: usize,
     inline: &'p InlineExpression<'s>,
     cursor: Cursor<'p>,
 ) -> Result<(), Halt>
-    requires { IsPlaced scope.old.ids.now (in_inline (inline_view inline.now)) cursor }
-    ensures { ⟦<W as Says<C, F, B>>⟧.inline inline.now result out.old out.new scope.old scope.new }
+    requires unbraced { is_braced (inline_view inline.now) ≡ false }
+    requires placed { IsPlaced scope.old.ids.now (in_inline (inline_view inline.now)) cursor }
+    requires nothing { work.old.frames.items ≡ [] }
+    ensures goes { Goes B.meant B.is_plain F.answer C.content W.contents result
+        (parts.written (inline_view inline.now))
+        (λ x. None) scope out work }
+    ensures placed { OnOk result (AreReady scope.new.ids.now work.new) }
 {
     match inline {
-        InlineExpression::StringLiteral { value } => {
-            put_unescaped(scope.bundle.allocator(), out, value)
-        }
-        InlineExpression::NumberLiteral { value } => { put_number(scope.bundle, out, value) }
+        InlineExpression::StringLiteral { .. } => put_leaf(scope, out, inline),
+        InlineExpression::NumberLiteral { .. } => put_leaf(scope, out, inline),
         InlineExpression::FunctionReference { id, arguments } => {
-            write_function(scope, out, inline, id, arguments, cursor)
+            let purpose = Purpose::Show { inline, id, cursor };
+            let at = cursor.after_one();
+            let _ = begin_call(scope, out, work, levels, purpose, arguments, at)?;
+            Ok(())
         }
         InlineExpression::MessageReference { id, attribute } => {
             let found = found::message(scope.ids, id.name, attribute, cursor);
-            follow(scope, out, inline, id, found)
+            follow(scope, out, work, levels, inline, id, found)
         }
         InlineExpression::TermReference {
             id,
             attribute,
             arguments,
-        } => write_term(scope, out, inline, id, attribute, arguments, cursor),
-        InlineExpression::VariableReference { id } => write_variable(scope, out, inline, id),
-        InlineExpression::Placeable { expression } => {
-            write_expression(scope, out, expression, cursor)
+        } => {
+            let found = found::term(scope.ids, id.name, attribute, cursor);
+            let at = cursor.after_one();
+            write_term(scope, out, work, levels, inline, id, found, arguments, at)
         }
+        InlineExpression::VariableReference { .. } => put_leaf(scope, out, inline),
+        InlineExpression::Placeable { .. } => Ok(()),
     }
-}
-
-/// Writes what a function answers to its arguments. It stands by itself, as what a call may hold costs at its entry.
-#[cycle(resolve)]
-fn write_function<'p, 's, W: Write, C: FluentType, F: FluentFunction<C>, B: Context<C>>(
-    scope: &mut State<'_, 'p, '_, 's, '_, C, F, B>,
-    out: &mut Output<W>,
-    inline: &'p InlineExpression<'s>,
-    id: &Identifier<'_>,
-    arguments: &'p CallArguments<'s>,
-    cursor: Cursor<'p>,
-) -> Result<(), Halt>
-    requires view { inline_view inline.now
-        ≡ function id.now.name.now (arguments_view arguments.now) }
-    requires placed { IsPlaced scope.old.ids.now (in_inline (inline_view inline.now)) cursor }
-    ensures { ⟦<W as Says<C, F, B>>⟧.inline inline.now result out.old out.new scope.old scope.new }
-{
-    let (positional, named) = resolve_call(scope, out.writer, arguments, cursor.after_one())?;
-    put_answer(scope, out, inline, id, &positional, &named, cursor)
 }
 
 /// Writes a term's pattern, in the environment that its arguments make.
 #[cycle(resolve)]
 #[inline(never)]
-fn write_term<'p, 's, W: Write, C: FluentType, F: FluentFunction<C>, B: Context<C>>(
-    scope: &mut State<'_, 'p, '_, 's, '_, C, F, B>,
+fn write_term<'p, 's, 'args, W: Write, C: FluentType, F: FluentFunction<C>, B: Context<C>>(
+    scope: &mut State<'_, 'p, '_, 's, 'args, C, F, B>,
     out: &mut Output<W>,
+    work: &mut Work<'p, 'args, 's, C>,
+    levels: usize,
     inline: &'p InlineExpression<'s>,
-    id: &Identifier<'_>,
-    attribute: &Option<Identifier<'_>>,
+    id: &'p Identifier<'s>,
+    found: Found<'p, 's>,
     arguments: &'p Option<Box<CallArguments<'s>>>,
     cursor: Cursor<'p>,
 ) -> Result<(), Halt>
-    requires view { inline_view inline.now ≡ term_view id.now attribute.now arguments.now }
-    requires placed { IsPlaced scope.old.ids.now (in_inline (inline_view inline.now)) cursor }
-    ensures { ⟦<W as Says<C, F, B>>⟧.inline inline.now result out.old out.new scope.old scope.new }
+    requires led { IsLed scope.old.ids.now found }
+    requires placed { IsPlaced scope.old.ids.now (in_call (call_view arguments.now)) cursor }
+    requires nothing { work.old.frames.items ≡ [] }
+    ensures goes { Goes B.meant B.is_plain F.answer C.content W.contents result
+        (parts.term (inline_view inline.now) id.now.name.now (found_view found.entry) (call_view arguments.now))
+        (λ x. None) scope out work }
+    ensures placed { OnOk result (AreReady scope.new.ids.now work.new) }
 {
-    let local = resolve_local(scope, out.writer, arguments, cursor.after_one())?;
-    let found = found::term(scope.ids, id.name, attribute, cursor);
-    let outer = mem::replace(&mut scope.environment, Environment::Local(local));
-    let written = follow(scope, out, inline, id, found);
-    scope.environment = outer;
-    written
+    match arguments {
+        None => {
+            let locals = Locals::Literals(None);
+            enter_term(scope, out, work, levels, inline, id, found, locals)
+        }
+        Some(arguments) => {
+            let arguments: &CallArguments<'s> = arguments;
+            if has_literals_alone(arguments) {
+                let locals = Locals::Literals(Some(arguments));
+                return enter_term(scope, out, work, levels, inline, id, found, locals);
+            }
+            let purpose = Purpose::Local { inline, id, found };
+            let _ = begin_call(scope, out, work, levels, purpose, arguments, cursor)?;
+            Ok(())
+        }
+    }
+}
+
+/// Writes what a term reference leads to, where variables are looked up among its arguments.
+#[cycle(resolve)]
+#[inline(always)]
+pub(crate) fn enter_term<
+    'p,
+    's,
+    'args,
+    W: Write,
+    C: FluentType,
+    F: FluentFunction<C>,
+    B: Context<C>,
+>(
+    scope: &mut State<'_, 'p, '_, 's, 'args, C, F, B>,
+    out: &mut Output<W>,
+    work: &mut Work<'p, 'args, 's, C>,
+    levels: usize,
+    inline: &InlineExpression<'_>,
+    id: &Identifier<'_>,
+    found: Found<'p, 's>,
+    locals: Locals<'p, 's, C>,
+) -> Result<(), Halt>
+    requires led { IsLed scope.old.ids.now found }
+    requires nothing { work.old.frames.items ≡ [] }
+    ensures goes { Goes B.meant B.is_plain F.answer C.content W.contents result
+        (λ b k v. begins (parts.entering_term (inline_view inline.now) id.now.name.now
+        (found_view found.entry) (locals_view C.content locals.entry) b k v))
+        (λ x. None) scope out work }
+    ensures placed { OnOk result (AreReady scope.new.ids.now work.new) }
+{
+    let outer = mem::replace(&mut scope.environment, Environment::Local(locals));
+    follow(scope, out, work, levels, inline, id, found)?;
+    if work.is_done() {
+        let _ = mem::replace(&mut scope.environment, outer);
+        Ok(())
+    } else {
+        work.wait(Frame::Outer(outer))
+    }
 }
 
 /// Writes what a reference leads to.
 #[cycle(resolve)]
 #[inline(always)]
-fn follow<'p, 's, W: Write, C: FluentType, F: FluentFunction<C>, B: Context<C>>(
-    scope: &mut State<'_, 'p, '_, 's, '_, C, F, B>,
+fn follow<'p, 's, 'args, W: Write, C: FluentType, F: FluentFunction<C>, B: Context<C>>(
+    scope: &mut State<'_, 'p, '_, 's, 'args, C, F, B>,
     out: &mut Output<W>,
+    work: &mut Work<'p, 'args, 's, C>,
+    levels: usize,
     inline: &InlineExpression<'_>,
     id: &Identifier<'_>,
     found: Found<'p, 's>,
 ) -> Result<(), Halt>
-    requires below { IsBelow (⟦<B as Sees<C, F>>⟧.bound scope.old) (found_view found) }
     requires led { IsLed scope.old.ids.now found }
-    ensures { ⟦<W as Says<C, F, B>>⟧.follow inline.now id.now.name.now found.entry result out.old out.new scope.old scope.new }
+    requires nothing { work.old.frames.items ≡ [] }
+    ensures goes { Goes B.meant B.is_plain F.answer C.content W.contents result
+        (parts.follow (inline_view inline.now) id.now.name.now (found_view found.entry))
+        (λ x. None) scope out work }
+    ensures placed { OnOk result (AreReady scope.new.ids.now work.new) }
 {
     match found {
         Found::Unknown => lose(scope, out, inline),
@@ -126,30 +186,39 @@ fn follow<'p, 's, W: Write, C: FluentType, F: FluentFunction<C>, B: Context<C>>(
             report_no_value(scope, id.name)?;
             put_id_in_braces(out, id.name)
         }
-        Found::Pattern(target) => go(scope, out, inline, target),
+        Found::Pattern(target) => go(scope, out, work, levels, inline, target),
     }
 }
 
 /// Writes a pattern that an expression refers to, unless it is being written.
 #[cycle(resolve)]
 #[inline(always)]
-fn go<'p, 's, W: Write, C: FluentType, F: FluentFunction<C>, B: Context<C>>(
-    scope: &mut State<'_, 'p, '_, 's, '_, C, F, B>,
+fn go<'p, 's, 'args, W: Write, C: FluentType, F: FluentFunction<C>, B: Context<C>>(
+    scope: &mut State<'_, 'p, '_, 's, 'args, C, F, B>,
     out: &mut Output<W>,
+    work: &mut Work<'p, 'args, 's, C>,
+    levels: usize,
     inline: &InlineExpression<'_>,
     target: Target<'p, 's>,
 ) -> Result<(), Halt>
-    requires size { size (content_at target) < ⟦<B as Sees<C, F>>⟧.bound scope.old }
     requires stored { IsStored scope.old.ids.now target }
-    ensures { ⟦<W as Says<C, F, B>>⟧.go inline.now target.entry result out.old out.new scope.old scope.new }
+    requires nothing { work.old.frames.items ≡ [] }
+    ensures goes { Goes B.meant B.is_plain F.answer C.content W.contents result
+        (parts.go (inline_view inline.now) (content_at target.entry))
+        (λ x. None) scope out work }
+    ensures placed { OnOk result (AreReady scope.new.ids.now work.new) }
 {
     if scope.is_on(target.pattern, target.class) {
         scope.add_error(ResolverError::Cyclic)?;
         return put_in_braces(out, inline);
     }
-    references_are_walked();
-    let put = scope.enter(target.pattern, target.class)?;
-    let written = write_elements(scope, out, target.pattern, target.cursor);
-    scope.leave(put);
-    written
+    events_are_the_run();
+    scope.enter(target.pattern, target.class)?;
+    write_elements(scope, out, work, levels, target.pattern, 0, target.cursor)?;
+    if work.is_done() {
+        scope.leave(true);
+        Ok(())
+    } else {
+        work.wait(Frame::Leave(true))
+    }
 }

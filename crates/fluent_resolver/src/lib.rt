@@ -3,20 +3,23 @@
 
 mod arguments;
 mod expression;
+mod frame;
 mod inline_expression;
+mod leaf;
+mod machine;
+pub mod means;
 mod pattern;
-mod says;
 pub mod scope;
-mod scope_says;
 mod tracking;
-mod variants;
 mod whole;
+mod work;
 
 pub use fluent_entries::errors::resolver as errors;
 pub use fluent_entries::{ReferenceKind, ResolverError};
 pub use fluent_links::Cursor;
-pub use fluent_state::laws::calls_are_walks;
+pub use fluent_state::laws::{calls_are_walks, events_are_the_run};
 pub use fluent_state::{Budget, Counts, Found, Target, environment, found, output, texts};
 pub use fluent_values::{Context, HasBundle};
+pub use means::Means;
 pub use scope::Scope;
 pub use whole::write_pattern;

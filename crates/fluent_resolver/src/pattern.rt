@@ -1,17 +1,21 @@
 //! Patterns.
 #![tactic(auto, unfolding(fluent_state::specs::Status::state_parts))]
 
-ghost use Rattle.std.specs.Prelude.{◌≢◌};
-ghost use Rattle.fluent_tree.specs.References.{references};
-ghost use Rattle.fluent_tree.specs.View.{pattern_view};
+ghost use Rattle.std.specs.Prelude.{◌≡◌, ◌≢◌, [], Err, IsTrue, None, OnOk};
+ghost use Rattle.fluent_tree.specs.References.{in_expression, references};
+ghost use Rattle.fluent_tree.specs.View.{expression_view, pattern_view};
 ghost use Rattle.fluent_meaning.specs.Meaning.{limit_reached};
-ghost use Rattle.fluent_meaning.specs.Walk.{has_one, is_marked};
+ghost use Rattle.fluent_meaning.specs.Walk.{has_one};
 ghost use Rattle.fluent_entries.specs.IdNumbers.{IsPlaced};
-ghost use Rattle.fluent_resolver.specs.Said.{in_shown};
-ghost use Rattle.fluent_state.specs.Status.{budget_view, state_parts};
+ghost use Rattle.fluent_entries.specs.Texts.{IsTextAlone};
+ghost use Rattle.fluent_state.specs.Status.{budget_view};
+ghost use Rattle.fluent_values.specs.Sinks.{GoesThrough};
+ghost use Rattle.fluent_resolver.specs.Parts as parts;
+ghost use Rattle.fluent_resolver.specs.Frames.{elements_from, AreReady, Goes, Passes};
 
 use crate::expression::write_expression;
-use crate::says::Says;
+use crate::frame::Frame;
+use crate::work::Work;
 use fluent_links::Cursor;
 use fluent_state::State;
 use fluent_state::placeable::{has_one, is_marked, put_ending, put_first_mark, put_last_mark};
@@ -21,66 +25,79 @@ use fluent_values::output::{Halt, Output};
 use fluent_values::{Context, FluentFunction, FluentType, ResolverError};
 use std::io::Write;
 
-/// Writes a pattern that was handed in, referred to or chosen: it stands on the path for its own placeables where
-/// the path is empty.
+/// Writes the elements of a pattern in order, from this one on.
 #[cycle(resolve)]
-pub fn write_pattern<'p, 's, W: Write, C: FluentType, F: FluentFunction<C>, B: Context<C>>(
-    scope: &mut State<'_, 'p, '_, 's, '_, C, F, B>,
+pub(crate) fn write_elements<
+    'p,
+    's,
+    'args,
+    W: Write,
+    C: FluentType,
+    F: FluentFunction<C>,
+    B: Context<C>,
+>(
+    scope: &mut State<'_, 'p, '_, 's, 'args, C, F, B>,
     out: &mut Output<W>,
+    work: &mut Work<'p, 'args, 's, C>,
+    levels: usize,
     pattern: &'p Pattern<'s>,
+    next: usize,
     cursor: Cursor<'p>,
 ) -> Result<(), Halt>
-    requires { IsPlaced (state_parts scope.old).ids (references (pattern_view pattern.now)) cursor }
-    ensures text { ⟦<W as Says<C, F, B>>⟧.whole pattern.now result out.old out.new scope.old scope.new }
-    ensures memory { ⟦<W as Says<C, F, B>>⟧.needs_no_memory pattern.now result out.old scope.old }
+    requires placed { IsPlaced scope.old.ids.now (references (elements_from next pattern.now)) cursor }
+    requires nothing { work.old.frames.items ≡ [] }
+    ensures goes { Goes B.meant B.is_plain F.answer C.content W.contents result
+        (parts.elements (has_one (pattern_view pattern.now)) (elements_from next pattern.now))
+        (λ x. None) scope out work }
+    ensures placed { OnOk result (AreReady scope.new.ids.now work.new) }
+    ensures texts { IsTextAlone (elements_from next pattern.now) → OnOk result (work.new.frames.items ≡ []) }
+    ensures memory { IsTextAlone (elements_from next pattern.now) →
+        IsTrue (B.is_plain scope.old.bundle.now) → GoesThrough out.old → result ≢ Err Halt.Memory }
 {
-    let begun = scope.begin(pattern);
-    let written = write_elements(scope, out, pattern, cursor);
-    scope.end(begun);
-    written
-}
-
-/// Writes the elements of a pattern, in order.
-#[cycle(resolve)]
-pub(crate) fn write_elements<'p, 's, W: Write, C: FluentType, F: FluentFunction<C>, B: Context<C>>(
-    scope: &mut State<'_, 'p, '_, 's, '_, C, F, B>,
-    out: &mut Output<W>,
-    pattern: &'p Pattern<'s>,
-    cursor: Cursor<'p>,
-) -> Result<(), Halt>
-    requires { IsPlaced scope.old.ids.now (references (pattern_view pattern.now)) cursor }
-    ensures text { ⟦<W as Says<C, F, B>>⟧.parts pattern.now result out.old out.new scope.old scope.new }
-    ensures memory { ⟦<W as Says<C, F, B>>⟧.needs_no_memory pattern.now result out.old scope.old }
-{
-    let one = has_one(pattern);
+    let mut next = next;
     let mut cursor = cursor;
-    for element in &pattern.elements {
+    while let Some(element) = pattern.elements.get(next) {
         if scope.dirty() {
-            break;
+            return Ok(());
         }
+        let here = cursor;
+        cursor = cursor.after_element(element);
+        next += 1;
         match element {
             PatternElement::TextElement { value } => put_changed(scope, out, value)?,
-            PatternElement::Placeable { expression } => write_placeable(
-                scope, out, one, expression, cursor,
-            )?,
+            PatternElement::Placeable { expression } => {
+                write_placeable(scope, out, work, levels, has_one(pattern), expression, here)?;
+                if !work.is_done() {
+                    return work.wait(Frame::Elements {
+                        pattern,
+                        next,
+                        cursor,
+                    });
+                }
+            }
         }
-        cursor = cursor.after_element(element);
     }
     Ok(())
 }
 
 /// Writes a placeable of a pattern, which is all of it or not.
 #[cycle(resolve)]
-fn write_placeable<'p, 's, W: Write, C: FluentType, F: FluentFunction<C>, B: Context<C>>(
-    scope: &mut State<'_, 'p, '_, 's, '_, C, F, B>,
+#[inline(always)]
+fn write_placeable<'p, 's, 'args, W: Write, C: FluentType, F: FluentFunction<C>, B: Context<C>>(
+    scope: &mut State<'_, 'p, '_, 's, 'args, C, F, B>,
     out: &mut Output<W>,
+    work: &mut Work<'p, 'args, 's, C>,
+    levels: usize,
     one: bool,
     expression: &'p Expression<'s>,
     cursor: Cursor<'p>,
 ) -> Result<(), Halt>
     requires left { budget_view scope.old.budget ≢ limit_reached }
-    requires placed { IsPlaced scope.old.ids.now (in_shown expression.now) cursor }
-    ensures { ⟦<W as Says<C, F, B>>⟧.part one expression.now result out.old out.new scope.old scope.new }
+    requires placed { IsPlaced scope.old.ids.now (in_expression (expression_view expression.now)) cursor }
+    requires nothing { work.old.frames.items ≡ [] }
+    ensures goes { Goes B.meant B.is_plain F.answer C.content W.contents result
+        (parts.part one (expression_view expression.now)) (λ x. None) scope out work }
+    ensures placed { OnOk result (AreReady scope.new.ids.now work.new) }
 {
     if !scope.take_one() {
         scope.add_error(ResolverError::TooManyPlaceables)?;
@@ -88,7 +105,25 @@ fn write_placeable<'p, 's, W: Write, C: FluentType, F: FluentFunction<C>, B: Con
     }
     let marked = is_marked(scope.bundle, one, expression);
     put_first_mark(out, marked)?;
-    write_expression(scope, out, expression, cursor)?;
+    write_expression(scope, out, work, levels, expression, cursor)?;
+    if work.is_done() {
+        close(scope, out, expression, marked)
+    } else {
+        work.wait(Frame::Close { expression, marked })
+    }
+}
+
+/// Ends a placeable: with its fallback where the limit was reached, and with its last mark.
+pub(crate) fn close<'p, 's, W: Write, C: FluentType, F: FluentFunction<C>, B: Context<C>>(
+    scope: &mut State<'_, 'p, '_, 's, '_, C, F, B>,
+    out: &mut Output<W>,
+    expression: &Expression<'_>,
+    marked: bool,
+) -> Result<(), Halt>
+    ensures goes { Passes B.meant B.is_plain F.answer C.content W.contents result
+        (parts.closing (expression_view expression.now) marked) scope out }
+    ensures state { scope.new ≡ scope.old }
+{
     put_ending(out, expression, scope.budget)?;
     put_last_mark(out, marked)
 }

@@ -3,8 +3,9 @@
 
 ghost use Rattle.std.specs.Prelude.{◌≡◌, true};
 ghost use Rattle.fluent_state.specs.PathContents.{is_idle};
+ghost use Rattle.fluent_state.specs.Status.{is_outside};
 
-use crate::scope_says::Tells;
+use crate::means::Means;
 use fluent_entries::Ids;
 use fluent_state::{Counts, State};
 use fluent_values::{
@@ -19,6 +20,8 @@ pub struct Scope<'errors, 'p, 'r, 's, 'args, C, F, B> {
     pub(crate) state: State<'errors, 'p, 'r, 's, 'args, C, F, B>,
     /// No pattern is being written.
     ghost idle: { is_idle state.path ≡ true },
+    /// Variables are looked up among the application's arguments.
+    ghost outside: { is_outside state.environment ≡ true },
 }
 
 impl<'errors, 'p, 'r, 's, 'args, C: FluentType, F: FluentFunction<C>, B: Context<C>> Scope<
@@ -31,10 +34,14 @@ impl<'errors, 'p, 'r, 's, 'args, C: FluentType, F: FluentFunction<C>, B: Context
     F,
     B,
 > {
-    ghost use Rattle.std.specs.Prelude.{◌≡◌, ◌↔◌, IfNone, IsOk, IsTrue};
+    ghost use Rattle.std.specs.Prelude.{◌≡◌, ◌↔◌, ◌∷◌, [], IfNone, IsOk, IsTrue};
+    ghost use Rattle.fluent_entries.specs.EntryView.{ids as ids_of};
+    ghost use Rattle.fluent_meaning.specs.Errors.{resolver_error};
     ghost use Rattle.fluent_meaning.specs.Meaning.{limit_reached};
+    ghost use Rattle.fluent_state.specs.Status.{arguments_view, with_ids};
+    ghost use Rattle.fluent_state.specs.Steps.{IsAtStart, ReportsIfOk};
     ghost use Rattle.fluent_values.specs.View.{resolver_error_view};
-    ghost use Rattle.fluent_resolver.specs.ScopeSaid.{listed};
+    ghost use Rattle.fluent_resolver.specs.Scoped.{listed};
     ghost use Rattle.fluent_resolver.specs.ScopeView.{bundle_in, counts_in, errors_in, scope_parts};
 
     /// The state in which a call begins, with the whole budget of its bundle, whose ids it is handed too. Errors
@@ -49,7 +56,8 @@ impl<'errors, 'p, 'r, 's, 'args, C: FluentType, F: FluentFunction<C>, B: Context
         ensures bundle { bundle_in result ≡ bundle.entry }
         ensures errors { errors_in result ≡ errors.entry }
         ensures ids { (scope_parts result).ids ≡ ids.now }
-        ensures begins { ⟦<Self as Tells>⟧.begins bundle.now ids.now args.entry result }
+        ensures begins { IsAtStart (⟦<Self as Means>⟧.meaning result)
+            (with_ids (B.meant bundle.now) (ids_of F.answer ids.now)) (arguments_view C.content args.entry) }
     {
         Scope {
             state: State::new(bundle, ids, args, errors),
@@ -65,7 +73,7 @@ impl<'errors, 'p, 'r, 's, 'args, C: FluentType, F: FluentFunction<C>, B: Context
 
     /// The list of errors, with those that the call added; `None` where it was given no list.
     pub fn errors(&self) -> Option<&[FluentError]>
-        ensures { listed result ≡ (⟦<Self as Tells>⟧.at self.now).errors }
+        ensures { listed result ≡ (⟦<Self as Means>⟧.meaning self.now).errors }
     {
         match &self.state.errors {
             Some(errors) => Some(errors.as_slice()),
@@ -83,7 +91,7 @@ impl<'errors, 'p, 'r, 's, 'args, C: FluentType, F: FluentFunction<C>, B: Context
 
     /// Whether a placeable past the limit was met.
     pub fn dirty(&self) -> bool
-        ensures { IsTrue result ↔ ((⟦<Self as Tells>⟧.at self.now).budget ≡ limit_reached) }
+        ensures { IsTrue result ↔ ((⟦<Self as Means>⟧.meaning self.now).budget ≡ limit_reached) }
     {
         self.state.dirty()
     }
@@ -101,8 +109,8 @@ impl<'errors, 'p, 'r, 's, 'args, C: FluentType, F: FluentFunction<C>, B: Context
     ///
     /// An allocation failed, which only a list can meet: it is as before.
     pub fn add_error(&mut self, error: ResolverError) -> Result<(), AllocError>
-        ensures added { ⟦<Self as Tells>⟧.reports (resolver_error_view error) result
-            self.old self.new }
+        ensures added { ReportsIfOk result (resolver_error (resolver_error_view error) ∷ [])
+            (⟦<Self as Means>⟧.meaning self.old) (⟦<Self as Means>⟧.meaning self.new) }
         ensures bundle { bundle_in self.new ≡ bundle_in self.old }
         ensures succeeds { IfNone (errors_in self.old) (IsOk result) }
     {
@@ -122,4 +130,14 @@ impl<'errors, 'p, 'r, 's: 'r, 'args, C: FluentType, F: FluentFunction<C>, B: Con
     fn bundle(&self) -> &B {
         self.state.bundle
     }
+}
+
+impl<'errors, 'p, 'r, 's, 'args, C: FluentType, F: FluentFunction<C>, B: Context<C>> Means
+    for Scope<'errors, 'p, 'r, 's, 'args, C, F, B> {
+    ghost use Rattle.fluent_resolver.specs.ScopeView.{status};
+    ghost use Rattle.fluent_state.specs.Status.{Status};
+
+    ghost Kind = { Status B };
+
+    ghost meaning = { status B.meant B.is_plain F.answer C.content };
 }

@@ -1,26 +1,32 @@
 //! The calls of a scope that resolve a part of a pattern by itself.
 #![tactic(auto, unfolding(crate::specs::ScopeView::scope_parts, fluent_state::specs::Status::state_parts))]
 
-ghost use Rattle.std.specs.Prelude.{◌≡◌, ◌≢◌, Err, IsOk, IsTrue, None, Some, true};
-ghost use Rattle.fluent_tree.specs.View.{arguments_view, inline_view};
+ghost use Rattle.std.specs.Prelude.{◌≡◌, ◌≢◌, Err, IfOk, IsOk, IsTrue, None, Some, false, true};
+ghost use Rattle.fluent_tree.specs.View.{arguments_view, expression_view, inline_view, pattern_view};
+ghost use Rattle.fluent_entries.specs.Texts.{IsTextAlone};
 ghost use Rattle.fluent_meaning.specs.Errors.{reference_of};
-ghost use Rattle.fluent_resolver.specs.ScopeSaid.{given_view};
-ghost use Rattle.fluent_resolver.specs.ScopeView.{bundle_in};
 ghost use Rattle.fluent_state.specs.PathContents.{is_idle};
-ghost use Rattle.fluent_resolver.specs.Tracking.{are_none};
+ghost use Rattle.fluent_state.specs.Said.{lost};
+ghost use Rattle.fluent_state.specs.Status.{state};
+ghost use Rattle.fluent_resolver.specs.Frames.{Tries, Yields};
+ghost use Rattle.fluent_resolver.specs.Scoped.{Does, Gets, GivenRun, MaybeTrackedRuns, TrackedRuns};
+ghost use Rattle.fluent_resolver.specs.Scoped.{are_none, given_ahead, given_values, given_view, maybe_tracked_events, tracked_events};
+ghost use Rattle.fluent_resolver.specs.ScopeView.{bundle_in};
 
-use crate::arguments::resolve_call;
+use crate::arguments::begin_call;
 use crate::expression::write_expression;
-use crate::pattern::write_pattern;
-use crate::says::Says;
+use crate::frame::{Frame, Purpose};
+use crate::machine::run;
+use crate::means::Means;
+use crate::pattern::close;
 use crate::scope::Scope;
-use crate::scope_says::{Tells, Tracks};
+use crate::whole::write_whole;
+use crate::work::{LEVELS, Work};
 use fluent_links::Cursor;
 use fluent_state::State;
-use fluent_state::laws::{calls_are_walks, references_are_walked};
+use fluent_state::laws::{calls_are_walks, events_are_the_run};
 use fluent_state::lost::lose;
 use fluent_state::output::through;
-use fluent_state::placeable::put_ending;
 use fluent_text::{Counting, WriteFault};
 use fluent_tree::ast::{CallArguments, Expression, InlineExpression, Pattern};
 use fluent_values::output::{Halt, Output, with_error};
@@ -44,23 +50,30 @@ impl<'p, 's, C: FluentType, F: FluentFunction<C>, B: Context<C>> Scope<
     /// # Errors
     ///
     /// `Writer` where a write failed, `Zero` where a write of a nonempty piece took no byte, `Memory` where an
-    /// allocation failed. Then what was written begins the text, and what was added begins the errors. Bundle,
-    /// environment and path are as before, a limit that was reached stays so, and no count falls, whatever is answered.
+    /// allocation failed. Then a prefix of what the call does happened: text, errors, counts and budget are those of
+    /// that prefix. Bundle, environment and path are as before, whatever is answered.
     pub fn track<W: Write>(
         &mut self,
         w: &mut Counting<W>,
         pattern: &'p Pattern<'s>,
         inline: &InlineExpression<'_>,
     ) -> Result<(), WriteFault>
-        ensures wrote { ⟦<Self as Tracks<W>>⟧.tracked pattern.now inline.now result w.old w.new
-            self.old self.new }
-        ensures runs { ⟦<Self as Tells>⟧.tracks pattern.now inline.now self.old }
+        ensures did { Does (tracked_events (pattern_view pattern.now) (inline_view inline.now)) result
+            W.contents w ⟦<Self as Means>⟧.meaning self }
+        ensures runs { TrackedRuns (pattern_view pattern.now) (inline_view inline.now)
+            (⟦<Self as Means>⟧.meaning self.old) }
         ensures bundle { bundle_in self.new ≡ bundle_in self.old }
+        ensures memory { IsTextAlone (pattern_view pattern.now) →
+            IsTrue (B.is_plain (bundle_in self.old).now) → result ≢ Err WriteFault.Memory }
     {
         calls_are_walks();
+        events_are_the_run();
+        let home = self.state.application();
         let mut unused = String::new(self.state.bundle.allocator());
-        let mut out = through(w, &mut unused);
-        let written = write_tracked(&mut self.state, &mut out, pattern);
+        let mut kept = String::new(self.state.bundle.allocator());
+        let mut out = through(w, &mut unused, &mut kept);
+        let written = write_whole(&mut self.state, &mut out, pattern, Cursor::by_name());
+        self.state.rest(home);
         with_error(written, out.error)
     }
 
@@ -71,23 +84,28 @@ impl<'p, 's, C: FluentType, F: FluentFunction<C>, B: Context<C>> Scope<
     /// # Errors
     ///
     /// `Writer` where a write failed, `Zero` where a write of a nonempty piece took no byte, `Memory` where an
-    /// allocation failed. Then what was written begins the text, and what was added begins the errors. Bundle,
-    /// environment and path are as before, a limit that was reached stays so, and no count falls, whatever is answered.
+    /// allocation failed. Then a prefix of what the call does happened: text, errors, counts and budget are those of
+    /// that prefix. Bundle, environment and path are as before, whatever is answered.
     pub fn maybe_track<W: Write>(
         &mut self,
         w: &mut Counting<W>,
         pattern: &'p Pattern<'s>,
         expression: &'p Expression<'s>,
     ) -> Result<(), WriteFault>
-        ensures wrote { ⟦<Self as Tracks<W>>⟧.maybe_tracked pattern.now expression.now result
-            w.old w.new self.old self.new }
-        ensures runs { ⟦<Self as Tells>⟧.maybe_tracks pattern.now expression.now self.old }
+        ensures did { Does (maybe_tracked_events (pattern_view pattern.now) (expression_view expression.now))
+            result W.contents w ⟦<Self as Means>⟧.meaning self }
+        ensures runs { MaybeTrackedRuns (pattern_view pattern.now) (expression_view expression.now)
+            (⟦<Self as Means>⟧.meaning self.old) }
         ensures bundle { bundle_in self.new ≡ bundle_in self.old }
     {
         calls_are_walks();
+        events_are_the_run();
+        let home = self.state.application();
         let mut unused = String::new(self.state.bundle.allocator());
-        let mut out = through(w, &mut unused);
-        let written = write_maybe_tracked(&mut self.state, &mut out, pattern, expression);
+        let mut kept = String::new(self.state.bundle.allocator());
+        let mut out = through(w, &mut unused, &mut kept);
+        let written = write_expression_of(&mut self.state, &mut out, pattern, expression);
+        self.state.rest(home);
         with_error(written, out.error)
     }
 
@@ -97,22 +115,21 @@ impl<'p, 's, C: FluentType, F: FluentFunction<C>, B: Context<C>> Scope<
     /// # Errors
     ///
     /// `Writer` where a write failed, `Zero` where a write of a nonempty piece took no byte, `Memory` where an
-    /// allocation failed, which only a reference can meet. Then what was written begins the text, and what was added
-    /// begins the errors. Bundle, environment and path are as before, a limit that was reached stays so, and no count falls,
-    /// whatever is answered.
+    /// allocation failed, which only a reference can meet. Then a prefix of what the call does happened. Bundle,
+    /// environment, path, budget and counts are as before, whatever is answered.
     pub fn write_ref_error<W: Write>(
         &mut self,
         w: &mut Counting<W>,
         inline: &InlineExpression<'_>,
     ) -> Result<(), WriteFault>
-        ensures wrote { ⟦<Self as Tracks<W>>⟧.lost inline.now result w.old w.new self.old self.new }
-        ensures runs { ⟦<Self as Tells>⟧.loses inline.now self.old }
+        ensures did { Does (lost inline.now) result W.contents w ⟦<Self as Means>⟧.meaning self }
         ensures bundle { bundle_in self.new ≡ bundle_in self.old }
         ensures memory { reference_of (inline_view inline.now) ≡ None →
             result ≢ Err WriteFault.Memory }
     {
         let mut unused = String::new(self.state.bundle.allocator());
-        let mut out = through(w, &mut unused);
+        let mut kept = String::new(self.state.bundle.allocator());
+        let mut out = through(w, &mut unused, &mut kept);
         let written = lose(&mut self.state, &mut out, inline);
         with_error(written, out.error)
     }
@@ -122,18 +139,21 @@ impl<'p, 's, C: FluentType, F: FluentFunction<C>, B: Context<C>> Scope<
     ///
     /// # Errors
     ///
-    /// An allocation failed: what was added begins the errors. Bundle, environment and path are as before, a limit that
-    /// was reached stays so, and no count falls, whatever is answered.
+    /// An allocation failed: a prefix of what the call does happened, and errors, counts and budget are those of that
+    /// prefix. Bundle, environment and path are as before, whatever is answered.
     pub fn get_arguments(
         &mut self,
         arguments: Option<&'p CallArguments<'s>>,
     ) -> Result<(Vec<FluentValue<'p, C>>, FluentArgs<'p, C>), AllocError>
-        ensures got { ⟦<Self as Tells>⟧.called arguments.entry result self.old self.new }
-        ensures runs { ⟦<Self as Tells>⟧.calls arguments.entry self.old }
+        ensures got { Gets result (given_values C.content)
+            (given_ahead (given_view arguments.entry) (⟦<Self as Means>⟧.meaning self.old))
+            (⟦<Self as Means>⟧.meaning self.old) (⟦<Self as Means>⟧.meaning self.new) }
+        ensures runs { GivenRun (given_view arguments.entry) (⟦<Self as Means>⟧.meaning self.old) }
         ensures bundle { bundle_in self.new ≡ bundle_in self.old }
         ensures succeeds { IsTrue (are_none (given_view arguments.entry)) → IsOk result }
     {
         calls_are_walks();
+        events_are_the_run();
         let alloc = self.state.bundle.allocator();
         let Some(arguments) = arguments else {
             return Ok((Vec::new(alloc), FluentArgs::new(alloc)));
@@ -141,8 +161,14 @@ impl<'p, 's, C: FluentType, F: FluentFunction<C>, B: Context<C>> Scope<
         if is_empty(arguments) {
             return Ok((Vec::new(alloc), FluentArgs::new(alloc)));
         }
-        let mut unused = Counting::new(Vec::new(alloc));
-        match resolve_call(&mut self.state, &mut unused, arguments, Cursor::by_name()) {
+        let home = self.state.application();
+        let mut nowhere = Counting::new(Vec::new(alloc));
+        let mut unused = String::new(alloc);
+        let mut kept = String::new(alloc);
+        let mut out = through(&mut nowhere, &mut unused, &mut kept);
+        let values = give_arguments(&mut self.state, &mut out, arguments);
+        self.state.rest(home);
+        match values {
             Ok(values) => Ok(values),
             Err(_) => Err(AllocError),
         }
@@ -156,43 +182,57 @@ fn is_empty(arguments: &CallArguments<'_>) -> bool
     arguments.positional.is_empty() && arguments.named.is_empty()
 }
 
-/// Writes a pattern that an expression refers to, where no pattern is being written: so it is not cyclic.
-fn write_tracked<'p, 's, W: Write, C: FluentType, F: FluentFunction<C>, B: Context<C>>(
-    scope: &mut State<'_, 'p, '_, 's, '_, C, F, B>,
-    out: &mut Output<W>,
-    pattern: &'p Pattern<'s>,
-) -> Result<(), Halt>
-    requires { is_idle scope.old.path ≡ true }
-    ensures { ⟦<W as Says<C, F, B>>⟧.tracked pattern.now result out.old out.new scope.old scope.new }
-{
-    references_are_walked();
-    write_pattern(scope, out, pattern, Cursor::by_name())
-}
-
-/// Writes a placeable's expression, with the pattern on the path where that is empty.
-fn write_maybe_tracked<'p, 's, W: Write, C: FluentType, F: FluentFunction<C>, B: Context<C>>(
+/// Writes a placeable's expression, with the pattern on the path, and its fallback where the limit is reached after it.
+fn write_expression_of<'p, 's, W: Write, C: FluentType, F: FluentFunction<C>, B: Context<C>>(
     scope: &mut State<'_, 'p, '_, 's, '_, C, F, B>,
     out: &mut Output<W>,
     pattern: &'p Pattern<'s>,
     expression: &'p Expression<'s>,
 ) -> Result<(), Halt>
-    ensures { ⟦<W as Says<C, F, B>>⟧.maybe_tracked pattern.now expression.now result out.old out.new
-        scope.old scope.new }
+    requires kept { out.old.is_kept ≡ false }
+    ensures { Tries (maybe_tracked_events (pattern_view pattern.now) (expression_view expression.now)) result
+        W.contents out (state B.meant B.is_plain F.answer C.content) scope }
 {
-    let begun = scope.begin(pattern);
-    let written = write_closed(scope, out, expression);
-    scope.end(begun);
-    written
+    let mut work = Work::new(scope.bundle.allocator());
+    let _ = scope.begin(pattern);
+    write_expression(scope, out, &mut work, LEVELS, expression, Cursor::by_name())?;
+    let marked = false;
+    if work.is_done() {
+        return close(scope, out, expression, marked);
+    }
+    work.wait(Frame::Close { expression, marked })?;
+    run(scope, out, &mut work)
 }
 
-/// Writes an expression, and its fallback in braces where the limit is reached after it.
-fn write_closed<'p, 's, W: Write, C: FluentType, F: FluentFunction<C>, B: Context<C>>(
+/// The values of arguments.
+fn give_arguments<'p, 's, W: Write, C: FluentType, F: FluentFunction<C>, B: Context<C>>(
     scope: &mut State<'_, 'p, '_, 's, '_, C, F, B>,
     out: &mut Output<W>,
-    expression: &'p Expression<'s>,
-) -> Result<(), Halt>
-    ensures { ⟦<W as Says<C, F, B>>⟧.closed expression.now result out.old out.new scope.old scope.new }
+    arguments: &'p CallArguments<'s>,
+) -> Result<(Vec<FluentValue<'p, C>>, FluentArgs<'p, C>), Halt>
+    requires kept { out.old.is_kept ≡ false }
+    ensures { Yields (given_ahead (Some (arguments_view arguments.now))) result
+        (given_values C.content) W.contents out
+        (state B.meant B.is_plain F.answer C.content) scope }
 {
-    write_expression(scope, out, expression, Cursor::by_name())?;
-    put_ending(out, expression, scope.budget)
+    events_are_the_run();
+    let mut work = Work::new(scope.bundle.allocator());
+    let _ = begin_call(
+        scope,
+        out,
+        &mut work,
+        LEVELS,
+        Purpose::Hand,
+        arguments,
+        Cursor::by_name(),
+    )?;
+    run(scope, out, &mut work)?;
+    let Work {
+        frames: _frames,
+        values,
+    } = work;
+    match values {
+        Some(values) => Ok(values),
+        None => unreachable!(),
+    }
 }

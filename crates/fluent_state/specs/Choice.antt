@@ -1,13 +1,9 @@
 -- Which variant a value goes to.
 use Rattle.std.specs.Prelude.{Bool, false, Option, Some, None, if◌then◌else◌}
-use Rattle.fluent_tree.specs.Tree.{Text, Key, Pattern, Inline, Variants, no_variants, variant}
+use Rattle.fluent_tree.specs.Tree.{Text, Key, Pattern, Variants, no_variants, variant}
 use Rattle.fluent_intl.specs.Number.{Number}
-use Rattle.fluent_meaning.specs.Bundle.{goes_to}
 use Rattle.fluent_meaning.specs.Number.{is_text, same_number}
 use Rattle.fluent_meaning.specs.Value.{Value, text_value, number_value}
-use Rattle.fluent_meaning.specs.Walk.{resolved}
-use Rattle.fluent_meaning.specs.Work.{with_work}
-use Rattle.fluent_state.specs.WalkProgress.{Walk, mapping}
 
 -- the first default
 abbrev pub first_default : Variants → Option Pattern
@@ -18,10 +14,6 @@ first_default (variant k p d vs) = if d then Some p else first_default vs
 abbrev pub choice : (Key → Bool) → Option Pattern → Variants → Option Pattern
 choice goes otherwise no_variants = otherwise
 choice goes otherwise (variant k p d vs) = if goes k then Some p else choice goes otherwise vs
-
--- the variant that a selector's value goes to
-abbrev pub choosing : Inline → Variants → Walk (Option Pattern)
-choosing x vs b below env path n = mapping (λ v. choice (goes_to b v) (first_default vs) vs) (resolved with_work b below env path x n)
 
 -- whether a key's value is a word, or a number like that one, where there is one
 abbrev pub is_like : Text → Option Number → Value Text → Bool

@@ -3,8 +3,10 @@ pub mod Locals
 pub mod FoundView
 pub mod PathContents
 pub mod Status
-pub mod WalkProgress
+pub mod Happened
+pub mod Steps
 pub mod Choice
 pub mod ChosenView
+pub mod Written
 pub mod Said
 pub mod Facts

@@ -1,27 +1,27 @@
 -- What calls say of a state, and of parts of a tree as the code has them.
 use Rattle.std.specs.Prelude.{◌≡◌, List, map, Bool, Option, Result, IfOk}
+use Rattle.std.specs.Option.{option_map, unwrap_or}
 use Rattle.std.specs.Borrow.{Bor}
-use Rattle.std.specs.Option.{option_map}
 use Rattle.std.specs.declared.alloc.AllocError.{AllocError}
-use Rattle.fluent_tree.specs.References.{variants_view}
-use Rattle.fluent_tree.specs.Tree as t
 use Rattle.fluent_tree.specs.Tree.{Text}
 use Rattle.fluent_tree.specs.View.{inline_view, pattern_view}
 use Rattle.fluent_tree.specs.declared.ast.InlineExpression.{InlineExpression}
 use Rattle.fluent_tree.specs.declared.ast.Pattern.{Pattern}
 use Rattle.fluent_tree.specs.declared.ast.Variant.{Variant}
 use Rattle.fluent_meaning.specs.Arguments.{Map, get}
-use Rattle.fluent_meaning.specs.Bundle.{Bundle, Function, function_found}
+use Rattle.fluent_meaning.specs.Bundle.{Bundle, Function, function_found, goes_to}
 use Rattle.fluent_meaning.specs.Errors.{Error}
-use Rattle.fluent_meaning.specs.Value.{Value}
-use Rattle.fluent_meaning.specs.Walk as walk
-use Rattle.fluent_meaning.specs.Work.{with_work}
+use Rattle.fluent_meaning.specs.Events.{Event}
+use Rattle.fluent_meaning.specs.Value.{Value, error_value}
+use Rattle.fluent_meaning.specs.Walk.{variables}
 use Rattle.fluent_entries.specs.EntryView.{ids as ids_of}
 use Rattle.fluent_entries.specs.declared.ids.Ids.{Ids}
-use Rattle.fluent_state.specs.WalkProgress.{EndsPattern, Enters, Evaluates, IsAtStart, Leaves, ReportsIfOk, StartsPattern, TakesOne, Walk, Wrote}
-use Rattle.fluent_state.specs.Choice.{choosing}
-use Rattle.fluent_state.specs.Status.{arguments_view, state, with_ids}
+use Rattle.fluent_state.specs.ChosenView.{chosen, chosen_view}
+use Rattle.fluent_state.specs.Happened.{Did, answer_events, lost_events, variable_errors, variable_events}
+use Rattle.fluent_state.specs.Status.{Status, arguments_view, state, with_ids}
+use Rattle.fluent_state.specs.Steps.{Enters, IsAtStart, Leaves, ReportsIfOk, Rests, StartsPattern, TakesOne}
 use Rattle.fluent_state.specs.declared.state.State.{State}
+use Rattle.fluent_state.specs.declared.variants.Chosen.{Chosen}
 use Rattle.fluent_values.specs.View.{named, value_view}
 use Rattle.fluent_values.specs.Sinks.{SinkTook, sink}
 use Rattle.fluent_values.specs.declared.args.FluentArgs.{FluentArgs}
@@ -29,26 +29,29 @@ use Rattle.fluent_values.specs.declared.output.Halt.{Halt}
 use Rattle.fluent_values.specs.declared.output.Output.{Output}
 use Rattle.fluent_values.specs.declared.types.value.FluentValue.{FluentValue}
 
--- ---- walks over parts as the code has them
-
-abbrev pub inline : InlineExpression → Walk Text
-inline x b below env path = walk.written with_work b below env path (inline_view x)
+-- ---- the events of parts, from a state
 
 -- an expression that can't be found
-abbrev pub lost : InlineExpression → Walk Text
-lost x b below env path = walk.loses with_work b below env (inline_view x)
+abbrev pub lost : {B : Type 0} → InlineExpression → Status B → List Event
+lost x s = lost_events (inline_view x)
+
+-- the value of a name, if it has one
+abbrev pub named_value : {B : Type 0} → Text → Status B → Option (Value Text)
+named_value id s = get id (variables s.environment)
+
+-- a variable of this name
+abbrev pub variable : {B : Type 0} → InlineExpression → Text → Status B → List Event
+variable x id s = variable_events s.bundle s.environment (inline_view x) (named_value id s)
+
+abbrev pub errors_of : {B : Type 0} → InlineExpression → Text → Status B → List Error
+errors_of x id s = variable_errors s.environment (inline_view x) (named_value id s)
+
+abbrev pub value_at : {B : Type 0} → Text → Status B → Value Text
+value_at id s = unwrap_or (named_value id s) error_value
 
 -- what a function of this id answers to these arguments
-abbrev pub answer : InlineExpression → Text → List (Value Text) → Map (Value Text) → Walk Text
-answer x id vs args b below env path = walk.function_text with_work b below env (inline_view x) (function_found (get id b.ids)) vs args
-
--- the value of a selector or an argument
-abbrev pub value : InlineExpression → Walk (Value Text)
-value x b below env path = walk.resolved with_work b below env path (inline_view x)
-
--- the variant that a selector's value goes to
-abbrev pub choice : InlineExpression → List Variant → Walk (Option t.Pattern)
-choice x vs = choosing (inline_view x) (variants_view vs)
+abbrev pub answer : {B : Type 0} → InlineExpression → Text → List (Value Text) → Map (Value Text) → Status B → List Event
+answer x id vs args s = answer_events s.bundle (inline_view x) (option_map (λ f. f vs args) (function_found (get id s.bundle.ids)))
 
 -- ---- what calls say
 
@@ -78,14 +81,24 @@ answers answer content ids id vs args result =
     IfOk result (λ found. option_map (value_view content) found ≡ option_map (λ f. f (map (value_view content) vs) (named content args)) (function_found (get id (ids_of answer ids))))
 
 module _ {C F B : Type 0} (meant : B → Bundle Text) (is_plain : B → Bool) (answer : F → Function Text) (content : C → Text) where
-  abbrev pub writes : {W : Type 0} → (W → Option Text) → Walk Text → Writing W C F B
-  writes contents walk result w w' s s' = Wrote result walk (sink contents w) (sink contents w') (state meant is_plain answer content s) (state meant is_plain answer content s')
-
-  abbrev pub gets : {A T : Type 0} → (T → A) → Walk A → Getting T C F B
-  gets see walk result s s' = Evaluates result see walk (state meant is_plain answer content s) (state meant is_plain answer content s')
+  -- of these events a prefix happened, and all where the answer is Ok
+  abbrev pub writes : {W : Type 0} → (W → Option Text) → (Status B → List Event) → Writing W C F B
+  writes contents events result w w' s s' = Did result (events (state meant is_plain answer content s)) (sink contents w) (sink contents w') (state meant is_plain answer content s) (state meant is_plain answer content s')
 
   abbrev pub reports : {T : Type 0} → List Error → Getting T C F B
   reports errors result s s' = ReportsIfOk result errors (state meant is_plain answer content s) (state meant is_plain answer content s')
+
+  -- the value of a variable, with its error where it has none
+  abbrev pub value : InlineExpression → Text → Getting (FluentValue C) C F B
+  value x id result s s' =
+      ReportsIfOk result (errors_of x id (state meant is_plain answer content s)) (state meant is_plain answer content s) (state meant is_plain answer content s')
+      × IfOk result (λ v. value_view content v ≡ value_at id (state meant is_plain answer content s))
+
+  -- the variant that it goes to
+  abbrev pub chooses : InlineExpression → Text → List Variant → Getting (Option Chosen) C F B
+  chooses x id vs result s s' =
+      ReportsIfOk result (errors_of x id (state meant is_plain answer content s)) (state meant is_plain answer content s) (state meant is_plain answer content s')
+      × IfOk result (λ o. chosen_view o ≡ chosen (goes_to (state meant is_plain answer content s).bundle (value_at id (state meant is_plain answer content s))) vs)
 
   -- the state in which a call begins, of this bundle and these ids, with these arguments, if there are any
   abbrev pub begins : B → Ids F → Option (Bor (FluentArgs C)) → State C F B → Type 0
@@ -97,11 +110,11 @@ module _ {C F B : Type 0} (meant : B → Bundle Text) (is_plain : B → Bool) (a
   abbrev pub starts : Bool → Pattern → Step C F B
   starts begun p s s' = StartsPattern begun (pattern_view p) (state meant is_plain answer content s) (state meant is_plain answer content s')
 
-  abbrev pub ends : Bool → Step C F B
-  ends begun s s' = EndsPattern begun (state meant is_plain answer content s) (state meant is_plain answer content s')
-
-  abbrev pub enters : Pattern → Getting Bool C F B
+  abbrev pub enters : Pattern → Getting (Unit {0}) C F B
   enters p result s s' = Enters result (pattern_view p) (state meant is_plain answer content s) (state meant is_plain answer content s')
 
   abbrev pub leaves : Bool → Step C F B
   leaves put s s' = Leaves put (state meant is_plain answer content s) (state meant is_plain answer content s')
+
+  abbrev pub rests : Option (Bor (FluentArgs C)) → Step C F B
+  rests args s s' = Rests (arguments_view content args) (state meant is_plain answer content s) (state meant is_plain answer content s')

@@ -1,5 +1,5 @@
 -- What a call carries while it resolves, by content.
-use Rattle.std.specs.Prelude.{◌≡◌, ℕ, ◌+◌, ◌-◌, ◌^◌, ◌≤◌, min, List, [], ◌++◌, map, Bool, Option, None, Some}
+use Rattle.std.specs.Prelude.{ℕ, ◌-◌, ◌^◌, min, List, [], ◌++◌, map, Bool, true, false, Option, None, Some}
 use Rattle.std.specs.Option.{option_map}
 use Rattle.std.specs.Borrow.{Bor, MutBor}
 use Rattle.std.specs.declared.vec.Vec.{Vec}
@@ -11,7 +11,7 @@ use Rattle.fluent_meaning.specs.Value.{Value}
 use Rattle.fluent_meaning.specs.Arguments.{Map}
 use Rattle.fluent_meaning.specs.Bundle.{Bundle, Entry, Function}
 use Rattle.fluent_meaning.specs.Walk.{Environment, application, local}
-use Rattle.fluent_meaning.specs.Meaning.{Budget, left, limit_reached, at_most}
+use Rattle.fluent_meaning.specs.Meaning.{Budget, left, limit_reached}
 use Rattle.fluent_entries.specs.EntryView.{ids}
 use Rattle.fluent_entries.specs.IdNumbers.{numbers, table}
 use Rattle.fluent_state.specs.Locals.{locals_view}
@@ -35,6 +35,11 @@ arguments_view content (Some a) = named content a.now
 abbrev pub environment_view : {C : Type 0} → (C → Text) → environments.Environment C → Environment Text
 environment_view content (environment.Application a) = application (arguments_view content a)
 environment_view content (environment.Local l) = local (locals_view content l)
+
+-- whether variables are looked up among the application's arguments
+abbrev pub is_outside : {C : Type 0} → environments.Environment C → Bool
+is_outside (environment.Application a) = true
+is_outside (environment.Local l) = false
 
 -- a list of errors, by content
 abbrev pub reported : List FluentError → List Error
@@ -132,23 +137,3 @@ status_of meant is_plain answer content of =
 -- of a call while it resolves
 abbrev pub state : {C F B : Type 0} → (B → Bundle Text) → (B → Bool) → (F → Function Text) → (C → Text) → State C F B → Status B
 state meant is_plain answer content s = status_of meant is_plain answer content (state_parts s)
-
--- What was opened was taken from the budget: both together are what they were, a limit that was reached stays so, and no count falls.
-pub record Spends {B : Type 0} (s s' : Status B) : Type 0 where
-  pub together : counted (s'.tally.opened + at_most s'.budget) ≡ counted (s.tally.opened + at_most s.budget)
-  pub stays_reached : s.budget ≡ limit_reached → s'.budget ≡ limit_reached
-  pub opened : s.tally.opened ≤ s'.tally.opened
-  pub longest : s.tally.longest ≤ s'.tally.longest
-  pub entered : s.tally.entered ≤ s'.tally.entered
-
--- All but the errors, the budget and the counts is as it was, and what was opened was taken from the budget.
-pub record Keeps {B : Type 0} (s s' : Status B) : Type 0 where
-  pub bundle : s'.bundle ≡ s.bundle
-  pub borrow : s'.borrow ≡ s.borrow
-  pub environment : s'.environment ≡ s.environment
-  pub path : s'.path ≡ s.path
-  pub stored : s'.stored ≡ s.stored
-  pub list : s'.list ≡ s.list
-  pub is_plain : s'.is_plain ≡ s.is_plain
-  pub less : at_most s'.budget ≤ at_most s.budget
-  pub spends : Spends s s'

@@ -1,6 +1,7 @@
 //! Fallbacks: how an expression shows where it can't be resolved.
 
-ghost use Rattle.std.specs.Prelude.{◌≡◌, ◌≢◌, Err, false};
+ghost use Rattle.std.specs.Prelude.{◌≢◌, Err};
+ghost use Rattle.fluent_values.specs.Sinks.{GoesThrough};
 ghost use Rattle.fluent_tree.specs.Fallback.{fallback, dotted, in_braces};
 ghost use Rattle.fluent_tree.specs.View.{inline_view, attribute_of};
 
@@ -24,7 +25,7 @@ pub fn put_in_braces<W: Write>(
     expression: &InlineExpression,
 ) -> Result<(), Halt>
     ensures took { ⟦<W as Puts>⟧.puts (in_braces (fallback (inline_view expression.now))) result out.old out.new }
-    ensures memory { out.old.is_buffered ≡ false → result ≢ Err Halt.Memory }
+    ensures memory { GoesThrough out.old → result ≢ Err Halt.Memory }
 {
     put_text(out, "{")?;
     put_fallback(out, expression)?;
@@ -37,7 +38,7 @@ pub(crate) fn put_fallback<W: Write>(
     expression: &InlineExpression,
 ) -> Result<(), Halt>
     ensures took { ⟦<W as Puts>⟧.puts (fallback (inline_view expression.now)) result out.old out.new }
-    ensures memory { out.old.is_buffered ≡ false → result ≢ Err Halt.Memory }
+    ensures memory { GoesThrough out.old → result ≢ Err Halt.Memory }
 {
     match expression {
         InlineExpression::StringLiteral { value } => {
@@ -76,7 +77,7 @@ fn put_dotted<W: Write>(
     attribute: &Option<Identifier>,
 ) -> Result<(), Halt>
     ensures took { ⟦<W as Puts>⟧.puts (dotted id.now.name.now (attribute_of attribute.now)) result out.old out.new }
-    ensures memory { out.old.is_buffered ≡ false → result ≢ Err Halt.Memory }
+    ensures memory { GoesThrough out.old → result ≢ Err Halt.Memory }
 {
     put_text(out, id.name)?;
     if let Some(attribute) = attribute {

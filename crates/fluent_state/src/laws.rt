@@ -1,8 +1,10 @@
 //! Laws of the meaning for the texts that calls write, called where a proof needs them. They do nothing when they run.
 
 ghost use Rattle.fluent_tree.specs.Tree.{Text};
+ghost use Rattle.fluent_meaning.specs.Ahead.{ComesByItself, EventsAreTheRun};
 ghost use Rattle.fluent_meaning.specs.Laws.{CallsByThemselves, CountsByItself, NeverAdds, RunsByItself};
 
+use fluent_meaning::laws as meaning;
 use fluent_meaning::laws::{budgets_pass_through, calls_pass_through};
 use std::collections::LinkedList;
 
@@ -22,4 +24,13 @@ pub fn calls_are_walks()
     ensures { CallsByThemselves Text }
 {
     calls_pass_through::<LinkedList<u8>>();
+}
+
+/// What is ahead of a pattern that a reference leads to is the walk over it, and its events are those of the run.
+#[inline(always)]
+pub fn events_are_the_run()
+    ensures by_itself { ComesByItself Text }
+    ensures events { EventsAreTheRun Text }
+{
+    meaning::events_are_the_run::<LinkedList<u8>>();
 }

@@ -1,10 +1,11 @@
 //! What can't be found: it is reported, and its fallback is written.
 #![tactic(auto, unfolding(crate::specs::Status::state_parts))]
 
-ghost use Rattle.std.specs.Prelude.{◌≡◌, ◌≢◌, ◌∷◌, [], Err, IsOk, None, false};
+ghost use Rattle.std.specs.Prelude.{◌≡◌, ◌≢◌, ◌∷◌, [], Err, IsOk, None};
+ghost use Rattle.fluent_values.specs.Sinks.{GoesThrough};
 ghost use Rattle.fluent_tree.specs.View.{inline_view};
 ghost use Rattle.fluent_meaning.specs.Errors.{resolver_error, no_value, reference_of};
-ghost use Rattle.fluent_state.specs.WalkProgress.{lost_of};
+ghost use Rattle.fluent_state.specs.Happened.{lost_of};
 
 use crate::fallback::put_in_braces;
 use crate::says::{Says, Sees};
@@ -22,7 +23,7 @@ pub fn lose<W: Write, C: FluentType, F: FluentFunction<C>, B: Context<C>>(
     inline: &InlineExpression<'_>,
 ) -> Result<(), Halt>
     ensures wrote { ⟦<W as Says<C, F, B>>⟧.lost inline.now result out.old out.new scope.old scope.new }
-    ensures memory { reference_of (inline_view inline.now) ≡ None → out.old.is_buffered ≡ false →
+    ensures memory { reference_of (inline_view inline.now) ≡ None → GoesThrough out.old →
         result ≢ Err Halt.Memory }
 {
     report_lost(scope, inline)?;

@@ -10,6 +10,7 @@ use fluent_values::output::Output;
 pub fn through<'w, 'unused, W>(
     w: &'w mut Counting<W>,
     unused: &'unused mut String,
+    kept: &'unused mut String,
 ) -> Output<'w, 'unused, W>
     ensures same_writer { result.writer.ghost_name ≡ w.entry.ghost_name }
     ensures writer { result.writer.now ≡ w.old }
@@ -17,11 +18,14 @@ pub fn through<'w, 'unused, W>(
     ensures buffer { result.buffer.now ≡ unused.old }
     ensures through { result.is_buffered ≡ false }
     ensures error { result.error ≡ None }
+    ensures kept { result.is_kept ≡ false }
 {
     Output {
         writer: w,
         buffer: unused,
         is_buffered: false,
         error: None,
+        kept,
+        is_kept: false,
     }
 }

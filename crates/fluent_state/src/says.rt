@@ -30,10 +30,10 @@ impl<W: Write> Puts for W {
     ghost puts = { said.puts W.contents };
 }
 
-/// Of a writer: a beginning of the text that a part gives was written, all of it where the answer is `Ok`.
+/// Of a writer: a prefix of a part's events happened, all of them where the answer is `Ok`.
 pub(crate) trait Says<C, F, B> {
-    /// Of an inline expression.
-    ghost inline: { InlineExpression → Writing Self C F B };
+    /// Of a variable of this name.
+    ghost variable: { InlineExpression → Text → Writing Self C F B };
 
     /// Of what can't be found.
     ghost lost: { InlineExpression → Writing Self C F B };
@@ -48,8 +48,8 @@ impl<W: Write, C: FluentType, F: FluentFunction<C>, B: Context<C>> Says<C, F, B>
     ghost use Rattle.fluent_state.specs.Said as said;
     ghost use Rattle.fluent_values.specs.View.{named, value_view};
 
-    ghost inline = { λ x. said.writes B.meant B.is_plain F.answer C.content W.contents
-        (said.inline x) };
+    ghost variable = { λ x id. said.writes B.meant B.is_plain F.answer C.content W.contents
+        (said.variable x id) };
 
     ghost lost = { λ x. said.writes B.meant B.is_plain F.answer C.content W.contents
         (said.lost x) };
@@ -79,11 +79,11 @@ pub(crate) trait Sees<C, F> {
     /// A call begins, of this bundle and these ids, with these arguments, if there are any.
     ghost begins: { Self → Ids F → Option (Bor (FluentArgs C)) → State C F Self → Type 0 };
 
-    /// The value of an inline expression.
-    ghost value: { InlineExpression → Getting (FluentValue C) C F Self };
+    /// The value of a variable of this name.
+    ghost value: { InlineExpression → Text → Getting (FluentValue C) C F Self };
 
-    /// The variant that a selector's value goes to.
-    ghost choice: { InlineExpression → List Variant → Getting (Option Chosen) C F Self };
+    /// The variant that it goes to.
+    ghost choice: { InlineExpression → Text → List Variant → Getting (Option Chosen) C F Self };
 
     /// These errors were added, or none where the answer is no `Ok`.
     ghost reports: { List Error → Getting (Unit {0}) C F Self };
@@ -94,31 +94,27 @@ pub(crate) trait Sees<C, F> {
     /// A pattern begins, which the path holds where it held none.
     ghost starts: { Bool → Pattern → Step C F Self };
 
-    /// It ends.
-    ghost ends: { Bool → Step C F Self };
-
     /// A pattern that a reference leads to is entered.
-    ghost enters: { Pattern → Getting Bool C F Self };
+    ghost enters: { Pattern → Getting (Unit {0}) C F Self };
 
     /// It is left.
     ghost leaves: { Bool → Step C F Self };
+
+    /// None is being written any more, and variables are looked up among these arguments.
+    ghost rests: { Option (Bor (FluentArgs C)) → Step C F Self };
 }
 
 impl<C: FluentType, F: FluentFunction<C>, B: Context<C>> Sees<C, F> for B {
-    ghost use Rattle.fluent_state.specs.ChosenView.{chosen_view};
     ghost use Rattle.fluent_state.specs.Said as said;
     ghost use Rattle.fluent_state.specs.Status.{state};
-    ghost use Rattle.fluent_values.specs.View.{value_view};
 
     ghost at = { state B.meant B.is_plain F.answer C.content };
 
     ghost begins = { said.begins B.meant B.is_plain F.answer C.content };
 
-    ghost value = { λ x. said.gets B.meant B.is_plain F.answer C.content
-        (value_view C.content) (said.value x) };
+    ghost value = { said.value B.meant B.is_plain F.answer C.content };
 
-    ghost choice = { λ x vs. said.gets B.meant B.is_plain F.answer C.content
-        chosen_view (said.choice x vs) };
+    ghost choice = { said.chooses B.meant B.is_plain F.answer C.content };
 
     ghost reports = { said.reports B.meant B.is_plain F.answer C.content };
 
@@ -126,9 +122,9 @@ impl<C: FluentType, F: FluentFunction<C>, B: Context<C>> Sees<C, F> for B {
 
     ghost starts = { said.starts B.meant B.is_plain F.answer C.content };
 
-    ghost ends = { said.ends B.meant B.is_plain F.answer C.content };
-
     ghost enters = { said.enters B.meant B.is_plain F.answer C.content };
 
     ghost leaves = { said.leaves B.meant B.is_plain F.answer C.content };
+
+    ghost rests = { said.rests B.meant B.is_plain F.answer C.content };
 }

@@ -6,7 +6,7 @@ ghost use Rattle.fluent_tree.specs.References.{a_function};
 ghost use Rattle.fluent_tree.specs.View.{inline_view};
 ghost use Rattle.fluent_meaning.specs.Bundle.{shown};
 ghost use Rattle.fluent_meaning.specs.Value.{try_number};
-ghost use Rattle.fluent_state.specs.WalkProgress.{shown_answer};
+ghost use Rattle.fluent_state.specs.Happened.{shown_answer};
 ghost use Rattle.fluent_entries.specs.IdNumbers.{IsPlaced};
 ghost use Rattle.fluent_values.specs.View.{value_view};
 

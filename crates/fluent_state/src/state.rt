@@ -2,7 +2,7 @@
 #![tactic(auto, unfolding(crate::specs::Status::state_parts))]
 
 ghost use Rattle.fluent_entries.specs.IdNumbers.{table};
-ghost use Rattle.fluent_state.specs.PathContents.{AreReferring, classes_on};
+ghost use Rattle.fluent_state.specs.PathContents.{AreClassed, above_on};
 
 use crate::budget::{Budget, Counts};
 use crate::environment::Environment;
@@ -29,8 +29,8 @@ pub struct State<'errors, 'p, 'r, 's, 'args, C, F, B> {
     pub budget: Budget,
     /// What the call did so far.
     pub counts: Counts,
-    /// The classes on the path are those of stored patterns that refer to something.
-    ghost classed: { AreReferring (table ids.now) (classes_on path) },
+    /// Above the first, a pattern on the path has a class where it refers to anything, and only there.
+    ghost classed: { AreClassed (table ids.now) (above_on path) },
 }
 
 // Written out, since a bundle's resources outlive what it holds of them.
@@ -65,10 +65,11 @@ impl<'errors, 'p, 'r, 's, 'args, C: FluentType, F: FluentFunction<C>, B: Context
     ghost use Rattle.fluent_values.specs.View.{resolver_error_view};
     ghost use Rattle.fluent_state.specs.Status.{budget_view, state_parts};
     ghost use Rattle.fluent_meaning.specs.Walk.{is_on};
-    ghost use Rattle.fluent_state.specs.WalkProgress.{can_open};
+    ghost use Rattle.fluent_state.specs.Steps.{can_open};
     ghost use Rattle.fluent_tree.specs.View.{pattern_view};
     ghost use Rattle.fluent_links.specs.Linked.{IsClassOf};
     ghost use Rattle.fluent_state.specs.PathContents.{is_idle};
+    ghost use Rattle.fluent_state.specs.Status.{is_outside};
 
     /// The state in which a call begins, with the whole budget of its bundle, whose ids it is handed too. Errors
     /// are added at the end of the list, if there is one. Without arguments each variable is missing. It takes no
@@ -83,6 +84,7 @@ impl<'errors, 'p, 'r, 's, 'args, C: FluentType, F: FluentFunction<C>, B: Context
         ensures errors { (state_parts result).errors ≡ errors.entry }
         ensures ids { (state_parts result).ids ≡ ids.now }
         ensures idle { is_idle result.path ≡ true }
+        ensures outside { result.environment ≡ Environment.Application args.entry }
         ensures begins { ⟦<B as Sees<C, F>>⟧.begins bundle.now ids.now args.entry result }
     {
         State {
@@ -180,40 +182,49 @@ impl<'errors, 'p, 'r, 's, 'args, C: FluentType, F: FluentFunction<C>, B: Context
         begun
     }
 
-    /// Takes the pattern off the path that `begin` put there, where it did.
-    pub fn end(&mut self, begun: bool)
-        ensures { ⟦<B as Sees<C, F>>⟧.ends begun self.old self.new }
-    {
-        self.path.end(begun);
-    }
-
-    /// Enters a pattern that a reference leads to: counts it, puts it on the path unless it refers to nothing and
-    /// others stand there, and says whether it put it there.
+    /// Enters a pattern that a reference leads to: puts it on the path, and counts it.
     ///
     /// # Errors
     ///
     /// An allocation failed: path and counts are as before.
     #[inline(always)]
-    pub fn enter(
-        &mut self,
-        pattern: &'p Pattern<'s>,
-        class: Option<u32>,
-    ) -> Result<bool, AllocError>
+    pub fn enter(&mut self, pattern: &'p Pattern<'s>, class: Option<u32>) -> Result<(), AllocError>
         requires { IsClassOf (table self.old.ids.now) (pattern_view pattern.now) class }
         ensures { ⟦<B as Sees<C, F>>⟧.enters pattern.now result self.old self.new }
     {
         let length = self.path.len().saturating_add(1);
-        let put = self.path.enter(pattern, class)?;
+        self.path.enter(pattern, class)?;
         self.counts.longest = self.counts.longest.max(length);
         self.counts.entered = self.counts.entered.saturating_add(1);
-        Ok(put)
+        Ok(())
     }
 
-    /// Takes the pattern off the path that `enter` put there, where it did.
+    /// Takes the pattern off the path that `begin` or `enter` put there, where it did.
     #[inline(always)]
     pub fn leave(&mut self, put: bool)
         ensures { ⟦<B as Sees<C, F>>⟧.leaves put self.old self.new }
     {
         self.path.leave(put);
+    }
+
+    /// The arguments of the application, outside of terms.
+    pub fn application(&self) -> Option<&'p FluentArgs<'args, C>>
+        ensures { is_outside self.now.environment ≡ true →
+            self.now.environment ≡ Environment.Application result }
+    {
+        match &self.environment {
+            Environment::Application(args) => *args,
+            Environment::Local(_) => None,
+        }
+    }
+
+    /// No pattern is being written any more, and variables are looked up among these arguments of the application.
+    pub fn rest(&mut self, args: Option<&'p FluentArgs<'args, C>>)
+        ensures rests { ⟦<B as Sees<C, F>>⟧.rests args.entry self.old self.new }
+        ensures idle { is_idle self.new.path ≡ true }
+        ensures outside { self.new.environment ≡ Environment.Application args.entry }
+    {
+        self.path.clear();
+        self.environment = Environment::Application(args);
     }
 }

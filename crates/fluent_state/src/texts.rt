@@ -1,7 +1,8 @@
 //! Texts: as they stand, which needs no scope, and as a bundle changes them.
 #![tactic(auto, unfolding(crate::specs::Status::state_parts))]
 
-ghost use Rattle.std.specs.Prelude.{◌≡◌, ◌≢◌, Err, IsTrue, false};
+ghost use Rattle.std.specs.Prelude.{◌≡◌, ◌≢◌, Err, IsTrue};
+ghost use Rattle.fluent_values.specs.Sinks.{GoesThrough};
 ghost use Rattle.fluent_tree.specs.View.{pattern_view};
 ghost use Rattle.fluent_entries.specs.Texts.{texts_of};
 
@@ -16,7 +17,7 @@ use std::io::Write;
 /// Writes the texts of a pattern as they stand, in order, and none of its placeables.
 pub fn put_texts<W: Write>(out: &mut Output<W>, pattern: &Pattern) -> Result<(), Halt>
     ensures took { ⟦<W as Puts>⟧.puts (texts_of (pattern_view pattern.now)) result out.old out.new }
-    ensures memory { out.old.is_buffered ≡ false → result ≢ Err Halt.Memory }
+    ensures memory { GoesThrough out.old → result ≢ Err Halt.Memory }
 {
     for element in &pattern.elements {
         match element {
@@ -34,7 +35,7 @@ pub fn put_changed<W: Write, C: FluentType, F: FluentFunction<C>, B: Context<C>>
     text: &str,
 ) -> Result<(), Halt>
     ensures took { ⟦<W as Puts>⟧.puts ((B.meant scope.now.bundle.now).transform text.now) result out.old out.new }
-    ensures memory { IsTrue (B.is_plain scope.now.bundle.now) → out.old.is_buffered ≡ false →
+    ensures memory { IsTrue (B.is_plain scope.now.bundle.now) → GoesThrough out.old →
         result ≢ Err Halt.Memory }
 {
     let changed = scope.bundle.change(text)?;

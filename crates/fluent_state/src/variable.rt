@@ -31,7 +31,8 @@ pub fn write_variable<W: Write, C: FluentType, F: FluentFunction<C>, B: Context<
     id: &Identifier<'_>,
 ) -> Result<(), Halt>
     requires { inline_view inline.now ≡ variable id.now.name.now }
-    ensures { ⟦<W as Says<C, F, B>>⟧.inline inline.now result out.old out.new scope.old scope.new }
+    ensures { ⟦<W as Says<C, F, B>>⟧.variable inline.now id.now.name.now result
+        out.old out.new scope.old scope.new }
 {
     match &scope.environment {
         Environment::Local(locals) => put_local(scope.bundle, out, locals, inline, id.name),
@@ -51,7 +52,7 @@ pub fn resolve_variable<'p, C: FluentType, F: FluentFunction<C>, B: Context<C>>(
     id: &Identifier<'_>,
 ) -> Result<FluentValue<'p, C>, AllocError>
     requires { inline_view inline.now ≡ variable id.now.name.now }
-    ensures { ⟦<B as Sees<C, F>>⟧.value inline.now result scope.old scope.new }
+    ensures { ⟦<B as Sees<C, F>>⟧.value inline.now id.now.name.now result scope.old scope.new }
 {
     let alloc = scope.bundle.allocator();
     match &scope.environment {

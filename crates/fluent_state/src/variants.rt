@@ -56,7 +56,8 @@ pub fn choose_by_variable<'p, 's, C: FluentType, F: FluentFunction<C>, B: Contex
     cursor: Cursor<'p>,
 ) -> Result<Option<Chosen<'p, 's>>, AllocError>
     requires { inline_view selector.now ≡ variable id.now.name.now }
-    ensures chose { ⟦<B as Sees<C, F>>⟧.choice selector.now variants.now result scope.old scope.new }
+    ensures chose { ⟦<B as Sees<C, F>>⟧.choice selector.now id.now.name.now variants.now result
+        scope.old scope.new }
     ensures placed { IfOk result (λ chosen. BeginsIn variants.now cursor.entry chosen) }
 {
     match &scope.environment {

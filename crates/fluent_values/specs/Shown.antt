@@ -1,5 +1,5 @@
 -- What values are shown as and which they match, by the types of the code, and what a call writes.
-use Rattle.std.specs.Prelude.{◌≡◌, ◌≢◌, Bool, false, Option, Result, Err, IsOk, IsTrue, String, string_bytes}
+use Rattle.std.specs.Prelude.{◌≡◌, ◌≢◌, Bool, Option, Result, Err, IsOk, IsTrue, String, string_bytes}
 use Rattle.std.specs.Option.{option_map}
 use Rattle.std.specs.Cow.{cow_str_bytes}
 use Rattle.std.specs.declared.borrow.CowStr.{CowStr}
@@ -10,7 +10,7 @@ use Rattle.fluent_text.specs.declared.counting.WriteFault.{WriteFault}
 use Rattle.fluent_text.specs.declared.counting.WriteFault.TheVariants as fault
 use Rattle.fluent_meaning.specs.Bundle.{Bundle, shown}
 use Rattle.fluent_meaning.specs.Value.{Value, matches, same, value_text}
-use Rattle.fluent_values.specs.Sinks.{SinkTook, sink, writer, without_error}
+use Rattle.fluent_values.specs.Sinks.{GoesThrough, SinkTook, sink, writer, without_error}
 use Rattle.fluent_values.specs.View.{value_view}
 use Rattle.fluent_values.specs.ValuesWithoutMemory.{HasOwnText, IsEmpty}
 use Rattle.fluent_values.specs.declared.output.Halt.{Halt}
@@ -51,9 +51,9 @@ IsFormatted content formatted v answer = option_map string_bytes answer ≡ form
 abbrev pub Puts : {T W : Type 0} → (W → Option Text) → Result T Halt → Text → Output W → Output W → Type 0
 Puts contents result text out out' = SinkTook result text (sink contents out) (sink contents out')
 
--- Where each value is shown as its own text, this one takes no memory, unless a buffer takes it.
+-- Where each value is shown as its own text, this one takes no memory where texts go to the writer.
 abbrev pub PutsFree : {T C W : Type 0} → Bool → FluentValue C → Output W → Result T Halt → Type 0
-PutsFree shows_own v out result = IsTrue shows_own → HasOwnText v → out.is_buffered ≡ false → result ≢ Err halt.Memory
+PutsFree shows_own v out result = IsTrue shows_own → HasOwnText v → GoesThrough out → result ≢ Err halt.Memory
 
 -- the same of a writer
 abbrev pub WritesFree : {T C : Type 0} → Bool → FluentValue C → Result T WriteFault → Type 0

@@ -1,5 +1,5 @@
 -- What a call with a counting writer took of a text.
-use Rattle.std.specs.Prelude.{◌≡◌, ℕ, Bool, true, false, [], ◌++◌, Option, None, Some, Result, Ok, Err, OnOk, String, string_bytes}
+use Rattle.std.specs.Prelude.{◌≡◌, ℕ, Bool, true, false, List, [], ◌∷◌, ◌++◌, Option, None, Some, Result, Ok, Err, OnOk, String, string_bytes}
 use Rattle.std.specs.Io.KnownBytes.{Appends}
 use Rattle.std.proofs.Common.{Global}
 use Rattle.fluent_tree.specs.Tree.{Text}
@@ -29,28 +29,37 @@ CountsTell failed empty failed' empty' (Err halt.Writer) = (failed' ≡ raised f
 CountsTell failed empty failed' empty' (Err halt.Zero) = (failed' ≡ failed) × (empty' ≡ raised empty)
 CountsTell failed empty failed' empty' (Err halt.Memory) = (failed' ≡ failed) × (empty' ≡ empty)
 
--- what is known of where a text goes: the bytes that it holds, the writer's two counts, where a buffer takes the text what the writer beside it holds, and which borrows these are
+-- what is known of where a text goes: the bytes that it holds, the writer's two counts, what those hold that it doesn't go to, and which borrows these are
 pub record Sink : Type 0 where
   pub held : Option Text
   pub failed : ℕ
   pub empty : ℕ
-  pub beside : Option (Option Text)
+  pub beside : List (Option Text)
   pub borrowed : ℕ × (ℕ × Bool)
 
 -- a writer that counts
 abbrev pub writer : {W : Type 0} → (W → Option Text) → Counting W → Sink
-writer contents w = record { held = contents (writer_in w); failed = failed_in w; empty = empty_in w; beside = None; borrowed = (0, (0, false)) }
+writer contents w = record { held = contents (writer_in w); failed = failed_in w; empty = empty_in w; beside = []; borrowed = (0, (0, false)) }
 
 -- a text beside a writer
 abbrev pub beside : {W : Type 0} → (W → Option Text) → Counting W → String Global → Sink
-beside contents w s = record { held = Some (string_bytes s); failed = failed_in w; empty = empty_in w; beside = Some (contents (writer_in w)); borrowed = (0, (0, true)) }
+beside contents w s = record { held = Some (string_bytes s); failed = failed_in w; empty = empty_in w; beside = contents (writer_in w) ∷ []; borrowed = (0, (0, true)) }
 
 abbrev pub at : {W : Type 0} → (W → Option Text) → ℕ → Counting W → ℕ → String Global → Bool → Sink
 at contents name w name' s false = record (writer contents w) { borrowed = (name, (name', false)) }
-at contents name w name' s true = record { held = Some (string_bytes s); failed = failed_in w; empty = empty_in w; beside = Some (contents (writer_in w)); borrowed = (name, (name', true)) }
+at contents name w name' s true = record { held = Some (string_bytes s); failed = failed_in w; empty = empty_in w; beside = contents (writer_in w) ∷ []; borrowed = (name, (name', true)) }
+
+-- where a text goes if none is kept
+abbrev pub outside : {W : Type 0} → (W → Option Text) → Output W → Sink
+outside contents out = at contents out.writer.ghost_name out.writer.now out.buffer.ghost_name out.buffer.now out.is_buffered
+
+-- a text that is kept takes it, in the place of these
+abbrev pub keeping : Bool → String Global → Option Text → Text → Sink → Sink
+keeping false t written buffered w = w
+keeping true t written buffered w = record w { held = Some (string_bytes t); beside = written ∷ Some buffered ∷ [] }
 
 abbrev pub sink : {W : Type 0} → (W → Option Text) → Output W → Sink
-sink contents out = at contents out.writer.ghost_name out.writer.now out.buffer.ghost_name out.buffer.now out.is_buffered
+sink contents out = keeping out.is_kept out.kept.now (contents (writer_in out.writer.now)) (string_bytes out.buffer.now) (outside contents out)
 
 -- Of a text a beginning was taken, and all of it where the answer is Ok.
 pub record SinkTook {T : Type 0} (result : Result T Halt) (text : Text) (w w' : Sink) : Type 0 where
@@ -62,3 +71,7 @@ pub record SinkTook {T : Type 0} (result : Result T Halt) (text : Text) (w w' : 
   pub fault : CountsTell w.failed w.empty w'.failed w'.empty result
   pub beside : w'.beside ≡ w.beside
   pub borrowed : w'.borrowed ≡ w.borrowed
+
+-- texts go to the writer
+abbrev pub GoesThrough : {W : Type 0} → Output W → Type 0
+GoesThrough out = (out.is_kept ≡ false) × (out.is_buffered ≡ false)

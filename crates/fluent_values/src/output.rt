@@ -2,7 +2,7 @@
 ghost use Rattle.std.specs.Prelude.{◌≡◌, ◌≢◌, Err, false};
 ghost use Rattle.fluent_text.specs.Escapes.{unescaped};
 ghost use Rattle.fluent_values.specs.Shown.{Puts};
-ghost use Rattle.fluent_values.specs.Sinks.{halt_of, without_error};
+ghost use Rattle.fluent_values.specs.Sinks.{GoesThrough, SinkTook, halt_of, outside, without_error};
 
 use fluent_text::{Counting, WriteFault, put, unescape_unicode, unescape_unicode_to_string};
 use std::alloc::{AllocError, Global};
@@ -32,13 +32,17 @@ impl From<AllocError> for Halt {
     }
 }
 
-/// A writer, and a buffer beside it, which takes the text in its place where that is wanted.
+/// A writer, and a buffer beside it, which takes the text in its place where that is wanted. A text that is kept, as the
+/// value of something else, takes it in the place of both.
 pub struct Output<'w, 'buffer, W> {
     pub writer: &'w mut Counting<W>,
     pub buffer: &'buffer mut String,
     pub is_buffered: bool,
     /// The error of the write that failed, where one did.
     pub error: Option<io::Error>,
+    /// The text that is kept, where one is.
+    pub kept: &'buffer mut String,
+    pub is_kept: bool,
 }
 
 impl<W> Drop for Output<'_, '_, W> {
@@ -52,6 +56,8 @@ impl<W> Drop for Output<'_, '_, W> {
             buffer: _,
             is_buffered: _,
             error: _,
+            kept: _,
+            is_kept: _,
         } = self;
     }
 }
@@ -59,6 +65,21 @@ impl<W> Drop for Output<'_, '_, W> {
 /// Writes a text.
 pub fn put_text<W: Write>(out: &mut Output<W>, text: &str) -> Result<(), Halt>
     ensures took { Puts W.contents result text.now out.old out.new }
+    ensures memory { GoesThrough out.old → result ≢ Err Halt.Memory }
+{
+    if out.is_kept {
+        out.kept.push_str(text)?;
+        Ok(())
+    } else {
+        put_outside(out, text)
+    }
+}
+
+/// Writes a text where it goes if none is kept.
+#[inline(always)]
+fn put_outside<W: Write>(out: &mut Output<W>, text: &str) -> Result<(), Halt>
+    ensures took { SinkTook result text.now (outside W.contents out.old) (outside W.contents out.new) }
+    ensures kept { out.new.is_kept ≡ out.old.is_kept }
     ensures memory { out.old.is_buffered ≡ false → result ≢ Err Halt.Memory }
 {
     if out.is_buffered {
@@ -74,7 +95,7 @@ pub fn put_text<W: Write>(out: &mut Output<W>, text: &str) -> Result<(), Halt>
 pub fn put_unescaped<W: Write>(alloc: Global, out: &mut Output<W>, value: &str) -> Result<(), Halt>
     ensures { Puts W.contents result (unescaped value.now) out.old out.new }
 {
-    if out.is_buffered {
+    if out.is_kept || out.is_buffered {
         let text = unescape_unicode_to_string(alloc, value)?;
         put_text(out, &text)
     } else {

@@ -1,6 +1,7 @@
 //! How values are shown, and which they match.
-ghost use Rattle.std.specs.Prelude.{◌≡◌, ◌≢◌, Err, false, IfOk, IsOk, string_bytes};
+ghost use Rattle.std.specs.Prelude.{◌≡◌, ◌≢◌, Err, IfOk, IsOk, string_bytes};
 ghost use Rattle.fluent_values.specs.Shown.{is_match, own, shows, GivesFree, IsShown, Puts, PutsFree, Writes, WritesFree};
+ghost use Rattle.fluent_values.specs.Sinks.{GoesThrough};
 ghost use Rattle.fluent_values.specs.ValuesWithoutMemory.{HasOwnText, IsEmpty};
 
 use crate::context::{Context, HasBundle};
@@ -33,7 +34,7 @@ fn put_own<W: Write, C: FluentType>(
     value: &FluentValue<'_, C>,
 ) -> Result<(), Halt>
     ensures took { Puts W.contents result (own C.content C.shown C.alike value.now) out.old out.new }
-    ensures memory { HasOwnText value.now → out.old.is_buffered ≡ false → result ≢ Err Halt.Memory }
+    ensures memory { HasOwnText value.now → GoesThrough out.old → result ≢ Err Halt.Memory }
 {
     match value {
         FluentValue::String(text) => put_text(out, text.as_str()),
@@ -88,11 +89,14 @@ impl<'v, C: FluentType> FluentValue<'v, C> {
     {
         let bundle = scope.bundle();
         let mut unused = String::new(bundle.allocator());
+        let mut kept = String::new(bundle.allocator());
         let mut out = Output {
             writer: w,
             buffer: &mut unused,
             is_buffered: false,
             error: None,
+            kept: &mut kept,
+            is_kept: false,
         };
         let written = put_value(bundle, &mut out, self);
         with_error(written, out.error)

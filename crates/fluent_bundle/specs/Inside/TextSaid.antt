@@ -5,7 +5,6 @@ use Rattle.std.specs.declared.alloc.AllocError.{AllocError}
 use Rattle.std.specs.declared.borrow.CowStr.{CowStr}
 use Rattle.std.specs.declared.vec.Vec.{Vec}
 use Rattle.std.proofs.Common.{Global}
-use Rattle.fluent_text.specs.Writer.{writer_in}
 use Rattle.fluent_text.specs.declared.counting.Counting.{Counting}
 use Rattle.fluent_text.specs.declared.counting.WriteFault.{WriteFault}
 use Rattle.fluent_tree.specs.Tree.{Text}
@@ -20,7 +19,6 @@ use Rattle.fluent_values.specs.declared.output.Halt.{Halt}
 use Rattle.fluent_values.specs.declared.output.Output.{Output}
 use Rattle.fluent_bundle.specs.ById.{Finds, WritesFound}
 use Rattle.fluent_bundle.specs.Inside.Asked.{pattern_asked}
-use Rattle.fluent_bundle.specs.Inside.Taken.{TakesText}
 use Rattle.fluent_bundle.specs.TextSaid.{Adding, Giving, Writing, under}
 use Rattle.fluent_bundle.specs.Under as u
 use Rattle.fluent_bundle.specs.Under.{AddsAll, AddsPrefix}
@@ -38,12 +36,6 @@ module _ {M C F G X : Type 0} (of : FluentBundle M C F G X → Bundle Text) (con
   abbrev pub extends : {T E : Type 0} → FluentBundle M C F G X → Pattern → Option (Bor (FluentArgs C))
       → Result T E → String Global → String Global → Type 0
   extends b p args result old new = OnOk result (u.Extends (under of content b args) (pattern_view p) old new)
-
-  -- to a writer, without its errors
-  abbrev pub takes_text : {W : Type 0} → (W → Option Text) → FluentBundle M C F G X → Pattern → Option (Bor (FluentArgs C))
-      → Result (Unit {0}) WriteFault → Counting W → Counting W → Type 0
-  takes_text contents b p args result w w' =
-      TakesText result (u.means (under of content b args) (pattern_view p)).value (contents (writer_in w)) (contents (writer_in w'))
 
   -- to where an output says
   abbrev pub takes : {W : Type 0} → (W → Option Text) → FluentBundle M C F G X → Pattern

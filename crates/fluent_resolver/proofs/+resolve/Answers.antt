@@ -1,1038 +1,2034 @@
-use Rattle.std.proofs.Common.{ℕ, Option, Result, Err, ◌≡◌, rules, arith, length, ap, sym, ◌∙◌, refl, Some, map, [], ◌∷◌, ◌++◌, ◌+◌, drop, subst, IsTrue, ◌<◌}
+use Rattle.std.proofs.Common.{◌≡◌, rules, refl, sym, ap, subst, ◌∙◌, suc, ◌<◌, arith, map, [], Option, Some, None, Err, String, Global, string_bytes, ℕ, ◌∷◌, ◌+◌, ◌*◌, true, true≢false}
+use Rattle.std.specs.Borrow.{Bor}
 use Rattle.std.specs.Option.{option_map}
-use Rattle.fluent_tree.specs.Fallback.{fallback, in_braces}
-use Rattle.fluent_tree.specs.Tree.{Text, placeable, select, function, call, variants_of, pattern_of, inlines_of, nameds_of}
-use Rattle.fluent_tree.specs.declared.ast.CallArguments as of_call
-use Rattle.fluent_tree.specs.View.{inline_view, expression_view, pattern_view, element_view, variant_view, attribute_of, call_view, arguments_view, named_view}
-use Rattle.fluent_meaning.specs.Arguments.{get, set, set_all}
-use Rattle.fluent_meaning.specs.Bundle.{goes_to, message_target, term_target, function_found}
-use Rattle.fluent_meaning.specs.Meaning.{last_mark, at_most, limit_reached}
-use Rattle.fluent_meaning.specs.Walk.{has_one, is_marked, part}
-use Rattle.fluent_meaning.specs.Work.{Worked, work, with_work}
-use Rattle.fluent_state.specs.WalkProgress.{EvaluatesSilently, Walk, given, walked, from_here, adding, trace}
-use Rattle.fluent_state.specs.FoundView.{IsLed, content_at, found_view}
-use Rattle.fluent_tree.specs.References.{a_function, a_term, in_arguments, in_call, in_expression, in_inline, in_variants, references}
-use Rattle.fluent_tree.specs.ReferencesOf.{of_element, of_inline, of_inlines, of_nameds, of_variants}
-use Rattle.fluent_links.specs.Links.{IsBefore, past}
-use Rattle.fluent_links.specs.CursorParts.{in_arguments_is, in_nested_is, in_one_is, in_pattern_is, in_placeable_is, in_select_is}
-use Rattle.fluent_links.specs.CursorSteps.{element_in_turn, enters, in_elements, leaves, named_in_turn, of_named, positional_in_turn}
+use Rattle.std.specs.Prelude.{IsTrue}
+use Rattle.std.proofs.lemmas.Bool.{ltb-false, ltb-true, true≢false}
+use Rattle.fluent_tree.specs.References.{a_function, in_arguments, in_expression, in_inline, in_variants, variants_view, a_term, in_element, references}
+use Rattle.fluent_tree.specs.Tree.{Text, function, inline, nested, select, call, message, term, placeable, text}
+use Rattle.fluent_tree.specs.View.{arguments_view, inline_view, expression_view, pattern_view, attribute_of, call_view}
+use Rattle.fluent_tree.specs.declared.ast.InlineExpression.{InlineExpression}
+use Rattle.fluent_entries.specs.IdNumbers.{numbers, table}
+use Rattle.fluent_links.specs.CursorParts.{in_arguments_is, in_function_is}
 use Rattle.fluent_links.specs.Cursors.{seen}
-use Rattle.fluent_state.specs.ChosenView.{BeginsAt, chosen_view}
-use Rattle.fluent_state.specs.declared.variants.Chosen.{Chosen}
-use Rattle.fluent_resolver.proofs.Placeables.{marked_as, marks, reaches_limit}
-use Rattle.fluent_resolver.proofs.Placed.{ok_value, placed_as, placed_back, placed_after, placed_first, placed_prefix, placed_still, some_value}
-use Rattle.fluent_state.specs.Choice.{choice, first_default}
-use Rattle.fluent_resolver.specs.Sizes.{size, bound, IsBelow, element_size, expression_size, variants_size, inline_size, call_size, arguments_size, inlines_size, nameds_size}
-use Rattle.fluent_state.specs.Locals.{literal_values, locals_view}
-use Rattle.fluent_state.specs.Status.{Status, environment_view, state, state_parts}
-use Rattle.fluent_values.specs.Sinks.{Sink}
-use Rattle.fluent_entries.specs.Texts.{IsTextAlone}
-use Rattle.fluent_values.specs.View.{value_view, named}
-use Rattle.fluent_state.specs.Facts.WritesUpTo.{starts, turns, passes, put, puts_last, tail, wrote, ends, stops, memory_halts, refuses, adds, calls, lends, goes_on, at_value}
-use Rattle.fluent_state.specs.Facts.Cases.{sequence, closing, written_string, written_number, written_message, written_nested, resolved_number, resolved_string, resolved_function, local_none, local_some, resolved_text}
-use Rattle.fluent_resolver.proofs.Measures.{falls_to, less_weight, same_weight, kept_weight, taken_weight, still_weight, less_found, element_less, cursor_less, label_less, some_variants, chosen_less, below_message, below_term}
-use Rattle.fluent_values.specs.Facts.Outputs.{still}
-use Rattle.fluent_state.specs.Facts.Passing.{passed_still, keeps_elsewhere, keeps_around, keeps_back, entered_counts}
-use Rattle.fluent_state.specs.Facts.Lists.{next_of, none_left}
-use Rattle.fluent_state.specs.Facts.Lookups.{answering, writing, resolving}
-use Rattle.fluent_resolver.proofs.Steps.{local_literals, named_in, inline_at, cyclic_at, entered_at, begun_at, back, term_at, inside, inside_at, left_again, selecting_at, chosen_walk, function_at, answered_value, elementing, following, giving, giving_all, giving_text, giving_placeable, giving_end, giving_limit_reached, no_placeable, expressing, locals, valued, cursor_walk, label_walk, placing_next, placing_end, placing_more, labelled, labelling_next, labelling_end, labelling_more, named_in, naming_after, pairing, calling_at, set_all_next}
-use Rattle.fluent_values.specs.Facts.Took.{at_err, at_ok, took_same}
-use Rattle.fluent_state.specs.Facts.Values.{gave_outward, asks, ask_stops, misses, begins, reads, gets, gets_part, got_if, got_as, got_part_as, misses_as, rests_memory, rests_same, rests_err, rests_ok, rests_on, by_buffer, as_got, beside_rests, got, gathers_none, gathers_as, gathers_same, gathers_one, gathers_part, gathers_all, gathers_stops, gathers_stops_as}
-use Rattle.fluent_state.specs.Facts.Views.{view_pattern, view_text_in, view_placeable_in, view_string_in, view_number_in, view_message_in, view_nested_in, view_function_in, view_in, view_select_in, view_term_in, view_variable_in, view_arguments, view_written}
+use Rattle.fluent_links.specs.Links.{IsBefore, past}
+use Rattle.fluent_meaning.specs.Ahead.{begins, after, Rest}
+use Rattle.fluent_meaning.specs.Arguments.{get}
+use Rattle.fluent_meaning.specs.Bundle.{Bundle, function_found}
 use Rattle.fluent_meaning.specs.Value.{text_value}
-use Rattle.fluent_values.specs.declared.output.Halt.{Halt}
-use Rattle.fluent_values.specs.declared.output.Halt.TheVariants as fault
+use Rattle.fluent_meaning.specs.Walk.{variables, has_one, Environment, local, is_marked}
+use Rattle.fluent_state.specs.Facts.Happening.{did_as, happened_told, happened_untold, happened_as, did_tell_and_put, happened_limit, happened_opened}
+use Rattle.fluent_state.specs.Facts.Views.{view_arguments, view_function_in, view_number_in, view_string_in, view_variable_in, view_written, view_in, view_nested_in, view_pattern, view_select_in, view_message_in, view_term_in, view_placeable_in, view_text_in}
+use Rattle.fluent_state.specs.Gathered.{gathered, values_of}
+use Rattle.fluent_state.specs.Happened.{answer_events, lost_of}
+use Rattle.fluent_state.specs.Status.{state, state_parts, environment_view}
+use Rattle.fluent_values.specs.Sinks.{outside}
+use Rattle.fluent_values.specs.View.{named, value_view}
+use Rattle.fluent_values.specs.declared.output.Halt.TheVariants.{Memory}
+use Rattle.fluent_resolver.specs.Frames.{ArePlacedFrames, IsPlacedCall, IsPlacedPurpose, IsWhole, at_end, before, frame, gathers, kept_before, made, paid_within, use_of, values_view, path_left, selector_value, elements_from}
+use Rattle.fluent_resolver.specs.Held.{held, more, more_named}
+use Rattle.fluent_resolver.specs.Parts.{Following, View, next_argument, is_braced}
+use Rattle.fluent_resolver.specs.declared.frame.Gathering.{Gathering}
+use Rattle.fluent_resolver.proofs.Answered.{answer_errors, answer_is, answer_text, answered_is, answered_value}
+use Rattle.fluent_resolver.proofs.Called.{called_at}
+use Rattle.fluent_resolver.proofs.Falling.{falls_to}
+use Rattle.fluent_resolver.proofs.Gathers.{all_gathered, gets_value, next_begins, placed_next}
+use Rattle.fluent_resolver.proofs.Going.{begun, finishes, goes, halts, lacks, passes, starts, turns, waits, went_on, with_fewer, err_was}
+use Rattle.fluent_resolver.proofs.Laying.{kept_of, laid, laid_halts, laid_ok, viewed, laid_last, put}
+use Rattle.fluent_resolver.proofs.Left.{left_falls}
+use Rattle.fluent_resolver.proofs.Moving.{elsewhere, moves, path_is}
+use Rattle.fluent_resolver.proofs.Opening.{At, inside, opens_part, stops_part, taken_same}
+use Rattle.fluent_resolver.proofs.Placed.{placed_after, placed_as, placed_first, ok_value, placed_back, placed_prefix, placed_still}
+use Rattle.fluent_resolver.proofs.Pushing.{placed_pushed, if_on}
+use Rattle.fluent_resolver.proofs.Ranks.{less_level, less_rank}
+use Rattle.fluent_resolver.proofs.Resolved.{function_at, kept_at, looked_up, number_at, string_at, variable_at}
+use Rattle.fluent_resolver.proofs.Settled.{none_put, paid_least, paid_none}
+use Rattle.fluent_resolver.proofs.Waiting.{is_done, is_put, pays, all_done, placed_last, put_last, none_waits, placed_none}
+use Rattle.fluent_meaning.specs.Errors.{missing_default, resolver_error, cyclic, no_value, too_many_placeables}
+use Rattle.fluent_meaning.specs.Events.{tells, told}
+use Rattle.fluent_state.specs.ChosenView.{chosen_view}
+use Rattle.fluent_resolver.proofs.Beginning.{begins_pattern}
+use Rattle.fluent_resolver.proofs.Braces.{ahead_same, inline_ahead, nested_ahead, refers_same, unbraced}
+use Rattle.fluent_resolver.proofs.Choosing.{chosen_ahead, select_ahead, select_chosen}
+use Rattle.fluent_resolver.proofs.Levels.{at_least, at_most, from_there, no_more, none_left, whole_if}
+use Rattle.fluent_resolver.proofs.Taken.{is_still}
+use Rattle.fluent_resolver.proofs.Telling.{puts_nothing, tells_first, tells_none}
+use Rattle.fluent_tree.specs.Fallback.{fallback, in_braces}
+use Rattle.fluent_state.specs.FoundView.{content_at, found_view}
+use Rattle.fluent_state.specs.Locals.{locals_view}
+use Rattle.fluent_state.specs.PathContents.{front}
+use Rattle.fluent_values.specs.Facts.Took.{at_ok}
+use Rattle.fluent_resolver.proofs.Entering.{enters_term, follow_found, follow_unknown, follow_without, go_cyclic, goes_into, looks_in, not_entered}
+use Rattle.fluent_resolver.proofs.Terms.{term_alone, term_called, term_literals}
+use Rattle.fluent_resolver.proofs.Unbraced.{written_function, written_message, written_term}
+use Rattle.fluent_entries.specs.Texts.{IsTextAlone}
+use Rattle.fluent_meaning.specs.Meaning.{limit_reached}
+use Rattle.fluent_values.specs.Facts.Outputs.{stays_through}
+use Rattle.fluent_resolver.proofs.Elements.{from_end, from_next, never_text, none_at_end, none_at_limit, placeable_first, text_first}
+use Rattle.fluent_resolver.specs.Parts as parts
+use Rattle.fluent_resolver.specs.declared.frame.Frame.TheVariants as put_off
+use Rattle.fluent_tree.specs.declared.ast.CallArguments as of_call
 use Rattle.fluent_resolver.proofs.+resolve.Goals as goal
 
-pub expression::write_expression-returns-in-Inline : goal.expression::write_expression-returns-in-Inline
+pub arguments::use_values-returns-in_err-put_answer-in-Show-clause-goes : goal.arguments::use_values-returns-in_err-put_answer-in-Show-clause-goes
 unfolding state_parts
-expression::write_expression-returns-in-Inline g t c =
-    let a = state g.B.Context.meant g.B.Context.is_plain g.F.FluentFunction.answer g.C.FluentType.content c.args.scope.now in
-    wrote (tail c.write_inline.ensures (turns (inline_at a c.args.expression.now c.in-Inline.inline a.budget c.in-Inline.is) (starts a _ _)))
-
-pub expression::write_expression-returns-in-Select : goal.expression::write_expression-returns-in-Select
-unfolding state_parts
-expression::write_expression-returns-in-Select g t c =
-    let a = state g.B.Context.meant g.B.Context.is_plain g.F.FluentFunction.answer g.C.FluentType.content c.args.scope.now in
-    let is = view_select_in c.args.expression.now c.in-Select.selector c.in-Select.variants c.in-Select.is ∙ ap (λ vs. select (inline_view c.in-Select.selector) (variants_of (map variant_view vs))) (sym c.deref.ensures.value) in
-    wrote (tail c.write_select.ensures (turns (ap (λ e. from_here a (expressing e)) is) (starts a _ _)))
-
-pub expression::write_select-returns-in_err-chosen : goal.expression::write_select-returns-in_err-chosen
-unfolding state_parts
-expression::write_select-returns-in_err-chosen g t c =
-    let a = state g.B.Context.meant g.B.Context.is_plain g.F.FluentFunction.answer g.C.FluentType.content c.args.scope.now in
+arguments::use_values-returns-in_err-put_answer-in-Show-clause-goes g t c = λ k n.
+    let content = g.C.FluentType.content in
+    let contents = g.W.Write.contents in
+    let a = state g.B.Context.meant g.B.Context.is_plain g.F.FluentFunction.answer content c.args.scope.now in
     let out = c.args.out.now in
-    let gave = gave_outward g.W.Write.contents out.writer.ghost_name out.buffer.ghost_name out.writer.now c.choose_variant.new.w out.buffer.now out.is_buffered c.choose_variant.ensures.chose in
-    let begun = turns (selecting_at a c.args.selector.now c.args.variants.now a.budget) (starts a _ _) in
-    ask_stops (chosen_walk a) c.in_err-chosen.was (search rules) gave begun
+    let work = c.args.work.now in
+    let values = values_view content work.values in
+    let v = viewed out a values in
+    let vs = values_of content c.args.positional in
+    let m = named content c.args.args in
+    let way = starts (begun (begins (use_of c.args.purpose vs m a.bundle (k a.bundle) v)) n (outside contents out) a) in
+    let x = inline_view c.in-Show.inline.now in
+    let f = function_found (get c.in-Show.id.now.name.now a.bundle.ids) in
+    let o = option_map (λ f. f vs m) f in
+    let b = state g.B.Context.meant g.B.Context.is_plain g.F.FluentFunction.answer content c.put_answer.new.scope in
+    let same = ap (λ l. answer_events a.bundle x (option_map (λ f. f (map (value_view content) l) m) f)) c.deref.ensures.value ∙ answer_is a.bundle x o in
+    let here = turns (ap (λ p. use_of p vs m a.bundle (k a.bundle) v) c.in-Show.is ∙ answered_is x f vs m a.bundle (k a.bundle) v) way in
+    let all = laid contents out c.put_answer.new.out a b values a.bundle (k a.bundle) (answer_errors x o) (answer_text a.bundle x o) (did_as same c.put_answer.ensures) here in
+    laid_halts c.in_err-put_answer-in-Show.was (search rules) all
 
-pub expression::write_select-returns-in-Some : goal.expression::write_select-returns-in-Some
+pub arguments::use_values-returns-in-Show-clause-goes : goal.arguments::use_values-returns-in-Show-clause-goes
 unfolding state_parts
-expression::write_select-returns-in-Some g t c =
-    let a = state g.B.Context.meant g.B.Context.is_plain g.F.FluentFunction.answer g.C.FluentType.content c.args.scope.now in
+arguments::use_values-returns-in-Show-clause-goes g t c = λ k n.
+    let content = g.C.FluentType.content in
+    let contents = g.W.Write.contents in
+    let a = state g.B.Context.meant g.B.Context.is_plain g.F.FluentFunction.answer content c.args.scope.now in
     let out = c.args.out.now in
-    let gave = gave_outward g.W.Write.contents out.writer.ghost_name out.buffer.ghost_name out.writer.now c.choose_variant.new.w out.buffer.now out.is_buffered c.choose_variant.ensures.chose in
-    let begun = turns (selecting_at a c.args.selector.now c.args.variants.now a.budget) (starts a _ _) in
-    let b = state g.B.Context.meant g.B.Context.is_plain g.F.FluentFunction.answer g.C.FluentType.content c.choose_variant.new.scope in
-    let asked = asks (chosen_walk a) c.in_ok-chosen.was gave begun in
-    let seen : Option Chosen → Worked Text = λ o. chosen_walk a (chosen_view o) b.budget in
-    wrote (tail c.write_pattern.ensures.text (turns (ap seen c.in-Some.is) asked))
+    let work = c.args.work.now in
+    let values = values_view content work.values in
+    let v = viewed out a values in
+    let vs = values_of content c.args.positional in
+    let m = named content c.args.args in
+    let way = starts (begun (begins (use_of c.args.purpose vs m a.bundle (k a.bundle) v)) n (outside contents out) a) in
+    let x = inline_view c.in-Show.inline.now in
+    let f = function_found (get c.in-Show.id.now.name.now a.bundle.ids) in
+    let o = option_map (λ f. f vs m) f in
+    let b = state g.B.Context.meant g.B.Context.is_plain g.F.FluentFunction.answer content c.put_answer.new.scope in
+    let same = ap (λ l. answer_events a.bundle x (option_map (λ f. f (map (value_view content) l) m) f)) c.deref.ensures.value ∙ answer_is a.bundle x o in
+    let here = turns (ap (λ p. use_of p vs m a.bundle (k a.bundle) v) c.in-Show.is ∙ answered_is x f vs m a.bundle (k a.bundle) v) way in
+    let all = laid contents out c.put_answer.new.out a b values a.bundle (k a.bundle) (answer_errors x o) (answer_text a.bundle x o) (did_as same c.put_answer.ensures) here in
+    let there = turns (ap (λ b'. k b' None (viewed c.put_answer.new.out b values)) (sym c.put_answer.ensures.happened.stays.bundle)) (laid_ok c.in_ok-put_answer-in-Show.was all) in
+    finishes None _ refl refl (none_put content b.bundle work.frames.items (k b.bundle) None (viewed c.put_answer.new.out b values) c.requires.nothing there)
 
-pub expression::write_select-returns-in_err-add_error-in-None : goal.expression::write_select-returns-in_err-add_error-in-None
+pub arguments::use_values-returns-in_err-answer-in-Give-clause-goes : goal.arguments::use_values-returns-in_err-answer-in-Give-clause-goes
 unfolding state_parts
-expression::write_select-returns-in_err-add_error-in-None g t c =
-    let a = state g.B.Context.meant g.B.Context.is_plain g.F.FluentFunction.answer g.C.FluentType.content c.args.scope.now in
+arguments::use_values-returns-in_err-answer-in-Give-clause-goes g t c = λ k n.
+    let content = g.C.FluentType.content in
+    let contents = g.W.Write.contents in
+    let a = state g.B.Context.meant g.B.Context.is_plain g.F.FluentFunction.answer content c.args.scope.now in
     let out = c.args.out.now in
-    let gave = gave_outward g.W.Write.contents out.writer.ghost_name out.buffer.ghost_name out.writer.now c.choose_variant.new.w out.buffer.now out.is_buffered c.choose_variant.ensures.chose in
-    let begun = turns (selecting_at a c.args.selector.now c.args.variants.now a.budget) (starts a _ _) in
-    let b = state g.B.Context.meant g.B.Context.is_plain g.F.FluentFunction.answer g.C.FluentType.content c.choose_variant.new.scope in
-    let asked = asks (chosen_walk a) c.in_ok-chosen.was gave begun in
-    let seen : Option Chosen → Worked Text = λ o. chosen_walk a (chosen_view o) b.budget in
-    refuses c.in_err-add_error-in-None.was (search rules) c.add_error.ensures.added (turns (ap seen c.in-None.is) asked)
+    let work = c.args.work.now in
+    let values = values_view content work.values in
+    let v = viewed out a values in
+    let vs = values_of content c.args.positional in
+    let m = named content c.args.args in
+    let way = starts (begun (begins (use_of c.args.purpose vs m a.bundle (k a.bundle) v)) n (outside contents out) a) in
+    lacks (search rules) way
 
-pub expression::write_select-returns-in_ok-add_error-in-None : goal.expression::write_select-returns-in_ok-add_error-in-None
+pub arguments::use_values-returns-in-Give-clause-goes : goal.arguments::use_values-returns-in-Give-clause-goes
 unfolding state_parts
-expression::write_select-returns-in_ok-add_error-in-None g t c =
-    let a = state g.B.Context.meant g.B.Context.is_plain g.F.FluentFunction.answer g.C.FluentType.content c.args.scope.now in
+arguments::use_values-returns-in-Give-clause-goes g t c = λ k n.
+    let content = g.C.FluentType.content in
+    let contents = g.W.Write.contents in
+    let a = state g.B.Context.meant g.B.Context.is_plain g.F.FluentFunction.answer content c.args.scope.now in
     let out = c.args.out.now in
-    let gave = gave_outward g.W.Write.contents out.writer.ghost_name out.buffer.ghost_name out.writer.now c.choose_variant.new.w out.buffer.now out.is_buffered c.choose_variant.ensures.chose in
-    let begun = turns (selecting_at a c.args.selector.now c.args.variants.now a.budget) (starts a _ _) in
-    let b = state g.B.Context.meant g.B.Context.is_plain g.F.FluentFunction.answer g.C.FluentType.content c.choose_variant.new.scope in
-    let asked = asks (chosen_walk a) c.in_ok-chosen.was gave begun in
-    let seen : Option Chosen → Worked Text = λ o. chosen_walk a (chosen_view o) b.budget in
-    ends (turns (ap (given []) (sym c.add_error.ensures.added.budget)) (adds (given [] b.budget) c.in_ok-add_error-in-None.was c.add_error.ensures.added (turns (ap seen c.in-None.is) asked)))
+    let work = c.args.work.now in
+    let values = values_view content work.values in
+    let v = viewed out a values in
+    let vs = values_of content c.args.positional in
+    let m = named content c.args.args in
+    let way = starts (begun (begins (use_of c.args.purpose vs m a.bundle (k a.bundle) v)) n (outside contents out) a) in
+    let f = function_found (get c.in-Give.id.now.name.now a.bundle.ids) in
+    let answers = c.in_ok-answer-in-Give.ensures ∙ ap (λ l. option_map (λ f. f (map (value_view content) l) m) f) c.deref-in-Give.ensures.value in
+    let value = ap (value_view content) c.unwrap_or.ensures ∙ answered_value content a.bundle f vs m c.in_ok-answer-in-Give.answer answers in
+    let there = turns (ap (λ p. use_of p vs m a.bundle (k a.bundle) v) c.in-Give.is ∙ ap (λ y. k a.bundle (Some y) v) (sym value)) way in
+    finishes _ _ refl refl (none_put content a.bundle work.frames.items (k a.bundle) (Some (value_view content c.unwrap_or.result)) v c.requires.nothing there)
 
-pub inline_expression::go-returns-in_err-add_error : goal.inline_expression::go-returns-in_err-add_error
+pub arguments::use_values-returns-clause-goes : goal.arguments::use_values-returns-clause-goes
 unfolding state_parts
-inline_expression::go-returns-in_err-add_error g t c =
-    let a = state g.B.Context.meant g.B.Context.is_plain g.F.FluentFunction.answer g.C.FluentType.content c.args.scope.now in
-    let x = inline_view c.args.inline.now in
-    let p = content_at c.args.target in
-    let begun = turns (cyclic_at a x p (sym c.is_on.ensures ∙ c.if-is_on.true)) (starts a _ _) in
-    refuses c.in_err-add_error.was (search rules) c.add_error.ensures.added begun
+arguments::use_values-returns-clause-goes g t c = λ k n.
+    let content = g.C.FluentType.content in
+    let contents = g.W.Write.contents in
+    let a = state g.B.Context.meant g.B.Context.is_plain g.F.FluentFunction.answer content c.args.scope.now in
+    let out = c.args.out.now in
+    let work = c.args.work.now in
+    let values = values_view content work.values in
+    let v = viewed out a values in
+    let vs = values_of content c.args.positional in
+    let m = named content c.args.args in
+    let way = starts (begun (begins (use_of c.args.purpose vs m a.bundle (k a.bundle) v)) n (outside contents out) a) in
+    let there = turns (ap (λ p. use_of p vs m a.bundle (k a.bundle) v) c.in-Hand.is) way in
+    finishes None _ refl refl (none_put content a.bundle work.frames.items (k a.bundle) None (record v { values = Some (vs, m) }) c.requires.nothing there)
 
-pub inline_expression::go-returns-then-is_on : goal.inline_expression::go-returns-then-is_on
+pub arguments::use_values-returns-in_err-enter_term-in-Local-clause-goes : goal.arguments::use_values-returns-in_err-enter_term-in-Local-clause-goes
 unfolding state_parts
-inline_expression::go-returns-then-is_on g t c =
-    let a = state g.B.Context.meant g.B.Context.is_plain g.F.FluentFunction.answer g.C.FluentType.content c.args.scope.now in
-    let x = inline_view c.args.inline.now in
-    let p = content_at c.args.target in
-    let begun = turns (cyclic_at a x p (sym c.is_on.ensures ∙ c.if-is_on.true)) (starts a _ _) in
-    wrote (puts_last c.put_in_braces.ensures.took (turns (ap (given (in_braces (fallback x))) (sym c.add_error.ensures.added.budget)) (adds (given (in_braces (fallback x)) a.budget) c.in_ok-add_error.was c.add_error.ensures.added begun)))
+arguments::use_values-returns-in_err-enter_term-in-Local-clause-goes g t c = λ k n.
+    let content = g.C.FluentType.content in
+    let contents = g.W.Write.contents in
+    let a = state g.B.Context.meant g.B.Context.is_plain g.F.FluentFunction.answer content c.args.scope.now in
+    let out = c.args.out.now in
+    let work = c.args.work.now in
+    let values = values_view content work.values in
+    let v = viewed out a values in
+    let vs = values_of content c.args.positional in
+    let m = named content c.args.args in
+    let way = turns (ap (λ p. begins (use_of p vs m a.bundle (k a.bundle) v)) c.in-Local.is) (begun _ n (outside contents out) a) in
+    halts c.in_err-enter_term-in-Local.was (search rules) way (c.enter_term.ensures.goes k n)
 
-pub inline_expression::go-returns-in_err-put : goal.inline_expression::go-returns-in_err-put
+pub arguments::use_values-returns-in-Local-clause-goes : goal.arguments::use_values-returns-in-Local-clause-goes
 unfolding state_parts
-inline_expression::go-returns-in_err-put g t c =
-    let a = state g.B.Context.meant g.B.Context.is_plain g.F.FluentFunction.answer g.C.FluentType.content c.args.scope.now in
-    let alloc_failed = c.enter.ensures in
-    memory_halts (search rules) (passes refl (passed_still alloc_failed.elsewhere.errors (at_err c.in_err-put.was alloc_failed.still) (keeps_elsewhere alloc_failed.elsewhere (at_err c.in_err-put.was alloc_failed.alloc_failed))) (starts a _ _))
+arguments::use_values-returns-in-Local-clause-goes g t c = λ k n.
+    let content = g.C.FluentType.content in
+    let contents = g.W.Write.contents in
+    let a = state g.B.Context.meant g.B.Context.is_plain g.F.FluentFunction.answer content c.args.scope.now in
+    let out = c.args.out.now in
+    let work = c.args.work.now in
+    let values = values_view content work.values in
+    let v = viewed out a values in
+    let vs = values_of content c.args.positional in
+    let m = named content c.args.args in
+    let way = turns (ap (λ p. begins (use_of p vs m a.bundle (k a.bundle) v)) c.in-Local.is) (begun _ n (outside contents out) a) in
+    finishes None _ refl refl (goes c.in_ok-enter_term-in-Local.was way (c.enter_term.ensures.goes k n))
 
-pub inline_expression::go-returns : goal.inline_expression::go-returns
+pub arguments::use_values-put_answer-requires : goal.arguments::use_values-put_answer-requires
 unfolding state_parts
-inline_expression::go-returns g t c =
-    let a = state g.B.Context.meant g.B.Context.is_plain g.F.FluentFunction.answer g.C.FluentType.content c.args.scope.now in
-    let x = inline_view c.args.inline.now in
-    let b = state g.B.Context.meant g.B.Context.is_plain g.F.FluentFunction.answer g.C.FluentType.content c.enter.new.self in
-    let p = content_at c.args.target in
-    let w = c.write_elements-written.ensures.text in
-    let enters = c.enter.ensures in
-    let after = c.leave.ensures.elsewhere in
-    let kept = w.went.along.passed.keeps in
-    let walk = elementing p in
-    let under = length (a.path ++ p ∷ []) in
-    let counts = ap (λ n. adding n (trace (from_here b walk))) (at_ok c.in_ok-put.was enters.tally) ∙ entered_counts a.tally under (trace (from_here b walk)) in
-    wrote (lends enters.elsewhere.errors after.errors counts refl c.leave.ensures.tally after.budget
-    (keeps_around enters.elsewhere kept after (left_again c.enter.result c.in_ok-put.put p c.in_ok-put.was enters kept.path c.leave.ensures))
-    w (turns (entered_at c.references_are_walked.ensures.counts c.enter.result c.in_ok-put.put a b x p (sym c.is_on.ensures ∙ c.if-is_on.false) c.in_ok-put.was enters) (starts a _ _)))
+arguments::use_values-put_answer-requires g t c =
+    let ids = c.args.scope.now.ids.now in
+    subst (IsPlacedPurpose (numbers ids) (table ids)) c.in-Show.is c.requires.placed
 
-pub pattern::write_pattern-returns-clause-text : goal.pattern::write_pattern-returns-clause-text
+pub arguments::use_values-enter_term-requires : goal.arguments::use_values-enter_term-requires
 unfolding state_parts
-pattern::write_pattern-returns-clause-text g t c =
-    let a = state g.B.Context.meant g.B.Context.is_plain g.F.FluentFunction.answer g.C.FluentType.content c.args.scope.now in
-    let b = state g.B.Context.meant g.B.Context.is_plain g.F.FluentFunction.answer g.C.FluentType.content c.begin-begun.new.self in
-    let p = pattern_view c.args.pattern.now in
-    let w = c.write_elements-written.ensures.text in
-    let starts_at = c.begin-begun.ensures in
-    let after = c.end.ensures.elsewhere in
-    let kept = w.went.along.passed.keeps in
-    let walk = elementing p in
-    let counts = ap (λ n. adding n (trace (from_here b walk))) starts_at.tally ∙ entered_counts a.tally (length b.path) (trace (from_here b walk)) in
-    wrote (lends starts_at.elsewhere.errors after.errors counts refl c.end.ensures.tally after.budget
-    (keeps_around starts_at.elsewhere kept after (back c.begin-begun.result p starts_at kept.path c.end.ensures))
-    w (turns (begun_at a b p starts_at.path starts_at.elsewhere) (starts a _ _)))
+arguments::use_values-enter_term-requires g t c =
+    let ids = c.args.scope.now.ids.now in
+    let less = falls_to c.decreases (less_rank c.args.levels 5 6 (omega arith)) in
+    let led = subst (IsPlacedPurpose (numbers ids) (table ids)) c.in-Local.is c.requires.placed in
+    λ κs h. (less, (h.0, (h.1.0, (h.1.1.0, (h.1.1.1, (led, c.requires.nothing))))))
 
-pub inline_expression::follow-returns-in-Unknown : goal.inline_expression::follow-returns-in-Unknown
+pub arguments::finish-returns-in_err-args-clause-goes : goal.arguments::finish-returns-in_err-args-clause-goes
 unfolding state_parts
-inline_expression::follow-returns-in-Unknown g t c =
-    let a = state g.B.Context.meant g.B.Context.is_plain g.F.FluentFunction.answer g.C.FluentType.content c.args.scope.now in
-    let x = inline_view c.args.inline.now in
-    let begun = turns (ap (λ f. from_here a (following x c.args.id.now.name.now (found_view f))) c.in-Unknown.is) (starts a _ _) in
-    wrote (tail c.lose.ensures.wrote begun)
+arguments::finish-returns-in_err-args-clause-goes g t c = λ k n.
+    let content = g.C.FluentType.content in
+    let contents = g.W.Write.contents in
+    let a = state g.B.Context.meant g.B.Context.is_plain g.F.FluentFunction.answer content c.args.scope.now in
+    let out = c.args.out.now in
+    let work = c.args.work.now in
+    let values = values_view content work.values in
+    let v = viewed out a values in
+    lacks (search rules) (begun _ n (outside contents out) a)
 
-pub inline_expression::follow-returns-in_err-report_no_value-in-WithoutValue : goal.inline_expression::follow-returns-in_err-report_no_value-in-WithoutValue
+pub arguments::finish-returns-clause-goes : goal.arguments::finish-returns-clause-goes
 unfolding state_parts
-inline_expression::follow-returns-in_err-report_no_value-in-WithoutValue g t c =
-    let a = state g.B.Context.meant g.B.Context.is_plain g.F.FluentFunction.answer g.C.FluentType.content c.args.scope.now in
-    let x = inline_view c.args.inline.now in
-    let begun = turns (ap (λ f. from_here a (following x c.args.id.now.name.now (found_view f))) c.in-WithoutValue.is) (starts a _ _) in
-    refuses c.in_err-report_no_value-in-WithoutValue.was (search rules) c.report_no_value.ensures begun
+arguments::finish-returns-clause-goes g t c = λ k n.
+    let content = g.C.FluentType.content in
+    let contents = g.W.Write.contents in
+    let a = state g.B.Context.meant g.B.Context.is_plain g.F.FluentFunction.answer content c.args.scope.now in
+    let out = c.args.out.now in
+    let work = c.args.work.now in
+    let values = values_view content work.values in
+    let v = viewed out a values in
+    let call = c.args.gathering in
+    let here = ap (λ m. begins (use_of call.purpose (values_of content call.positional) m a.bundle (k a.bundle) v)) (sym c.in_ok-args.ensures) in
+    went_on (turns here (begun _ n (outside contents out) a)) (c.use_values.ensures.goes k n)
 
-pub inline_expression::follow-returns-in_ok-report_no_value-in-WithoutValue : goal.inline_expression::follow-returns-in_ok-report_no_value-in-WithoutValue
+pub arguments::finish-use_values-requires : goal.arguments::finish-use_values-requires
 unfolding state_parts
-inline_expression::follow-returns-in_ok-report_no_value-in-WithoutValue g t c =
-    let a = state g.B.Context.meant g.B.Context.is_plain g.F.FluentFunction.answer g.C.FluentType.content c.args.scope.now in
-    let x = inline_view c.args.inline.now in
-    let begun = turns (ap (λ f. from_here a (following x c.args.id.now.name.now (found_view f))) c.in-WithoutValue.is) (starts a _ _) in
-    let t = in_braces c.args.id.now.name.now in
-    wrote (puts_last c.put_id_in_braces.ensures (turns (ap (given t) (sym c.report_no_value.ensures.budget)) (adds (given t a.budget) c.in_ok-report_no_value-in-WithoutValue.was c.report_no_value.ensures begun)))
+arguments::finish-use_values-requires g t c =
+    let less = falls_to c.decreases (less_rank c.args.levels 6 7 (omega arith)) in
+    λ κs h. (less, (h.0, (h.1.0, (h.1.1.0, (h.1.1.1, (c.requires.placed, c.requires.nothing))))))
 
-pub inline_expression::follow-returns-in-Pattern : goal.inline_expression::follow-returns-in-Pattern
+pub arguments::begin_call-returns-clause-goes : goal.arguments::begin_call-returns-clause-goes
 unfolding state_parts
-inline_expression::follow-returns-in-Pattern g t c =
-    let a = state g.B.Context.meant g.B.Context.is_plain g.F.FluentFunction.answer g.C.FluentType.content c.args.scope.now in
-    let x = inline_view c.args.inline.now in
-    let begun = turns (ap (λ f. from_here a (following x c.args.id.now.name.now (found_view f))) c.in-Pattern.is) (starts a _ _) in
-    wrote (tail c.go.ensures begun)
+arguments::begin_call-returns-clause-goes g t c = λ k n.
+    let content = g.C.FluentType.content in
+    let contents = g.W.Write.contents in
+    let a = state g.B.Context.meant g.B.Context.is_plain g.F.FluentFunction.answer content c.args.scope.now in
+    let out = c.args.out.now in
+    let work = c.args.work.now in
+    let values = values_view content work.values in
+    let v = viewed out a values in
+    let is = view_arguments c.args.arguments.now in
+    let here = called_at (use_of c.args.purpose) _ _ _ (values_of content c.new.result) (gathered content c.new-2.result) a.bundle (k a.bundle) v is (ap (map (value_view content)) c.new.ensures.items) c.new-2.ensures in
+    went_on (starts (starts (turns here (begun _ n (outside contents out) a)))) (c.gather.ensures.goes k n)
 
-pub pattern::write_placeable-returns-in_err-add_error : goal.pattern::write_placeable-returns-in_err-add_error
+pub arguments::begin_call-gather-requires : goal.arguments::begin_call-gather-requires
 unfolding state_parts
-pattern::write_placeable-returns-in_err-add_error g t c =
-    let a = state g.B.Context.meant g.B.Context.is_plain g.F.FluentFunction.answer g.C.FluentType.content c.args.scope.now in
-    let b = state g.B.Context.meant g.B.Context.is_plain g.F.FluentFunction.answer g.C.FluentType.content c.take_one.new.self in
-    let e = expression_view c.args.expression.now in
-    let begun = reaches_limit tt a b c.args.one e _ c.requires.left c.take_one.ensures.opens c.if-not-take_one.true c.take_one.ensures.takes in
-    refuses c.in_err-add_error.was (search rules) c.add_error.ensures.added begun
+arguments::begin_call-gather-requires g t c =
+    let ids = c.args.scope.now.ids.now in
+    let less = falls_to c.decreases (less_rank c.args.levels 8 9 (omega arith)) in
+    let before = placed_as (numbers ids) _ _ c.args.cursor (in_arguments_is c.args.arguments.now) c.requires.placed in
+    λ κs h. (less, (h.0, (h.1.0, (h.1.1.0, (h.1.1.1, ((before, c.requires.purpose), c.requires.nothing))))))
 
-pub pattern::write_placeable-returns-then-not-take_one : goal.pattern::write_placeable-returns-then-not-take_one
+pub arguments::gather-loop-inline-init : goal.arguments::gather-loop-inline-init
 unfolding state_parts
-pattern::write_placeable-returns-then-not-take_one g t c =
+arguments::gather-loop-inline-init g t c =
     let a = state g.B.Context.meant g.B.Context.is_plain g.F.FluentFunction.answer g.C.FluentType.content c.args.scope.now in
-    let b = state g.B.Context.meant g.B.Context.is_plain g.F.FluentFunction.answer g.C.FluentType.content c.take_one.new.self in
-    let e = expression_view c.args.expression.now in
-    let begun = reaches_limit tt a b c.args.one e _ c.requires.left c.take_one.ensures.opens c.if-not-take_one.true c.take_one.ensures.takes in
-    ends (turns (ap (given []) (sym c.add_error.ensures.added.budget)) (adds (given [] b.budget) c.in_ok-add_error.was c.add_error.ensures.added begun))
-
-pub pattern::write_placeable-returns-in_err-put_first_mark : goal.pattern::write_placeable-returns-in_err-put_first_mark
-unfolding state_parts
-pattern::write_placeable-returns-in_err-put_first_mark g t c =
-    let a = state g.B.Context.meant g.B.Context.is_plain g.F.FluentFunction.answer g.C.FluentType.content c.args.scope.now in
-    let b = state g.B.Context.meant g.B.Context.is_plain g.F.FluentFunction.answer g.C.FluentType.content c.take_one.new.self in
-    let e = expression_view c.args.expression.now in
-    let first = marks tt a b c.args.one e c.take_one.ensures.opens c.if-not-take_one.false c.take_one.ensures.takes c.is_marked-marked.ensures c.put_first_mark.ensures in
-    stops c.in_err-put_first_mark.was (search rules) first
-
-pub pattern::write_placeable-returns-in_err-write_expression : goal.pattern::write_placeable-returns-in_err-write_expression
-unfolding state_parts
-pattern::write_placeable-returns-in_err-write_expression g t c =
-    let a = state g.B.Context.meant g.B.Context.is_plain g.F.FluentFunction.answer g.C.FluentType.content c.args.scope.now in
-    let b = state g.B.Context.meant g.B.Context.is_plain g.F.FluentFunction.answer g.C.FluentType.content c.take_one.new.self in
-    let e = expression_view c.args.expression.now in
-    let first = marks tt a b c.args.one e c.take_one.ensures.opens c.if-not-take_one.false c.take_one.ensures.takes c.is_marked-marked.ensures c.put_first_mark.ensures in
-    let written = calls (closing a.bundle c.args.one e) c.write_expression.ensures (goes_on c.in_ok-put_first_mark.was first) in
-    stops c.in_err-write_expression.was (search rules) written
-
-pub pattern::write_placeable-returns-in_err-put_ending : goal.pattern::write_placeable-returns-in_err-put_ending
-unfolding state_parts
-pattern::write_placeable-returns-in_err-put_ending g t c =
-    let a = state g.B.Context.meant g.B.Context.is_plain g.F.FluentFunction.answer g.C.FluentType.content c.args.scope.now in
-    let b = state g.B.Context.meant g.B.Context.is_plain g.F.FluentFunction.answer g.C.FluentType.content c.take_one.new.self in
-    let e = expression_view c.args.expression.now in
-    let first = marks tt a b c.args.one e c.take_one.ensures.opens c.if-not-take_one.false c.take_one.ensures.takes c.is_marked-marked.ensures c.put_first_mark.ensures in
-    let written = calls (closing a.bundle c.args.one e) c.write_expression.ensures (goes_on c.in_ok-put_first_mark.was first) in
-    let d = state g.B.Context.meant g.B.Context.is_plain g.F.FluentFunction.answer g.C.FluentType.content c.write_expression.new.scope in
-    let ended = put (given (last_mark (is_marked a.bundle.isolates c.args.one e)) d.budget) c.put_ending.ensures (goes_on c.in_ok-write_expression.was written) in
-    stops c.in_err-put_ending.was (search rules) ended
-
-pub pattern::write_placeable-returns : goal.pattern::write_placeable-returns
-unfolding state_parts
-pattern::write_placeable-returns g t c =
-    let a = state g.B.Context.meant g.B.Context.is_plain g.F.FluentFunction.answer g.C.FluentType.content c.args.scope.now in
-    let b = state g.B.Context.meant g.B.Context.is_plain g.F.FluentFunction.answer g.C.FluentType.content c.take_one.new.self in
-    let e = expression_view c.args.expression.now in
-    let first = marks tt a b c.args.one e c.take_one.ensures.opens c.if-not-take_one.false c.take_one.ensures.takes c.is_marked-marked.ensures c.put_first_mark.ensures in
-    let written = calls (closing a.bundle c.args.one e) c.write_expression.ensures (goes_on c.in_ok-put_first_mark.was first) in
-    let d = state g.B.Context.meant g.B.Context.is_plain g.F.FluentFunction.answer g.C.FluentType.content c.write_expression.new.scope in
-    let ended = put (given (last_mark (is_marked a.bundle.isolates c.args.one e)) d.budget) c.put_ending.ensures (goes_on c.in_ok-write_expression.was written) in
-    let marked = marked_as c.args.one e c.take_one.ensures.takes.keeps c.is_marked-marked.ensures in
-    wrote (puts_last (took_same (ap last_mark marked) c.put_last_mark.ensures) (goes_on c.in_ok-put_ending.was ended))
-
-pub pattern::write_elements-loop-element-init : goal.pattern::write_elements-loop-element-init
-unfolding state_parts
-pattern::write_elements-loop-element-init g t c =
-    let a = state g.B.Context.meant g.B.Context.is_plain g.F.FluentFunction.answer g.C.FluentType.content c.args.scope.now in
-    let one = has_one (pattern_view c.args.pattern.now) in
     record {
-      along = turns (giving_all a one c.args.pattern.now a.budget ∙ ap (λ es. giving a one es a.budget) (sym c.deref-element-items.ensures.value)) (starts _ _ _);
-      placed = placed_as a.stored.numbers (references (pattern_view c.args.pattern.now)) (in_elements c.deref-element-items.result.now) c.args.cursor (in_pattern_is c.args.pattern.now ∙ ap in_elements (sym c.deref-element-items.ensures.value)) c.requires;
+      along = λ k n. begun _ n (outside g.W.Write.contents c.args.out.now) a;
+      placed = c.requires.placed;
+      nothing = c.requires.nothing;
+      purpose = refl;
     }
 
-pub pattern::write_elements-loop-element-preserved : goal.pattern::write_elements-loop-element-preserved
+pub arguments::gather-returns-in_err-value-clause-goes : goal.arguments::gather-returns-in_err-value-clause-goes
 unfolding state_parts
-pattern::write_elements-loop-element-preserved g t c =
-    let a = state g.B.Context.meant g.B.Context.is_plain g.F.FluentFunction.answer g.C.FluentType.content c.args.scope.now in
-    let one = has_one (pattern_view c.args.pattern.now) in
-    let items = c.deref-element-items.result.now in
-    let b = state g.B.Context.meant g.B.Context.is_plain g.F.FluentFunction.answer g.C.FluentType.content c.loop-element.scope in
-    let x = c.element-item.result in
-    let rest = drop (c.loop-element.element-index + 1) items in
-    let next = next_of items c.loop-element.element-index x c.loop-element-test.true c.element-item.is in
+arguments::gather-returns-in_err-value-clause-goes g t c = λ k n.
+    let content = g.C.FluentType.content in
+    let contents = g.W.Write.contents in
+    let b = state g.B.Context.meant g.B.Context.is_plain g.F.FluentFunction.answer content c.loop-inline.scope in
+    let call = c.loop-inline.gathering in
+    let h = held content call in
+    let v = viewed c.loop-inline.out b (values_view content c.loop-inline.work.values) in
+    let x = inline_view c.in-Some.inline.now in
+    let is : next_argument h ≡ Some x = sym c.next.ensures ∙ ap (λ (o : Option (Bor InlineExpression)). option_map (λ y. inline_view y.now) o) c.in-Some.is in
+    let d = state g.B.Context.meant g.B.Context.is_plain g.F.FluentFunction.answer content c.resolve.new.scope in
+    let u = viewed c.resolve.new.out d (values_view content c.resolve.new.work.values) in
+    let fs = c.resolve.new.work.frames.items in
+    let next : Bundle Text → Following = λ bb given w. gathers content call given bb (k bb) w in
+    let asked = pays c.args.levels (waits (suc n) (omega arith) (next_begins (use_of call.purpose) h x b.bundle (k b.bundle) v is (c.loop-inline.invariant.along k n))) in
+    halts c.in_err-value.was (search rules) asked (c.resolve.ensures.goes next n)
+
+pub arguments::gather-returns-in_err-take-in-Some-2-clause-goes : goal.arguments::gather-returns-in_err-take-in-Some-2-clause-goes
+unfolding state_parts
+arguments::gather-returns-in_err-take-in-Some-2-clause-goes g t c = λ k n.
+    let lack : c.from_residual-in_err-take-in-Some-2.result ≡ Err Memory = search (rules, c.from_residual-in_err-take-in-Some-2.ensures) in
+    let content = g.C.FluentType.content in
+    let contents = g.W.Write.contents in
+    let b = state g.B.Context.meant g.B.Context.is_plain g.F.FluentFunction.answer content c.loop-inline.scope in
+    let call = c.loop-inline.gathering in
+    let h = held content call in
+    let v = viewed c.loop-inline.out b (values_view content c.loop-inline.work.values) in
+    let x = inline_view c.in-Some.inline.now in
+    let is : next_argument h ≡ Some x = sym c.next.ensures ∙ ap (λ (o : Option (Bor InlineExpression)). option_map (λ y. inline_view y.now) o) c.in-Some.is in
+    let d = state g.B.Context.meant g.B.Context.is_plain g.F.FluentFunction.answer content c.resolve.new.scope in
+    let u = viewed c.resolve.new.out d (values_view content c.resolve.new.work.values) in
+    let fs = c.resolve.new.work.frames.items in
+    let next : Bundle Text → Following = λ bb given w. gathers content call given bb (k bb) w in
+    let asked = pays c.args.levels (waits (suc n) (omega arith) (next_begins (use_of call.purpose) h x b.bundle (k b.bundle) v is (c.loop-inline.invariant.along k n))) in
+    let there = goes c.in_ok-value.was asked (c.resolve.ensures.goes next n) in
+    lacks lack there
+
+pub arguments::gather-returns-in_err-hold-in-None-clause-goes : goal.arguments::gather-returns-in_err-hold-in-None-clause-goes
+unfolding state_parts
+arguments::gather-returns-in_err-hold-in-None-clause-goes g t c = λ k n.
+    let lack : c.from_residual-in_err-hold-in-None.result ≡ Err Memory = search (rules, c.from_residual-in_err-hold-in-None.ensures, c.in_err-hold-in-None.ensures.err) in
+    let content = g.C.FluentType.content in
+    let contents = g.W.Write.contents in
+    let b = state g.B.Context.meant g.B.Context.is_plain g.F.FluentFunction.answer content c.loop-inline.scope in
+    let call = c.loop-inline.gathering in
+    let h = held content call in
+    let v = viewed c.loop-inline.out b (values_view content c.loop-inline.work.values) in
+    let x = inline_view c.in-Some.inline.now in
+    let is : next_argument h ≡ Some x = sym c.next.ensures ∙ ap (λ (o : Option (Bor InlineExpression)). option_map (λ y. inline_view y.now) o) c.in-Some.is in
+    let d = state g.B.Context.meant g.B.Context.is_plain g.F.FluentFunction.answer content c.resolve.new.scope in
+    let u = viewed c.resolve.new.out d (values_view content c.resolve.new.work.values) in
+    let fs = c.resolve.new.work.frames.items in
+    let next : Bundle Text → Following = λ bb given w. gathers content call given bb (k bb) w in
+    let asked = pays c.args.levels (waits (suc (suc n)) (omega arith) (next_begins (use_of call.purpose) h x b.bundle (k b.bundle) v is (c.loop-inline.invariant.along k n))) in
+    let there = goes c.in_ok-value.was asked (c.resolve.ensures.goes next (suc n)) in
+    lacks lack there
+
+pub arguments::gather-returns-in-None-clause-goes : goal.arguments::gather-returns-in-None-clause-goes
+unfolding state_parts
+arguments::gather-returns-in-None-clause-goes g t c = λ k n.
+    let content = g.C.FluentType.content in
+    let contents = g.W.Write.contents in
+    let b = state g.B.Context.meant g.B.Context.is_plain g.F.FluentFunction.answer content c.loop-inline.scope in
+    let call = c.loop-inline.gathering in
+    let h = held content call in
+    let v = viewed c.loop-inline.out b (values_view content c.loop-inline.work.values) in
+    let x = inline_view c.in-Some.inline.now in
+    let is : next_argument h ≡ Some x = sym c.next.ensures ∙ ap (λ (o : Option (Bor InlineExpression)). option_map (λ y. inline_view y.now) o) c.in-Some.is in
+    let d = state g.B.Context.meant g.B.Context.is_plain g.F.FluentFunction.answer content c.resolve.new.scope in
+    let u = viewed c.resolve.new.out d (values_view content c.resolve.new.work.values) in
+    let fs = c.resolve.new.work.frames.items in
+    let next : Bundle Text → Following = λ bb given w. gathers content call given bb (k bb) w in
+    let asked = pays c.args.levels (waits (suc (suc n)) (omega arith) (next_begins (use_of call.purpose) h x b.bundle (k b.bundle) v is (c.loop-inline.invariant.along k n))) in
+    let there = goes c.in_ok-value.was asked (c.resolve.ensures.goes next (suc n)) in
+    let kept = c.in_ok-hold-in-None.ensures.waits in
+    let gs = c.hold.new.work.frames.items in
+    let none = ap (λ o. before content d.bundle fs (next d.bundle) (made content o) u) c.in-None.is in
+    let boxed = ap (λ (q : Gathering g.row.C.Denot). before content d.bundle fs (λ given. gathers content q given d.bundle (k d.bundle)) None u) (sym kept.value) in
+    let put = is_put n content d.bundle fs gs (put_off.Gather kept.box) (k d.bundle) None u kept.frames (turns (none ∙ boxed) there) in
+    finishes None _ refl refl (turns (ap (λ vs. before content d.bundle gs (k d.bundle) None (viewed c.resolve.new.out d (values_view content vs))) (sym c.hold.ensures.values)) put)
+
+pub arguments::gather-returns-in-None-clause-placed : goal.arguments::gather-returns-in-None-clause-placed
+unfolding state_parts
+arguments::gather-returns-in-None-clause-placed g t c =
+    let content = g.C.FluentType.content in
+    let contents = g.W.Write.contents in
+    let b = state g.B.Context.meant g.B.Context.is_plain g.F.FluentFunction.answer content c.loop-inline.scope in
+    let call = c.loop-inline.gathering in
+    let h = held content call in
+    let v = viewed c.loop-inline.out b (values_view content c.loop-inline.work.values) in
+    let x = inline_view c.in-Some.inline.now in
+    let is : next_argument h ≡ Some x = sym c.next.ensures ∙ ap (λ (o : Option (Bor InlineExpression)). option_map (λ y. inline_view y.now) o) c.in-Some.is in
+    let d = state g.B.Context.meant g.B.Context.is_plain g.F.FluentFunction.answer content c.resolve.new.scope in
+    let moved = goes c.in_ok-value.was (begun _ _ (outside contents c.loop-inline.out) b) (c.resolve.ensures.goes (λ bb. at_end) 0) in
+    let kept : d.stored ≡ b.stored = moved.happened.stays.stored in
+    let waits = c.in_ok-hold-in-None.ensures.waits in
+    let placed = subst (λ s. IsPlacedCall s.numbers s.table call) (sym kept) c.loop-inline.invariant.placed in
+    placed_pushed d.stored.numbers d.stored.table c.resolve.new.work.frames.items c.hold.new.work.frames.items (put_off.Gather waits.box) waits.frames c.in_ok-value.ensures.placed (subst (IsPlacedCall d.stored.numbers d.stored.table) (sym waits.value) placed)
+
+pub arguments::gather-returns-clause-goes : goal.arguments::gather-returns-clause-goes
+unfolding state_parts
+arguments::gather-returns-clause-goes g t c = λ k n.
+    let content = g.C.FluentType.content in
+    let contents = g.W.Write.contents in
+    let b = state g.B.Context.meant g.B.Context.is_plain g.F.FluentFunction.answer content c.loop-inline.scope in
+    let call = c.loop-inline.gathering in
+    let h = held content call in
+    let v = viewed c.loop-inline.out b (values_view content c.loop-inline.work.values) in
+    let is : next_argument h ≡ None = sym c.next.ensures ∙ ap (λ (o : Option (Bor InlineExpression)). option_map (λ y. inline_view y.now) o) c.in_default.is in
+    went_on (turns (all_gathered (use_of call.purpose) h b.bundle (k b.bundle) v is) (c.loop-inline.invariant.along k n)) (c.finish.ensures.goes k n)
+
+pub arguments::gather-resolve-requires : goal.arguments::gather-resolve-requires
+unfolding state_parts
+arguments::gather-resolve-requires g t c =
+    let content = g.C.FluentType.content in
+    let contents = g.W.Write.contents in
+    let b = state g.B.Context.meant g.B.Context.is_plain g.F.FluentFunction.answer content c.loop-inline.scope in
+    let call = c.loop-inline.gathering in
+    let h = held content call in
+    let v = viewed c.loop-inline.out b (values_view content c.loop-inline.work.values) in
+    let x = inline_view c.in-Some.inline.now in
+    let is : next_argument h ≡ Some x = sym c.next.ensures ∙ ap (λ (o : Option (Bor InlineExpression)). option_map (λ y. inline_view y.now) o) c.in-Some.is in
+    let less = falls_to c.decreases (less_rank c.args.levels 0 8 (omega arith)) in
+    let placed = placed_next b.stored.numbers (more call) (more_named call) x (seen call.remaining.cursor) is c.loop-inline.invariant.placed.0 in
+    λ κs h. (less, (h.0, (h.1.0, (h.1.1.0, (h.1.1.1, (placed, c.loop-inline.invariant.nothing))))))
+
+pub arguments::gather-finish-requires : goal.arguments::gather-finish-requires
+unfolding state_parts
+arguments::gather-finish-requires g t c =
+    let less = falls_to c.decreases (less_rank c.args.levels 7 8 (omega arith)) in
+    λ κs h. (less, (h.0, (h.1.0, (h.1.1.0, (h.1.1.1, (c.loop-inline.invariant.placed.1, c.loop-inline.invariant.nothing))))))
+
+pub arguments::gather-loop-inline-smaller : goal.arguments::gather-loop-inline-smaller
+unfolding state_parts
+arguments::gather-loop-inline-smaller g t c =
+    let content = g.C.FluentType.content in
+    let contents = g.W.Write.contents in
+    let b = state g.B.Context.meant g.B.Context.is_plain g.F.FluentFunction.answer content c.loop-inline.scope in
+    let call = c.loop-inline.gathering in
+    let h = held content call in
+    let v = viewed c.loop-inline.out b (values_view content c.loop-inline.work.values) in
+    let x = inline_view c.in-Some.inline.now in
+    let is : next_argument h ≡ Some x = sym c.next.ensures ∙ ap (λ (o : Option (Bor InlineExpression)). option_map (λ y. inline_view y.now) o) c.in-Some.is in
+    left_falls h (held content c.take.new.gathering) x (value_view content c.in-Some-2.value) is c.in_ok-take-in-Some-2.ensures.held
+
+pub arguments::gather-loop-inline-preserved : goal.arguments::gather-loop-inline-preserved
+unfolding state_parts
+arguments::gather-loop-inline-preserved g t c =
+    let content = g.C.FluentType.content in
+    let contents = g.W.Write.contents in
+    let b = state g.B.Context.meant g.B.Context.is_plain g.F.FluentFunction.answer content c.loop-inline.scope in
+    let call = c.loop-inline.gathering in
+    let h = held content call in
+    let v = viewed c.loop-inline.out b (values_view content c.loop-inline.work.values) in
+    let x = inline_view c.in-Some.inline.now in
+    let is : next_argument h ≡ Some x = sym c.next.ensures ∙ ap (λ (o : Option (Bor InlineExpression)). option_map (λ y. inline_view y.now) o) c.in-Some.is in
+    let d = state g.B.Context.meant g.B.Context.is_plain g.F.FluentFunction.answer content c.resolve.new.scope in
+    let moved = goes c.in_ok-value.was (begun _ _ (outside contents c.loop-inline.out) b) (c.resolve.ensures.goes (λ bb. at_end) 0) in
+    let kept : d.stored ≡ b.stored = moved.happened.stays.stored in
+    let nothing : c.resolve.new.work.frames.items ≡ [] = subst (λ o. IsWhole o c.resolve.new.work) c.in-Some-2.is c.in_ok-value.ensures.whole in
+    let y = value_view content c.in-Some-2.value in
+    let new = c.take.new.gathering in
+    let here = c.loop-inline.invariant.placed in
+    let placed : IsPlacedCall b.stored.numbers b.stored.table new = (c.in_ok-take-in-Some-2.ensures.placed b.stored.numbers here.0, subst (IsPlacedPurpose b.stored.numbers b.stored.table) (sym c.take.ensures.purpose) here.1) in
+    let u = viewed c.resolve.new.out d (values_view content c.resolve.new.work.values) in
+    let fs = c.resolve.new.work.frames.items in
     record {
-      along = elim c.match-element.branch [
-        | goal.pattern::write_elements-in-TextElement+in_ok-put_changed-in-TextElement r ↦ rw r.out-is (rw r.scope-is (goes_on r.in_ok-put_changed-in-TextElement.was (put (giving a one rest b.budget) (took_same (ap (λ s. s.transform r.in-TextElement.value.now) c.loop-element.invariant.along.passed.keeps.bundle) r.put_changed.ensures.took) (turns (giving_text a one _ rest x _ b.budget next (search rules) (view_text_in x r.in-TextElement.value r.in-TextElement.is)) c.loop-element.invariant.along))))
-        | goal.pattern::write_elements-in-Placeable+in_ok-write_placeable-in-Placeable r ↦ rw r.out-is (rw r.scope-is (goes_on r.in_ok-write_placeable-in-Placeable.was (calls (giving a one rest) r.write_placeable.ensures (turns (giving_placeable a one _ rest x _ b.budget next (search rules) (view_placeable_in x r.in-Placeable.expression r.in-Placeable.is) ∙ ap (λ one. sequence (walked a (λ s f env path. part with_work s f env path one (placeable (expression_view r.in-Placeable.expression))) b.budget) (giving a (has_one (pattern_view c.args.pattern.now)) rest)) (sym c.has_one-one.ensures)) c.loop-element.invariant.along))))
-      ];
-      placed = leaves of_element in_elements element_in_turn items c.loop-element.element-index x c.loop-element-test.true c.element-item.is a.stored.numbers (seen c.loop-element.cursor) (seen c.after_element-cursor.result) c.after_element-cursor.ensures c.loop-element.invariant.placed;
+      along = λ k n.
+          let next : Bundle Text → Following = λ bb given w. gathers content call given bb (k bb) w in
+          let asked = pays c.args.levels (waits (suc n) (omega arith) (next_begins (use_of call.purpose) h x b.bundle (k b.bundle) v is (c.loop-inline.invariant.along k n))) in
+          let there = goes c.in_ok-value.was asked (c.resolve.ensures.goes next n) in
+          let done = is_done content d.bundle fs (next d.bundle) (made content c.in_ok-value.field-0) u nothing there in
+          let given = turns (ap (λ o. gathers content call (made content o) d.bundle (k d.bundle) u) c.in-Some-2.is) done in
+          gets_value content call new y d.bundle (k d.bundle) u c.take.ensures.purpose c.in_ok-take-in-Some-2.ensures.held given;
+      placed = subst (λ s. IsPlacedCall s.numbers s.table new) (sym kept) placed;
+      nothing = nothing;
+      purpose = c.take.ensures.purpose ∙ c.loop-inline.invariant.purpose;
     }
 
-pub pattern::write_elements-returns-in_err-put_changed-in-TextElement-clause-text : goal.pattern::write_elements-returns-in_err-put_changed-in-TextElement-clause-text
+pub arguments::keep_text-returns-in_err-write_inline-clause-goes : goal.arguments::keep_text-returns-in_err-write_inline-clause-goes
 unfolding state_parts
-pattern::write_elements-returns-in_err-put_changed-in-TextElement-clause-text g t c =
-    let a = state g.B.Context.meant g.B.Context.is_plain g.F.FluentFunction.answer g.C.FluentType.content c.args.scope.now in
-    let one = has_one (pattern_view c.args.pattern.now) in
-    let items = c.deref-element-items.result.now in
-    let b = state g.B.Context.meant g.B.Context.is_plain g.F.FluentFunction.answer g.C.FluentType.content c.loop-element.scope in
-    let x = c.element-item.result in
-    let rest = drop (c.loop-element.element-index + 1) items in
-    let next = next_of items c.loop-element.element-index x c.loop-element-test.true c.element-item.is in
-    stops c.in_err-put_changed-in-TextElement.was (search rules) (put (giving a one rest b.budget) (took_same (ap (λ s. s.transform c.in-TextElement.value.now) c.loop-element.invariant.along.passed.keeps.bundle) c.put_changed.ensures.took) (turns (giving_text a one _ rest x _ b.budget next (search rules) (view_text_in x c.in-TextElement.value c.in-TextElement.is)) c.loop-element.invariant.along))
-
-pub pattern::write_elements-returns-in_err-write_placeable-in-Placeable-clause-text : goal.pattern::write_elements-returns-in_err-write_placeable-in-Placeable-clause-text
-unfolding state_parts
-pattern::write_elements-returns-in_err-write_placeable-in-Placeable-clause-text g t c =
-    let a = state g.B.Context.meant g.B.Context.is_plain g.F.FluentFunction.answer g.C.FluentType.content c.args.scope.now in
-    let one = has_one (pattern_view c.args.pattern.now) in
-    let items = c.deref-element-items.result.now in
-    let b = state g.B.Context.meant g.B.Context.is_plain g.F.FluentFunction.answer g.C.FluentType.content c.loop-element.scope in
-    let x = c.element-item.result in
-    let rest = drop (c.loop-element.element-index + 1) items in
-    let next = next_of items c.loop-element.element-index x c.loop-element-test.true c.element-item.is in
-    stops c.in_err-write_placeable-in-Placeable.was (search rules) (calls (giving a one rest) c.write_placeable.ensures (turns (giving_placeable a one _ rest x _ b.budget next (search rules) (view_placeable_in x c.in-Placeable.expression c.in-Placeable.is) ∙ ap (λ one. sequence (walked a (λ s f env path. part with_work s f env path one (placeable (expression_view c.in-Placeable.expression))) b.budget) (giving a (has_one (pattern_view c.args.pattern.now)) rest)) (sym c.has_one-one.ensures)) c.loop-element.invariant.along))
-
-pub pattern::write_elements-returns-in_err-write_placeable-in-Placeable-clause-memory : goal.pattern::write_elements-returns-in_err-write_placeable-in-Placeable-clause-memory
-unfolding state_parts
-pattern::write_elements-returns-in_err-write_placeable-in-Placeable-clause-memory g t c =
-    let a = state g.B.Context.meant g.B.Context.is_plain g.F.FluentFunction.answer g.C.FluentType.content c.args.scope.now in
-    let items = c.deref-element-items.result.now in
-    let texts = view_pattern c.args.pattern.now ∙ ap (λ es. pattern_of (map element_view es)) (sym c.deref-element-items.ensures.value) in
-    λ h. absurd (no_placeable items c.loop-element.element-index c.element-item.result _ (subst IsTextAlone texts h) c.loop-element-test.true c.element-item.is (view_placeable_in c.element-item.result c.in-Placeable.expression c.in-Placeable.is))
-
-pub pattern::write_elements-returns-after-loop-element-clause-text : goal.pattern::write_elements-returns-after-loop-element-clause-text
-unfolding state_parts
-pattern::write_elements-returns-after-loop-element-clause-text g t c =
-    let a = state g.B.Context.meant g.B.Context.is_plain g.F.FluentFunction.answer g.C.FluentType.content c.args.scope.now in
-    let one = has_one (pattern_view c.args.pattern.now) in
-    ends (turns (giving_end a one _ _ (none_left c.deref-element-items.result.now c.loop-element.element-index c.loop-element-test.false)) c.loop-element.invariant.along)
-
-pub pattern::write_elements-returns-then-dirty-clause-text : goal.pattern::write_elements-returns-then-dirty-clause-text
-unfolding state_parts
-pattern::write_elements-returns-then-dirty-clause-text g t c =
-    let a = state g.B.Context.meant g.B.Context.is_plain g.F.FluentFunction.answer g.C.FluentType.content c.args.scope.now in
-    let one = has_one (pattern_view c.args.pattern.now) in
-    ends (turns (giving_limit_reached a one (drop c.loop-element.element-index c.deref-element-items.result.now) _ (search rules)) c.loop-element.invariant.along)
-
-pub pattern::write_elements-returns-in_err-put_changed-in-TextElement-clause-memory : goal.pattern::write_elements-returns-in_err-put_changed-in-TextElement-clause-memory
-unfolding state_parts
-pattern::write_elements-returns-in_err-put_changed-in-TextElement-clause-memory g t c =
-    let a = state g.B.Context.meant g.B.Context.is_plain g.F.FluentFunction.answer g.C.FluentType.content c.args.scope.now in
-    let way = c.loop-element.invariant.along in
+arguments::keep_text-returns-in_err-write_inline-clause-goes g t c = λ k n.
+    let content = g.C.FluentType.content in
+    let contents = g.W.Write.contents in
+    let a = state g.B.Context.meant g.B.Context.is_plain g.F.FluentFunction.answer content c.args.scope.now in
     let out = c.args.out.now in
-    let later = c.loop-element.out in
-    λ h plain bare is. c.put_changed.ensures.memory (subst IsTrue (sym way.passed.keeps.is_plain) plain)
-    (still g.W.Write.contents out.writer.ghost_name later.writer.ghost_name out.buffer.ghost_name later.buffer.ghost_name out.writer.now later.writer.now out.buffer.now later.buffer.now out.is_buffered later.is_buffered way.borrowed ∙ bare)
-    (search (rules, is))
+    let work = c.args.work.now in
+    let values = values_view content work.values in
+    let v = viewed out a values in
+    let text = c.replace-outer.new.dest in
+    let value = put_off.Value c.replace-outer.result out.is_kept in
+    let x = inline_view c.args.inline.now in
+    let here : Text → View = λ t. record { kept = Some t; budget = a.budget; environment = a.environment; path = a.path; values = values } in
+    let empty : string_bytes text ≡ [] = ap string_bytes c.replace-outer.ensures.after ∙ c.new.ensures.bytes in
+    let outer : c.replace-outer.result ≡ out.kept.now = c.replace-outer.ensures.value in
+    let next : Bundle Text → Following = λ bb given w. frame content value given bb (k bb) w in
+    let is =
+    ap (λ (s : String Global). parts.written x a.bundle (λ given. frame content (put_off.Value s out.is_kept) given a.bundle (k a.bundle)) (here [])) (sym outer)
+    ∙ ap (λ t. parts.written x a.bundle (next a.bundle) (here t)) (sym empty) in
+    let way = pays c.args.levels (waits (suc (suc n)) (omega arith) (turns (ap begins is) (begun _ n (outside contents out) a))) in
+    halts c.in_err-write_inline.was (search rules) way (c.write_inline.ensures.goes next (suc n))
 
-pub pattern::write_pattern-returns-clause-memory : goal.pattern::write_pattern-returns-clause-memory
+pub arguments::keep_text-returns-in_err-wait-clause-goes : goal.arguments::keep_text-returns-in_err-wait-clause-goes
 unfolding state_parts
-pattern::write_pattern-returns-clause-memory g t c =
-    let a = state g.B.Context.meant g.B.Context.is_plain g.F.FluentFunction.answer g.C.FluentType.content c.args.scope.now in
-    let starts_at = c.begin-begun.ensures in
-    λ h plain bare. c.write_elements-written.ensures.memory h (subst IsTrue (sym starts_at.elsewhere.is_plain) plain) bare
+arguments::keep_text-returns-in_err-wait-clause-goes g t c = λ k n.
+    let content = g.C.FluentType.content in
+    let contents = g.W.Write.contents in
+    let a = state g.B.Context.meant g.B.Context.is_plain g.F.FluentFunction.answer content c.args.scope.now in
+    let out = c.args.out.now in
+    let work = c.args.work.now in
+    let values = values_view content work.values in
+    let v = viewed out a values in
+    let text = c.replace-outer.new.dest in
+    let value = put_off.Value c.replace-outer.result out.is_kept in
+    let x = inline_view c.args.inline.now in
+    let here : Text → View = λ t. record { kept = Some t; budget = a.budget; environment = a.environment; path = a.path; values = values } in
+    let empty : string_bytes text ≡ [] = ap string_bytes c.replace-outer.ensures.after ∙ c.new.ensures.bytes in
+    let outer : c.replace-outer.result ≡ out.kept.now = c.replace-outer.ensures.value in
+    let next : Bundle Text → Following = λ bb given w. frame content value given bb (k bb) w in
+    let is =
+    ap (λ (s : String Global). parts.written x a.bundle (λ given. frame content (put_off.Value s out.is_kept) given a.bundle (k a.bundle)) (here [])) (sym outer)
+    ∙ ap (λ t. parts.written x a.bundle (next a.bundle) (here t)) (sym empty) in
+    let way = pays c.args.levels (waits (suc (suc n)) (omega arith) (turns (ap begins is) (begun _ n (outside contents out) a))) in
+    let d = state g.B.Context.meant g.B.Context.is_plain g.F.FluentFunction.answer content c.write_inline.new.scope in
+    let last = c.write_inline.new.out in
+    let fs = c.write_inline.new.work.frames.items in
+    let u = viewed last d (values_view content c.write_inline.new.work.values) in
+    let there = goes c.in_ok-write_inline.was way (c.write_inline.ensures.goes next (suc n)) in
+    lacks (search rules) there
 
-pub inline_expression::write_inline-returns-in-StringLiteral : goal.inline_expression::write_inline-returns-in-StringLiteral
+pub arguments::keep_text-returns-then-is_done-clause-goes : goal.arguments::keep_text-returns-then-is_done-clause-goes
 unfolding state_parts
-inline_expression::write_inline-returns-in-StringLiteral g t c =
-    let a = state g.B.Context.meant g.B.Context.is_plain g.F.FluentFunction.answer g.C.FluentType.content c.args.scope.now in
-    let begun = turns (ap (λ x. from_here a (writing x)) (view_string_in c.args.inline.now c.in-StringLiteral.value c.in-StringLiteral.is) ∙ written_string a.bundle (work a.bundle) a.environment a.path c.in-StringLiteral.value.now a.budget) (starts a _ _) in
-    wrote (puts_last c.put_unescaped.ensures begun)
+arguments::keep_text-returns-then-is_done-clause-goes g t c = λ k n.
+    let content = g.C.FluentType.content in
+    let contents = g.W.Write.contents in
+    let a = state g.B.Context.meant g.B.Context.is_plain g.F.FluentFunction.answer content c.args.scope.now in
+    let out = c.args.out.now in
+    let work = c.args.work.now in
+    let values = values_view content work.values in
+    let v = viewed out a values in
+    let text = c.replace-outer.new.dest in
+    let value = put_off.Value c.replace-outer.result out.is_kept in
+    let x = inline_view c.args.inline.now in
+    let here : Text → View = λ t. record { kept = Some t; budget = a.budget; environment = a.environment; path = a.path; values = values } in
+    let empty : string_bytes text ≡ [] = ap string_bytes c.replace-outer.ensures.after ∙ c.new.ensures.bytes in
+    let outer : c.replace-outer.result ≡ out.kept.now = c.replace-outer.ensures.value in
+    let next : Bundle Text → Following = λ bb given w. frame content value given bb (k bb) w in
+    let is =
+    ap (λ (s : String Global). parts.written x a.bundle (λ given. frame content (put_off.Value s out.is_kept) given a.bundle (k a.bundle)) (here [])) (sym outer)
+    ∙ ap (λ t. parts.written x a.bundle (next a.bundle) (here t)) (sym empty) in
+    let way = pays c.args.levels (waits (suc (suc n)) (omega arith) (turns (ap begins is) (begun _ n (outside contents out) a))) in
+    let d = state g.B.Context.meant g.B.Context.is_plain g.F.FluentFunction.answer content c.write_inline.new.scope in
+    let last = c.write_inline.new.out in
+    let fs = c.write_inline.new.work.frames.items in
+    let u = viewed last d (values_view content c.write_inline.new.work.values) in
+    let there = goes c.in_ok-write_inline.was way (c.write_inline.ensures.goes next (suc n)) in
+    let nothing : fs ≡ [] = search (rules, c.is_done.ensures, c.if-is_done.true) in
+    let done = with_fewer n (omega arith) (is_done content d.bundle fs (next d.bundle) None u nothing there) in
+    let ended = c.end_text.new.out in
+    let way = turns (
+    ap (λ y. k d.bundle (Some y) (record u { kept = kept_before out.is_kept c.replace-outer.result })) (sym c.end_text.ensures.value)
+    ∙ ap (λ t. k d.bundle (Some (value_view content c.end_text.result)) (record u { kept = kept_before out.is_kept t })) (sym c.end_text.ensures.kept)
+    ∙ ap (λ kept. k d.bundle (Some (value_view content c.end_text.result)) (record u { kept = kept_before kept ended.kept.now })) (sym c.end_text.ensures.is_kept)) done in
+    finishes (Some c.end_text.result) _ refl refl (none_put content d.bundle fs (k d.bundle) (Some (value_view content c.end_text.result)) (viewed ended d (values_view content c.write_inline.new.work.values)) nothing (elsewhere c.end_text.ensures.outside way))
 
-pub inline_expression::write_inline-returns-in-NumberLiteral : goal.inline_expression::write_inline-returns-in-NumberLiteral
+pub arguments::keep_text-returns-clause-goes : goal.arguments::keep_text-returns-clause-goes
 unfolding state_parts
-inline_expression::write_inline-returns-in-NumberLiteral g t c =
-    let a = state g.B.Context.meant g.B.Context.is_plain g.F.FluentFunction.answer g.C.FluentType.content c.args.scope.now in
-    let begun = turns (ap (λ x. from_here a (writing x)) (view_number_in c.args.inline.now c.in-NumberLiteral.value c.in-NumberLiteral.is) ∙ written_number a.bundle (work a.bundle) a.environment a.path c.in-NumberLiteral.value.now a.budget) (starts a _ _) in
-    wrote (puts_last c.put_number.ensures begun)
+arguments::keep_text-returns-clause-goes g t c = λ k n.
+    let content = g.C.FluentType.content in
+    let contents = g.W.Write.contents in
+    let a = state g.B.Context.meant g.B.Context.is_plain g.F.FluentFunction.answer content c.args.scope.now in
+    let out = c.args.out.now in
+    let work = c.args.work.now in
+    let values = values_view content work.values in
+    let v = viewed out a values in
+    let text = c.replace-outer.new.dest in
+    let value = put_off.Value c.replace-outer.result out.is_kept in
+    let x = inline_view c.args.inline.now in
+    let here : Text → View = λ t. record { kept = Some t; budget = a.budget; environment = a.environment; path = a.path; values = values } in
+    let empty : string_bytes text ≡ [] = ap string_bytes c.replace-outer.ensures.after ∙ c.new.ensures.bytes in
+    let outer : c.replace-outer.result ≡ out.kept.now = c.replace-outer.ensures.value in
+    let next : Bundle Text → Following = λ bb given w. frame content value given bb (k bb) w in
+    let is =
+    ap (λ (s : String Global). parts.written x a.bundle (λ given. frame content (put_off.Value s out.is_kept) given a.bundle (k a.bundle)) (here [])) (sym outer)
+    ∙ ap (λ t. parts.written x a.bundle (next a.bundle) (here t)) (sym empty) in
+    let way = pays c.args.levels (waits (suc (suc n)) (omega arith) (turns (ap begins is) (begun _ n (outside contents out) a))) in
+    let d = state g.B.Context.meant g.B.Context.is_plain g.F.FluentFunction.answer content c.write_inline.new.scope in
+    let last = c.write_inline.new.out in
+    let fs = c.write_inline.new.work.frames.items in
+    let u = viewed last d (values_view content c.write_inline.new.work.values) in
+    let there = goes c.in_ok-write_inline.was way (c.write_inline.ensures.goes next (suc n)) in
+    let gs = c.wait.new.self.frames.items in
+    let put = is_put n content d.bundle fs gs value (k d.bundle) None u c.in_ok-wait.ensures.frames there in
+    finishes None _ refl refl (turns (ap (λ vs. before content d.bundle gs (k d.bundle) None (viewed last d (values_view content vs))) (sym c.wait.ensures.values)) put)
 
-pub inline_expression::write_inline-returns-in-MessageReference : goal.inline_expression::write_inline-returns-in-MessageReference
+pub arguments::keep_text-returns-clause-placed : goal.arguments::keep_text-returns-clause-placed
 unfolding state_parts
-inline_expression::write_inline-returns-in-MessageReference g t c =
-    let a = state g.B.Context.meant g.B.Context.is_plain g.F.FluentFunction.answer g.C.FluentType.content c.args.scope.now in
-    let v = view_message_in c.args.inline.now c.in-MessageReference.id c.in-MessageReference.attribute c.in-MessageReference.is in
-    let m = c.in-MessageReference.id.name.now in
-    let at = attribute_of c.in-MessageReference.attribute in
-    let begun = turns (ap (λ x. from_here a (writing x)) v ∙ written_message a.bundle (work a.bundle) a.environment a.path m at a.budget ∙ ap (λ y. walked a (following y m (message_target (get m a.bundle.ids) at)) a.budget) (sym v) ∙ ap (λ f. from_here a (following (inline_view c.args.inline.now) m f)) (sym (c.message-found.ensures.content g.F.FluentFunction.answer))) (starts a _ _) in
-    wrote (tail c.follow.ensures begun)
+arguments::keep_text-returns-clause-placed g t c =
+    let ids = c.write_inline.new.scope.ids.now in
+    placed_pushed (numbers ids) (table ids) c.write_inline.new.work.frames.items c.wait.new.self.frames.items (put_off.Value c.replace-outer.result c.args.out.now.is_kept) c.in_ok-wait.ensures.frames c.in_ok-write_inline.ensures.placed tt
 
-pub inline_expression::write_inline-returns-in-Placeable : goal.inline_expression::write_inline-returns-in-Placeable
+pub arguments::resolve-returns-in_err-wait-in_default : goal.arguments::resolve-returns-in_err-wait-in_default
 unfolding state_parts
-inline_expression::write_inline-returns-in-Placeable g t c =
-    let a = state g.B.Context.meant g.B.Context.is_plain g.F.FluentFunction.answer g.C.FluentType.content c.args.scope.now in
-    let begun = turns (ap (λ x. from_here a (writing x)) (view_nested_in c.args.inline.now c.in-Placeable.expression c.in-Placeable.is) ∙ written_nested a.bundle (work a.bundle) a.environment a.path (expression_view c.in-Placeable.expression.value) a.budget ∙ ap (λ e. walked a (expressing (expression_view e)) a.budget) (sym c.deref-in-Placeable.ensures)) (starts a _ _) in
-    wrote (tail c.write_expression.ensures begun)
+arguments::resolve-returns-in_err-wait-in_default g t c = record {
+  goes = λ k n.
+      let content = g.C.FluentType.content in
+      let contents = g.W.Write.contents in
+      let a = state g.B.Context.meant g.B.Context.is_plain g.F.FluentFunction.answer content c.args.scope.now in
+      let out = c.args.out.now in
+      let work = c.args.work.now in
+      let values = values_view content work.values in
+      let v = viewed out a values in
+      let x = inline_view c.args.inline.now in
+      lacks (search rules) (begun _ (paid_within c.args.levels n) (outside contents out) a);
+  placed = search rules;
+  whole = search rules;
+}
 
-pub arguments::resolve-returns-in_err-text-in-StringLiteral : goal.arguments::resolve-returns-in_err-text-in-StringLiteral
+pub arguments::resolve-returns-then-levels-eq0-clause-goes : goal.arguments::resolve-returns-then-levels-eq0-clause-goes
 unfolding state_parts
-arguments::resolve-returns-in_err-text-in-StringLiteral g t c =
-    let a = state g.B.Context.meant g.B.Context.is_plain g.F.FluentFunction.answer g.C.FluentType.content c.args.scope.now in
-    record { got = misses {e = fault.Memory} (search rules) (begins a _); rests = rests_memory _ (search rules) }
+arguments::resolve-returns-then-levels-eq0-clause-goes g t c = λ k n.
+    let content = g.C.FluentType.content in
+    let contents = g.W.Write.contents in
+    let a = state g.B.Context.meant g.B.Context.is_plain g.F.FluentFunction.answer content c.args.scope.now in
+    let out = c.args.out.now in
+    let work = c.args.work.now in
+    let values = values_view content work.values in
+    let v = viewed out a values in
+    let x = inline_view c.args.inline.now in
+    let fs = work.frames.items in
+    let gs = c.wait.new.self.frames.items in
+    let f = put_off.Resolve c.args.inline c.args.cursor in
+    let way = with_fewer (suc n) (paid_none c.args.levels n c.if-levels-eq0.true) (begun _ (paid_within c.args.levels n) (outside contents out) a) in
+    let here = none_put content a.bundle fs (λ given. frame content f given a.bundle (k a.bundle)) None v c.requires.nothing way in
+    let put = is_put n content a.bundle fs gs f (k a.bundle) None v c.in_ok-wait-in_default.ensures.frames here in
+    finishes None _ refl refl (turns (ap (λ vs. before content a.bundle gs (k a.bundle) None (viewed out a (values_view content vs))) (sym c.wait.ensures.values)) put)
 
-pub arguments::resolve-returns-in-NumberLiteral : goal.arguments::resolve-returns-in-NumberLiteral
+pub arguments::resolve-returns-then-levels-eq0-clause-placed : goal.arguments::resolve-returns-then-levels-eq0-clause-placed
 unfolding state_parts
-arguments::resolve-returns-in-NumberLiteral g t c =
-    let a = state g.B.Context.meant g.B.Context.is_plain g.F.FluentFunction.answer g.C.FluentType.content c.args.scope.now in
-    let means = ap (λ x. from_here a (resolving x)) (view_number_in c.args.inline.now c.in-NumberLiteral.value c.in-NumberLiteral.is) ∙ resolved_number a.bundle (work a.bundle) a.environment a.path c.in-NumberLiteral.value.now a.budget in
-    record { got = got_if _ means c.try_number.ensures; rests = rests_same _ }
+arguments::resolve-returns-then-levels-eq0-clause-placed g t c =
+    let ids = c.args.scope.now.ids.now in
+    placed_pushed (numbers ids) (table ids) c.args.work.now.frames.items c.wait.new.self.frames.items (put_off.Resolve c.args.inline c.args.cursor) c.in_ok-wait-in_default.ensures.frames (subst (ArePlacedFrames (numbers ids) (table ids)) (sym c.requires.nothing) tt) c.requires.placed
 
-pub arguments::resolve-returns-in_ok-text-in-StringLiteral : goal.arguments::resolve-returns-in_ok-text-in-StringLiteral
+pub arguments::resolve-returns-in-FunctionReference-clause-goes : goal.arguments::resolve-returns-in-FunctionReference-clause-goes
 unfolding state_parts
-arguments::resolve-returns-in_ok-text-in-StringLiteral g t c =
-    let a = state g.B.Context.meant g.B.Context.is_plain g.F.FluentFunction.answer g.C.FluentType.content c.args.scope.now in
-    let means = ap (λ x. from_here a (resolving x)) (view_string_in c.args.inline.now c.in-StringLiteral.value c.in-StringLiteral.is) ∙ resolved_string a.bundle (work a.bundle) a.environment a.path c.in-StringLiteral.value.now a.budget in
-    record { got = got_if _ means (ap text_value (search rules)); rests = rests_same _ }
+arguments::resolve-returns-in-FunctionReference-clause-goes g t c = λ k n.
+    let content = g.C.FluentType.content in
+    let contents = g.W.Write.contents in
+    let a = state g.B.Context.meant g.B.Context.is_plain g.F.FluentFunction.answer content c.args.scope.now in
+    let out = c.args.out.now in
+    let work = c.args.work.now in
+    let values = values_view content work.values in
+    let v = viewed out a values in
+    let x = inline_view c.args.inline.now in
+    let way = with_fewer n (paid_least c.args.levels n) (begun _ (paid_within c.args.levels n) (outside contents out) a) in
+    let args = arguments_view c.deref.result.now in
+    let is = view_function_in c.args.inline.now c.in-FunctionReference.id c.in-FunctionReference.arguments c.in-FunctionReference.is ∙ ap (λ b. function c.in-FunctionReference.id.name.now (arguments_view b)) (sym c.deref.ensures) in
+    went_on (turns (function_at x c.in-FunctionReference.id.name.now args a.bundle (k a.bundle) v is) way) (c.begin_call.ensures.goes k n)
 
-pub arguments::resolve_function-returns-in_err-positional : goal.arguments::resolve_function-returns-in_err-positional
+pub arguments::resolve-returns-in_default-inline : goal.arguments::resolve-returns-in_default-inline
 unfolding state_parts
-arguments::resolve_function-returns-in_err-positional g t c =
-    let a = state g.B.Context.meant g.B.Context.is_plain g.F.FluentFunction.answer g.C.FluentType.content c.args.scope.now in
-    let m = c.args.id.now.name.now in
-    let k = valued a m in
-    let means = ap (λ x. from_here a (resolving x)) c.requires.view ∙ resolved_function a.bundle (work a.bundle) a.environment a.path m (arguments_view c.args.arguments.now) a.budget in
-    record { got = misses_as c.in_err-positional.was (search rules) (gets_part k c.resolve_call.ensures.got (reads means (begins a _))); rests = rests_err c.in_err-positional.was (search rules) c.resolve_call.ensures.rests }
+arguments::resolve-returns-in_default-inline g t c = record {
+  goes = λ k n.
+      let content = g.C.FluentType.content in
+      let contents = g.W.Write.contents in
+      let a = state g.B.Context.meant g.B.Context.is_plain g.F.FluentFunction.answer content c.args.scope.now in
+      let out = c.args.out.now in
+      let work = c.args.work.now in
+      let values = values_view content work.values in
+      let v = viewed out a values in
+      let x = inline_view c.args.inline.now in
+      let way = with_fewer n (paid_least c.args.levels n) (begun _ (paid_within c.args.levels n) (outside contents out) a) in
+      let is = view_written c.args.inline.now (λ t. c.in_default.not-StringLiteral t) (λ t. c.in_default.not-NumberLiteral t) (λ id b. c.in_default-inline.not-FunctionReference id b) (λ id. c.in_default.not-VariableReference id) in
+      went_on (turns (kept_at x a.bundle (k a.bundle) v is) way) (c.keep_text.ensures.goes k n);
+  placed = c.keep_text.ensures.placed;
+  whole = c.keep_text.ensures.whole;
+}
 
-pub arguments::resolve_function-returns-in_err-answer : goal.arguments::resolve_function-returns-in_err-answer
+pub arguments::resolve-begin_call-requires : goal.arguments::resolve-begin_call-requires
 unfolding state_parts
-arguments::resolve_function-returns-in_err-answer g t c =
-    let a = state g.B.Context.meant g.B.Context.is_plain g.F.FluentFunction.answer g.C.FluentType.content c.args.scope.now in
-    let m = c.args.id.now.name.now in
-    let k = valued a m in
-    let means = ap (λ x. from_here a (resolving x)) c.requires.view ∙ resolved_function a.bundle (work a.bundle) a.environment a.path m (arguments_view c.args.arguments.now) a.budget in
-    record { got = misses {e = fault.Memory} (search rules) (gets k c.in_ok-positional.was c.resolve_call.ensures.got (reads means (begins a _))); rests = rests_on (rests_ok {T = ℕ} {x = 0} c.in_ok-positional.was c.resolve_call.ensures.rests) (rests_memory _ (search rules)) }
+arguments::resolve-begin_call-requires g t c =
+    let ids = c.args.scope.now.ids.now in
+    let some : 0 < c.args.levels = omega arith in
+    let less = falls_to c.decreases (less_level c.args.levels 9 0 some (omega arith)) in
+    let r = a_function c.in-FunctionReference.id.name.now in
+    let rs = in_arguments (arguments_view c.in-FunctionReference.arguments.value) in
+    let is = in_function_is c.args.inline.now c.in-FunctionReference.id c.in-FunctionReference.arguments c.in-FunctionReference.is in
+    let purpose = placed_first (numbers ids) _ r rs c.args.cursor is c.requires.placed in
+    let after = placed_after (numbers ids) _ r rs c.args.cursor c.after_one-at.result is c.after_one-at.ensures c.requires.placed in
+    let placed = subst (λ m. IsBefore (numbers ids) (in_arguments (arguments_view m)) (seen c.after_one-at.result)) (sym c.deref.ensures) after in
+    λ κs h. (less, (h.0, (h.1.0, (h.1.1.0, (h.1.1.1, (purpose, (placed, c.requires.nothing)))))))
 
-pub arguments::resolve-returns-in_err-resolve_variable-in-VariableReference : goal.arguments::resolve-returns-in_err-resolve_variable-in-VariableReference
+pub arguments::resolve-keep_text-requires : goal.arguments::resolve-keep_text-requires
 unfolding state_parts
-arguments::resolve-returns-in_err-resolve_variable-in-VariableReference g t c =
-    let a = state g.B.Context.meant g.B.Context.is_plain g.F.FluentFunction.answer g.C.FluentType.content c.args.scope.now in
-    record { got = misses {e = fault.Memory} (search rules) c.resolve_variable.ensures.toward; rests = rests_memory _ (search rules) }
+arguments::resolve-keep_text-requires g t c =
+    let some : 0 < c.args.levels = omega arith in
+    let less = falls_to c.decreases (less_level c.args.levels 13 0 some (omega arith)) in
+    λ κs h. (less, (h.0, (h.1.0, (h.1.1.0, (h.1.1.1, (c.requires.placed, c.requires.nothing))))))
 
-pub arguments::resolve-returns-in_ok-resolve_variable-in-VariableReference : goal.arguments::resolve-returns-in_ok-resolve_variable-in-VariableReference
+pub arguments::keep_text-write_inline-requires : goal.arguments::keep_text-write_inline-requires
 unfolding state_parts
-arguments::resolve-returns-in_ok-resolve_variable-in-VariableReference g t c =
-    let a = state g.B.Context.meant g.B.Context.is_plain g.F.FluentFunction.answer g.C.FluentType.content c.args.scope.now in
-    record { got = got_as (λ v. v) c.in_ok-resolve_variable-in-VariableReference.was refl refl c.resolve_variable.ensures; rests = rests_same _ }
+arguments::keep_text-write_inline-requires g t c =
+    let less = falls_to c.decreases (less_rank c.args.levels 12 13 (omega arith)) in
+    λ κs h. (less, (h.0, (h.1.0, (h.1.1.0, (h.1.1.1, (c.requires.placed, c.requires.nothing))))))
 
-pub arguments::resolve_local-returns-in-None : goal.arguments::resolve_local-returns-in-None
+pub arguments::resolve-returns-in_err-text-in-StringLiteral-clause-goes : goal.arguments::resolve-returns-in_err-text-in-StringLiteral-clause-goes
 unfolding state_parts
-arguments::resolve_local-returns-in-None g t c =
-    let a = state g.B.Context.meant g.B.Context.is_plain g.F.FluentFunction.answer g.C.FluentType.content c.args.scope.now in
-    let means = ap (λ o. from_here a (locals (call_view o))) c.in-None.is ∙ local_none a.bundle (work a.bundle) a.environment a.path a.budget in
-    record { got = got_if [] means (search rules); rests = rests_same _ }
+arguments::resolve-returns-in_err-text-in-StringLiteral-clause-goes g t c = λ k n.
+    let content = g.C.FluentType.content in
+    let contents = g.W.Write.contents in
+    let a = state g.B.Context.meant g.B.Context.is_plain g.F.FluentFunction.answer content c.args.scope.now in
+    let out = c.args.out.now in
+    let work = c.args.work.now in
+    let values = values_view content work.values in
+    let v = viewed out a values in
+    let x = inline_view c.args.inline.now in
+    lacks (search rules) (begun _ (paid_within c.args.levels n) (outside contents out) a)
 
-pub arguments::resolve_local-returns-then-has_literals_alone : goal.arguments::resolve_local-returns-then-has_literals_alone
+pub arguments::resolve-returns-in_ok-text-in-StringLiteral-clause-goes : goal.arguments::resolve-returns-in_ok-text-in-StringLiteral-clause-goes
 unfolding state_parts
-arguments::resolve_local-returns-then-has_literals_alone g t c =
-    let a = state g.B.Context.meant g.B.Context.is_plain g.F.FluentFunction.answer g.C.FluentType.content c.args.scope.now in
-    let x = c.deref-arguments.result.now in
-    let given = ap call_view c.in-Some.is ∙ sym (ap (λ a. call (arguments_view a)) c.deref-arguments.ensures) in
-    let means = ap (λ k. from_here a (locals k)) given ∙ local_literals a x a.budget (sym c.has_literals_alone.ensures ∙ c.if-has_literals_alone.true) in
-    record { got = got_if (set_all (literal_values (named_in x)) []) means (search rules); rests = rests_same _ }
+arguments::resolve-returns-in_ok-text-in-StringLiteral-clause-goes g t c = λ k n.
+    let content = g.C.FluentType.content in
+    let contents = g.W.Write.contents in
+    let a = state g.B.Context.meant g.B.Context.is_plain g.F.FluentFunction.answer content c.args.scope.now in
+    let out = c.args.out.now in
+    let work = c.args.work.now in
+    let values = values_view content work.values in
+    let v = viewed out a values in
+    let x = inline_view c.args.inline.now in
+    let way = with_fewer n (paid_least c.args.levels n) (begun _ (paid_within c.args.levels n) (outside contents out) a) in
+    let is = view_string_in c.args.inline.now c.in-StringLiteral.value c.in-StringLiteral.is in
+    finishes _ _ refl refl (none_put content a.bundle work.frames.items (k a.bundle) _ v c.requires.nothing (turns (string_at x c.in-StringLiteral.value.now _ a.bundle (k a.bundle) v is (ap text_value c.in_ok-text-in-StringLiteral.ensures.text)) way))
 
-pub arguments::resolve_local-returns-in_err-_positional-in-Some : goal.arguments::resolve_local-returns-in_err-_positional-in-Some
+pub arguments::resolve-returns-in-NumberLiteral-clause-goes : goal.arguments::resolve-returns-in-NumberLiteral-clause-goes
 unfolding state_parts
-arguments::resolve_local-returns-in_err-_positional-in-Some g t c =
-    let a = state g.B.Context.meant g.B.Context.is_plain g.F.FluentFunction.answer g.C.FluentType.content c.args.scope.now in
-    let given = ap call_view c.in-Some.is ∙ sym (ap (λ a. call (arguments_view a)) c.deref-arguments.ensures) in
-    let means = ap (λ k. from_here a (locals k)) given ∙ local_some a.bundle (work a.bundle) a.environment a.path (arguments_view c.deref-arguments.result.now) a.budget in
-    record { got = got_part_as (λ p. p.1) c.in_err-_positional-in-Some.was (search rules) means c.resolve_call.ensures.got; rests = rests_err c.in_err-_positional-in-Some.was (search rules) c.resolve_call.ensures.rests }
+arguments::resolve-returns-in-NumberLiteral-clause-goes g t c = λ k n.
+    let content = g.C.FluentType.content in
+    let contents = g.W.Write.contents in
+    let a = state g.B.Context.meant g.B.Context.is_plain g.F.FluentFunction.answer content c.args.scope.now in
+    let out = c.args.out.now in
+    let work = c.args.work.now in
+    let values = values_view content work.values in
+    let v = viewed out a values in
+    let x = inline_view c.args.inline.now in
+    let way = with_fewer n (paid_least c.args.levels n) (begun _ (paid_within c.args.levels n) (outside contents out) a) in
+    let is = view_number_in c.args.inline.now c.in-NumberLiteral.value c.in-NumberLiteral.is in
+    finishes _ _ refl refl (none_put content a.bundle work.frames.items (k a.bundle) _ v c.requires.nothing (turns (number_at x c.in-NumberLiteral.value.now _ a.bundle (k a.bundle) v is c.try_number.ensures) way))
 
-pub arguments::resolve_local-returns-in_ok-_positional-in-Some : goal.arguments::resolve_local-returns-in_ok-_positional-in-Some
+pub arguments::resolve-returns-in_err-resolve_variable-in-VariableReference-clause-goes : goal.arguments::resolve-returns-in_err-resolve_variable-in-VariableReference-clause-goes
 unfolding state_parts
-arguments::resolve_local-returns-in_ok-_positional-in-Some g t c =
-    let a = state g.B.Context.meant g.B.Context.is_plain g.F.FluentFunction.answer g.C.FluentType.content c.args.scope.now in
-    let given = ap call_view c.in-Some.is ∙ sym (ap (λ a. call (arguments_view a)) c.deref-arguments.ensures) in
-    let means = ap (λ k. from_here a (locals k)) given ∙ local_some a.bundle (work a.bundle) a.environment a.path (arguments_view c.deref-arguments.result.now) a.budget in
-    record { got = got_as (λ p. p.1) c.in_ok-_positional-in-Some.was refl means c.resolve_call.ensures.got; rests = rests_ok c.in_ok-_positional-in-Some.was c.resolve_call.ensures.rests }
+arguments::resolve-returns-in_err-resolve_variable-in-VariableReference-clause-goes g t c = λ k n.
+    let content = g.C.FluentType.content in
+    let contents = g.W.Write.contents in
+    let a = state g.B.Context.meant g.B.Context.is_plain g.F.FluentFunction.answer content c.args.scope.now in
+    let out = c.args.out.now in
+    let work = c.args.work.now in
+    let values = values_view content work.values in
+    let v = viewed out a values in
+    let x = inline_view c.args.inline.now in
+    lacks (search rules) (passes (happened_untold (outside contents out) c.in_err-resolve_variable-in-VariableReference.was c.resolve_variable.ensures.0) (begun _ (paid_within c.args.levels n) (outside contents out) a))
 
--- WHAT THE CALLS REQUIRE
-
-pub arguments::resolve-resolve_function-requires : goal.arguments::resolve-resolve_function-requires
+pub arguments::resolve-returns-in_ok-resolve_variable-in-VariableReference-clause-goes : goal.arguments::resolve-returns-in_ok-resolve_variable-in-VariableReference-clause-goes
 unfolding state_parts
-arguments::resolve-resolve_function-requires g t c =
-    let a = state g.B.Context.meant g.B.Context.is_plain g.F.FluentFunction.answer g.C.FluentType.content c.args.scope.now in
-    let k = arguments_view c.deref.result.now in
-    let view = view_function_in c.args.inline.now c.in-FunctionReference.id c.in-FunctionReference.arguments c.in-FunctionReference.is ∙ sym (ap (λ a. function c.in-FunctionReference.id.name.now (arguments_view a)) c.deref.ensures) in
-    let sized : inline_size (inline_view c.args.inline.now) ≡ 2 + arguments_size k = ap inline_size view in
-    let less = falls_to c.decreases (same_weight a (1 + arguments_size k) (2 + inline_size (inline_view c.args.inline.now)) (omega (arith, sized))) in
-    λ κs h. (less, (h.0, (h.1.0, (h.1.1.0, (h.1.1.1, (view, c.requires))))))
-
-pub arguments::resolve_function-resolve_call-requires : goal.arguments::resolve_function-resolve_call-requires
-unfolding state_parts
-arguments::resolve_function-resolve_call-requires g t c =
-    let a = state g.B.Context.meant g.B.Context.is_plain g.F.FluentFunction.answer g.C.FluentType.content c.args.scope.now in
-    let less = falls_to c.decreases (same_weight a (arguments_size (arguments_view c.args.arguments.now)) (1 + arguments_size (arguments_view c.args.arguments.now)) (omega arith)) in
-    let placed = placed_after a.stored.numbers (in_inline (inline_view c.args.inline.now)) (a_function c.args.id.now.name.now) (in_arguments (arguments_view c.args.arguments.now)) c.args.cursor c.after_one.result (ap in_inline c.requires.view) c.after_one.ensures c.requires.placed in
-    λ κs h. (less, (h.0, (h.1.0, (h.1.1.0, (h.1.1.1, placed)))))
-
-pub arguments::resolve_function-answer_of-requires : goal.arguments::resolve_function-answer_of-requires
-unfolding state_parts
-arguments::resolve_function-answer_of-requires g t c =
-    let a = state g.B.Context.meant g.B.Context.is_plain g.F.FluentFunction.answer g.C.FluentType.content c.args.scope.now in
-    let b = state g.B.Context.meant g.B.Context.is_plain g.F.FluentFunction.answer g.C.FluentType.content c.resolve_call.new.scope in
-    let kept = c.resolve_call.ensures.got.toward.passed.keeps in
-    let r = a_function c.args.id.now.name.now in
-    placed_still a b (r ∷ []) c.args.cursor kept.stored (placed_first a.stored.numbers (in_inline (inline_view c.args.inline.now)) r (in_arguments (arguments_view c.args.arguments.now)) c.args.cursor (ap in_inline c.requires.view) c.requires.placed)
+arguments::resolve-returns-in_ok-resolve_variable-in-VariableReference-clause-goes g t c = λ k n.
+    let content = g.C.FluentType.content in
+    let contents = g.W.Write.contents in
+    let a = state g.B.Context.meant g.B.Context.is_plain g.F.FluentFunction.answer content c.args.scope.now in
+    let out = c.args.out.now in
+    let work = c.args.work.now in
+    let values = values_view content work.values in
+    let v = viewed out a values in
+    let x = inline_view c.args.inline.now in
+    let way = with_fewer n (paid_least c.args.levels n) (begun _ (paid_within c.args.levels n) (outside contents out) a) in
+    let id = c.in-VariableReference.id.name.now in
+    let is = view_variable_in c.args.inline.now c.in-VariableReference.id c.in-VariableReference.is in
+    let b = state g.B.Context.meant g.B.Context.is_plain g.F.FluentFunction.answer content c.resolve_variable.new.scope in
+    let reports = c.resolve_variable.ensures.0 in
+    let told = happened_told (outside contents out) c.in_ok-resolve_variable-in-VariableReference.was reports in
+    let o = get id (variables a.environment) in
+    let on = looked_up a.bundle (k a.bundle) v x o told (turns (variable_at x id a.bundle (k a.bundle) v is) way) in
+    let at : At = λ y env path budget. k y (Some (value_view content c.in_ok-resolve_variable-in-VariableReference.field-0)) (record { kept = kept_of out; budget = budget; environment = env; path = path; values = values }) in
+    let there = ap (λ y. k a.bundle (Some y) v) (sym c.in_ok-resolve_variable-in-VariableReference.ensures.1) ∙ moves a b at a.environment a.path reports.stays.bundle reports.environment reports.path reports.budget in
+    finishes _ _ refl refl (none_put content b.bundle work.frames.items (k b.bundle) (Some (value_view content c.in_ok-resolve_variable-in-VariableReference.field-0)) (viewed out b values) c.requires.nothing (turns there on))
 
 pub arguments::resolve-resolve_variable-requires : goal.arguments::resolve-resolve_variable-requires
-unfolding state_parts
 arguments::resolve-resolve_variable-requires g t c = view_variable_in c.args.inline.now c.in-VariableReference.id c.in-VariableReference.is
 
-pub arguments::resolve-write_beside-requires : goal.arguments::resolve-write_beside-requires
+pub expression::choose_variant-returns-clause-goes : goal.expression::choose_variant-returns-clause-goes
 unfolding state_parts
-arguments::resolve-write_beside-requires g t c =
-    let a = state g.B.Context.meant g.B.Context.is_plain g.F.FluentFunction.answer g.C.FluentType.content c.args.scope.now in
-    let less = falls_to c.decreases (same_weight a (1 + inline_size (inline_view c.args.inline.now)) (2 + inline_size (inline_view c.args.inline.now)) (omega arith)) in
-    λ κs h. (less, (h.0, (h.1.0, (h.1.1.0, (h.1.1.1, c.requires)))))
+expression::choose_variant-returns-clause-goes g t c = λ k n.
+    let content = g.C.FluentType.content in
+    let contents = g.W.Write.contents in
+    let a = state g.B.Context.meant g.B.Context.is_plain g.F.FluentFunction.answer content c.args.scope.now in
+    let out = c.args.out.now in
+    let work = c.args.work.now in
+    let values = values_view content work.values in
+    let v = viewed out a values in
+    let chosen = chosen_ahead (variants_view c.args.variants.now) (value_view content c.args.value.now) (chosen_view c.choose-chosen.result) a.bundle (k a.bundle) v c.choose-chosen.ensures.chose in
+    went_on (turns chosen (begun _ n (outside contents out) a)) (c.write_chosen.ensures.goes k n)
 
-pub arguments::resolve_call-resolve_positional-requires : goal.arguments::resolve_call-resolve_positional-requires
+pub expression::write_chosen-returns-in_err-write_elements-in-Some-clause-goes : goal.expression::write_chosen-returns-in_err-write_elements-in-Some-clause-goes
 unfolding state_parts
-arguments::resolve_call-resolve_positional-requires g t c =
-    let a = state g.B.Context.meant g.B.Context.is_plain g.F.FluentFunction.answer g.C.FluentType.content c.args.scope.now in
-    let sized : arguments_size (arguments_view c.args.arguments.now) ≡ 1 + inlines_size (inlines_of (map inline_view (of_call.out-CallArguments c.args.arguments.now).positional.items)) + nameds_size (nameds_of (map named_view (of_call.out-CallArguments c.args.arguments.now).named.items)) = ap arguments_size (view_arguments c.args.arguments.now) in
-    let here : inlines_size (inlines_of (map inline_view c.deref.result.now)) ≡ inlines_size (inlines_of (map inline_view (of_call.out-CallArguments c.args.arguments.now).positional.items)) = ap (λ xs. inlines_size (inlines_of (map inline_view xs))) c.deref.ensures.value in
-    let less = falls_to c.decreases (same_weight a (inlines_size (inlines_of (map inline_view c.deref.result.now))) (arguments_size (arguments_view c.args.arguments.now)) (omega (arith, sized, here))) in
-    let parts = of_call.out-CallArguments c.args.arguments.now in
-    let first = placed_prefix a.stored.numbers (in_arguments (arguments_view c.args.arguments.now)) (of_inlines parts.positional.items) (of_nameds parts.named.items) c.args.cursor (in_arguments_is c.args.arguments.now) c.requires in
-    let placed = subst (λ xs. IsBefore a.stored.numbers (of_inlines xs) (seen c.args.cursor)) (sym c.deref.ensures.value) first in
-    λ κs h. (less, (h.0, (h.1.0, (h.1.1.0, (h.1.1.1, placed)))))
+expression::write_chosen-returns-in_err-write_elements-in-Some-clause-goes g t c = λ k n.
+    let content = g.C.FluentType.content in
+    let contents = g.W.Write.contents in
+    let a = state g.B.Context.meant g.B.Context.is_plain g.F.FluentFunction.answer content c.args.scope.now in
+    let out = c.args.out.now in
+    let work = c.args.work.now in
+    let values = values_view content work.values in
+    let v = viewed out a values in
+    let p = c.in-Some.chosen.pattern.now in
+    let one = has_one (pattern_view p) in
+    let put = c.begin-begun.result in
+    let b = state g.B.Context.meant g.B.Context.is_plain g.F.FluentFunction.answer content c.begin-begun.new.self in
+    let next : Bundle Text → Following = λ x given u. k x None (record u { path = path_left put u.path }) in
+    let way = turns (ap (λ p. parts.elements one p b.bundle (next b.bundle) (viewed out b values)) (view_pattern p))
+    (waits (suc n) (omega arith) (from_there (ap (λ o. parts.chosen (chosen_view o) a.bundle (k a.bundle) v) c.in-Some.is) (begins_pattern n (outside contents out) k (kept_of out) values one refl c.begin-begun.ensures))) in
+    let went = c.write_elements.ensures.goes next (suc n) in
+    halts c.in_err-write_elements-in-Some.was (search rules) way went
 
-pub arguments::resolve_call-resolve_named-requires : goal.arguments::resolve_call-resolve_named-requires
+pub expression::write_chosen-returns-then-is_done-clause-goes : goal.expression::write_chosen-returns-then-is_done-clause-goes
 unfolding state_parts
-arguments::resolve_call-resolve_named-requires g t c =
-    let a = state g.B.Context.meant g.B.Context.is_plain g.F.FluentFunction.answer g.C.FluentType.content c.args.scope.now in
-    let b = state g.B.Context.meant g.B.Context.is_plain g.F.FluentFunction.answer g.C.FluentType.content c.resolve_positional.new.scope in
-    let sized : arguments_size (arguments_view c.args.arguments.now) ≡ 1 + inlines_size (inlines_of (map inline_view (of_call.out-CallArguments c.args.arguments.now).positional.items)) + nameds_size (nameds_of (map named_view (of_call.out-CallArguments c.args.arguments.now).named.items)) = ap arguments_size (view_arguments c.args.arguments.now) in
-    let here : nameds_size (nameds_of (map named_view c.deref-3.result.now)) ≡ nameds_size (nameds_of (map named_view (of_call.out-CallArguments c.args.arguments.now).named.items)) = ap (λ xs. nameds_size (nameds_of (map named_view xs))) c.deref-3.ensures.value in
-    let less = falls_to c.decreases (kept_weight (nameds_size (nameds_of (map named_view c.deref-3.result.now))) (arguments_size (arguments_view c.args.arguments.now)) c.resolve_positional.ensures.got.toward.passed.keeps (omega (arith, sized, here))) in
-    let parts = of_call.out-CallArguments c.args.arguments.now in
-    let at = c.after_positional-after.ensures ∙ ap (λ xs. past (of_inlines xs) (seen c.args.cursor)) c.deref-2.ensures.value in
-    let second = placed_back a.stored.numbers (in_arguments (arguments_view c.args.arguments.now)) (of_inlines parts.positional.items) (of_nameds parts.named.items) c.args.cursor c.after_positional-after.result (in_arguments_is c.args.arguments.now) at c.requires in
-    let here = subst (λ xs. IsBefore a.stored.numbers (of_nameds xs) (seen c.after_positional-after.result)) (sym c.deref-3.ensures.value) second in
-    let placed = placed_still a b (of_nameds c.deref-3.result.now) c.after_positional-after.result c.resolve_positional.ensures.got.toward.passed.keeps.stored here in
-    λ κs h. (less, (h.0, (h.1.0, (h.1.1.0, (h.1.1.1, placed)))))
+expression::write_chosen-returns-then-is_done-clause-goes g t c = λ k n.
+    let content = g.C.FluentType.content in
+    let contents = g.W.Write.contents in
+    let a = state g.B.Context.meant g.B.Context.is_plain g.F.FluentFunction.answer content c.args.scope.now in
+    let out = c.args.out.now in
+    let work = c.args.work.now in
+    let values = values_view content work.values in
+    let v = viewed out a values in
+    let p = c.in-Some.chosen.pattern.now in
+    let one = has_one (pattern_view p) in
+    let put = c.begin-begun.result in
+    let b = state g.B.Context.meant g.B.Context.is_plain g.F.FluentFunction.answer content c.begin-begun.new.self in
+    let next : Bundle Text → Following = λ x given u. k x None (record u { path = path_left put u.path }) in
+    let way = turns (ap (λ p. parts.elements one p b.bundle (next b.bundle) (viewed out b values)) (view_pattern p))
+    (waits (suc n) (omega arith) (from_there (ap (λ o. parts.chosen (chosen_view o) a.bundle (k a.bundle) v) c.in-Some.is) (begins_pattern n (outside contents out) k (kept_of out) values one refl c.begin-begun.ensures))) in
+    let went = c.write_elements.ensures.goes next (suc n) in
+    let d = state g.B.Context.meant g.B.Context.is_plain g.F.FluentFunction.answer content c.write_elements.new.scope in
+    let off = c.write_elements.new.work in
+    let last = viewed c.write_elements.new.out d (values_view content off.values) in
+    let there = goes c.in_ok-write_elements-in-Some.was way went in
+    let none = c.is_done.ensures.0 c.if-is_done.true in
+    let here = with_fewer n (omega arith) (is_done content d.bundle off.frames.items (next d.bundle) None last none there) in
+    let e = c.leave.ensures.elsewhere in
+    let f = state g.B.Context.meant g.B.Context.is_plain g.F.FluentFunction.answer content c.leave.new.self in
+    let at : At = λ x env path budget. k x None (record { kept = last.kept; budget = budget; environment = env; path = path; values = last.values }) in
+    let left = turns (moves d f at d.environment _ e.stays.bundle e.environment (path_is put c.leave.ensures) e.budget) (passes (happened_as (outside contents c.write_elements.new.out) e.errors e.budget c.leave.ensures.tally e.stays) here) in
+    all_done content f.bundle off.frames.items (k f.bundle) (λ x. None) (viewed c.write_elements.new.out f (values_view content off.values)) refl none left
 
-pub arguments::resolve_local-resolve_call-requires : goal.arguments::resolve_local-resolve_call-requires
+pub expression::write_chosen-returns-else-is_done-clause-goes : goal.expression::write_chosen-returns-else-is_done-clause-goes
 unfolding state_parts
-arguments::resolve_local-resolve_call-requires g t c =
-    let a = state g.B.Context.meant g.B.Context.is_plain g.F.FluentFunction.answer g.C.FluentType.content c.args.scope.now in
-    let given = ap call_view c.in-Some.is ∙ sym (ap (λ a. call (arguments_view a)) c.deref-arguments.ensures) in
-    let sized : call_size (call_view c.args.arguments.now) ≡ 1 + arguments_size (arguments_view c.deref-arguments.result.now) = ap call_size given in
-    let less = falls_to c.decreases (same_weight a (arguments_size (arguments_view c.deref-arguments.result.now)) (call_size (call_view c.args.arguments.now)) (omega (arith, sized))) in
-    let placed = placed_as a.stored.numbers (in_call (call_view c.args.arguments.now)) (in_arguments (arguments_view c.deref-arguments.result.now)) c.args.cursor (ap in_call given) c.requires in
-    λ κs h. (less, (h.0, (h.1.0, (h.1.1.0, (h.1.1.1, placed)))))
+expression::write_chosen-returns-else-is_done-clause-goes g t c = λ k n.
+    let content = g.C.FluentType.content in
+    let contents = g.W.Write.contents in
+    let a = state g.B.Context.meant g.B.Context.is_plain g.F.FluentFunction.answer content c.args.scope.now in
+    let out = c.args.out.now in
+    let work = c.args.work.now in
+    let values = values_view content work.values in
+    let v = viewed out a values in
+    let p = c.in-Some.chosen.pattern.now in
+    let one = has_one (pattern_view p) in
+    let put = c.begin-begun.result in
+    let b = state g.B.Context.meant g.B.Context.is_plain g.F.FluentFunction.answer content c.begin-begun.new.self in
+    let next : Bundle Text → Following = λ x given u. k x None (record u { path = path_left put u.path }) in
+    let way = turns (ap (λ p. parts.elements one p b.bundle (next b.bundle) (viewed out b values)) (view_pattern p))
+    (waits (suc n) (omega arith) (from_there (ap (λ o. parts.chosen (chosen_view o) a.bundle (k a.bundle) v) c.in-Some.is) (begins_pattern n (outside contents out) k (kept_of out) values one refl c.begin-begun.ensures))) in
+    let went = c.write_elements.ensures.goes next (suc n) in
+    let d = state g.B.Context.meant g.B.Context.is_plain g.F.FluentFunction.answer content c.write_elements.new.scope in
+    let off = c.write_elements.new.work in
+    let last = viewed c.write_elements.new.out d (values_view content off.values) in
+    let there = goes c.in_ok-write_elements-in-Some.was way went in
+    put_last n content d.bundle off.frames.items c.wait.new.self.frames.items _ (k d.bundle) None last _ _ (ap (λ vs. viewed c.write_elements.new.out d (values_view content vs)) (sym c.wait.ensures.values)) c.wait.ensures.err c.wait.ensures.frames there
 
-pub arguments::resolve_positional-resolve-requires : goal.arguments::resolve_positional-resolve-requires
+pub expression::write_chosen-returns-else-is_done-clause-placed : goal.expression::write_chosen-returns-else-is_done-clause-placed
 unfolding state_parts
-arguments::resolve_positional-resolve-requires g t c =
-    let a = state g.B.Context.meant g.B.Context.is_plain g.F.FluentFunction.answer g.C.FluentType.content c.args.scope.now in
-    let less = falls_to c.decreases (kept_weight (2 + inline_size (inline_view c.argument-item.result)) (inlines_size (inlines_of (map inline_view c.args.arguments.now))) c.loop-argument.invariant.gathers.passed.keeps (cursor_less c.args.arguments.now c.loop-argument.argument-index c.argument-item.result c.loop-argument-test.true c.argument-item.is)) in
-    let b = state g.B.Context.meant g.B.Context.is_plain g.F.FluentFunction.answer g.C.FluentType.content c.loop-argument.scope in
-    let here = enters of_inline of_inlines positional_in_turn c.args.arguments.now c.loop-argument.argument-index c.argument-item.result c.loop-argument-test.true c.argument-item.is a.stored.numbers (seen c.loop-argument.cursor) c.loop-argument.invariant.placed in
-    let placed = placed_still a b (of_inline c.argument-item.result) c.loop-argument.cursor c.loop-argument.invariant.gathers.passed.keeps.stored here in
-    λ κs h. (less, (h.0, (h.1.0, (h.1.1.0, (h.1.1.1, placed)))))
+expression::write_chosen-returns-else-is_done-clause-placed g t c =
+    let content = g.C.FluentType.content in
+    let d = state g.B.Context.meant g.B.Context.is_plain g.F.FluentFunction.answer content c.write_elements.new.scope in
+    placed_last d.stored.numbers d.stored.table c.write_elements.new.work.frames.items c.wait.new.self.frames.items _ _ c.wait.ensures.frames c.in_ok-write_elements-in-Some.ensures.placed tt
 
-pub arguments::resolve_named-resolve-requires : goal.arguments::resolve_named-resolve-requires
+pub expression::write_chosen-returns-in_err-add_error-in-None-clause-goes : goal.expression::write_chosen-returns-in_err-add_error-in-None-clause-goes
 unfolding state_parts
-arguments::resolve_named-resolve-requires g t c =
-    let a = state g.B.Context.meant g.B.Context.is_plain g.F.FluentFunction.answer g.C.FluentType.content c.args.scope.now in
-    let less = falls_to c.decreases (kept_weight (2 + inline_size (inline_view c.argument-item.result.value)) (nameds_size (nameds_of (map named_view c.args.arguments.now))) c.loop-argument.invariant.gathers.passed.keeps (label_less c.args.arguments.now c.loop-argument.argument-index c.argument-item.result c.loop-argument-test.true c.argument-item.is)) in
-    let b = state g.B.Context.meant g.B.Context.is_plain g.F.FluentFunction.answer g.C.FluentType.content c.loop-argument.scope in
-    let here = enters of_named of_nameds named_in_turn c.args.arguments.now c.loop-argument.argument-index c.argument-item.result c.loop-argument-test.true c.argument-item.is a.stored.numbers (seen c.loop-argument.cursor) c.loop-argument.invariant.placed in
-    let placed = placed_still a b (of_named c.argument-item.result) c.loop-argument.cursor c.loop-argument.invariant.gathers.passed.keeps.stored here in
-    λ κs h. (less, (h.0, (h.1.0, (h.1.1.0, (h.1.1.1, placed)))))
+expression::write_chosen-returns-in_err-add_error-in-None-clause-goes g t c = λ k n.
+    let content = g.C.FluentType.content in
+    let contents = g.W.Write.contents in
+    let a = state g.B.Context.meant g.B.Context.is_plain g.F.FluentFunction.answer content c.args.scope.now in
+    let out = c.args.out.now in
+    let work = c.args.work.now in
+    let values = values_view content work.values in
+    let v = viewed out a values in
+    lacks (search rules) (tells_none c.in_err-add_error-in-None.was c.add_error.ensures.added (begun _ n _ a))
 
-pub arguments::write_beside-write_inline-requires : goal.arguments::write_beside-write_inline-requires
+pub expression::write_chosen-returns-in_ok-add_error-in-None-clause-goes : goal.expression::write_chosen-returns-in_ok-add_error-in-None-clause-goes
 unfolding state_parts
-arguments::write_beside-write_inline-requires g t c =
-    let a = state g.B.Context.meant g.B.Context.is_plain g.F.FluentFunction.answer g.C.FluentType.content c.args.scope.now in
-    let less = falls_to c.decreases (same_weight a (inline_size (inline_view c.args.inline.now)) (1 + inline_size (inline_view c.args.inline.now)) (omega arith)) in
-    λ κs h. (less, (h.0, (h.1.0, (h.1.1.0, (h.1.1.1, c.requires)))))
+expression::write_chosen-returns-in_ok-add_error-in-None-clause-goes g t c = λ k n.
+    let content = g.C.FluentType.content in
+    let contents = g.W.Write.contents in
+    let a = state g.B.Context.meant g.B.Context.is_plain g.F.FluentFunction.answer content c.args.scope.now in
+    let out = c.args.out.now in
+    let work = c.args.work.now in
+    let values = values_view content work.values in
+    let v = viewed out a values in
+    let b = state g.B.Context.meant g.B.Context.is_plain g.F.FluentFunction.answer content c.add_error.new.self in
+    let way = turns (ap (λ o. parts.chosen (chosen_view o) a.bundle (k a.bundle) v) c.in-None.is ∙ ap (after (tells (resolver_error missing_default ∷ []))) (puts_nothing (k a.bundle) v)) (begun _ n (outside contents out) a) in
+    all_done content b.bundle work.frames.items (k b.bundle) (λ x. None) (viewed out b values) refl c.requires.nothing (tells_first (λ b env path budget. k b None (record { kept = kept_of out; budget = budget; environment = env; path = path; values = values })) c.in_ok-add_error-in-None.was c.add_error.ensures.added way)
 
-pub expression::write_expression-write_inline-requires : goal.expression::write_expression-write_inline-requires
+pub expression::write_expression-returns-then-levels-eq0-clause-goes : goal.expression::write_expression-returns-then-levels-eq0-clause-goes
 unfolding state_parts
-expression::write_expression-write_inline-requires g t c =
+expression::write_expression-returns-then-levels-eq0-clause-goes g t c = λ k n.
+    let content = g.C.FluentType.content in
+    let contents = g.W.Write.contents in
+    let a = state g.B.Context.meant g.B.Context.is_plain g.F.FluentFunction.answer content c.args.scope.now in
+    let out = c.args.out.now in
+    let work = c.args.work.now in
+    let values = values_view content work.values in
+    let v = viewed out a values in
+    let paid = none_left c.args.levels n c.if-levels-eq0.true in
+    let here = with_fewer (suc n) (omega (arith, paid)) (begun (parts.expression (expression_view c.args.expression.now) a.bundle (k a.bundle) v) (paid_within c.args.levels n) (outside contents out) a) in
+    put_last n content a.bundle work.frames.items c.wait.new.self.frames.items _ (k a.bundle) None v _ _ (ap (λ vs. viewed out a (values_view content vs)) (sym c.wait.ensures.values)) c.wait.ensures.err c.wait.ensures.frames
+    (is_still content a.bundle work.frames.items (λ x. parts.expression (expression_view c.args.expression.now) a.bundle (k a.bundle)) None v c.requires.nothing here)
+
+pub expression::write_expression-write_unbraced-requires : goal.expression::write_expression-write_unbraced-requires
+unfolding state_parts
+expression::write_expression-write_unbraced-requires g t c =
     let a = state g.B.Context.meant g.B.Context.is_plain g.F.FluentFunction.answer g.C.FluentType.content c.args.scope.now in
-    let sized : expression_size (expression_view c.args.expression.now) ≡ 1 + inline_size (inline_view c.in-Inline.inline) = ap expression_size (view_in c.args.expression.now c.in-Inline.inline c.in-Inline.is) in
-    let less = falls_to c.decreases (same_weight a (inline_size (inline_view c.in-Inline.inline)) (expression_size (expression_view c.args.expression.now)) (omega (arith, sized))) in
-    let placed = placed_as a.stored.numbers (in_expression (expression_view c.args.expression.now)) (in_inline (inline_view c.in-Inline.inline)) c.args.cursor (in_one_is c.args.expression.now c.in-Inline.inline c.in-Inline.is) c.requires in
-    λ κs h. (less, (h.0, (h.1.0, (h.1.1.0, (h.1.1.1, placed)))))
+    let e = expression_view c.args.expression.now in
+    let x = inline_view c.in-Inline.inline in
+    let is = sym c.innermost.ensures ∙ view_in c.innermost.result.now c.in-Inline.inline c.in-Inline.is in
+    let bare = unbraced e x is in
+    let placed = placed_as a.stored.numbers (in_expression e) (in_inline x) c.args.cursor (sym (refers_same e) ∙ ap in_expression is) c.requires.placed in
+    λ κs h. (falls_to c.decreases (omega (arith, c.if-levels-eq0.false)), (h.0, (h.1.0, (h.1.1.0, (h.1.1.1, (bare, (placed, c.requires.nothing)))))))
 
 pub expression::write_expression-write_select-requires : goal.expression::write_expression-write_select-requires
 unfolding state_parts
 expression::write_expression-write_select-requires g t c =
     let a = state g.B.Context.meant g.B.Context.is_plain g.F.FluentFunction.answer g.C.FluentType.content c.args.scope.now in
+    let e = expression_view c.args.expression.now in
     let x = inline_view c.in-Select.selector in
-    let vs = variants_of (map variant_view c.in-Select.variants.items) in
-    let here = variants_of (map variant_view c.deref.result.now) in
-    let sized : expression_size (expression_view c.args.expression.now) ≡ 5 + inline_size x + variants_size vs = ap expression_size (view_select_in c.args.expression.now c.in-Select.selector c.in-Select.variants c.in-Select.is) in
-    let same : variants_size here ≡ variants_size vs = ap (λ vs. variants_size (variants_of (map variant_view vs))) c.deref.ensures.value in
-    let less = falls_to c.decreases (same_weight a (4 + inline_size x + variants_size here) (expression_size (expression_view c.args.expression.now)) (omega (arith, sized, same))) in
-    let refers = in_select_is c.args.expression.now c.in-Select.selector c.in-Select.variants c.in-Select.is ∙ ap (λ vs. in_inline x ++ of_variants vs) (sym c.deref.ensures.value) in
-    let placed = placed_as a.stored.numbers (in_expression (expression_view c.args.expression.now)) (in_inline x ++ of_variants c.deref.result.now) c.args.cursor refers c.requires in
-    λ κs h. (less, (h.0, (h.1.0, (h.1.1.0, (h.1.1.1, placed)))))
+    let is = sym c.innermost.ensures ∙ view_select_in c.innermost.result.now c.in-Select.selector c.in-Select.variants c.in-Select.is in
+    let placed = placed_as a.stored.numbers (in_expression e) (in_expression (select x (variants_view c.in-Select.variants.items))) c.args.cursor (sym (refers_same e) ∙ ap in_expression is) c.requires.placed in
+    λ κs h. (falls_to c.decreases (omega (arith, c.if-levels-eq0.false)), (h.0, (h.1.0, (h.1.1.0, (h.1.1.1, (placed, c.requires.nothing))))))
 
-pub expression::write_select-write_pattern-requires : goal.expression::write_select-write_pattern-requires
+pub expression::write_expression-returns-in-Inline-clause-goes : goal.expression::write_expression-returns-in-Inline-clause-goes
 unfolding state_parts
-expression::write_select-write_pattern-requires g t c =
-    let a = state g.B.Context.meant g.B.Context.is_plain g.F.FluentFunction.answer g.C.FluentType.content c.args.scope.now in
-    let b = state g.B.Context.meant g.B.Context.is_plain g.F.FluentFunction.answer g.C.FluentType.content c.choose_variant.new.scope in
-    let vs = variants_of (map variant_view c.args.variants.now) in
-    let p = pattern_view c.in-Some.chosen.pattern.now in
-    let got = c.choose_variant.ensures.chose.got in
-    let value = (walked a (resolving (inline_view c.args.selector.now)) a.budget).ran.value in
-    let is : Some p ≡ choice (goes_to a.bundle value) (first_default vs) vs =
-    sym (ap chosen_view c.in-Some.is)
-    ∙ sym (ap (λ m. m.ran.value) (at_value (λ o. got.left ≡ given (chosen_view o) b.budget) c.in_ok-chosen.was got.done))
-    ∙ got.toward.value in
-    let kept = got.toward.passed.keeps in
-    let less = falls_to c.decreases (less_weight a.bundle b.bundle (1 + size p) (4 + inline_size (inline_view c.args.selector.now) + variants_size vs) (at_most b.budget) (1 + at_most a.budget) kept.bundle (omega (arith, chosen_less (goes_to a.bundle value) vs p is)) (omega (arith, kept.less))) in
-    let chose = ok_value _ _ (BeginsAt a.stored.numbers) c.in_ok-chosen.was c.choose_variant.ensures.placed in
-    let begins = some_value _ _ (λ c. IsBefore a.stored.numbers (references (pattern_view c.pattern.now)) (seen c.cursor)) c.in-Some.is chose in
-    let placed = placed_still a b (references p) c.in-Some.chosen.cursor kept.stored begins in
-    λ κs h. (less, (h.0, (h.1.0, (h.1.1.0, (h.1.1.1, placed)))))
+expression::write_expression-returns-in-Inline-clause-goes g t c = λ k n.
+    let content = g.C.FluentType.content in
+    let contents = g.W.Write.contents in
+    let a = state g.B.Context.meant g.B.Context.is_plain g.F.FluentFunction.answer content c.args.scope.now in
+    let out = c.args.out.now in
+    let work = c.args.work.now in
+    let values = values_view content work.values in
+    let v = viewed out a values in
+    let x = inline_view c.in-Inline.inline in
+    let is = sym c.innermost.ensures ∙ view_in c.innermost.result.now c.in-Inline.inline c.in-Inline.is in
+    let way = turns (ahead_same (expression_view c.args.expression.now) (inline x) a.bundle (k a.bundle) v is ∙ inline_ahead x a.bundle (k a.bundle) v) (begun _ (paid_within c.args.levels n) (outside contents out) a) in
+    went_on (with_fewer n (at_least c.args.levels n) way) (c.write_unbraced.ensures.goes k n)
 
-pub variants::choose_by_value-resolve-requires : goal.variants::choose_by_value-resolve-requires
+pub expression::write_expression-returns-in-Select-clause-goes : goal.expression::write_expression-returns-in-Select-clause-goes
 unfolding state_parts
-variants::choose_by_value-resolve-requires g t c =
-    let a = state g.B.Context.meant g.B.Context.is_plain g.F.FluentFunction.answer g.C.FluentType.content c.args.scope.now in
-    let vs = variants_of (map variant_view c.args.variants.now) in
-    let less = falls_to c.decreases (same_weight a (2 + inline_size (inline_view c.args.selector.now)) (2 + inline_size (inline_view c.args.selector.now) + variants_size vs) (omega (arith, some_variants vs))) in
-    let placed = placed_prefix a.stored.numbers _ (in_inline (inline_view c.args.selector.now)) (in_variants vs) c.args.cursor refl c.requires in
-    λ κs h. (less, (h.0, (h.1.0, (h.1.1.0, (h.1.1.1, placed)))))
+expression::write_expression-returns-in-Select-clause-goes g t c = λ k n.
+    let content = g.C.FluentType.content in
+    let contents = g.W.Write.contents in
+    let a = state g.B.Context.meant g.B.Context.is_plain g.F.FluentFunction.answer content c.args.scope.now in
+    let out = c.args.out.now in
+    let work = c.args.work.now in
+    let values = values_view content work.values in
+    let v = viewed out a values in
+    let x = inline_view c.in-Select.selector in
+    let is = sym c.innermost.ensures ∙ view_select_in c.innermost.result.now c.in-Select.selector c.in-Select.variants c.in-Select.is in
+    let way = turns (ahead_same (expression_view c.args.expression.now) (select x (variants_view c.in-Select.variants.items)) a.bundle (k a.bundle) v is) (begun _ (paid_within c.args.levels n) (outside contents out) a) in
+    went_on (with_fewer n (at_least c.args.levels n) way) (c.write_select.ensures.goes k n)
 
-pub variants::choose_by_value-returns-in_err-value-clause-chose : goal.variants::choose_by_value-returns-in_err-value-clause-chose
+pub expression::write_inline-returns-in-Placeable-clause-goes : goal.expression::write_inline-returns-in-Placeable-clause-goes
 unfolding state_parts
-variants::choose_by_value-returns-in_err-value-clause-chose g t c =
+expression::write_inline-returns-in-Placeable-clause-goes g t c = λ k n.
+    let content = g.C.FluentType.content in
+    let contents = g.W.Write.contents in
+    let a = state g.B.Context.meant g.B.Context.is_plain g.F.FluentFunction.answer content c.args.scope.now in
+    let out = c.args.out.now in
+    let work = c.args.work.now in
+    let values = values_view content work.values in
+    let v = viewed out a values in
+    let is = view_nested_in c.args.inline.now c.in-Placeable.expression c.in-Placeable.is ∙ ap (λ e. nested (expression_view e)) (sym c.deref.ensures) in
+    went_on (turns (ap (λ x. parts.written x a.bundle (k a.bundle) v) is ∙ nested_ahead (expression_view c.deref.result.now) a.bundle (k a.bundle) v) (begun _ (paid_within c.args.levels n) (outside contents out) a)) (c.write_expression.ensures.goes k n)
+
+pub expression::write_inline-returns-in_default : goal.expression::write_inline-returns-in_default
+unfolding state_parts
+expression::write_inline-returns-in_default g t c =
+    let content = g.C.FluentType.content in
+    let contents = g.W.Write.contents in
+    let a = state g.B.Context.meant g.B.Context.is_plain g.F.FluentFunction.answer content c.args.scope.now in
+    let out = c.args.out.now in
+    let work = c.args.work.now in
+    let values = values_view content work.values in
+    let v = viewed out a values in
+    record { goes = λ k n. went_on (with_fewer n (at_least c.args.levels n) (begun _ (paid_within c.args.levels n) (outside contents out) a)) (c.write_unbraced.ensures.goes k n); placed = c.write_unbraced.ensures.placed }
+
+pub expression::write_select-returns-in_err-chosen-in-VariableReference-clause-goes : goal.expression::write_select-returns-in_err-chosen-in-VariableReference-clause-goes
+unfolding state_parts
+expression::write_select-returns-in_err-chosen-in-VariableReference-clause-goes g t c = λ k n.
+    let content = g.C.FluentType.content in
+    let contents = g.W.Write.contents in
+    let a = state g.B.Context.meant g.B.Context.is_plain g.F.FluentFunction.answer content c.args.scope.now in
+    let out = c.args.out.now in
+    let work = c.args.work.now in
+    let values = values_view content work.values in
+    let v = viewed out a values in
+    lacks (search rules) (tells_none c.in_err-chosen-in-VariableReference.was c.choose_by_variable.ensures.chose.0 (begun _ n _ a))
+
+pub expression::write_select-returns-in_ok-chosen-in-VariableReference-clause-goes : goal.expression::write_select-returns-in_ok-chosen-in-VariableReference-clause-goes
+unfolding state_parts
+expression::write_select-returns-in_ok-chosen-in-VariableReference-clause-goes g t c = λ k n.
+    let content = g.C.FluentType.content in
+    let contents = g.W.Write.contents in
+    let a = state g.B.Context.meant g.B.Context.is_plain g.F.FluentFunction.answer content c.args.scope.now in
+    let out = c.args.out.now in
+    let work = c.args.work.now in
+    let values = values_view content work.values in
+    let v = viewed out a values in
+    let x = inline_view c.args.selector.now in
+    let vs = variants_view c.deref.result.now in
+    let o = chosen_view c.in_ok-chosen-in-VariableReference.chosen in
+    let is = view_variable_in c.args.selector.now c.in-VariableReference.id c.in-VariableReference.is in
+    let chose = c.choose_by_variable.ensures.chose in
+    let way = select_chosen x c.in-VariableReference.id.name.now vs o k (kept_of out) values is c.in_ok-chosen-in-VariableReference.was chose.0 (ok_value _ _ _ c.in_ok-chosen-in-VariableReference.was chose.1) (turns (ap (λ ys. parts.expression (select x (variants_view ys)) a.bundle (k a.bundle) v) (sym c.deref.ensures.value)) (begun _ n (outside contents out) a)) in
+    went_on way (c.write_chosen.ensures.goes k n)
+
+pub expression::write_select-resolve-requires : goal.expression::write_select-resolve-requires
+unfolding state_parts
+expression::write_select-resolve-requires g t c =
     let a = state g.B.Context.meant g.B.Context.is_plain g.F.FluentFunction.answer g.C.FluentType.content c.args.scope.now in
-    let vs = variants_of (map variant_view c.args.variants.now) in
+    let x = inline_view c.args.selector.now in
+    let vs = variants_view c.args.variants.now.items in
+    let placed = placed_prefix a.stored.numbers (in_expression (select x vs)) (in_inline x) (in_variants vs) c.args.cursor refl c.requires.placed in
+    λ κs h. (falls_to c.decreases (omega arith), (h.0, (h.1.0, (h.1.1.0, (h.1.1.1, (placed, c.requires.nothing))))))
+
+pub expression::write_select-returns-in_err-value-in_default : goal.expression::write_select-returns-in_err-value-in_default
+unfolding state_parts
+expression::write_select-returns-in_err-value-in_default g t c =
+    let content = g.C.FluentType.content in
+    let contents = g.W.Write.contents in
+    let a = state g.B.Context.meant g.B.Context.is_plain g.F.FluentFunction.answer content c.args.scope.now in
+    let out = c.args.out.now in
+    let work = c.args.work.now in
+    let values = values_view content work.values in
+    let v = viewed out a values in
+    let x = inline_view c.args.selector.now in
+    let vs = variants_view c.args.variants.now.items in
+    let next : (Bundle Text → Following) → Bundle Text → Following = λ k b given. parts.matched vs (selector_value given) b (k b) in
+    let way = λ (k : Bundle Text → Following) (n : ℕ). waits (paid_within c.args.levels (suc n)) (omega (arith, at_most c.args.levels (suc n))) (turns (select_ahead x vs a.bundle (k a.bundle) v) (begun _ n (outside contents out) a)) in
+    record { goes = λ k n. halts c.in_err-value-in_default.was (search rules) (way k n) (c.resolve.ensures.goes (next k) (suc n)); placed = search rules }
+
+pub expression::write_select-choose_variant-requires : goal.expression::write_select-choose_variant-requires
+unfolding state_parts
+expression::write_select-choose_variant-requires g t c =
+    let content = g.C.FluentType.content in
+    let contents = g.W.Write.contents in
+    let a = state g.B.Context.meant g.B.Context.is_plain g.F.FluentFunction.answer content c.args.scope.now in
+    let out = c.args.out.now in
+    let work = c.args.work.now in
+    let values = values_view content work.values in
+    let v = viewed out a values in
+    let x = inline_view c.args.selector.now in
+    let vs = variants_view c.args.variants.now.items in
+    let next : (Bundle Text → Following) → Bundle Text → Following = λ k b given. parts.matched vs (selector_value given) b (k b) in
+    let way = λ (k : Bundle Text → Following) (n : ℕ). waits (paid_within c.args.levels (suc n)) (omega (arith, at_most c.args.levels (suc n))) (turns (select_ahead x vs a.bundle (k a.bundle) v) (begun _ n (outside contents out) a)) in
+    let b = state g.B.Context.meant g.B.Context.is_plain g.F.FluentFunction.answer content c.resolve.new.scope in
+    let off = c.resolve.new.work in
+    let last = viewed c.resolve.new.out b (values_view content off.values) in
+    let there = λ (k : Bundle Text → Following) (n : ℕ). goes c.in_ok-value-in_default.was (way k n) (c.resolve.ensures.goes (next k) (suc n)) in
+    let stored = (there no_more 0).happened.stays.stored in
+    let cursor = placed_still a b (in_variants vs) c.after_inline-after.result stored (placed_back a.stored.numbers (in_expression (select x vs)) (in_inline x) (in_variants vs) c.args.cursor c.after_inline-after.result refl c.after_inline-after.ensures c.requires.placed) in
+    let here = placed_as b.stored.numbers (in_variants vs) (in_variants (variants_view c.deref-in-Some.result.now)) c.after_inline-after.result (ap (λ ys. in_variants (variants_view ys)) (sym c.deref-in-Some.ensures.value)) cursor in
+    λ κs h. (falls_to c.decreases (omega arith), (h.0, (h.1.0, (h.1.1.0, (h.1.1.1, (here, whole_if c.in_ok-value-in_default.field-0 c.in-Some.value off c.in-Some.is c.in_ok-value-in_default.ensures.whole))))))
+
+pub expression::write_select-returns-in-Some : goal.expression::write_select-returns-in-Some
+unfolding state_parts
+expression::write_select-returns-in-Some g t c =
+    let content = g.C.FluentType.content in
+    let contents = g.W.Write.contents in
+    let a = state g.B.Context.meant g.B.Context.is_plain g.F.FluentFunction.answer content c.args.scope.now in
+    let out = c.args.out.now in
+    let work = c.args.work.now in
+    let values = values_view content work.values in
+    let v = viewed out a values in
+    let x = inline_view c.args.selector.now in
+    let vs = variants_view c.args.variants.now.items in
+    let next : (Bundle Text → Following) → Bundle Text → Following = λ k b given. parts.matched vs (selector_value given) b (k b) in
+    let way = λ (k : Bundle Text → Following) (n : ℕ). waits (paid_within c.args.levels (suc n)) (omega (arith, at_most c.args.levels (suc n))) (turns (select_ahead x vs a.bundle (k a.bundle) v) (begun _ n (outside contents out) a)) in
+    let b = state g.B.Context.meant g.B.Context.is_plain g.F.FluentFunction.answer content c.resolve.new.scope in
+    let off = c.resolve.new.work in
+    let last = viewed c.resolve.new.out b (values_view content off.values) in
+    let there = λ (k : Bundle Text → Following) (n : ℕ). goes c.in_ok-value-in_default.was (way k n) (c.resolve.ensures.goes (next k) (suc n)) in
+    let none = whole_if c.in_ok-value-in_default.field-0 c.in-Some.value off c.in-Some.is c.in_ok-value-in_default.ensures.whole in
+    let o = c.in_ok-value-in_default.field-0 in
     record {
-      got = got_part_as (λ v. choice (goes_to a.bundle v) (first_default vs) vs) c.in_err-value.was (search rules) refl c.resolve.ensures.got;
-      rests = rests_err c.in_err-value.was (search rules) c.resolve.ensures.rests;
+      goes = λ k n.
+          let done = is_done content b.bundle off.frames.items (next k b.bundle) (made content o) last none (there k n) in
+          let here = turns (ap (λ o. parts.matched vs (selector_value (made content o)) b.bundle (k b.bundle) last) c.in-Some.is ∙ ap (λ ys. parts.matched (variants_view ys) (value_view content c.in-Some.value) b.bundle (k b.bundle) last) (sym c.deref-in-Some.ensures.value)) done in
+          went_on (with_fewer n (omega arith) here) (c.choose_variant.ensures.goes k n);
+      placed = c.choose_variant.ensures.placed;
     }
 
-pub inline_expression::follow-go-requires : goal.inline_expression::follow-go-requires
+pub expression::write_select-returns-in-None : goal.expression::write_select-returns-in-None
 unfolding state_parts
-inline_expression::follow-go-requires g t c =
-    let a = state g.B.Context.meant g.B.Context.is_plain g.F.FluentFunction.answer g.C.FluentType.content c.args.scope.now in
-    let p = content_at c.in-Pattern.target in
-    let small : size p < bound a.bundle = subst (λ f. IsBelow (bound a.bundle) (found_view f)) c.in-Pattern.is c.requires.below in
-    let less = falls_to c.decreases (less_found a.bundle a.bundle p (at_most a.budget) (1 + at_most a.budget) refl small (omega arith)) in
-    let stored = subst (IsLed c.args.scope.now.ids.now) c.in-Pattern.is c.requires.led in
-    λ κs h. (less, (h.0, (h.1.0, (h.1.1.0, (h.1.1.1, (small, stored))))))
+expression::write_select-returns-in-None g t c =
+    let content = g.C.FluentType.content in
+    let contents = g.W.Write.contents in
+    let a = state g.B.Context.meant g.B.Context.is_plain g.F.FluentFunction.answer content c.args.scope.now in
+    let out = c.args.out.now in
+    let work = c.args.work.now in
+    let values = values_view content work.values in
+    let v = viewed out a values in
+    let x = inline_view c.args.selector.now in
+    let vs = variants_view c.args.variants.now.items in
+    let next : (Bundle Text → Following) → Bundle Text → Following = λ k b given. parts.matched vs (selector_value given) b (k b) in
+    let way = λ (k : Bundle Text → Following) (n : ℕ). waits (paid_within c.args.levels (suc n)) (omega (arith, at_most c.args.levels (suc n))) (turns (select_ahead x vs a.bundle (k a.bundle) v) (begun _ n (outside contents out) a)) in
+    let b = state g.B.Context.meant g.B.Context.is_plain g.F.FluentFunction.answer content c.resolve.new.scope in
+    let off = c.resolve.new.work in
+    let last = viewed c.resolve.new.out b (values_view content off.values) in
+    let there = λ (k : Bundle Text → Following) (n : ℕ). goes c.in_ok-value-in_default.was (way k n) (c.resolve.ensures.goes (next k) (suc n)) in
+    let stored = (there no_more 0).happened.stays.stored in
+    let cursor = placed_still a b (in_variants vs) c.after_inline-after.result stored (placed_back a.stored.numbers (in_expression (select x vs)) (in_inline x) (in_variants vs) c.args.cursor c.after_inline-after.result refl c.after_inline-after.ensures c.requires.placed) in
+    record {
+      goes = λ k n.
+          let here = turns (ap (λ o. before content b.bundle off.frames.items (next k b.bundle) (made content o) last) c.in-None.is) (there k n) in
+          put_last n content b.bundle off.frames.items c.wait.new.self.frames.items _ (k b.bundle) None last _ _ (ap (λ vs. viewed c.resolve.new.out b (values_view content vs)) (sym c.wait.ensures.values)) c.wait.ensures.err c.wait.ensures.frames here;
+      placed = placed_last b.stored.numbers b.stored.table off.frames.items c.wait.new.self.frames.items _ _ c.wait.ensures.frames c.in_ok-value-in_default.ensures.placed cursor;
+    }
 
-pub inline_expression::go-write_elements-written-requires : goal.inline_expression::go-write_elements-written-requires
+pub inline_expression::go-returns-in_err-add_error-clause-goes : goal.inline_expression::go-returns-in_err-add_error-clause-goes
 unfolding state_parts
-inline_expression::go-write_elements-written-requires g t c =
-    let a = state g.B.Context.meant g.B.Context.is_plain g.F.FluentFunction.answer g.C.FluentType.content c.args.scope.now in
-    let p = content_at c.args.target in
-    let less = falls_to c.decreases (still_weight (size p) (2 + size p) c.enter.ensures.elsewhere (omega arith)) in
-    let b = state g.B.Context.meant g.B.Context.is_plain g.F.FluentFunction.answer g.C.FluentType.content c.enter.new.self in
-    let placed = placed_still a b (references p) c.args.target.cursor c.enter.ensures.elsewhere.stored c.requires.stored.placed in
-    λ κs h. (less, (h.0, (h.1.0, (h.1.1.0, (h.1.1.1, placed)))))
+inline_expression::go-returns-in_err-add_error-clause-goes g t c = λ k n.
+    let content = g.C.FluentType.content in
+    let contents = g.W.Write.contents in
+    let a = state g.B.Context.meant g.B.Context.is_plain g.F.FluentFunction.answer content c.args.scope.now in
+    let out = c.args.out.now in
+    let work = c.args.work.now in
+    let values = values_view content work.values in
+    let v = viewed out a values in
+    let x = inline_view c.args.inline.now in
+    let p = pattern_view c.args.target.pattern.now in
+    let way = turns (go_cyclic x p a.bundle (k a.bundle) v (sym c.is_on.ensures ∙ c.if-is_on.true)) (begun _ n (outside contents out) a) in
+    lacks (search rules) (tells_none c.in_err-add_error.was c.add_error.ensures.added way)
 
-pub inline_expression::write_inline-write_function-requires : goal.inline_expression::write_inline-write_function-requires
+pub inline_expression::go-returns-then-is_on-clause-goes : goal.inline_expression::go-returns-then-is_on-clause-goes
 unfolding state_parts
-inline_expression::write_inline-write_function-requires g t c =
-    let a = state g.B.Context.meant g.B.Context.is_plain g.F.FluentFunction.answer g.C.FluentType.content c.args.scope.now in
-    let k = arguments_view c.deref.result.now in
-    let view = view_function_in c.args.inline.now c.in-FunctionReference.id c.in-FunctionReference.arguments c.in-FunctionReference.is ∙ sym (ap (λ a. function c.in-FunctionReference.id.name.now (arguments_view a)) c.deref.ensures) in
-    let sized : inline_size (inline_view c.args.inline.now) ≡ 2 + arguments_size k = ap inline_size view in
-    let less = falls_to c.decreases (same_weight a (1 + arguments_size k) (inline_size (inline_view c.args.inline.now)) (omega (arith, sized))) in
-    λ κs h. (less, (h.0, (h.1.0, (h.1.1.0, (h.1.1.1, (view, c.requires))))))
+inline_expression::go-returns-then-is_on-clause-goes g t c = λ k n.
+    let content = g.C.FluentType.content in
+    let contents = g.W.Write.contents in
+    let a = state g.B.Context.meant g.B.Context.is_plain g.F.FluentFunction.answer content c.args.scope.now in
+    let out = c.args.out.now in
+    let work = c.args.work.now in
+    let values = values_view content work.values in
+    let v = viewed out a values in
+    let x = inline_view c.args.inline.now in
+    let p = pattern_view c.args.target.pattern.now in
+    let way = turns (go_cyclic x p a.bundle (k a.bundle) v (sym c.is_on.ensures ∙ c.if-is_on.true)) (begun _ n (outside contents out) a) in
+    let b = state g.B.Context.meant g.B.Context.is_plain g.F.FluentFunction.answer content c.add_error.new.self in
+    let last = c.put_in_braces.new.out in
+    none_waits content b.bundle work.frames.items (k b.bundle) (λ u. None) (viewed last b values) c.requires.nothing
+    (laid_last _ (λ u. ap (λ m. k m None (viewed last b values)) (sym c.add_error.ensures.added.stays.bundle))
+    (laid contents out last a b values a.bundle (k a.bundle) (resolver_error cyclic ∷ []) (in_braces (fallback x)) (did_tell_and_put c.in_ok-add_error.was c.add_error.ensures.added c.put_in_braces.ensures.took) way))
 
-pub inline_expression::write_function-resolve_call-requires : goal.inline_expression::write_function-resolve_call-requires
+pub inline_expression::go-returns-in_err-enter-clause-goes : goal.inline_expression::go-returns-in_err-enter-clause-goes
 unfolding state_parts
-inline_expression::write_function-resolve_call-requires g t c =
-    let a = state g.B.Context.meant g.B.Context.is_plain g.F.FluentFunction.answer g.C.FluentType.content c.args.scope.now in
-    let less = falls_to c.decreases (same_weight a (arguments_size (arguments_view c.args.arguments.now)) (1 + arguments_size (arguments_view c.args.arguments.now)) (omega arith)) in
-    let placed = placed_after a.stored.numbers (in_inline (inline_view c.args.inline.now)) (a_function c.args.id.now.name.now) (in_arguments (arguments_view c.args.arguments.now)) c.args.cursor c.after_one.result (ap in_inline c.requires.view) c.after_one.ensures c.requires.placed in
-    λ κs h. (less, (h.0, (h.1.0, (h.1.1.0, (h.1.1.1, placed)))))
+inline_expression::go-returns-in_err-enter-clause-goes g t c = λ k n.
+    let content = g.C.FluentType.content in
+    let contents = g.W.Write.contents in
+    let a = state g.B.Context.meant g.B.Context.is_plain g.F.FluentFunction.answer content c.args.scope.now in
+    let out = c.args.out.now in
+    let work = c.args.work.now in
+    let values = values_view content work.values in
+    let v = viewed out a values in
+    let x = inline_view c.args.inline.now in
+    let p = pattern_view c.args.target.pattern.now in
+    lacks (search rules) (not_entered c.in_err-enter.was c.enter.ensures (begun _ n (outside contents out) a))
 
-pub inline_expression::write_function-put_answer-requires : goal.inline_expression::write_function-put_answer-requires
+pub inline_expression::go-returns-in_err-write_elements-clause-goes : goal.inline_expression::go-returns-in_err-write_elements-clause-goes
 unfolding state_parts
-inline_expression::write_function-put_answer-requires g t c =
-    let a = state g.B.Context.meant g.B.Context.is_plain g.F.FluentFunction.answer g.C.FluentType.content c.args.scope.now in
-    let b = state g.B.Context.meant g.B.Context.is_plain g.F.FluentFunction.answer g.C.FluentType.content c.resolve_call.new.scope in
-    let kept = c.resolve_call.ensures.got.toward.passed.keeps in
-    let r = a_function c.args.id.now.name.now in
-    placed_still a b (r ∷ []) c.args.cursor kept.stored (placed_first a.stored.numbers (in_inline (inline_view c.args.inline.now)) r (in_arguments (arguments_view c.args.arguments.now)) c.args.cursor (ap in_inline c.requires.view) c.requires.placed)
+inline_expression::go-returns-in_err-write_elements-clause-goes g t c = λ k n.
+    let content = g.C.FluentType.content in
+    let contents = g.W.Write.contents in
+    let a = state g.B.Context.meant g.B.Context.is_plain g.F.FluentFunction.answer content c.args.scope.now in
+    let out = c.args.out.now in
+    let work = c.args.work.now in
+    let values = values_view content work.values in
+    let v = viewed out a values in
+    let x = inline_view c.args.inline.now in
+    let p = pattern_view c.args.target.pattern.now in
+    let b = state g.B.Context.meant g.B.Context.is_plain g.F.FluentFunction.answer content c.enter.new.self in
+    let one = has_one p in
+    let next : Bundle Text → Following = λ m given u. k m None (record u { path = front u.path }) in
+    let way = goes_into n (outside contents out) x k (kept_of out) values c.events_are_the_run.ensures.by_itself (sym c.is_on.ensures ∙ c.if-is_on.false) c.in_ok-enter.was c.enter.ensures in
+    let here = waits (suc n) (omega arith) (turns (ap (λ q. begins (parts.elements one q b.bundle (next b.bundle) (viewed out b values))) (view_pattern c.args.target.pattern.now)) way) in
+    halts c.in_err-write_elements.was (search rules) here (c.write_elements.ensures.goes next (suc n))
 
-pub inline_expression::write_inline-follow-requires : goal.inline_expression::write_inline-follow-requires
+pub inline_expression::go-returns-then-is_done-clause-goes : goal.inline_expression::go-returns-then-is_done-clause-goes
 unfolding state_parts
-inline_expression::write_inline-follow-requires g t c =
-    let a = state g.B.Context.meant g.B.Context.is_plain g.F.FluentFunction.answer g.C.FluentType.content c.args.scope.now in
-    let sized : inline_size (inline_view c.args.inline.now) ≡ 1 = ap inline_size (view_message_in c.args.inline.now c.in-MessageReference.id c.in-MessageReference.attribute c.in-MessageReference.is) in
-    let less = falls_to c.decreases (same_weight a (0) (inline_size (inline_view c.args.inline.now)) (omega (arith, sized))) in
-    let below = subst (IsBelow (bound a.bundle)) (sym (c.message-found.ensures.content g.F.FluentFunction.answer)) (below_message a.bundle c.in-MessageReference.id.name.now (attribute_of c.in-MessageReference.attribute)) in
-    λ κs h. (less, (h.0, (h.1.0, (h.1.1.0, (h.1.1.1, (below, c.message-found.ensures.led))))))
+inline_expression::go-returns-then-is_done-clause-goes g t c = λ k n.
+    let content = g.C.FluentType.content in
+    let contents = g.W.Write.contents in
+    let a = state g.B.Context.meant g.B.Context.is_plain g.F.FluentFunction.answer content c.args.scope.now in
+    let out = c.args.out.now in
+    let work = c.args.work.now in
+    let values = values_view content work.values in
+    let v = viewed out a values in
+    let x = inline_view c.args.inline.now in
+    let p = pattern_view c.args.target.pattern.now in
+    let b = state g.B.Context.meant g.B.Context.is_plain g.F.FluentFunction.answer content c.enter.new.self in
+    let one = has_one p in
+    let next : Bundle Text → Following = λ m given u. k m None (record u { path = front u.path }) in
+    let way = goes_into n (outside contents out) x k (kept_of out) values c.events_are_the_run.ensures.by_itself (sym c.is_on.ensures ∙ c.if-is_on.false) c.in_ok-enter.was c.enter.ensures in
+    let here = waits (suc n) (omega arith) (turns (ap (λ q. begins (parts.elements one q b.bundle (next b.bundle) (viewed out b values))) (view_pattern c.args.target.pattern.now)) way) in
+    let d = state g.B.Context.meant g.B.Context.is_plain g.F.FluentFunction.answer content c.write_elements.new.scope in
+    let last = c.write_elements.new.out in
+    let work1 = c.write_elements.new.work in
+    let frames = work1.frames.items in
+    let there = goes c.in_ok-write_elements.was here (c.write_elements.ensures.goes next (suc n)) in
+    let nothing : frames ≡ [] = c.is_done.ensures.0 c.if-is_done.true in
+    let e = state g.B.Context.meant g.B.Context.is_plain g.F.FluentFunction.answer content c.leave.new.self in
+    let values1 = values_view content work1.values in
+    let rest : At = λ m env path budget. k m None (record { kept = kept_of last; budget = budget; environment = env; path = path; values = values1 }) in
+    let left = c.leave.ensures.elsewhere in
+    let done = is_done content d.bundle frames (next d.bundle) None (viewed last d values1) nothing there in
+    let away = turns (moves d e rest d.environment _ left.stays.bundle left.environment (path_is true c.leave.ensures) left.budget)
+    (passes (happened_as (outside contents last) left.errors left.budget c.leave.ensures.tally left.stays) (with_fewer n (omega arith) done)) in
+    all_done content e.bundle frames (k e.bundle) (λ u. None) (viewed last e values1) refl nothing away
 
-pub inline_expression::write_inline-write_term-requires : goal.inline_expression::write_inline-write_term-requires
+pub inline_expression::go-returns-else-is_done-clause-goes : goal.inline_expression::go-returns-else-is_done-clause-goes
 unfolding state_parts
-inline_expression::write_inline-write_term-requires g t c =
-    let a = state g.B.Context.meant g.B.Context.is_plain g.F.FluentFunction.answer g.C.FluentType.content c.args.scope.now in
-    let view = view_term_in c.args.inline.now c.in-TermReference.id c.in-TermReference.attribute c.in-TermReference.arguments c.in-TermReference.is in
-    let sized : inline_size (inline_view c.args.inline.now) ≡ 2 + call_size (call_view c.in-TermReference.arguments) = ap inline_size view in
-    let less = falls_to c.decreases (same_weight a (1 + call_size (call_view c.in-TermReference.arguments)) (inline_size (inline_view c.args.inline.now)) (omega (arith, sized))) in
-    λ κs h. (less, (h.0, (h.1.0, (h.1.1.0, (h.1.1.1, (view, c.requires))))))
+inline_expression::go-returns-else-is_done-clause-goes g t c = λ k n.
+    let content = g.C.FluentType.content in
+    let contents = g.W.Write.contents in
+    let a = state g.B.Context.meant g.B.Context.is_plain g.F.FluentFunction.answer content c.args.scope.now in
+    let out = c.args.out.now in
+    let work = c.args.work.now in
+    let values = values_view content work.values in
+    let v = viewed out a values in
+    let x = inline_view c.args.inline.now in
+    let p = pattern_view c.args.target.pattern.now in
+    let b = state g.B.Context.meant g.B.Context.is_plain g.F.FluentFunction.answer content c.enter.new.self in
+    let one = has_one p in
+    let next : Bundle Text → Following = λ m given u. k m None (record u { path = front u.path }) in
+    let way = goes_into n (outside contents out) x k (kept_of out) values c.events_are_the_run.ensures.by_itself (sym c.is_on.ensures ∙ c.if-is_on.false) c.in_ok-enter.was c.enter.ensures in
+    let here = waits (suc n) (omega arith) (turns (ap (λ q. begins (parts.elements one q b.bundle (next b.bundle) (viewed out b values))) (view_pattern c.args.target.pattern.now)) way) in
+    let d = state g.B.Context.meant g.B.Context.is_plain g.F.FluentFunction.answer content c.write_elements.new.scope in
+    let last = c.write_elements.new.out in
+    let work1 = c.write_elements.new.work in
+    let frames = work1.frames.items in
+    let there = goes c.in_ok-write_elements.was here (c.write_elements.ensures.goes next (suc n)) in
+    let gs = c.wait.new.self.frames.items in
+    let values1 = values_view content work1.values in
+    put_last n content d.bundle frames gs (put_off.Leave true) (k d.bundle) None (viewed last d values1) _ c.wait.result (ap (λ vs. viewed last d (values_view content vs)) (sym c.wait.ensures.values)) c.wait.ensures.err c.wait.ensures.frames there
 
-pub inline_expression::write_inline-write_variable-requires : goal.inline_expression::write_inline-write_variable-requires
+pub inline_expression::follow-returns-in_err-report_no_value-in-WithoutValue-clause-goes : goal.inline_expression::follow-returns-in_err-report_no_value-in-WithoutValue-clause-goes
 unfolding state_parts
-inline_expression::write_inline-write_variable-requires g t c = view_variable_in c.args.inline.now c.in-VariableReference.id c.in-VariableReference.is
+inline_expression::follow-returns-in_err-report_no_value-in-WithoutValue-clause-goes g t c = λ k n.
+    let content = g.C.FluentType.content in
+    let contents = g.W.Write.contents in
+    let a = state g.B.Context.meant g.B.Context.is_plain g.F.FluentFunction.answer content c.args.scope.now in
+    let out = c.args.out.now in
+    let work = c.args.work.now in
+    let values = values_view content work.values in
+    let v = viewed out a values in
+    let x = inline_view c.args.inline.now in
+    let id = c.args.id.now.name.now in
+    let t = found_view c.args.found in
+    let way = turns (follow_without x id t a.bundle (k a.bundle) v (ap found_view c.in-WithoutValue.is)) (begun _ n (outside contents out) a) in
+    lacks (search rules) (tells_none c.in_err-report_no_value-in-WithoutValue.was c.report_no_value.ensures way)
 
-pub inline_expression::write_inline-write_expression-requires : goal.inline_expression::write_inline-write_expression-requires
+pub inline_expression::follow-returns-in-Unknown-clause-goes : goal.inline_expression::follow-returns-in-Unknown-clause-goes
 unfolding state_parts
-inline_expression::write_inline-write_expression-requires g t c =
-    let a = state g.B.Context.meant g.B.Context.is_plain g.F.FluentFunction.answer g.C.FluentType.content c.args.scope.now in
-    let sized : inline_size (inline_view c.args.inline.now) ≡ 1 + expression_size (expression_view c.in-Placeable.expression.value) = ap inline_size (view_nested_in c.args.inline.now c.in-Placeable.expression c.in-Placeable.is) in
-    let here : expression_size (expression_view c.deref-in-Placeable.result.now) ≡ expression_size (expression_view c.in-Placeable.expression.value) = ap (λ e. expression_size (expression_view e)) c.deref-in-Placeable.ensures in
-    let less = falls_to c.decreases (same_weight a (expression_size (expression_view c.deref-in-Placeable.result.now)) (inline_size (inline_view c.args.inline.now)) (omega (arith, sized, here))) in
-    let refers = in_nested_is c.args.inline.now c.in-Placeable.expression c.in-Placeable.is ∙ ap (λ e. in_expression (expression_view e)) (sym c.deref-in-Placeable.ensures) in
-    let placed = placed_as a.stored.numbers (in_inline (inline_view c.args.inline.now)) (in_expression (expression_view c.deref-in-Placeable.result.now)) c.args.cursor refers c.requires in
-    λ κs h. (less, (h.0, (h.1.0, (h.1.1.0, (h.1.1.1, placed)))))
+inline_expression::follow-returns-in-Unknown-clause-goes g t c = λ k n.
+    let content = g.C.FluentType.content in
+    let contents = g.W.Write.contents in
+    let a = state g.B.Context.meant g.B.Context.is_plain g.F.FluentFunction.answer content c.args.scope.now in
+    let out = c.args.out.now in
+    let work = c.args.work.now in
+    let values = values_view content work.values in
+    let v = viewed out a values in
+    let x = inline_view c.args.inline.now in
+    let id = c.args.id.now.name.now in
+    let t = found_view c.args.found in
+    let way = turns (follow_unknown x id t a.bundle (k a.bundle) v (ap found_view c.in-Unknown.is)) (begun _ n (outside contents out) a) in
+    let b = state g.B.Context.meant g.B.Context.is_plain g.F.FluentFunction.answer content c.lose.new.scope in
+    let last = c.lose.new.out in
+    none_waits content b.bundle work.frames.items (k b.bundle) (λ u. None) (viewed last b values) c.requires.nothing
+    (laid_last _ (λ u. ap (λ m. k m None (viewed last b values)) (sym c.lose.ensures.wrote.happened.stays.bundle))
+    (laid contents out last a b values a.bundle (k a.bundle) (lost_of x) (in_braces (fallback x)) c.lose.ensures.wrote way))
 
-pub inline_expression::write_term-resolve_local-requires : goal.inline_expression::write_term-resolve_local-requires
+pub inline_expression::follow-returns-in_ok-report_no_value-in-WithoutValue-clause-goes : goal.inline_expression::follow-returns-in_ok-report_no_value-in-WithoutValue-clause-goes
 unfolding state_parts
-inline_expression::write_term-resolve_local-requires g t c =
-    let a = state g.B.Context.meant g.B.Context.is_plain g.F.FluentFunction.answer g.C.FluentType.content c.args.scope.now in
-    let less = falls_to c.decreases (same_weight a (call_size (call_view c.args.arguments.now)) (1 + call_size (call_view c.args.arguments.now)) (omega arith)) in
-    let call = call_view c.args.arguments.now in
-    let placed = placed_after a.stored.numbers (in_inline (inline_view c.args.inline.now)) (a_term c.args.id.now.name.now) (in_call call) c.args.cursor c.after_one.result (ap in_inline c.requires.view) c.after_one.ensures c.requires.placed in
-    λ κs h. (less, (h.0, (h.1.0, (h.1.1.0, (h.1.1.1, placed)))))
+inline_expression::follow-returns-in_ok-report_no_value-in-WithoutValue-clause-goes g t c = λ k n.
+    let content = g.C.FluentType.content in
+    let contents = g.W.Write.contents in
+    let a = state g.B.Context.meant g.B.Context.is_plain g.F.FluentFunction.answer content c.args.scope.now in
+    let out = c.args.out.now in
+    let work = c.args.work.now in
+    let values = values_view content work.values in
+    let v = viewed out a values in
+    let x = inline_view c.args.inline.now in
+    let id = c.args.id.now.name.now in
+    let t = found_view c.args.found in
+    let way = turns (follow_without x id t a.bundle (k a.bundle) v (ap found_view c.in-WithoutValue.is)) (begun _ n (outside contents out) a) in
+    let b = state g.B.Context.meant g.B.Context.is_plain g.F.FluentFunction.answer content c.report_no_value.new.scope in
+    let last = c.put_id_in_braces.new.out in
+    none_waits content b.bundle work.frames.items (k b.bundle) (λ u. None) (viewed last b values) c.requires.nothing
+    (laid_last _ (λ u. ap (λ m. k m None (viewed last b values)) (sym c.report_no_value.ensures.stays.bundle))
+    (laid contents out last a b values a.bundle (k a.bundle) (resolver_error (no_value id) ∷ []) (in_braces id) (did_tell_and_put c.in_ok-report_no_value-in-WithoutValue.was c.report_no_value.ensures c.put_id_in_braces.ensures) way))
 
-pub inline_expression::write_term-term-found-requires : goal.inline_expression::write_term-term-found-requires
+pub inline_expression::follow-returns-in-Pattern-clause-goes : goal.inline_expression::follow-returns-in-Pattern-clause-goes
 unfolding state_parts
-inline_expression::write_term-term-found-requires g t c =
-    let a = state g.B.Context.meant g.B.Context.is_plain g.F.FluentFunction.answer g.C.FluentType.content c.args.scope.now in
-    let b = state g.B.Context.meant g.B.Context.is_plain g.F.FluentFunction.answer g.C.FluentType.content c.resolve_local.new.scope in
-    let kept = c.resolve_local.ensures.got.toward.passed.keeps in
-    let r = a_term c.args.id.now.name.now in
-    placed_still a b (r ∷ []) c.args.cursor kept.stored (placed_first a.stored.numbers (in_inline (inline_view c.args.inline.now)) r (in_call (call_view c.args.arguments.now)) c.args.cursor (ap in_inline c.requires.view) c.requires.placed)
+inline_expression::follow-returns-in-Pattern-clause-goes g t c = λ k n.
+    let content = g.C.FluentType.content in
+    let contents = g.W.Write.contents in
+    let a = state g.B.Context.meant g.B.Context.is_plain g.F.FluentFunction.answer content c.args.scope.now in
+    let out = c.args.out.now in
+    let work = c.args.work.now in
+    let values = values_view content work.values in
+    let v = viewed out a values in
+    let x = inline_view c.args.inline.now in
+    let id = c.args.id.now.name.now in
+    let t = found_view c.args.found in
+    let way = turns (follow_found x id t (content_at c.in-Pattern.target) a.bundle (k a.bundle) v (ap found_view c.in-Pattern.is)) (begun _ n (outside contents out) a) in
+    went_on way (c.go.ensures.goes k n)
 
-pub inline_expression::write_term-follow-written-requires : goal.inline_expression::write_term-follow-written-requires
+pub inline_expression::enter_term-returns-in_err-follow-clause-goes : goal.inline_expression::enter_term-returns-in_err-follow-clause-goes
 unfolding state_parts
-inline_expression::write_term-follow-written-requires g t c =
-    let a = state g.B.Context.meant g.B.Context.is_plain g.F.FluentFunction.answer g.C.FluentType.content c.args.scope.now in
-    let b = state g.B.Context.meant g.B.Context.is_plain g.F.FluentFunction.answer g.C.FluentType.content c.resolve_local.new.scope in
-    let less = falls_to c.decreases (kept_weight (0) (1 + call_size (call_view c.args.arguments.now)) c.resolve_local.ensures.got.toward.passed.keeps (omega arith)) in
-    let below = subst (IsBelow (bound b.bundle)) (sym (c.term-found.ensures.content g.F.FluentFunction.answer)) (below_term b.bundle c.args.id.now.name.now (attribute_of c.args.attribute.now)) in
-    λ κs h. (less, (h.0, (h.1.0, (h.1.1.0, (h.1.1.1, (below, c.term-found.ensures.led))))))
+inline_expression::enter_term-returns-in_err-follow-clause-goes g t c = λ k n.
+    let content = g.C.FluentType.content in
+    let contents = g.W.Write.contents in
+    let a = state g.B.Context.meant g.B.Context.is_plain g.F.FluentFunction.answer content c.args.scope.now in
+    let out = c.args.out.now in
+    let work = c.args.work.now in
+    let values = values_view content work.values in
+    let v = viewed out a values in
+    let x = inline_view c.args.inline.now in
+    let id = c.args.id.now.name.now in
+    let t = found_view c.args.found in
+    let m = locals_view content c.args.locals in
+    let env = environment_view content c.replace-outer.new.dest in
+    let outer = c.replace-outer.result in
+    let next : Bundle Text → Following = λ b given u. k b None (record u { environment = environment_view content outer }) in
+    let there : Environment Text → View = λ e. record { kept = kept_of out; budget = a.budget; environment = e; path = a.path; values = values } in
+    let same =
+    ap begins (enters_term x id t m a.bundle (k a.bundle) v)
+    ∙ ap (λ e. begins (parts.follow x id t a.bundle (λ given u. k a.bundle None (record u { environment = environment_view content e })) (there (local m)))) (sym c.replace-outer.ensures.value)
+    ∙ ap (λ e. begins (parts.follow x id t a.bundle (next a.bundle) (there (environment_view content e)))) (sym c.replace-outer.ensures.after) in
+    let here = looks_in env (waits (suc n) (omega arith) (turns same (begun _ n (outside contents out) a))) in
+    halts c.in_err-follow.was (search rules) here (c.follow.ensures.goes next (suc n))
 
-pub pattern::write_elements-write_placeable-requires : goal.pattern::write_elements-write_placeable-requires
+pub inline_expression::enter_term-returns-then-is_done-clause-goes : goal.inline_expression::enter_term-returns-then-is_done-clause-goes
 unfolding state_parts
-pattern::write_elements-write_placeable-requires g t c =
-    let a = state g.B.Context.meant g.B.Context.is_plain g.F.FluentFunction.answer g.C.FluentType.content c.args.scope.now in
-    let b = state g.B.Context.meant g.B.Context.is_plain g.F.FluentFunction.answer g.C.FluentType.content c.loop-element.scope in
-    let items = c.deref-element-items.result.now in
-    let x = c.element-item.result in
-    let kept = c.loop-element.invariant.along.passed.keeps in
-    let sized : element_size (element_view x) ≡ 1 + expression_size (expression_view c.in-Placeable.expression) = ap element_size (view_placeable_in x c.in-Placeable.expression c.in-Placeable.is) in
-    let whole : size (pattern_view c.args.pattern.now) ≡ size (pattern_of (map element_view items)) = ap size (view_pattern c.args.pattern.now) ∙ ap (λ es. size (pattern_of (map element_view es))) (sym c.deref-element-items.ensures.value) in
-    let less = falls_to c.decreases (less_weight a.bundle b.bundle (1 + expression_size (expression_view c.in-Placeable.expression)) (size (pattern_view c.args.pattern.now)) (at_most b.budget) (at_most a.budget) kept.bundle (omega (arith, sized, whole, element_less items c.loop-element.element-index x c.loop-element-test.true c.element-item.is)) kept.less) in
-    let left : b.budget ≡ limit_reached → ⊥ = search rules in
-    let here = enters of_element in_elements element_in_turn items c.loop-element.element-index x c.loop-element-test.true c.element-item.is a.stored.numbers (seen c.loop-element.cursor) c.loop-element.invariant.placed in
-    let placed = placed_still a b (in_expression (expression_view c.in-Placeable.expression)) c.loop-element.cursor kept.stored (placed_as a.stored.numbers (of_element x) (in_expression (expression_view c.in-Placeable.expression)) c.loop-element.cursor (in_placeable_is x c.in-Placeable.expression c.in-Placeable.is) here) in
-    λ κs h. (less, (h.0, (h.1.0, (h.1.1.0, (h.1.1.1, (left, placed))))))
+inline_expression::enter_term-returns-then-is_done-clause-goes g t c = λ k n.
+    let content = g.C.FluentType.content in
+    let contents = g.W.Write.contents in
+    let a = state g.B.Context.meant g.B.Context.is_plain g.F.FluentFunction.answer content c.args.scope.now in
+    let out = c.args.out.now in
+    let work = c.args.work.now in
+    let values = values_view content work.values in
+    let v = viewed out a values in
+    let x = inline_view c.args.inline.now in
+    let id = c.args.id.now.name.now in
+    let t = found_view c.args.found in
+    let m = locals_view content c.args.locals in
+    let env = environment_view content c.replace-outer.new.dest in
+    let outer = c.replace-outer.result in
+    let next : Bundle Text → Following = λ b given u. k b None (record u { environment = environment_view content outer }) in
+    let there : Environment Text → View = λ e. record { kept = kept_of out; budget = a.budget; environment = e; path = a.path; values = values } in
+    let same =
+    ap begins (enters_term x id t m a.bundle (k a.bundle) v)
+    ∙ ap (λ e. begins (parts.follow x id t a.bundle (λ given u. k a.bundle None (record u { environment = environment_view content e })) (there (local m)))) (sym c.replace-outer.ensures.value)
+    ∙ ap (λ e. begins (parts.follow x id t a.bundle (next a.bundle) (there (environment_view content e)))) (sym c.replace-outer.ensures.after) in
+    let here = looks_in env (waits (suc n) (omega arith) (turns same (begun _ n (outside contents out) a))) in
+    let d = state g.B.Context.meant g.B.Context.is_plain g.F.FluentFunction.answer content c.follow.new.scope in
+    let last = c.follow.new.out in
+    let work1 = c.follow.new.work in
+    let frames = work1.frames.items in
+    let values1 = values_view content work1.values in
+    let along = goes c.in_ok-follow.was here (c.follow.ensures.goes next (suc n)) in
+    let nothing : frames ≡ [] = c.is_done.ensures.0 c.if-is_done.true in
+    let back = environment_view content c.replace.new.dest in
+    let done = is_done content d.bundle frames (next d.bundle) None (viewed last d values1) nothing along in
+    let away = looks_in back (with_fewer n (omega arith) (turns (ap (λ e. k d.bundle None (record { kept = kept_of last; budget = d.budget; environment = environment_view content e; path = d.path; values = values1 })) (sym c.replace.ensures.after)) done)) in
+    all_done content d.bundle frames (k d.bundle) (λ u. None) (record { kept = kept_of last; budget = d.budget; environment = back; path = d.path; values = values1 }) refl nothing away
 
-pub pattern::write_pattern-write_elements-written-requires : goal.pattern::write_pattern-write_elements-written-requires
+pub inline_expression::enter_term-returns-else-is_done-clause-goes : goal.inline_expression::enter_term-returns-else-is_done-clause-goes
 unfolding state_parts
-pattern::write_pattern-write_elements-written-requires g t c =
-    let a = state g.B.Context.meant g.B.Context.is_plain g.F.FluentFunction.answer g.C.FluentType.content c.args.scope.now in
-    let less = falls_to c.decreases (still_weight (size (pattern_view c.args.pattern.now)) (1 + size (pattern_view c.args.pattern.now)) c.begin-begun.ensures.elsewhere (omega arith)) in
-    let b = state g.B.Context.meant g.B.Context.is_plain g.F.FluentFunction.answer g.C.FluentType.content c.begin-begun.new.self in
-    let placed = placed_still a b (references (pattern_view c.args.pattern.now)) c.args.cursor c.begin-begun.ensures.elsewhere.stored c.requires in
-    λ κs h. (less, (h.0, (h.1.0, (h.1.1.0, (h.1.1.1, placed)))))
+inline_expression::enter_term-returns-else-is_done-clause-goes g t c = λ k n.
+    let content = g.C.FluentType.content in
+    let contents = g.W.Write.contents in
+    let a = state g.B.Context.meant g.B.Context.is_plain g.F.FluentFunction.answer content c.args.scope.now in
+    let out = c.args.out.now in
+    let work = c.args.work.now in
+    let values = values_view content work.values in
+    let v = viewed out a values in
+    let x = inline_view c.args.inline.now in
+    let id = c.args.id.now.name.now in
+    let t = found_view c.args.found in
+    let m = locals_view content c.args.locals in
+    let env = environment_view content c.replace-outer.new.dest in
+    let outer = c.replace-outer.result in
+    let next : Bundle Text → Following = λ b given u. k b None (record u { environment = environment_view content outer }) in
+    let there : Environment Text → View = λ e. record { kept = kept_of out; budget = a.budget; environment = e; path = a.path; values = values } in
+    let same =
+    ap begins (enters_term x id t m a.bundle (k a.bundle) v)
+    ∙ ap (λ e. begins (parts.follow x id t a.bundle (λ given u. k a.bundle None (record u { environment = environment_view content e })) (there (local m)))) (sym c.replace-outer.ensures.value)
+    ∙ ap (λ e. begins (parts.follow x id t a.bundle (next a.bundle) (there (environment_view content e)))) (sym c.replace-outer.ensures.after) in
+    let here = looks_in env (waits (suc n) (omega arith) (turns same (begun _ n (outside contents out) a))) in
+    let d = state g.B.Context.meant g.B.Context.is_plain g.F.FluentFunction.answer content c.follow.new.scope in
+    let last = c.follow.new.out in
+    let work1 = c.follow.new.work in
+    let frames = work1.frames.items in
+    let values1 = values_view content work1.values in
+    let along = goes c.in_ok-follow.was here (c.follow.ensures.goes next (suc n)) in
+    let gs = c.wait.new.self.frames.items in
+    put_last n content d.bundle frames gs (put_off.Outer outer) (k d.bundle) None (viewed last d values1) _ c.wait.result (ap (λ vs. viewed last d (values_view content vs)) (sym c.wait.ensures.values)) c.wait.ensures.err c.wait.ensures.frames along
+
+pub inline_expression::write_term-returns-in-None-clause-goes : goal.inline_expression::write_term-returns-in-None-clause-goes
+unfolding state_parts
+inline_expression::write_term-returns-in-None-clause-goes g t c = λ k n.
+    let content = g.C.FluentType.content in
+    let contents = g.W.Write.contents in
+    let a = state g.B.Context.meant g.B.Context.is_plain g.F.FluentFunction.answer content c.args.scope.now in
+    let out = c.args.out.now in
+    let work = c.args.work.now in
+    let values = values_view content work.values in
+    let v = viewed out a values in
+    let x = inline_view c.args.inline.now in
+    let id = c.args.id.now.name.now in
+    let t = found_view c.args.found in
+    let way = begun _ n (outside contents out) a in
+    went_on (turns (ap (λ o. parts.term x id t (call_view o) a.bundle (k a.bundle) v) c.in-None.is ∙ term_alone x id t a.bundle (k a.bundle) v) way) (c.enter_term.ensures.goes k n)
+
+pub inline_expression::write_term-returns-then-has_literals_alone-clause-goes : goal.inline_expression::write_term-returns-then-has_literals_alone-clause-goes
+unfolding state_parts
+inline_expression::write_term-returns-then-has_literals_alone-clause-goes g t c = λ k n.
+    let content = g.C.FluentType.content in
+    let contents = g.W.Write.contents in
+    let a = state g.B.Context.meant g.B.Context.is_plain g.F.FluentFunction.answer content c.args.scope.now in
+    let out = c.args.out.now in
+    let work = c.args.work.now in
+    let values = values_view content work.values in
+    let v = viewed out a values in
+    let x = inline_view c.args.inline.now in
+    let id = c.args.id.now.name.now in
+    let t = found_view c.args.found in
+    let way = begun _ n (outside contents out) a in
+    let args = c.deref-arguments.result.now in
+    let l = of_call.out-CallArguments args in
+    let same = ap (λ o. parts.term x id t (call_view o) a.bundle (k a.bundle) v) c.in-Some.is ∙ ap (λ y. parts.term x id t (call (arguments_view y)) a.bundle (k a.bundle) v) (sym c.deref-arguments.ensures) ∙ ap (λ y. parts.term x id t (call y) a.bundle (k a.bundle) v) (view_arguments args) in
+    went_on (term_literals x id t l.positional.items l.named.items a.bundle (k a.bundle) v (sym c.has_literals_alone.ensures ∙ c.if-has_literals_alone.true) (turns same way)) (c.enter_term-then-has_literals_alone.ensures.goes k n)
+
+pub inline_expression::write_term-returns-in_err-begin_call-in-Some-clause-goes : goal.inline_expression::write_term-returns-in_err-begin_call-in-Some-clause-goes
+unfolding state_parts
+inline_expression::write_term-returns-in_err-begin_call-in-Some-clause-goes g t c = λ k n.
+    let content = g.C.FluentType.content in
+    let contents = g.W.Write.contents in
+    let a = state g.B.Context.meant g.B.Context.is_plain g.F.FluentFunction.answer content c.args.scope.now in
+    let out = c.args.out.now in
+    let work = c.args.work.now in
+    let values = values_view content work.values in
+    let v = viewed out a values in
+    let x = inline_view c.args.inline.now in
+    let id = c.args.id.now.name.now in
+    let t = found_view c.args.found in
+    let way = begun _ n (outside contents out) a in
+    let args = arguments_view c.deref-arguments.result.now in
+    let same = ap (λ o. parts.term x id t (call_view o) a.bundle (k a.bundle) v) c.in-Some.is ∙ ap (λ y. parts.term x id t (call (arguments_view y)) a.bundle (k a.bundle) v) (sym c.deref-arguments.ensures) ∙ term_called x id t args a.bundle (k a.bundle) v in
+    let here = starts (turns same way) in
+    halts c.in_err-begin_call-in-Some.was (search rules) here (c.begin_call.ensures.goes k n)
+
+pub inline_expression::write_term-returns-in_ok-begin_call-in-Some-clause-goes : goal.inline_expression::write_term-returns-in_ok-begin_call-in-Some-clause-goes
+unfolding state_parts
+inline_expression::write_term-returns-in_ok-begin_call-in-Some-clause-goes g t c = λ k n.
+    let content = g.C.FluentType.content in
+    let contents = g.W.Write.contents in
+    let a = state g.B.Context.meant g.B.Context.is_plain g.F.FluentFunction.answer content c.args.scope.now in
+    let out = c.args.out.now in
+    let work = c.args.work.now in
+    let values = values_view content work.values in
+    let v = viewed out a values in
+    let x = inline_view c.args.inline.now in
+    let id = c.args.id.now.name.now in
+    let t = found_view c.args.found in
+    let way = begun _ n (outside contents out) a in
+    let args = arguments_view c.deref-arguments.result.now in
+    let same = ap (λ o. parts.term x id t (call_view o) a.bundle (k a.bundle) v) c.in-Some.is ∙ ap (λ y. parts.term x id t (call (arguments_view y)) a.bundle (k a.bundle) v) (sym c.deref-arguments.ensures) ∙ term_called x id t args a.bundle (k a.bundle) v in
+    let here = starts (turns same way) in
+    let d = state g.B.Context.meant g.B.Context.is_plain g.F.FluentFunction.answer content c.begin_call.new.scope in
+    let last = c.begin_call.new.out in
+    let work1 = c.begin_call.new.work in
+    let values1 = values_view content work1.values in
+    let given = c.in_ok-begin_call-in-Some.field-0 in
+    let none : given ≡ None = ok_value c.begin_call.result given _ c.in_ok-begin_call-in-Some.was c.begin_call.ensures.given in
+    finishes tt _ refl refl (turns (ap (λ o. before content d.bundle work1.frames.items (k d.bundle) (made content o) (viewed last d values1)) none) (goes c.in_ok-begin_call-in-Some.was here (c.begin_call.ensures.goes k n)))
+
+pub inline_expression::write_unbraced-returns-in-StringLiteral-clause-goes : goal.inline_expression::write_unbraced-returns-in-StringLiteral-clause-goes
+unfolding state_parts
+inline_expression::write_unbraced-returns-in-StringLiteral-clause-goes g t c = λ k n.
+    let content = g.C.FluentType.content in
+    let contents = g.W.Write.contents in
+    let a = state g.B.Context.meant g.B.Context.is_plain g.F.FluentFunction.answer content c.args.scope.now in
+    let out = c.args.out.now in
+    let work = c.args.work.now in
+    let values = values_view content work.values in
+    let v = viewed out a values in
+    let d = state g.B.Context.meant g.B.Context.is_plain g.F.FluentFunction.answer content c.put_leaf.new.scope in
+    none_waits content d.bundle work.frames.items (k d.bundle) (λ u. None) (viewed c.put_leaf.new.out d values) c.requires.nothing (c.put_leaf.ensures.passes k values n)
+
+pub inline_expression::write_unbraced-returns-in-NumberLiteral-clause-goes : goal.inline_expression::write_unbraced-returns-in-NumberLiteral-clause-goes
+unfolding state_parts
+inline_expression::write_unbraced-returns-in-NumberLiteral-clause-goes g t c = λ k n.
+    let content = g.C.FluentType.content in
+    let contents = g.W.Write.contents in
+    let a = state g.B.Context.meant g.B.Context.is_plain g.F.FluentFunction.answer content c.args.scope.now in
+    let out = c.args.out.now in
+    let work = c.args.work.now in
+    let values = values_view content work.values in
+    let v = viewed out a values in
+    let d = state g.B.Context.meant g.B.Context.is_plain g.F.FluentFunction.answer content c.put_leaf-in-NumberLiteral.new.scope in
+    none_waits content d.bundle work.frames.items (k d.bundle) (λ u. None) (viewed c.put_leaf-in-NumberLiteral.new.out d values) c.requires.nothing (c.put_leaf-in-NumberLiteral.ensures.passes k values n)
+
+pub inline_expression::write_unbraced-returns-in-VariableReference-clause-goes : goal.inline_expression::write_unbraced-returns-in-VariableReference-clause-goes
+unfolding state_parts
+inline_expression::write_unbraced-returns-in-VariableReference-clause-goes g t c = λ k n.
+    let content = g.C.FluentType.content in
+    let contents = g.W.Write.contents in
+    let a = state g.B.Context.meant g.B.Context.is_plain g.F.FluentFunction.answer content c.args.scope.now in
+    let out = c.args.out.now in
+    let work = c.args.work.now in
+    let values = values_view content work.values in
+    let v = viewed out a values in
+    let d = state g.B.Context.meant g.B.Context.is_plain g.F.FluentFunction.answer content c.put_leaf-in-VariableReference.new.scope in
+    none_waits content d.bundle work.frames.items (k d.bundle) (λ u. None) (viewed c.put_leaf-in-VariableReference.new.out d values) c.requires.nothing (c.put_leaf-in-VariableReference.ensures.passes k values n)
+
+pub inline_expression::write_unbraced-returns-in-Placeable-clause-goes : goal.inline_expression::write_unbraced-returns-in-Placeable-clause-goes
+unfolding state_parts
+inline_expression::write_unbraced-returns-in-Placeable-clause-goes g t c = λ k n.
+    absurd (true≢false (sym (ap is_braced (view_nested_in c.args.inline.now c.in-Placeable.expression c.in-Placeable.is)) ∙ c.requires.unbraced))
+
+pub inline_expression::write_unbraced-returns-in_err-begin_call-in-FunctionReference-clause-goes : goal.inline_expression::write_unbraced-returns-in_err-begin_call-in-FunctionReference-clause-goes
+unfolding state_parts
+inline_expression::write_unbraced-returns-in_err-begin_call-in-FunctionReference-clause-goes g t c = λ k n.
+    let content = g.C.FluentType.content in
+    let contents = g.W.Write.contents in
+    let a = state g.B.Context.meant g.B.Context.is_plain g.F.FluentFunction.answer content c.args.scope.now in
+    let out = c.args.out.now in
+    let work = c.args.work.now in
+    let values = values_view content work.values in
+    let v = viewed out a values in
+    let x = inline_view c.args.inline.now in
+    let way = begun _ n (outside contents out) a in
+    let f = c.in-FunctionReference.id.name.now in
+    let is = view_function_in c.args.inline.now c.in-FunctionReference.id c.in-FunctionReference.arguments c.in-FunctionReference.is in
+    let args = arguments_view c.in-FunctionReference.arguments.value in
+    let same = ap (λ y. parts.written y a.bundle (k a.bundle) v) is ∙ written_function f args a.bundle (k a.bundle) v ∙ ap (λ y. parts.calls (parts.shows y f) args a.bundle (k a.bundle) v) (sym is) ∙ ap (λ y. parts.calls (parts.shows x f) (arguments_view y) a.bundle (k a.bundle) v) (sym c.deref.ensures) in
+    let here = turns same way in
+    halts c.in_err-begin_call-in-FunctionReference.was (search rules) here (c.begin_call.ensures.goes k n)
+
+pub inline_expression::write_unbraced-returns-in_ok-begin_call-in-FunctionReference-clause-goes : goal.inline_expression::write_unbraced-returns-in_ok-begin_call-in-FunctionReference-clause-goes
+unfolding state_parts
+inline_expression::write_unbraced-returns-in_ok-begin_call-in-FunctionReference-clause-goes g t c = λ k n.
+    let content = g.C.FluentType.content in
+    let contents = g.W.Write.contents in
+    let a = state g.B.Context.meant g.B.Context.is_plain g.F.FluentFunction.answer content c.args.scope.now in
+    let out = c.args.out.now in
+    let work = c.args.work.now in
+    let values = values_view content work.values in
+    let v = viewed out a values in
+    let x = inline_view c.args.inline.now in
+    let way = begun _ n (outside contents out) a in
+    let f = c.in-FunctionReference.id.name.now in
+    let is = view_function_in c.args.inline.now c.in-FunctionReference.id c.in-FunctionReference.arguments c.in-FunctionReference.is in
+    let args = arguments_view c.in-FunctionReference.arguments.value in
+    let same = ap (λ y. parts.written y a.bundle (k a.bundle) v) is ∙ written_function f args a.bundle (k a.bundle) v ∙ ap (λ y. parts.calls (parts.shows y f) args a.bundle (k a.bundle) v) (sym is) ∙ ap (λ y. parts.calls (parts.shows x f) (arguments_view y) a.bundle (k a.bundle) v) (sym c.deref.ensures) in
+    let here = turns same way in
+    let d = state g.B.Context.meant g.B.Context.is_plain g.F.FluentFunction.answer content c.begin_call.new.scope in
+    let last = c.begin_call.new.out in
+    let work1 = c.begin_call.new.work in
+    let values1 = values_view content work1.values in
+    let given = c.in_ok-begin_call-in-FunctionReference.field-0 in
+    let none : given ≡ None = ok_value c.begin_call.result given _ c.in_ok-begin_call-in-FunctionReference.was c.begin_call.ensures.given in
+    finishes tt _ refl refl (turns (ap (λ o. before content d.bundle work1.frames.items (k d.bundle) (made content o) (viewed last d values1)) none) (goes c.in_ok-begin_call-in-FunctionReference.was here (c.begin_call.ensures.goes k n)))
+
+pub inline_expression::write_unbraced-returns-in-MessageReference-clause-goes : goal.inline_expression::write_unbraced-returns-in-MessageReference-clause-goes
+unfolding state_parts
+inline_expression::write_unbraced-returns-in-MessageReference-clause-goes g t c = λ k n.
+    let content = g.C.FluentType.content in
+    let contents = g.W.Write.contents in
+    let a = state g.B.Context.meant g.B.Context.is_plain g.F.FluentFunction.answer content c.args.scope.now in
+    let out = c.args.out.now in
+    let work = c.args.work.now in
+    let values = values_view content work.values in
+    let v = viewed out a values in
+    let x = inline_view c.args.inline.now in
+    let way = begun _ n (outside contents out) a in
+    let m = c.in-MessageReference.id.name.now in
+    let at = attribute_of c.in-MessageReference.attribute in
+    let is = view_message_in c.args.inline.now c.in-MessageReference.id c.in-MessageReference.attribute c.in-MessageReference.is in
+    let found = c.message-found.ensures.content g.F.FluentFunction.answer in
+    let same = ap (λ y. parts.written y a.bundle (k a.bundle) v) is ∙ written_message m at a.bundle (k a.bundle) v ∙ ap (λ t. parts.follow (message m at) m t a.bundle (k a.bundle) v) (sym found) ∙ ap (λ y. parts.follow y m (found_view c.message-found.result) a.bundle (k a.bundle) v) (sym is) in
+    went_on (turns same way) (c.follow.ensures.goes k n)
+
+pub inline_expression::write_unbraced-returns-in-TermReference-clause-goes : goal.inline_expression::write_unbraced-returns-in-TermReference-clause-goes
+unfolding state_parts
+inline_expression::write_unbraced-returns-in-TermReference-clause-goes g t c = λ k n.
+    let content = g.C.FluentType.content in
+    let contents = g.W.Write.contents in
+    let a = state g.B.Context.meant g.B.Context.is_plain g.F.FluentFunction.answer content c.args.scope.now in
+    let out = c.args.out.now in
+    let work = c.args.work.now in
+    let values = values_view content work.values in
+    let v = viewed out a values in
+    let x = inline_view c.args.inline.now in
+    let way = begun _ n (outside contents out) a in
+    let m = c.in-TermReference.id.name.now in
+    let args = call_view c.in-TermReference.arguments in
+    let at = attribute_of c.in-TermReference.attribute in
+    let is = view_term_in c.args.inline.now c.in-TermReference.id c.in-TermReference.attribute c.in-TermReference.arguments c.in-TermReference.is in
+    let found = c.term-found.ensures.content g.F.FluentFunction.answer in
+    let same = ap (λ y. parts.written y a.bundle (k a.bundle) v) is ∙ written_term m at args a.bundle (k a.bundle) v ∙ ap (λ t. parts.term (term m at args) m t args a.bundle (k a.bundle) v) (sym found) ∙ ap (λ y. parts.term y m (found_view c.term-found.result) args a.bundle (k a.bundle) v) (sym is) in
+    went_on (turns same way) (c.write_term.ensures.goes k n)
+
+pub inline_expression::go-returns-else-is_done-clause-placed : goal.inline_expression::go-returns-else-is_done-clause-placed
+unfolding state_parts
+inline_expression::go-returns-else-is_done-clause-placed g t c =
+    let ids = c.write_elements.new.scope.ids.now in
+    placed_last (numbers ids) (table ids) c.write_elements.new.work.frames.items c.wait.new.self.frames.items (put_off.Leave true) c.wait.result c.wait.ensures.frames (at_ok c.in_ok-write_elements.was c.write_elements.ensures.placed) tt
+
+pub inline_expression::enter_term-returns-else-is_done-clause-placed : goal.inline_expression::enter_term-returns-else-is_done-clause-placed
+unfolding state_parts
+inline_expression::enter_term-returns-else-is_done-clause-placed g t c =
+    let ids = c.follow.new.scope.ids.now in
+    placed_last (numbers ids) (table ids) c.follow.new.work.frames.items c.wait.new.self.frames.items (put_off.Outer c.replace-outer.result) c.wait.result c.wait.ensures.frames (at_ok c.in_ok-follow.was c.follow.ensures.placed) tt
+
+pub inline_expression::write_unbraced-begin_call-requires : goal.inline_expression::write_unbraced-begin_call-requires
+unfolding state_parts
+inline_expression::write_unbraced-begin_call-requires g t c κs within =
+    let f = c.in-FunctionReference in
+    let number = numbers c.args.scope.now.ids.now in
+    let x = inline_view c.args.inline.now in
+    let r = a_function f.id.name.now in
+    let less = subst (λ m. 14 * c.args.levels + 9 < m) c.decreases (omega arith) in
+    let is = ap in_inline (view_function_in c.args.inline.now f.id f.arguments f.is) ∙ ap (λ y. r ∷ in_arguments (arguments_view y)) (sym c.deref.ensures) in
+    let rest = in_arguments (arguments_view c.deref.result.now) in
+    (less, (within.0, (within.1.0, (within.1.1.0, (within.1.1.1, (placed_first number (in_inline x) r rest c.args.cursor is c.requires.placed, (placed_after number (in_inline x) r rest c.args.cursor c.after_one-at.result is c.after_one-at.ensures c.requires.placed, c.requires.nothing)))))))
+
+pub inline_expression::write_unbraced-term-found-requires : goal.inline_expression::write_unbraced-term-found-requires
+inline_expression::write_unbraced-term-found-requires g t c =
+    let r = c.in-TermReference in
+    placed_first (numbers c.args.scope.now.ids.now) _ (a_term r.id.name.now) _ c.args.cursor (ap in_inline (view_term_in c.args.inline.now r.id r.attribute r.arguments r.is)) c.requires.placed
+
+-- nothing is ahead
+nowhere : Rest Text
+nowhere = record { events = []; parts = 0; values = None }
+
+pub pattern::write_placeable-returns-in_err-add_error-clause-goes : goal.pattern::write_placeable-returns-in_err-add_error-clause-goes
+unfolding state_parts
+pattern::write_placeable-returns-in_err-add_error-clause-goes g t c = λ k n.
+    let content = g.C.FluentType.content in
+    let contents = g.W.Write.contents in
+    let a = state g.B.Context.meant g.B.Context.is_plain g.F.FluentFunction.answer content c.args.scope.now in
+    let b = state g.B.Context.meant g.B.Context.is_plain g.F.FluentFunction.answer content c.take_one.new.self in
+    let out = c.args.out.now in
+    let values = values_view content c.args.work.now.values in
+    let e = expression_view c.args.expression.now in
+    let v = viewed out a values in
+    let past = happened_limit (outside contents out) c.take_one.ensures.opens c.if-not-take_one.true c.take_one.ensures.takes in
+    let at : At = λ x env path budget. k x None (record { kept = kept_of out; budget = budget; environment = env; path = path; values = values }) in
+    let way = turns (ap (after (told (resolver_error too_many_placeables) ∷ [])) (taken_same at limit_reached past.budget c.take_one.ensures.takes)) (passes past (turns (stops_part c.args.one e a.bundle (k a.bundle) v (sym c.take_one.ensures.opens ∙ c.if-not-take_one.true) c.requires.left) (begun _ n (outside contents out) a))) in
+    lacks (search rules) (tells_none c.in_err-add_error.was c.add_error.ensures.added way)
+
+pub pattern::write_placeable-returns-then-not-take_one-clause-goes : goal.pattern::write_placeable-returns-then-not-take_one-clause-goes
+unfolding state_parts
+pattern::write_placeable-returns-then-not-take_one-clause-goes g t c = λ k n.
+    let content = g.C.FluentType.content in
+    let contents = g.W.Write.contents in
+    let a = state g.B.Context.meant g.B.Context.is_plain g.F.FluentFunction.answer content c.args.scope.now in
+    let b = state g.B.Context.meant g.B.Context.is_plain g.F.FluentFunction.answer content c.take_one.new.self in
+    let out = c.args.out.now in
+    let values = values_view content c.args.work.now.values in
+    let e = expression_view c.args.expression.now in
+    let v = viewed out a values in
+    let past = happened_limit (outside contents out) c.take_one.ensures.opens c.if-not-take_one.true c.take_one.ensures.takes in
+    let at : At = λ x env path budget. k x None (record { kept = kept_of out; budget = budget; environment = env; path = path; values = values }) in
+    let way = turns (ap (after (told (resolver_error too_many_placeables) ∷ [])) (taken_same at limit_reached past.budget c.take_one.ensures.takes)) (passes past (turns (stops_part c.args.one e a.bundle (k a.bundle) v (sym c.take_one.ensures.opens ∙ c.if-not-take_one.true) c.requires.left) (begun _ n (outside contents out) a))) in
+    let b2 = state g.B.Context.meant g.B.Context.is_plain g.F.FluentFunction.answer content c.add_error.new.self in
+    all_done {x = tt} content b2.bundle c.args.work.now.frames.items (k b2.bundle) (λ x. None) (viewed out b2 values) (search rules) c.requires.nothing (tells_first at c.in_ok-add_error.was c.add_error.ensures.added way)
+
+pub pattern::write_placeable-returns-in_err-put_first_mark-clause-goes : goal.pattern::write_placeable-returns-in_err-put_first_mark-clause-goes
+unfolding state_parts
+pattern::write_placeable-returns-in_err-put_first_mark-clause-goes g t c = λ k n.
+    let content = g.C.FluentType.content in
+    let contents = g.W.Write.contents in
+    let a = state g.B.Context.meant g.B.Context.is_plain g.F.FluentFunction.answer content c.args.scope.now in
+    let b = state g.B.Context.meant g.B.Context.is_plain g.F.FluentFunction.answer content c.take_one.new.self in
+    let out = c.args.out.now in
+    let values = values_view content c.args.work.now.values in
+    let e = expression_view c.args.expression.now in
+    let v = viewed out a values in
+    let marked = c.is_marked-marked.result in
+    let past = happened_opened (outside contents out) c.if-not-take_one.false c.take_one.ensures.takes in
+    let at : At = λ x env path budget. begins (inside e marked x (k x) (record { kept = kept_of out; budget = budget; environment = env; path = path; values = values }) budget) in
+    let opened = turns (taken_same at _ c.take_one.ensures.takes.budget c.take_one.ensures.takes) (passes past (turns (opens_part c.args.one e marked a.bundle (k a.bundle) v (c.is_marked-marked.ensures ∙ ap (λ x. is_marked x.isolates c.args.one e) c.take_one.ensures.takes.stays.bundle) (sym c.take_one.ensures.opens ∙ c.if-not-take_one.false)) (begun _ n (outside contents out) a))) in
+    let out1 = c.put_first_mark.new.out in
+    let marks = put contents out out1 b values b.bundle (λ given u. parts.expression e b.bundle (λ given x. parts.closing e marked b.bundle (k b.bundle) x) u) _ c.put_first_mark.ensures (waits (suc (suc n)) (omega arith) opened) in
+    laid_halts c.in_err-put_first_mark.was (search rules) marks
+
+pub pattern::write_placeable-returns-in_err-write_expression-clause-goes : goal.pattern::write_placeable-returns-in_err-write_expression-clause-goes
+unfolding state_parts
+pattern::write_placeable-returns-in_err-write_expression-clause-goes g t c = λ k n.
+    let content = g.C.FluentType.content in
+    let contents = g.W.Write.contents in
+    let a = state g.B.Context.meant g.B.Context.is_plain g.F.FluentFunction.answer content c.args.scope.now in
+    let b = state g.B.Context.meant g.B.Context.is_plain g.F.FluentFunction.answer content c.take_one.new.self in
+    let out = c.args.out.now in
+    let values = values_view content c.args.work.now.values in
+    let e = expression_view c.args.expression.now in
+    let v = viewed out a values in
+    let marked = c.is_marked-marked.result in
+    let past = happened_opened (outside contents out) c.if-not-take_one.false c.take_one.ensures.takes in
+    let at : At = λ x env path budget. begins (inside e marked x (k x) (record { kept = kept_of out; budget = budget; environment = env; path = path; values = values }) budget) in
+    let opened = turns (taken_same at _ c.take_one.ensures.takes.budget c.take_one.ensures.takes) (passes past (turns (opens_part c.args.one e marked a.bundle (k a.bundle) v (c.is_marked-marked.ensures ∙ ap (λ x. is_marked x.isolates c.args.one e) c.take_one.ensures.takes.stays.bundle) (sym c.take_one.ensures.opens ∙ c.if-not-take_one.false)) (begun _ n (outside contents out) a))) in
+    let out1 = c.put_first_mark.new.out in
+    let marks = put contents out out1 b values b.bundle (λ given u. parts.expression e b.bundle (λ given x. parts.closing e marked b.bundle (k b.bundle) x) u) _ c.put_first_mark.ensures (waits (suc (suc n)) (omega arith) opened) in
+    let next : Bundle Text → Following = λ s given u. parts.closing e marked s (k s) u in
+    let way = pays c.args.levels (laid_ok c.in_ok-put_first_mark.was marks) in
+    halts c.in_err-write_expression.was (search rules) way (c.write_expression.ensures.goes next (suc n))
+
+pub pattern::write_placeable-returns-then-is_done-clause-goes : goal.pattern::write_placeable-returns-then-is_done-clause-goes
+unfolding state_parts
+pattern::write_placeable-returns-then-is_done-clause-goes g t c = λ k n.
+    let content = g.C.FluentType.content in
+    let contents = g.W.Write.contents in
+    let a = state g.B.Context.meant g.B.Context.is_plain g.F.FluentFunction.answer content c.args.scope.now in
+    let b = state g.B.Context.meant g.B.Context.is_plain g.F.FluentFunction.answer content c.take_one.new.self in
+    let out = c.args.out.now in
+    let values = values_view content c.args.work.now.values in
+    let e = expression_view c.args.expression.now in
+    let v = viewed out a values in
+    let marked = c.is_marked-marked.result in
+    let past = happened_opened (outside contents out) c.if-not-take_one.false c.take_one.ensures.takes in
+    let at : At = λ x env path budget. begins (inside e marked x (k x) (record { kept = kept_of out; budget = budget; environment = env; path = path; values = values }) budget) in
+    let opened = turns (taken_same at _ c.take_one.ensures.takes.budget c.take_one.ensures.takes) (passes past (turns (opens_part c.args.one e marked a.bundle (k a.bundle) v (c.is_marked-marked.ensures ∙ ap (λ x. is_marked x.isolates c.args.one e) c.take_one.ensures.takes.stays.bundle) (sym c.take_one.ensures.opens ∙ c.if-not-take_one.false)) (begun _ n (outside contents out) a))) in
+    let out1 = c.put_first_mark.new.out in
+    let marks = put contents out out1 b values b.bundle (λ given u. parts.expression e b.bundle (λ given x. parts.closing e marked b.bundle (k b.bundle) x) u) _ c.put_first_mark.ensures (waits (suc (suc n)) (omega arith) opened) in
+    let next : Bundle Text → Following = λ s given u. parts.closing e marked s (k s) u in
+    let way = pays c.args.levels (laid_ok c.in_ok-put_first_mark.was marks) in
+    let d = state g.B.Context.meant g.B.Context.is_plain g.F.FluentFunction.answer content c.write_expression.new.scope in
+    let work = c.write_expression.new.work in
+    let last = viewed c.write_expression.new.out d (values_view content work.values) in
+    let there = goes c.in_ok-write_expression.was way (c.write_expression.ensures.goes next (suc n)) in
+    let none = c.is_done.ensures.0 c.if-is_done.true in
+    let here = is_done content d.bundle work.frames.items (next d.bundle) None last none there in
+    let f = state g.B.Context.meant g.B.Context.is_plain g.F.FluentFunction.answer content c.close.new.scope in
+    none_waits content f.bundle work.frames.items (k f.bundle) (λ x. None) (viewed c.close.new.out f (values_view content work.values)) none (went_on (with_fewer n (omega arith) here) (c.close.ensures.goes k (values_view content work.values) n))
+
+pub pattern::write_placeable-returns-else-is_done-clause-goes : goal.pattern::write_placeable-returns-else-is_done-clause-goes
+unfolding state_parts
+pattern::write_placeable-returns-else-is_done-clause-goes g t c = λ k n.
+    let content = g.C.FluentType.content in
+    let contents = g.W.Write.contents in
+    let a = state g.B.Context.meant g.B.Context.is_plain g.F.FluentFunction.answer content c.args.scope.now in
+    let b = state g.B.Context.meant g.B.Context.is_plain g.F.FluentFunction.answer content c.take_one.new.self in
+    let out = c.args.out.now in
+    let values = values_view content c.args.work.now.values in
+    let e = expression_view c.args.expression.now in
+    let v = viewed out a values in
+    let marked = c.is_marked-marked.result in
+    let past = happened_opened (outside contents out) c.if-not-take_one.false c.take_one.ensures.takes in
+    let at : At = λ x env path budget. begins (inside e marked x (k x) (record { kept = kept_of out; budget = budget; environment = env; path = path; values = values }) budget) in
+    let opened = turns (taken_same at _ c.take_one.ensures.takes.budget c.take_one.ensures.takes) (passes past (turns (opens_part c.args.one e marked a.bundle (k a.bundle) v (c.is_marked-marked.ensures ∙ ap (λ x. is_marked x.isolates c.args.one e) c.take_one.ensures.takes.stays.bundle) (sym c.take_one.ensures.opens ∙ c.if-not-take_one.false)) (begun _ n (outside contents out) a))) in
+    let out1 = c.put_first_mark.new.out in
+    let marks = put contents out out1 b values b.bundle (λ given u. parts.expression e b.bundle (λ given x. parts.closing e marked b.bundle (k b.bundle) x) u) _ c.put_first_mark.ensures (waits (suc (suc n)) (omega arith) opened) in
+    let next : Bundle Text → Following = λ s given u. parts.closing e marked s (k s) u in
+    let way = pays c.args.levels (laid_ok c.in_ok-put_first_mark.was marks) in
+    let d = state g.B.Context.meant g.B.Context.is_plain g.F.FluentFunction.answer content c.write_expression.new.scope in
+    let work = c.write_expression.new.work in
+    let last = viewed c.write_expression.new.out d (values_view content work.values) in
+    let there = goes c.in_ok-write_expression.was way (c.write_expression.ensures.goes next (suc n)) in
+    put_last n content d.bundle work.frames.items c.wait.new.self.frames.items _ (k d.bundle) None last _ _ (ap (λ vs. viewed c.write_expression.new.out d (values_view content vs)) (sym c.wait.ensures.values)) c.wait.ensures.err c.wait.ensures.frames there
+
+pub pattern::write_placeable-returns-then-is_done-clause-placed : goal.pattern::write_placeable-returns-then-is_done-clause-placed
+unfolding state_parts
+pattern::write_placeable-returns-then-is_done-clause-placed g t c =
+    let content = g.C.FluentType.content in
+    let f = state g.B.Context.meant g.B.Context.is_plain g.F.FluentFunction.answer content c.close.new.scope in
+    if_on _ (placed_none f.stored.numbers f.stored.table c.write_expression.new.work.frames.items (c.is_done.ensures.0 c.if-is_done.true))
+
+pub pattern::write_placeable-returns-else-is_done-clause-placed : goal.pattern::write_placeable-returns-else-is_done-clause-placed
+unfolding state_parts
+pattern::write_placeable-returns-else-is_done-clause-placed g t c =
+    let content = g.C.FluentType.content in
+    let d = state g.B.Context.meant g.B.Context.is_plain g.F.FluentFunction.answer content c.write_expression.new.scope in
+    placed_last d.stored.numbers d.stored.table c.write_expression.new.work.frames.items c.wait.new.self.frames.items _ _ c.wait.ensures.frames c.in_ok-write_expression.ensures.placed tt
+
+pub pattern::write_placeable-returns-then-not-take_one-clause-placed : goal.pattern::write_placeable-returns-then-not-take_one-clause-placed
+unfolding state_parts
+pattern::write_placeable-returns-then-not-take_one-clause-placed g t c =
+    let content = g.C.FluentType.content in
+    let d = state g.B.Context.meant g.B.Context.is_plain g.F.FluentFunction.answer content c.add_error.new.self in
+    placed_none d.stored.numbers d.stored.table c.args.work.now.frames.items c.requires.nothing
 
 pub pattern::write_placeable-write_expression-requires : goal.pattern::write_placeable-write_expression-requires
 unfolding state_parts
 pattern::write_placeable-write_expression-requires g t c =
-    let a = state g.B.Context.meant g.B.Context.is_plain g.F.FluentFunction.answer g.C.FluentType.content c.args.scope.now in
-    let less = falls_to c.decreases (taken_weight (expression_size (expression_view c.args.expression.now)) (1 + expression_size (expression_view c.args.expression.now)) c.if-not-take_one.false c.take_one.ensures.takes (omega arith)) in
-    let b = state g.B.Context.meant g.B.Context.is_plain g.F.FluentFunction.answer g.C.FluentType.content c.take_one.new.self in
-    let placed = placed_still a b (in_expression (expression_view c.args.expression.now)) c.args.cursor c.take_one.ensures.takes.keeps.stored c.requires.placed in
-    λ κs h. (less, (h.0, (h.1.0, (h.1.1.0, (h.1.1.1, placed)))))
+    let content = g.C.FluentType.content in
+    let a = state g.B.Context.meant g.B.Context.is_plain g.F.FluentFunction.answer content c.args.scope.now in
+    let b = state g.B.Context.meant g.B.Context.is_plain g.F.FluentFunction.answer content c.take_one.new.self in
+    let placed = placed_still a b (in_expression (expression_view c.args.expression.now)) c.args.cursor c.take_one.ensures.takes.stays.stored c.requires.placed in
+    λ κs h. (falls_to c.decreases (omega arith), (h.0, (h.1.0, (h.1.1.0, (h.1.1.1, (placed, c.requires.nothing))))))
 
-pub inline_expression::write_function-returns-in_err-positional : goal.inline_expression::write_function-returns-in_err-positional
+pub pattern::write_elements-loop-element-init : goal.pattern::write_elements-loop-element-init
 unfolding state_parts
-inline_expression::write_function-returns-in_err-positional g t c =
-    let a = state g.B.Context.meant g.B.Context.is_plain g.F.FluentFunction.answer g.C.FluentType.content c.args.scope.now in
-    let out = c.args.out.now in
-    let x = inline_view c.args.inline.now in
-    let m = c.args.id.now.name.now in
-    let k = arguments_view c.args.arguments.now in
-    let gave = gave_outward g.W.Write.contents out.writer.ghost_name out.buffer.ghost_name out.writer.now c.resolve_call.new.w out.buffer.now out.is_buffered c.resolve_call.ensures in
-    let begun = turns (function_at a x m k a.budget c.requires.view) (starts a _ _) in
-    ask_stops (λ p. walked a (answering x m p.0 p.1)) c.in_err-positional.was (search rules) gave begun
+pattern::write_elements-loop-element-init g t c =
+    let content = g.C.FluentType.content in
+    let contents = g.W.Write.contents in
+    let a = state g.B.Context.meant g.B.Context.is_plain g.F.FluentFunction.answer content c.args.scope.now in
+    record { along = λ k n. begun _ n (outside contents c.args.out.now) a; placed = c.requires.placed; nothing = c.requires.nothing; texts = λ t. t; through = λ t h. h }
 
-pub inline_expression::write_function-returns : goal.inline_expression::write_function-returns
+pub pattern::write_elements-returns-then-dirty-clause-goes : goal.pattern::write_elements-returns-then-dirty-clause-goes
 unfolding state_parts
-inline_expression::write_function-returns g t c =
-    let a = state g.B.Context.meant g.B.Context.is_plain g.F.FluentFunction.answer g.C.FluentType.content c.args.scope.now in
-    let out = c.args.out.now in
-    let x = inline_view c.args.inline.now in
-    let m = c.args.id.now.name.now in
-    let k = arguments_view c.args.arguments.now in
-    let gave = gave_outward g.W.Write.contents out.writer.ghost_name out.buffer.ghost_name out.writer.now c.resolve_call.new.w out.buffer.now out.is_buffered c.resolve_call.ensures in
-    let begun = turns (function_at a x m k a.budget c.requires.view) (starts a _ _) in
-    let asked = asks (λ p. walked a (answering x m p.0 p.1)) c.in_ok-positional.was gave begun in
-    let b = state g.B.Context.meant g.B.Context.is_plain g.F.FluentFunction.answer g.C.FluentType.content c.resolve_call.new.scope in
-    let given_named = named g.C.FluentType.content c.in_ok-positional.named in
-    wrote (tail c.put_answer.ensures (turns (ap (λ ps. walked a (answering x m (map (value_view g.C.FluentType.content) ps) given_named) b.budget) (sym c.deref.ensures.value)) asked))
+pattern::write_elements-returns-then-dirty-clause-goes g t c = λ k n.
+    let content = g.C.FluentType.content in
+    let contents = g.W.Write.contents in
+    let a = state g.B.Context.meant g.B.Context.is_plain g.F.FluentFunction.answer content c.loop-element.scope in
+    let out = c.loop-element.out in
+    let work = c.loop-element.work in
+    let p = c.args.pattern.now in
+    let one = has_one (pattern_view p) in
+    let at = c.loop-element.next in
+    let values = values_view content work.values in
+    let v = viewed out a values in
+    all_done {x = tt} content a.bundle work.frames.items (k a.bundle) (λ x. None) v (search rules) c.loop-element.invariant.nothing (turns (none_at_limit one a.bundle (k a.bundle) v (elements_from at p) (c.if-dirty.ensures.0 refl)) (c.loop-element.invariant.along k n))
 
-pub inline_expression::write_term-returns-in_err-local : goal.inline_expression::write_term-returns-in_err-local
+pub pattern::write_elements-loop-element-preserved-in-Continue-1 : goal.pattern::write_elements-loop-element-preserved-in-Continue-1
 unfolding state_parts
-inline_expression::write_term-returns-in_err-local g t c =
-    let a = state g.B.Context.meant g.B.Context.is_plain g.F.FluentFunction.answer g.C.FluentType.content c.args.scope.now in
-    let out = c.args.out.now in
-    let x = inline_view c.args.inline.now in
-    let id = c.args.id.now.name.now in
-    let at = attribute_of c.args.attribute.now in
-    let k = call_view c.args.arguments.now in
-    let gave = gave_outward g.W.Write.contents out.writer.ghost_name out.buffer.ghost_name out.writer.now c.resolve_local.new.w out.buffer.now out.is_buffered c.resolve_local.ensures in
-    ask_stops (inside a x id at) c.in_err-local.was (search rules) gave (turns (term_at a x id at k a.budget c.requires.view) (starts a _ _))
-
-pub inline_expression::write_term-returns : goal.inline_expression::write_term-returns
-unfolding state_parts
-inline_expression::write_term-returns g t c =
-    let a = state g.B.Context.meant g.B.Context.is_plain g.F.FluentFunction.answer g.C.FluentType.content c.args.scope.now in
-    let out = c.args.out.now in
-    let x = inline_view c.args.inline.now in
-    let id = c.args.id.now.name.now in
-    let at = attribute_of c.args.attribute.now in
-    let k = call_view c.args.arguments.now in
-    let gave = gave_outward g.W.Write.contents out.writer.ghost_name out.buffer.ghost_name out.writer.now c.resolve_local.new.w out.buffer.now out.is_buffered c.resolve_local.ensures in
-    let asked = asks (inside a x id at) c.in_ok-local.was gave (turns (term_at a x id at k a.budget c.requires.view) (starts a _ _)) in
-    let kept = c.resolve_local.ensures.got.toward.passed.keeps in
-    let w = c.follow-written.ensures in
-    let b = state g.B.Context.meant g.B.Context.is_plain g.F.FluentFunction.answer g.C.FluentType.content (record c.resolve_local.new.scope { environment = c.replace-outer.new.dest }) in
-    let m = locals_view g.C.FluentType.content c.in_ok-local.local in
-    let led = c.term-found.ensures.content g.F.FluentFunction.answer ∙ ap (λ s. term_target (get id s.ids) at) kept.bundle in
-    let inner = ap (environment_view g.C.FluentType.content) c.replace-outer.ensures.after in
-    let outer = ap (environment_view g.C.FluentType.content) c.replace-outer.ensures.value in
-    wrote (lends refl refl refl refl refl refl (keeps_back kept w.went.along.passed.keeps refl refl outer) w (turns (inside_at a b x id at m (found_view c.term-found.result) kept.bundle kept.path inner led) asked))
-
-pub arguments::write_beside-returns : goal.arguments::write_beside-returns
-unfolding state_parts
-arguments::write_beside-returns g t c =
-    let out = c.write_inline.new.out in
-    by_buffer g.W.Write.contents _ out.writer.ghost_name _ out.buffer.ghost_name c.args.w.now out.writer.now c.w-1.given.0 c.args.text.now out.buffer.now c.text-1.given.0 out.is_buffered (search rules) (search rules) c.write_inline.ensures
-
-pub arguments::resolve_function-returns : goal.arguments::resolve_function-returns
-unfolding state_parts
-arguments::resolve_function-returns g t c =
-    let a = state g.B.Context.meant g.B.Context.is_plain g.F.FluentFunction.answer g.C.FluentType.content c.args.scope.now in
-    let m = c.args.id.now.name.now in
-    let k = valued a m in
-    let means = ap (λ x. from_here a (resolving x)) c.requires.view ∙ resolved_function a.bundle (work a.bundle) a.environment a.path m (arguments_view c.args.arguments.now) a.budget in
-    let gathered = gets k c.in_ok-positional.was c.resolve_call.ensures.got (reads means (begins a _)) in
-    let b = state g.B.Context.meant g.B.Context.is_plain g.F.FluentFunction.answer g.C.FluentType.content c.resolve_call.new.scope in
-    let view = value_view g.C.FluentType.content in
-    let vs = map view c.in_ok-positional.positional.items in
-    let ns = named g.C.FluentType.content c.in_ok-positional.named in
-    let answer = c.in_ok-answer.answer in
-    let told =
-    at_value (λ o. option_map view o ≡ option_map (λ f. f (map view c.deref.result.now) ns) (function_found (get m b.bundle.ids))) c.in_ok-answer.was c.answer_of.ensures
-    ∙ ap (λ ps. option_map (λ f. f (map view ps) ns) (function_found (get m b.bundle.ids))) c.deref.ensures.value
-    ∙ ap (λ s. option_map (λ f. f vs ns) (function_found (get m s.ids))) c.resolve_call.ensures.got.toward.passed.keeps.bundle in
-    let same = ap view c.unwrap_or.ensures ∙ answered_value g.C.FluentType.content a m vs ns answer told in
-    record { got = got c.unwrap_or.result (reads (ap (λ y. given y b.budget) (sym same)) gathered); rests = rests_ok c.in_ok-positional.was c.resolve_call.ensures.rests }
-
-pub arguments::resolve-returns-in_err-write_beside-in_default : goal.arguments::resolve-returns-in_err-write_beside-in_default
-unfolding state_parts
-arguments::resolve-returns-in_err-write_beside-in_default g t c =
-    let a = state g.B.Context.meant g.B.Context.is_plain g.F.FluentFunction.answer g.C.FluentType.content c.args.scope.now in
-    let is = view_written c.args.inline.now c.in_default.not-StringLiteral c.in_default.not-NumberLiteral c.in_default.not-FunctionReference c.in_default.not-VariableReference in
-    let means = resolved_text a.bundle (work a.bundle) a.environment a.path (inline_view c.args.inline.now) a.budget is in
-    let w = c.args.w.now in
-    let wrote_beside = as_got g.W.Write.contents w c.write_beside.new.w c.new-text.result c.write_beside.new.text (search rules) c.write_beside.ensures in
+pattern::write_elements-loop-element-preserved-in-Continue-1 g t c =
+    let content = g.C.FluentType.content in
+    let contents = g.W.Write.contents in
+    let a = state g.B.Context.meant g.B.Context.is_plain g.F.FluentFunction.answer content c.loop-element.scope in
+    let out = c.loop-element.out in
+    let work = c.loop-element.work in
+    let p = c.args.pattern.now in
+    let one = has_one (pattern_view p) in
+    let at = c.loop-element.next in
+    let values = values_view content work.values in
+    let v = viewed out a values in
+    let first = from_next p c.deref.result.now at c.in-Some.element.now (text c.in-TextElement.value.now) c.deref.ensures.value (ltb-true _ _ (sym c.in-Some.ensures.lookup.0)) c.in-Some.ensures.lookup.1 (view_text_in c.in-Some.element.now c.in-TextElement.value c.in-TextElement.is) in
     record {
-      got = got_part_as text_value c.in_err-write_beside-in_default.was (search rules) means wrote_beside;
-      rests = rests_err c.in_err-write_beside-in_default.was (search rules) (beside_rests g.W.Write.contents w c.write_beside.new.w c.new-text.result c.write_beside.new.text c.write_beside.ensures);
+      along = λ k n. let way = turns (ap (λ q. parts.elements one q a.bundle (k a.bundle) v) first ∙ text_first one a.bundle (k a.bundle) v c.in-TextElement.value.now (elements_from (at + 1) p) (λ x. true≢false (sym (c.if-dirty.ensures.1 x)))) (c.loop-element.invariant.along k n) in let laid = put contents out c.put_changed.new.out a values a.bundle (λ given u. parts.elements one (elements_from (at + 1) p) a.bundle (k a.bundle) u) _ c.put_changed.ensures.took (starts way) in laid_ok c.in_ok-put_changed-in-TextElement.was laid;
+      placed = placed_back a.stored.numbers (references (elements_from at p)) (in_element (text c.in-TextElement.value.now)) (references (elements_from (at + 1) p)) c.loop-element.cursor c.after_element-cursor.result (ap references first) (c.after_element-cursor.ensures ∙ ap (λ x. past (in_element x) (seen c.loop-element.cursor)) (view_text_in c.in-Some.element.now c.in-TextElement.value c.in-TextElement.is)) c.loop-element.invariant.placed;
+      nothing = c.loop-element.invariant.nothing;
+      texts = λ t. subst IsTextAlone first (c.loop-element.invariant.texts t);
+      through = λ t h. stays_through contents out c.put_changed.new.out c.put_changed.ensures.took.beside (c.loop-element.invariant.through t h);
     }
 
-pub arguments::resolve-returns-in_ok-write_beside-in_default : goal.arguments::resolve-returns-in_ok-write_beside-in_default
+pub pattern::write_elements-returns-in_err-put_changed-in-TextElement-clause-goes : goal.pattern::write_elements-returns-in_err-put_changed-in-TextElement-clause-goes
 unfolding state_parts
-arguments::resolve-returns-in_ok-write_beside-in_default g t c =
-    let a = state g.B.Context.meant g.B.Context.is_plain g.F.FluentFunction.answer g.C.FluentType.content c.args.scope.now in
-    let is = view_written c.args.inline.now c.in_default.not-StringLiteral c.in_default.not-NumberLiteral c.in_default.not-FunctionReference c.in_default.not-VariableReference in
-    let means = resolved_text a.bundle (work a.bundle) a.environment a.path (inline_view c.args.inline.now) a.budget is in
-    let w = c.args.w.now in
-    let wrote_beside = as_got g.W.Write.contents w c.write_beside.new.w c.new-text.result c.write_beside.new.text (search rules) c.write_beside.ensures in
-    record {
-      got = got_as text_value c.in_ok-write_beside-in_default.was refl means wrote_beside;
-      rests = rests_ok c.in_ok-write_beside-in_default.was (beside_rests g.W.Write.contents w c.write_beside.new.w c.new-text.result c.write_beside.new.text c.write_beside.ensures);
+pattern::write_elements-returns-in_err-put_changed-in-TextElement-clause-goes g t c = λ k n.
+    let content = g.C.FluentType.content in
+    let contents = g.W.Write.contents in
+    let a = state g.B.Context.meant g.B.Context.is_plain g.F.FluentFunction.answer content c.loop-element.scope in
+    let out = c.loop-element.out in
+    let work = c.loop-element.work in
+    let p = c.args.pattern.now in
+    let one = has_one (pattern_view p) in
+    let at = c.loop-element.next in
+    let values = values_view content work.values in
+    let v = viewed out a values in
+    let first = from_next p c.deref.result.now at c.in-Some.element.now (text c.in-TextElement.value.now) c.deref.ensures.value (ltb-true _ _ (sym c.in-Some.ensures.lookup.0)) c.in-Some.ensures.lookup.1 (view_text_in c.in-Some.element.now c.in-TextElement.value c.in-TextElement.is) in
+    let way = turns (ap (λ q. parts.elements one q a.bundle (k a.bundle) v) first ∙ text_first one a.bundle (k a.bundle) v c.in-TextElement.value.now (elements_from (at + 1) p) (λ x. true≢false (sym (c.if-dirty.ensures.1 x)))) (c.loop-element.invariant.along k n) in
+    let laid = put contents out c.put_changed.new.out a values a.bundle (λ given u. parts.elements one (elements_from (at + 1) p) a.bundle (k a.bundle) u) _ c.put_changed.ensures.took (starts way) in
+    laid_halts c.in_err-put_changed-in-TextElement.was (search rules) laid
+
+pub pattern::write_elements-returns-in_err-put_changed-in-TextElement-clause-memory : goal.pattern::write_elements-returns-in_err-put_changed-in-TextElement-clause-memory
+unfolding state_parts
+pattern::write_elements-returns-in_err-put_changed-in-TextElement-clause-memory g t c =
+    λ t plain h is. c.put_changed.ensures.memory (subst IsTrue (sym (c.loop-element.invariant.along (λ b given u. nowhere) 0).happened.stays.is_plain) plain) (c.loop-element.invariant.through t h) (err_was c.in_err-put_changed-in-TextElement.was (search rules) is)
+
+pub pattern::write_elements-returns-clause-goes : goal.pattern::write_elements-returns-clause-goes
+unfolding state_parts
+pattern::write_elements-returns-clause-goes g t c = λ k n.
+    let content = g.C.FluentType.content in
+    let contents = g.W.Write.contents in
+    let a = state g.B.Context.meant g.B.Context.is_plain g.F.FluentFunction.answer content c.loop-element.scope in
+    let out = c.loop-element.out in
+    let work = c.loop-element.work in
+    let p = c.args.pattern.now in
+    let one = has_one (pattern_view p) in
+    let at = c.loop-element.next in
+    let values = values_view content work.values in
+    let v = viewed out a values in
+    let end = from_end p c.deref.result.now at c.deref.ensures.value (ltb-false _ _ (sym c.in_default.ensures.lookup.0)) in
+    all_done {x = tt} content a.bundle work.frames.items (k a.bundle) (λ x. None) v (search rules) c.loop-element.invariant.nothing (turns (none_at_end one a.bundle (k a.bundle) v (elements_from at p) end) (c.loop-element.invariant.along k n))
+
+pub pattern::write_elements-returns-then-dirty-clause-texts : goal.pattern::write_elements-returns-then-dirty-clause-texts
+pattern::write_elements-returns-then-dirty-clause-texts g t c =
+    λ t. c.loop-element.invariant.nothing
+
+pub pattern::write_elements-returns-clause-texts : goal.pattern::write_elements-returns-clause-texts
+pattern::write_elements-returns-clause-texts g t c =
+    λ t. c.loop-element.invariant.nothing
+
+pub pattern::write_elements-returns-then-dirty-clause-placed : goal.pattern::write_elements-returns-then-dirty-clause-placed
+unfolding state_parts
+pattern::write_elements-returns-then-dirty-clause-placed g t c =
+    let content = g.C.FluentType.content in
+    let a = state g.B.Context.meant g.B.Context.is_plain g.F.FluentFunction.answer content c.loop-element.scope in
+    placed_none a.stored.numbers a.stored.table c.loop-element.work.frames.items c.loop-element.invariant.nothing
+
+pub pattern::write_elements-returns-clause-placed : goal.pattern::write_elements-returns-clause-placed
+unfolding state_parts
+pattern::write_elements-returns-clause-placed g t c =
+    let content = g.C.FluentType.content in
+    let a = state g.B.Context.meant g.B.Context.is_plain g.F.FluentFunction.answer content c.loop-element.scope in
+    placed_none a.stored.numbers a.stored.table c.loop-element.work.frames.items c.loop-element.invariant.nothing
+
+pub pattern::write_elements-returns-in_err-write_placeable-in-Placeable-clause-goes : goal.pattern::write_elements-returns-in_err-write_placeable-in-Placeable-clause-goes
+unfolding state_parts
+pattern::write_elements-returns-in_err-write_placeable-in-Placeable-clause-goes g t c = λ k n.
+    let content = g.C.FluentType.content in
+    let contents = g.W.Write.contents in
+    let a = state g.B.Context.meant g.B.Context.is_plain g.F.FluentFunction.answer content c.loop-element.scope in
+    let out = c.loop-element.out in
+    let work = c.loop-element.work in
+    let p = c.args.pattern.now in
+    let one = has_one (pattern_view p) in
+    let at = c.loop-element.next in
+    let values = values_view content work.values in
+    let v = viewed out a values in
+    let e = expression_view c.in-Placeable.expression in
+    let first = from_next p c.deref.result.now at c.in-Some.element.now (placeable e) c.deref.ensures.value (ltb-true _ _ (sym c.in-Some.ensures.lookup.0)) c.in-Some.ensures.lookup.1 (view_placeable_in c.in-Some.element.now c.in-Placeable.expression c.in-Placeable.is) in
+    let d = state g.B.Context.meant g.B.Context.is_plain g.F.FluentFunction.answer content c.write_placeable.new.scope in
+    let work1 = c.write_placeable.new.work in
+    let next : Bundle Text → Following = λ s given u. parts.elements one (elements_from (at + 1) p) s (k s) u in
+    let way = turns (ap (λ q. parts.elements one q a.bundle (k a.bundle) v) first ∙ placeable_first one a.bundle (k a.bundle) v e (elements_from (at + 1) p) (λ x. true≢false (sym (c.if-dirty.ensures.1 x))) ∙ ap (λ y. begins (parts.part y e a.bundle (next a.bundle) v)) (sym c.has_one.ensures)) (c.loop-element.invariant.along k n) in
+    let paid = waits (suc n) (omega arith) way in
+    halts c.in_err-write_placeable-in-Placeable.was (search rules) paid (c.write_placeable.ensures.goes next (suc n))
+
+pub pattern::write_elements-loop-element-preserved : goal.pattern::write_elements-loop-element-preserved
+unfolding state_parts
+pattern::write_elements-loop-element-preserved g t c =
+    let content = g.C.FluentType.content in
+    let contents = g.W.Write.contents in
+    let a = state g.B.Context.meant g.B.Context.is_plain g.F.FluentFunction.answer content c.loop-element.scope in
+    let out = c.loop-element.out in
+    let work = c.loop-element.work in
+    let p = c.args.pattern.now in
+    let one = has_one (pattern_view p) in
+    let at = c.loop-element.next in
+    let values = values_view content work.values in
+    let v = viewed out a values in
+    let e = expression_view c.in-Placeable.expression in
+    let first = from_next p c.deref.result.now at c.in-Some.element.now (placeable e) c.deref.ensures.value (ltb-true _ _ (sym c.in-Some.ensures.lookup.0)) c.in-Some.ensures.lookup.1 (view_placeable_in c.in-Some.element.now c.in-Placeable.expression c.in-Placeable.is) in
+    let d = state g.B.Context.meant g.B.Context.is_plain g.F.FluentFunction.answer content c.write_placeable.new.scope in
+    let work1 = c.write_placeable.new.work in
+    let stored = (at_ok c.in_ok-write_placeable-in-Placeable.was (c.write_placeable.ensures.goes (λ s given u. nowhere) 0).ok).happened.stays.stored in
+    let rest = references (elements_from (at + 1) p) in
+    let cursor = placed_still a d rest c.after_element-cursor.result stored (placed_back a.stored.numbers (references (elements_from at p)) (in_expression e) rest c.loop-element.cursor c.after_element-cursor.result (ap references first) (c.after_element-cursor.ensures ∙ ap (λ x. past (in_element x) (seen c.loop-element.cursor)) (view_placeable_in c.in-Some.element.now c.in-Placeable.expression c.in-Placeable.is)) c.loop-element.invariant.placed) in
+    let none = c.is_done.ensures.0 c.if-not-is_done.false in record {
+      along = λ k n. let next : Bundle Text → Following = λ s given u. parts.elements one (elements_from (at + 1) p) s (k s) u in let way = turns (ap (λ q. parts.elements one q a.bundle (k a.bundle) v) first ∙ placeable_first one a.bundle (k a.bundle) v e (elements_from (at + 1) p) (λ x. true≢false (sym (c.if-dirty.ensures.1 x))) ∙ ap (λ y. begins (parts.part y e a.bundle (next a.bundle) v)) (sym c.has_one.ensures)) (c.loop-element.invariant.along k n) in let paid = waits (suc n) (omega arith) way in let there = goes c.in_ok-write_placeable-in-Placeable.was paid (c.write_placeable.ensures.goes next (suc n)) in let last = viewed c.write_placeable.new.out d (values_view content work1.values) in with_fewer n (omega arith) (is_done content d.bundle work1.frames.items (next d.bundle) None last none there);
+      placed = cursor;
+      nothing = none;
+      texts = λ t. absurd (never_text e (elements_from (at + 1) p) (subst IsTextAlone first (c.loop-element.invariant.texts t)));
+      through = λ t. absurd (never_text e (elements_from (at + 1) p) (subst IsTextAlone first (c.loop-element.invariant.texts t)));
     }
 
-pub arguments::resolve_call-returns-in_err-positional : goal.arguments::resolve_call-returns-in_err-positional
+pub pattern::write_elements-returns-then-not-is_done-clause-goes : goal.pattern::write_elements-returns-then-not-is_done-clause-goes
 unfolding state_parts
-arguments::resolve_call-returns-in_err-positional g t c =
-    let a = state g.B.Context.meant g.B.Context.is_plain g.F.FluentFunction.answer g.C.FluentType.content c.args.scope.now in
-    let ns = named_in c.args.arguments.now in
-    let means = calling_at a c.args.arguments.now c.deref.result.now ns a.budget c.deref.ensures.value refl in
-    record { got = misses_as c.in_err-positional.was (search rules) (gets_part (naming_after a ns) c.resolve_positional.ensures.got (reads means (begins a _))); rests = rests_err c.in_err-positional.was (search rules) c.resolve_positional.ensures.rests }
+pattern::write_elements-returns-then-not-is_done-clause-goes g t c = λ k n.
+    let content = g.C.FluentType.content in
+    let contents = g.W.Write.contents in
+    let a = state g.B.Context.meant g.B.Context.is_plain g.F.FluentFunction.answer content c.loop-element.scope in
+    let out = c.loop-element.out in
+    let work = c.loop-element.work in
+    let p = c.args.pattern.now in
+    let one = has_one (pattern_view p) in
+    let at = c.loop-element.next in
+    let values = values_view content work.values in
+    let v = viewed out a values in
+    let e = expression_view c.in-Placeable.expression in
+    let first = from_next p c.deref.result.now at c.in-Some.element.now (placeable e) c.deref.ensures.value (ltb-true _ _ (sym c.in-Some.ensures.lookup.0)) c.in-Some.ensures.lookup.1 (view_placeable_in c.in-Some.element.now c.in-Placeable.expression c.in-Placeable.is) in
+    let d = state g.B.Context.meant g.B.Context.is_plain g.F.FluentFunction.answer content c.write_placeable.new.scope in
+    let work1 = c.write_placeable.new.work in
+    let next : Bundle Text → Following = λ s given u. parts.elements one (elements_from (at + 1) p) s (k s) u in
+    let way = turns (ap (λ q. parts.elements one q a.bundle (k a.bundle) v) first ∙ placeable_first one a.bundle (k a.bundle) v e (elements_from (at + 1) p) (λ x. true≢false (sym (c.if-dirty.ensures.1 x))) ∙ ap (λ y. begins (parts.part y e a.bundle (next a.bundle) v)) (sym c.has_one.ensures)) (c.loop-element.invariant.along k n) in
+    let paid = waits (suc n) (omega arith) way in
+    let there = goes c.in_ok-write_placeable-in-Placeable.was paid (c.write_placeable.ensures.goes next (suc n)) in
+    let last = viewed c.write_placeable.new.out d (values_view content work1.values) in
+    put_last n content d.bundle work1.frames.items c.wait.new.self.frames.items _ (k d.bundle) None last _ _ (ap (λ vs. viewed c.write_placeable.new.out d (values_view content vs)) (sym c.wait.ensures.values)) c.wait.ensures.err c.wait.ensures.frames there
 
-pub arguments::resolve_call-returns-in_err-named : goal.arguments::resolve_call-returns-in_err-named
+pub pattern::write_elements-returns-then-not-is_done-clause-placed : goal.pattern::write_elements-returns-then-not-is_done-clause-placed
 unfolding state_parts
-arguments::resolve_call-returns-in_err-named g t c =
-    let a = state g.B.Context.meant g.B.Context.is_plain g.F.FluentFunction.answer g.C.FluentType.content c.args.scope.now in
-    let ns = c.deref-3.result.now in
-    let means = calling_at a c.args.arguments.now c.deref.result.now ns a.budget c.deref.ensures.value c.deref-3.ensures.value in
-    let first = gets (naming_after a ns) c.in_ok-positional.was c.resolve_positional.ensures.got (reads means (begins a _)) in
-    let vs = map (value_view g.C.FluentType.content) c.in_ok-positional.positional.items in
-    record { got = misses_as c.in_err-named.was (search rules) (gets_part (pairing vs) c.resolve_named.ensures.got first); rests = rests_on (rests_ok {T = Unit {0}} {x = tt} c.in_ok-positional.was c.resolve_positional.ensures.rests) (rests_err c.in_err-named.was (search rules) c.resolve_named.ensures.rests) }
+pattern::write_elements-returns-then-not-is_done-clause-placed g t c =
+    let content = g.C.FluentType.content in
+    let contents = g.W.Write.contents in
+    let a = state g.B.Context.meant g.B.Context.is_plain g.F.FluentFunction.answer content c.loop-element.scope in
+    let out = c.loop-element.out in
+    let work = c.loop-element.work in
+    let p = c.args.pattern.now in
+    let one = has_one (pattern_view p) in
+    let at = c.loop-element.next in
+    let values = values_view content work.values in
+    let v = viewed out a values in
+    let e = expression_view c.in-Placeable.expression in
+    let first = from_next p c.deref.result.now at c.in-Some.element.now (placeable e) c.deref.ensures.value (ltb-true _ _ (sym c.in-Some.ensures.lookup.0)) c.in-Some.ensures.lookup.1 (view_placeable_in c.in-Some.element.now c.in-Placeable.expression c.in-Placeable.is) in
+    let d = state g.B.Context.meant g.B.Context.is_plain g.F.FluentFunction.answer content c.write_placeable.new.scope in
+    let work1 = c.write_placeable.new.work in
+    let stored = (at_ok c.in_ok-write_placeable-in-Placeable.was (c.write_placeable.ensures.goes (λ s given u. nowhere) 0).ok).happened.stays.stored in
+    let rest = references (elements_from (at + 1) p) in
+    let cursor = placed_still a d rest c.after_element-cursor.result stored (placed_back a.stored.numbers (references (elements_from at p)) (in_expression e) rest c.loop-element.cursor c.after_element-cursor.result (ap references first) (c.after_element-cursor.ensures ∙ ap (λ x. past (in_element x) (seen c.loop-element.cursor)) (view_placeable_in c.in-Some.element.now c.in-Placeable.expression c.in-Placeable.is)) c.loop-element.invariant.placed) in
+    placed_last d.stored.numbers d.stored.table work1.frames.items c.wait.new.self.frames.items _ _ c.wait.ensures.frames c.in_ok-write_placeable-in-Placeable.ensures.placed cursor
 
-pub arguments::resolve_call-returns : goal.arguments::resolve_call-returns
+pub pattern::write_elements-returns-then-not-is_done-clause-texts : goal.pattern::write_elements-returns-then-not-is_done-clause-texts
+pattern::write_elements-returns-then-not-is_done-clause-texts g t c =
+    let p = c.args.pattern.now in
+    let at = c.loop-element.next in
+    let e = expression_view c.in-Placeable.expression in
+    let first = from_next p c.deref.result.now at c.in-Some.element.now (placeable e) c.deref.ensures.value (ltb-true _ _ (sym c.in-Some.ensures.lookup.0)) c.in-Some.ensures.lookup.1 (view_placeable_in c.in-Some.element.now c.in-Placeable.expression c.in-Placeable.is) in
+    λ t. absurd (never_text e (elements_from (at + 1) p) (subst IsTextAlone first (c.loop-element.invariant.texts t)))
+
+pub pattern::write_elements-returns-then-not-is_done-clause-memory : goal.pattern::write_elements-returns-then-not-is_done-clause-memory
+pattern::write_elements-returns-then-not-is_done-clause-memory g t c =
+    let p = c.args.pattern.now in
+    let at = c.loop-element.next in
+    let e = expression_view c.in-Placeable.expression in
+    let first = from_next p c.deref.result.now at c.in-Some.element.now (placeable e) c.deref.ensures.value (ltb-true _ _ (sym c.in-Some.ensures.lookup.0)) c.in-Some.ensures.lookup.1 (view_placeable_in c.in-Some.element.now c.in-Placeable.expression c.in-Placeable.is) in
+    λ t. absurd (never_text e (elements_from (at + 1) p) (subst IsTextAlone first (c.loop-element.invariant.texts t)))
+
+pub pattern::write_elements-returns-in_err-write_placeable-in-Placeable-clause-memory : goal.pattern::write_elements-returns-in_err-write_placeable-in-Placeable-clause-memory
+pattern::write_elements-returns-in_err-write_placeable-in-Placeable-clause-memory g t c =
+    let p = c.args.pattern.now in
+    let at = c.loop-element.next in
+    let e = expression_view c.in-Placeable.expression in
+    let first = from_next p c.deref.result.now at c.in-Some.element.now (placeable e) c.deref.ensures.value (ltb-true _ _ (sym c.in-Some.ensures.lookup.0)) c.in-Some.ensures.lookup.1 (view_placeable_in c.in-Some.element.now c.in-Placeable.expression c.in-Placeable.is) in
+    λ t. absurd (never_text e (elements_from (at + 1) p) (subst IsTextAlone first (c.loop-element.invariant.texts t)))
+
+pub pattern::write_elements-write_placeable-requires : goal.pattern::write_elements-write_placeable-requires
 unfolding state_parts
-arguments::resolve_call-returns g t c =
-    let a = state g.B.Context.meant g.B.Context.is_plain g.F.FluentFunction.answer g.C.FluentType.content c.args.scope.now in
-    let ns = c.deref-3.result.now in
-    let means = calling_at a c.args.arguments.now c.deref.result.now ns a.budget c.deref.ensures.value c.deref-3.ensures.value in
-    let first = gets (naming_after a ns) c.in_ok-positional.was c.resolve_positional.ensures.got (reads means (begins a _)) in
-    let vs = map (value_view g.C.FluentType.content) c.in_ok-positional.positional.items in
-    record { got = got (c.in_ok-positional.positional, c.in_ok-named.named) (gets (pairing vs) c.in_ok-named.was c.resolve_named.ensures.got first); rests = rests_on (rests_ok {T = Unit {0}} {x = tt} c.in_ok-positional.was c.resolve_positional.ensures.rests) (rests_ok c.in_ok-named.was c.resolve_named.ensures.rests) }
-
-pub arguments::resolve_positional-loop-argument-init : goal.arguments::resolve_positional-loop-argument-init
-unfolding state_parts
-arguments::resolve_positional-loop-argument-init g t c =
-    let a = state g.B.Context.meant g.B.Context.is_plain g.F.FluentFunction.answer g.C.FluentType.content c.args.scope.now in
-    record { gathers = gathers_same (ap (map (value_view g.C.FluentType.content)) (sym c.new-values.ensures.items)) (gathers_none a _); rests = rests_same _; placed = c.requires }
-
-pub arguments::resolve_positional-loop-argument-preserved : goal.arguments::resolve_positional-loop-argument-preserved
-unfolding state_parts
-arguments::resolve_positional-loop-argument-preserved g t c =
-    let a = state g.B.Context.meant g.B.Context.is_plain g.F.FluentFunction.answer g.C.FluentType.content c.args.scope.now in
-    let b = state g.B.Context.meant g.B.Context.is_plain g.F.FluentFunction.answer g.C.FluentType.content c.loop-argument.scope in
-    let x = c.argument-item.result in
-    let rest = drop (c.loop-argument.argument-index + 1) c.args.arguments.now in
-    let next = next_of c.args.arguments.now c.loop-argument.argument-index x c.loop-argument-test.true c.argument-item.is in
-    let before = c.loop-argument.invariant in
-    let here = gathers_as (placing_next a _ rest x b.budget next) before.gathers in
-    let one = gathers_one (λ v. v) (λ n. walked a (cursor_walk rest) n) c.in_ok-value.was c.resolve.ensures.got here in
-    record { gathers = gathers_same (sym c.in_ok-push_value.ensures) one; rests = rests_on before.rests (rests_ok c.in_ok-value.was c.resolve.ensures.rests); placed = leaves of_inline of_inlines positional_in_turn c.args.arguments.now c.loop-argument.argument-index x c.loop-argument-test.true c.argument-item.is a.stored.numbers (seen c.loop-argument.cursor) (seen c.after_inline-cursor.result) c.after_inline-cursor.ensures before.placed }
-
-pub arguments::resolve_positional-returns-in_err-value : goal.arguments::resolve_positional-returns-in_err-value
-unfolding state_parts
-arguments::resolve_positional-returns-in_err-value g t c =
-    let a = state g.B.Context.meant g.B.Context.is_plain g.F.FluentFunction.answer g.C.FluentType.content c.args.scope.now in
-    let b = state g.B.Context.meant g.B.Context.is_plain g.F.FluentFunction.answer g.C.FluentType.content c.loop-argument.scope in
-    let x = c.argument-item.result in
-    let rest = drop (c.loop-argument.argument-index + 1) c.args.arguments.now in
-    let next = next_of c.args.arguments.now c.loop-argument.argument-index x c.loop-argument-test.true c.argument-item.is in
-    let before = c.loop-argument.invariant in
-    let here = gathers_as (placing_next a _ rest x b.budget next) before.gathers in
-    record { got = gathers_stops_as (cursor_walk c.args.arguments.now) (λ vs. vs) c.in_err-value.was (search rules) refl (gathers_part (placing_more a rest) c.resolve.ensures.got here); rests = rests_on before.rests (rests_err c.in_err-value.was (search rules) c.resolve.ensures.rests) }
-
-pub arguments::resolve_positional-returns-in_err-push_value : goal.arguments::resolve_positional-returns-in_err-push_value
-unfolding state_parts
-arguments::resolve_positional-returns-in_err-push_value g t c =
-    let a = state g.B.Context.meant g.B.Context.is_plain g.F.FluentFunction.answer g.C.FluentType.content c.args.scope.now in
-    let b = state g.B.Context.meant g.B.Context.is_plain g.F.FluentFunction.answer g.C.FluentType.content c.loop-argument.scope in
-    let x = c.argument-item.result in
-    let rest = drop (c.loop-argument.argument-index + 1) c.args.arguments.now in
-    let next = next_of c.args.arguments.now c.loop-argument.argument-index x c.loop-argument-test.true c.argument-item.is in
-    let before = c.loop-argument.invariant in
-    let here = gathers_as (placing_next a _ rest x b.budget next) before.gathers in
-    let one = gathers_one (λ v. v) (λ n. walked a (cursor_walk rest) n) c.in_ok-value.was c.resolve.ensures.got here in
-    record { got = gathers_stops {e = fault.Memory} (cursor_walk c.args.arguments.now) (λ vs. vs) (search rules) refl one; rests = rests_on (rests_on before.rests (rests_ok {T = Unit {0}} {x = tt} c.in_ok-value.was c.resolve.ensures.rests)) (rests_memory _ (search rules)) }
-
-pub arguments::resolve_positional-returns : goal.arguments::resolve_positional-returns
-unfolding state_parts
-arguments::resolve_positional-returns g t c =
-    let a = state g.B.Context.meant g.B.Context.is_plain g.F.FluentFunction.answer g.C.FluentType.content c.args.scope.now in
-    let b = state g.B.Context.meant g.B.Context.is_plain g.F.FluentFunction.answer g.C.FluentType.content c.loop-argument.scope in
-    let before = c.loop-argument.invariant in
-    let none = none_left c.args.arguments.now c.loop-argument.argument-index c.loop-argument-test.false in
-    record { got = gathers_all (cursor_walk c.args.arguments.now) (λ vs. vs) c.loop-argument.values refl refl (gathers_as (placing_end a _ b.budget none) before.gathers); rests = rests_ok {v = tt} refl before.rests }
-
-pub arguments::resolve_named-loop-argument-init : goal.arguments::resolve_named-loop-argument-init
-unfolding state_parts
-arguments::resolve_named-loop-argument-init g t c =
-    let a = state g.B.Context.meant g.B.Context.is_plain g.F.FluentFunction.answer g.C.FluentType.content c.args.scope.now in
-    record { done = []; is = c.new-values.ensures; gathers = gathers_none a _; rests = rests_same _; placed = c.requires }
-
-pub arguments::resolve_named-loop-argument-preserved : goal.arguments::resolve_named-loop-argument-preserved
-unfolding state_parts
-arguments::resolve_named-loop-argument-preserved g t c =
-    let a = state g.B.Context.meant g.B.Context.is_plain g.F.FluentFunction.answer g.C.FluentType.content c.args.scope.now in
-    let b = state g.B.Context.meant g.B.Context.is_plain g.F.FluentFunction.answer g.C.FluentType.content c.loop-argument.scope in
-    let x = c.argument-item.result in
-    let k = x.name.name.now in
-    let rest = drop (c.loop-argument.argument-index + 1) c.args.arguments.now in
-    let next = next_of c.args.arguments.now c.loop-argument.argument-index x c.loop-argument-test.true c.argument-item.is in
-    let before = c.loop-argument.invariant in
-    let here = gathers_as (labelling_next a _ rest x b.budget next) before.gathers in
-    let v = value_view g.C.FluentType.content c.in_ok-value.value in
-    let one = gathers_one (labelled k) (λ n. walked a (label_walk rest) n) c.in_ok-value.was c.resolve.ensures.got here in
-    record { done = before.done ++ labelled k v ∷ []; is = c.in_ok-set.ensures ∙ ap (set k v) before.is ∙ sym (set_all_next before.done k v []); gathers = one; rests = rests_on before.rests (rests_ok c.in_ok-value.was c.resolve.ensures.rests); placed = leaves of_named of_nameds named_in_turn c.args.arguments.now c.loop-argument.argument-index x c.loop-argument-test.true c.argument-item.is a.stored.numbers (seen c.loop-argument.cursor) (seen c.after_inline-cursor.result) c.after_inline-cursor.ensures before.placed }
-
-pub arguments::resolve_named-returns-in_err-value : goal.arguments::resolve_named-returns-in_err-value
-unfolding state_parts
-arguments::resolve_named-returns-in_err-value g t c =
-    let a = state g.B.Context.meant g.B.Context.is_plain g.F.FluentFunction.answer g.C.FluentType.content c.args.scope.now in
-    let b = state g.B.Context.meant g.B.Context.is_plain g.F.FluentFunction.answer g.C.FluentType.content c.loop-argument.scope in
-    let x = c.argument-item.result in
-    let k = x.name.name.now in
-    let rest = drop (c.loop-argument.argument-index + 1) c.args.arguments.now in
-    let next = next_of c.args.arguments.now c.loop-argument.argument-index x c.loop-argument-test.true c.argument-item.is in
-    let before = c.loop-argument.invariant in
-    let here = gathers_as (labelling_next a _ rest x b.budget next) before.gathers in
-    record { got = gathers_stops_as (label_walk c.args.arguments.now) (λ m. set_all m []) c.in_err-value.was (search rules) refl (gathers_part (labelling_more a rest k) c.resolve.ensures.got here); rests = rests_on before.rests (rests_err c.in_err-value.was (search rules) c.resolve.ensures.rests) }
-
--- where an allocation failed, which is found first
-by_memory : {A T K : Type 0} {r : Result T Halt} {see : T → A} {walk : Walk A} {w w' : Sink} {a b : Status K} → r ≡ Err fault.Memory → (r ≡ Err fault.Memory → EvaluatesSilently r see walk w w' a b) → EvaluatesSilently r see walk w w' a b
-by_memory is f = f is
-
-pub arguments::resolve_named-returns-in_err-set : goal.arguments::resolve_named-returns-in_err-set
-unfolding state_parts
-arguments::resolve_named-returns-in_err-set g t c = by_memory (search rules) (λ is.
-    let a = state g.B.Context.meant g.B.Context.is_plain g.F.FluentFunction.answer g.C.FluentType.content c.args.scope.now in
-    let b = state g.B.Context.meant g.B.Context.is_plain g.F.FluentFunction.answer g.C.FluentType.content c.loop-argument.scope in
-    let x = c.argument-item.result in
-    let k = x.name.name.now in
-    let rest = drop (c.loop-argument.argument-index + 1) c.args.arguments.now in
-    let next = next_of c.args.arguments.now c.loop-argument.argument-index x c.loop-argument-test.true c.argument-item.is in
-    let before = c.loop-argument.invariant in
-    let here = gathers_as (labelling_next a _ rest x b.budget next) before.gathers in
-    let one = gathers_one (labelled k) (λ n. walked a (label_walk rest) n) c.in_ok-value.was c.resolve.ensures.got here in
-    record { got = gathers_stops (label_walk c.args.arguments.now) (λ m. set_all m []) is refl one; rests = rests_on (rests_on before.rests (rests_ok {T = Unit {0}} {x = tt} c.in_ok-value.was c.resolve.ensures.rests)) (rests_memory _ is) })
-
-pub arguments::resolve_named-returns-in_err-args : goal.arguments::resolve_named-returns-in_err-args
-unfolding state_parts
-arguments::resolve_named-returns-in_err-args g t c =
-    let a = state g.B.Context.meant g.B.Context.is_plain g.F.FluentFunction.answer g.C.FluentType.content c.args.scope.now in
-    let b = state g.B.Context.meant g.B.Context.is_plain g.F.FluentFunction.answer g.C.FluentType.content c.loop-argument.scope in
-    let before = c.loop-argument.invariant in
-    record { got = gathers_stops {e = fault.Memory} (label_walk c.args.arguments.now) (λ m. set_all m []) (search rules) refl before.gathers; rests = rests_on before.rests (rests_memory _ (search rules)) }
-
-pub arguments::resolve_named-returns : goal.arguments::resolve_named-returns
-unfolding state_parts
-arguments::resolve_named-returns g t c =
-    let a = state g.B.Context.meant g.B.Context.is_plain g.F.FluentFunction.answer g.C.FluentType.content c.args.scope.now in
-    let b = state g.B.Context.meant g.B.Context.is_plain g.F.FluentFunction.answer g.C.FluentType.content c.loop-argument.scope in
-    let before = c.loop-argument.invariant in
-    let none = none_left c.args.arguments.now c.loop-argument.argument-index c.loop-argument-test.false in
-    record { got = gathers_all (label_walk c.args.arguments.now) (λ m. set_all m []) c.in_ok-args.args (c.in_ok-args.ensures ∙ before.is) refl (gathers_as (labelling_end a _ b.budget none) before.gathers); rests = rests_ok {v = tt} refl before.rests }
-
-pub variants::choose_by_value-returns-clause-placed : goal.variants::choose_by_value-returns-clause-placed
-unfolding state_parts
-variants::choose_by_value-returns-clause-placed g t c =
-    let a = state g.B.Context.meant g.B.Context.is_plain g.F.FluentFunction.answer g.C.FluentType.content c.args.scope.now in
-    let vs = variants_of (map variant_view c.args.variants.now) in
-    let second = placed_back a.stored.numbers _ (in_inline (inline_view c.args.selector.now)) (in_variants vs) c.args.cursor c.after_inline.result refl c.after_inline.ensures c.requires in
-    c.choose.ensures.placed a.stored.numbers second
+pattern::write_elements-write_placeable-requires g t c =
+    let content = g.C.FluentType.content in
+    let contents = g.W.Write.contents in
+    let a = state g.B.Context.meant g.B.Context.is_plain g.F.FluentFunction.answer content c.loop-element.scope in
+    let out = c.loop-element.out in
+    let work = c.loop-element.work in
+    let p = c.args.pattern.now in
+    let one = has_one (pattern_view p) in
+    let at = c.loop-element.next in
+    let values = values_view content work.values in
+    let v = viewed out a values in
+    let e = expression_view c.in-Placeable.expression in
+    let first = from_next p c.deref.result.now at c.in-Some.element.now (placeable e) c.deref.ensures.value (ltb-true _ _ (sym c.in-Some.ensures.lookup.0)) c.in-Some.ensures.lookup.1 (view_placeable_in c.in-Some.element.now c.in-Placeable.expression c.in-Placeable.is) in
+    let placed = placed_prefix a.stored.numbers (references (elements_from at p)) (in_expression e) (references (elements_from (at + 1) p)) c.loop-element.cursor (ap references first) c.loop-element.invariant.placed in
+    λ κs h. (falls_to c.decreases (omega arith), (h.0, (h.1.0, (h.1.1.0, (h.1.1.1, ((λ x. true≢false (sym (c.if-dirty.ensures.1 x))), (placed, c.loop-element.invariant.nothing)))))))

@@ -9,7 +9,7 @@ use Rattle.fluent_tree.specs.declared.ast.Expression as of_expression
 use Rattle.fluent_tree.specs.declared.ast.Expression.TheOpen as level
 use Rattle.fluent_tree.specs.declared.ast.Expression.TheVariants as expressions
 use Rattle.fluent_tree.specs.declared.ast.NamedArgument as of_named
-use Rattle.fluent_state.specs.Facts.Cases.{IsWritten}
+use Rattle.fluent_state.specs.Written.{IsWritten}
 use Rattle.fluent_tree.specs.declared.ast.Identifier.{Identifier}
 use Rattle.fluent_tree.specs.declared.ast.InlineExpression as of_inline
 use Rattle.fluent_tree.specs.declared.ast.InlineExpression.TheVariants as inlines

@@ -1,9 +1,9 @@
 use Rattle.std.proofs.Common.{ap, sym}
 use Rattle.fluent_tree.specs.View.{inline_view}
-use Rattle.fluent_state.specs.WalkProgress.{shown_answer}
+use Rattle.fluent_state.specs.Happened.{shown_answer}
 use Rattle.fluent_values.specs.View.{value_view}
 use Rattle.fluent_values.specs.Facts.Took.{took_same}
-use Rattle.fluent_state.specs.Facts.Lookups.{no_error}
+use Rattle.fluent_state.specs.Facts.Naming.{no_error}
 use Rattle.fluent_state.proofs.shown.put_shown.Goals as goal
 
 pub returns-in-Error : goal.returns-in-Error

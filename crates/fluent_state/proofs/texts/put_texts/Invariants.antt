@@ -13,5 +13,5 @@ invariant-loop-element g l =
     let now = sink g.W.Write.contents l.out in
     record {
       taking : (r : Result (Unit {0}) Halt) (after : Sink) → SinkTook r (texts_of (pattern_of (map element_view (drop l.element-index l.element-items)))) now after → SinkTook r (texts_of (pattern_view l.pattern)) before after;
-      borrowed : now.borrowed ≡ before.borrowed;
+      beside : now.beside ≡ before.beside;
     }

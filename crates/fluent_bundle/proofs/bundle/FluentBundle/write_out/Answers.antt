@@ -4,13 +4,13 @@ use Rattle.fluent_tree.specs.References.{references}
 use Rattle.fluent_tree.specs.Tree.{Text}
 use Rattle.fluent_tree.specs.View.{pattern_view}
 use Rattle.fluent_meaning.specs.Bundle.{transform_of}
-use Rattle.fluent_meaning.specs.Result.{written_pattern}
 use Rattle.fluent_entries.specs.IdNumbers.{IsPlaced}
 use Rattle.fluent_bundle.specs.BundleView.{bundle_parts, is_plain, meant, transform_in}
 use Rattle.fluent_resolver.specs.ScopeView.{errors_in, status}
 use Rattle.fluent_resolver.specs.Status.{arguments_view, reported}
-use Rattle.fluent_bundle.proofs.Formats.{fresh, never_none, writes_of, writes_text}
-use Rattle.fluent_bundle.proofs.Givings.{texts_errors, texts_value, texts_where}
+use Rattle.fluent_bundle.proofs.Events.{texts_events}
+use Rattle.fluent_bundle.proofs.Formats.{fresh, never_none, took_outside, writes_of, writes_text}
+use Rattle.fluent_bundle.proofs.Givings.{texts_where}
 use Rattle.fluent_bundle.proofs.bundle.FluentBundle.write_out.Goals as goal
 
 pub returns-then-writes_texts_alone-clause-writes : goal.returns-then-writes_texts_alone-clause-writes
@@ -21,28 +21,26 @@ returns-then-writes_texts_alone-clause-writes g c =
     let p = pattern_view c.args.pattern.now in
     let here = texts_where (transform_in self) p (sym c.writes_texts_alone.ensures ∙ c.if-writes_texts_alone.true) in
     let plain : (u : Text) → b.transform u ≡ u = λ u. ap (λ o. transform_of (option_map g.T.Transform.changed o) u) here.0 in
-    writes_text (written_pattern b env p) c.args.errors.now.items
-    (texts_value b env p plain here.1)
-    (texts_errors b env p plain here.1) c.put_texts.ensures.took
+    writes_text c.args.errors.now.items (texts_events b env p plain here.1)
+    (took_outside g.W.Write.contents c.args.out.now c.put_texts.new.out c.requires.unkept c.put_texts.ensures.took)
 
 pub returns-in-Some-clause-writes : goal.returns-in-Some-clause-writes
 unfolding bundle_parts
 returns-in-Some-clause-writes g c =
     let of = meant g.M.MemoizerKind.category g.C.FluentType.shown g.C.FluentType.alike g.F.FluentFunction.answer g.G.FluentFormatter.formatted g.T.Transform.changed in
-    let begins = c.new-scope.ensures.begins in
     let a = status of is_plain g.F.FluentFunction.answer g.C.FluentType.content c.new-scope.result in
+    let z = status of is_plain g.F.FluentFunction.answer g.C.FluentType.content c.write_pattern-written.new.scope in
     let held = ap (option_map (λ e. reported e.now.items)) (sym c.into_errors.ensures ∙ c.in-Some.is) in
-    writes_of c.write_pattern-written.ensures.wrote
-    (fresh c.calls_are_walks.ensures a (of c.args.self.now) (arguments_view g.C.FluentType.content c.args.args) (pattern_view c.args.pattern.now)
-    begins.bundle begins.environment begins.path begins.budget)
+    writes_of {b = z} c.write_pattern-written.ensures.did
+    (fresh a (of c.args.self.now) (arguments_view g.C.FluentType.content c.args.args) (pattern_view c.args.pattern.now) c.new-scope.ensures.begins)
     (search (rules, c.new-scope.ensures.errors))
     (search (rules, held))
 
 pub returns-in-None-clause-writes : goal.returns-in-None-clause-writes
 returns-in-None-clause-writes g c =
-    let kept = c.write_pattern-written.ensures.wrote.went.along.passed.keeps.list in
+    let kept = c.write_pattern-written.ensures.did.happened.stays.list in
     absurd (never_none (λ e. e.ghost_name) (errors_in c.write_pattern-written.new.scope) _ (sym c.into_errors.ensures ∙ c.in-None.is) (kept ∙ ap (option_map (λ e. e.ghost_name)) c.new-scope.ensures.errors))
 
 pub write_pattern-written-requires : goal.write_pattern-written-requires
 unfolding bundle_parts
-write_pattern-written-requires g c = subst (λ m. IsPlaced m (references (pattern_view c.args.pattern.now)) c.args.cursor) (sym c.new-scope.ensures.ids) c.requires
+write_pattern-written-requires g c = subst (λ m. IsPlaced m (references (pattern_view c.args.pattern.now)) c.args.cursor) (sym c.new-scope.ensures.ids) c.requires.placed

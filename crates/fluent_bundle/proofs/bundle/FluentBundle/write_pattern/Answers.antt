@@ -1,21 +1,15 @@
 use Rattle.fluent_tree.specs.View.{pattern_view}
 use Rattle.fluent_bundle.specs.BundleView.{meant}
 use Rattle.fluent_resolver.specs.Status.{arguments_view}
-use Rattle.fluent_bundle.proofs.Formats.{substituted_of, writes_all, writes_prefix}
+use Rattle.fluent_bundle.proofs.Formats.{substituted_of}
 use Rattle.fluent_bundle.proofs.bundle.FluentBundle.write_pattern.Goals as goal
-
-pub returns-clause-whole : goal.returns-clause-whole
-returns-clause-whole g c = writes_all c.write_linked.result _ _ _ c.write_linked.ensures.text c.write_linked.ensures.errors
 
 pub returns-clause-within : goal.returns-clause-within
 returns-clause-within g c =
     let b = meant g.M.MemoizerKind.category g.C.FluentType.shown g.C.FluentType.alike g.F.FluentFunction.answer g.G.FluentFormatter.formatted g.T.Transform.changed c.args.self.now in
     let args = arguments_view g.C.FluentType.content c.args.args in
     let p = pattern_view c.args.pattern.now in
-    substituted_of _ _ _ _ _ b args p (c.limits_are_kept.ensures b args p) (returns-clause-whole g c)
-
-pub returns-clause-prefix : goal.returns-clause-prefix
-returns-clause-prefix g c = writes_prefix c.write_linked.ensures.text c.write_linked.ensures.prefix
+    substituted_of _ _ _ _ _ b args p (c.limits_are_kept.ensures b args p) c.write_linked.ensures.whole
 
 pub returns-clause-limit : goal.returns-clause-limit
 returns-clause-limit g c =

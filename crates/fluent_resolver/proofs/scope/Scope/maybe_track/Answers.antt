@@ -1,24 +1,21 @@
+use Rattle.std.proofs.Common.{rules, ap}
 use Rattle.fluent_entries.specs.IdNumbers.{table}
-use Rattle.std.proofs.Common.{sym}
-use Rattle.fluent_tree.specs.View.{expression_view, pattern_view}
-use Rattle.fluent_state.specs.Status.{state_parts}
+use Rattle.fluent_state.specs.Facts.Trails.{idle_path}
+use Rattle.fluent_state.specs.Status.{environment_view, state_parts}
 use Rattle.fluent_resolver.specs.ScopeView.{scope_parts, status}
-use Rattle.fluent_state.specs.Facts.Trails.{idle_kept}
+use Rattle.fluent_resolver.proofs.Wholes.{did_by_writer, rested}
 use Rattle.fluent_resolver.proofs.scope.Scope.maybe_track.Goals as goal
 
-pub returns-clause-runs : goal.returns-clause-runs
+pub returns-clause-did : goal.returns-clause-did
 unfolding scope_parts state_parts
-returns-clause-runs g c =
+returns-clause-did g c =
+    let contents = g.W.Write.contents in
     let a = status g.B.Context.meant g.B.Context.is_plain g.F.FluentFunction.answer g.C.FluentType.content c.args.self.now in
-    sym (c.calls_are_walks.ensures.placeable a.bundle a.environment a.path (pattern_view c.args.pattern.now) (expression_view c.args.expression.now) a.budget)
-
-pub returns-clause-bundle : goal.returns-clause-bundle
-unfolding scope_parts state_parts
-returns-clause-bundle g c = c.write_maybe_tracked-written.ensures.went.along.passed.keeps.borrow
-
-pub invariant_of-self : goal.invariant_of-self
-unfolding scope_parts state_parts
-invariant_of-self g c =
     let old = c.args.self.now.state in
-    let new = c.write_maybe_tracked-written.new.scope in
-    record { idle = idle_kept old.path new.path (table old.ids.now) (table new.ids.now) c.args.self.now.idle c.write_maybe_tracked-written.ensures.went.along.passed.keeps.path }
+    let out = c.through-out.result in
+    let out1 = c.write_expression_of-written.new.out in
+    let e = c.through-out.ensures in
+    let home = ap (environment_view g.C.FluentType.content) (c.application-home.ensures c.args.self.now.outside) in
+    let idle = idle_path old.path (table old.ids.now) c.args.self.now.idle in
+    did_by_writer contents c.with_error.result c.args.w.now _ out out1 c.with_error.ensures e.writer e.through (search rules)
+    (rested home idle c.rest.ensures.rests c.write_expression_of-written.ensures)

@@ -1,30 +1,31 @@
+use Rattle.std.proofs.Common.{rules}
 use Rattle.fluent_entries.specs.IdNumbers.{table}
-use Rattle.std.proofs.Common.{ap, sym, ◌∙◌}
-use Rattle.fluent_tree.specs.View.{inline_view}
-use Rattle.fluent_state.specs.Status.{state_parts}
-use Rattle.fluent_resolver.specs.ScopeView.{scope_parts, status}
-use Rattle.fluent_values.specs.Sinks.{without_error}
-use Rattle.fluent_resolver.proofs.ScopeCalls.{losing_runs}
 use Rattle.fluent_state.specs.Facts.Trails.{idle_kept}
+use Rattle.fluent_state.specs.Status.{state_parts}
+use Rattle.fluent_values.specs.Facts.Outputs.{stays_through}
+use Rattle.fluent_resolver.specs.ScopeView.{scope_parts}
+use Rattle.fluent_resolver.proofs.Homes.{outside_kept}
+use Rattle.fluent_resolver.proofs.Wholes.{did_by_writer, did_outside}
 use Rattle.fluent_resolver.proofs.scope.Scope.write_ref_error.Goals as goal
-
-pub returns-clause-runs : goal.returns-clause-runs
-unfolding scope_parts state_parts
-returns-clause-runs g c =
-    let a = status g.B.Context.meant g.B.Context.is_plain g.F.FluentFunction.answer g.C.FluentType.content c.args.self.now in
-    losing_runs a (inline_view c.args.inline.now)
-
-pub returns-clause-bundle : goal.returns-clause-bundle
-unfolding scope_parts state_parts
-returns-clause-bundle g c = c.lose-written.ensures.wrote.went.along.passed.keeps.borrow
-
-pub returns-clause-memory : goal.returns-clause-memory
-unfolding scope_parts state_parts
-returns-clause-memory g c = λ none is. c.lose-written.ensures.memory none c.through-out.ensures.through (sym c.with_error.ensures ∙ ap without_error is)
 
 pub invariant_of-self : goal.invariant_of-self
 unfolding scope_parts state_parts
 invariant_of-self g c =
     let old = c.args.self.now.state in
     let new = c.lose-written.new.scope in
-    record { idle = idle_kept old.path new.path (table old.ids.now) (table new.ids.now) c.args.self.now.idle c.lose-written.ensures.wrote.went.along.passed.keeps.path }
+    record {
+      idle = idle_kept old.path new.path (table old.ids.now) (table new.ids.now) c.args.self.now.idle c.lose-written.ensures.wrote.path;
+      outside = outside_kept g.C.FluentType.content old.environment new.environment c.args.self.now.outside c.lose-written.ensures.wrote.environment;
+    }
+
+pub returns-clause-did : goal.returns-clause-did
+unfolding scope_parts state_parts
+returns-clause-did g c =
+    let contents = g.W.Write.contents in
+    let out = c.through-out.result in
+    let out1 = c.lose-written.new.out in
+    let e = c.through-out.ensures in
+    let wrote = c.lose-written.ensures.wrote in
+    let through = stays_through contents out out1 wrote.happened.beside (e.kept, e.through) in
+    did_by_writer contents c.with_error.result c.args.w.now _ out out1 c.with_error.ensures e.writer e.through (search rules)
+    (did_outside contents out out1 e.kept through.0 wrote)

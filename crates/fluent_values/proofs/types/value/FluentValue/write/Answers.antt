@@ -7,6 +7,5 @@ use Rattle.fluent_values.proofs.types.value.FluentValue.write.Goals as goal
 
 pub returns-clause-took : goal.returns-clause-took
 returns-clause-took g c =
-    let out = c.put_value-written.new.out in
-    let took = took_as (sym c.with_error.ensures) (by_writer g.W.Write.contents _ out.writer.ghost_name _ out.buffer.ghost_name c.args.w.now out.writer.now c.w-1.given.0 c.new-unused.result out.buffer.now out.is_buffered _ (search rules) c.put_value-written.ensures.took) in
+    let took = took_as (sym c.with_error.ensures) (by_writer g.W.Write.contents c.args.w.now _ c.put_value-written.new.out _ (search rules) c.put_value-written.ensures.took) in
     took_same (ap (λ b. shown (g.S.Bundle.Context.meant b) (value_view g.C.FluentType.content c.args.self.now)) c.bundle-bundle.ensures) took
