@@ -8,8 +8,7 @@
    once have nothing in common; a bundle is asked by one thread at a time (tried, and not proved). No call belongs into a
    signal handler.
 
-   A call takes stack for each level of nesting, and formatting for those of all messages that are within one another: a
-   source that is made for it takes more than 50 MB with the limit of 100. Where there is less, the program ends. */
+   No call takes more than a megabyte of stack, whatever it is given (tried, and not proved). */
 #ifndef FLUENT_H
 #define FLUENT_H
 #include <stdbool.h>

@@ -1,0 +1,102 @@
+/* Asks for patterns that are as deep as may be, on little stack: depths FILE [KILOBYTES], where tools/depths.py has
+   written FILE. A source is read by a thread with the stack that ulimit gave, and formatted by one with so many kilobytes.
+   Each case is a process of its own, which ends within SECONDS. */
+#include "fluent.h"
+#include "records.h"
+#include <pthread.h>
+#include <sys/wait.h>
+#include <unistd.h>
+
+#define SECONDS 10
+#define KILOBYTES 1024
+
+/* What the child says that asked for a case. */
+enum ending { RIGHT, WRONG_ANSWER, NO_BUNDLE, NO_ROOM };
+
+static const char *const endings[] = {"passed", "another answer", "its bundle can't be made", "no thread, or no memory"};
+
+static size_t stack_size;
+static struct fluent_bundle bundle = FLUENT_CLOSED;
+
+static size_t number(struct text digits) {
+    size_t number = 0;
+    for (size_t i = 0; i < digits.length; i++)
+        number = 10 * number + (size_t)(digits.at[i] - '0');
+    return number;
+}
+
+static bool holds(const uint8_t *buffer, size_t length, struct text text) {
+    return length == text.length && !memcmp(buffer, text.at, length);
+}
+
+/* Formats what a record asks for, into a byte more than what is wanted has, and compares. */
+static void *format(void *at) {
+    static enum ending ending;
+    const struct text *t = ((const struct record *)at)->texts;
+    size_t out_room = t[3].length + 1, err_room = t[4].length + 1;
+    uint8_t *out = malloc(out_room), *err = malloc(err_room);
+    struct fluent_lengths lengths;
+    if (!out || !err)
+        abort();
+    uint8_t status = fluent_format(&bundle, (const uint8_t *)"a", 1, NULL, 0, t[2].at, t[2].length, out, out_room, err,
+                                   err_room, &lengths);
+    ending = status == FLUENT_OK && holds(out, lengths.text, t[3]) && holds(err, lengths.errors, t[4]) ? RIGHT
+                                                                                                      : WRONG_ANSWER;
+    free(out);
+    free(err);
+    return &ending;
+}
+
+static enum ending asked(struct text source, struct record *row) {
+    pthread_attr_t small;
+    pthread_t thread;
+    void *ending;
+    if (fluent_open(&bundle, (const uint8_t *)"en", 2, true) || fluent_set_limit(&bundle, number(row->texts[1])) ||
+        fluent_add(&bundle, source.at, source.length))
+        return NO_BUNDLE;
+    if (pthread_attr_init(&small) || pthread_attr_setstacksize(&small, stack_size) ||
+        pthread_create(&thread, &small, format, row) || pthread_join(thread, &ending))
+        return NO_ROOM;
+    fluent_close(&bundle);
+    return *(enum ending *)ending;
+}
+
+/* Asks in a process of its own, and gives whether all was right. */
+static bool is_right(struct text source, struct record *row) {
+    int status;
+    fflush(stdout);
+    pid_t child = fork();
+    if (child == 0) {
+        alarm(SECONDS);
+        _exit(asked(source, row));
+    }
+    if (child < 0 || waitpid(child, &status, 0) != child)
+        abort();
+    if (status == 0)
+        return true;
+    printf("wrong: %.*s: ", (int)row->texts[0].length, row->texts[0].at);
+    if (WIFSIGNALED(status))
+        printf("stopped by signal %d\n", WTERMSIG(status));
+    else
+        printf("%s\n", endings[WEXITSTATUS(status)]);
+    return false;
+}
+
+int main(int count, char **words) {
+    if (count < 2 || count > 3)
+        return 2;
+    struct text file = read_file(words[1]), source = {NULL, 0};
+    const uint8_t *at = file.at;
+    size_t passed = 0, failed = 0;
+    stack_size = 1024 * (count > 2 ? (size_t)atol(words[2]) : KILOBYTES);
+    while (at < file.at + file.length) {
+        struct record record = read_record(&at, file.at + file.length);
+        if (record.kind == 's')
+            source = record.texts[0];
+        else
+            *(is_right(source, &record) ? &passed : &failed) += 1;
+    }
+    free((void *)file.at);
+    printf("%zu cases passed, %zu failed\n", passed, failed);
+    return failed > 0;
+}
