@@ -76,6 +76,7 @@ fn gives_row(
     gives(rt, alloc, bundle, &made, Some(args), (row.1, row.2))
 }
 
+/// Run with each allocation failing in turn.
 #[test]
 fn trees_of_any_parts_are_resolved(rt: HostRuntime) -> Result<(), AllocError> {
     let resource = read(rt.alloc(), SOURCE)?;

@@ -22,7 +22,7 @@ use Rattle.fluent_meaning.specs.Result.{written_pattern, substituted_pattern}
 use Rattle.fluent_meaning.specs.Value.{Value}
 use Rattle.fluent_meaning.specs.Walk.{application, whole}
 use Rattle.fluent_entries.specs.declared.errors.FluentError.{FluentError}
-use Rattle.fluent_resolver.specs.Happened.{Did}
+use Rattle.fluent_resolver.specs.Frames.{Tried}
 use Rattle.fluent_resolver.specs.Scoped.{pattern_events}
 use Rattle.fluent_resolver.specs.Status.{Status, reported, with_errors}
 use Rattle.fluent_resolver.specs.Steps.{IsAtStart}
@@ -45,20 +45,24 @@ listed list list' added s s' h before after' = cc (sym after' ∙ h ∙ ap (λ l
 
 -- what the resolver did
 pub writes_of : {T K : Type 0} {r : Result T Halt} {events all : List Event} {w w' : Sink} {a b : Status K} {list list' : List FluentError}
-    → Did r events w w' a b → events ≡ all → a.errors ≡ Some (reported list) → b.errors ≡ Some (reported list') → Writes r all w w' list list'
-writes_of {a = a} {b = b} {list = list} {list' = list'} h is before after' = record {
+    → Tried r (record { events = events; parts = 0; values = None }) (λ x. None) w w' a b → events ≡ all → a.errors ≡ Some (reported list) → b.errors ≡ Some (reported list') → Writes r all w w' list list'
+writes_of {r = r} {events = events} {a = a} {b = b} {list = list} {list' = list'} h is before after' = by r h.whole (λ rest whole none. record {
   prefix = record {
     done = h.done;
-    rest = h.rest;
-    whole = h.whole ∙ is;
+    rest = rest;
+    whole = whole ∙ is;
     taken = h.happened.text;
     adds = record { added = listed list list' (errors_in h.done) a b h.happened.errors before after' };
   };
-  finished = h.finished;
+  finished = none;
   fault = h.fault;
   beside = h.happened.beside;
   borrowed = h.happened.borrowed;
-}
+})
+  where
+    by : {T P : Type 0} (q : Result T Halt) → OnOk q (h.done ≡ events) → ((rest : List Event) → h.done ++ rest ≡ events → OnOk q (rest ≡ []) → P) → P
+    by (Ok x) all f = f [] (append-nil h.done ∙ all) refl
+    by (Err e) all f = f h.prefix.rest h.prefix.whole tt
 
 -- what a text that is the whole of it wrote
 pub writes_text : {T : Type 0} {r : Result T Halt} {t : Text} {all : List Event} {w w' : Sink} (list : List FluentError) → all ≡ entered 1 ∷ writes t → SinkTook r t w w' → Writes r all w w' list list

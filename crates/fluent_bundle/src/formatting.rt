@@ -22,7 +22,7 @@ use crate::text_says::{Adds, Gives, Takes};
 use fluent_intl::MemoizerKind;
 use fluent_resolver::output::through;
 use fluent_resolver::texts::{is_text, put_texts};
-use fluent_resolver::{Cursor, Scope, write_pattern};
+use fluent_resolver::{Cursor, State, write_whole};
 use fluent_syntax::ast::{Pattern, PatternElement};
 use fluent_syntax::{Counting, WriteFault, put};
 use fluent_values::output::{Halt, Output, with_error};
@@ -223,9 +223,9 @@ impl<
         if self.writes_texts_alone(pattern) {
             return put_texts(out, pattern);
         }
-        let mut scope = Scope::new(self, &self.entries, args, Some(errors));
-        let written = write_pattern(&mut scope, out, pattern, cursor);
-        match scope.into_errors() {
+        let mut state = State::new(self, &self.entries, args, Some(errors));
+        let written = write_whole(&mut state, out, pattern, cursor);
+        match state.into_errors() {
             Some(_list) => written,
             None => written,
         }

@@ -1,5 +1,5 @@
 -- What is made of the values of arguments.
-use Rattle.std.proofs.Common.{◌≡◌, refl, List, [], ◌++◌, Option, Some, None, Bool}
+use Rattle.std.proofs.Common.{◌≡◌, refl, sym, ap, ◌∙◌, List, [], ◌++◌, Option, Some, None, Bool}
 use Rattle.std.specs.Option.{option_map, unwrap_or}
 use Rattle.fluent_tree.specs.Fallback.{fallback, in_braces}
 use Rattle.fluent_tree.specs.Tree.{Text, Inline}
@@ -52,8 +52,16 @@ answered_is x (Some f) vs m b k v = by (f vs m)
 -- ---- its value
 
 -- an error where there is none
-pub answered_value : {C : Type 0} (content : C → Text) (b : Bundle Text) (q : Option (Function Text)) (vs : List (Value Text)) (m : Map (Value Text)) (o : Option (FluentValue C)) → option_map (value_view content) o ≡ option_map (λ f. f vs m) q → value_view content (unwrap_or o values.Error) ≡ walk.function_value (ahead Text) b (comes b) (application []) q vs m
+answered_value : {C : Type 0} (content : C → Text) (b : Bundle Text) (q : Option (Function Text)) (vs : List (Value Text)) (m : Map (Value Text)) (o : Option (FluentValue C)) → option_map (value_view content) o ≡ option_map (λ f. f vs m) q → value_view content (unwrap_or o values.Error) ≡ walk.function_value (ahead Text) b (comes b) (application []) q vs m
 answered_value content b None vs m None h = refl
 answered_value content b (Some f) vs m None h = cc
 answered_value content b None vs m (Some y) h = cc
 answered_value content b (Some f) vs m (Some y) h = cc
+
+-- of an answer that there is
+pub answered_some : {C : Type 0} (content : C → Text) (b : Bundle Text) (q : Option (Function Text)) (vs : List (Value Text)) (m : Map (Value Text)) (o : Option (FluentValue C)) → option_map (value_view content) o ≡ option_map (λ f. f vs m) q → (y : FluentValue C) → o ≡ Some y → value_view content y ≡ walk.function_value (ahead Text) b (comes b) (application []) q vs m
+answered_some content b q vs m o h y is = ap (λ r. value_view content (unwrap_or r values.Error)) (sym is) ∙ answered_value content b q vs m o h
+
+-- of none
+pub answered_none : {C : Type 0} (content : C → Text) (b : Bundle Text) (q : Option (Function Text)) (vs : List (Value Text)) (m : Map (Value Text)) (o : Option (FluentValue C)) → option_map (value_view content) o ≡ option_map (λ f. f vs m) q → o ≡ None → value_view {C = C} content values.Error ≡ walk.function_value (ahead Text) b (comes b) (application []) q vs m
+answered_none content b q vs m o h is = ap (λ r. value_view content (unwrap_or r values.Error)) (sym is) ∙ answered_value content b q vs m o h

@@ -8,6 +8,7 @@ use Rattle.fluent_values.specs.Sinks.{Sink}
 use Rattle.fluent_resolver.specs.Frames.{Along, IsWhole, paid_within}
 use Rattle.fluent_resolver.specs.Parts.{Following}
 use Rattle.fluent_resolver.specs.declared.work.Work.{Work}
+use Rattle.fluent_resolver.specs.Waits.{frames_in}
 
 -- nothing is ahead
 pub no_more : Bundle Text → Following
@@ -25,7 +26,7 @@ pub none_left : (levels n : ℕ) → levels ≡ 0 → paid_within levels n ≡ s
 none_left levels n is = ap (λ l. paid_within l n) is
 
 -- a value was made, and nothing was put off
-pub whole_if : {X C : Type 0} (o : Option X) (x : X) (work : Work C) → o ≡ Some x → IsWhole o work → work.frames.items ≡ []
+pub whole_if : {X C : Type 0} (o : Option X) (x : X) (work : Work C) → o ≡ Some x → IsWhole o work → (frames_in work) ≡ []
 whole_if o x work is h = subst (λ o. IsWhole o work) is h
 
 -- what was ahead, said otherwise

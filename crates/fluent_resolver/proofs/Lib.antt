@@ -29,3 +29,4 @@ pub mod Levels
 pub mod Settled
 pub mod Left
 pub mod Ranks
+pub mod Arms

@@ -33,6 +33,7 @@ use Rattle.fluent_resolver.specs.Parts as parts
 use Rattle.fluent_resolver.specs.Parts.{Following, Part, View}
 use Rattle.fluent_resolver.specs.Scoped.{Gets, GivenRun, MaybeTrackedRuns, TrackedRuns, given_ahead, given_values, maybe_tracked_events, pattern_events, tracked_events}
 use Rattle.fluent_resolver.specs.declared.work.Work.{Work}
+use Rattle.fluent_resolver.specs.Waits.{values_in}
 use Rattle.fluent_resolver.proofs.Beginning.{happened_entered}
 use Rattle.fluent_resolver.proofs.Laying.{viewed}
 use Rattle.fluent_resolver.proofs.Going.{begun, faults_on, passes, same_fault}
@@ -44,8 +45,8 @@ abbrev pub fresh : {B : Type 0} → Status B → View
 fresh a = record { kept = None; budget = a.budget; environment = a.environment; path = a.path; values = None }
 
 -- the same by an output that keeps none and by work without values
-pub begun_with : {C B W : Type 0} (content : C → Text) (part : Part) (k : Following) (b : Status B) (out : Output W) (work : Work C) → out.is_kept ≡ false → work.values ≡ None
-    → part b.bundle k (fresh b) ≡ part b.bundle k (viewed out b (values_view content work.values))
+pub begun_with : {C B W : Type 0} (content : C → Text) (part : Part) (k : Following) (b : Status B) (out : Output W) (work : Work C) → out.is_kept ≡ false → values_in work ≡ None
+    → part b.bundle k (fresh b) ≡ part b.bundle k (viewed out b (values_view content (values_in work)))
 begun_with content part k b out work kept none =
     ap (λ x. part b.bundle k (record { kept = x; budget = b.budget; environment = b.environment; path = b.path; values = None })) (sym (ap (λ x. kept_before x out.kept.now) kept))
     ∙ ap (λ vs. part b.bundle k (viewed out b (values_view content vs))) (sym none)

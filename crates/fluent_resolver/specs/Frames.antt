@@ -33,6 +33,7 @@ use Rattle.fluent_values.specs.declared.types.value.FluentValue.{FluentValue}
 use Rattle.fluent_resolver.specs.Changes.{Change}
 use Rattle.fluent_resolver.specs.Held.{held, IsBeforeMore}
 use Rattle.fluent_resolver.specs.Parts as parts
+use Rattle.fluent_resolver.specs.Waits.{frames_in, values_in}
 use Rattle.fluent_resolver.specs.Parts.{View, Following, Part, Use}
 use Rattle.fluent_resolver.specs.declared.frame.Frame.{Frame}
 use Rattle.fluent_resolver.specs.declared.frame.Frame.TheVariants as frames
@@ -130,7 +131,7 @@ ArePlacedFrames number table (f ∷ fs) = IsPlacedFrame number table f × ArePla
 
 -- all of a run are, in a bundle of these ids
 abbrev pub AreReady : {C F : Type 0} → Ids F → Work C → Type 0
-AreReady ids work = ArePlacedFrames (numbers ids) (table ids) work.frames.items
+AreReady ids work = ArePlacedFrames (numbers ids) (table ids) (frames_in work)
 
 -- ---- how far a call went
 
@@ -207,14 +208,14 @@ module _ {C F B W : Type 0} (meant : B → Bundle Text) (is_plain : B → Bool) 
       }
 
   abbrev pub view : State C F B → Output W → Work C → View
-  view s out work = view_of s out (values_view content work.values)
+  view s out work = view_of s out (values_view content (values_in work))
 
   -- Of a part, whatever follows it, some was done, or all: then this value was made, or none, and these frames are ahead of what follows. So many frames are paid for.
   abbrev pub GoesFrom : {T : Type 0} → (ℕ → ℕ) → Result T Halt → Part → (T → Option (Value Text)) → Change (State C F B) → Change (Output W) → Change (Work C) → Type 0
   GoesFrom paid result part given s out work =
       (k : Bundle Text → Following) (n : ℕ) →
       Went result (part (status_of s.entry.now).bundle (k (status_of s.entry.now).bundle) (view s.entry.now out.entry.now work.entry.now)) (paid n)
-      (λ x. before content (status_of s.exit.now).bundle work.exit.now.frames.items (k (status_of s.exit.now).bundle) (given x) (view s.exit.now out.exit.now work.exit.now)) (n + length work.exit.now.frames.items)
+      (λ x. before content (status_of s.exit.now).bundle (frames_in work.exit.now) (k (status_of s.exit.now).bundle) (given x) (view s.exit.now out.exit.now work.exit.now)) (n + length (frames_in work.exit.now))
       (outside contents out.entry.now) (outside contents out.exit.now) (status_of s.entry.now) (status_of s.exit.now)
 
   abbrev pub Goes : {T : Type 0} → Result T Halt → Part → (T → Option (Value Text)) → Change (State C F B) → Change (Output W) → Change (Work C) → Type 0
@@ -235,7 +236,7 @@ module _ {C F B W : Type 0} (meant : B → Bundle Text) (is_plain : B → Bool) 
   -- what was put off was done to its end, and what waited for it
   abbrev pub Runs : {T : Type 0} → Result T Halt → Change (State C F B) → Change (Output W) → Change (Work C) → Type 0
   Runs result s out work =
-      RanToEnd result (before content (status_of s.entry.now).bundle work.entry.now.frames.items at_end None (view s.entry.now out.entry.now work.entry.now)) (values_view content work.exit.now.values)
+      RanToEnd result (before content (status_of s.entry.now).bundle (frames_in work.entry.now) at_end None (view s.entry.now out.entry.now work.entry.now)) (values_view content (values_in work.exit.now))
       (outside contents out.entry.now) (outside contents out.exit.now) (status_of s.entry.now) (status_of s.exit.now)
 
 -- a value that was made, by content
@@ -252,10 +253,4 @@ IsGivenBy purposes.Hand given = given ≡ None
 -- a value is made only where nothing was put off
 abbrev pub IsWhole : {X C : Type 0} → Option X → Work C → Type 0
 IsWhole None work = Unit {0}
-IsWhole (Some x) work = work.frames.items ≡ []
-
--- a call waits
-pub record IsHeld {C : Type 0} (g : Gathering C) (before after : Work C) : Type 0 where
-  pub box : Box (Gathering C)
-  pub value : box.value ≡ g
-  pub frames : after.frames.items ≡ before.frames.items ++ frames.Gather box ∷ []
+IsWhole (Some x) work = frames_in work ≡ []

@@ -8,3 +8,4 @@ pub mod Held
 pub mod Frames
 pub mod ScopeView
 pub mod Scoped
+pub mod Waits

@@ -126,6 +126,41 @@ IsLeaf (t.term x a c) = ⊥
 IsLeaf (t.variable x) = Unit {0}
 IsLeaf (t.nested e) = ⊥
 
+-- a message reference
+abbrev pub IsMessage : Inline → Type 0
+IsMessage (t.string x) = ⊥
+IsMessage (t.number x) = ⊥
+IsMessage (t.function f a) = ⊥
+IsMessage (t.message m a) = Unit {0}
+IsMessage (t.term x a c) = ⊥
+IsMessage (t.variable x) = ⊥
+IsMessage (t.nested e) = ⊥
+
+-- a term reference
+abbrev pub IsTerm : Inline → Type 0
+IsTerm (t.string x) = ⊥
+IsTerm (t.number x) = ⊥
+IsTerm (t.function f a) = ⊥
+IsTerm (t.message m a) = ⊥
+IsTerm (t.term x a c) = Unit {0}
+IsTerm (t.variable x) = ⊥
+IsTerm (t.nested e) = ⊥
+
+-- a function's call
+abbrev pub IsFunction : Inline → Type 0
+IsFunction (t.string x) = ⊥
+IsFunction (t.number x) = ⊥
+IsFunction (t.function f a) = Unit {0}
+IsFunction (t.message m a) = ⊥
+IsFunction (t.term x a c) = ⊥
+IsFunction (t.variable x) = ⊥
+IsFunction (t.nested e) = ⊥
+
+-- a select
+abbrev pub IsSelect : Expression → Type 0
+IsSelect (t.select x vs) = Unit {0}
+IsSelect (t.inline x) = ⊥
+
 abbrev mutual
   -- the expression within all braces that stand round it alone
   pub innermost : Expression → Expression

@@ -12,24 +12,25 @@ ghost use Rattle.fluent_state.specs.Gathered.{gathered, values_of};
 ghost use Rattle.fluent_resolver.specs.Held.{StaysPlaced, held};
 ghost use Rattle.fluent_resolver.specs.Parts.{after_value, next_argument};
 ghost use Rattle.fluent_resolver.specs.Parts as parts;
-ghost use Rattle.fluent_resolver.specs.Frames.{IsGivenBy, IsHeld, IsPlacedCall, IsPlacedPurpose, gathers, made, use_of, AreReady, Goes, GoesWithin, IsWhole};
+ghost use Rattle.fluent_resolver.specs.Waits.{frames_in};
+ghost use Rattle.fluent_resolver.specs.Frames.{IsGivenBy, IsPlacedCall, IsPlacedPurpose, gathers, made, use_of, AreReady, Goes, GoesWithin, IsWhole};
 
 use crate::expression::write_inline;
-use crate::frame::{Frame, Gathering, Purpose, Remaining};
-use crate::inline_expression::enter_term;
+use crate::frame::{Gathering, Purpose, Remaining};
+use crate::inline_expression::enter_with_values;
 use crate::machine::end_text;
 use crate::work::Work;
 use fluent_links::Cursor;
+use fluent_state::State;
 use fluent_state::found::answer_of;
 use fluent_state::gathered::{Gathered, push_value};
 use fluent_state::shown::put_answer;
 use fluent_state::variable::resolve_variable;
-use fluent_state::{Locals, State};
 use fluent_text::unescape_unicode_to_string;
 use fluent_tree::ast::{CallArguments, InlineExpression};
 use fluent_values::output::{Halt, Output};
 use fluent_values::{Context, FluentArgs, FluentFunction, FluentType, FluentValue};
-use std::alloc::{AllocError, Global};
+use std::alloc::AllocError;
 use std::borrow::CowStr;
 use std::io::Write;
 use std::mem;
@@ -46,7 +47,7 @@ pub(crate) fn resolve<'p, 's, 'args, W: Write, C: FluentType, F: FluentFunction<
     cursor: Cursor<'p>,
 ) -> Result<Option<FluentValue<'p, C>>, Halt>
     requires placed { IsPlaced scope.old.ids.now (in_inline (inline_view inline.now)) cursor }
-    requires nothing { work.old.frames.items ≡ [] }
+    requires nothing { frames_in work.old ≡ [] }
     ensures goes { GoesWithin B.meant B.is_plain F.answer C.content W.contents levels result
         (parts.resolved (inline_view inline.now))
         (made C.content) scope out work }
@@ -64,7 +65,7 @@ pub(crate) fn resolve<'p, 's, 'args, W: Write, C: FluentType, F: FluentFunction<
         }
         _ => {
             if levels == 0 {
-                work.wait(Frame::Resolve { inline, cursor })?;
+                work.put_off_value(inline, cursor)?;
                 return Ok(None);
             }
             match inline {
@@ -91,7 +92,7 @@ fn keep_text<'p, 's, 'args, W: Write, C: FluentType, F: FluentFunction<C>, B: Co
     cursor: Cursor<'p>,
 ) -> Result<Option<FluentValue<'p, C>>, Halt>
     requires placed { IsPlaced scope.old.ids.now (in_inline (inline_view inline.now)) cursor }
-    requires nothing { work.old.frames.items ≡ [] }
+    requires nothing { frames_in work.old ≡ [] }
     ensures goes { Goes B.meant B.is_plain F.answer C.content W.contents result
         (parts.kept (inline_view inline.now))
         (made C.content) scope out work }
@@ -105,13 +106,13 @@ fn keep_text<'p, 's, 'args, W: Write, C: FluentType, F: FluentFunction<C>, B: Co
     if work.is_done() {
         return Ok(Some(end_text(out, outer, was_kept)));
     }
-    work.wait(Frame::Value { outer, was_kept })?;
+    work.wait_value(outer, was_kept)?;
     Ok(None)
 }
 
 /// What the arguments of a call are for, once they are gathered; no value where something was put off.
 #[cycle(resolve)]
-#[inline(never)]
+#[inline(always)]
 pub(crate) fn begin_call<
     'p,
     's,
@@ -131,7 +132,7 @@ pub(crate) fn begin_call<
 ) -> Result<Option<FluentValue<'p, C>>, Halt>
     requires purpose { IsPlacedPurpose (numbers scope.old.ids.now) (table scope.old.ids.now) purpose }
     requires placed { IsPlaced scope.old.ids.now (in_arguments (arguments_view arguments.now)) cursor }
-    requires nothing { work.old.frames.items ≡ [] }
+    requires nothing { frames_in work.old ≡ [] }
     ensures goes { Goes B.meant B.is_plain F.answer C.content W.contents result
         (parts.calls (use_of purpose.entry) (arguments_view arguments.now))
         (made C.content) scope out work }
@@ -164,7 +165,7 @@ pub(crate) fn go_on<'p, 's, 'args, W: Write, C: FluentType, F: FluentFunction<C>
     given: Option<FluentValue<'p, C>>,
 ) -> Result<Option<FluentValue<'p, C>>, Halt>
     requires placed { IsPlacedCall (numbers scope.old.ids.now) (table scope.old.ids.now) gathering.value }
-    requires nothing { work.old.frames.items ≡ [] }
+    requires nothing { frames_in work.old ≡ [] }
     ensures goes { Goes B.meant B.is_plain F.answer C.content W.contents result
         (gathers C.content gathering.entry.value (made C.content given.entry))
         (made C.content) scope out work }
@@ -179,6 +180,7 @@ pub(crate) fn go_on<'p, 's, 'args, W: Write, C: FluentType, F: FluentFunction<C>
 
 /// Gathers the arguments of a call that are left, and does what they are for.
 #[cycle(resolve)]
+#[inline(always)]
 fn gather<'p, 's, 'args, W: Write, C: FluentType, F: FluentFunction<C>, B: Context<C>>(
     scope: &mut State<'_, 'p, '_, 's, 'args, C, F, B>,
     out: &mut Output<W>,
@@ -187,7 +189,7 @@ fn gather<'p, 's, 'args, W: Write, C: FluentType, F: FluentFunction<C>, B: Conte
     gathering: Gathering<'p, 's, C>,
 ) -> Result<Option<FluentValue<'p, C>>, Halt>
     requires placed { IsPlacedCall (numbers scope.old.ids.now) (table scope.old.ids.now) gathering }
-    requires nothing { work.old.frames.items ≡ [] }
+    requires nothing { frames_in work.old ≡ [] }
     ensures goes { Goes B.meant B.is_plain F.answer C.content W.contents result
         (gathers C.content gathering.entry None)
         (made C.content) scope out work }
@@ -201,7 +203,7 @@ fn gather<'p, 's, 'args, W: Write, C: FluentType, F: FluentFunction<C>, B: Conte
         match resolve(scope, out, work, levels, inline, cursor)? {
             Some(value) => take(&mut gathering, value)?,
             None => {
-                hold(scope.bundle.allocator(), work, gathering)?;
+                work.hold(gathering)?;
                 return Ok(None);
             }
         }
@@ -209,33 +211,12 @@ fn gather<'p, 's, 'args, W: Write, C: FluentType, F: FluentFunction<C>, B: Conte
     finish(scope, out, work, levels, gathering)
 }
 
-/// Has a call wait for its next argument, which was put off.
-///
-/// # Errors
-///
-/// An allocation failed.
-#[cold]
-fn hold<'p, 's, 'args, C: FluentType>(
-    alloc: Global,
-    work: &mut Work<'p, 'args, 's, C>,
-    gathering: Gathering<'p, 's, C>,
-) -> Result<(), Halt>
-    ensures waits { OnOk result (IsHeld gathering.entry work.old work.new) }
-    ensures values { work.new.values ≡ work.old.values }
-    ensures err { IfErr result (λ e. e ≡ Halt.Memory) }
-{
-    match Box::new(alloc, gathering) {
-        Ok(gathering) => work.wait(Frame::Gather(gathering)),
-        Err(_) => Err(Halt::Memory),
-    }
-}
-
 /// Gives the next argument of a call its value.
 ///
 /// # Errors
 ///
 /// An allocation failed.
-#[inline(never)]
+#[inline(always)]
 fn take<'p, 's, C: FluentType>(
     gathering: &mut Gathering<'p, 's, C>,
     value: FluentValue<'p, C>,
@@ -261,6 +242,7 @@ fn take<'p, 's, C: FluentType>(
 }
 
 /// The next argument of a call, if one is left.
+#[inline(always)]
 fn next<'p, 's, C: FluentType>(gathering: &Gathering<'p, 's, C>) -> Option<&'p InlineExpression<'s>>
     ensures { option_map (λ x. inline_view x.now) result ≡ next_argument (held C.content gathering.now) }
 {
@@ -276,7 +258,7 @@ fn next<'p, 's, C: FluentType>(gathering: &Gathering<'p, 's, C>) -> Option<&'p I
 
 /// Does what the arguments of a call are for, of which none is left.
 #[cycle(resolve)]
-#[inline(never)]
+#[inline(always)]
 fn finish<'p, 's, 'args, W: Write, C: FluentType, F: FluentFunction<C>, B: Context<C>>(
     scope: &mut State<'_, 'p, '_, 's, 'args, C, F, B>,
     out: &mut Output<W>,
@@ -285,7 +267,7 @@ fn finish<'p, 's, 'args, W: Write, C: FluentType, F: FluentFunction<C>, B: Conte
     gathering: Gathering<'p, 's, C>,
 ) -> Result<Option<FluentValue<'p, C>>, Halt>
     requires placed { IsPlacedPurpose (numbers scope.old.ids.now) (table scope.old.ids.now) gathering.purpose }
-    requires nothing { work.old.frames.items ≡ [] }
+    requires nothing { frames_in work.old ≡ [] }
     ensures goes { Goes B.meant B.is_plain F.answer C.content W.contents result
         (λ b k v. begins (use_of gathering.entry.purpose (values_of C.content gathering.entry.positional)
         (gathered C.content gathering.entry.named) b k v))
@@ -306,7 +288,7 @@ fn finish<'p, 's, 'args, W: Write, C: FluentType, F: FluentFunction<C>, B: Conte
 
 /// Does what the values of arguments are for.
 #[cycle(resolve)]
-#[inline(never)]
+#[inline(always)]
 fn use_values<'p, 's, 'args, W: Write, C: FluentType, F: FluentFunction<C>, B: Context<C>>(
     scope: &mut State<'_, 'p, '_, 's, 'args, C, F, B>,
     out: &mut Output<W>,
@@ -317,7 +299,7 @@ fn use_values<'p, 's, 'args, W: Write, C: FluentType, F: FluentFunction<C>, B: C
     args: FluentArgs<'p, C>,
 ) -> Result<Option<FluentValue<'p, C>>, Halt>
     requires placed { IsPlacedPurpose (numbers scope.old.ids.now) (table scope.old.ids.now) purpose }
-    requires nothing { work.old.frames.items ≡ [] }
+    requires nothing { frames_in work.old ≡ [] }
     ensures goes { Goes B.meant B.is_plain F.answer C.content W.contents result
         (λ b k v. begins (use_of purpose.entry (values_of C.content positional.entry)
         (named_view C.content args.entry) b k v))
@@ -333,24 +315,17 @@ fn use_values<'p, 's, 'args, W: Write, C: FluentType, F: FluentFunction<C>, B: C
         }
         Purpose::Give { id, cursor } => {
             let alloc = scope.bundle.allocator();
-            let answer = answer_of(scope.ids, alloc, id.name, &positional, &args, cursor)?;
-            Ok(Some(answer.unwrap_or(FluentValue::Error)))
+            match answer_of(scope.ids, alloc, id.name, &positional, &args, cursor)? {
+                Some(answer) => Ok(Some(answer)),
+                None => Ok(Some(FluentValue::Error)),
+            }
         }
         Purpose::Local { inline, id, found } => {
-            enter_term(
-                scope,
-                out,
-                work,
-                levels,
-                inline,
-                id,
-                found,
-                Locals::Values(args),
-            )?;
+            enter_with_values(scope, out, work, levels, inline, id, found, args)?;
             Ok(None)
         }
         Purpose::Hand => {
-            work.values = Some((positional, args));
+            work.give(positional, args)?;
             Ok(None)
         }
     }

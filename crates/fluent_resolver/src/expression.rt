@@ -9,19 +9,21 @@ ghost use Rattle.fluent_values.specs.View.{value_view};
 ghost use Rattle.fluent_entries.specs.IdNumbers.{IsPlaced, numbers};
 ghost use Rattle.fluent_state.specs.ChosenView.{BeginsAt, chosen_view};
 ghost use Rattle.fluent_resolver.specs.Parts as parts;
+ghost use Rattle.fluent_resolver.specs.Parts.{IsSelect};
+ghost use Rattle.fluent_resolver.specs.Waits.{frames_in};
 ghost use Rattle.fluent_resolver.specs.Frames.{made, selector_value, AreReady, Goes, GoesWithin};
 
 use crate::arguments::resolve;
-use crate::frame::Frame;
 use crate::inline_expression::write_unbraced;
 use crate::pattern::write_elements;
 use crate::work::Work;
 use fluent_links::Cursor;
 use fluent_state::State;
+use fluent_state::lost::report_no_default;
 use fluent_state::variants::{Chosen, choose, choose_by_variable};
 use fluent_tree::ast::{Expression, InlineExpression, Variant};
 use fluent_values::output::{Halt, Output};
-use fluent_values::{Context, FluentFunction, FluentType, FluentValue, ResolverError};
+use fluent_values::{Context, FluentFunction, FluentType, FluentValue};
 use std::io::Write;
 
 /// Writes what an expression gives. It is put off where no level is left.
@@ -44,22 +46,21 @@ pub(crate) fn write_expression<
     cursor: Cursor<'p>,
 ) -> Result<(), Halt>
     requires placed { IsPlaced scope.old.ids.now (in_expression (expression_view expression.now)) cursor }
-    requires nothing { work.old.frames.items ≡ [] }
+    requires nothing { frames_in work.old ≡ [] }
     ensures goes { GoesWithin B.meant B.is_plain F.answer C.content W.contents levels result
         (parts.expression (expression_view expression.now))
         (λ x. None) scope out work }
     ensures placed { OnOk result (AreReady scope.new.ids.now work.new) }
 {
     if levels == 0 {
-        return work.wait(Frame::Express { expression, cursor });
+        return work.put_off(expression, cursor);
     }
-    match innermost(expression) {
+    let inner = innermost(expression);
+    match inner {
         Expression::Inline(inline) => {
             write_unbraced(scope, out, work, levels - 1, inline, cursor)
         }
-        Expression::Select { selector, variants } => {
-            write_select(scope, out, work, levels - 1, selector, variants, cursor)
-        }
+        Expression::Select { .. } => write_select(scope, out, work, levels - 1, inner, cursor),
     }
 }
 
@@ -82,7 +83,7 @@ pub(crate) fn write_inline<
     cursor: Cursor<'p>,
 ) -> Result<(), Halt>
     requires placed { IsPlaced scope.old.ids.now (in_inline (inline_view inline.now)) cursor }
-    requires nothing { work.old.frames.items ≡ [] }
+    requires nothing { frames_in work.old ≡ [] }
     ensures goes { GoesWithin B.meant B.is_plain F.answer C.content W.contents levels result
         (parts.written (inline_view inline.now))
         (λ x. None) scope out work }
@@ -108,10 +109,42 @@ pub(crate) fn innermost<'p, 's>(expression: &'p Expression<'s>) -> &'p Expressio
     inner
 }
 
-/// Writes the variant that a selector's value goes to.
+/// Writes the variant of a select that its selector's value goes to.
 #[cycle(resolve)]
 #[inline(never)]
 fn write_select<'p, 's, 'args, W: Write, C: FluentType, F: FluentFunction<C>, B: Context<C>>(
+    scope: &mut State<'_, 'p, '_, 's, 'args, C, F, B>,
+    out: &mut Output<W>,
+    work: &mut Work<'p, 'args, 's, C>,
+    levels: usize,
+    expression: &'p Expression<'s>,
+    cursor: Cursor<'p>,
+) -> Result<(), Halt>
+    requires select { IsSelect (expression_view expression.now) }
+    requires placed { IsPlaced scope.old.ids.now (in_expression (expression_view expression.now)) cursor }
+    requires nothing { frames_in work.old ≡ [] }
+    ensures goes { Goes B.meant B.is_plain F.answer C.content W.contents result
+        (parts.expression (expression_view expression.now))
+        (λ x. None) scope out work }
+    ensures placed { OnOk result (AreReady scope.new.ids.now work.new) }
+{
+    match expression {
+        Expression::Select { selector, variants } => match selector {
+            InlineExpression::VariableReference { id } => {
+                let after = cursor.after_inline(selector);
+                let chosen = choose_by_variable(scope, selector, id, variants, after)?;
+                write_chosen(scope, out, work, levels, chosen)
+            }
+            _ => write_by_value(scope, out, work, levels, selector, variants, cursor),
+        },
+        Expression::Inline(_) => Ok(()),
+    }
+}
+
+/// The same, where the value has to be made. It stands by itself, as what a call may hold costs at its entry.
+#[cycle(resolve)]
+#[inline(never)]
+fn write_by_value<'p, 's, 'args, W: Write, C: FluentType, F: FluentFunction<C>, B: Context<C>>(
     scope: &mut State<'_, 'p, '_, 's, 'args, C, F, B>,
     out: &mut Output<W>,
     work: &mut Work<'p, 'args, 's, C>,
@@ -122,25 +155,16 @@ fn write_select<'p, 's, 'args, W: Write, C: FluentType, F: FluentFunction<C>, B:
 ) -> Result<(), Halt>
     requires placed { IsPlaced scope.old.ids.now
         (in_expression (select (inline_view selector.now) (variants_view variants.now.items))) cursor }
-    requires nothing { work.old.frames.items ≡ [] }
+    requires nothing { frames_in work.old ≡ [] }
     ensures goes { Goes B.meant B.is_plain F.answer C.content W.contents result
         (parts.expression (select (inline_view selector.now) (variants_view variants.now.items)))
         (λ x. None) scope out work }
     ensures placed { OnOk result (AreReady scope.new.ids.now work.new) }
 {
     let after = cursor.after_inline(selector);
-    match selector {
-        InlineExpression::VariableReference { id } => {
-            let chosen = choose_by_variable(scope, selector, id, variants, after)?;
-            write_chosen(scope, out, work, levels, chosen)
-        }
-        _ => match resolve(scope, out, work, levels, selector, cursor)? {
-            Some(value) => choose_variant(scope, out, work, levels, variants, after, &value),
-            None => work.wait(Frame::Choose {
-                variants,
-                cursor: after,
-            }),
-        },
+    match resolve(scope, out, work, levels, selector, cursor)? {
+        Some(value) => choose_variant(scope, out, work, levels, variants, after, &value),
+        None => work.wait_choose(variants, after),
     }
 }
 
@@ -163,7 +187,7 @@ pub(crate) fn choose_given<
     given: Option<FluentValue<'p, C>>,
 ) -> Result<(), Halt>
     requires placed { IsPlaced scope.old.ids.now (in_variants (variants_view variants.now)) cursor }
-    requires nothing { work.old.frames.items ≡ [] }
+    requires nothing { frames_in work.old ≡ [] }
     ensures goes { Goes B.meant B.is_plain F.answer C.content W.contents result
         (parts.matched (variants_view variants.now) (selector_value (made C.content given.entry)))
         (λ x. None) scope out work }
@@ -191,7 +215,7 @@ fn choose_variant<'p, 's, 'args, W: Write, C: FluentType, F: FluentFunction<C>, 
     value: &FluentValue<'p, C>,
 ) -> Result<(), Halt>
     requires placed { IsPlaced scope.old.ids.now (in_variants (variants_view variants.now)) cursor }
-    requires nothing { work.old.frames.items ≡ [] }
+    requires nothing { frames_in work.old ≡ [] }
     ensures goes { Goes B.meant B.is_plain F.answer C.content W.contents result
         (parts.matched (variants_view variants.now) (value_view C.content value.now))
         (λ x. None) scope out work }
@@ -213,7 +237,7 @@ fn write_chosen<'p, 's, 'args, W: Write, C: FluentType, F: FluentFunction<C>, B:
     chosen: Option<Chosen<'p, 's>>,
 ) -> Result<(), Halt>
     requires placed { BeginsAt (numbers scope.old.ids.now) chosen }
-    requires nothing { work.old.frames.items ≡ [] }
+    requires nothing { frames_in work.old ≡ [] }
     ensures goes { Goes B.meant B.is_plain F.answer C.content W.contents result
         (parts.chosen (chosen_view chosen.entry))
         (λ x. None) scope out work }
@@ -222,16 +246,16 @@ fn write_chosen<'p, 's, 'args, W: Write, C: FluentType, F: FluentFunction<C>, B:
     match chosen {
         Some(chosen) => {
             let begun = scope.begin(chosen.pattern);
-            write_elements(scope, out, work, levels, chosen.pattern, 0, chosen.cursor)?;
+            write_elements(scope, out, work, levels, chosen.pattern, chosen.cursor)?;
             if work.is_done() {
                 scope.leave(begun);
                 Ok(())
             } else {
-                work.wait(Frame::Leave(begun))
+                work.wait_leave(begun)
             }
         }
         None => {
-            scope.add_error(ResolverError::MissingDefault)?;
+            report_no_default(scope)?;
             Ok(())
         }
     }

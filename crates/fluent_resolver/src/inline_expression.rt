@@ -2,18 +2,20 @@
 #![tactic(auto, unfolding(fluent_state::specs::Status::state_parts))]
 
 ghost use Rattle.std.specs.Prelude.{◌≡◌, [], false, None, OnOk};
-ghost use Rattle.fluent_tree.specs.References.{in_call, in_inline};
-ghost use Rattle.fluent_tree.specs.View.{call_view, inline_view};
+ghost use Rattle.fluent_tree.specs.References.{in_arguments, in_call, in_inline};
+ghost use Rattle.fluent_tree.specs.View.{arguments_view, call_view, inline_view};
 ghost use Rattle.fluent_meaning.specs.Ahead.{begins};
 ghost use Rattle.fluent_state.specs.Locals.{locals_view};
 ghost use Rattle.fluent_entries.specs.IdNumbers.{IsPlaced};
 ghost use Rattle.fluent_state.specs.FoundView.{IsLed, IsStored, content_at, found_view};
 ghost use Rattle.fluent_resolver.specs.Parts as parts;
-ghost use Rattle.fluent_resolver.specs.Parts.{is_braced};
+ghost use Rattle.fluent_resolver.specs.Waits.{frames_in};
+ghost use Rattle.fluent_resolver.specs.Parts.{IsFunction, IsMessage, IsTerm, is_braced};
+ghost use Rattle.fluent_values.specs.View.{named as named_view};
 ghost use Rattle.fluent_resolver.specs.Frames.{AreReady, Goes};
 
 use crate::arguments::begin_call;
-use crate::frame::{Frame, Purpose};
+use crate::frame::Purpose;
 use crate::leaf::put_leaf;
 use crate::pattern::write_elements;
 use crate::work::Work;
@@ -21,16 +23,17 @@ use fluent_links::Cursor;
 use fluent_state::fallback::{put_id_in_braces, put_in_braces};
 use fluent_state::laws::events_are_the_run;
 use fluent_state::locals::has_literals_alone;
-use fluent_state::lost::{lose, report_no_value};
+use fluent_state::lost::{lose, report_cycle, report_no_value};
 use fluent_state::{Environment, Found, Locals, State, Target, found};
 use fluent_tree::ast::{CallArguments, Identifier, InlineExpression};
 use fluent_values::output::{Halt, Output};
-use fluent_values::{Context, FluentFunction, FluentType, ResolverError};
+use fluent_values::{Context, FluentArgs, FluentFunction, FluentType};
 use std::io::Write;
 use std::mem;
 
 /// Writes what an inline expression gives that is not in braces.
 #[cycle(resolve)]
+#[inline(always)]
 pub(crate) fn write_unbraced<
     'p,
     's,
@@ -49,7 +52,7 @@ pub(crate) fn write_unbraced<
 ) -> Result<(), Halt>
     requires unbraced { is_braced (inline_view inline.now) ≡ false }
     requires placed { IsPlaced scope.old.ids.now (in_inline (inline_view inline.now)) cursor }
-    requires nothing { work.old.frames.items ≡ [] }
+    requires nothing { frames_in work.old ≡ [] }
     ensures goes { Goes B.meant B.is_plain F.answer C.content W.contents result
         (parts.written (inline_view inline.now))
         (λ x. None) scope out work }
@@ -58,16 +61,69 @@ pub(crate) fn write_unbraced<
     match inline {
         InlineExpression::StringLiteral { .. } => put_leaf(scope, out, inline),
         InlineExpression::NumberLiteral { .. } => put_leaf(scope, out, inline),
-        InlineExpression::FunctionReference { id, arguments } => {
-            let purpose = Purpose::Show { inline, id, cursor };
-            let at = cursor.after_one();
-            let _ = begin_call(scope, out, work, levels, purpose, arguments, at)?;
-            Ok(())
+        InlineExpression::FunctionReference { .. } => {
+            write_function(scope, out, work, levels, inline, cursor)
         }
+        InlineExpression::MessageReference { .. } => {
+            write_message(scope, out, work, levels, inline, cursor)
+        }
+        InlineExpression::TermReference { .. } => {
+            write_term(scope, out, work, levels, inline, cursor)
+        }
+        InlineExpression::VariableReference { .. } => put_leaf(scope, out, inline),
+        InlineExpression::Placeable { .. } => Ok(()),
+    }
+}
+
+/// Writes what a message reference leads to. This, and what follows, stand by themselves and are handed little, as each
+/// part of a pattern pays for what a call may hold and is handed.
+#[cycle(resolve)]
+#[inline(never)]
+fn write_message<'p, 's, 'args, W: Write, C: FluentType, F: FluentFunction<C>, B: Context<C>>(
+    scope: &mut State<'_, 'p, '_, 's, 'args, C, F, B>,
+    out: &mut Output<W>,
+    work: &mut Work<'p, 'args, 's, C>,
+    levels: usize,
+    inline: &'p InlineExpression<'s>,
+    cursor: Cursor<'p>,
+) -> Result<(), Halt>
+    requires message { IsMessage (inline_view inline.now) }
+    requires placed { IsPlaced scope.old.ids.now (in_inline (inline_view inline.now)) cursor }
+    requires nothing { frames_in work.old ≡ [] }
+    ensures goes { Goes B.meant B.is_plain F.answer C.content W.contents result
+        (parts.written (inline_view inline.now))
+        (λ x. None) scope out work }
+    ensures placed { OnOk result (AreReady scope.new.ids.now work.new) }
+{
+    match inline {
         InlineExpression::MessageReference { id, attribute } => {
             let found = found::message(scope.ids, id.name, attribute, cursor);
             follow(scope, out, work, levels, inline, id, found)
         }
+        _ => Ok(()),
+    }
+}
+
+/// Writes what a term reference leads to, in the environment that its arguments make.
+#[cycle(resolve)]
+#[inline(never)]
+fn write_term<'p, 's, 'args, W: Write, C: FluentType, F: FluentFunction<C>, B: Context<C>>(
+    scope: &mut State<'_, 'p, '_, 's, 'args, C, F, B>,
+    out: &mut Output<W>,
+    work: &mut Work<'p, 'args, 's, C>,
+    levels: usize,
+    inline: &'p InlineExpression<'s>,
+    cursor: Cursor<'p>,
+) -> Result<(), Halt>
+    requires term { IsTerm (inline_view inline.now) }
+    requires placed { IsPlaced scope.old.ids.now (in_inline (inline_view inline.now)) cursor }
+    requires nothing { frames_in work.old ≡ [] }
+    ensures goes { Goes B.meant B.is_plain F.answer C.content W.contents result
+        (parts.written (inline_view inline.now))
+        (λ x. None) scope out work }
+    ensures placed { OnOk result (AreReady scope.new.ids.now work.new) }
+{
+    match inline {
         InlineExpression::TermReference {
             id,
             attribute,
@@ -75,17 +131,16 @@ pub(crate) fn write_unbraced<
         } => {
             let found = found::term(scope.ids, id.name, attribute, cursor);
             let at = cursor.after_one();
-            write_term(scope, out, work, levels, inline, id, found, arguments, at)
+            write_found(scope, out, work, levels, inline, id, found, arguments, at)
         }
-        InlineExpression::VariableReference { .. } => put_leaf(scope, out, inline),
-        InlineExpression::Placeable { .. } => Ok(()),
+        _ => Ok(()),
     }
 }
 
-/// Writes a term's pattern, in the environment that its arguments make.
+/// Writes what was found for a term reference, in the environment that its arguments make.
 #[cycle(resolve)]
-#[inline(never)]
-fn write_term<'p, 's, 'args, W: Write, C: FluentType, F: FluentFunction<C>, B: Context<C>>(
+#[inline(always)]
+fn write_found<'p, 's, 'args, W: Write, C: FluentType, F: FluentFunction<C>, B: Context<C>>(
     scope: &mut State<'_, 'p, '_, 's, 'args, C, F, B>,
     out: &mut Output<W>,
     work: &mut Work<'p, 'args, 's, C>,
@@ -98,7 +153,7 @@ fn write_term<'p, 's, 'args, W: Write, C: FluentType, F: FluentFunction<C>, B: C
 ) -> Result<(), Halt>
     requires led { IsLed scope.old.ids.now found }
     requires placed { IsPlaced scope.old.ids.now (in_call (call_view arguments.now)) cursor }
-    requires nothing { work.old.frames.items ≡ [] }
+    requires nothing { frames_in work.old ≡ [] }
     ensures goes { Goes B.meant B.is_plain F.answer C.content W.contents result
         (parts.term (inline_view inline.now) id.now.name.now (found_view found.entry) (call_view arguments.now))
         (λ x. None) scope out work }
@@ -115,11 +170,101 @@ fn write_term<'p, 's, 'args, W: Write, C: FluentType, F: FluentFunction<C>, B: C
                 let locals = Locals::Literals(Some(arguments));
                 return enter_term(scope, out, work, levels, inline, id, found, locals);
             }
-            let purpose = Purpose::Local { inline, id, found };
-            let _ = begin_call(scope, out, work, levels, purpose, arguments, cursor)?;
-            Ok(())
+            write_with_values(
+                scope, out, work, levels, inline, id, found, arguments, cursor,
+            )
         }
     }
+}
+
+/// The same where the arguments have values that have to be made.
+#[cycle(resolve)]
+#[inline(never)]
+fn write_with_values<'p, 's, 'args, W: Write, C: FluentType, F: FluentFunction<C>, B: Context<C>>(
+    scope: &mut State<'_, 'p, '_, 's, 'args, C, F, B>,
+    out: &mut Output<W>,
+    work: &mut Work<'p, 'args, 's, C>,
+    levels: usize,
+    inline: &'p InlineExpression<'s>,
+    id: &'p Identifier<'s>,
+    found: Found<'p, 's>,
+    arguments: &'p CallArguments<'s>,
+    cursor: Cursor<'p>,
+) -> Result<(), Halt>
+    requires led { IsLed scope.old.ids.now found }
+    requires placed { IsPlaced scope.old.ids.now (in_arguments (arguments_view arguments.now)) cursor }
+    requires nothing { frames_in work.old ≡ [] }
+    ensures goes { Goes B.meant B.is_plain F.answer C.content W.contents result
+        (parts.calls (parts.in_term (inline_view inline.now) id.now.name.now (found_view found.entry)) (arguments_view arguments.now))
+        (λ x. None) scope out work }
+    ensures placed { OnOk result (AreReady scope.new.ids.now work.new) }
+{
+    let purpose = Purpose::Local { inline, id, found };
+    let _ = begin_call(scope, out, work, levels, purpose, arguments, cursor)?;
+    Ok(())
+}
+
+/// Writes what a function answers to its arguments.
+#[cycle(resolve)]
+#[inline(never)]
+fn write_function<'p, 's, 'args, W: Write, C: FluentType, F: FluentFunction<C>, B: Context<C>>(
+    scope: &mut State<'_, 'p, '_, 's, 'args, C, F, B>,
+    out: &mut Output<W>,
+    work: &mut Work<'p, 'args, 's, C>,
+    levels: usize,
+    inline: &'p InlineExpression<'s>,
+    cursor: Cursor<'p>,
+) -> Result<(), Halt>
+    requires function { IsFunction (inline_view inline.now) }
+    requires placed { IsPlaced scope.old.ids.now (in_inline (inline_view inline.now)) cursor }
+    requires nothing { frames_in work.old ≡ [] }
+    ensures goes { Goes B.meant B.is_plain F.answer C.content W.contents result
+        (parts.written (inline_view inline.now))
+        (λ x. None) scope out work }
+    ensures placed { OnOk result (AreReady scope.new.ids.now work.new) }
+{
+    match inline {
+        InlineExpression::FunctionReference { id, arguments } => {
+            let purpose = Purpose::Show { inline, id, cursor };
+            let at = cursor.after_one();
+            let _ = begin_call(scope, out, work, levels, purpose, arguments, at)?;
+            Ok(())
+        }
+        _ => Ok(()),
+    }
+}
+
+/// Writes what a term reference leads to, where variables are looked up among values that were made.
+#[cycle(resolve)]
+#[inline(never)]
+pub(crate) fn enter_with_values<
+    'p,
+    's,
+    'args,
+    W: Write,
+    C: FluentType,
+    F: FluentFunction<C>,
+    B: Context<C>,
+>(
+    scope: &mut State<'_, 'p, '_, 's, 'args, C, F, B>,
+    out: &mut Output<W>,
+    work: &mut Work<'p, 'args, 's, C>,
+    levels: usize,
+    inline: &InlineExpression<'_>,
+    id: &Identifier<'_>,
+    found: Found<'p, 's>,
+    args: FluentArgs<'p, C>,
+) -> Result<(), Halt>
+    requires led { IsLed scope.old.ids.now found }
+    requires nothing { frames_in work.old ≡ [] }
+    ensures goes { Goes B.meant B.is_plain F.answer C.content W.contents result
+        (λ b k v. begins (parts.entering_term (inline_view inline.now) id.now.name.now
+        (found_view found.entry) (named_view C.content args.entry) b k v))
+        (λ x. None) scope out work }
+    ensures placed { OnOk result (AreReady scope.new.ids.now work.new) }
+{
+    let locals = Locals::Values(args);
+    enter_term(scope, out, work, levels, inline, id, found, locals)
 }
 
 /// Writes what a term reference leads to, where variables are looked up among its arguments.
@@ -144,7 +289,7 @@ pub(crate) fn enter_term<
     locals: Locals<'p, 's, C>,
 ) -> Result<(), Halt>
     requires led { IsLed scope.old.ids.now found }
-    requires nothing { work.old.frames.items ≡ [] }
+    requires nothing { frames_in work.old ≡ [] }
     ensures goes { Goes B.meant B.is_plain F.answer C.content W.contents result
         (λ b k v. begins (parts.entering_term (inline_view inline.now) id.now.name.now
         (found_view found.entry) (locals_view C.content locals.entry) b k v))
@@ -157,7 +302,7 @@ pub(crate) fn enter_term<
         let _ = mem::replace(&mut scope.environment, outer);
         Ok(())
     } else {
-        work.wait(Frame::Outer(outer))
+        work.wait_outer(outer)
     }
 }
 
@@ -174,7 +319,7 @@ fn follow<'p, 's, 'args, W: Write, C: FluentType, F: FluentFunction<C>, B: Conte
     found: Found<'p, 's>,
 ) -> Result<(), Halt>
     requires led { IsLed scope.old.ids.now found }
-    requires nothing { work.old.frames.items ≡ [] }
+    requires nothing { frames_in work.old ≡ [] }
     ensures goes { Goes B.meant B.is_plain F.answer C.content W.contents result
         (parts.follow (inline_view inline.now) id.now.name.now (found_view found.entry))
         (λ x. None) scope out work }
@@ -202,23 +347,23 @@ fn go<'p, 's, 'args, W: Write, C: FluentType, F: FluentFunction<C>, B: Context<C
     target: Target<'p, 's>,
 ) -> Result<(), Halt>
     requires stored { IsStored scope.old.ids.now target }
-    requires nothing { work.old.frames.items ≡ [] }
+    requires nothing { frames_in work.old ≡ [] }
     ensures goes { Goes B.meant B.is_plain F.answer C.content W.contents result
         (parts.go (inline_view inline.now) (content_at target.entry))
         (λ x. None) scope out work }
     ensures placed { OnOk result (AreReady scope.new.ids.now work.new) }
 {
     if scope.is_on(target.pattern, target.class) {
-        scope.add_error(ResolverError::Cyclic)?;
+        report_cycle(scope)?;
         return put_in_braces(out, inline);
     }
     events_are_the_run();
     scope.enter(target.pattern, target.class)?;
-    write_elements(scope, out, work, levels, target.pattern, 0, target.cursor)?;
+    write_elements(scope, out, work, levels, target.pattern, target.cursor)?;
     if work.is_done() {
         scope.leave(true);
         Ok(())
     } else {
-        work.wait(Frame::Leave(true))
+        work.wait_leave(true)
     }
 }

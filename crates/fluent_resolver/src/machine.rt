@@ -4,6 +4,7 @@
 ghost use Rattle.std.specs.Prelude.{◌≡◌, ◌++◌, [], OnOk, IfErr, reverse};
 ghost use Rattle.fluent_entries.specs.IdNumbers.{numbers, table};
 ghost use Rattle.fluent_resolver.specs.Frames as frames;
+ghost use Rattle.fluent_resolver.specs.Waits.{frames_in, values_in};
 ghost use Rattle.fluent_meaning.specs.Value.{text_value};
 ghost use Rattle.fluent_values.specs.Sinks.{outside};
 ghost use Rattle.fluent_values.specs.View.{value_view};
@@ -12,7 +13,7 @@ ghost use Rattle.fluent_resolver.specs.Frames.{IsPlacedFrame, Runs, kept_before,
 use crate::arguments::{go_on, resolve};
 use crate::expression::{choose_given, write_expression};
 use crate::frame::Frame;
-use crate::pattern::{close, write_elements};
+use crate::pattern::{close, write_from};
 use crate::work::{LEVELS, Work};
 use fluent_state::State;
 use fluent_values::output::{Halt, Output};
@@ -33,10 +34,10 @@ pub(crate) fn run<'p, 's, 'args, W: Write, C: FluentType, F: FluentFunction<C>, 
 {
     let mut waiting = Vec::new(scope.bundle.allocator());
     let mut given = None;
-    lay(&mut waiting, &mut work.frames)?;
+    lay(&mut waiting, work)?;
     while let Some(frame) = waiting.pop() {
         given = resume(scope, out, work, frame, given)?;
-        lay(&mut waiting, &mut work.frames)?;
+        lay(&mut waiting, work)?;
     }
     Ok(())
 }
@@ -48,14 +49,18 @@ pub(crate) fn run<'p, 's, 'args, W: Write, C: FluentType, F: FluentFunction<C>, 
 /// An allocation failed.
 fn lay<'p, 's, 'args, C: FluentType>(
     waiting: &mut Vec<Frame<'p, 'args, 's, C>>,
-    frames: &mut Vec<Frame<'p, 'args, 's, C>>,
+    work: &mut Work<'p, 'args, 's, C>,
 ) -> Result<(), Halt>
-    ensures laid { OnOk result (waiting.new.items ≡ waiting.old.items ++ reverse frames.old.items) }
-    ensures rest { OnOk result (frames.new.items ≡ []) }
+    ensures laid { OnOk result (waiting.new.items ≡ waiting.old.items ++ reverse (frames_in work.old)) }
+    ensures rest { OnOk result (frames_in work.new ≡ []) }
+    ensures values { values_in work.new ≡ values_in work.old }
     ensures err { IfErr result (λ e. e ≡ Halt.Memory) }
 {
-    frames.reverse();
-    match waiting.append(frames) {
+    let Some(rest) = &mut work.rest else {
+        return Ok(());
+    };
+    rest.frames.reverse();
+    match waiting.append(&mut rest.frames) {
         Ok(()) => Ok(()),
         Err(_) => Err(Halt::Memory),
     }
@@ -70,7 +75,7 @@ fn resume<'p, 's, 'args, W: Write, C: FluentType, F: FluentFunction<C>, B: Conte
     given: Option<FluentValue<'p, C>>,
 ) -> Result<Option<FluentValue<'p, C>>, Halt>
     requires placed { IsPlacedFrame (numbers scope.old.ids.now) (table scope.old.ids.now) frame }
-    requires nothing { work.old.frames.items ≡ [] }
+    requires nothing { frames_in work.old ≡ [] }
     ensures goes { Goes B.meant B.is_plain F.answer C.content W.contents result
         (frames.frame C.content frame.entry (made C.content given.entry)) (made C.content) scope out work }
     ensures placed { OnOk result (AreReady scope.new.ids.now work.new) }
@@ -81,7 +86,7 @@ fn resume<'p, 's, 'args, W: Write, C: FluentType, F: FluentFunction<C>, B: Conte
             next,
             cursor,
         } => {
-            write_elements(scope, out, work, LEVELS, pattern, next, cursor)?;
+            write_from(scope, out, work, LEVELS, pattern, next, cursor)?;
             Ok(None)
         }
         Frame::Close { expression, marked } => {

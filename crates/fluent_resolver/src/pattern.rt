@@ -11,23 +11,56 @@ ghost use Rattle.fluent_entries.specs.Texts.{IsTextAlone};
 ghost use Rattle.fluent_state.specs.Status.{budget_view};
 ghost use Rattle.fluent_values.specs.Sinks.{GoesThrough};
 ghost use Rattle.fluent_resolver.specs.Parts as parts;
+ghost use Rattle.fluent_resolver.specs.Waits.{frames_in};
 ghost use Rattle.fluent_resolver.specs.Frames.{elements_from, AreReady, Goes, Passes};
 
 use crate::expression::write_expression;
-use crate::frame::Frame;
 use crate::work::Work;
 use fluent_links::Cursor;
 use fluent_state::State;
+use fluent_state::lost::report_limit;
 use fluent_state::placeable::{has_one, is_marked, put_ending, put_first_mark, put_last_mark};
 use fluent_state::texts::put_changed;
 use fluent_tree::ast::{Expression, Pattern, PatternElement};
 use fluent_values::output::{Halt, Output};
-use fluent_values::{Context, FluentFunction, FluentType, ResolverError};
+use fluent_values::{Context, FluentFunction, FluentType};
 use std::io::Write;
+
+/// Writes the elements of a pattern in order.
+#[cycle(resolve)]
+pub(crate) fn write_elements<
+    'p,
+    's,
+    'args,
+    W: Write,
+    C: FluentType,
+    F: FluentFunction<C>,
+    B: Context<C>,
+>(
+    scope: &mut State<'_, 'p, '_, 's, 'args, C, F, B>,
+    out: &mut Output<W>,
+    work: &mut Work<'p, 'args, 's, C>,
+    levels: usize,
+    pattern: &'p Pattern<'s>,
+    cursor: Cursor<'p>,
+) -> Result<(), Halt>
+    requires placed { IsPlaced scope.old.ids.now (references (elements_from 0 pattern.now)) cursor }
+    requires nothing { frames_in work.old ≡ [] }
+    ensures goes { Goes B.meant B.is_plain F.answer C.content W.contents result
+        (parts.elements (has_one (pattern_view pattern.now)) (elements_from 0 pattern.now))
+        (λ x. None) scope out work }
+    ensures placed { OnOk result (AreReady scope.new.ids.now work.new) }
+    ensures texts { IsTextAlone (elements_from 0 pattern.now) → OnOk result (frames_in work.new ≡ []) }
+    ensures memory { IsTextAlone (elements_from 0 pattern.now) →
+        IsTrue (B.is_plain scope.old.bundle.now) → GoesThrough out.old → result ≢ Err Halt.Memory }
+{
+    write_from(scope, out, work, levels, pattern, 0, cursor)
+}
 
 /// Writes the elements of a pattern in order, from this one on.
 #[cycle(resolve)]
-pub(crate) fn write_elements<
+#[inline(always)]
+pub(crate) fn write_from<
     'p,
     's,
     'args,
@@ -45,12 +78,12 @@ pub(crate) fn write_elements<
     cursor: Cursor<'p>,
 ) -> Result<(), Halt>
     requires placed { IsPlaced scope.old.ids.now (references (elements_from next pattern.now)) cursor }
-    requires nothing { work.old.frames.items ≡ [] }
+    requires nothing { frames_in work.old ≡ [] }
     ensures goes { Goes B.meant B.is_plain F.answer C.content W.contents result
         (parts.elements (has_one (pattern_view pattern.now)) (elements_from next pattern.now))
         (λ x. None) scope out work }
     ensures placed { OnOk result (AreReady scope.new.ids.now work.new) }
-    ensures texts { IsTextAlone (elements_from next pattern.now) → OnOk result (work.new.frames.items ≡ []) }
+    ensures texts { IsTextAlone (elements_from next pattern.now) → OnOk result (frames_in work.new ≡ []) }
     ensures memory { IsTextAlone (elements_from next pattern.now) →
         IsTrue (B.is_plain scope.old.bundle.now) → GoesThrough out.old → result ≢ Err Halt.Memory }
 {
@@ -60,22 +93,26 @@ pub(crate) fn write_elements<
         if scope.dirty() {
             return Ok(());
         }
-        let here = cursor;
-        cursor = cursor.after_element(element);
-        next += 1;
         match element {
             PatternElement::TextElement { value } => put_changed(scope, out, value)?,
             PatternElement::Placeable { expression } => {
-                write_placeable(scope, out, work, levels, has_one(pattern), expression, here)?;
+                write_placeable(
+                    scope,
+                    out,
+                    work,
+                    levels,
+                    has_one(pattern),
+                    expression,
+                    cursor,
+                )?;
                 if !work.is_done() {
-                    return work.wait(Frame::Elements {
-                        pattern,
-                        next,
-                        cursor,
-                    });
+                    let after = cursor.after_element(element);
+                    return work.wait_elements(pattern, next + 1, after);
                 }
             }
         }
+        cursor = cursor.after_element(element);
+        next += 1;
     }
     Ok(())
 }
@@ -94,13 +131,13 @@ fn write_placeable<'p, 's, 'args, W: Write, C: FluentType, F: FluentFunction<C>,
 ) -> Result<(), Halt>
     requires left { budget_view scope.old.budget ≢ limit_reached }
     requires placed { IsPlaced scope.old.ids.now (in_expression (expression_view expression.now)) cursor }
-    requires nothing { work.old.frames.items ≡ [] }
+    requires nothing { frames_in work.old ≡ [] }
     ensures goes { Goes B.meant B.is_plain F.answer C.content W.contents result
         (parts.part one (expression_view expression.now)) (λ x. None) scope out work }
     ensures placed { OnOk result (AreReady scope.new.ids.now work.new) }
 {
     if !scope.take_one() {
-        scope.add_error(ResolverError::TooManyPlaceables)?;
+        report_limit(scope)?;
         return Ok(());
     }
     let marked = is_marked(scope.bundle, one, expression);
@@ -109,7 +146,7 @@ fn write_placeable<'p, 's, 'args, W: Write, C: FluentType, F: FluentFunction<C>,
     if work.is_done() {
         close(scope, out, expression, marked)
     } else {
-        work.wait(Frame::Close { expression, marked })
+        work.wait_close(expression, marked)
     }
 }
 

@@ -15,7 +15,7 @@ ghost use Rattle.fluent_resolver.specs.ScopeView.{bundle_in};
 
 use crate::arguments::begin_call;
 use crate::expression::write_expression;
-use crate::frame::{Frame, Purpose};
+use crate::frame::Purpose;
 use crate::machine::run;
 use crate::means::Means;
 use crate::pattern::close;
@@ -195,13 +195,28 @@ fn write_expression_of<'p, 's, W: Write, C: FluentType, F: FluentFunction<C>, B:
 {
     let mut work = Work::new(scope.bundle.allocator());
     let _ = scope.begin(pattern);
-    write_expression(scope, out, &mut work, LEVELS, expression, Cursor::by_name())?;
+    match write_expression(scope, out, &mut work, LEVELS, expression, Cursor::by_name()) {
+        Ok(()) => (),
+        Err(fault) => {
+            work.end();
+            return Err(fault);
+        }
+    }
     let marked = false;
     if work.is_done() {
+        work.end();
         return close(scope, out, expression, marked);
     }
-    work.wait(Frame::Close { expression, marked })?;
-    run(scope, out, &mut work)
+    match work.wait_close(expression, marked) {
+        Ok(()) => (),
+        Err(fault) => {
+            work.end();
+            return Err(fault);
+        }
+    }
+    let ran = run(scope, out, &mut work);
+    work.end();
+    ran
 }
 
 /// The values of arguments.
@@ -217,7 +232,7 @@ fn give_arguments<'p, 's, W: Write, C: FluentType, F: FluentFunction<C>, B: Cont
 {
     events_are_the_run();
     let mut work = Work::new(scope.bundle.allocator());
-    let _ = begin_call(
+    match begin_call(
         scope,
         out,
         &mut work,
@@ -225,13 +240,21 @@ fn give_arguments<'p, 's, W: Write, C: FluentType, F: FluentFunction<C>, B: Cont
         Purpose::Hand,
         arguments,
         Cursor::by_name(),
-    )?;
-    run(scope, out, &mut work)?;
-    let Work {
-        frames: _frames,
-        values,
-    } = work;
-    match values {
+    ) {
+        Ok(_) => (),
+        Err(fault) => {
+            work.end();
+            return Err(fault);
+        }
+    }
+    match run(scope, out, &mut work) {
+        Ok(()) => (),
+        Err(fault) => {
+            work.end();
+            return Err(fault);
+        }
+    }
+    match work.into_values() {
         Some(values) => Ok(values),
         None => unreachable!(),
     }

@@ -1,17 +1,20 @@
 -- The patterns that are being written, by content: the first, and those above it.
 use Rattle.std.specs.Prelude.{◌≡◌, ℕ, Bool, true, false, not, nat_eq, List, [], ◌∷◌, ◌++◌, map, slice_get, is_none, Option, None, Some}
+use Rattle.std.specs.Borrow.{Bor}
 use Rattle.std.specs.List.{list_all}
 use Rattle.std.specs.Option.{option_map, option_to_list, unwrap_or}
 use Rattle.fluent_tree.specs.Tree as t
 use Rattle.fluent_tree.specs.Tree.{is_yes, nothing, pattern_same}
 use Rattle.fluent_tree.specs.References.{references}
 use Rattle.fluent_tree.specs.View.{pattern_view}
+use Rattle.fluent_tree.specs.declared.ast.Pattern as of_pattern
 use Rattle.fluent_links.specs.Classes.{AreDistinct}
 use Rattle.fluent_links.specs.Linked.{IsClassOf, are_some}
 use Rattle.fluent_meaning.specs.Walk.{is_on}
 use Rattle.fluent_state.specs.declared.path.Above.{Above}
 use Rattle.fluent_state.specs.declared.path.Above.TheVariants as above
 use Rattle.fluent_state.specs.declared.path.Path.{Path}
+use Rattle.fluent_state.specs.declared.path.Top.{Top}
 
 -- the content that a class names; a pattern without elements, where it names none
 abbrev pub content_of : List t.Pattern → ℕ → t.Pattern
@@ -27,9 +30,26 @@ abbrev pub contents : List t.Pattern → Option t.Pattern → List Above → Lis
 contents table None xs = []
 contents table (Some p) xs = p ∷ map (content_above table) xs
 
+-- a pattern by its class, or itself where it has none
+abbrev pub by_class : Bor of_pattern.Pattern → Option ℕ → Above
+by_class p (Some c) = above.Class c
+by_class p None = above.Bare p
+
+-- those that stand by their classes
+abbrev pub by_classes : List ℕ → List Above
+by_classes cs = map above.Class cs
+
+-- the one on top
+abbrev pub above_of : Top → Above
+above_of top = by_class top.pattern top.class
+
+-- those above the first that were pushed
+unfoldable pub below_top : Path → List Above
+below_top p = by_classes p.classes.items ++ p.mixed.items
+
 -- those above the first: those that were pushed, and the last where it has not been
 unfoldable pub above_on : Path → List Above
-above_on p = p.above.items ++ option_to_list p.top
+above_on p = below_top p ++ option_to_list (option_map above_of p.top)
 
 -- the contents on a path, of these stored ones
 unfoldable pub on_path : List t.Pattern → Path → List t.Pattern

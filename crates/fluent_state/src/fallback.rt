@@ -11,6 +11,8 @@ use fluent_values::output::{Halt, Output, put_text};
 use std::io::Write;
 
 /// Writes a message's id in braces.
+#[inline(never)]
+#[cold]
 pub fn put_id_in_braces<W: Write>(out: &mut Output<W>, id: &str) -> Result<(), Halt>
     ensures { ⟦<W as Puts>⟧.puts (in_braces id.now) result out.old out.new }
 {
@@ -20,6 +22,8 @@ pub fn put_id_in_braces<W: Write>(out: &mut Output<W>, id: &str) -> Result<(), H
 }
 
 /// Writes an expression's fallback in braces.
+#[inline(never)]
+#[cold]
 pub fn put_in_braces<W: Write>(
     out: &mut Output<W>,
     expression: &InlineExpression,

@@ -4,7 +4,7 @@
 ghost use Rattle.std.specs.Prelude.{◌≡◌, ◌≢◌, ◌∷◌, [], Err, IsOk, None};
 ghost use Rattle.fluent_values.specs.Sinks.{GoesThrough};
 ghost use Rattle.fluent_tree.specs.View.{inline_view};
-ghost use Rattle.fluent_meaning.specs.Errors.{resolver_error, no_value, reference_of};
+ghost use Rattle.fluent_meaning.specs.Errors.{cyclic, missing_default, no_value, reference_of, resolver_error, too_many_placeables};
 ghost use Rattle.fluent_state.specs.Happened.{lost_of};
 
 use crate::fallback::put_in_braces;
@@ -17,6 +17,8 @@ use std::alloc::AllocError;
 use std::io::Write;
 
 /// Reports what can't be found, and then writes its fallback in braces. What is no reference is no error.
+#[inline(never)]
+#[cold]
 pub fn lose<W: Write, C: FluentType, F: FluentFunction<C>, B: Context<C>>(
     scope: &mut State<'_, '_, '_, '_, '_, C, F, B>,
     out: &mut Output<W>,
@@ -31,6 +33,8 @@ pub fn lose<W: Write, C: FluentType, F: FluentFunction<C>, B: Context<C>>(
 }
 
 /// Reports what can't be found, if it is a reference.
+#[inline(never)]
+#[cold]
 pub fn report_lost<C: FluentType, F: FluentFunction<C>, B: Context<C>>(
     scope: &mut State<'_, '_, '_, '_, '_, C, F, B>,
     inline: &InlineExpression<'_>,
@@ -45,6 +49,8 @@ pub fn report_lost<C: FluentType, F: FluentFunction<C>, B: Context<C>>(
 }
 
 /// Reports that a message has no value.
+#[inline(never)]
+#[cold]
 pub fn report_no_value<C: FluentType, F: FluentFunction<C>, B: Context<C>>(
     scope: &mut State<'_, '_, '_, '_, '_, C, F, B>,
     id: &str,
@@ -53,4 +59,37 @@ pub fn report_no_value<C: FluentType, F: FluentFunction<C>, B: Context<C>>(
 {
     let id = String::from_str(scope.bundle.allocator(), id)?;
     scope.add_error(ResolverError::NoValue(id))
+}
+
+/// Reports that a reference leads to a pattern that is being written.
+#[inline(never)]
+#[cold]
+pub fn report_cycle<C: FluentType, F: FluentFunction<C>, B: Context<C>>(
+    scope: &mut State<'_, '_, '_, '_, '_, C, F, B>,
+) -> Result<(), AllocError>
+    ensures { ⟦<B as Sees<C, F>>⟧.reports (resolver_error cyclic ∷ []) result scope.old scope.new }
+{
+    scope.add_error(ResolverError::Cyclic)
+}
+
+/// Reports that a select has no default to go to.
+#[inline(never)]
+#[cold]
+pub fn report_no_default<C: FluentType, F: FluentFunction<C>, B: Context<C>>(
+    scope: &mut State<'_, '_, '_, '_, '_, C, F, B>,
+) -> Result<(), AllocError>
+    ensures { ⟦<B as Sees<C, F>>⟧.reports (resolver_error missing_default ∷ []) result scope.old scope.new }
+{
+    scope.add_error(ResolverError::MissingDefault)
+}
+
+/// Reports that no more placeables may be opened.
+#[inline(never)]
+#[cold]
+pub fn report_limit<C: FluentType, F: FluentFunction<C>, B: Context<C>>(
+    scope: &mut State<'_, '_, '_, '_, '_, C, F, B>,
+) -> Result<(), AllocError>
+    ensures { ⟦<B as Sees<C, F>>⟧.reports (resolver_error too_many_placeables ∷ []) result scope.old scope.new }
+{
+    scope.add_error(ResolverError::TooManyPlaceables)
 }

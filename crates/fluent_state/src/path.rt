@@ -1,5 +1,9 @@
 //! The patterns that are being written, each referred to by the one before it.
-#![tactic(auto, unfolding(crate::specs::PathContents::on_path, crate::specs::PathContents::above_on, crate::specs::PathContents::is_idle))]
+#![tactic(auto, unfolding(crate::specs::PathContents::on_path, crate::specs::PathContents::above_on, crate::specs::PathContents::below_top, crate::specs::PathContents::is_idle))]
+
+ghost use Rattle.std.specs.Prelude.{◌≡◌};
+ghost use Rattle.fluent_tree.specs.Tree.{is_yes, pattern_same};
+ghost use Rattle.fluent_tree.specs.View.{pattern_view};
 
 use fluent_tree::ast::Pattern;
 use smallvec::SmallVec;
@@ -12,27 +16,15 @@ pub(crate) enum Above<'p, 's> {
     Bare(&'p Pattern<'s>),
 }
 
-// What stands in a path's places that hold no pattern.
-impl<'p, 's> Default for Above<'p, 's> {
-    fn default() -> Self {
-        Above::Class(0)
-    }
-}
-
 impl<'p, 's> Above<'p, 's> {
-    ghost use Rattle.std.specs.Prelude.{◌≡◌, List, true};
-    ghost use Rattle.fluent_tree.specs.Tree.{Pattern as Content};
+    ghost use Rattle.std.specs.Prelude.{◌≡◌};
     ghost use Rattle.fluent_tree.specs.View.{pattern_view};
-    ghost use Rattle.fluent_links.specs.Linked.{IsClassOf};
-    ghost use Rattle.fluent_state.specs.PathContents.{content_above, is_classed, is_same};
+    ghost use Rattle.fluent_state.specs.PathContents.{by_class, is_same};
 
     /// A pattern of this class.
     #[inline(always)]
     fn of(pattern: &'p Pattern<'s>, class: Option<u32>) -> Self
-        ensures content { (table : List Content) → IsClassOf table (pattern_view pattern.now) class →
-            content_above table result ≡ pattern_view pattern.now }
-        ensures classed { (table : List Content) → IsClassOf table (pattern_view pattern.now) class →
-            is_classed table result ≡ true }
+        ensures { result ≡ by_class pattern.entry class }
     {
         match class {
             Some(class) => Above::Class(class),
@@ -53,26 +45,37 @@ impl<'p, 's> Above<'p, 's> {
     }
 }
 
-/// A path of patterns: the first, which needn't be a stored one and is compared by its content, and those above it.
-/// The first and the one on top need no memory, and up to four between them stand in place.
+/// The pattern on top of a path, and its class.
+#[derive(Clone, Copy)]
+pub(crate) struct Top<'p, 's> {
+    pattern: &'p Pattern<'s>,
+    class: Option<u32>,
+}
+
+/// A path of patterns: the first, which needn't be a stored one and is compared by its content, and those above it. The
+/// first and the one on top need no memory; nor do up to eight between them that have classes, as do all that refer to
+/// anything.
 #[derive(Drop)]
 pub struct Path<'p, 's> {
     bottom: Option<&'p Pattern<'s>>,
-    above: SmallVec<Above<'p, 's>, 4>,
+    /// The classes of those above the first, as far as each has one.
+    classes: SmallVec<u32, 8>,
+    /// Those above these, of which the first has none. Nothing stands on what refers to nothing, so there are none in a run.
+    mixed: Vec<Above<'p, 's>>,
     /// The last above the first, where it has not been pushed.
-    top: Option<Above<'p, 's>>,
+    top: Option<Top<'p, 's>>,
 }
 
 impl<'p, 's> Path<'p, 's> {
-    ghost use Rattle.std.specs.Prelude.{◌≡◌, [], ◌∷◌, ◌++◌, List, OnOk, OnErr, length, true};
+    ghost use Rattle.std.specs.Prelude.{◌≡◌, [], ◌∷◌, ◌++◌, List, None, OnOk, OnErr, Some, length, nat_eq, true};
     ghost use Rattle.std.specs.List.{list_any};
-    ghost use Rattle.std.specs.Option.{option_to_list};
+    ghost use Rattle.std.specs.Option.{option_map, option_to_list};
     ghost use Rattle.std.specs.Bool.{OnTrue, OnFalse};
     ghost use Rattle.fluent_tree.specs.Tree.{Pattern as Content};
     ghost use Rattle.fluent_tree.specs.View.{pattern_view};
     ghost use Rattle.fluent_meaning.specs.Walk.{is_on, inner};
     ghost use Rattle.fluent_state.specs.Status.{counted};
-    ghost use Rattle.fluent_state.specs.PathContents.{IsPut, IsTakenOff, StayClassed, StayClassedWith, Tells, above_on, is_idle, is_same, on_path};
+    ghost use Rattle.fluent_state.specs.PathContents.{IsPut, IsTakenOff, StayClassed, StayClassedWith, Tells, above_of, above_on, below_top, by_classes, is_idle, is_same, on_path};
 
     /// No pattern. It keeps the allocator and takes no memory yet.
     pub(crate) fn new(alloc: Global) -> Path<'p, 's>
@@ -82,19 +85,24 @@ impl<'p, 's> Path<'p, 's> {
     {
         Path {
             bottom: None,
-            above: SmallVec::new(alloc),
+            classes: SmallVec::new(alloc),
+            mixed: Vec::new(alloc),
             top: None,
         }
     }
 
     /// How many patterns stand on it.
+    #[inline(always)]
     pub(crate) fn len(&self) -> u64
         ensures { (table : List Content) → result ≡ counted (length (on_path table self.now)) }
     {
-        match (self.bottom, self.top) {
-            (None, _) => 0,
-            (Some(_), None) => (self.above.len() as u64).saturating_add(1),
-            (Some(_), Some(_)) => (self.above.len() as u64).saturating_add(2),
+        if self.bottom.is_none() {
+            return 0;
+        }
+        let below = (self.classes.len() as u64).saturating_add(self.mixed.len() as u64);
+        match self.top {
+            None => below.saturating_add(1),
+            Some(_) => below.saturating_add(2),
         }
     }
 
@@ -106,7 +114,7 @@ impl<'p, 's> Path<'p, 's> {
         let Some(bottom) = self.bottom else {
             return false;
         };
-        if *bottom == *pattern {
+        if is_like(bottom, pattern) {
             return true;
         }
         self.is_above(pattern, class)
@@ -120,7 +128,59 @@ impl<'p, 's> Path<'p, 's> {
         if self.is_top(pattern, class) {
             return true;
         }
-        for above in self.above.as_slice() {
+        if self.is_below(pattern, class) {
+            return true;
+        }
+        !self.mixed.is_empty() && self.is_among_mixed(pattern, class)
+    }
+
+    /// Whether a pattern of this class is the one on top.
+    #[inline(always)]
+    fn is_top(&self, pattern: &Pattern<'s>, class: Option<u32>) -> bool
+        ensures { result ≡ list_any (is_same (pattern_view pattern.now) class)
+            (option_to_list (option_map above_of self.now.top)) }
+    {
+        let Some(top) = &self.top else {
+            return false;
+        };
+        match (top.class, class) {
+            (Some(own), Some(class)) => own == class,
+            (None, None) => is_like(top.pattern, pattern),
+            _ => false,
+        }
+    }
+
+    /// Whether a pattern of this class is one of those that stand by their classes.
+    #[inline(always)]
+    fn is_below(&self, pattern: &Pattern<'s>, class: Option<u32>) -> bool
+        ensures { result ≡ list_any (is_same (pattern_view pattern.now) class) (by_classes self.now.classes.items) }
+    {
+        match class {
+            Some(class) => self.has_class(class),
+            None => false,
+        }
+    }
+
+    /// Whether a class is one of those that stand by their classes.
+    #[inline(always)]
+    fn has_class(&self, class: u32) -> bool
+        ensures { result ≡ list_any (λ c. nat_eq c class) self.now.classes.items }
+    {
+        for own in self.classes.as_slice() {
+            if *own == class {
+                return true;
+            }
+        }
+        false
+    }
+
+    /// Whether a pattern of this class is one of those above them.
+    #[inline(never)]
+    #[cold]
+    fn is_among_mixed(&self, pattern: &Pattern<'s>, class: Option<u32>) -> bool
+        ensures { result ≡ list_any (is_same (pattern_view pattern.now) class) self.now.mixed.items }
+    {
+        for above in &self.mixed {
             if above.is(pattern, class) {
                 return true;
             }
@@ -128,18 +188,8 @@ impl<'p, 's> Path<'p, 's> {
         false
     }
 
-    /// Whether a pattern of this class is the one on top.
-    #[inline(always)]
-    fn is_top(&self, pattern: &Pattern<'s>, class: Option<u32>) -> bool
-        ensures { result ≡ list_any (is_same (pattern_view pattern.now) class) (option_to_list self.now.top) }
-    {
-        match &self.top {
-            Some(top) => top.is(pattern, class),
-            None => false,
-        }
-    }
-
     /// Puts a pattern there where there is none, and says whether it did.
+    #[inline(always)]
     pub(crate) fn begin(&mut self, pattern: &'p Pattern<'s>) -> bool
         ensures inner { (table : List Content) → on_path table self.new
             ≡ inner (on_path table self.old) (pattern_view pattern.now) }
@@ -150,8 +200,7 @@ impl<'p, 's> Path<'p, 's> {
         if self.bottom.is_some() {
             return false;
         }
-        self.above.clear();
-        self.top = None;
+        self.clear();
         self.bottom = Some(pattern);
         true
     }
@@ -168,35 +217,58 @@ impl<'p, 's> Path<'p, 's> {
         class: Option<u32>,
     ) -> Result<(), AllocError>
         ensures put { OnOk result (IsPut (pattern_view pattern.now) class self.old self.new) }
-        ensures alloc_failed { OnErr result (self.new ≡ self.old) }
+        ensures alloc_failed { OnErr result ((table : List Content) →
+            on_path table self.new ≡ on_path table self.old) }
         ensures classes { StayClassedWith (pattern_view pattern.now) class self.old self.new }
     {
         if self.bottom.is_none() {
-            self.above.clear();
-            self.top = None;
+            self.clear();
             self.bottom = Some(pattern);
             return Ok(());
         }
-        if let Some(top) = self.top {
-            self.push(top)?;
-        }
-        self.top = Some(Above::of(pattern, class));
+        self.push_top()?;
+        self.top = Some(Top { pattern, class });
         Ok(())
     }
 
-    /// Pushes the one that was on top.
+    /// Pushes the one on top, if there is one.
+    ///
+    /// # Errors
+    ///
+    /// An allocation failed: the path is as before.
+    #[inline(always)]
+    fn push_top(&mut self) -> Result<(), AllocError>
+        ensures pushed { OnOk result (below_top self.new ≡ above_on self.old) }
+        ensures bottom { self.new.bottom ≡ self.old.bottom }
+        ensures alloc_failed { OnErr result (above_on self.new ≡ above_on self.old) }
+    {
+        match self.top {
+            Some(top) => self.push(top),
+            None => Ok(()),
+        }
+    }
+
+    /// Pushes the one on top.
     ///
     /// # Errors
     ///
     /// An allocation failed: the path is as before.
     #[inline(never)]
-    fn push(&mut self, top: Above<'p, 's>) -> Result<(), AllocError>
-        ensures pushed { OnOk result (self.new.above.items ≡ self.old.above.items ++ top.entry ∷ []) }
+    fn push(&mut self, top: Top<'p, 's>) -> Result<(), AllocError>
+        requires { self.old.top ≡ Some top }
+        ensures pushed { OnOk result (below_top self.new ≡ above_on self.old) }
         ensures bottom { self.new.bottom ≡ self.old.bottom }
-        ensures top { self.new.top ≡ self.old.top }
-        ensures alloc_failed { OnErr result (self.new ≡ self.old) }
+        ensures alloc_failed { OnErr result (above_on self.new ≡ above_on self.old) }
     {
-        match self.above.push(top) {
+        if let Some(class) = top.class {
+            if self.mixed.is_empty() {
+                return match self.classes.push(class) {
+                    Ok(()) => Ok(()),
+                    Err(_) => Err(AllocError),
+                };
+            }
+        }
+        match self.mixed.push(Above::of(top.pattern, top.class)) {
             Ok(()) => Ok(()),
             Err(_) => Err(AllocError),
         }
@@ -214,21 +286,53 @@ impl<'p, 's> Path<'p, 's> {
         }
         if self.top.is_some() {
             self.top = None;
-        } else if self.above.is_empty() {
-            self.bottom = None;
         } else {
-            let _ = self.above.pop();
+            self.leave_below();
+        }
+    }
+
+    /// Takes the last pattern off, where none is on top.
+    #[inline(never)]
+    fn leave_below(&mut self)
+        requires { self.old.top ≡ None }
+        ensures left { IsTakenOff self.old self.new }
+        ensures classes { StayClassed self.old self.new }
+    {
+        if !self.mixed.is_empty() {
+            let _ = self.mixed.pop();
+        } else if !self.classes.is_empty() {
+            let _ = self.classes.pop();
+        } else {
+            self.bottom = None;
         }
     }
 
     /// Takes all patterns off.
+    #[inline(always)]
     pub(crate) fn clear(&mut self)
         ensures path { (table : List Content) → on_path table self.new ≡ [] }
         ensures idle { is_idle self.new ≡ true }
         ensures above { above_on self.new ≡ [] }
     {
         self.bottom = None;
-        self.above.clear();
+        self.classes.clear();
+        self.mixed.clear();
         self.top = None;
     }
+}
+
+/// Whether two patterns have one content. Of most that differ, the lengths do.
+#[inline(always)]
+fn is_like<'s>(one: &Pattern<'s>, other: &Pattern<'s>) -> bool
+    ensures { result ≡ is_yes (pattern_same (pattern_view one.now) (pattern_view other.now)) }
+{
+    one.elements.len() == other.elements.len() && is_equal(one, other)
+}
+
+/// The same of two that have as many elements. It stands by itself, so that calls that differ by length cost little.
+#[inline(never)]
+fn is_equal<'s>(one: &Pattern<'s>, other: &Pattern<'s>) -> bool
+    ensures { result ≡ is_yes (pattern_same (pattern_view one.now) (pattern_view other.now)) }
+{
+    *one == *other
 }

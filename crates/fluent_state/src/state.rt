@@ -192,8 +192,8 @@ impl<'errors, 'p, 'r, 's, 'args, C: FluentType, F: FluentFunction<C>, B: Context
         requires { IsClassOf (table self.old.ids.now) (pattern_view pattern.now) class }
         ensures { ⟦<B as Sees<C, F>>⟧.enters pattern.now result self.old self.new }
     {
-        let length = self.path.len().saturating_add(1);
         self.path.enter(pattern, class)?;
+        let length = self.path.len();
         self.counts.longest = self.counts.longest.max(length);
         self.counts.entered = self.counts.entered.saturating_add(1);
         Ok(())

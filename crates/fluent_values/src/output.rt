@@ -129,15 +129,27 @@ fn halt_of(fault: WriteFault, error: &mut Option<io::Error>) -> Halt
 }
 
 /// An answer with the writer's own error, where a write failed.
+#[inline(always)]
 pub fn with_error(answer: Result<(), Halt>, error: Option<io::Error>) -> Result<(), WriteFault>
     ensures { without_error result ≡ answer }
 {
     match answer {
         Ok(()) => Ok(()),
-        Err(Halt::Memory) => Err(WriteFault::Memory),
-        Err(Halt::Zero) => Err(WriteFault::Zero),
-        Err(Halt::Writer) => Err(WriteFault::Writer(error.unwrap_or(io::Error::from(
-            io::ErrorKind::Other,
-        )))),
+        Err(halt) => Err(fault_of(halt, error)),
+    }
+}
+
+/// The fault that a halt was, with the writer's own error.
+#[inline(never)]
+#[cold]
+fn fault_of(halt: Halt, error: Option<io::Error>) -> WriteFault
+    ensures { halt_of result ≡ halt }
+{
+    match halt {
+        Halt::Memory => WriteFault::Memory,
+        Halt::Zero => WriteFault::Zero,
+        Halt::Writer => {
+            WriteFault::Writer(error.unwrap_or(io::Error::from(io::ErrorKind::Other)))
+        }
     }
 }

@@ -28,7 +28,7 @@ use Rattle.fluent_resolver.specs.Frames.{ArePlacedFrames, IsPlacedCall, IsPlaced
 use Rattle.fluent_resolver.specs.Held.{held, more, more_named}
 use Rattle.fluent_resolver.specs.Parts.{Following, View, next_argument, is_braced}
 use Rattle.fluent_resolver.specs.declared.frame.Gathering.{Gathering}
-use Rattle.fluent_resolver.proofs.Answered.{answer_errors, answer_is, answer_text, answered_is, answered_value}
+use Rattle.fluent_resolver.proofs.Answered.{answer_errors, answer_is, answer_text, answered_is, answered_none, answered_some}
 use Rattle.fluent_resolver.proofs.Called.{called_at}
 use Rattle.fluent_resolver.proofs.Falling.{falls_to}
 use Rattle.fluent_resolver.proofs.Gathers.{all_gathered, gets_value, next_begins, placed_next}
@@ -39,6 +39,7 @@ use Rattle.fluent_resolver.proofs.Moving.{elsewhere, moves, path_is}
 use Rattle.fluent_resolver.proofs.Opening.{At, inside, opens_part, stops_part, taken_same}
 use Rattle.fluent_resolver.proofs.Placed.{placed_after, placed_as, placed_first, ok_value, placed_back, placed_prefix, placed_still}
 use Rattle.fluent_resolver.proofs.Pushing.{placed_pushed, if_on}
+use Rattle.fluent_resolver.proofs.Arms.{no_message, no_term}
 use Rattle.fluent_resolver.proofs.Ranks.{less_level, less_rank}
 use Rattle.fluent_resolver.proofs.Resolved.{function_at, kept_at, looked_up, number_at, string_at, variable_at}
 use Rattle.fluent_resolver.proofs.Settled.{none_put, paid_least, paid_none}
@@ -66,7 +67,9 @@ use Rattle.fluent_values.specs.Facts.Outputs.{stays_through}
 use Rattle.fluent_resolver.proofs.Elements.{from_end, from_next, never_text, none_at_end, none_at_limit, placeable_first, text_first}
 use Rattle.fluent_resolver.specs.Parts as parts
 use Rattle.fluent_resolver.specs.declared.frame.Frame.TheVariants as put_off
+use Rattle.fluent_resolver.specs.Waits.{frames_in, values_in}
 use Rattle.fluent_tree.specs.declared.ast.CallArguments as of_call
+use Rattle.fluent_resolver.proofs.+resolve.Goals.{pattern::write_from-in-TextElement+in_ok-put_changed-in-TextElement, pattern::write_from-in-Placeable+in_ok-write_placeable-in-Placeable+else-not-is_done}
 use Rattle.fluent_resolver.proofs.+resolve.Goals as goal
 
 pub arguments::use_values-returns-in_err-put_answer-in-Show-clause-goes : goal.arguments::use_values-returns-in_err-put_answer-in-Show-clause-goes
@@ -77,7 +80,7 @@ arguments::use_values-returns-in_err-put_answer-in-Show-clause-goes g t c = λ k
     let a = state g.B.Context.meant g.B.Context.is_plain g.F.FluentFunction.answer content c.args.scope.now in
     let out = c.args.out.now in
     let work = c.args.work.now in
-    let values = values_view content work.values in
+    let values = values_view content (values_in work) in
     let v = viewed out a values in
     let vs = values_of content c.args.positional in
     let m = named content c.args.args in
@@ -99,7 +102,7 @@ arguments::use_values-returns-in-Show-clause-goes g t c = λ k n.
     let a = state g.B.Context.meant g.B.Context.is_plain g.F.FluentFunction.answer content c.args.scope.now in
     let out = c.args.out.now in
     let work = c.args.work.now in
-    let values = values_view content work.values in
+    let values = values_view content (values_in work) in
     let v = viewed out a values in
     let vs = values_of content c.args.positional in
     let m = named content c.args.args in
@@ -112,7 +115,7 @@ arguments::use_values-returns-in-Show-clause-goes g t c = λ k n.
     let here = turns (ap (λ p. use_of p vs m a.bundle (k a.bundle) v) c.in-Show.is ∙ answered_is x f vs m a.bundle (k a.bundle) v) way in
     let all = laid contents out c.put_answer.new.out a b values a.bundle (k a.bundle) (answer_errors x o) (answer_text a.bundle x o) (did_as same c.put_answer.ensures) here in
     let there = turns (ap (λ b'. k b' None (viewed c.put_answer.new.out b values)) (sym c.put_answer.ensures.happened.stays.bundle)) (laid_ok c.in_ok-put_answer-in-Show.was all) in
-    finishes None _ refl refl (none_put content b.bundle work.frames.items (k b.bundle) None (viewed c.put_answer.new.out b values) c.requires.nothing there)
+    finishes None _ refl refl (none_put content b.bundle (frames_in work) (k b.bundle) None (viewed c.put_answer.new.out b values) c.requires.nothing there)
 
 pub arguments::use_values-returns-in_err-answer-in-Give-clause-goes : goal.arguments::use_values-returns-in_err-answer-in-Give-clause-goes
 unfolding state_parts
@@ -122,7 +125,7 @@ arguments::use_values-returns-in_err-answer-in-Give-clause-goes g t c = λ k n.
     let a = state g.B.Context.meant g.B.Context.is_plain g.F.FluentFunction.answer content c.args.scope.now in
     let out = c.args.out.now in
     let work = c.args.work.now in
-    let values = values_view content work.values in
+    let values = values_view content (values_in work) in
     let v = viewed out a values in
     let vs = values_of content c.args.positional in
     let m = named content c.args.args in
@@ -137,16 +140,16 @@ arguments::use_values-returns-in-Give-clause-goes g t c = λ k n.
     let a = state g.B.Context.meant g.B.Context.is_plain g.F.FluentFunction.answer content c.args.scope.now in
     let out = c.args.out.now in
     let work = c.args.work.now in
-    let values = values_view content work.values in
+    let values = values_view content (values_in work) in
     let v = viewed out a values in
     let vs = values_of content c.args.positional in
     let m = named content c.args.args in
     let way = starts (begun (begins (use_of c.args.purpose vs m a.bundle (k a.bundle) v)) n (outside contents out) a) in
     let f = function_found (get c.in-Give.id.now.name.now a.bundle.ids) in
     let answers = c.in_ok-answer-in-Give.ensures ∙ ap (λ l. option_map (λ f. f (map (value_view content) l) m) f) c.deref-in-Give.ensures.value in
-    let value = ap (value_view content) c.unwrap_or.ensures ∙ answered_value content a.bundle f vs m c.in_ok-answer-in-Give.answer answers in
+    let value = answered_none content a.bundle f vs m c.in_ok-answer-in-Give.field-0 answers c.in-None.is in
     let there = turns (ap (λ p. use_of p vs m a.bundle (k a.bundle) v) c.in-Give.is ∙ ap (λ y. k a.bundle (Some y) v) (sym value)) way in
-    finishes _ _ refl refl (none_put content a.bundle work.frames.items (k a.bundle) (Some (value_view content c.unwrap_or.result)) v c.requires.nothing there)
+    finishes _ _ refl refl (none_put content a.bundle (frames_in work) (k a.bundle) _ v c.requires.nothing there)
 
 pub arguments::use_values-returns-clause-goes : goal.arguments::use_values-returns-clause-goes
 unfolding state_parts
@@ -156,28 +159,30 @@ arguments::use_values-returns-clause-goes g t c = λ k n.
     let a = state g.B.Context.meant g.B.Context.is_plain g.F.FluentFunction.answer content c.args.scope.now in
     let out = c.args.out.now in
     let work = c.args.work.now in
-    let values = values_view content work.values in
+    let values = values_view content (values_in work) in
     let v = viewed out a values in
     let vs = values_of content c.args.positional in
     let m = named content c.args.args in
     let way = starts (begun (begins (use_of c.args.purpose vs m a.bundle (k a.bundle) v)) n (outside contents out) a) in
-    let there = turns (ap (λ p. use_of p vs m a.bundle (k a.bundle) v) c.in-Hand.is) way in
-    finishes None _ refl refl (none_put content a.bundle work.frames.items (k a.bundle) None (record v { values = Some (vs, m) }) c.requires.nothing there)
+    let after = c.give.new.self in
+    let given = ap (λ q. k a.bundle None (viewed out a (values_view content q))) (sym c.in_ok-give-in-Hand.ensures.values) in
+    let there = turns (ap (λ p. use_of p vs m a.bundle (k a.bundle) v) c.in-Hand.is ∙ given) way in
+    finishes None _ refl refl (none_put content a.bundle (frames_in after) (k a.bundle) None (viewed out a (values_view content (values_in after))) (c.in_ok-give-in-Hand.ensures.frames ∙ c.requires.nothing) there)
 
-pub arguments::use_values-returns-in_err-enter_term-in-Local-clause-goes : goal.arguments::use_values-returns-in_err-enter_term-in-Local-clause-goes
+pub arguments::use_values-returns-in_err-enter_with_values-in-Local-clause-goes : goal.arguments::use_values-returns-in_err-enter_with_values-in-Local-clause-goes
 unfolding state_parts
-arguments::use_values-returns-in_err-enter_term-in-Local-clause-goes g t c = λ k n.
+arguments::use_values-returns-in_err-enter_with_values-in-Local-clause-goes g t c = λ k n.
     let content = g.C.FluentType.content in
     let contents = g.W.Write.contents in
     let a = state g.B.Context.meant g.B.Context.is_plain g.F.FluentFunction.answer content c.args.scope.now in
     let out = c.args.out.now in
     let work = c.args.work.now in
-    let values = values_view content work.values in
+    let values = values_view content (values_in work) in
     let v = viewed out a values in
     let vs = values_of content c.args.positional in
     let m = named content c.args.args in
     let way = turns (ap (λ p. begins (use_of p vs m a.bundle (k a.bundle) v)) c.in-Local.is) (begun _ n (outside contents out) a) in
-    halts c.in_err-enter_term-in-Local.was (search rules) way (c.enter_term.ensures.goes k n)
+    halts c.in_err-enter_with_values-in-Local.was (search rules) way (c.enter_with_values.ensures.goes k n)
 
 pub arguments::use_values-returns-in-Local-clause-goes : goal.arguments::use_values-returns-in-Local-clause-goes
 unfolding state_parts
@@ -187,12 +192,12 @@ arguments::use_values-returns-in-Local-clause-goes g t c = λ k n.
     let a = state g.B.Context.meant g.B.Context.is_plain g.F.FluentFunction.answer content c.args.scope.now in
     let out = c.args.out.now in
     let work = c.args.work.now in
-    let values = values_view content work.values in
+    let values = values_view content (values_in work) in
     let v = viewed out a values in
     let vs = values_of content c.args.positional in
     let m = named content c.args.args in
     let way = turns (ap (λ p. begins (use_of p vs m a.bundle (k a.bundle) v)) c.in-Local.is) (begun _ n (outside contents out) a) in
-    finishes None _ refl refl (goes c.in_ok-enter_term-in-Local.was way (c.enter_term.ensures.goes k n))
+    finishes None _ refl refl (goes c.in_ok-enter_with_values-in-Local.was way (c.enter_with_values.ensures.goes k n))
 
 pub arguments::use_values-put_answer-requires : goal.arguments::use_values-put_answer-requires
 unfolding state_parts
@@ -200,13 +205,48 @@ arguments::use_values-put_answer-requires g t c =
     let ids = c.args.scope.now.ids.now in
     subst (IsPlacedPurpose (numbers ids) (table ids)) c.in-Show.is c.requires.placed
 
-pub arguments::use_values-enter_term-requires : goal.arguments::use_values-enter_term-requires
+pub arguments::use_values-enter_with_values-requires : goal.arguments::use_values-enter_with_values-requires
 unfolding state_parts
-arguments::use_values-enter_term-requires g t c =
+arguments::use_values-enter_with_values-requires g t c =
     let ids = c.args.scope.now.ids.now in
-    let less = falls_to c.decreases (less_rank c.args.levels 5 6 (omega arith)) in
+    let less = falls_to c.decreases (less_rank c.args.levels 7 8 (omega arith)) in
     let led = subst (IsPlacedPurpose (numbers ids) (table ids)) c.in-Local.is c.requires.placed in
     λ κs h. (less, (h.0, (h.1.0, (h.1.1.0, (h.1.1.1, (led, c.requires.nothing))))))
+
+pub arguments::use_values-returns-in-Some-clause-goes : goal.arguments::use_values-returns-in-Some-clause-goes
+unfolding state_parts
+arguments::use_values-returns-in-Some-clause-goes g t c = λ k n.
+    let content = g.C.FluentType.content in
+    let contents = g.W.Write.contents in
+    let a = state g.B.Context.meant g.B.Context.is_plain g.F.FluentFunction.answer content c.args.scope.now in
+    let out = c.args.out.now in
+    let work = c.args.work.now in
+    let values = values_view content (values_in work) in
+    let v = viewed out a values in
+    let vs = values_of content c.args.positional in
+    let m = named content c.args.args in
+    let way = starts (begun (begins (use_of c.args.purpose vs m a.bundle (k a.bundle) v)) n (outside contents out) a) in
+    let f = function_found (get c.in-Give.id.now.name.now a.bundle.ids) in
+    let answers = c.in_ok-answer-in-Give.ensures ∙ ap (λ l. option_map (λ f. f (map (value_view content) l) m) f) c.deref-in-Give.ensures.value in
+    let value = answered_some content a.bundle f vs m c.in_ok-answer-in-Give.field-0 answers c.in-Some.answer c.in-Some.is in
+    let there = turns (ap (λ p. use_of p vs m a.bundle (k a.bundle) v) c.in-Give.is ∙ ap (λ y. k a.bundle (Some y) v) (sym value)) way in
+    finishes _ _ refl refl (none_put content a.bundle (frames_in work) (k a.bundle) _ v c.requires.nothing there)
+
+pub arguments::use_values-returns-in_err-give-in-Hand-clause-goes : goal.arguments::use_values-returns-in_err-give-in-Hand-clause-goes
+unfolding state_parts
+arguments::use_values-returns-in_err-give-in-Hand-clause-goes g t c = λ k n.
+    let content = g.C.FluentType.content in
+    let contents = g.W.Write.contents in
+    let a = state g.B.Context.meant g.B.Context.is_plain g.F.FluentFunction.answer content c.args.scope.now in
+    let out = c.args.out.now in
+    let work = c.args.work.now in
+    let values = values_view content (values_in work) in
+    let v = viewed out a values in
+    let vs = values_of content c.args.positional in
+    let m = named content c.args.args in
+    let way = starts (begun (begins (use_of c.args.purpose vs m a.bundle (k a.bundle) v)) n (outside contents out) a) in
+    let lack : c.from_residual-in_err-give-in-Hand.result ≡ Err Memory = search (rules, c.from_residual-in_err-give-in-Hand.ensures, c.in_err-give-in-Hand.ensures.err) in
+    lacks lack way
 
 pub arguments::finish-returns-in_err-args-clause-goes : goal.arguments::finish-returns-in_err-args-clause-goes
 unfolding state_parts
@@ -216,7 +256,7 @@ arguments::finish-returns-in_err-args-clause-goes g t c = λ k n.
     let a = state g.B.Context.meant g.B.Context.is_plain g.F.FluentFunction.answer content c.args.scope.now in
     let out = c.args.out.now in
     let work = c.args.work.now in
-    let values = values_view content work.values in
+    let values = values_view content (values_in work) in
     let v = viewed out a values in
     lacks (search rules) (begun _ n (outside contents out) a)
 
@@ -228,7 +268,7 @@ arguments::finish-returns-clause-goes g t c = λ k n.
     let a = state g.B.Context.meant g.B.Context.is_plain g.F.FluentFunction.answer content c.args.scope.now in
     let out = c.args.out.now in
     let work = c.args.work.now in
-    let values = values_view content work.values in
+    let values = values_view content (values_in work) in
     let v = viewed out a values in
     let call = c.args.gathering in
     let here = ap (λ m. begins (use_of call.purpose (values_of content call.positional) m a.bundle (k a.bundle) v)) (sym c.in_ok-args.ensures) in
@@ -237,7 +277,7 @@ arguments::finish-returns-clause-goes g t c = λ k n.
 pub arguments::finish-use_values-requires : goal.arguments::finish-use_values-requires
 unfolding state_parts
 arguments::finish-use_values-requires g t c =
-    let less = falls_to c.decreases (less_rank c.args.levels 6 7 (omega arith)) in
+    let less = falls_to c.decreases (less_rank c.args.levels 8 9 (omega arith)) in
     λ κs h. (less, (h.0, (h.1.0, (h.1.1.0, (h.1.1.1, (c.requires.placed, c.requires.nothing))))))
 
 pub arguments::begin_call-returns-clause-goes : goal.arguments::begin_call-returns-clause-goes
@@ -248,7 +288,7 @@ arguments::begin_call-returns-clause-goes g t c = λ k n.
     let a = state g.B.Context.meant g.B.Context.is_plain g.F.FluentFunction.answer content c.args.scope.now in
     let out = c.args.out.now in
     let work = c.args.work.now in
-    let values = values_view content work.values in
+    let values = values_view content (values_in work) in
     let v = viewed out a values in
     let is = view_arguments c.args.arguments.now in
     let here = called_at (use_of c.args.purpose) _ _ _ (values_of content c.new.result) (gathered content c.new-2.result) a.bundle (k a.bundle) v is (ap (map (value_view content)) c.new.ensures.items) c.new-2.ensures in
@@ -258,7 +298,7 @@ pub arguments::begin_call-gather-requires : goal.arguments::begin_call-gather-re
 unfolding state_parts
 arguments::begin_call-gather-requires g t c =
     let ids = c.args.scope.now.ids.now in
-    let less = falls_to c.decreases (less_rank c.args.levels 8 9 (omega arith)) in
+    let less = falls_to c.decreases (less_rank c.args.levels 10 11 (omega arith)) in
     let before = placed_as (numbers ids) _ _ c.args.cursor (in_arguments_is c.args.arguments.now) c.requires.placed in
     λ κs h. (less, (h.0, (h.1.0, (h.1.1.0, (h.1.1.1, ((before, c.requires.purpose), c.requires.nothing))))))
 
@@ -281,12 +321,12 @@ arguments::gather-returns-in_err-value-clause-goes g t c = λ k n.
     let b = state g.B.Context.meant g.B.Context.is_plain g.F.FluentFunction.answer content c.loop-inline.scope in
     let call = c.loop-inline.gathering in
     let h = held content call in
-    let v = viewed c.loop-inline.out b (values_view content c.loop-inline.work.values) in
+    let v = viewed c.loop-inline.out b (values_view content (values_in c.loop-inline.work)) in
     let x = inline_view c.in-Some.inline.now in
     let is : next_argument h ≡ Some x = sym c.next.ensures ∙ ap (λ (o : Option (Bor InlineExpression)). option_map (λ y. inline_view y.now) o) c.in-Some.is in
     let d = state g.B.Context.meant g.B.Context.is_plain g.F.FluentFunction.answer content c.resolve.new.scope in
-    let u = viewed c.resolve.new.out d (values_view content c.resolve.new.work.values) in
-    let fs = c.resolve.new.work.frames.items in
+    let u = viewed c.resolve.new.out d (values_view content (values_in c.resolve.new.work)) in
+    let fs = (frames_in c.resolve.new.work) in
     let next : Bundle Text → Following = λ bb given w. gathers content call given bb (k bb) w in
     let asked = pays c.args.levels (waits (suc n) (omega arith) (next_begins (use_of call.purpose) h x b.bundle (k b.bundle) v is (c.loop-inline.invariant.along k n))) in
     halts c.in_err-value.was (search rules) asked (c.resolve.ensures.goes next n)
@@ -300,12 +340,12 @@ arguments::gather-returns-in_err-take-in-Some-2-clause-goes g t c = λ k n.
     let b = state g.B.Context.meant g.B.Context.is_plain g.F.FluentFunction.answer content c.loop-inline.scope in
     let call = c.loop-inline.gathering in
     let h = held content call in
-    let v = viewed c.loop-inline.out b (values_view content c.loop-inline.work.values) in
+    let v = viewed c.loop-inline.out b (values_view content (values_in c.loop-inline.work)) in
     let x = inline_view c.in-Some.inline.now in
     let is : next_argument h ≡ Some x = sym c.next.ensures ∙ ap (λ (o : Option (Bor InlineExpression)). option_map (λ y. inline_view y.now) o) c.in-Some.is in
     let d = state g.B.Context.meant g.B.Context.is_plain g.F.FluentFunction.answer content c.resolve.new.scope in
-    let u = viewed c.resolve.new.out d (values_view content c.resolve.new.work.values) in
-    let fs = c.resolve.new.work.frames.items in
+    let u = viewed c.resolve.new.out d (values_view content (values_in c.resolve.new.work)) in
+    let fs = (frames_in c.resolve.new.work) in
     let next : Bundle Text → Following = λ bb given w. gathers content call given bb (k bb) w in
     let asked = pays c.args.levels (waits (suc n) (omega arith) (next_begins (use_of call.purpose) h x b.bundle (k b.bundle) v is (c.loop-inline.invariant.along k n))) in
     let there = goes c.in_ok-value.was asked (c.resolve.ensures.goes next n) in
@@ -320,12 +360,12 @@ arguments::gather-returns-in_err-hold-in-None-clause-goes g t c = λ k n.
     let b = state g.B.Context.meant g.B.Context.is_plain g.F.FluentFunction.answer content c.loop-inline.scope in
     let call = c.loop-inline.gathering in
     let h = held content call in
-    let v = viewed c.loop-inline.out b (values_view content c.loop-inline.work.values) in
+    let v = viewed c.loop-inline.out b (values_view content (values_in c.loop-inline.work)) in
     let x = inline_view c.in-Some.inline.now in
     let is : next_argument h ≡ Some x = sym c.next.ensures ∙ ap (λ (o : Option (Bor InlineExpression)). option_map (λ y. inline_view y.now) o) c.in-Some.is in
     let d = state g.B.Context.meant g.B.Context.is_plain g.F.FluentFunction.answer content c.resolve.new.scope in
-    let u = viewed c.resolve.new.out d (values_view content c.resolve.new.work.values) in
-    let fs = c.resolve.new.work.frames.items in
+    let u = viewed c.resolve.new.out d (values_view content (values_in c.resolve.new.work)) in
+    let fs = (frames_in c.resolve.new.work) in
     let next : Bundle Text → Following = λ bb given w. gathers content call given bb (k bb) w in
     let asked = pays c.args.levels (waits (suc (suc n)) (omega arith) (next_begins (use_of call.purpose) h x b.bundle (k b.bundle) v is (c.loop-inline.invariant.along k n))) in
     let there = goes c.in_ok-value.was asked (c.resolve.ensures.goes next (suc n)) in
@@ -339,17 +379,17 @@ arguments::gather-returns-in-None-clause-goes g t c = λ k n.
     let b = state g.B.Context.meant g.B.Context.is_plain g.F.FluentFunction.answer content c.loop-inline.scope in
     let call = c.loop-inline.gathering in
     let h = held content call in
-    let v = viewed c.loop-inline.out b (values_view content c.loop-inline.work.values) in
+    let v = viewed c.loop-inline.out b (values_view content (values_in c.loop-inline.work)) in
     let x = inline_view c.in-Some.inline.now in
     let is : next_argument h ≡ Some x = sym c.next.ensures ∙ ap (λ (o : Option (Bor InlineExpression)). option_map (λ y. inline_view y.now) o) c.in-Some.is in
     let d = state g.B.Context.meant g.B.Context.is_plain g.F.FluentFunction.answer content c.resolve.new.scope in
-    let u = viewed c.resolve.new.out d (values_view content c.resolve.new.work.values) in
-    let fs = c.resolve.new.work.frames.items in
+    let u = viewed c.resolve.new.out d (values_view content (values_in c.resolve.new.work)) in
+    let fs = (frames_in c.resolve.new.work) in
     let next : Bundle Text → Following = λ bb given w. gathers content call given bb (k bb) w in
     let asked = pays c.args.levels (waits (suc (suc n)) (omega arith) (next_begins (use_of call.purpose) h x b.bundle (k b.bundle) v is (c.loop-inline.invariant.along k n))) in
     let there = goes c.in_ok-value.was asked (c.resolve.ensures.goes next (suc n)) in
     let kept = c.in_ok-hold-in-None.ensures.waits in
-    let gs = c.hold.new.work.frames.items in
+    let gs = (frames_in c.hold.new.self) in
     let none = ap (λ o. before content d.bundle fs (next d.bundle) (made content o) u) c.in-None.is in
     let boxed = ap (λ (q : Gathering g.row.C.Denot). before content d.bundle fs (λ given. gathers content q given d.bundle (k d.bundle)) None u) (sym kept.value) in
     let put = is_put n content d.bundle fs gs (put_off.Gather kept.box) (k d.bundle) None u kept.frames (turns (none ∙ boxed) there) in
@@ -363,7 +403,7 @@ arguments::gather-returns-in-None-clause-placed g t c =
     let b = state g.B.Context.meant g.B.Context.is_plain g.F.FluentFunction.answer content c.loop-inline.scope in
     let call = c.loop-inline.gathering in
     let h = held content call in
-    let v = viewed c.loop-inline.out b (values_view content c.loop-inline.work.values) in
+    let v = viewed c.loop-inline.out b (values_view content (values_in c.loop-inline.work)) in
     let x = inline_view c.in-Some.inline.now in
     let is : next_argument h ≡ Some x = sym c.next.ensures ∙ ap (λ (o : Option (Bor InlineExpression)). option_map (λ y. inline_view y.now) o) c.in-Some.is in
     let d = state g.B.Context.meant g.B.Context.is_plain g.F.FluentFunction.answer content c.resolve.new.scope in
@@ -371,7 +411,7 @@ arguments::gather-returns-in-None-clause-placed g t c =
     let kept : d.stored ≡ b.stored = moved.happened.stays.stored in
     let waits = c.in_ok-hold-in-None.ensures.waits in
     let placed = subst (λ s. IsPlacedCall s.numbers s.table call) (sym kept) c.loop-inline.invariant.placed in
-    placed_pushed d.stored.numbers d.stored.table c.resolve.new.work.frames.items c.hold.new.work.frames.items (put_off.Gather waits.box) waits.frames c.in_ok-value.ensures.placed (subst (IsPlacedCall d.stored.numbers d.stored.table) (sym waits.value) placed)
+    placed_pushed d.stored.numbers d.stored.table (frames_in c.resolve.new.work) (frames_in c.hold.new.self) (put_off.Gather waits.box) waits.frames c.in_ok-value.ensures.placed (subst (IsPlacedCall d.stored.numbers d.stored.table) (sym waits.value) placed)
 
 pub arguments::gather-returns-clause-goes : goal.arguments::gather-returns-clause-goes
 unfolding state_parts
@@ -381,7 +421,7 @@ arguments::gather-returns-clause-goes g t c = λ k n.
     let b = state g.B.Context.meant g.B.Context.is_plain g.F.FluentFunction.answer content c.loop-inline.scope in
     let call = c.loop-inline.gathering in
     let h = held content call in
-    let v = viewed c.loop-inline.out b (values_view content c.loop-inline.work.values) in
+    let v = viewed c.loop-inline.out b (values_view content (values_in c.loop-inline.work)) in
     let is : next_argument h ≡ None = sym c.next.ensures ∙ ap (λ (o : Option (Bor InlineExpression)). option_map (λ y. inline_view y.now) o) c.in_default.is in
     went_on (turns (all_gathered (use_of call.purpose) h b.bundle (k b.bundle) v is) (c.loop-inline.invariant.along k n)) (c.finish.ensures.goes k n)
 
@@ -393,17 +433,17 @@ arguments::gather-resolve-requires g t c =
     let b = state g.B.Context.meant g.B.Context.is_plain g.F.FluentFunction.answer content c.loop-inline.scope in
     let call = c.loop-inline.gathering in
     let h = held content call in
-    let v = viewed c.loop-inline.out b (values_view content c.loop-inline.work.values) in
+    let v = viewed c.loop-inline.out b (values_view content (values_in c.loop-inline.work)) in
     let x = inline_view c.in-Some.inline.now in
     let is : next_argument h ≡ Some x = sym c.next.ensures ∙ ap (λ (o : Option (Bor InlineExpression)). option_map (λ y. inline_view y.now) o) c.in-Some.is in
-    let less = falls_to c.decreases (less_rank c.args.levels 0 8 (omega arith)) in
+    let less = falls_to c.decreases (less_rank c.args.levels 0 10 (omega arith)) in
     let placed = placed_next b.stored.numbers (more call) (more_named call) x (seen call.remaining.cursor) is c.loop-inline.invariant.placed.0 in
     λ κs h. (less, (h.0, (h.1.0, (h.1.1.0, (h.1.1.1, (placed, c.loop-inline.invariant.nothing))))))
 
 pub arguments::gather-finish-requires : goal.arguments::gather-finish-requires
 unfolding state_parts
 arguments::gather-finish-requires g t c =
-    let less = falls_to c.decreases (less_rank c.args.levels 7 8 (omega arith)) in
+    let less = falls_to c.decreases (less_rank c.args.levels 9 10 (omega arith)) in
     λ κs h. (less, (h.0, (h.1.0, (h.1.1.0, (h.1.1.1, (c.loop-inline.invariant.placed.1, c.loop-inline.invariant.nothing))))))
 
 pub arguments::gather-loop-inline-smaller : goal.arguments::gather-loop-inline-smaller
@@ -414,7 +454,7 @@ arguments::gather-loop-inline-smaller g t c =
     let b = state g.B.Context.meant g.B.Context.is_plain g.F.FluentFunction.answer content c.loop-inline.scope in
     let call = c.loop-inline.gathering in
     let h = held content call in
-    let v = viewed c.loop-inline.out b (values_view content c.loop-inline.work.values) in
+    let v = viewed c.loop-inline.out b (values_view content (values_in c.loop-inline.work)) in
     let x = inline_view c.in-Some.inline.now in
     let is : next_argument h ≡ Some x = sym c.next.ensures ∙ ap (λ (o : Option (Bor InlineExpression)). option_map (λ y. inline_view y.now) o) c.in-Some.is in
     left_falls h (held content c.take.new.gathering) x (value_view content c.in-Some-2.value) is c.in_ok-take-in-Some-2.ensures.held
@@ -427,19 +467,19 @@ arguments::gather-loop-inline-preserved g t c =
     let b = state g.B.Context.meant g.B.Context.is_plain g.F.FluentFunction.answer content c.loop-inline.scope in
     let call = c.loop-inline.gathering in
     let h = held content call in
-    let v = viewed c.loop-inline.out b (values_view content c.loop-inline.work.values) in
+    let v = viewed c.loop-inline.out b (values_view content (values_in c.loop-inline.work)) in
     let x = inline_view c.in-Some.inline.now in
     let is : next_argument h ≡ Some x = sym c.next.ensures ∙ ap (λ (o : Option (Bor InlineExpression)). option_map (λ y. inline_view y.now) o) c.in-Some.is in
     let d = state g.B.Context.meant g.B.Context.is_plain g.F.FluentFunction.answer content c.resolve.new.scope in
     let moved = goes c.in_ok-value.was (begun _ _ (outside contents c.loop-inline.out) b) (c.resolve.ensures.goes (λ bb. at_end) 0) in
     let kept : d.stored ≡ b.stored = moved.happened.stays.stored in
-    let nothing : c.resolve.new.work.frames.items ≡ [] = subst (λ o. IsWhole o c.resolve.new.work) c.in-Some-2.is c.in_ok-value.ensures.whole in
+    let nothing : (frames_in c.resolve.new.work) ≡ [] = subst (λ o. IsWhole o c.resolve.new.work) c.in-Some-2.is c.in_ok-value.ensures.whole in
     let y = value_view content c.in-Some-2.value in
     let new = c.take.new.gathering in
     let here = c.loop-inline.invariant.placed in
     let placed : IsPlacedCall b.stored.numbers b.stored.table new = (c.in_ok-take-in-Some-2.ensures.placed b.stored.numbers here.0, subst (IsPlacedPurpose b.stored.numbers b.stored.table) (sym c.take.ensures.purpose) here.1) in
-    let u = viewed c.resolve.new.out d (values_view content c.resolve.new.work.values) in
-    let fs = c.resolve.new.work.frames.items in
+    let u = viewed c.resolve.new.out d (values_view content (values_in c.resolve.new.work)) in
+    let fs = (frames_in c.resolve.new.work) in
     record {
       along = λ k n.
           let next : Bundle Text → Following = λ bb given w. gathers content call given bb (k bb) w in
@@ -461,7 +501,7 @@ arguments::keep_text-returns-in_err-write_inline-clause-goes g t c = λ k n.
     let a = state g.B.Context.meant g.B.Context.is_plain g.F.FluentFunction.answer content c.args.scope.now in
     let out = c.args.out.now in
     let work = c.args.work.now in
-    let values = values_view content work.values in
+    let values = values_view content (values_in work) in
     let v = viewed out a values in
     let text = c.replace-outer.new.dest in
     let value = put_off.Value c.replace-outer.result out.is_kept in
@@ -476,15 +516,15 @@ arguments::keep_text-returns-in_err-write_inline-clause-goes g t c = λ k n.
     let way = pays c.args.levels (waits (suc (suc n)) (omega arith) (turns (ap begins is) (begun _ n (outside contents out) a))) in
     halts c.in_err-write_inline.was (search rules) way (c.write_inline.ensures.goes next (suc n))
 
-pub arguments::keep_text-returns-in_err-wait-clause-goes : goal.arguments::keep_text-returns-in_err-wait-clause-goes
+pub arguments::keep_text-returns-in_err-wait_value-clause-goes : goal.arguments::keep_text-returns-in_err-wait_value-clause-goes
 unfolding state_parts
-arguments::keep_text-returns-in_err-wait-clause-goes g t c = λ k n.
+arguments::keep_text-returns-in_err-wait_value-clause-goes g t c = λ k n.
     let content = g.C.FluentType.content in
     let contents = g.W.Write.contents in
     let a = state g.B.Context.meant g.B.Context.is_plain g.F.FluentFunction.answer content c.args.scope.now in
     let out = c.args.out.now in
     let work = c.args.work.now in
-    let values = values_view content work.values in
+    let values = values_view content (values_in work) in
     let v = viewed out a values in
     let text = c.replace-outer.new.dest in
     let value = put_off.Value c.replace-outer.result out.is_kept in
@@ -499,8 +539,8 @@ arguments::keep_text-returns-in_err-wait-clause-goes g t c = λ k n.
     let way = pays c.args.levels (waits (suc (suc n)) (omega arith) (turns (ap begins is) (begun _ n (outside contents out) a))) in
     let d = state g.B.Context.meant g.B.Context.is_plain g.F.FluentFunction.answer content c.write_inline.new.scope in
     let last = c.write_inline.new.out in
-    let fs = c.write_inline.new.work.frames.items in
-    let u = viewed last d (values_view content c.write_inline.new.work.values) in
+    let fs = (frames_in c.write_inline.new.work) in
+    let u = viewed last d (values_view content (values_in c.write_inline.new.work)) in
     let there = goes c.in_ok-write_inline.was way (c.write_inline.ensures.goes next (suc n)) in
     lacks (search rules) there
 
@@ -512,7 +552,7 @@ arguments::keep_text-returns-then-is_done-clause-goes g t c = λ k n.
     let a = state g.B.Context.meant g.B.Context.is_plain g.F.FluentFunction.answer content c.args.scope.now in
     let out = c.args.out.now in
     let work = c.args.work.now in
-    let values = values_view content work.values in
+    let values = values_view content (values_in work) in
     let v = viewed out a values in
     let text = c.replace-outer.new.dest in
     let value = put_off.Value c.replace-outer.result out.is_kept in
@@ -527,8 +567,8 @@ arguments::keep_text-returns-then-is_done-clause-goes g t c = λ k n.
     let way = pays c.args.levels (waits (suc (suc n)) (omega arith) (turns (ap begins is) (begun _ n (outside contents out) a))) in
     let d = state g.B.Context.meant g.B.Context.is_plain g.F.FluentFunction.answer content c.write_inline.new.scope in
     let last = c.write_inline.new.out in
-    let fs = c.write_inline.new.work.frames.items in
-    let u = viewed last d (values_view content c.write_inline.new.work.values) in
+    let fs = (frames_in c.write_inline.new.work) in
+    let u = viewed last d (values_view content (values_in c.write_inline.new.work)) in
     let there = goes c.in_ok-write_inline.was way (c.write_inline.ensures.goes next (suc n)) in
     let nothing : fs ≡ [] = search (rules, c.is_done.ensures, c.if-is_done.true) in
     let done = with_fewer n (omega arith) (is_done content d.bundle fs (next d.bundle) None u nothing there) in
@@ -537,7 +577,7 @@ arguments::keep_text-returns-then-is_done-clause-goes g t c = λ k n.
     ap (λ y. k d.bundle (Some y) (record u { kept = kept_before out.is_kept c.replace-outer.result })) (sym c.end_text.ensures.value)
     ∙ ap (λ t. k d.bundle (Some (value_view content c.end_text.result)) (record u { kept = kept_before out.is_kept t })) (sym c.end_text.ensures.kept)
     ∙ ap (λ kept. k d.bundle (Some (value_view content c.end_text.result)) (record u { kept = kept_before kept ended.kept.now })) (sym c.end_text.ensures.is_kept)) done in
-    finishes (Some c.end_text.result) _ refl refl (none_put content d.bundle fs (k d.bundle) (Some (value_view content c.end_text.result)) (viewed ended d (values_view content c.write_inline.new.work.values)) nothing (elsewhere c.end_text.ensures.outside way))
+    finishes (Some c.end_text.result) _ refl refl (none_put content d.bundle fs (k d.bundle) (Some (value_view content c.end_text.result)) (viewed ended d (values_view content (values_in c.write_inline.new.work))) nothing (elsewhere c.end_text.ensures.outside way))
 
 pub arguments::keep_text-returns-clause-goes : goal.arguments::keep_text-returns-clause-goes
 unfolding state_parts
@@ -547,7 +587,7 @@ arguments::keep_text-returns-clause-goes g t c = λ k n.
     let a = state g.B.Context.meant g.B.Context.is_plain g.F.FluentFunction.answer content c.args.scope.now in
     let out = c.args.out.now in
     let work = c.args.work.now in
-    let values = values_view content work.values in
+    let values = values_view content (values_in work) in
     let v = viewed out a values in
     let text = c.replace-outer.new.dest in
     let value = put_off.Value c.replace-outer.result out.is_kept in
@@ -562,29 +602,35 @@ arguments::keep_text-returns-clause-goes g t c = λ k n.
     let way = pays c.args.levels (waits (suc (suc n)) (omega arith) (turns (ap begins is) (begun _ n (outside contents out) a))) in
     let d = state g.B.Context.meant g.B.Context.is_plain g.F.FluentFunction.answer content c.write_inline.new.scope in
     let last = c.write_inline.new.out in
-    let fs = c.write_inline.new.work.frames.items in
-    let u = viewed last d (values_view content c.write_inline.new.work.values) in
+    let fs = (frames_in c.write_inline.new.work) in
+    let u = viewed last d (values_view content (values_in c.write_inline.new.work)) in
     let there = goes c.in_ok-write_inline.was way (c.write_inline.ensures.goes next (suc n)) in
-    let gs = c.wait.new.self.frames.items in
-    let put = is_put n content d.bundle fs gs value (k d.bundle) None u c.in_ok-wait.ensures.frames there in
-    finishes None _ refl refl (turns (ap (λ vs. before content d.bundle gs (k d.bundle) None (viewed last d (values_view content vs))) (sym c.wait.ensures.values)) put)
+    let gs = (frames_in c.wait_value.new.self) in
+    let put = is_put n content d.bundle fs gs value (k d.bundle) None u c.in_ok-wait_value.ensures.frames there in
+    finishes None _ refl refl (turns (ap (λ vs. before content d.bundle gs (k d.bundle) None (viewed last d (values_view content vs))) (sym c.wait_value.ensures.values)) put)
 
 pub arguments::keep_text-returns-clause-placed : goal.arguments::keep_text-returns-clause-placed
 unfolding state_parts
 arguments::keep_text-returns-clause-placed g t c =
     let ids = c.write_inline.new.scope.ids.now in
-    placed_pushed (numbers ids) (table ids) c.write_inline.new.work.frames.items c.wait.new.self.frames.items (put_off.Value c.replace-outer.result c.args.out.now.is_kept) c.in_ok-wait.ensures.frames c.in_ok-write_inline.ensures.placed tt
+    placed_pushed (numbers ids) (table ids) (frames_in c.write_inline.new.work) (frames_in c.wait_value.new.self) (put_off.Value c.replace-outer.result c.args.out.now.is_kept) c.in_ok-wait_value.ensures.frames c.in_ok-write_inline.ensures.placed tt
 
-pub arguments::resolve-returns-in_err-wait-in_default : goal.arguments::resolve-returns-in_err-wait-in_default
+pub arguments::keep_text-write_inline-requires : goal.arguments::keep_text-write_inline-requires
 unfolding state_parts
-arguments::resolve-returns-in_err-wait-in_default g t c = record {
+arguments::keep_text-write_inline-requires g t c =
+    let less = falls_to c.decreases (less_rank c.args.levels 16 17 (omega arith)) in
+    λ κs h. (less, (h.0, (h.1.0, (h.1.1.0, (h.1.1.1, (c.requires.placed, c.requires.nothing))))))
+
+pub arguments::resolve-returns-in_err-put_off_value-in_default : goal.arguments::resolve-returns-in_err-put_off_value-in_default
+unfolding state_parts
+arguments::resolve-returns-in_err-put_off_value-in_default g t c = record {
   goes = λ k n.
       let content = g.C.FluentType.content in
       let contents = g.W.Write.contents in
       let a = state g.B.Context.meant g.B.Context.is_plain g.F.FluentFunction.answer content c.args.scope.now in
       let out = c.args.out.now in
       let work = c.args.work.now in
-      let values = values_view content work.values in
+      let values = values_view content (values_in work) in
       let v = viewed out a values in
       let x = inline_view c.args.inline.now in
       lacks (search rules) (begun _ (paid_within c.args.levels n) (outside contents out) a);
@@ -600,22 +646,22 @@ arguments::resolve-returns-then-levels-eq0-clause-goes g t c = λ k n.
     let a = state g.B.Context.meant g.B.Context.is_plain g.F.FluentFunction.answer content c.args.scope.now in
     let out = c.args.out.now in
     let work = c.args.work.now in
-    let values = values_view content work.values in
+    let values = values_view content (values_in work) in
     let v = viewed out a values in
     let x = inline_view c.args.inline.now in
-    let fs = work.frames.items in
-    let gs = c.wait.new.self.frames.items in
+    let fs = (frames_in work) in
+    let gs = (frames_in c.put_off_value.new.self) in
     let f = put_off.Resolve c.args.inline c.args.cursor in
     let way = with_fewer (suc n) (paid_none c.args.levels n c.if-levels-eq0.true) (begun _ (paid_within c.args.levels n) (outside contents out) a) in
     let here = none_put content a.bundle fs (λ given. frame content f given a.bundle (k a.bundle)) None v c.requires.nothing way in
-    let put = is_put n content a.bundle fs gs f (k a.bundle) None v c.in_ok-wait-in_default.ensures.frames here in
-    finishes None _ refl refl (turns (ap (λ vs. before content a.bundle gs (k a.bundle) None (viewed out a (values_view content vs))) (sym c.wait.ensures.values)) put)
+    let put = is_put n content a.bundle fs gs f (k a.bundle) None v c.in_ok-put_off_value-in_default.ensures.frames here in
+    finishes None _ refl refl (turns (ap (λ vs. before content a.bundle gs (k a.bundle) None (viewed out a (values_view content vs))) (sym c.put_off_value.ensures.values)) put)
 
 pub arguments::resolve-returns-then-levels-eq0-clause-placed : goal.arguments::resolve-returns-then-levels-eq0-clause-placed
 unfolding state_parts
 arguments::resolve-returns-then-levels-eq0-clause-placed g t c =
     let ids = c.args.scope.now.ids.now in
-    placed_pushed (numbers ids) (table ids) c.args.work.now.frames.items c.wait.new.self.frames.items (put_off.Resolve c.args.inline c.args.cursor) c.in_ok-wait-in_default.ensures.frames (subst (ArePlacedFrames (numbers ids) (table ids)) (sym c.requires.nothing) tt) c.requires.placed
+    placed_pushed (numbers ids) (table ids) (frames_in c.args.work.now) (frames_in c.put_off_value.new.self) (put_off.Resolve c.args.inline c.args.cursor) c.in_ok-put_off_value-in_default.ensures.frames (subst (ArePlacedFrames (numbers ids) (table ids)) (sym c.requires.nothing) tt) c.requires.placed
 
 pub arguments::resolve-returns-in-FunctionReference-clause-goes : goal.arguments::resolve-returns-in-FunctionReference-clause-goes
 unfolding state_parts
@@ -625,7 +671,7 @@ arguments::resolve-returns-in-FunctionReference-clause-goes g t c = λ k n.
     let a = state g.B.Context.meant g.B.Context.is_plain g.F.FluentFunction.answer content c.args.scope.now in
     let out = c.args.out.now in
     let work = c.args.work.now in
-    let values = values_view content work.values in
+    let values = values_view content (values_in work) in
     let v = viewed out a values in
     let x = inline_view c.args.inline.now in
     let way = with_fewer n (paid_least c.args.levels n) (begun _ (paid_within c.args.levels n) (outside contents out) a) in
@@ -642,7 +688,7 @@ arguments::resolve-returns-in_default-inline g t c = record {
       let a = state g.B.Context.meant g.B.Context.is_plain g.F.FluentFunction.answer content c.args.scope.now in
       let out = c.args.out.now in
       let work = c.args.work.now in
-      let values = values_view content work.values in
+      let values = values_view content (values_in work) in
       let v = viewed out a values in
       let x = inline_view c.args.inline.now in
       let way = with_fewer n (paid_least c.args.levels n) (begun _ (paid_within c.args.levels n) (outside contents out) a) in
@@ -657,7 +703,7 @@ unfolding state_parts
 arguments::resolve-begin_call-requires g t c =
     let ids = c.args.scope.now.ids.now in
     let some : 0 < c.args.levels = omega arith in
-    let less = falls_to c.decreases (less_level c.args.levels 9 0 some (omega arith)) in
+    let less = falls_to c.decreases (less_level c.args.levels 11 0 some (omega arith)) in
     let r = a_function c.in-FunctionReference.id.name.now in
     let rs = in_arguments (arguments_view c.in-FunctionReference.arguments.value) in
     let is = in_function_is c.args.inline.now c.in-FunctionReference.id c.in-FunctionReference.arguments c.in-FunctionReference.is in
@@ -670,13 +716,7 @@ pub arguments::resolve-keep_text-requires : goal.arguments::resolve-keep_text-re
 unfolding state_parts
 arguments::resolve-keep_text-requires g t c =
     let some : 0 < c.args.levels = omega arith in
-    let less = falls_to c.decreases (less_level c.args.levels 13 0 some (omega arith)) in
-    λ κs h. (less, (h.0, (h.1.0, (h.1.1.0, (h.1.1.1, (c.requires.placed, c.requires.nothing))))))
-
-pub arguments::keep_text-write_inline-requires : goal.arguments::keep_text-write_inline-requires
-unfolding state_parts
-arguments::keep_text-write_inline-requires g t c =
-    let less = falls_to c.decreases (less_rank c.args.levels 12 13 (omega arith)) in
+    let less = falls_to c.decreases (less_level c.args.levels 17 0 some (omega arith)) in
     λ κs h. (less, (h.0, (h.1.0, (h.1.1.0, (h.1.1.1, (c.requires.placed, c.requires.nothing))))))
 
 pub arguments::resolve-returns-in_err-text-in-StringLiteral-clause-goes : goal.arguments::resolve-returns-in_err-text-in-StringLiteral-clause-goes
@@ -687,7 +727,7 @@ arguments::resolve-returns-in_err-text-in-StringLiteral-clause-goes g t c = λ k
     let a = state g.B.Context.meant g.B.Context.is_plain g.F.FluentFunction.answer content c.args.scope.now in
     let out = c.args.out.now in
     let work = c.args.work.now in
-    let values = values_view content work.values in
+    let values = values_view content (values_in work) in
     let v = viewed out a values in
     let x = inline_view c.args.inline.now in
     lacks (search rules) (begun _ (paid_within c.args.levels n) (outside contents out) a)
@@ -700,12 +740,12 @@ arguments::resolve-returns-in_ok-text-in-StringLiteral-clause-goes g t c = λ k 
     let a = state g.B.Context.meant g.B.Context.is_plain g.F.FluentFunction.answer content c.args.scope.now in
     let out = c.args.out.now in
     let work = c.args.work.now in
-    let values = values_view content work.values in
+    let values = values_view content (values_in work) in
     let v = viewed out a values in
     let x = inline_view c.args.inline.now in
     let way = with_fewer n (paid_least c.args.levels n) (begun _ (paid_within c.args.levels n) (outside contents out) a) in
     let is = view_string_in c.args.inline.now c.in-StringLiteral.value c.in-StringLiteral.is in
-    finishes _ _ refl refl (none_put content a.bundle work.frames.items (k a.bundle) _ v c.requires.nothing (turns (string_at x c.in-StringLiteral.value.now _ a.bundle (k a.bundle) v is (ap text_value c.in_ok-text-in-StringLiteral.ensures.text)) way))
+    finishes _ _ refl refl (none_put content a.bundle (frames_in work) (k a.bundle) _ v c.requires.nothing (turns (string_at x c.in-StringLiteral.value.now _ a.bundle (k a.bundle) v is (ap text_value c.in_ok-text-in-StringLiteral.ensures.text)) way))
 
 pub arguments::resolve-returns-in-NumberLiteral-clause-goes : goal.arguments::resolve-returns-in-NumberLiteral-clause-goes
 unfolding state_parts
@@ -715,12 +755,12 @@ arguments::resolve-returns-in-NumberLiteral-clause-goes g t c = λ k n.
     let a = state g.B.Context.meant g.B.Context.is_plain g.F.FluentFunction.answer content c.args.scope.now in
     let out = c.args.out.now in
     let work = c.args.work.now in
-    let values = values_view content work.values in
+    let values = values_view content (values_in work) in
     let v = viewed out a values in
     let x = inline_view c.args.inline.now in
     let way = with_fewer n (paid_least c.args.levels n) (begun _ (paid_within c.args.levels n) (outside contents out) a) in
     let is = view_number_in c.args.inline.now c.in-NumberLiteral.value c.in-NumberLiteral.is in
-    finishes _ _ refl refl (none_put content a.bundle work.frames.items (k a.bundle) _ v c.requires.nothing (turns (number_at x c.in-NumberLiteral.value.now _ a.bundle (k a.bundle) v is c.try_number.ensures) way))
+    finishes _ _ refl refl (none_put content a.bundle (frames_in work) (k a.bundle) _ v c.requires.nothing (turns (number_at x c.in-NumberLiteral.value.now _ a.bundle (k a.bundle) v is c.try_number.ensures) way))
 
 pub arguments::resolve-returns-in_err-resolve_variable-in-VariableReference-clause-goes : goal.arguments::resolve-returns-in_err-resolve_variable-in-VariableReference-clause-goes
 unfolding state_parts
@@ -730,7 +770,7 @@ arguments::resolve-returns-in_err-resolve_variable-in-VariableReference-clause-g
     let a = state g.B.Context.meant g.B.Context.is_plain g.F.FluentFunction.answer content c.args.scope.now in
     let out = c.args.out.now in
     let work = c.args.work.now in
-    let values = values_view content work.values in
+    let values = values_view content (values_in work) in
     let v = viewed out a values in
     let x = inline_view c.args.inline.now in
     lacks (search rules) (passes (happened_untold (outside contents out) c.in_err-resolve_variable-in-VariableReference.was c.resolve_variable.ensures.0) (begun _ (paid_within c.args.levels n) (outside contents out) a))
@@ -743,7 +783,7 @@ arguments::resolve-returns-in_ok-resolve_variable-in-VariableReference-clause-go
     let a = state g.B.Context.meant g.B.Context.is_plain g.F.FluentFunction.answer content c.args.scope.now in
     let out = c.args.out.now in
     let work = c.args.work.now in
-    let values = values_view content work.values in
+    let values = values_view content (values_in work) in
     let v = viewed out a values in
     let x = inline_view c.args.inline.now in
     let way = with_fewer n (paid_least c.args.levels n) (begun _ (paid_within c.args.levels n) (outside contents out) a) in
@@ -756,7 +796,7 @@ arguments::resolve-returns-in_ok-resolve_variable-in-VariableReference-clause-go
     let on = looked_up a.bundle (k a.bundle) v x o told (turns (variable_at x id a.bundle (k a.bundle) v is) way) in
     let at : At = λ y env path budget. k y (Some (value_view content c.in_ok-resolve_variable-in-VariableReference.field-0)) (record { kept = kept_of out; budget = budget; environment = env; path = path; values = values }) in
     let there = ap (λ y. k a.bundle (Some y) v) (sym c.in_ok-resolve_variable-in-VariableReference.ensures.1) ∙ moves a b at a.environment a.path reports.stays.bundle reports.environment reports.path reports.budget in
-    finishes _ _ refl refl (none_put content b.bundle work.frames.items (k b.bundle) (Some (value_view content c.in_ok-resolve_variable-in-VariableReference.field-0)) (viewed out b values) c.requires.nothing (turns there on))
+    finishes _ _ refl refl (none_put content b.bundle (frames_in work) (k b.bundle) (Some (value_view content c.in_ok-resolve_variable-in-VariableReference.field-0)) (viewed out b values) c.requires.nothing (turns there on))
 
 pub arguments::resolve-resolve_variable-requires : goal.arguments::resolve-resolve_variable-requires
 arguments::resolve-resolve_variable-requires g t c = view_variable_in c.args.inline.now c.in-VariableReference.id c.in-VariableReference.is
@@ -769,7 +809,7 @@ expression::choose_variant-returns-clause-goes g t c = λ k n.
     let a = state g.B.Context.meant g.B.Context.is_plain g.F.FluentFunction.answer content c.args.scope.now in
     let out = c.args.out.now in
     let work = c.args.work.now in
-    let values = values_view content work.values in
+    let values = values_view content (values_in work) in
     let v = viewed out a values in
     let chosen = chosen_ahead (variants_view c.args.variants.now) (value_view content c.args.value.now) (chosen_view c.choose-chosen.result) a.bundle (k a.bundle) v c.choose-chosen.ensures.chose in
     went_on (turns chosen (begun _ n (outside contents out) a)) (c.write_chosen.ensures.goes k n)
@@ -782,7 +822,7 @@ expression::write_chosen-returns-in_err-write_elements-in-Some-clause-goes g t c
     let a = state g.B.Context.meant g.B.Context.is_plain g.F.FluentFunction.answer content c.args.scope.now in
     let out = c.args.out.now in
     let work = c.args.work.now in
-    let values = values_view content work.values in
+    let values = values_view content (values_in work) in
     let v = viewed out a values in
     let p = c.in-Some.chosen.pattern.now in
     let one = has_one (pattern_view p) in
@@ -802,7 +842,7 @@ expression::write_chosen-returns-then-is_done-clause-goes g t c = λ k n.
     let a = state g.B.Context.meant g.B.Context.is_plain g.F.FluentFunction.answer content c.args.scope.now in
     let out = c.args.out.now in
     let work = c.args.work.now in
-    let values = values_view content work.values in
+    let values = values_view content (values_in work) in
     let v = viewed out a values in
     let p = c.in-Some.chosen.pattern.now in
     let one = has_one (pattern_view p) in
@@ -814,15 +854,15 @@ expression::write_chosen-returns-then-is_done-clause-goes g t c = λ k n.
     let went = c.write_elements.ensures.goes next (suc n) in
     let d = state g.B.Context.meant g.B.Context.is_plain g.F.FluentFunction.answer content c.write_elements.new.scope in
     let off = c.write_elements.new.work in
-    let last = viewed c.write_elements.new.out d (values_view content off.values) in
+    let last = viewed c.write_elements.new.out d (values_view content (values_in off)) in
     let there = goes c.in_ok-write_elements-in-Some.was way went in
     let none = c.is_done.ensures.0 c.if-is_done.true in
-    let here = with_fewer n (omega arith) (is_done content d.bundle off.frames.items (next d.bundle) None last none there) in
+    let here = with_fewer n (omega arith) (is_done content d.bundle (frames_in off) (next d.bundle) None last none there) in
     let e = c.leave.ensures.elsewhere in
     let f = state g.B.Context.meant g.B.Context.is_plain g.F.FluentFunction.answer content c.leave.new.self in
     let at : At = λ x env path budget. k x None (record { kept = last.kept; budget = budget; environment = env; path = path; values = last.values }) in
     let left = turns (moves d f at d.environment _ e.stays.bundle e.environment (path_is put c.leave.ensures) e.budget) (passes (happened_as (outside contents c.write_elements.new.out) e.errors e.budget c.leave.ensures.tally e.stays) here) in
-    all_done content f.bundle off.frames.items (k f.bundle) (λ x. None) (viewed c.write_elements.new.out f (values_view content off.values)) refl none left
+    all_done content f.bundle (frames_in off) (k f.bundle) (λ x. None) (viewed c.write_elements.new.out f (values_view content (values_in off))) refl none left
 
 pub expression::write_chosen-returns-else-is_done-clause-goes : goal.expression::write_chosen-returns-else-is_done-clause-goes
 unfolding state_parts
@@ -832,7 +872,7 @@ expression::write_chosen-returns-else-is_done-clause-goes g t c = λ k n.
     let a = state g.B.Context.meant g.B.Context.is_plain g.F.FluentFunction.answer content c.args.scope.now in
     let out = c.args.out.now in
     let work = c.args.work.now in
-    let values = values_view content work.values in
+    let values = values_view content (values_in work) in
     let v = viewed out a values in
     let p = c.in-Some.chosen.pattern.now in
     let one = has_one (pattern_view p) in
@@ -844,42 +884,42 @@ expression::write_chosen-returns-else-is_done-clause-goes g t c = λ k n.
     let went = c.write_elements.ensures.goes next (suc n) in
     let d = state g.B.Context.meant g.B.Context.is_plain g.F.FluentFunction.answer content c.write_elements.new.scope in
     let off = c.write_elements.new.work in
-    let last = viewed c.write_elements.new.out d (values_view content off.values) in
+    let last = viewed c.write_elements.new.out d (values_view content (values_in off)) in
     let there = goes c.in_ok-write_elements-in-Some.was way went in
-    put_last n content d.bundle off.frames.items c.wait.new.self.frames.items _ (k d.bundle) None last _ _ (ap (λ vs. viewed c.write_elements.new.out d (values_view content vs)) (sym c.wait.ensures.values)) c.wait.ensures.err c.wait.ensures.frames there
+    put_last n content d.bundle (frames_in off) (frames_in c.wait_leave.new.self) _ (k d.bundle) None last _ _ (ap (λ vs. viewed c.write_elements.new.out d (values_view content vs)) (sym c.wait_leave.ensures.values)) c.wait_leave.ensures.err c.wait_leave.ensures.frames there
 
 pub expression::write_chosen-returns-else-is_done-clause-placed : goal.expression::write_chosen-returns-else-is_done-clause-placed
 unfolding state_parts
 expression::write_chosen-returns-else-is_done-clause-placed g t c =
     let content = g.C.FluentType.content in
     let d = state g.B.Context.meant g.B.Context.is_plain g.F.FluentFunction.answer content c.write_elements.new.scope in
-    placed_last d.stored.numbers d.stored.table c.write_elements.new.work.frames.items c.wait.new.self.frames.items _ _ c.wait.ensures.frames c.in_ok-write_elements-in-Some.ensures.placed tt
+    placed_last d.stored.numbers d.stored.table (frames_in c.write_elements.new.work) (frames_in c.wait_leave.new.self) _ _ c.wait_leave.ensures.frames c.in_ok-write_elements-in-Some.ensures.placed tt
 
-pub expression::write_chosen-returns-in_err-add_error-in-None-clause-goes : goal.expression::write_chosen-returns-in_err-add_error-in-None-clause-goes
+pub expression::write_chosen-returns-in_err-report_no_default-in-None-clause-goes : goal.expression::write_chosen-returns-in_err-report_no_default-in-None-clause-goes
 unfolding state_parts
-expression::write_chosen-returns-in_err-add_error-in-None-clause-goes g t c = λ k n.
+expression::write_chosen-returns-in_err-report_no_default-in-None-clause-goes g t c = λ k n.
     let content = g.C.FluentType.content in
     let contents = g.W.Write.contents in
     let a = state g.B.Context.meant g.B.Context.is_plain g.F.FluentFunction.answer content c.args.scope.now in
     let out = c.args.out.now in
     let work = c.args.work.now in
-    let values = values_view content work.values in
+    let values = values_view content (values_in work) in
     let v = viewed out a values in
-    lacks (search rules) (tells_none c.in_err-add_error-in-None.was c.add_error.ensures.added (begun _ n _ a))
+    lacks (search rules) (tells_none c.in_err-report_no_default-in-None.was c.report_no_default.ensures (begun _ n _ a))
 
-pub expression::write_chosen-returns-in_ok-add_error-in-None-clause-goes : goal.expression::write_chosen-returns-in_ok-add_error-in-None-clause-goes
+pub expression::write_chosen-returns-in_ok-report_no_default-in-None-clause-goes : goal.expression::write_chosen-returns-in_ok-report_no_default-in-None-clause-goes
 unfolding state_parts
-expression::write_chosen-returns-in_ok-add_error-in-None-clause-goes g t c = λ k n.
+expression::write_chosen-returns-in_ok-report_no_default-in-None-clause-goes g t c = λ k n.
     let content = g.C.FluentType.content in
     let contents = g.W.Write.contents in
     let a = state g.B.Context.meant g.B.Context.is_plain g.F.FluentFunction.answer content c.args.scope.now in
     let out = c.args.out.now in
     let work = c.args.work.now in
-    let values = values_view content work.values in
+    let values = values_view content (values_in work) in
     let v = viewed out a values in
-    let b = state g.B.Context.meant g.B.Context.is_plain g.F.FluentFunction.answer content c.add_error.new.self in
+    let b = state g.B.Context.meant g.B.Context.is_plain g.F.FluentFunction.answer content c.report_no_default.new.scope in
     let way = turns (ap (λ o. parts.chosen (chosen_view o) a.bundle (k a.bundle) v) c.in-None.is ∙ ap (after (tells (resolver_error missing_default ∷ []))) (puts_nothing (k a.bundle) v)) (begun _ n (outside contents out) a) in
-    all_done content b.bundle work.frames.items (k b.bundle) (λ x. None) (viewed out b values) refl c.requires.nothing (tells_first (λ b env path budget. k b None (record { kept = kept_of out; budget = budget; environment = env; path = path; values = values })) c.in_ok-add_error-in-None.was c.add_error.ensures.added way)
+    all_done content b.bundle (frames_in work) (k b.bundle) (λ x. None) (viewed out b values) refl c.requires.nothing (tells_first (λ b env path budget. k b None (record { kept = kept_of out; budget = budget; environment = env; path = path; values = values })) c.in_ok-report_no_default-in-None.was c.report_no_default.ensures way)
 
 pub expression::write_expression-returns-then-levels-eq0-clause-goes : goal.expression::write_expression-returns-then-levels-eq0-clause-goes
 unfolding state_parts
@@ -889,12 +929,12 @@ expression::write_expression-returns-then-levels-eq0-clause-goes g t c = λ k n.
     let a = state g.B.Context.meant g.B.Context.is_plain g.F.FluentFunction.answer content c.args.scope.now in
     let out = c.args.out.now in
     let work = c.args.work.now in
-    let values = values_view content work.values in
+    let values = values_view content (values_in work) in
     let v = viewed out a values in
     let paid = none_left c.args.levels n c.if-levels-eq0.true in
     let here = with_fewer (suc n) (omega (arith, paid)) (begun (parts.expression (expression_view c.args.expression.now) a.bundle (k a.bundle) v) (paid_within c.args.levels n) (outside contents out) a) in
-    put_last n content a.bundle work.frames.items c.wait.new.self.frames.items _ (k a.bundle) None v _ _ (ap (λ vs. viewed out a (values_view content vs)) (sym c.wait.ensures.values)) c.wait.ensures.err c.wait.ensures.frames
-    (is_still content a.bundle work.frames.items (λ x. parts.expression (expression_view c.args.expression.now) a.bundle (k a.bundle)) None v c.requires.nothing here)
+    put_last n content a.bundle (frames_in work) (frames_in c.put_off.new.self) _ (k a.bundle) None v _ _ (ap (λ vs. viewed out a (values_view content vs)) (sym c.put_off.ensures.values)) c.put_off.ensures.err c.put_off.ensures.frames
+    (is_still content a.bundle (frames_in work) (λ x. parts.expression (expression_view c.args.expression.now) a.bundle (k a.bundle)) None v c.requires.nothing here)
 
 pub expression::write_expression-write_unbraced-requires : goal.expression::write_expression-write_unbraced-requires
 unfolding state_parts
@@ -902,7 +942,7 @@ expression::write_expression-write_unbraced-requires g t c =
     let a = state g.B.Context.meant g.B.Context.is_plain g.F.FluentFunction.answer g.C.FluentType.content c.args.scope.now in
     let e = expression_view c.args.expression.now in
     let x = inline_view c.in-Inline.inline in
-    let is = sym c.innermost.ensures ∙ view_in c.innermost.result.now c.in-Inline.inline c.in-Inline.is in
+    let is = sym c.innermost-inner.ensures ∙ view_in c.innermost-inner.result.now c.in-Inline.inline c.in-Inline.is in
     let bare = unbraced e x is in
     let placed = placed_as a.stored.numbers (in_expression e) (in_inline x) c.args.cursor (sym (refers_same e) ∙ ap in_expression is) c.requires.placed in
     λ κs h. (falls_to c.decreases (omega (arith, c.if-levels-eq0.false)), (h.0, (h.1.0, (h.1.1.0, (h.1.1.1, (bare, (placed, c.requires.nothing)))))))
@@ -912,10 +952,10 @@ unfolding state_parts
 expression::write_expression-write_select-requires g t c =
     let a = state g.B.Context.meant g.B.Context.is_plain g.F.FluentFunction.answer g.C.FluentType.content c.args.scope.now in
     let e = expression_view c.args.expression.now in
-    let x = inline_view c.in-Select.selector in
-    let is = sym c.innermost.ensures ∙ view_select_in c.innermost.result.now c.in-Select.selector c.in-Select.variants c.in-Select.is in
-    let placed = placed_as a.stored.numbers (in_expression e) (in_expression (select x (variants_view c.in-Select.variants.items))) c.args.cursor (sym (refers_same e) ∙ ap in_expression is) c.requires.placed in
-    λ κs h. (falls_to c.decreases (omega (arith, c.if-levels-eq0.false)), (h.0, (h.1.0, (h.1.1.0, (h.1.1.1, (placed, c.requires.nothing))))))
+    let i = expression_view c.innermost-inner.result.now in
+    let placed = placed_as a.stored.numbers (in_expression e) (in_expression i) c.args.cursor (sym (refers_same e) ∙ ap in_expression (sym c.innermost-inner.ensures)) c.requires.placed in
+    let is_select = subst parts.IsSelect (sym (view_select_in c.innermost-inner.result.now _ _ c.in-Select.is)) tt in
+    λ κs h. (falls_to c.decreases (omega (arith, c.if-levels-eq0.false)), (h.0, (h.1.0, (h.1.1.0, (h.1.1.1, (is_select, (placed, c.requires.nothing)))))))
 
 pub expression::write_expression-returns-in-Inline-clause-goes : goal.expression::write_expression-returns-in-Inline-clause-goes
 unfolding state_parts
@@ -925,10 +965,10 @@ expression::write_expression-returns-in-Inline-clause-goes g t c = λ k n.
     let a = state g.B.Context.meant g.B.Context.is_plain g.F.FluentFunction.answer content c.args.scope.now in
     let out = c.args.out.now in
     let work = c.args.work.now in
-    let values = values_view content work.values in
+    let values = values_view content (values_in work) in
     let v = viewed out a values in
     let x = inline_view c.in-Inline.inline in
-    let is = sym c.innermost.ensures ∙ view_in c.innermost.result.now c.in-Inline.inline c.in-Inline.is in
+    let is = sym c.innermost-inner.ensures ∙ view_in c.innermost-inner.result.now c.in-Inline.inline c.in-Inline.is in
     let way = turns (ahead_same (expression_view c.args.expression.now) (inline x) a.bundle (k a.bundle) v is ∙ inline_ahead x a.bundle (k a.bundle) v) (begun _ (paid_within c.args.levels n) (outside contents out) a) in
     went_on (with_fewer n (at_least c.args.levels n) way) (c.write_unbraced.ensures.goes k n)
 
@@ -940,11 +980,10 @@ expression::write_expression-returns-in-Select-clause-goes g t c = λ k n.
     let a = state g.B.Context.meant g.B.Context.is_plain g.F.FluentFunction.answer content c.args.scope.now in
     let out = c.args.out.now in
     let work = c.args.work.now in
-    let values = values_view content work.values in
+    let values = values_view content (values_in work) in
     let v = viewed out a values in
-    let x = inline_view c.in-Select.selector in
-    let is = sym c.innermost.ensures ∙ view_select_in c.innermost.result.now c.in-Select.selector c.in-Select.variants c.in-Select.is in
-    let way = turns (ahead_same (expression_view c.args.expression.now) (select x (variants_view c.in-Select.variants.items)) a.bundle (k a.bundle) v is) (begun _ (paid_within c.args.levels n) (outside contents out) a) in
+    let i = expression_view c.innermost-inner.result.now in
+    let way = turns (ahead_same (expression_view c.args.expression.now) i a.bundle (k a.bundle) v (sym c.innermost-inner.ensures)) (begun _ (paid_within c.args.levels n) (outside contents out) a) in
     went_on (with_fewer n (at_least c.args.levels n) way) (c.write_select.ensures.goes k n)
 
 pub expression::write_inline-returns-in-Placeable-clause-goes : goal.expression::write_inline-returns-in-Placeable-clause-goes
@@ -955,7 +994,7 @@ expression::write_inline-returns-in-Placeable-clause-goes g t c = λ k n.
     let a = state g.B.Context.meant g.B.Context.is_plain g.F.FluentFunction.answer content c.args.scope.now in
     let out = c.args.out.now in
     let work = c.args.work.now in
-    let values = values_view content work.values in
+    let values = values_view content (values_in work) in
     let v = viewed out a values in
     let is = view_nested_in c.args.inline.now c.in-Placeable.expression c.in-Placeable.is ∙ ap (λ e. nested (expression_view e)) (sym c.deref.ensures) in
     went_on (turns (ap (λ x. parts.written x a.bundle (k a.bundle) v) is ∙ nested_ahead (expression_view c.deref.result.now) a.bundle (k a.bundle) v) (begun _ (paid_within c.args.levels n) (outside contents out) a)) (c.write_expression.ensures.goes k n)
@@ -968,7 +1007,7 @@ expression::write_inline-returns-in_default g t c =
     let a = state g.B.Context.meant g.B.Context.is_plain g.F.FluentFunction.answer content c.args.scope.now in
     let out = c.args.out.now in
     let work = c.args.work.now in
-    let values = values_view content work.values in
+    let values = values_view content (values_in work) in
     let v = viewed out a values in
     record { goes = λ k n. went_on (with_fewer n (at_least c.args.levels n) (begun _ (paid_within c.args.levels n) (outside contents out) a)) (c.write_unbraced.ensures.goes k n); placed = c.write_unbraced.ensures.placed }
 
@@ -980,7 +1019,7 @@ expression::write_select-returns-in_err-chosen-in-VariableReference-clause-goes 
     let a = state g.B.Context.meant g.B.Context.is_plain g.F.FluentFunction.answer content c.args.scope.now in
     let out = c.args.out.now in
     let work = c.args.work.now in
-    let values = values_view content work.values in
+    let values = values_view content (values_in work) in
     let v = viewed out a values in
     lacks (search rules) (tells_none c.in_err-chosen-in-VariableReference.was c.choose_by_variable.ensures.chose.0 (begun _ n _ a))
 
@@ -992,50 +1031,64 @@ expression::write_select-returns-in_ok-chosen-in-VariableReference-clause-goes g
     let a = state g.B.Context.meant g.B.Context.is_plain g.F.FluentFunction.answer content c.args.scope.now in
     let out = c.args.out.now in
     let work = c.args.work.now in
-    let values = values_view content work.values in
+    let values = values_view content (values_in work) in
     let v = viewed out a values in
-    let x = inline_view c.args.selector.now in
+    let x = inline_view c.in-Select.selector in
     let vs = variants_view c.deref.result.now in
     let o = chosen_view c.in_ok-chosen-in-VariableReference.chosen in
-    let is = view_variable_in c.args.selector.now c.in-VariableReference.id c.in-VariableReference.is in
+    let select_is = view_select_in c.args.expression.now c.in-Select.selector c.in-Select.variants c.in-Select.is in
+    let is = view_variable_in c.in-Select.selector c.in-VariableReference.id c.in-VariableReference.is in
     let chose = c.choose_by_variable.ensures.chose in
-    let way = select_chosen x c.in-VariableReference.id.name.now vs o k (kept_of out) values is c.in_ok-chosen-in-VariableReference.was chose.0 (ok_value _ _ _ c.in_ok-chosen-in-VariableReference.was chose.1) (turns (ap (λ ys. parts.expression (select x (variants_view ys)) a.bundle (k a.bundle) v) (sym c.deref.ensures.value)) (begun _ n (outside contents out) a)) in
+    let way = select_chosen x c.in-VariableReference.id.name.now vs o k (kept_of out) values is c.in_ok-chosen-in-VariableReference.was chose.0 (ok_value _ _ _ c.in_ok-chosen-in-VariableReference.was chose.1) (turns (ap (λ y. parts.expression y a.bundle (k a.bundle) v) select_is ∙ ap (λ ys. parts.expression (select x (variants_view ys)) a.bundle (k a.bundle) v) (sym c.deref.ensures.value)) (begun _ n (outside contents out) a)) in
     went_on way (c.write_chosen.ensures.goes k n)
 
-pub expression::write_select-resolve-requires : goal.expression::write_select-resolve-requires
+pub expression::write_select-returns-in_default : goal.expression::write_select-returns-in_default
 unfolding state_parts
-expression::write_select-resolve-requires g t c =
+expression::write_select-returns-in_default g t c =
+    let content = g.C.FluentType.content in
+    let contents = g.W.Write.contents in
+    let a = state g.B.Context.meant g.B.Context.is_plain g.F.FluentFunction.answer content c.args.scope.now in
+    let out = c.args.out.now in
+    let work = c.args.work.now in
+    let values = values_view content (values_in work) in
+    let v = viewed out a values in
+    let select_is = view_select_in c.args.expression.now c.in-Select.selector c.in-Select.variants c.in-Select.is in
+    record { goes = λ k n. went_on (turns (ap (λ y. parts.expression y a.bundle (k a.bundle) v) select_is) (begun _ n (outside contents out) a)) (c.write_by_value.ensures.goes k n); placed = c.write_by_value.ensures.placed }
+
+pub expression::write_by_value-resolve-requires : goal.expression::write_by_value-resolve-requires
+unfolding state_parts
+expression::write_by_value-resolve-requires g t c =
     let a = state g.B.Context.meant g.B.Context.is_plain g.F.FluentFunction.answer g.C.FluentType.content c.args.scope.now in
     let x = inline_view c.args.selector.now in
     let vs = variants_view c.args.variants.now.items in
     let placed = placed_prefix a.stored.numbers (in_expression (select x vs)) (in_inline x) (in_variants vs) c.args.cursor refl c.requires.placed in
     λ κs h. (falls_to c.decreases (omega arith), (h.0, (h.1.0, (h.1.1.0, (h.1.1.1, (placed, c.requires.nothing))))))
 
-pub expression::write_select-returns-in_err-value-in_default : goal.expression::write_select-returns-in_err-value-in_default
+pub expression::write_by_value-returns-in_err-value-clause-goes : goal.expression::write_by_value-returns-in_err-value-clause-goes
 unfolding state_parts
-expression::write_select-returns-in_err-value-in_default g t c =
+expression::write_by_value-returns-in_err-value-clause-goes g t c = λ k n.
     let content = g.C.FluentType.content in
     let contents = g.W.Write.contents in
     let a = state g.B.Context.meant g.B.Context.is_plain g.F.FluentFunction.answer content c.args.scope.now in
     let out = c.args.out.now in
     let work = c.args.work.now in
-    let values = values_view content work.values in
+    let values = values_view content (values_in work) in
     let v = viewed out a values in
     let x = inline_view c.args.selector.now in
     let vs = variants_view c.args.variants.now.items in
-    let next : (Bundle Text → Following) → Bundle Text → Following = λ k b given. parts.matched vs (selector_value given) b (k b) in
-    let way = λ (k : Bundle Text → Following) (n : ℕ). waits (paid_within c.args.levels (suc n)) (omega (arith, at_most c.args.levels (suc n))) (turns (select_ahead x vs a.bundle (k a.bundle) v) (begun _ n (outside contents out) a)) in
-    record { goes = λ k n. halts c.in_err-value-in_default.was (search rules) (way k n) (c.resolve.ensures.goes (next k) (suc n)); placed = search rules }
+    let next : Bundle Text → Following = λ b given. parts.matched vs (selector_value given) b (k b) in
+    let way = waits (paid_within c.args.levels (suc n)) (omega (arith, at_most c.args.levels (suc n))) (turns (select_ahead x vs a.bundle (k a.bundle) v) (begun _ n (outside contents out) a)) in
+    halts c.in_err-value.was (search rules) way (c.resolve.ensures.goes next (suc n))
 
-pub expression::write_select-choose_variant-requires : goal.expression::write_select-choose_variant-requires
+pub expression::write_by_value-choose_variant-requires : goal.expression::write_by_value-choose_variant-requires
 unfolding state_parts
-expression::write_select-choose_variant-requires g t c =
+expression::write_by_value-choose_variant-requires g t c =
     let content = g.C.FluentType.content in
     let contents = g.W.Write.contents in
     let a = state g.B.Context.meant g.B.Context.is_plain g.F.FluentFunction.answer content c.args.scope.now in
     let out = c.args.out.now in
     let work = c.args.work.now in
-    let values = values_view content work.values in
+    let values = values_view content (values_in work) in
     let v = viewed out a values in
     let x = inline_view c.args.selector.now in
     let vs = variants_view c.args.variants.now.items in
@@ -1043,22 +1096,22 @@ expression::write_select-choose_variant-requires g t c =
     let way = λ (k : Bundle Text → Following) (n : ℕ). waits (paid_within c.args.levels (suc n)) (omega (arith, at_most c.args.levels (suc n))) (turns (select_ahead x vs a.bundle (k a.bundle) v) (begun _ n (outside contents out) a)) in
     let b = state g.B.Context.meant g.B.Context.is_plain g.F.FluentFunction.answer content c.resolve.new.scope in
     let off = c.resolve.new.work in
-    let last = viewed c.resolve.new.out b (values_view content off.values) in
-    let there = λ (k : Bundle Text → Following) (n : ℕ). goes c.in_ok-value-in_default.was (way k n) (c.resolve.ensures.goes (next k) (suc n)) in
+    let last = viewed c.resolve.new.out b (values_view content (values_in off)) in
+    let there = λ (k : Bundle Text → Following) (n : ℕ). goes c.in_ok-value.was (way k n) (c.resolve.ensures.goes (next k) (suc n)) in
     let stored = (there no_more 0).happened.stays.stored in
     let cursor = placed_still a b (in_variants vs) c.after_inline-after.result stored (placed_back a.stored.numbers (in_expression (select x vs)) (in_inline x) (in_variants vs) c.args.cursor c.after_inline-after.result refl c.after_inline-after.ensures c.requires.placed) in
-    let here = placed_as b.stored.numbers (in_variants vs) (in_variants (variants_view c.deref-in-Some.result.now)) c.after_inline-after.result (ap (λ ys. in_variants (variants_view ys)) (sym c.deref-in-Some.ensures.value)) cursor in
-    λ κs h. (falls_to c.decreases (omega arith), (h.0, (h.1.0, (h.1.1.0, (h.1.1.1, (here, whole_if c.in_ok-value-in_default.field-0 c.in-Some.value off c.in-Some.is c.in_ok-value-in_default.ensures.whole))))))
+    let here = placed_as b.stored.numbers (in_variants vs) (in_variants (variants_view c.deref.result.now)) c.after_inline-after.result (ap (λ ys. in_variants (variants_view ys)) (sym c.deref.ensures.value)) cursor in
+    λ κs h. (falls_to c.decreases (omega arith), (h.0, (h.1.0, (h.1.1.0, (h.1.1.1, (here, whole_if c.in_ok-value.field-0 c.in-Some.value off c.in-Some.is c.in_ok-value.ensures.whole))))))
 
-pub expression::write_select-returns-in-Some : goal.expression::write_select-returns-in-Some
+pub expression::write_by_value-returns-in-Some : goal.expression::write_by_value-returns-in-Some
 unfolding state_parts
-expression::write_select-returns-in-Some g t c =
+expression::write_by_value-returns-in-Some g t c =
     let content = g.C.FluentType.content in
     let contents = g.W.Write.contents in
     let a = state g.B.Context.meant g.B.Context.is_plain g.F.FluentFunction.answer content c.args.scope.now in
     let out = c.args.out.now in
     let work = c.args.work.now in
-    let values = values_view content work.values in
+    let values = values_view content (values_in work) in
     let v = viewed out a values in
     let x = inline_view c.args.selector.now in
     let vs = variants_view c.args.variants.now.items in
@@ -1066,27 +1119,27 @@ expression::write_select-returns-in-Some g t c =
     let way = λ (k : Bundle Text → Following) (n : ℕ). waits (paid_within c.args.levels (suc n)) (omega (arith, at_most c.args.levels (suc n))) (turns (select_ahead x vs a.bundle (k a.bundle) v) (begun _ n (outside contents out) a)) in
     let b = state g.B.Context.meant g.B.Context.is_plain g.F.FluentFunction.answer content c.resolve.new.scope in
     let off = c.resolve.new.work in
-    let last = viewed c.resolve.new.out b (values_view content off.values) in
-    let there = λ (k : Bundle Text → Following) (n : ℕ). goes c.in_ok-value-in_default.was (way k n) (c.resolve.ensures.goes (next k) (suc n)) in
-    let none = whole_if c.in_ok-value-in_default.field-0 c.in-Some.value off c.in-Some.is c.in_ok-value-in_default.ensures.whole in
-    let o = c.in_ok-value-in_default.field-0 in
+    let last = viewed c.resolve.new.out b (values_view content (values_in off)) in
+    let there = λ (k : Bundle Text → Following) (n : ℕ). goes c.in_ok-value.was (way k n) (c.resolve.ensures.goes (next k) (suc n)) in
+    let none = whole_if c.in_ok-value.field-0 c.in-Some.value off c.in-Some.is c.in_ok-value.ensures.whole in
+    let o = c.in_ok-value.field-0 in
     record {
       goes = λ k n.
-          let done = is_done content b.bundle off.frames.items (next k b.bundle) (made content o) last none (there k n) in
-          let here = turns (ap (λ o. parts.matched vs (selector_value (made content o)) b.bundle (k b.bundle) last) c.in-Some.is ∙ ap (λ ys. parts.matched (variants_view ys) (value_view content c.in-Some.value) b.bundle (k b.bundle) last) (sym c.deref-in-Some.ensures.value)) done in
+          let done = is_done content b.bundle (frames_in off) (next k b.bundle) (made content o) last none (there k n) in
+          let here = turns (ap (λ o. parts.matched vs (selector_value (made content o)) b.bundle (k b.bundle) last) c.in-Some.is ∙ ap (λ ys. parts.matched (variants_view ys) (value_view content c.in-Some.value) b.bundle (k b.bundle) last) (sym c.deref.ensures.value)) done in
           went_on (with_fewer n (omega arith) here) (c.choose_variant.ensures.goes k n);
       placed = c.choose_variant.ensures.placed;
     }
 
-pub expression::write_select-returns-in-None : goal.expression::write_select-returns-in-None
+pub expression::write_by_value-returns-in-None : goal.expression::write_by_value-returns-in-None
 unfolding state_parts
-expression::write_select-returns-in-None g t c =
+expression::write_by_value-returns-in-None g t c =
     let content = g.C.FluentType.content in
     let contents = g.W.Write.contents in
     let a = state g.B.Context.meant g.B.Context.is_plain g.F.FluentFunction.answer content c.args.scope.now in
     let out = c.args.out.now in
     let work = c.args.work.now in
-    let values = values_view content work.values in
+    let values = values_view content (values_in work) in
     let v = viewed out a values in
     let x = inline_view c.args.selector.now in
     let vs = variants_view c.args.variants.now.items in
@@ -1094,31 +1147,31 @@ expression::write_select-returns-in-None g t c =
     let way = λ (k : Bundle Text → Following) (n : ℕ). waits (paid_within c.args.levels (suc n)) (omega (arith, at_most c.args.levels (suc n))) (turns (select_ahead x vs a.bundle (k a.bundle) v) (begun _ n (outside contents out) a)) in
     let b = state g.B.Context.meant g.B.Context.is_plain g.F.FluentFunction.answer content c.resolve.new.scope in
     let off = c.resolve.new.work in
-    let last = viewed c.resolve.new.out b (values_view content off.values) in
-    let there = λ (k : Bundle Text → Following) (n : ℕ). goes c.in_ok-value-in_default.was (way k n) (c.resolve.ensures.goes (next k) (suc n)) in
+    let last = viewed c.resolve.new.out b (values_view content (values_in off)) in
+    let there = λ (k : Bundle Text → Following) (n : ℕ). goes c.in_ok-value.was (way k n) (c.resolve.ensures.goes (next k) (suc n)) in
     let stored = (there no_more 0).happened.stays.stored in
     let cursor = placed_still a b (in_variants vs) c.after_inline-after.result stored (placed_back a.stored.numbers (in_expression (select x vs)) (in_inline x) (in_variants vs) c.args.cursor c.after_inline-after.result refl c.after_inline-after.ensures c.requires.placed) in
     record {
       goes = λ k n.
-          let here = turns (ap (λ o. before content b.bundle off.frames.items (next k b.bundle) (made content o) last) c.in-None.is) (there k n) in
-          put_last n content b.bundle off.frames.items c.wait.new.self.frames.items _ (k b.bundle) None last _ _ (ap (λ vs. viewed c.resolve.new.out b (values_view content vs)) (sym c.wait.ensures.values)) c.wait.ensures.err c.wait.ensures.frames here;
-      placed = placed_last b.stored.numbers b.stored.table off.frames.items c.wait.new.self.frames.items _ _ c.wait.ensures.frames c.in_ok-value-in_default.ensures.placed cursor;
+          let here = turns (ap (λ o. before content b.bundle (frames_in off) (next k b.bundle) (made content o) last) c.in-None.is) (there k n) in
+          put_last n content b.bundle (frames_in off) (frames_in c.wait_choose.new.self) _ (k b.bundle) None last _ _ (ap (λ vs. viewed c.resolve.new.out b (values_view content vs)) (sym c.wait_choose.ensures.values)) c.wait_choose.ensures.err c.wait_choose.ensures.frames here;
+      placed = placed_last b.stored.numbers b.stored.table (frames_in off) (frames_in c.wait_choose.new.self) _ _ c.wait_choose.ensures.frames c.in_ok-value.ensures.placed cursor;
     }
 
-pub inline_expression::go-returns-in_err-add_error-clause-goes : goal.inline_expression::go-returns-in_err-add_error-clause-goes
+pub inline_expression::go-returns-in_err-report_cycle-clause-goes : goal.inline_expression::go-returns-in_err-report_cycle-clause-goes
 unfolding state_parts
-inline_expression::go-returns-in_err-add_error-clause-goes g t c = λ k n.
+inline_expression::go-returns-in_err-report_cycle-clause-goes g t c = λ k n.
     let content = g.C.FluentType.content in
     let contents = g.W.Write.contents in
     let a = state g.B.Context.meant g.B.Context.is_plain g.F.FluentFunction.answer content c.args.scope.now in
     let out = c.args.out.now in
     let work = c.args.work.now in
-    let values = values_view content work.values in
+    let values = values_view content (values_in work) in
     let v = viewed out a values in
     let x = inline_view c.args.inline.now in
     let p = pattern_view c.args.target.pattern.now in
     let way = turns (go_cyclic x p a.bundle (k a.bundle) v (sym c.is_on.ensures ∙ c.if-is_on.true)) (begun _ n (outside contents out) a) in
-    lacks (search rules) (tells_none c.in_err-add_error.was c.add_error.ensures.added way)
+    lacks (search rules) (tells_none c.in_err-report_cycle.was c.report_cycle.ensures way)
 
 pub inline_expression::go-returns-then-is_on-clause-goes : goal.inline_expression::go-returns-then-is_on-clause-goes
 unfolding state_parts
@@ -1128,16 +1181,16 @@ inline_expression::go-returns-then-is_on-clause-goes g t c = λ k n.
     let a = state g.B.Context.meant g.B.Context.is_plain g.F.FluentFunction.answer content c.args.scope.now in
     let out = c.args.out.now in
     let work = c.args.work.now in
-    let values = values_view content work.values in
+    let values = values_view content (values_in work) in
     let v = viewed out a values in
     let x = inline_view c.args.inline.now in
     let p = pattern_view c.args.target.pattern.now in
     let way = turns (go_cyclic x p a.bundle (k a.bundle) v (sym c.is_on.ensures ∙ c.if-is_on.true)) (begun _ n (outside contents out) a) in
-    let b = state g.B.Context.meant g.B.Context.is_plain g.F.FluentFunction.answer content c.add_error.new.self in
+    let b = state g.B.Context.meant g.B.Context.is_plain g.F.FluentFunction.answer content c.report_cycle.new.scope in
     let last = c.put_in_braces.new.out in
-    none_waits content b.bundle work.frames.items (k b.bundle) (λ u. None) (viewed last b values) c.requires.nothing
-    (laid_last _ (λ u. ap (λ m. k m None (viewed last b values)) (sym c.add_error.ensures.added.stays.bundle))
-    (laid contents out last a b values a.bundle (k a.bundle) (resolver_error cyclic ∷ []) (in_braces (fallback x)) (did_tell_and_put c.in_ok-add_error.was c.add_error.ensures.added c.put_in_braces.ensures.took) way))
+    none_waits content b.bundle (frames_in work) (k b.bundle) (λ u. None) (viewed last b values) c.requires.nothing
+    (laid_last _ (λ u. ap (λ m. k m None (viewed last b values)) (sym c.report_cycle.ensures.stays.bundle))
+    (laid contents out last a b values a.bundle (k a.bundle) (resolver_error cyclic ∷ []) (in_braces (fallback x)) (did_tell_and_put c.in_ok-report_cycle.was c.report_cycle.ensures c.put_in_braces.ensures.took) way))
 
 pub inline_expression::go-returns-in_err-enter-clause-goes : goal.inline_expression::go-returns-in_err-enter-clause-goes
 unfolding state_parts
@@ -1147,7 +1200,7 @@ inline_expression::go-returns-in_err-enter-clause-goes g t c = λ k n.
     let a = state g.B.Context.meant g.B.Context.is_plain g.F.FluentFunction.answer content c.args.scope.now in
     let out = c.args.out.now in
     let work = c.args.work.now in
-    let values = values_view content work.values in
+    let values = values_view content (values_in work) in
     let v = viewed out a values in
     let x = inline_view c.args.inline.now in
     let p = pattern_view c.args.target.pattern.now in
@@ -1161,7 +1214,7 @@ inline_expression::go-returns-in_err-write_elements-clause-goes g t c = λ k n.
     let a = state g.B.Context.meant g.B.Context.is_plain g.F.FluentFunction.answer content c.args.scope.now in
     let out = c.args.out.now in
     let work = c.args.work.now in
-    let values = values_view content work.values in
+    let values = values_view content (values_in work) in
     let v = viewed out a values in
     let x = inline_view c.args.inline.now in
     let p = pattern_view c.args.target.pattern.now in
@@ -1180,7 +1233,7 @@ inline_expression::go-returns-then-is_done-clause-goes g t c = λ k n.
     let a = state g.B.Context.meant g.B.Context.is_plain g.F.FluentFunction.answer content c.args.scope.now in
     let out = c.args.out.now in
     let work = c.args.work.now in
-    let values = values_view content work.values in
+    let values = values_view content (values_in work) in
     let v = viewed out a values in
     let x = inline_view c.args.inline.now in
     let p = pattern_view c.args.target.pattern.now in
@@ -1192,11 +1245,11 @@ inline_expression::go-returns-then-is_done-clause-goes g t c = λ k n.
     let d = state g.B.Context.meant g.B.Context.is_plain g.F.FluentFunction.answer content c.write_elements.new.scope in
     let last = c.write_elements.new.out in
     let work1 = c.write_elements.new.work in
-    let frames = work1.frames.items in
+    let frames = (frames_in work1) in
     let there = goes c.in_ok-write_elements.was here (c.write_elements.ensures.goes next (suc n)) in
     let nothing : frames ≡ [] = c.is_done.ensures.0 c.if-is_done.true in
     let e = state g.B.Context.meant g.B.Context.is_plain g.F.FluentFunction.answer content c.leave.new.self in
-    let values1 = values_view content work1.values in
+    let values1 = values_view content (values_in work1) in
     let rest : At = λ m env path budget. k m None (record { kept = kept_of last; budget = budget; environment = env; path = path; values = values1 }) in
     let left = c.leave.ensures.elsewhere in
     let done = is_done content d.bundle frames (next d.bundle) None (viewed last d values1) nothing there in
@@ -1212,7 +1265,7 @@ inline_expression::go-returns-else-is_done-clause-goes g t c = λ k n.
     let a = state g.B.Context.meant g.B.Context.is_plain g.F.FluentFunction.answer content c.args.scope.now in
     let out = c.args.out.now in
     let work = c.args.work.now in
-    let values = values_view content work.values in
+    let values = values_view content (values_in work) in
     let v = viewed out a values in
     let x = inline_view c.args.inline.now in
     let p = pattern_view c.args.target.pattern.now in
@@ -1224,11 +1277,17 @@ inline_expression::go-returns-else-is_done-clause-goes g t c = λ k n.
     let d = state g.B.Context.meant g.B.Context.is_plain g.F.FluentFunction.answer content c.write_elements.new.scope in
     let last = c.write_elements.new.out in
     let work1 = c.write_elements.new.work in
-    let frames = work1.frames.items in
+    let frames = (frames_in work1) in
     let there = goes c.in_ok-write_elements.was here (c.write_elements.ensures.goes next (suc n)) in
-    let gs = c.wait.new.self.frames.items in
-    let values1 = values_view content work1.values in
-    put_last n content d.bundle frames gs (put_off.Leave true) (k d.bundle) None (viewed last d values1) _ c.wait.result (ap (λ vs. viewed last d (values_view content vs)) (sym c.wait.ensures.values)) c.wait.ensures.err c.wait.ensures.frames there
+    let gs = (frames_in c.wait_leave.new.self) in
+    let values1 = values_view content (values_in work1) in
+    put_last n content d.bundle frames gs (put_off.Leave true) (k d.bundle) None (viewed last d values1) _ c.wait_leave.result (ap (λ vs. viewed last d (values_view content vs)) (sym c.wait_leave.ensures.values)) c.wait_leave.ensures.err c.wait_leave.ensures.frames there
+
+pub inline_expression::go-returns-else-is_done-clause-placed : goal.inline_expression::go-returns-else-is_done-clause-placed
+unfolding state_parts
+inline_expression::go-returns-else-is_done-clause-placed g t c =
+    let ids = c.write_elements.new.scope.ids.now in
+    placed_last (numbers ids) (table ids) (frames_in c.write_elements.new.work) (frames_in c.wait_leave.new.self) (put_off.Leave true) c.wait_leave.result c.wait_leave.ensures.frames (at_ok c.in_ok-write_elements.was c.write_elements.ensures.placed) tt
 
 pub inline_expression::follow-returns-in_err-report_no_value-in-WithoutValue-clause-goes : goal.inline_expression::follow-returns-in_err-report_no_value-in-WithoutValue-clause-goes
 unfolding state_parts
@@ -1238,7 +1297,7 @@ inline_expression::follow-returns-in_err-report_no_value-in-WithoutValue-clause-
     let a = state g.B.Context.meant g.B.Context.is_plain g.F.FluentFunction.answer content c.args.scope.now in
     let out = c.args.out.now in
     let work = c.args.work.now in
-    let values = values_view content work.values in
+    let values = values_view content (values_in work) in
     let v = viewed out a values in
     let x = inline_view c.args.inline.now in
     let id = c.args.id.now.name.now in
@@ -1254,7 +1313,7 @@ inline_expression::follow-returns-in-Unknown-clause-goes g t c = λ k n.
     let a = state g.B.Context.meant g.B.Context.is_plain g.F.FluentFunction.answer content c.args.scope.now in
     let out = c.args.out.now in
     let work = c.args.work.now in
-    let values = values_view content work.values in
+    let values = values_view content (values_in work) in
     let v = viewed out a values in
     let x = inline_view c.args.inline.now in
     let id = c.args.id.now.name.now in
@@ -1262,7 +1321,7 @@ inline_expression::follow-returns-in-Unknown-clause-goes g t c = λ k n.
     let way = turns (follow_unknown x id t a.bundle (k a.bundle) v (ap found_view c.in-Unknown.is)) (begun _ n (outside contents out) a) in
     let b = state g.B.Context.meant g.B.Context.is_plain g.F.FluentFunction.answer content c.lose.new.scope in
     let last = c.lose.new.out in
-    none_waits content b.bundle work.frames.items (k b.bundle) (λ u. None) (viewed last b values) c.requires.nothing
+    none_waits content b.bundle (frames_in work) (k b.bundle) (λ u. None) (viewed last b values) c.requires.nothing
     (laid_last _ (λ u. ap (λ m. k m None (viewed last b values)) (sym c.lose.ensures.wrote.happened.stays.bundle))
     (laid contents out last a b values a.bundle (k a.bundle) (lost_of x) (in_braces (fallback x)) c.lose.ensures.wrote way))
 
@@ -1274,7 +1333,7 @@ inline_expression::follow-returns-in_ok-report_no_value-in-WithoutValue-clause-g
     let a = state g.B.Context.meant g.B.Context.is_plain g.F.FluentFunction.answer content c.args.scope.now in
     let out = c.args.out.now in
     let work = c.args.work.now in
-    let values = values_view content work.values in
+    let values = values_view content (values_in work) in
     let v = viewed out a values in
     let x = inline_view c.args.inline.now in
     let id = c.args.id.now.name.now in
@@ -1282,7 +1341,7 @@ inline_expression::follow-returns-in_ok-report_no_value-in-WithoutValue-clause-g
     let way = turns (follow_without x id t a.bundle (k a.bundle) v (ap found_view c.in-WithoutValue.is)) (begun _ n (outside contents out) a) in
     let b = state g.B.Context.meant g.B.Context.is_plain g.F.FluentFunction.answer content c.report_no_value.new.scope in
     let last = c.put_id_in_braces.new.out in
-    none_waits content b.bundle work.frames.items (k b.bundle) (λ u. None) (viewed last b values) c.requires.nothing
+    none_waits content b.bundle (frames_in work) (k b.bundle) (λ u. None) (viewed last b values) c.requires.nothing
     (laid_last _ (λ u. ap (λ m. k m None (viewed last b values)) (sym c.report_no_value.ensures.stays.bundle))
     (laid contents out last a b values a.bundle (k a.bundle) (resolver_error (no_value id) ∷ []) (in_braces id) (did_tell_and_put c.in_ok-report_no_value-in-WithoutValue.was c.report_no_value.ensures c.put_id_in_braces.ensures) way))
 
@@ -1294,7 +1353,7 @@ inline_expression::follow-returns-in-Pattern-clause-goes g t c = λ k n.
     let a = state g.B.Context.meant g.B.Context.is_plain g.F.FluentFunction.answer content c.args.scope.now in
     let out = c.args.out.now in
     let work = c.args.work.now in
-    let values = values_view content work.values in
+    let values = values_view content (values_in work) in
     let v = viewed out a values in
     let x = inline_view c.args.inline.now in
     let id = c.args.id.now.name.now in
@@ -1310,7 +1369,7 @@ inline_expression::enter_term-returns-in_err-follow-clause-goes g t c = λ k n.
     let a = state g.B.Context.meant g.B.Context.is_plain g.F.FluentFunction.answer content c.args.scope.now in
     let out = c.args.out.now in
     let work = c.args.work.now in
-    let values = values_view content work.values in
+    let values = values_view content (values_in work) in
     let v = viewed out a values in
     let x = inline_view c.args.inline.now in
     let id = c.args.id.now.name.now in
@@ -1335,7 +1394,7 @@ inline_expression::enter_term-returns-then-is_done-clause-goes g t c = λ k n.
     let a = state g.B.Context.meant g.B.Context.is_plain g.F.FluentFunction.answer content c.args.scope.now in
     let out = c.args.out.now in
     let work = c.args.work.now in
-    let values = values_view content work.values in
+    let values = values_view content (values_in work) in
     let v = viewed out a values in
     let x = inline_view c.args.inline.now in
     let id = c.args.id.now.name.now in
@@ -1353,8 +1412,8 @@ inline_expression::enter_term-returns-then-is_done-clause-goes g t c = λ k n.
     let d = state g.B.Context.meant g.B.Context.is_plain g.F.FluentFunction.answer content c.follow.new.scope in
     let last = c.follow.new.out in
     let work1 = c.follow.new.work in
-    let frames = work1.frames.items in
-    let values1 = values_view content work1.values in
+    let frames = (frames_in work1) in
+    let values1 = values_view content (values_in work1) in
     let along = goes c.in_ok-follow.was here (c.follow.ensures.goes next (suc n)) in
     let nothing : frames ≡ [] = c.is_done.ensures.0 c.if-is_done.true in
     let back = environment_view content c.replace.new.dest in
@@ -1370,7 +1429,7 @@ inline_expression::enter_term-returns-else-is_done-clause-goes g t c = λ k n.
     let a = state g.B.Context.meant g.B.Context.is_plain g.F.FluentFunction.answer content c.args.scope.now in
     let out = c.args.out.now in
     let work = c.args.work.now in
-    let values = values_view content work.values in
+    let values = values_view content (values_in work) in
     let v = viewed out a values in
     let x = inline_view c.args.inline.now in
     let id = c.args.id.now.name.now in
@@ -1388,21 +1447,27 @@ inline_expression::enter_term-returns-else-is_done-clause-goes g t c = λ k n.
     let d = state g.B.Context.meant g.B.Context.is_plain g.F.FluentFunction.answer content c.follow.new.scope in
     let last = c.follow.new.out in
     let work1 = c.follow.new.work in
-    let frames = work1.frames.items in
-    let values1 = values_view content work1.values in
+    let frames = (frames_in work1) in
+    let values1 = values_view content (values_in work1) in
     let along = goes c.in_ok-follow.was here (c.follow.ensures.goes next (suc n)) in
-    let gs = c.wait.new.self.frames.items in
-    put_last n content d.bundle frames gs (put_off.Outer outer) (k d.bundle) None (viewed last d values1) _ c.wait.result (ap (λ vs. viewed last d (values_view content vs)) (sym c.wait.ensures.values)) c.wait.ensures.err c.wait.ensures.frames along
+    let gs = (frames_in c.wait_outer.new.self) in
+    put_last n content d.bundle frames gs (put_off.Outer outer) (k d.bundle) None (viewed last d values1) _ c.wait_outer.result (ap (λ vs. viewed last d (values_view content vs)) (sym c.wait_outer.ensures.values)) c.wait_outer.ensures.err c.wait_outer.ensures.frames along
 
-pub inline_expression::write_term-returns-in-None-clause-goes : goal.inline_expression::write_term-returns-in-None-clause-goes
+pub inline_expression::enter_term-returns-else-is_done-clause-placed : goal.inline_expression::enter_term-returns-else-is_done-clause-placed
 unfolding state_parts
-inline_expression::write_term-returns-in-None-clause-goes g t c = λ k n.
+inline_expression::enter_term-returns-else-is_done-clause-placed g t c =
+    let ids = c.follow.new.scope.ids.now in
+    placed_last (numbers ids) (table ids) (frames_in c.follow.new.work) (frames_in c.wait_outer.new.self) (put_off.Outer c.replace-outer.result) c.wait_outer.result c.wait_outer.ensures.frames (at_ok c.in_ok-follow.was c.follow.ensures.placed) tt
+
+pub inline_expression::write_found-returns-in-None-clause-goes : goal.inline_expression::write_found-returns-in-None-clause-goes
+unfolding state_parts
+inline_expression::write_found-returns-in-None-clause-goes g t c = λ k n.
     let content = g.C.FluentType.content in
     let contents = g.W.Write.contents in
     let a = state g.B.Context.meant g.B.Context.is_plain g.F.FluentFunction.answer content c.args.scope.now in
     let out = c.args.out.now in
     let work = c.args.work.now in
-    let values = values_view content work.values in
+    let values = values_view content (values_in work) in
     let v = viewed out a values in
     let x = inline_view c.args.inline.now in
     let id = c.args.id.now.name.now in
@@ -1410,15 +1475,15 @@ inline_expression::write_term-returns-in-None-clause-goes g t c = λ k n.
     let way = begun _ n (outside contents out) a in
     went_on (turns (ap (λ o. parts.term x id t (call_view o) a.bundle (k a.bundle) v) c.in-None.is ∙ term_alone x id t a.bundle (k a.bundle) v) way) (c.enter_term.ensures.goes k n)
 
-pub inline_expression::write_term-returns-then-has_literals_alone-clause-goes : goal.inline_expression::write_term-returns-then-has_literals_alone-clause-goes
+pub inline_expression::write_found-returns-then-has_literals_alone-clause-goes : goal.inline_expression::write_found-returns-then-has_literals_alone-clause-goes
 unfolding state_parts
-inline_expression::write_term-returns-then-has_literals_alone-clause-goes g t c = λ k n.
+inline_expression::write_found-returns-then-has_literals_alone-clause-goes g t c = λ k n.
     let content = g.C.FluentType.content in
     let contents = g.W.Write.contents in
     let a = state g.B.Context.meant g.B.Context.is_plain g.F.FluentFunction.answer content c.args.scope.now in
     let out = c.args.out.now in
     let work = c.args.work.now in
-    let values = values_view content work.values in
+    let values = values_view content (values_in work) in
     let v = viewed out a values in
     let x = inline_view c.args.inline.now in
     let id = c.args.id.now.name.now in
@@ -1429,147 +1494,56 @@ inline_expression::write_term-returns-then-has_literals_alone-clause-goes g t c 
     let same = ap (λ o. parts.term x id t (call_view o) a.bundle (k a.bundle) v) c.in-Some.is ∙ ap (λ y. parts.term x id t (call (arguments_view y)) a.bundle (k a.bundle) v) (sym c.deref-arguments.ensures) ∙ ap (λ y. parts.term x id t (call y) a.bundle (k a.bundle) v) (view_arguments args) in
     went_on (term_literals x id t l.positional.items l.named.items a.bundle (k a.bundle) v (sym c.has_literals_alone.ensures ∙ c.if-has_literals_alone.true) (turns same way)) (c.enter_term-then-has_literals_alone.ensures.goes k n)
 
-pub inline_expression::write_term-returns-in_err-begin_call-in-Some-clause-goes : goal.inline_expression::write_term-returns-in_err-begin_call-in-Some-clause-goes
+pub inline_expression::write_found-returns-else-has_literals_alone-clause-goes : goal.inline_expression::write_found-returns-else-has_literals_alone-clause-goes
 unfolding state_parts
-inline_expression::write_term-returns-in_err-begin_call-in-Some-clause-goes g t c = λ k n.
+inline_expression::write_found-returns-else-has_literals_alone-clause-goes g t c = λ k n.
     let content = g.C.FluentType.content in
     let contents = g.W.Write.contents in
     let a = state g.B.Context.meant g.B.Context.is_plain g.F.FluentFunction.answer content c.args.scope.now in
     let out = c.args.out.now in
-    let work = c.args.work.now in
-    let values = values_view content work.values in
-    let v = viewed out a values in
+    let v = viewed out a (values_view content (values_in c.args.work.now)) in
     let x = inline_view c.args.inline.now in
     let id = c.args.id.now.name.now in
     let t = found_view c.args.found in
-    let way = begun _ n (outside contents out) a in
     let args = arguments_view c.deref-arguments.result.now in
     let same = ap (λ o. parts.term x id t (call_view o) a.bundle (k a.bundle) v) c.in-Some.is ∙ ap (λ y. parts.term x id t (call (arguments_view y)) a.bundle (k a.bundle) v) (sym c.deref-arguments.ensures) ∙ term_called x id t args a.bundle (k a.bundle) v in
-    let here = starts (turns same way) in
-    halts c.in_err-begin_call-in-Some.was (search rules) here (c.begin_call.ensures.goes k n)
+    went_on (starts (turns same (begun _ n (outside contents out) a))) (c.write_with_values.ensures.goes k n)
 
-pub inline_expression::write_term-returns-in_ok-begin_call-in-Some-clause-goes : goal.inline_expression::write_term-returns-in_ok-begin_call-in-Some-clause-goes
+pub inline_expression::write_with_values-returns-in_err-begin_call-clause-goes : goal.inline_expression::write_with_values-returns-in_err-begin_call-clause-goes
 unfolding state_parts
-inline_expression::write_term-returns-in_ok-begin_call-in-Some-clause-goes g t c = λ k n.
+inline_expression::write_with_values-returns-in_err-begin_call-clause-goes g t c = λ k n.
     let content = g.C.FluentType.content in
     let contents = g.W.Write.contents in
     let a = state g.B.Context.meant g.B.Context.is_plain g.F.FluentFunction.answer content c.args.scope.now in
-    let out = c.args.out.now in
-    let work = c.args.work.now in
-    let values = values_view content work.values in
-    let v = viewed out a values in
-    let x = inline_view c.args.inline.now in
-    let id = c.args.id.now.name.now in
-    let t = found_view c.args.found in
-    let way = begun _ n (outside contents out) a in
-    let args = arguments_view c.deref-arguments.result.now in
-    let same = ap (λ o. parts.term x id t (call_view o) a.bundle (k a.bundle) v) c.in-Some.is ∙ ap (λ y. parts.term x id t (call (arguments_view y)) a.bundle (k a.bundle) v) (sym c.deref-arguments.ensures) ∙ term_called x id t args a.bundle (k a.bundle) v in
-    let here = starts (turns same way) in
+    halts c.in_err-begin_call.was (search rules) (begun _ n (outside contents c.args.out.now) a) (c.begin_call.ensures.goes k n)
+
+pub inline_expression::write_with_values-returns-clause-goes : goal.inline_expression::write_with_values-returns-clause-goes
+unfolding state_parts
+inline_expression::write_with_values-returns-clause-goes g t c = λ k n.
+    let content = g.C.FluentType.content in
+    let contents = g.W.Write.contents in
+    let a = state g.B.Context.meant g.B.Context.is_plain g.F.FluentFunction.answer content c.args.scope.now in
+    let way = begun _ n (outside contents c.args.out.now) a in
     let d = state g.B.Context.meant g.B.Context.is_plain g.F.FluentFunction.answer content c.begin_call.new.scope in
     let last = c.begin_call.new.out in
     let work1 = c.begin_call.new.work in
-    let values1 = values_view content work1.values in
-    let given = c.in_ok-begin_call-in-Some.field-0 in
-    let none : given ≡ None = ok_value c.begin_call.result given _ c.in_ok-begin_call-in-Some.was c.begin_call.ensures.given in
-    finishes tt _ refl refl (turns (ap (λ o. before content d.bundle work1.frames.items (k d.bundle) (made content o) (viewed last d values1)) none) (goes c.in_ok-begin_call-in-Some.was here (c.begin_call.ensures.goes k n)))
+    let values1 = values_view content (values_in work1) in
+    let given = c.in_ok-begin_call.field-0 in
+    let none : given ≡ None = ok_value c.begin_call.result given _ c.in_ok-begin_call.was c.begin_call.ensures.given in
+    finishes tt _ refl refl (turns (ap (λ o. before content d.bundle (frames_in work1) (k d.bundle) (made content o) (viewed last d values1)) none) (goes c.in_ok-begin_call.was way (c.begin_call.ensures.goes k n)))
 
-pub inline_expression::write_unbraced-returns-in-StringLiteral-clause-goes : goal.inline_expression::write_unbraced-returns-in-StringLiteral-clause-goes
+pub inline_expression::write_message-returns-in_default : goal.inline_expression::write_message-returns-in_default
+inline_expression::write_message-returns-in_default g t c = absurd (no_message c.args.inline.now (λ id a. c.in_default.not-MessageReference id a) c.requires.message)
+
+pub inline_expression::write_message-returns-in-MessageReference-clause-goes : goal.inline_expression::write_message-returns-in-MessageReference-clause-goes
 unfolding state_parts
-inline_expression::write_unbraced-returns-in-StringLiteral-clause-goes g t c = λ k n.
+inline_expression::write_message-returns-in-MessageReference-clause-goes g t c = λ k n.
     let content = g.C.FluentType.content in
     let contents = g.W.Write.contents in
     let a = state g.B.Context.meant g.B.Context.is_plain g.F.FluentFunction.answer content c.args.scope.now in
     let out = c.args.out.now in
     let work = c.args.work.now in
-    let values = values_view content work.values in
-    let v = viewed out a values in
-    let d = state g.B.Context.meant g.B.Context.is_plain g.F.FluentFunction.answer content c.put_leaf.new.scope in
-    none_waits content d.bundle work.frames.items (k d.bundle) (λ u. None) (viewed c.put_leaf.new.out d values) c.requires.nothing (c.put_leaf.ensures.passes k values n)
-
-pub inline_expression::write_unbraced-returns-in-NumberLiteral-clause-goes : goal.inline_expression::write_unbraced-returns-in-NumberLiteral-clause-goes
-unfolding state_parts
-inline_expression::write_unbraced-returns-in-NumberLiteral-clause-goes g t c = λ k n.
-    let content = g.C.FluentType.content in
-    let contents = g.W.Write.contents in
-    let a = state g.B.Context.meant g.B.Context.is_plain g.F.FluentFunction.answer content c.args.scope.now in
-    let out = c.args.out.now in
-    let work = c.args.work.now in
-    let values = values_view content work.values in
-    let v = viewed out a values in
-    let d = state g.B.Context.meant g.B.Context.is_plain g.F.FluentFunction.answer content c.put_leaf-in-NumberLiteral.new.scope in
-    none_waits content d.bundle work.frames.items (k d.bundle) (λ u. None) (viewed c.put_leaf-in-NumberLiteral.new.out d values) c.requires.nothing (c.put_leaf-in-NumberLiteral.ensures.passes k values n)
-
-pub inline_expression::write_unbraced-returns-in-VariableReference-clause-goes : goal.inline_expression::write_unbraced-returns-in-VariableReference-clause-goes
-unfolding state_parts
-inline_expression::write_unbraced-returns-in-VariableReference-clause-goes g t c = λ k n.
-    let content = g.C.FluentType.content in
-    let contents = g.W.Write.contents in
-    let a = state g.B.Context.meant g.B.Context.is_plain g.F.FluentFunction.answer content c.args.scope.now in
-    let out = c.args.out.now in
-    let work = c.args.work.now in
-    let values = values_view content work.values in
-    let v = viewed out a values in
-    let d = state g.B.Context.meant g.B.Context.is_plain g.F.FluentFunction.answer content c.put_leaf-in-VariableReference.new.scope in
-    none_waits content d.bundle work.frames.items (k d.bundle) (λ u. None) (viewed c.put_leaf-in-VariableReference.new.out d values) c.requires.nothing (c.put_leaf-in-VariableReference.ensures.passes k values n)
-
-pub inline_expression::write_unbraced-returns-in-Placeable-clause-goes : goal.inline_expression::write_unbraced-returns-in-Placeable-clause-goes
-unfolding state_parts
-inline_expression::write_unbraced-returns-in-Placeable-clause-goes g t c = λ k n.
-    absurd (true≢false (sym (ap is_braced (view_nested_in c.args.inline.now c.in-Placeable.expression c.in-Placeable.is)) ∙ c.requires.unbraced))
-
-pub inline_expression::write_unbraced-returns-in_err-begin_call-in-FunctionReference-clause-goes : goal.inline_expression::write_unbraced-returns-in_err-begin_call-in-FunctionReference-clause-goes
-unfolding state_parts
-inline_expression::write_unbraced-returns-in_err-begin_call-in-FunctionReference-clause-goes g t c = λ k n.
-    let content = g.C.FluentType.content in
-    let contents = g.W.Write.contents in
-    let a = state g.B.Context.meant g.B.Context.is_plain g.F.FluentFunction.answer content c.args.scope.now in
-    let out = c.args.out.now in
-    let work = c.args.work.now in
-    let values = values_view content work.values in
-    let v = viewed out a values in
-    let x = inline_view c.args.inline.now in
-    let way = begun _ n (outside contents out) a in
-    let f = c.in-FunctionReference.id.name.now in
-    let is = view_function_in c.args.inline.now c.in-FunctionReference.id c.in-FunctionReference.arguments c.in-FunctionReference.is in
-    let args = arguments_view c.in-FunctionReference.arguments.value in
-    let same = ap (λ y. parts.written y a.bundle (k a.bundle) v) is ∙ written_function f args a.bundle (k a.bundle) v ∙ ap (λ y. parts.calls (parts.shows y f) args a.bundle (k a.bundle) v) (sym is) ∙ ap (λ y. parts.calls (parts.shows x f) (arguments_view y) a.bundle (k a.bundle) v) (sym c.deref.ensures) in
-    let here = turns same way in
-    halts c.in_err-begin_call-in-FunctionReference.was (search rules) here (c.begin_call.ensures.goes k n)
-
-pub inline_expression::write_unbraced-returns-in_ok-begin_call-in-FunctionReference-clause-goes : goal.inline_expression::write_unbraced-returns-in_ok-begin_call-in-FunctionReference-clause-goes
-unfolding state_parts
-inline_expression::write_unbraced-returns-in_ok-begin_call-in-FunctionReference-clause-goes g t c = λ k n.
-    let content = g.C.FluentType.content in
-    let contents = g.W.Write.contents in
-    let a = state g.B.Context.meant g.B.Context.is_plain g.F.FluentFunction.answer content c.args.scope.now in
-    let out = c.args.out.now in
-    let work = c.args.work.now in
-    let values = values_view content work.values in
-    let v = viewed out a values in
-    let x = inline_view c.args.inline.now in
-    let way = begun _ n (outside contents out) a in
-    let f = c.in-FunctionReference.id.name.now in
-    let is = view_function_in c.args.inline.now c.in-FunctionReference.id c.in-FunctionReference.arguments c.in-FunctionReference.is in
-    let args = arguments_view c.in-FunctionReference.arguments.value in
-    let same = ap (λ y. parts.written y a.bundle (k a.bundle) v) is ∙ written_function f args a.bundle (k a.bundle) v ∙ ap (λ y. parts.calls (parts.shows y f) args a.bundle (k a.bundle) v) (sym is) ∙ ap (λ y. parts.calls (parts.shows x f) (arguments_view y) a.bundle (k a.bundle) v) (sym c.deref.ensures) in
-    let here = turns same way in
-    let d = state g.B.Context.meant g.B.Context.is_plain g.F.FluentFunction.answer content c.begin_call.new.scope in
-    let last = c.begin_call.new.out in
-    let work1 = c.begin_call.new.work in
-    let values1 = values_view content work1.values in
-    let given = c.in_ok-begin_call-in-FunctionReference.field-0 in
-    let none : given ≡ None = ok_value c.begin_call.result given _ c.in_ok-begin_call-in-FunctionReference.was c.begin_call.ensures.given in
-    finishes tt _ refl refl (turns (ap (λ o. before content d.bundle work1.frames.items (k d.bundle) (made content o) (viewed last d values1)) none) (goes c.in_ok-begin_call-in-FunctionReference.was here (c.begin_call.ensures.goes k n)))
-
-pub inline_expression::write_unbraced-returns-in-MessageReference-clause-goes : goal.inline_expression::write_unbraced-returns-in-MessageReference-clause-goes
-unfolding state_parts
-inline_expression::write_unbraced-returns-in-MessageReference-clause-goes g t c = λ k n.
-    let content = g.C.FluentType.content in
-    let contents = g.W.Write.contents in
-    let a = state g.B.Context.meant g.B.Context.is_plain g.F.FluentFunction.answer content c.args.scope.now in
-    let out = c.args.out.now in
-    let work = c.args.work.now in
-    let values = values_view content work.values in
+    let values = values_view content (values_in work) in
     let v = viewed out a values in
     let x = inline_view c.args.inline.now in
     let way = begun _ n (outside contents out) a in
@@ -1580,15 +1554,18 @@ inline_expression::write_unbraced-returns-in-MessageReference-clause-goes g t c 
     let same = ap (λ y. parts.written y a.bundle (k a.bundle) v) is ∙ written_message m at a.bundle (k a.bundle) v ∙ ap (λ t. parts.follow (message m at) m t a.bundle (k a.bundle) v) (sym found) ∙ ap (λ y. parts.follow y m (found_view c.message-found.result) a.bundle (k a.bundle) v) (sym is) in
     went_on (turns same way) (c.follow.ensures.goes k n)
 
-pub inline_expression::write_unbraced-returns-in-TermReference-clause-goes : goal.inline_expression::write_unbraced-returns-in-TermReference-clause-goes
+pub inline_expression::write_term-returns-in_default : goal.inline_expression::write_term-returns-in_default
+inline_expression::write_term-returns-in_default g t c = absurd (no_term c.args.inline.now (λ id a call. c.in_default.not-TermReference id a call) c.requires.term)
+
+pub inline_expression::write_term-returns-in-TermReference-clause-goes : goal.inline_expression::write_term-returns-in-TermReference-clause-goes
 unfolding state_parts
-inline_expression::write_unbraced-returns-in-TermReference-clause-goes g t c = λ k n.
+inline_expression::write_term-returns-in-TermReference-clause-goes g t c = λ k n.
     let content = g.C.FluentType.content in
     let contents = g.W.Write.contents in
     let a = state g.B.Context.meant g.B.Context.is_plain g.F.FluentFunction.answer content c.args.scope.now in
     let out = c.args.out.now in
     let work = c.args.work.now in
-    let values = values_view content work.values in
+    let values = values_view content (values_in work) in
     let v = viewed out a values in
     let x = inline_view c.args.inline.now in
     let way = begun _ n (outside contents out) a in
@@ -1598,34 +1575,10 @@ inline_expression::write_unbraced-returns-in-TermReference-clause-goes g t c = �
     let is = view_term_in c.args.inline.now c.in-TermReference.id c.in-TermReference.attribute c.in-TermReference.arguments c.in-TermReference.is in
     let found = c.term-found.ensures.content g.F.FluentFunction.answer in
     let same = ap (λ y. parts.written y a.bundle (k a.bundle) v) is ∙ written_term m at args a.bundle (k a.bundle) v ∙ ap (λ t. parts.term (term m at args) m t args a.bundle (k a.bundle) v) (sym found) ∙ ap (λ y. parts.term y m (found_view c.term-found.result) args a.bundle (k a.bundle) v) (sym is) in
-    went_on (turns same way) (c.write_term.ensures.goes k n)
+    went_on (turns same way) (c.write_found.ensures.goes k n)
 
-pub inline_expression::go-returns-else-is_done-clause-placed : goal.inline_expression::go-returns-else-is_done-clause-placed
-unfolding state_parts
-inline_expression::go-returns-else-is_done-clause-placed g t c =
-    let ids = c.write_elements.new.scope.ids.now in
-    placed_last (numbers ids) (table ids) c.write_elements.new.work.frames.items c.wait.new.self.frames.items (put_off.Leave true) c.wait.result c.wait.ensures.frames (at_ok c.in_ok-write_elements.was c.write_elements.ensures.placed) tt
-
-pub inline_expression::enter_term-returns-else-is_done-clause-placed : goal.inline_expression::enter_term-returns-else-is_done-clause-placed
-unfolding state_parts
-inline_expression::enter_term-returns-else-is_done-clause-placed g t c =
-    let ids = c.follow.new.scope.ids.now in
-    placed_last (numbers ids) (table ids) c.follow.new.work.frames.items c.wait.new.self.frames.items (put_off.Outer c.replace-outer.result) c.wait.result c.wait.ensures.frames (at_ok c.in_ok-follow.was c.follow.ensures.placed) tt
-
-pub inline_expression::write_unbraced-begin_call-requires : goal.inline_expression::write_unbraced-begin_call-requires
-unfolding state_parts
-inline_expression::write_unbraced-begin_call-requires g t c κs within =
-    let f = c.in-FunctionReference in
-    let number = numbers c.args.scope.now.ids.now in
-    let x = inline_view c.args.inline.now in
-    let r = a_function f.id.name.now in
-    let less = subst (λ m. 14 * c.args.levels + 9 < m) c.decreases (omega arith) in
-    let is = ap in_inline (view_function_in c.args.inline.now f.id f.arguments f.is) ∙ ap (λ y. r ∷ in_arguments (arguments_view y)) (sym c.deref.ensures) in
-    let rest = in_arguments (arguments_view c.deref.result.now) in
-    (less, (within.0, (within.1.0, (within.1.1.0, (within.1.1.1, (placed_first number (in_inline x) r rest c.args.cursor is c.requires.placed, (placed_after number (in_inline x) r rest c.args.cursor c.after_one-at.result is c.after_one-at.ensures c.requires.placed, c.requires.nothing)))))))
-
-pub inline_expression::write_unbraced-term-found-requires : goal.inline_expression::write_unbraced-term-found-requires
-inline_expression::write_unbraced-term-found-requires g t c =
+pub inline_expression::write_term-term-found-requires : goal.inline_expression::write_term-term-found-requires
+inline_expression::write_term-term-found-requires g t c =
     let r = c.in-TermReference in
     placed_first (numbers c.args.scope.now.ids.now) _ (a_term r.id.name.now) _ c.args.cursor (ap in_inline (view_term_in c.args.inline.now r.id r.attribute r.arguments r.is)) c.requires.placed
 
@@ -1633,21 +1586,121 @@ inline_expression::write_unbraced-term-found-requires g t c =
 nowhere : Rest Text
 nowhere = record { events = []; parts = 0; values = None }
 
-pub pattern::write_placeable-returns-in_err-add_error-clause-goes : goal.pattern::write_placeable-returns-in_err-add_error-clause-goes
+pub inline_expression::write_unbraced-returns-in-StringLiteral-clause-goes : goal.inline_expression::write_unbraced-returns-in-StringLiteral-clause-goes
 unfolding state_parts
-pattern::write_placeable-returns-in_err-add_error-clause-goes g t c = λ k n.
+inline_expression::write_unbraced-returns-in-StringLiteral-clause-goes g t c = λ k n.
+    let content = g.C.FluentType.content in
+    let contents = g.W.Write.contents in
+    let a = state g.B.Context.meant g.B.Context.is_plain g.F.FluentFunction.answer content c.args.scope.now in
+    let out = c.args.out.now in
+    let work = c.args.work.now in
+    let values = values_view content (values_in work) in
+    let v = viewed out a values in
+    let d = state g.B.Context.meant g.B.Context.is_plain g.F.FluentFunction.answer content c.put_leaf.new.scope in
+    none_waits content d.bundle (frames_in work) (k d.bundle) (λ u. None) (viewed c.put_leaf.new.out d values) c.requires.nothing (c.put_leaf.ensures.passes k values n)
+
+pub inline_expression::write_unbraced-returns-in-NumberLiteral-clause-goes : goal.inline_expression::write_unbraced-returns-in-NumberLiteral-clause-goes
+unfolding state_parts
+inline_expression::write_unbraced-returns-in-NumberLiteral-clause-goes g t c = λ k n.
+    let content = g.C.FluentType.content in
+    let contents = g.W.Write.contents in
+    let a = state g.B.Context.meant g.B.Context.is_plain g.F.FluentFunction.answer content c.args.scope.now in
+    let out = c.args.out.now in
+    let work = c.args.work.now in
+    let values = values_view content (values_in work) in
+    let v = viewed out a values in
+    let d = state g.B.Context.meant g.B.Context.is_plain g.F.FluentFunction.answer content c.put_leaf-in-NumberLiteral.new.scope in
+    none_waits content d.bundle (frames_in work) (k d.bundle) (λ u. None) (viewed c.put_leaf-in-NumberLiteral.new.out d values) c.requires.nothing (c.put_leaf-in-NumberLiteral.ensures.passes k values n)
+
+pub inline_expression::write_unbraced-returns-in-VariableReference-clause-goes : goal.inline_expression::write_unbraced-returns-in-VariableReference-clause-goes
+unfolding state_parts
+inline_expression::write_unbraced-returns-in-VariableReference-clause-goes g t c = λ k n.
+    let content = g.C.FluentType.content in
+    let contents = g.W.Write.contents in
+    let a = state g.B.Context.meant g.B.Context.is_plain g.F.FluentFunction.answer content c.args.scope.now in
+    let out = c.args.out.now in
+    let work = c.args.work.now in
+    let values = values_view content (values_in work) in
+    let v = viewed out a values in
+    let d = state g.B.Context.meant g.B.Context.is_plain g.F.FluentFunction.answer content c.put_leaf-in-VariableReference.new.scope in
+    none_waits content d.bundle (frames_in work) (k d.bundle) (λ u. None) (viewed c.put_leaf-in-VariableReference.new.out d values) c.requires.nothing (c.put_leaf-in-VariableReference.ensures.passes k values n)
+
+pub inline_expression::write_unbraced-returns-in-Placeable-clause-goes : goal.inline_expression::write_unbraced-returns-in-Placeable-clause-goes
+unfolding state_parts
+inline_expression::write_unbraced-returns-in-Placeable-clause-goes g t c = λ k n.
+    absurd (true≢false (sym (ap is_braced (view_nested_in c.args.inline.now c.in-Placeable.expression c.in-Placeable.is)) ∙ c.requires.unbraced))
+
+pub inline_expression::write_function-returns-in_err-begin_call-in-FunctionReference-clause-goes : goal.inline_expression::write_function-returns-in_err-begin_call-in-FunctionReference-clause-goes
+unfolding state_parts
+inline_expression::write_function-returns-in_err-begin_call-in-FunctionReference-clause-goes g t c = λ k n.
+    let content = g.C.FluentType.content in
+    let contents = g.W.Write.contents in
+    let a = state g.B.Context.meant g.B.Context.is_plain g.F.FluentFunction.answer content c.args.scope.now in
+    let out = c.args.out.now in
+    let work = c.args.work.now in
+    let values = values_view content (values_in work) in
+    let v = viewed out a values in
+    let x = inline_view c.args.inline.now in
+    let way = begun _ n (outside contents out) a in
+    let f = c.in-FunctionReference.id.name.now in
+    let is = view_function_in c.args.inline.now c.in-FunctionReference.id c.in-FunctionReference.arguments c.in-FunctionReference.is in
+    let args = arguments_view c.in-FunctionReference.arguments.value in
+    let same = ap (λ y. parts.written y a.bundle (k a.bundle) v) is ∙ written_function f args a.bundle (k a.bundle) v ∙ ap (λ y. parts.calls (parts.shows y f) args a.bundle (k a.bundle) v) (sym is) ∙ ap (λ y. parts.calls (parts.shows x f) (arguments_view y) a.bundle (k a.bundle) v) (sym c.deref.ensures) in
+    let here = turns same way in
+    halts c.in_err-begin_call-in-FunctionReference.was (search rules) here (c.begin_call.ensures.goes k n)
+
+pub inline_expression::write_function-returns-in_ok-begin_call-in-FunctionReference-clause-goes : goal.inline_expression::write_function-returns-in_ok-begin_call-in-FunctionReference-clause-goes
+unfolding state_parts
+inline_expression::write_function-returns-in_ok-begin_call-in-FunctionReference-clause-goes g t c = λ k n.
+    let content = g.C.FluentType.content in
+    let contents = g.W.Write.contents in
+    let a = state g.B.Context.meant g.B.Context.is_plain g.F.FluentFunction.answer content c.args.scope.now in
+    let out = c.args.out.now in
+    let work = c.args.work.now in
+    let values = values_view content (values_in work) in
+    let v = viewed out a values in
+    let x = inline_view c.args.inline.now in
+    let way = begun _ n (outside contents out) a in
+    let f = c.in-FunctionReference.id.name.now in
+    let is = view_function_in c.args.inline.now c.in-FunctionReference.id c.in-FunctionReference.arguments c.in-FunctionReference.is in
+    let args = arguments_view c.in-FunctionReference.arguments.value in
+    let same = ap (λ y. parts.written y a.bundle (k a.bundle) v) is ∙ written_function f args a.bundle (k a.bundle) v ∙ ap (λ y. parts.calls (parts.shows y f) args a.bundle (k a.bundle) v) (sym is) ∙ ap (λ y. parts.calls (parts.shows x f) (arguments_view y) a.bundle (k a.bundle) v) (sym c.deref.ensures) in
+    let here = turns same way in
+    let d = state g.B.Context.meant g.B.Context.is_plain g.F.FluentFunction.answer content c.begin_call.new.scope in
+    let last = c.begin_call.new.out in
+    let work1 = c.begin_call.new.work in
+    let values1 = values_view content (values_in work1) in
+    let given = c.in_ok-begin_call-in-FunctionReference.field-0 in
+    let none : given ≡ None = ok_value c.begin_call.result given _ c.in_ok-begin_call-in-FunctionReference.was c.begin_call.ensures.given in
+    finishes tt _ refl refl (turns (ap (λ o. before content d.bundle (frames_in work1) (k d.bundle) (made content o) (viewed last d values1)) none) (goes c.in_ok-begin_call-in-FunctionReference.was here (c.begin_call.ensures.goes k n)))
+
+pub inline_expression::write_function-begin_call-requires : goal.inline_expression::write_function-begin_call-requires
+unfolding state_parts
+inline_expression::write_function-begin_call-requires g t c κs within =
+    let f = c.in-FunctionReference in
+    let number = numbers c.args.scope.now.ids.now in
+    let x = inline_view c.args.inline.now in
+    let r = a_function f.id.name.now in
+    let less = subst (λ m. 18 * c.args.levels + 11 < m) c.decreases (omega arith) in
+    let is = ap in_inline (view_function_in c.args.inline.now f.id f.arguments f.is) ∙ ap (λ y. r ∷ in_arguments (arguments_view y)) (sym c.deref.ensures) in
+    let rest = in_arguments (arguments_view c.deref.result.now) in
+    (less, (within.0, (within.1.0, (within.1.1.0, (within.1.1.1, (placed_first number (in_inline x) r rest c.args.cursor is c.requires.placed, (placed_after number (in_inline x) r rest c.args.cursor c.after_one-at.result is c.after_one-at.ensures c.requires.placed, c.requires.nothing)))))))
+
+pub pattern::write_placeable-returns-in_err-report_limit-clause-goes : goal.pattern::write_placeable-returns-in_err-report_limit-clause-goes
+unfolding state_parts
+pattern::write_placeable-returns-in_err-report_limit-clause-goes g t c = λ k n.
     let content = g.C.FluentType.content in
     let contents = g.W.Write.contents in
     let a = state g.B.Context.meant g.B.Context.is_plain g.F.FluentFunction.answer content c.args.scope.now in
     let b = state g.B.Context.meant g.B.Context.is_plain g.F.FluentFunction.answer content c.take_one.new.self in
     let out = c.args.out.now in
-    let values = values_view content c.args.work.now.values in
+    let values = values_view content (values_in c.args.work.now) in
     let e = expression_view c.args.expression.now in
     let v = viewed out a values in
     let past = happened_limit (outside contents out) c.take_one.ensures.opens c.if-not-take_one.true c.take_one.ensures.takes in
     let at : At = λ x env path budget. k x None (record { kept = kept_of out; budget = budget; environment = env; path = path; values = values }) in
     let way = turns (ap (after (told (resolver_error too_many_placeables) ∷ [])) (taken_same at limit_reached past.budget c.take_one.ensures.takes)) (passes past (turns (stops_part c.args.one e a.bundle (k a.bundle) v (sym c.take_one.ensures.opens ∙ c.if-not-take_one.true) c.requires.left) (begun _ n (outside contents out) a))) in
-    lacks (search rules) (tells_none c.in_err-add_error.was c.add_error.ensures.added way)
+    lacks (search rules) (tells_none c.in_err-report_limit.was c.report_limit.ensures way)
 
 pub pattern::write_placeable-returns-then-not-take_one-clause-goes : goal.pattern::write_placeable-returns-then-not-take_one-clause-goes
 unfolding state_parts
@@ -1657,14 +1710,14 @@ pattern::write_placeable-returns-then-not-take_one-clause-goes g t c = λ k n.
     let a = state g.B.Context.meant g.B.Context.is_plain g.F.FluentFunction.answer content c.args.scope.now in
     let b = state g.B.Context.meant g.B.Context.is_plain g.F.FluentFunction.answer content c.take_one.new.self in
     let out = c.args.out.now in
-    let values = values_view content c.args.work.now.values in
+    let values = values_view content (values_in c.args.work.now) in
     let e = expression_view c.args.expression.now in
     let v = viewed out a values in
     let past = happened_limit (outside contents out) c.take_one.ensures.opens c.if-not-take_one.true c.take_one.ensures.takes in
     let at : At = λ x env path budget. k x None (record { kept = kept_of out; budget = budget; environment = env; path = path; values = values }) in
     let way = turns (ap (after (told (resolver_error too_many_placeables) ∷ [])) (taken_same at limit_reached past.budget c.take_one.ensures.takes)) (passes past (turns (stops_part c.args.one e a.bundle (k a.bundle) v (sym c.take_one.ensures.opens ∙ c.if-not-take_one.true) c.requires.left) (begun _ n (outside contents out) a))) in
-    let b2 = state g.B.Context.meant g.B.Context.is_plain g.F.FluentFunction.answer content c.add_error.new.self in
-    all_done {x = tt} content b2.bundle c.args.work.now.frames.items (k b2.bundle) (λ x. None) (viewed out b2 values) (search rules) c.requires.nothing (tells_first at c.in_ok-add_error.was c.add_error.ensures.added way)
+    let b2 = state g.B.Context.meant g.B.Context.is_plain g.F.FluentFunction.answer content c.report_limit.new.scope in
+    all_done {x = tt} content b2.bundle (frames_in c.args.work.now) (k b2.bundle) (λ x. None) (viewed out b2 values) (search rules) c.requires.nothing (tells_first at c.in_ok-report_limit.was c.report_limit.ensures way)
 
 pub pattern::write_placeable-returns-in_err-put_first_mark-clause-goes : goal.pattern::write_placeable-returns-in_err-put_first_mark-clause-goes
 unfolding state_parts
@@ -1674,7 +1727,7 @@ pattern::write_placeable-returns-in_err-put_first_mark-clause-goes g t c = λ k 
     let a = state g.B.Context.meant g.B.Context.is_plain g.F.FluentFunction.answer content c.args.scope.now in
     let b = state g.B.Context.meant g.B.Context.is_plain g.F.FluentFunction.answer content c.take_one.new.self in
     let out = c.args.out.now in
-    let values = values_view content c.args.work.now.values in
+    let values = values_view content (values_in c.args.work.now) in
     let e = expression_view c.args.expression.now in
     let v = viewed out a values in
     let marked = c.is_marked-marked.result in
@@ -1693,7 +1746,7 @@ pattern::write_placeable-returns-in_err-write_expression-clause-goes g t c = λ 
     let a = state g.B.Context.meant g.B.Context.is_plain g.F.FluentFunction.answer content c.args.scope.now in
     let b = state g.B.Context.meant g.B.Context.is_plain g.F.FluentFunction.answer content c.take_one.new.self in
     let out = c.args.out.now in
-    let values = values_view content c.args.work.now.values in
+    let values = values_view content (values_in c.args.work.now) in
     let e = expression_view c.args.expression.now in
     let v = viewed out a values in
     let marked = c.is_marked-marked.result in
@@ -1714,7 +1767,7 @@ pattern::write_placeable-returns-then-is_done-clause-goes g t c = λ k n.
     let a = state g.B.Context.meant g.B.Context.is_plain g.F.FluentFunction.answer content c.args.scope.now in
     let b = state g.B.Context.meant g.B.Context.is_plain g.F.FluentFunction.answer content c.take_one.new.self in
     let out = c.args.out.now in
-    let values = values_view content c.args.work.now.values in
+    let values = values_view content (values_in c.args.work.now) in
     let e = expression_view c.args.expression.now in
     let v = viewed out a values in
     let marked = c.is_marked-marked.result in
@@ -1727,12 +1780,12 @@ pattern::write_placeable-returns-then-is_done-clause-goes g t c = λ k n.
     let way = pays c.args.levels (laid_ok c.in_ok-put_first_mark.was marks) in
     let d = state g.B.Context.meant g.B.Context.is_plain g.F.FluentFunction.answer content c.write_expression.new.scope in
     let work = c.write_expression.new.work in
-    let last = viewed c.write_expression.new.out d (values_view content work.values) in
+    let last = viewed c.write_expression.new.out d (values_view content (values_in work)) in
     let there = goes c.in_ok-write_expression.was way (c.write_expression.ensures.goes next (suc n)) in
     let none = c.is_done.ensures.0 c.if-is_done.true in
-    let here = is_done content d.bundle work.frames.items (next d.bundle) None last none there in
+    let here = is_done content d.bundle (frames_in work) (next d.bundle) None last none there in
     let f = state g.B.Context.meant g.B.Context.is_plain g.F.FluentFunction.answer content c.close.new.scope in
-    none_waits content f.bundle work.frames.items (k f.bundle) (λ x. None) (viewed c.close.new.out f (values_view content work.values)) none (went_on (with_fewer n (omega arith) here) (c.close.ensures.goes k (values_view content work.values) n))
+    none_waits content f.bundle (frames_in work) (k f.bundle) (λ x. None) (viewed c.close.new.out f (values_view content (values_in work))) none (went_on (with_fewer n (omega arith) here) (c.close.ensures.goes k (values_view content (values_in work)) n))
 
 pub pattern::write_placeable-returns-else-is_done-clause-goes : goal.pattern::write_placeable-returns-else-is_done-clause-goes
 unfolding state_parts
@@ -1742,7 +1795,7 @@ pattern::write_placeable-returns-else-is_done-clause-goes g t c = λ k n.
     let a = state g.B.Context.meant g.B.Context.is_plain g.F.FluentFunction.answer content c.args.scope.now in
     let b = state g.B.Context.meant g.B.Context.is_plain g.F.FluentFunction.answer content c.take_one.new.self in
     let out = c.args.out.now in
-    let values = values_view content c.args.work.now.values in
+    let values = values_view content (values_in c.args.work.now) in
     let e = expression_view c.args.expression.now in
     let v = viewed out a values in
     let marked = c.is_marked-marked.result in
@@ -1755,30 +1808,30 @@ pattern::write_placeable-returns-else-is_done-clause-goes g t c = λ k n.
     let way = pays c.args.levels (laid_ok c.in_ok-put_first_mark.was marks) in
     let d = state g.B.Context.meant g.B.Context.is_plain g.F.FluentFunction.answer content c.write_expression.new.scope in
     let work = c.write_expression.new.work in
-    let last = viewed c.write_expression.new.out d (values_view content work.values) in
+    let last = viewed c.write_expression.new.out d (values_view content (values_in work)) in
     let there = goes c.in_ok-write_expression.was way (c.write_expression.ensures.goes next (suc n)) in
-    put_last n content d.bundle work.frames.items c.wait.new.self.frames.items _ (k d.bundle) None last _ _ (ap (λ vs. viewed c.write_expression.new.out d (values_view content vs)) (sym c.wait.ensures.values)) c.wait.ensures.err c.wait.ensures.frames there
+    put_last n content d.bundle (frames_in work) (frames_in c.wait_close.new.self) _ (k d.bundle) None last _ _ (ap (λ vs. viewed c.write_expression.new.out d (values_view content vs)) (sym c.wait_close.ensures.values)) c.wait_close.ensures.err c.wait_close.ensures.frames there
 
 pub pattern::write_placeable-returns-then-is_done-clause-placed : goal.pattern::write_placeable-returns-then-is_done-clause-placed
 unfolding state_parts
 pattern::write_placeable-returns-then-is_done-clause-placed g t c =
     let content = g.C.FluentType.content in
     let f = state g.B.Context.meant g.B.Context.is_plain g.F.FluentFunction.answer content c.close.new.scope in
-    if_on _ (placed_none f.stored.numbers f.stored.table c.write_expression.new.work.frames.items (c.is_done.ensures.0 c.if-is_done.true))
+    if_on _ (placed_none f.stored.numbers f.stored.table (frames_in c.write_expression.new.work) (c.is_done.ensures.0 c.if-is_done.true))
 
 pub pattern::write_placeable-returns-else-is_done-clause-placed : goal.pattern::write_placeable-returns-else-is_done-clause-placed
 unfolding state_parts
 pattern::write_placeable-returns-else-is_done-clause-placed g t c =
     let content = g.C.FluentType.content in
     let d = state g.B.Context.meant g.B.Context.is_plain g.F.FluentFunction.answer content c.write_expression.new.scope in
-    placed_last d.stored.numbers d.stored.table c.write_expression.new.work.frames.items c.wait.new.self.frames.items _ _ c.wait.ensures.frames c.in_ok-write_expression.ensures.placed tt
+    placed_last d.stored.numbers d.stored.table (frames_in c.write_expression.new.work) (frames_in c.wait_close.new.self) _ _ c.wait_close.ensures.frames c.in_ok-write_expression.ensures.placed tt
 
 pub pattern::write_placeable-returns-then-not-take_one-clause-placed : goal.pattern::write_placeable-returns-then-not-take_one-clause-placed
 unfolding state_parts
 pattern::write_placeable-returns-then-not-take_one-clause-placed g t c =
     let content = g.C.FluentType.content in
-    let d = state g.B.Context.meant g.B.Context.is_plain g.F.FluentFunction.answer content c.add_error.new.self in
-    placed_none d.stored.numbers d.stored.table c.args.work.now.frames.items c.requires.nothing
+    let d = state g.B.Context.meant g.B.Context.is_plain g.F.FluentFunction.answer content c.report_limit.new.scope in
+    placed_none d.stored.numbers d.stored.table (frames_in c.args.work.now) c.requires.nothing
 
 pub pattern::write_placeable-write_expression-requires : goal.pattern::write_placeable-write_expression-requires
 unfolding state_parts
@@ -1789,17 +1842,17 @@ pattern::write_placeable-write_expression-requires g t c =
     let placed = placed_still a b (in_expression (expression_view c.args.expression.now)) c.args.cursor c.take_one.ensures.takes.stays.stored c.requires.placed in
     λ κs h. (falls_to c.decreases (omega arith), (h.0, (h.1.0, (h.1.1.0, (h.1.1.1, (placed, c.requires.nothing))))))
 
-pub pattern::write_elements-loop-element-init : goal.pattern::write_elements-loop-element-init
+pub pattern::write_from-loop-element-init : goal.pattern::write_from-loop-element-init
 unfolding state_parts
-pattern::write_elements-loop-element-init g t c =
+pattern::write_from-loop-element-init g t c =
     let content = g.C.FluentType.content in
     let contents = g.W.Write.contents in
     let a = state g.B.Context.meant g.B.Context.is_plain g.F.FluentFunction.answer content c.args.scope.now in
     record { along = λ k n. begun _ n (outside contents c.args.out.now) a; placed = c.requires.placed; nothing = c.requires.nothing; texts = λ t. t; through = λ t h. h }
 
-pub pattern::write_elements-returns-then-dirty-clause-goes : goal.pattern::write_elements-returns-then-dirty-clause-goes
+pub pattern::write_from-returns-then-dirty-clause-goes : goal.pattern::write_from-returns-then-dirty-clause-goes
 unfolding state_parts
-pattern::write_elements-returns-then-dirty-clause-goes g t c = λ k n.
+pattern::write_from-returns-then-dirty-clause-goes g t c = λ k n.
     let content = g.C.FluentType.content in
     let contents = g.W.Write.contents in
     let a = state g.B.Context.meant g.B.Context.is_plain g.F.FluentFunction.answer content c.loop-element.scope in
@@ -1808,13 +1861,13 @@ pattern::write_elements-returns-then-dirty-clause-goes g t c = λ k n.
     let p = c.args.pattern.now in
     let one = has_one (pattern_view p) in
     let at = c.loop-element.next in
-    let values = values_view content work.values in
+    let values = values_view content (values_in work) in
     let v = viewed out a values in
-    all_done {x = tt} content a.bundle work.frames.items (k a.bundle) (λ x. None) v (search rules) c.loop-element.invariant.nothing (turns (none_at_limit one a.bundle (k a.bundle) v (elements_from at p) (c.if-dirty.ensures.0 refl)) (c.loop-element.invariant.along k n))
+    all_done {x = tt} content a.bundle (frames_in work) (k a.bundle) (λ x. None) v (search rules) c.loop-element.invariant.nothing (turns (none_at_limit one a.bundle (k a.bundle) v (elements_from at p) (c.if-dirty.ensures.0 refl)) (c.loop-element.invariant.along k n))
 
-pub pattern::write_elements-loop-element-preserved-in-Continue-1 : goal.pattern::write_elements-loop-element-preserved-in-Continue-1
+pub pattern::write_from-returns-in_err-put_changed-in-TextElement-clause-goes : goal.pattern::write_from-returns-in_err-put_changed-in-TextElement-clause-goes
 unfolding state_parts
-pattern::write_elements-loop-element-preserved-in-Continue-1 g t c =
+pattern::write_from-returns-in_err-put_changed-in-TextElement-clause-goes g t c = λ k n.
     let content = g.C.FluentType.content in
     let contents = g.W.Write.contents in
     let a = state g.B.Context.meant g.B.Context.is_plain g.F.FluentFunction.answer content c.loop-element.scope in
@@ -1823,43 +1876,21 @@ pattern::write_elements-loop-element-preserved-in-Continue-1 g t c =
     let p = c.args.pattern.now in
     let one = has_one (pattern_view p) in
     let at = c.loop-element.next in
-    let values = values_view content work.values in
-    let v = viewed out a values in
-    let first = from_next p c.deref.result.now at c.in-Some.element.now (text c.in-TextElement.value.now) c.deref.ensures.value (ltb-true _ _ (sym c.in-Some.ensures.lookup.0)) c.in-Some.ensures.lookup.1 (view_text_in c.in-Some.element.now c.in-TextElement.value c.in-TextElement.is) in
-    record {
-      along = λ k n. let way = turns (ap (λ q. parts.elements one q a.bundle (k a.bundle) v) first ∙ text_first one a.bundle (k a.bundle) v c.in-TextElement.value.now (elements_from (at + 1) p) (λ x. true≢false (sym (c.if-dirty.ensures.1 x)))) (c.loop-element.invariant.along k n) in let laid = put contents out c.put_changed.new.out a values a.bundle (λ given u. parts.elements one (elements_from (at + 1) p) a.bundle (k a.bundle) u) _ c.put_changed.ensures.took (starts way) in laid_ok c.in_ok-put_changed-in-TextElement.was laid;
-      placed = placed_back a.stored.numbers (references (elements_from at p)) (in_element (text c.in-TextElement.value.now)) (references (elements_from (at + 1) p)) c.loop-element.cursor c.after_element-cursor.result (ap references first) (c.after_element-cursor.ensures ∙ ap (λ x. past (in_element x) (seen c.loop-element.cursor)) (view_text_in c.in-Some.element.now c.in-TextElement.value c.in-TextElement.is)) c.loop-element.invariant.placed;
-      nothing = c.loop-element.invariant.nothing;
-      texts = λ t. subst IsTextAlone first (c.loop-element.invariant.texts t);
-      through = λ t h. stays_through contents out c.put_changed.new.out c.put_changed.ensures.took.beside (c.loop-element.invariant.through t h);
-    }
-
-pub pattern::write_elements-returns-in_err-put_changed-in-TextElement-clause-goes : goal.pattern::write_elements-returns-in_err-put_changed-in-TextElement-clause-goes
-unfolding state_parts
-pattern::write_elements-returns-in_err-put_changed-in-TextElement-clause-goes g t c = λ k n.
-    let content = g.C.FluentType.content in
-    let contents = g.W.Write.contents in
-    let a = state g.B.Context.meant g.B.Context.is_plain g.F.FluentFunction.answer content c.loop-element.scope in
-    let out = c.loop-element.out in
-    let work = c.loop-element.work in
-    let p = c.args.pattern.now in
-    let one = has_one (pattern_view p) in
-    let at = c.loop-element.next in
-    let values = values_view content work.values in
+    let values = values_view content (values_in work) in
     let v = viewed out a values in
     let first = from_next p c.deref.result.now at c.in-Some.element.now (text c.in-TextElement.value.now) c.deref.ensures.value (ltb-true _ _ (sym c.in-Some.ensures.lookup.0)) c.in-Some.ensures.lookup.1 (view_text_in c.in-Some.element.now c.in-TextElement.value c.in-TextElement.is) in
     let way = turns (ap (λ q. parts.elements one q a.bundle (k a.bundle) v) first ∙ text_first one a.bundle (k a.bundle) v c.in-TextElement.value.now (elements_from (at + 1) p) (λ x. true≢false (sym (c.if-dirty.ensures.1 x)))) (c.loop-element.invariant.along k n) in
     let laid = put contents out c.put_changed.new.out a values a.bundle (λ given u. parts.elements one (elements_from (at + 1) p) a.bundle (k a.bundle) u) _ c.put_changed.ensures.took (starts way) in
     laid_halts c.in_err-put_changed-in-TextElement.was (search rules) laid
 
-pub pattern::write_elements-returns-in_err-put_changed-in-TextElement-clause-memory : goal.pattern::write_elements-returns-in_err-put_changed-in-TextElement-clause-memory
+pub pattern::write_from-returns-in_err-put_changed-in-TextElement-clause-memory : goal.pattern::write_from-returns-in_err-put_changed-in-TextElement-clause-memory
 unfolding state_parts
-pattern::write_elements-returns-in_err-put_changed-in-TextElement-clause-memory g t c =
+pattern::write_from-returns-in_err-put_changed-in-TextElement-clause-memory g t c =
     λ t plain h is. c.put_changed.ensures.memory (subst IsTrue (sym (c.loop-element.invariant.along (λ b given u. nowhere) 0).happened.stays.is_plain) plain) (c.loop-element.invariant.through t h) (err_was c.in_err-put_changed-in-TextElement.was (search rules) is)
 
-pub pattern::write_elements-returns-clause-goes : goal.pattern::write_elements-returns-clause-goes
+pub pattern::write_from-returns-clause-goes : goal.pattern::write_from-returns-clause-goes
 unfolding state_parts
-pattern::write_elements-returns-clause-goes g t c = λ k n.
+pattern::write_from-returns-clause-goes g t c = λ k n.
     let content = g.C.FluentType.content in
     let contents = g.W.Write.contents in
     let a = state g.B.Context.meant g.B.Context.is_plain g.F.FluentFunction.answer content c.loop-element.scope in
@@ -1868,36 +1899,36 @@ pattern::write_elements-returns-clause-goes g t c = λ k n.
     let p = c.args.pattern.now in
     let one = has_one (pattern_view p) in
     let at = c.loop-element.next in
-    let values = values_view content work.values in
+    let values = values_view content (values_in work) in
     let v = viewed out a values in
     let end = from_end p c.deref.result.now at c.deref.ensures.value (ltb-false _ _ (sym c.in_default.ensures.lookup.0)) in
-    all_done {x = tt} content a.bundle work.frames.items (k a.bundle) (λ x. None) v (search rules) c.loop-element.invariant.nothing (turns (none_at_end one a.bundle (k a.bundle) v (elements_from at p) end) (c.loop-element.invariant.along k n))
+    all_done {x = tt} content a.bundle (frames_in work) (k a.bundle) (λ x. None) v (search rules) c.loop-element.invariant.nothing (turns (none_at_end one a.bundle (k a.bundle) v (elements_from at p) end) (c.loop-element.invariant.along k n))
 
-pub pattern::write_elements-returns-then-dirty-clause-texts : goal.pattern::write_elements-returns-then-dirty-clause-texts
-pattern::write_elements-returns-then-dirty-clause-texts g t c =
+pub pattern::write_from-returns-then-dirty-clause-texts : goal.pattern::write_from-returns-then-dirty-clause-texts
+pattern::write_from-returns-then-dirty-clause-texts g t c =
     λ t. c.loop-element.invariant.nothing
 
-pub pattern::write_elements-returns-clause-texts : goal.pattern::write_elements-returns-clause-texts
-pattern::write_elements-returns-clause-texts g t c =
+pub pattern::write_from-returns-clause-texts : goal.pattern::write_from-returns-clause-texts
+pattern::write_from-returns-clause-texts g t c =
     λ t. c.loop-element.invariant.nothing
 
-pub pattern::write_elements-returns-then-dirty-clause-placed : goal.pattern::write_elements-returns-then-dirty-clause-placed
+pub pattern::write_from-returns-then-dirty-clause-placed : goal.pattern::write_from-returns-then-dirty-clause-placed
 unfolding state_parts
-pattern::write_elements-returns-then-dirty-clause-placed g t c =
+pattern::write_from-returns-then-dirty-clause-placed g t c =
     let content = g.C.FluentType.content in
     let a = state g.B.Context.meant g.B.Context.is_plain g.F.FluentFunction.answer content c.loop-element.scope in
-    placed_none a.stored.numbers a.stored.table c.loop-element.work.frames.items c.loop-element.invariant.nothing
+    placed_none a.stored.numbers a.stored.table (frames_in c.loop-element.work) c.loop-element.invariant.nothing
 
-pub pattern::write_elements-returns-clause-placed : goal.pattern::write_elements-returns-clause-placed
+pub pattern::write_from-returns-clause-placed : goal.pattern::write_from-returns-clause-placed
 unfolding state_parts
-pattern::write_elements-returns-clause-placed g t c =
+pattern::write_from-returns-clause-placed g t c =
     let content = g.C.FluentType.content in
     let a = state g.B.Context.meant g.B.Context.is_plain g.F.FluentFunction.answer content c.loop-element.scope in
-    placed_none a.stored.numbers a.stored.table c.loop-element.work.frames.items c.loop-element.invariant.nothing
+    placed_none a.stored.numbers a.stored.table (frames_in c.loop-element.work) c.loop-element.invariant.nothing
 
-pub pattern::write_elements-returns-in_err-write_placeable-in-Placeable-clause-goes : goal.pattern::write_elements-returns-in_err-write_placeable-in-Placeable-clause-goes
+pub pattern::write_from-returns-in_err-write_placeable-in-Placeable-clause-goes : goal.pattern::write_from-returns-in_err-write_placeable-in-Placeable-clause-goes
 unfolding state_parts
-pattern::write_elements-returns-in_err-write_placeable-in-Placeable-clause-goes g t c = λ k n.
+pattern::write_from-returns-in_err-write_placeable-in-Placeable-clause-goes g t c = λ k n.
     let content = g.C.FluentType.content in
     let contents = g.W.Write.contents in
     let a = state g.B.Context.meant g.B.Context.is_plain g.F.FluentFunction.answer content c.loop-element.scope in
@@ -1906,7 +1937,7 @@ pattern::write_elements-returns-in_err-write_placeable-in-Placeable-clause-goes 
     let p = c.args.pattern.now in
     let one = has_one (pattern_view p) in
     let at = c.loop-element.next in
-    let values = values_view content work.values in
+    let values = values_view content (values_in work) in
     let v = viewed out a values in
     let e = expression_view c.in-Placeable.expression in
     let first = from_next p c.deref.result.now at c.in-Some.element.now (placeable e) c.deref.ensures.value (ltb-true _ _ (sym c.in-Some.ensures.lookup.0)) c.in-Some.ensures.lookup.1 (view_placeable_in c.in-Some.element.now c.in-Placeable.expression c.in-Placeable.is) in
@@ -1917,9 +1948,9 @@ pattern::write_elements-returns-in_err-write_placeable-in-Placeable-clause-goes 
     let paid = waits (suc n) (omega arith) way in
     halts c.in_err-write_placeable-in-Placeable.was (search rules) paid (c.write_placeable.ensures.goes next (suc n))
 
-pub pattern::write_elements-loop-element-preserved : goal.pattern::write_elements-loop-element-preserved
+pub pattern::write_from-loop-element-preserved : goal.pattern::write_from-loop-element-preserved
 unfolding state_parts
-pattern::write_elements-loop-element-preserved g t c =
+pattern::write_from-loop-element-preserved g t c =
     let content = g.C.FluentType.content in
     let contents = g.W.Write.contents in
     let a = state g.B.Context.meant g.B.Context.is_plain g.F.FluentFunction.answer content c.loop-element.scope in
@@ -1928,26 +1959,42 @@ pattern::write_elements-loop-element-preserved g t c =
     let p = c.args.pattern.now in
     let one = has_one (pattern_view p) in
     let at = c.loop-element.next in
-    let values = values_view content work.values in
+    let values = values_view content (values_in work) in
     let v = viewed out a values in
-    let e = expression_view c.in-Placeable.expression in
-    let first = from_next p c.deref.result.now at c.in-Some.element.now (placeable e) c.deref.ensures.value (ltb-true _ _ (sym c.in-Some.ensures.lookup.0)) c.in-Some.ensures.lookup.1 (view_placeable_in c.in-Some.element.now c.in-Placeable.expression c.in-Placeable.is) in
-    let d = state g.B.Context.meant g.B.Context.is_plain g.F.FluentFunction.answer content c.write_placeable.new.scope in
-    let work1 = c.write_placeable.new.work in
-    let stored = (at_ok c.in_ok-write_placeable-in-Placeable.was (c.write_placeable.ensures.goes (λ s given u. nowhere) 0).ok).happened.stays.stored in
-    let rest = references (elements_from (at + 1) p) in
-    let cursor = placed_still a d rest c.after_element-cursor.result stored (placed_back a.stored.numbers (references (elements_from at p)) (in_expression e) rest c.loop-element.cursor c.after_element-cursor.result (ap references first) (c.after_element-cursor.ensures ∙ ap (λ x. past (in_element x) (seen c.loop-element.cursor)) (view_placeable_in c.in-Some.element.now c.in-Placeable.expression c.in-Placeable.is)) c.loop-element.invariant.placed) in
-    let none = c.is_done.ensures.0 c.if-not-is_done.false in record {
-      along = λ k n. let next : Bundle Text → Following = λ s given u. parts.elements one (elements_from (at + 1) p) s (k s) u in let way = turns (ap (λ q. parts.elements one q a.bundle (k a.bundle) v) first ∙ placeable_first one a.bundle (k a.bundle) v e (elements_from (at + 1) p) (λ x. true≢false (sym (c.if-dirty.ensures.1 x))) ∙ ap (λ y. begins (parts.part y e a.bundle (next a.bundle) v)) (sym c.has_one.ensures)) (c.loop-element.invariant.along k n) in let paid = waits (suc n) (omega arith) way in let there = goes c.in_ok-write_placeable-in-Placeable.was paid (c.write_placeable.ensures.goes next (suc n)) in let last = viewed c.write_placeable.new.out d (values_view content work1.values) in with_fewer n (omega arith) (is_done content d.bundle work1.frames.items (next d.bundle) None last none there);
-      placed = cursor;
-      nothing = none;
-      texts = λ t. absurd (never_text e (elements_from (at + 1) p) (subst IsTextAlone first (c.loop-element.invariant.texts t)));
-      through = λ t. absurd (never_text e (elements_from (at + 1) p) (subst IsTextAlone first (c.loop-element.invariant.texts t)));
-    }
+    let x = c.in-Some.element.now in
+    elim c.match-element.branch [
+      | pattern::write_from-in-TextElement+in_ok-put_changed-in-TextElement r ↦
+          let view = view_text_in x r.in-TextElement.value r.in-TextElement.is in
+          let first = from_next p c.deref.result.now at x (text r.in-TextElement.value.now) c.deref.ensures.value (ltb-true _ _ (sym c.in-Some.ensures.lookup.0)) c.in-Some.ensures.lookup.1 view in
+          rw r.scope-is (rw r.out-is (rw r.work-is (record {
+            along = λ k n. let way = turns (ap (λ q. parts.elements one q a.bundle (k a.bundle) v) first ∙ text_first one a.bundle (k a.bundle) v r.in-TextElement.value.now (elements_from (at + 1) p) (λ x. true≢false (sym (c.if-dirty.ensures.1 x)))) (c.loop-element.invariant.along k n) in let laid = put contents out r.put_changed.new.out a values a.bundle (λ given u. parts.elements one (elements_from (at + 1) p) a.bundle (k a.bundle) u) _ r.put_changed.ensures.took (starts way) in laid_ok r.in_ok-put_changed-in-TextElement.was laid;
+            placed = placed_back a.stored.numbers (references (elements_from at p)) (in_element (text r.in-TextElement.value.now)) (references (elements_from (at + 1) p)) c.loop-element.cursor c.after_element-cursor.result (ap references first) (c.after_element-cursor.ensures ∙ ap (λ x. past (in_element x) (seen c.loop-element.cursor)) view) c.loop-element.invariant.placed;
+            nothing = c.loop-element.invariant.nothing;
+            texts = λ t. subst IsTextAlone first (c.loop-element.invariant.texts t);
+            through = λ t h. stays_through contents out r.put_changed.new.out r.put_changed.ensures.took.beside (c.loop-element.invariant.through t h);
+          })))
+      | pattern::write_from-in-Placeable+in_ok-write_placeable-in-Placeable+else-not-is_done r ↦
+          let e = expression_view r.in-Placeable.expression in
+          let view = view_placeable_in x r.in-Placeable.expression r.in-Placeable.is in
+          let first = from_next p c.deref.result.now at x (placeable e) c.deref.ensures.value (ltb-true _ _ (sym c.in-Some.ensures.lookup.0)) c.in-Some.ensures.lookup.1 view in
+          let d = state g.B.Context.meant g.B.Context.is_plain g.F.FluentFunction.answer content r.write_placeable.new.scope in
+          let work1 = r.write_placeable.new.work in
+          let stored = (at_ok r.in_ok-write_placeable-in-Placeable.was (r.write_placeable.ensures.goes (λ s given u. nowhere) 0).ok).happened.stays.stored in
+          let rest = references (elements_from (at + 1) p) in
+          let cursor = placed_still a d rest c.after_element-cursor.result stored (placed_back a.stored.numbers (references (elements_from at p)) (in_expression e) rest c.loop-element.cursor c.after_element-cursor.result (ap references first) (c.after_element-cursor.ensures ∙ ap (λ x. past (in_element x) (seen c.loop-element.cursor)) view) c.loop-element.invariant.placed) in
+          let none = r.is_done.ensures.0 r.if-not-is_done.false in
+          rw r.scope-is (rw r.out-is (rw r.work-is (record {
+            along = λ k n. let next : Bundle Text → Following = λ s given u. parts.elements one (elements_from (at + 1) p) s (k s) u in let way = turns (ap (λ q. parts.elements one q a.bundle (k a.bundle) v) first ∙ placeable_first one a.bundle (k a.bundle) v e (elements_from (at + 1) p) (λ x. true≢false (sym (c.if-dirty.ensures.1 x))) ∙ ap (λ y. begins (parts.part y e a.bundle (next a.bundle) v)) (sym r.has_one.ensures)) (c.loop-element.invariant.along k n) in let paid = waits (suc n) (omega arith) way in let there = goes r.in_ok-write_placeable-in-Placeable.was paid (r.write_placeable.ensures.goes next (suc n)) in let last = viewed r.write_placeable.new.out d (values_view content (values_in work1)) in with_fewer n (omega arith) (is_done content d.bundle (frames_in work1) (next d.bundle) None last none there);
+            placed = cursor;
+            nothing = none;
+            texts = λ t. absurd (never_text e (elements_from (at + 1) p) (subst IsTextAlone first (c.loop-element.invariant.texts t)));
+            through = λ t. absurd (never_text e (elements_from (at + 1) p) (subst IsTextAlone first (c.loop-element.invariant.texts t)));
+          })))
+    ]
 
-pub pattern::write_elements-returns-then-not-is_done-clause-goes : goal.pattern::write_elements-returns-then-not-is_done-clause-goes
+pub pattern::write_from-returns-then-not-is_done-clause-goes : goal.pattern::write_from-returns-then-not-is_done-clause-goes
 unfolding state_parts
-pattern::write_elements-returns-then-not-is_done-clause-goes g t c = λ k n.
+pattern::write_from-returns-then-not-is_done-clause-goes g t c = λ k n.
     let content = g.C.FluentType.content in
     let contents = g.W.Write.contents in
     let a = state g.B.Context.meant g.B.Context.is_plain g.F.FluentFunction.answer content c.loop-element.scope in
@@ -1956,7 +2003,7 @@ pattern::write_elements-returns-then-not-is_done-clause-goes g t c = λ k n.
     let p = c.args.pattern.now in
     let one = has_one (pattern_view p) in
     let at = c.loop-element.next in
-    let values = values_view content work.values in
+    let values = values_view content (values_in work) in
     let v = viewed out a values in
     let e = expression_view c.in-Placeable.expression in
     let first = from_next p c.deref.result.now at c.in-Some.element.now (placeable e) c.deref.ensures.value (ltb-true _ _ (sym c.in-Some.ensures.lookup.0)) c.in-Some.ensures.lookup.1 (view_placeable_in c.in-Some.element.now c.in-Placeable.expression c.in-Placeable.is) in
@@ -1966,12 +2013,12 @@ pattern::write_elements-returns-then-not-is_done-clause-goes g t c = λ k n.
     let way = turns (ap (λ q. parts.elements one q a.bundle (k a.bundle) v) first ∙ placeable_first one a.bundle (k a.bundle) v e (elements_from (at + 1) p) (λ x. true≢false (sym (c.if-dirty.ensures.1 x))) ∙ ap (λ y. begins (parts.part y e a.bundle (next a.bundle) v)) (sym c.has_one.ensures)) (c.loop-element.invariant.along k n) in
     let paid = waits (suc n) (omega arith) way in
     let there = goes c.in_ok-write_placeable-in-Placeable.was paid (c.write_placeable.ensures.goes next (suc n)) in
-    let last = viewed c.write_placeable.new.out d (values_view content work1.values) in
-    put_last n content d.bundle work1.frames.items c.wait.new.self.frames.items _ (k d.bundle) None last _ _ (ap (λ vs. viewed c.write_placeable.new.out d (values_view content vs)) (sym c.wait.ensures.values)) c.wait.ensures.err c.wait.ensures.frames there
+    let last = viewed c.write_placeable.new.out d (values_view content (values_in work1)) in
+    put_last n content d.bundle (frames_in work1) (frames_in c.wait_elements.new.self) _ (k d.bundle) None last _ _ (ap (λ vs. viewed c.write_placeable.new.out d (values_view content vs)) (sym c.wait_elements.ensures.values)) c.wait_elements.ensures.err c.wait_elements.ensures.frames there
 
-pub pattern::write_elements-returns-then-not-is_done-clause-placed : goal.pattern::write_elements-returns-then-not-is_done-clause-placed
+pub pattern::write_from-returns-then-not-is_done-clause-placed : goal.pattern::write_from-returns-then-not-is_done-clause-placed
 unfolding state_parts
-pattern::write_elements-returns-then-not-is_done-clause-placed g t c =
+pattern::write_from-returns-then-not-is_done-clause-placed g t c =
     let content = g.C.FluentType.content in
     let contents = g.W.Write.contents in
     let a = state g.B.Context.meant g.B.Context.is_plain g.F.FluentFunction.answer content c.loop-element.scope in
@@ -1980,7 +2027,7 @@ pattern::write_elements-returns-then-not-is_done-clause-placed g t c =
     let p = c.args.pattern.now in
     let one = has_one (pattern_view p) in
     let at = c.loop-element.next in
-    let values = values_view content work.values in
+    let values = values_view content (values_in work) in
     let v = viewed out a values in
     let e = expression_view c.in-Placeable.expression in
     let first = from_next p c.deref.result.now at c.in-Some.element.now (placeable e) c.deref.ensures.value (ltb-true _ _ (sym c.in-Some.ensures.lookup.0)) c.in-Some.ensures.lookup.1 (view_placeable_in c.in-Some.element.now c.in-Placeable.expression c.in-Placeable.is) in
@@ -1988,36 +2035,36 @@ pattern::write_elements-returns-then-not-is_done-clause-placed g t c =
     let work1 = c.write_placeable.new.work in
     let stored = (at_ok c.in_ok-write_placeable-in-Placeable.was (c.write_placeable.ensures.goes (λ s given u. nowhere) 0).ok).happened.stays.stored in
     let rest = references (elements_from (at + 1) p) in
-    let cursor = placed_still a d rest c.after_element-cursor.result stored (placed_back a.stored.numbers (references (elements_from at p)) (in_expression e) rest c.loop-element.cursor c.after_element-cursor.result (ap references first) (c.after_element-cursor.ensures ∙ ap (λ x. past (in_element x) (seen c.loop-element.cursor)) (view_placeable_in c.in-Some.element.now c.in-Placeable.expression c.in-Placeable.is)) c.loop-element.invariant.placed) in
-    placed_last d.stored.numbers d.stored.table work1.frames.items c.wait.new.self.frames.items _ _ c.wait.ensures.frames c.in_ok-write_placeable-in-Placeable.ensures.placed cursor
+    let cursor = placed_still a d rest c.after_element-after.result stored (placed_back a.stored.numbers (references (elements_from at p)) (in_expression e) rest c.loop-element.cursor c.after_element-after.result (ap references first) (c.after_element-after.ensures ∙ ap (λ x. past (in_element x) (seen c.loop-element.cursor)) (view_placeable_in c.in-Some.element.now c.in-Placeable.expression c.in-Placeable.is)) c.loop-element.invariant.placed) in
+    placed_last d.stored.numbers d.stored.table (frames_in work1) (frames_in c.wait_elements.new.self) _ _ c.wait_elements.ensures.frames c.in_ok-write_placeable-in-Placeable.ensures.placed cursor
 
-pub pattern::write_elements-returns-then-not-is_done-clause-texts : goal.pattern::write_elements-returns-then-not-is_done-clause-texts
-pattern::write_elements-returns-then-not-is_done-clause-texts g t c =
+pub pattern::write_from-returns-then-not-is_done-clause-texts : goal.pattern::write_from-returns-then-not-is_done-clause-texts
+pattern::write_from-returns-then-not-is_done-clause-texts g t c =
     let p = c.args.pattern.now in
     let at = c.loop-element.next in
     let e = expression_view c.in-Placeable.expression in
     let first = from_next p c.deref.result.now at c.in-Some.element.now (placeable e) c.deref.ensures.value (ltb-true _ _ (sym c.in-Some.ensures.lookup.0)) c.in-Some.ensures.lookup.1 (view_placeable_in c.in-Some.element.now c.in-Placeable.expression c.in-Placeable.is) in
     λ t. absurd (never_text e (elements_from (at + 1) p) (subst IsTextAlone first (c.loop-element.invariant.texts t)))
 
-pub pattern::write_elements-returns-then-not-is_done-clause-memory : goal.pattern::write_elements-returns-then-not-is_done-clause-memory
-pattern::write_elements-returns-then-not-is_done-clause-memory g t c =
+pub pattern::write_from-returns-then-not-is_done-clause-memory : goal.pattern::write_from-returns-then-not-is_done-clause-memory
+pattern::write_from-returns-then-not-is_done-clause-memory g t c =
     let p = c.args.pattern.now in
     let at = c.loop-element.next in
     let e = expression_view c.in-Placeable.expression in
     let first = from_next p c.deref.result.now at c.in-Some.element.now (placeable e) c.deref.ensures.value (ltb-true _ _ (sym c.in-Some.ensures.lookup.0)) c.in-Some.ensures.lookup.1 (view_placeable_in c.in-Some.element.now c.in-Placeable.expression c.in-Placeable.is) in
     λ t. absurd (never_text e (elements_from (at + 1) p) (subst IsTextAlone first (c.loop-element.invariant.texts t)))
 
-pub pattern::write_elements-returns-in_err-write_placeable-in-Placeable-clause-memory : goal.pattern::write_elements-returns-in_err-write_placeable-in-Placeable-clause-memory
-pattern::write_elements-returns-in_err-write_placeable-in-Placeable-clause-memory g t c =
+pub pattern::write_from-returns-in_err-write_placeable-in-Placeable-clause-memory : goal.pattern::write_from-returns-in_err-write_placeable-in-Placeable-clause-memory
+pattern::write_from-returns-in_err-write_placeable-in-Placeable-clause-memory g t c =
     let p = c.args.pattern.now in
     let at = c.loop-element.next in
     let e = expression_view c.in-Placeable.expression in
     let first = from_next p c.deref.result.now at c.in-Some.element.now (placeable e) c.deref.ensures.value (ltb-true _ _ (sym c.in-Some.ensures.lookup.0)) c.in-Some.ensures.lookup.1 (view_placeable_in c.in-Some.element.now c.in-Placeable.expression c.in-Placeable.is) in
     λ t. absurd (never_text e (elements_from (at + 1) p) (subst IsTextAlone first (c.loop-element.invariant.texts t)))
 
-pub pattern::write_elements-write_placeable-requires : goal.pattern::write_elements-write_placeable-requires
+pub pattern::write_from-write_placeable-requires : goal.pattern::write_from-write_placeable-requires
 unfolding state_parts
-pattern::write_elements-write_placeable-requires g t c =
+pattern::write_from-write_placeable-requires g t c =
     let content = g.C.FluentType.content in
     let contents = g.W.Write.contents in
     let a = state g.B.Context.meant g.B.Context.is_plain g.F.FluentFunction.answer content c.loop-element.scope in
@@ -2026,7 +2073,7 @@ pattern::write_elements-write_placeable-requires g t c =
     let p = c.args.pattern.now in
     let one = has_one (pattern_view p) in
     let at = c.loop-element.next in
-    let values = values_view content work.values in
+    let values = values_view content (values_in work) in
     let v = viewed out a values in
     let e = expression_view c.in-Placeable.expression in
     let first = from_next p c.deref.result.now at c.in-Some.element.now (placeable e) c.deref.ensures.value (ltb-true _ _ (sym c.in-Some.ensures.lookup.0)) c.in-Some.ensures.lookup.1 (view_placeable_in c.in-Some.element.now c.in-Placeable.expression c.in-Placeable.is) in

@@ -4,6 +4,7 @@ use Rattle.fluent_state.specs.Status.{state, state_parts}
 use Rattle.fluent_values.specs.Sinks.{outside}
 use Rattle.fluent_values.specs.View.{value_view}
 use Rattle.fluent_resolver.specs.Frames.{Along, IsPlacedCall, IsPlacedPurpose, gathers, made, values_view}
+use Rattle.fluent_resolver.specs.Waits.{values_in}
 use Rattle.fluent_resolver.proofs.Gathers.{gets_value}
 use Rattle.fluent_resolver.proofs.Going.{begun, lacks, turns, went_on}
 use Rattle.fluent_resolver.proofs.Laying.{viewed}
@@ -35,7 +36,7 @@ returns-clause-goes g c = λ k n.
     let a = state g.B.Context.meant g.B.Context.is_plain g.F.FluentFunction.answer content c.args.scope.now in
     let out = c.args.out.now in
     let work = c.args.work.now in
-    let v = viewed out a (values_view content work.values) in
+    let v = viewed out a (values_view content (values_in work)) in
     let call = c.args.gathering.value in
     let first = gathers content call (made content c.args.given) a.bundle (k a.bundle) v in
     let way = begun first n (outside contents out) a in

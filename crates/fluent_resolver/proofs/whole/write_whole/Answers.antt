@@ -6,6 +6,7 @@ use Rattle.fluent_state.specs.Status.{state, state_parts}
 use Rattle.fluent_values.specs.Sinks.{outside}
 use Rattle.fluent_resolver.specs.Frames.{at_end, elements_from, values_view}
 use Rattle.fluent_resolver.specs.Parts as parts
+use Rattle.fluent_resolver.specs.Waits.{frames_in, values_in}
 use Rattle.fluent_resolver.proofs.Beginning.{begins_pattern}
 use Rattle.fluent_resolver.proofs.Going.{goes, starts, turns}
 use Rattle.fluent_resolver.proofs.Laying.{viewed}
@@ -14,9 +15,9 @@ use Rattle.fluent_resolver.proofs.Waiting.{is_done}
 use Rattle.fluent_resolver.proofs.Wholes.{begun_with, fresh, runs_on, tried, whole_events}
 use Rattle.fluent_resolver.proofs.whole.write_whole.Goals as goal
 
-pub returns-in_err-write_elements-clause-did : goal.returns-in_err-write_elements-clause-did
+pub returns-in-Err-clause-did : goal.returns-in-Err-clause-did
 unfolding state_parts
-returns-in_err-write_elements-clause-did g c =
+returns-in-Err-clause-did g c =
     let content = g.C.FluentType.content in
     let contents = g.W.Write.contents in
     let a = state g.B.Context.meant g.B.Context.is_plain g.F.FluentFunction.answer content c.args.scope.now in
@@ -27,7 +28,7 @@ returns-in_err-write_elements-clause-did g c =
     let begins = starts (begins_pattern 0 (outside contents out) (λ x. at_end) None None (has_one p) refl c.begin.ensures) in
     let way = turns (ap (λ q. parts.elements (has_one p) q b.bundle at_end (fresh b)) (view_pattern c.args.pattern.now)
     ∙ begun_with content (parts.elements (has_one p) (elements_from 0 c.args.pattern.now)) at_end b out work c.requires.kept c.new-work.ensures.values) begins in
-    tried (whole_events p a) (ends_err None c.in_err-write_elements.was (search rules) way (c.write_elements.ensures.goes (λ s. at_end) 0))
+    tried (whole_events p a) (ends_err None c.in-Err.is (search rules) way (c.write_elements.ensures.goes (λ s. at_end) 0))
 
 pub returns-then-is_done-clause-did : goal.returns-then-is_done-clause-did
 unfolding state_parts
@@ -44,10 +45,10 @@ returns-then-is_done-clause-did g c =
     ∙ begun_with content (parts.elements (has_one p) (elements_from 0 c.args.pattern.now)) at_end b out work c.requires.kept c.new-work.ensures.values) begins in
     let d = state g.B.Context.meant g.B.Context.is_plain g.F.FluentFunction.answer content c.write_elements.new.scope in
     let work1 = c.write_elements.new.work in
-    let last = viewed c.write_elements.new.out d (values_view content work1.values) in
-    let there = goes c.in_ok-write_elements.was way (c.write_elements.ensures.goes (λ s. at_end) 0) in
+    let last = viewed c.write_elements.new.out d (values_view content (values_in work1)) in
+    let there = goes c.in-Ok.is way (c.write_elements.ensures.goes (λ s. at_end) 0) in
     let none = c.is_done.ensures.0 c.if-is_done.true in
-    tried (whole_events p a) (ends_ok last.values refl (is_done content d.bundle work1.frames.items at_end None last none there))
+    tried (whole_events p a) (ends_ok last.values refl (is_done content d.bundle (frames_in work1) at_end None last none there))
 
 pub returns-clause-did : goal.returns-clause-did
 unfolding state_parts
@@ -64,6 +65,6 @@ returns-clause-did g c =
     ∙ begun_with content (parts.elements (has_one p) (elements_from 0 c.args.pattern.now)) at_end b out work c.requires.kept c.new-work.ensures.values) begins in
     let d = state g.B.Context.meant g.B.Context.is_plain g.F.FluentFunction.answer content c.write_elements.new.scope in
     let work1 = c.write_elements.new.work in
-    let last = viewed c.write_elements.new.out d (values_view content work1.values) in
-    let there = goes c.in_ok-write_elements.was way (c.write_elements.ensures.goes (λ s. at_end) 0) in
-    tried (whole_events p a) (runs_on there c.run.ensures)
+    let last = viewed c.write_elements.new.out d (values_view content (values_in work1)) in
+    let there = goes c.in-Ok.is way (c.write_elements.ensures.goes (λ s. at_end) 0) in
+    tried (whole_events p a) (runs_on there c.run-ran.ensures)

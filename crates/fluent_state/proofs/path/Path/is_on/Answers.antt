@@ -13,4 +13,4 @@ returns c = λ table distinct all own.
     let bottom = ap (option_map (λ b. pattern_view b.now)) c.in-Some.is in
     c.is_above.ensures
     ∙ among_above table distinct (above_on path) all p c.args.class own
-    ∙ sym (is_later table _ (pattern_view c.in-Some.bottom.now) (above_on path) p c.eq.result bottom c.eq.ensures c.if-eq.false)
+    ∙ sym (is_later table _ (pattern_view c.in-Some.bottom.now) (above_on path) p c.is_like.result bottom c.is_like.ensures c.if-is_like.false)

@@ -2,7 +2,7 @@ use Rattle.std.proofs.Common.{◌≡◌, take, false}
 use Rattle.std.specs.List.{list_any}
 use Rattle.fluent_tree.specs.View.{pattern_view}
 use Rattle.fluent_state.specs.PathContents.{is_same}
-use Rattle.fluent_state.proofs.path.Path.is_above.Given as goal
+use Rattle.fluent_state.proofs.path.Path.is_among_mixed.Given as goal
 
 -- it is none of those before
 abbrev pub invariant-loop-above : goal.invariant-loop-above
