@@ -78,7 +78,7 @@ fn gives_row(
 
 /// Run with each allocation failing in turn.
 #[test]
-fn trees_of_any_parts_are_resolved(rt: HostRuntime) -> Result<(), AllocError> {
+fn trees_of_any_parts_are_resolved(rt: HostRuntime) -> Result<(), Fail> {
     let resource = read(rt.alloc(), SOURCE)?;
     let bundle = bundle_of(rt.alloc(), &[], &resource)?;
     let args = arguments(rt.alloc(), &[("n", "9")])?;
