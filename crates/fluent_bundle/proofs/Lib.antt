@@ -1,4 +1,3 @@
-pub mod Soles
 pub mod Events
 pub mod Formats
 pub mod Givings

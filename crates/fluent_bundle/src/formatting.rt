@@ -8,7 +8,7 @@ ghost use Rattle.fluent_text.specs.Writer.{CountsFault};
 ghost use Rattle.fluent_tree.specs.References.{references};
 ghost use Rattle.fluent_tree.specs.View.{pattern_view};
 ghost use Rattle.fluent_entries.specs.IdNumbers.{IsPlaced};
-ghost use Rattle.fluent_values.specs.Texts.{sole_text, is_text};
+ghost use Rattle.fluent_values.specs.Texts.{is_text};
 ghost use Rattle.fluent_bundle.specs.BundleView.{entries_in, transform_in};
 ghost use Rattle.fluent_bundle.specs.Inside.Outputs.{CountsHalt, PutsFree};
 ghost use Rattle.fluent_bundle.specs.Inside.Unchanged.{unchanged_text, untransformed_text};
@@ -21,9 +21,9 @@ use crate::says::Has;
 use crate::text_says::{Adds, Gives, Takes};
 use fluent_intl::MemoizerKind;
 use fluent_resolver::output::through;
-use fluent_resolver::texts::{is_text, put_texts};
+use fluent_resolver::texts::{is_text, only_text, put_texts};
 use fluent_resolver::{Cursor, State, write_whole};
-use fluent_syntax::ast::{Pattern, PatternElement};
+use fluent_syntax::ast::Pattern;
 use fluent_syntax::{Counting, WriteFault, put};
 use fluent_values::output::{Halt, Output, with_error};
 use fluent_values::types::{FluentType, FluentValue};
@@ -223,6 +223,25 @@ impl<
         if self.writes_texts_alone(pattern) {
             return put_texts(out, pattern);
         }
+        self.write_resolved(out, pattern, cursor, args, errors)
+    }
+
+    /// Writes the text of a pattern that has placeables, or texts that are changed.
+    #[inline(always)]
+    fn write_resolved<W: Write>(
+        &self,
+        out: &mut Output<W>,
+        pattern: &Pattern<'s>,
+        cursor: Cursor<'_>,
+        args: Option<&FluentArgs<'_, C>>,
+        errors: &mut Vec<FluentError>,
+    ) -> Result<(), Halt>
+        requires placed { IsPlaced (entries_in self.now) (references (pattern_view pattern.now)) cursor }
+        requires unkept { out.old.is_kept ≡ false }
+        ensures writes { ⟦<W as Takes<Self>>⟧.put self.now pattern.now args.entry result
+            out.old out.new errors.old errors.new }
+        ensures memory { PutsFree self.now (pattern_view pattern.now) out.old result }
+    {
         let mut state = State::new(self, &self.entries, args, Some(errors));
         let written = write_whole(&mut state, out, pattern, cursor);
         match state.into_errors() {
@@ -284,19 +303,5 @@ impl<
             is_kept: false,
         };
         self.write_out(&mut out, pattern, cursor, args, errors)
-    }
-}
-
-/// The text of a pattern that is one text.
-#[inline(always)]
-fn only_text<'p>(pattern: &Pattern<'p>) -> Option<&'p str>
-    ensures { option_map (λ t. t.now) result ≡ sole_text (pattern_view pattern.now) }
-{
-    match pattern.elements.as_slice() {
-        [element] => match element {
-            PatternElement::TextElement { value } => Some(*value),
-            PatternElement::Placeable { .. } => None,
-        },
-        _ => None,
     }
 }

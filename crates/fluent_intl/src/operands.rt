@@ -68,6 +68,10 @@ fn digits(fraction: u64, count: usize) -> u64
     requires { count ≤ 18 }
     ensures { result ≡ fraction / 10 ^ (18 - count) }
 {
+    // Most numbers are whole, and a power takes more than all else here.
+    if fraction == 0 {
+        return 0;
+    }
     fraction / 10u64.pow(18 - count as u32)
 }
 

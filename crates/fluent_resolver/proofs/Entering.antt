@@ -61,6 +61,10 @@ comes_in law x p k kept values b env budget path off =
     ∙ law b env (path ++ p ∷ []) p (is_none kept) next budget
     ∙ ap (λ l. after (entered (length l) ∷ []) (begins (elements_in k kept values p b env budget l path))) (inner_on path p)
 
+-- the same, said as a part
+pub goes_visited : ComesByItself Text → (x : Inline) (p : Pattern) (b : Bundle Text) (k : Following) (v : View) → is_on v.path p ≡ false → parts.go x p b k v ≡ parts.visited p b k v
+goes_visited law x p b k v off = comes_in law x p (λ m. k) v.kept v.values b v.environment v.budget v.path off
+
 -- Once it is entered its elements are ahead, and then the path is as it was.
 pub goes_into : {B E : Type 0} {r : Result (Unit {0}) E} {u : Unit {0}} {p : Pattern} {a b : Status B} (n : ℕ) (w : Sink) (x : Inline) (k : Bundle Text → Following) (kept : Option Text) (values : Values Text) → ComesByItself Text → is_on a.path p ≡ false → r ≡ Ok u → Enters r p a b
     → Along (parts.go x p a.bundle (k a.bundle) (record { kept = kept; budget = a.budget; environment = a.environment; path = a.path; values = values })) n

@@ -10,6 +10,7 @@ pub mod Braces
 pub mod Choosing
 pub mod Telling
 pub mod Falling
+pub mod Visiting
 pub mod Waiting
 pub mod Called
 pub mod Resolved

@@ -1,5 +1,5 @@
 -- What is ahead of a part of a pattern and of what follows it.
-use Rattle.std.specs.Prelude.{List, [], ◌∷◌, ◌++◌, Bool, true, false, is_none, Option, None, Some}
+use Rattle.std.specs.Prelude.{List, [], ◌∷◌, ◌++◌, length, Bool, true, false, is_none, Option, None, Some}
 use Rattle.fluent_tree.specs.Tree as t
 use Rattle.fluent_tree.specs.Tree.{Text, Pattern, Expression, Inline, Variants, Inlines, Nameds, argument, no_inlines, named_argument, no_nameds, Arguments}
 use Rattle.fluent_tree.specs.Fallback.{fallback_of}
@@ -7,7 +7,7 @@ use Rattle.fluent_meaning.specs.Ahead.{Rest, Next, Values, after, begins, ahead,
 use Rattle.fluent_meaning.specs.Arguments.{Map, get, set, set_all}
 use Rattle.fluent_meaning.specs.Bundle.{Bundle, Function, Target, function_found}
 use Rattle.fluent_meaning.specs.Errors.{Error, resolver_error, missing_default}
-use Rattle.fluent_meaning.specs.Events.{tells, writes}
+use Rattle.fluent_meaning.specs.Events.{entered, tells, writes}
 use Rattle.fluent_meaning.specs.Meaning.{Budget, ending, last_mark}
 use Rattle.fluent_meaning.specs.Value.{Value, text_value}
 use Rattle.fluent_meaning.specs.Walk as walk
@@ -92,6 +92,15 @@ follow x id target b k v = walk.follow (ahead Text) b (comes b) v.environment v.
 
 abbrev pub go : Inline → Pattern → Part
 go x p b k v = walk.go (ahead Text) b (comes b) v.environment (is_on v.path p) v.environment v.path x p (writes_now v) (text_then k v) v.budget
+
+-- a pattern that a reference leads to: it is entered, its elements are written, and it is left
+abbrev pub visited : Pattern → Part
+visited p b k v =
+    after (entered (length (v.path ++ p ∷ [])) ∷ []) (begins (elements (has_one p) p b (λ given u. k given (record u { path = v.path })) (record v { path = v.path ++ p ∷ [] })))
+
+-- a pattern that is one text
+abbrev pub text_alone : Text → Pattern
+text_alone x = t.more (t.text x) t.nothing
 
 -- the variant that a value goes to, or else the default
 abbrev pub matched : Variants → Value Text → Part

@@ -22,11 +22,9 @@ use Rattle.fluent_state.specs.Happened.{Did, Happened}
 use Rattle.fluent_state.specs.Status.{Status, reported}
 use Rattle.fluent_text.specs.declared.counting.Counting.{Counting}
 use Rattle.fluent_text.specs.declared.counting.WriteFault.{WriteFault}
-use Rattle.fluent_values.specs.Sinks.{Sink, outside, without_error, writer}
-use Rattle.fluent_values.specs.declared.output.Halt.{Halt}
+use Rattle.fluent_values.specs.Sinks.{Sink, without_error, writer}
 use Rattle.fluent_values.specs.View.{named}
 use Rattle.fluent_values.specs.declared.args.FluentArgs.{FluentArgs}
-use Rattle.fluent_values.specs.declared.output.Output.{Output}
 use Rattle.fluent_values.specs.declared.types.value.FluentValue.{FluentValue}
 use Rattle.fluent_resolver.specs.Changes.{Change}
 
@@ -55,11 +53,6 @@ given_ahead (Some a) s = called (ahead Text) s.bundle (comes s.bundle) s.environ
 abbrev pub Does : {T W B S : Type 0} → (Status B → List Event) → Result T WriteFault → (W → Option Text) → Change (Counting W) → (S → Status B) → Change S → Type 0
 Does events result contents w at s =
     Did (without_error result) (events (at s.entry.now)) (writer contents w.entry.now) (writer contents w.exit.now) (at s.entry.now) (at s.exit.now)
-
--- The same of an output that keeps no text.
-abbrev pub DoesOutside : {T W B S : Type 0} → (Status B → List Event) → Result T Halt → (W → Option Text) → Change (Output W) → (S → Status B) → Change S → Type 0
-DoesOutside events result contents out at s =
-    Did result (events (at s.entry.now)) (outside contents out.entry.now) (outside contents out.exit.now) (at s.entry.now) (at s.exit.now)
 
 -- Of what is ahead a prefix happened, nothing of it written, and where the answer is Ok all of it, with these values.
 pub record Gets {T E B : Type 0} (result : Result T E) (see : T → List (Value Text) × Map (Value Text)) (rest : Rest Text) (s s' : Status B) : Type 0 where

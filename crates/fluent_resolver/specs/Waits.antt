@@ -14,6 +14,7 @@ use Rattle.fluent_resolver.specs.declared.frame.Gathering.{Gathering}
 use Rattle.fluent_resolver.specs.declared.work.Rest.{Rest}
 use Rattle.fluent_resolver.specs.declared.work.Work.{Work}
 
+-- the frames and the values of what is left, if anything is
 abbrev pub frames_left : {C : Type 0} → Option (Box (Rest C)) → List (Frame C)
 frames_left None = []
 frames_left (Some rest) = rest.value.frames.items

@@ -69,7 +69,7 @@ pub(crate) struct Remaining<'p, 's> {
 }
 
 /// What the arguments of a call are for.
-#[derive(Clone, Copy, Drop)]
+#[derive(Drop)]
 pub(crate) enum Purpose<'p, 's> {
     /// A function's answer is written.
     Show {

@@ -17,13 +17,14 @@ ghost use Rattle.fluent_resolver.specs.Frames.{AreReady, Goes};
 use crate::arguments::begin_call;
 use crate::frame::Purpose;
 use crate::leaf::put_leaf;
-use crate::pattern::write_elements;
+use crate::pattern::{write_elements, write_only_text};
 use crate::work::Work;
 use fluent_links::Cursor;
 use fluent_state::fallback::{put_id_in_braces, put_in_braces};
 use fluent_state::laws::events_are_the_run;
 use fluent_state::locals::has_literals_alone;
 use fluent_state::lost::{lose, report_cycle, report_no_value};
+use fluent_state::texts::only_text;
 use fluent_state::{Environment, Found, Locals, State, Target, found};
 use fluent_tree::ast::{CallArguments, Identifier, InlineExpression};
 use fluent_values::output::{Halt, Output};
@@ -358,6 +359,9 @@ fn go<'p, 's, 'args, W: Write, C: FluentType, F: FluentFunction<C>, B: Context<C
         return put_in_braces(out, inline);
     }
     events_are_the_run();
+    if let Some(text) = only_text(target.pattern) {
+        return write_only_text(scope, out, text);
+    }
     scope.enter(target.pattern, target.class)?;
     write_elements(scope, out, work, levels, target.pattern, target.cursor)?;
     if work.is_done() {

@@ -8,7 +8,7 @@ ghost use Rattle.fluent_meaning.specs.Meaning.{limit_reached};
 ghost use Rattle.fluent_meaning.specs.Walk.{has_one};
 ghost use Rattle.fluent_entries.specs.IdNumbers.{IsPlaced};
 ghost use Rattle.fluent_entries.specs.Texts.{IsTextAlone};
-ghost use Rattle.fluent_state.specs.Status.{budget_view};
+ghost use Rattle.fluent_state.specs.Status.{budget_view, stored_in};
 ghost use Rattle.fluent_values.specs.Sinks.{GoesThrough};
 ghost use Rattle.fluent_resolver.specs.Parts as parts;
 ghost use Rattle.fluent_resolver.specs.Waits.{frames_in};
@@ -163,4 +163,22 @@ pub(crate) fn close<'p, 's, W: Write, C: FluentType, F: FluentFunction<C>, B: Co
 {
     put_ending(out, expression, scope.budget)?;
     put_last_mark(out, marked)
+}
+
+/// Writes a pattern of one text that a reference leads to and that isn't being written: it is entered and left at once.
+#[inline(always)]
+pub(crate) fn write_only_text<'p, 's, W: Write, C: FluentType, F: FluentFunction<C>, B: Context<C>>(
+    scope: &mut State<'_, 'p, '_, 's, '_, C, F, B>,
+    out: &mut Output<W>,
+    text: &str,
+) -> Result<(), Halt>
+    ensures goes { Passes B.meant B.is_plain F.answer C.content W.contents result
+        (parts.visited (parts.text_alone text.now)) scope out }
+    ensures stored { stored_in scope.new.ids.now ≡ stored_in scope.old.ids.now }
+{
+    scope.visit();
+    if scope.dirty() {
+        return Ok(());
+    }
+    put_changed(scope, out, text)
 }

@@ -22,8 +22,8 @@ use fluent_values::output::{Halt, Output};
 use fluent_values::{Context, FluentFunction, FluentType};
 use std::io::Write;
 
-/// Writes a pattern that was handed in, where none is being written: it stands on the path for its own placeables. Path and
-/// environment are left as they then are.
+/// Writes a pattern that was handed in, where none is being written: it stands on the path for its own placeables. Path,
+/// environment and what the output keeps are left as they then are.
 ///
 /// # Errors
 ///

@@ -151,8 +151,7 @@ impl<'p, 'args, 's, C: FluentType> Work<'p, 'args, 's, C> {
 
     /// Has work that was none. (What was there is taken apart, as dropping it whole asks more of `C` than is known.)
     fn put(&mut self, rest: Box<Rest<'p, 'args, 's, C>>)
-        ensures rest { self.new.rest ≡ Some rest.entry }
-        ensures alloc { self.new.alloc ≡ self.old.alloc }
+        ensures { self.new.rest ≡ Some rest.entry }
     {
         if let Some(old) = mem::replace(&mut self.rest, Some(rest)) {
             let Rest {

@@ -1,12 +1,11 @@
 -- Patterns on a path, compared by the numbers of their contents, or by these themselves where they have none.
 use Rattle.std.specs.Prelude.{◌&&◌, ◌||◌, not}
-use Rattle.std.proofs.Common.{◌≡◌, ◌≢◌, ◌⊎◌, inl, inr, refl, ap, sym, ◌∙◌, ℕ, suc, nat_eq, length, List, [], ◌∷◌, ◌++◌, map, Bool, true, false, cond, slice_get, Option, Some, None}
+use Rattle.std.proofs.Common.{◌≡◌, refl, ap, sym, ◌∙◌, ℕ, suc, nat_eq, length, List, [], ◌∷◌, ◌++◌, map, Bool, true, false, cond, slice_get, Option, Some, None}
 use Rattle.std.specs.Borrow.{Bor}
 use Rattle.std.specs.List.{list_any, list_all}
 use Rattle.std.proofs.lemmas.List.Folds.{list_all-append, list_any-append}
 use Rattle.std.specs.Option.{unwrap_or}
 use Rattle.std.proofs.lemmas.Bool.{false≢true, true≢false}
-use Rattle.std.proofs.lemmas.Bool.Decides.{eqb_tells}
 use Rattle.std.proofs.lemmas.List.{length-map}
 use Rattle.fluent_tree.specs.Tree.{Element, Pattern, is_yes, more, nothing, pattern_of, pattern_same}
 use Rattle.fluent_tree.specs.References.{references}
@@ -139,13 +138,9 @@ sized : (p : of_pattern.Pattern) → size (pattern_view p) ≡ length p.elements
 sized p = ap size (view_pattern p) ∙ size_of (map element_view p.elements.items) ∙ length-map p.elements.items element_view
 
 -- patterns that differ in length are none of one content
-pub unlike_lengths : (one other : of_pattern.Pattern) (m n : ℕ) → m ≡ length one.elements.items → n ≡ length other.elements.items → (m ≡ n → ⊥) → nat_eq m n ≡ is_yes (pattern_same (pattern_view one) (pattern_view other))
-unlike_lengths one other m n is are h = told (eqb_tells m n) ∙ by (pattern_same (pattern_view one) (pattern_view other))
+pub unlike_lengths : (one other : of_pattern.Pattern) (m n : ℕ) → m ≡ length one.elements.items → n ≡ length other.elements.items → (m ≡ n → ⊥) → false ≡ is_yes (pattern_same (pattern_view one) (pattern_view other))
+unlike_lengths one other m n is are h = by (pattern_same (pattern_view one) (pattern_view other))
   where
-    told : ((nat_eq m n ≡ true) × (m ≡ n)) ⊎ ((nat_eq m n ≡ false) × (m ≢ n)) → nat_eq m n ≡ false
-    told (inl t) = absurd (h t.1)
-    told (inr t) = t.0
-
     by : (same : Dec (pattern_view one ≡ pattern_view other)) → false ≡ is_yes same
     by (yes e) = absurd (h (is ∙ sym (sized one) ∙ ap size e ∙ sized other ∙ sym are))
     by (no n) = refl

@@ -3,4 +3,5 @@ pub mod Classed
 pub mod InTurn
 pub mod Kept
 pub mod LocalArguments
+pub mod Soles
 pub mod TextElements

@@ -4,7 +4,7 @@ use Rattle.std.specs.Borrow.{Bor}
 use Rattle.std.specs.List.{list_all}
 use Rattle.std.specs.Option.{option_map, option_to_list, unwrap_or}
 use Rattle.fluent_tree.specs.Tree as t
-use Rattle.fluent_tree.specs.Tree.{is_yes, nothing, pattern_same}
+use Rattle.fluent_tree.specs.Tree.{is_yes, more, nothing, pattern_same, placeable, text}
 use Rattle.fluent_tree.specs.References.{references}
 use Rattle.fluent_tree.specs.View.{pattern_view}
 use Rattle.fluent_tree.specs.declared.ast.Pattern as of_pattern
@@ -106,3 +106,9 @@ StayClassed p p' = (table : List t.Pattern) → AreClassed table (above_on p) �
 abbrev pub StayClassedWith : t.Pattern → Option ℕ → Path → Path → Type 0
 StayClassedWith q class p p' =
     (table : List t.Pattern) → IsClassOf table q class → AreClassed table (above_on p) → AreClassed table (above_on p')
+
+-- whether the first element of a pattern is a text
+abbrev pub begins_with_text : t.Pattern → Bool
+begins_with_text nothing = false
+begins_with_text (more (text t) p) = true
+begins_with_text (more (placeable e) p) = false

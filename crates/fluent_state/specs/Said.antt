@@ -19,7 +19,7 @@ use Rattle.fluent_entries.specs.declared.ids.Ids.{Ids}
 use Rattle.fluent_state.specs.ChosenView.{chosen, chosen_view}
 use Rattle.fluent_state.specs.Happened.{Did, answer_events, lost_events, variable_errors, variable_events}
 use Rattle.fluent_state.specs.Status.{Status, arguments_view, state, with_ids}
-use Rattle.fluent_state.specs.Steps.{Enters, IsAtStart, Leaves, ReportsIfOk, Rests, StartsPattern, TakesOne}
+use Rattle.fluent_state.specs.Steps.{Enters, IsAtStart, Leaves, ReportsIfOk, Rests, StartsPattern, TakesOne, Visits}
 use Rattle.fluent_state.specs.declared.state.State.{State}
 use Rattle.fluent_state.specs.declared.variants.Chosen.{Chosen}
 use Rattle.fluent_values.specs.View.{named, value_view}
@@ -112,6 +112,9 @@ module _ {C F B : Type 0} (meant : B → Bundle Text) (is_plain : B → Bool) (a
 
   abbrev pub enters : Pattern → Getting (Unit {0}) C F B
   enters p result s s' = Enters result (pattern_view p) (state meant is_plain answer content s) (state meant is_plain answer content s')
+
+  abbrev pub visits : Step C F B
+  visits s s' = Visits (state meant is_plain answer content s) (state meant is_plain answer content s')
 
   abbrev pub leaves : Bool → Step C F B
   leaves put s s' = Leaves put (state meant is_plain answer content s) (state meant is_plain answer content s')

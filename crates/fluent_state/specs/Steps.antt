@@ -74,6 +74,12 @@ pub record Enters {E B : Type 0} (result : Result (Unit {0}) E) (p : Pattern) (s
   pub still : OnErr result (s'.tally ≡ s.tally)
   pub elsewhere : Elsewhere s s'
 
+-- A pattern was entered, counted with the path that it ends, and left.
+pub record Visits {B : Type 0} (s s' : Status B) : Type 0 where
+  pub path : s'.path ≡ s.path
+  pub tally : s'.tally ≡ record { opened = s.tally.opened; longest = counted (max s.tally.longest (length s.path + 1)); entered = counted (s.tally.entered + 1) }
+  pub elsewhere : Elsewhere s s'
+
 -- the last pattern was taken off the path, if it was put there
 pub record Leaves {B : Type 0} (put : Bool) (s s' : Status B) : Type 0 where
   pub left : OnTrue put (s'.path ≡ front s.path)

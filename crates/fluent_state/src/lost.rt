@@ -1,7 +1,7 @@
 //! What can't be found: it is reported, and its fallback is written.
 #![tactic(auto, unfolding(crate::specs::Status::state_parts))]
 
-ghost use Rattle.std.specs.Prelude.{◌≡◌, ◌≢◌, ◌∷◌, [], Err, IsOk, None};
+ghost use Rattle.std.specs.Prelude.{◌≡◌, ◌≢◌, ◌∷◌, [], Err, IfNone, IsOk, None};
 ghost use Rattle.fluent_values.specs.Sinks.{GoesThrough};
 ghost use Rattle.fluent_tree.specs.View.{inline_view};
 ghost use Rattle.fluent_meaning.specs.Errors.{cyclic, missing_default, no_value, reference_of, resolver_error, too_many_placeables};
@@ -67,7 +67,8 @@ pub fn report_no_value<C: FluentType, F: FluentFunction<C>, B: Context<C>>(
 pub fn report_cycle<C: FluentType, F: FluentFunction<C>, B: Context<C>>(
     scope: &mut State<'_, '_, '_, '_, '_, C, F, B>,
 ) -> Result<(), AllocError>
-    ensures { ⟦<B as Sees<C, F>>⟧.reports (resolver_error cyclic ∷ []) result scope.old scope.new }
+    ensures added { ⟦<B as Sees<C, F>>⟧.reports (resolver_error cyclic ∷ []) result scope.old scope.new }
+    ensures succeeds { IfNone scope.old.errors (IsOk result) }
 {
     scope.add_error(ResolverError::Cyclic)
 }
@@ -78,7 +79,8 @@ pub fn report_cycle<C: FluentType, F: FluentFunction<C>, B: Context<C>>(
 pub fn report_no_default<C: FluentType, F: FluentFunction<C>, B: Context<C>>(
     scope: &mut State<'_, '_, '_, '_, '_, C, F, B>,
 ) -> Result<(), AllocError>
-    ensures { ⟦<B as Sees<C, F>>⟧.reports (resolver_error missing_default ∷ []) result scope.old scope.new }
+    ensures added { ⟦<B as Sees<C, F>>⟧.reports (resolver_error missing_default ∷ []) result scope.old scope.new }
+    ensures succeeds { IfNone scope.old.errors (IsOk result) }
 {
     scope.add_error(ResolverError::MissingDefault)
 }
@@ -89,7 +91,8 @@ pub fn report_no_default<C: FluentType, F: FluentFunction<C>, B: Context<C>>(
 pub fn report_limit<C: FluentType, F: FluentFunction<C>, B: Context<C>>(
     scope: &mut State<'_, '_, '_, '_, '_, C, F, B>,
 ) -> Result<(), AllocError>
-    ensures { ⟦<B as Sees<C, F>>⟧.reports (resolver_error too_many_placeables ∷ []) result scope.old scope.new }
+    ensures added { ⟦<B as Sees<C, F>>⟧.reports (resolver_error too_many_placeables ∷ []) result scope.old scope.new }
+    ensures succeeds { IfNone scope.old.errors (IsOk result) }
 {
     scope.add_error(ResolverError::TooManyPlaceables)
 }

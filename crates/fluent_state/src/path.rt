@@ -4,8 +4,9 @@
 ghost use Rattle.std.specs.Prelude.{◌≡◌};
 ghost use Rattle.fluent_tree.specs.Tree.{is_yes, pattern_same};
 ghost use Rattle.fluent_tree.specs.View.{pattern_view};
+ghost use Rattle.fluent_state.specs.PathContents.{begins_with_text};
 
-use fluent_tree::ast::Pattern;
+use fluent_tree::ast::{Pattern, PatternElement};
 use smallvec::SmallVec;
 use std::alloc::{AllocError, Global};
 
@@ -321,12 +322,29 @@ impl<'p, 's> Path<'p, 's> {
     }
 }
 
-/// Whether two patterns have one content. Of most that differ, the lengths do.
+/// Whether two patterns have one content. Of most that differ, the lengths do, or what they begin with.
 #[inline(always)]
 fn is_like<'s>(one: &Pattern<'s>, other: &Pattern<'s>) -> bool
     ensures { result ≡ is_yes (pattern_same (pattern_view one.now) (pattern_view other.now)) }
 {
-    one.elements.len() == other.elements.len() && is_equal(one, other)
+    if one.elements.len() != other.elements.len() {
+        return false;
+    }
+    if begins_with_text(one) != begins_with_text(other) {
+        return false;
+    }
+    is_equal(one, other)
+}
+
+/// Whether the first element of a pattern is a text.
+#[inline(always)]
+fn begins_with_text(pattern: &Pattern<'_>) -> bool
+    ensures { result ≡ begins_with_text (pattern_view pattern.now) }
+{
+    match pattern.elements.first() {
+        Some(PatternElement::TextElement { .. }) => true,
+        _ => false,
+    }
 }
 
 /// The same of two that have as many elements. It stands by itself, so that calls that differ by length cost little.

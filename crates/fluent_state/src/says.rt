@@ -97,6 +97,9 @@ pub(crate) trait Sees<C, F> {
     /// A pattern that a reference leads to is entered.
     ghost enters: { Pattern → Getting (Unit {0}) C F Self };
 
+    /// A pattern that a reference leads to is entered, and left at once.
+    ghost visits: { Step C F Self };
+
     /// It is left.
     ghost leaves: { Bool → Step C F Self };
 
@@ -123,6 +126,8 @@ impl<C: FluentType, F: FluentFunction<C>, B: Context<C>> Sees<C, F> for B {
     ghost starts = { said.starts B.meant B.is_plain F.answer C.content };
 
     ghost enters = { said.enters B.meant B.is_plain F.answer C.content };
+
+    ghost visits = { said.visits B.meant B.is_plain F.answer C.content };
 
     ghost leaves = { said.leaves B.meant B.is_plain F.answer C.content };
 

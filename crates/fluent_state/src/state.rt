@@ -199,6 +199,16 @@ impl<'errors, 'p, 'r, 's, 'args, C: FluentType, F: FluentFunction<C>, B: Context
         Ok(())
     }
 
+    /// Counts a pattern that a reference leads to, which is entered and left at once, as nothing stands on it.
+    #[inline(always)]
+    pub fn visit(&mut self)
+        ensures { ⟦<B as Sees<C, F>>⟧.visits self.old self.new }
+    {
+        let length = self.path.len().saturating_add(1);
+        self.counts.longest = self.counts.longest.max(length);
+        self.counts.entered = self.counts.entered.saturating_add(1);
+    }
+
     /// Takes the pattern off the path that `begin` or `enter` put there, where it did.
     #[inline(always)]
     pub fn leave(&mut self, put: bool)

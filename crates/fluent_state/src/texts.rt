@@ -2,9 +2,10 @@
 #![tactic(auto, unfolding(crate::specs::Status::state_parts))]
 
 ghost use Rattle.std.specs.Prelude.{◌≡◌, ◌≢◌, Err, IsTrue};
+ghost use Rattle.std.specs.Option.{option_map};
 ghost use Rattle.fluent_values.specs.Sinks.{GoesThrough};
 ghost use Rattle.fluent_tree.specs.View.{pattern_view};
-ghost use Rattle.fluent_entries.specs.Texts.{texts_of};
+ghost use Rattle.fluent_entries.specs.Texts.{sole_text, texts_of};
 
 use crate::says::Puts;
 use crate::state::State;
@@ -13,6 +14,20 @@ use fluent_tree::ast::{Pattern, PatternElement};
 use fluent_values::output::{Halt, Output, put_text};
 use fluent_values::{Context, FluentFunction, FluentType};
 use std::io::Write;
+
+/// The text of a pattern that is one text.
+#[inline(always)]
+pub fn only_text<'s>(pattern: &Pattern<'s>) -> Option<&'s str>
+    ensures { option_map (λ t. t.now) result ≡ sole_text (pattern_view pattern.now) }
+{
+    match pattern.elements.as_slice() {
+        [element] => match element {
+            PatternElement::TextElement { value } => Some(*value),
+            PatternElement::Placeable { .. } => None,
+        },
+        _ => None,
+    }
+}
 
 /// Writes the texts of a pattern as they stand, in order, and none of its placeables.
 pub fn put_texts<W: Write>(out: &mut Output<W>, pattern: &Pattern) -> Result<(), Halt>

@@ -58,12 +58,13 @@ use Rattle.fluent_state.specs.FoundView.{content_at, found_view}
 use Rattle.fluent_state.specs.Locals.{locals_view}
 use Rattle.fluent_state.specs.PathContents.{front}
 use Rattle.fluent_values.specs.Facts.Took.{at_ok}
-use Rattle.fluent_resolver.proofs.Entering.{enters_term, follow_found, follow_unknown, follow_without, go_cyclic, goes_into, looks_in, not_entered}
+use Rattle.fluent_resolver.proofs.Entering.{enters_term, follow_found, follow_unknown, follow_without, go_cyclic, goes_into, goes_visited, looks_in, not_entered}
 use Rattle.fluent_resolver.proofs.Terms.{term_alone, term_called, term_literals}
 use Rattle.fluent_resolver.proofs.Unbraced.{written_function, written_message, written_term}
 use Rattle.fluent_entries.specs.Texts.{IsTextAlone}
 use Rattle.fluent_meaning.specs.Meaning.{limit_reached}
 use Rattle.fluent_values.specs.Facts.Outputs.{stays_through}
+use Rattle.fluent_resolver.proofs.Visiting.{sole_is}
 use Rattle.fluent_resolver.proofs.Elements.{from_end, from_next, never_text, none_at_end, none_at_limit, placeable_first, text_first}
 use Rattle.fluent_resolver.specs.Parts as parts
 use Rattle.fluent_resolver.specs.declared.frame.Frame.TheVariants as put_off
@@ -905,7 +906,7 @@ expression::write_chosen-returns-in_err-report_no_default-in-None-clause-goes g 
     let work = c.args.work.now in
     let values = values_view content (values_in work) in
     let v = viewed out a values in
-    lacks (search rules) (tells_none c.in_err-report_no_default-in-None.was c.report_no_default.ensures (begun _ n _ a))
+    lacks (search rules) (tells_none c.in_err-report_no_default-in-None.was c.report_no_default.ensures.added (begun _ n _ a))
 
 pub expression::write_chosen-returns-in_ok-report_no_default-in-None-clause-goes : goal.expression::write_chosen-returns-in_ok-report_no_default-in-None-clause-goes
 unfolding state_parts
@@ -919,7 +920,7 @@ expression::write_chosen-returns-in_ok-report_no_default-in-None-clause-goes g t
     let v = viewed out a values in
     let b = state g.B.Context.meant g.B.Context.is_plain g.F.FluentFunction.answer content c.report_no_default.new.scope in
     let way = turns (ap (λ o. parts.chosen (chosen_view o) a.bundle (k a.bundle) v) c.in-None.is ∙ ap (after (tells (resolver_error missing_default ∷ []))) (puts_nothing (k a.bundle) v)) (begun _ n (outside contents out) a) in
-    all_done content b.bundle (frames_in work) (k b.bundle) (λ x. None) (viewed out b values) refl c.requires.nothing (tells_first (λ b env path budget. k b None (record { kept = kept_of out; budget = budget; environment = env; path = path; values = values })) c.in_ok-report_no_default-in-None.was c.report_no_default.ensures way)
+    all_done content b.bundle (frames_in work) (k b.bundle) (λ x. None) (viewed out b values) refl c.requires.nothing (tells_first (λ b env path budget. k b None (record { kept = kept_of out; budget = budget; environment = env; path = path; values = values })) c.in_ok-report_no_default-in-None.was c.report_no_default.ensures.added way)
 
 pub expression::write_expression-returns-then-levels-eq0-clause-goes : goal.expression::write_expression-returns-then-levels-eq0-clause-goes
 unfolding state_parts
@@ -1171,7 +1172,7 @@ inline_expression::go-returns-in_err-report_cycle-clause-goes g t c = λ k n.
     let x = inline_view c.args.inline.now in
     let p = pattern_view c.args.target.pattern.now in
     let way = turns (go_cyclic x p a.bundle (k a.bundle) v (sym c.is_on.ensures ∙ c.if-is_on.true)) (begun _ n (outside contents out) a) in
-    lacks (search rules) (tells_none c.in_err-report_cycle.was c.report_cycle.ensures way)
+    lacks (search rules) (tells_none c.in_err-report_cycle.was c.report_cycle.ensures.added way)
 
 pub inline_expression::go-returns-then-is_on-clause-goes : goal.inline_expression::go-returns-then-is_on-clause-goes
 unfolding state_parts
@@ -1189,8 +1190,25 @@ inline_expression::go-returns-then-is_on-clause-goes g t c = λ k n.
     let b = state g.B.Context.meant g.B.Context.is_plain g.F.FluentFunction.answer content c.report_cycle.new.scope in
     let last = c.put_in_braces.new.out in
     none_waits content b.bundle (frames_in work) (k b.bundle) (λ u. None) (viewed last b values) c.requires.nothing
-    (laid_last _ (λ u. ap (λ m. k m None (viewed last b values)) (sym c.report_cycle.ensures.stays.bundle))
-    (laid contents out last a b values a.bundle (k a.bundle) (resolver_error cyclic ∷ []) (in_braces (fallback x)) (did_tell_and_put c.in_ok-report_cycle.was c.report_cycle.ensures c.put_in_braces.ensures.took) way))
+    (laid_last _ (λ u. ap (λ m. k m None (viewed last b values)) (sym c.report_cycle.ensures.added.stays.bundle))
+    (laid contents out last a b values a.bundle (k a.bundle) (resolver_error cyclic ∷ []) (in_braces (fallback x)) (did_tell_and_put c.in_ok-report_cycle.was c.report_cycle.ensures.added c.put_in_braces.ensures.took) way))
+
+pub inline_expression::go-returns-in-Some-clause-goes : goal.inline_expression::go-returns-in-Some-clause-goes
+unfolding state_parts
+inline_expression::go-returns-in-Some-clause-goes g t c = λ k n.
+    let content = g.C.FluentType.content in
+    let contents = g.W.Write.contents in
+    let a = state g.B.Context.meant g.B.Context.is_plain g.F.FluentFunction.answer content c.args.scope.now in
+    let out = c.args.out.now in
+    let work = c.args.work.now in
+    let values = values_view content (values_in work) in
+    let v = viewed out a values in
+    let x = inline_view c.args.inline.now in
+    let p = pattern_view c.args.target.pattern.now in
+    let d = state g.B.Context.meant g.B.Context.is_plain g.F.FluentFunction.answer content c.write_only_text.new.scope in
+    let is = sole_is p c.in-Some.text.now (sym c.only_text.ensures ∙ ap (option_map (λ t. t.now)) c.in-Some.is) in
+    let way = turns (goes_visited c.events_are_the_run.ensures.by_itself x p a.bundle (k a.bundle) v (sym c.is_on.ensures ∙ c.if-is_on.false) ∙ ap (λ q. parts.visited q a.bundle (k a.bundle) v) is) (begun _ n (outside contents out) a) in
+    none_waits content d.bundle (frames_in work) (k d.bundle) (λ u. None) (viewed c.write_only_text.new.out d values) c.requires.nothing (went_on way (c.write_only_text.ensures.goes k values n))
 
 pub inline_expression::go-returns-in_err-enter-clause-goes : goal.inline_expression::go-returns-in_err-enter-clause-goes
 unfolding state_parts
@@ -1700,7 +1718,7 @@ pattern::write_placeable-returns-in_err-report_limit-clause-goes g t c = λ k n.
     let past = happened_limit (outside contents out) c.take_one.ensures.opens c.if-not-take_one.true c.take_one.ensures.takes in
     let at : At = λ x env path budget. k x None (record { kept = kept_of out; budget = budget; environment = env; path = path; values = values }) in
     let way = turns (ap (after (told (resolver_error too_many_placeables) ∷ [])) (taken_same at limit_reached past.budget c.take_one.ensures.takes)) (passes past (turns (stops_part c.args.one e a.bundle (k a.bundle) v (sym c.take_one.ensures.opens ∙ c.if-not-take_one.true) c.requires.left) (begun _ n (outside contents out) a))) in
-    lacks (search rules) (tells_none c.in_err-report_limit.was c.report_limit.ensures way)
+    lacks (search rules) (tells_none c.in_err-report_limit.was c.report_limit.ensures.added way)
 
 pub pattern::write_placeable-returns-then-not-take_one-clause-goes : goal.pattern::write_placeable-returns-then-not-take_one-clause-goes
 unfolding state_parts
@@ -1717,7 +1735,7 @@ pattern::write_placeable-returns-then-not-take_one-clause-goes g t c = λ k n.
     let at : At = λ x env path budget. k x None (record { kept = kept_of out; budget = budget; environment = env; path = path; values = values }) in
     let way = turns (ap (after (told (resolver_error too_many_placeables) ∷ [])) (taken_same at limit_reached past.budget c.take_one.ensures.takes)) (passes past (turns (stops_part c.args.one e a.bundle (k a.bundle) v (sym c.take_one.ensures.opens ∙ c.if-not-take_one.true) c.requires.left) (begun _ n (outside contents out) a))) in
     let b2 = state g.B.Context.meant g.B.Context.is_plain g.F.FluentFunction.answer content c.report_limit.new.scope in
-    all_done {x = tt} content b2.bundle (frames_in c.args.work.now) (k b2.bundle) (λ x. None) (viewed out b2 values) (search rules) c.requires.nothing (tells_first at c.in_ok-report_limit.was c.report_limit.ensures way)
+    all_done {x = tt} content b2.bundle (frames_in c.args.work.now) (k b2.bundle) (λ x. None) (viewed out b2 values) (search rules) c.requires.nothing (tells_first at c.in_ok-report_limit.was c.report_limit.ensures.added way)
 
 pub pattern::write_placeable-returns-in_err-put_first_mark-clause-goes : goal.pattern::write_placeable-returns-in_err-put_first_mark-clause-goes
 unfolding state_parts

@@ -1,14 +1,12 @@
-use Rattle.std.proofs.Common.{rules, ◌≡◌, ap, sym, subst, ◌∙◌}
+use Rattle.std.proofs.Common.{◌≡◌, ap, sym, ◌∙◌}
 use Rattle.std.specs.Option.{option_map}
-use Rattle.fluent_tree.specs.References.{references}
 use Rattle.fluent_tree.specs.Tree.{Text}
 use Rattle.fluent_tree.specs.View.{pattern_view}
 use Rattle.fluent_meaning.specs.Bundle.{transform_of}
-use Rattle.fluent_entries.specs.IdNumbers.{IsPlaced}
-use Rattle.fluent_bundle.specs.BundleView.{bundle_parts, is_plain, meant, transform_in}
-use Rattle.fluent_resolver.specs.Status.{arguments_view, reported, state, state_parts}
+use Rattle.fluent_bundle.specs.BundleView.{meant, transform_in}
+use Rattle.fluent_resolver.specs.Status.{arguments_view}
 use Rattle.fluent_bundle.proofs.Events.{texts_events}
-use Rattle.fluent_bundle.proofs.Formats.{fresh, never_none, took_outside, writes_of, writes_text}
+use Rattle.fluent_bundle.proofs.Formats.{took_outside, writes_text}
 use Rattle.fluent_bundle.proofs.Givings.{texts_where}
 use Rattle.fluent_bundle.proofs.bundle.FluentBundle.write_out.Goals as goal
 
@@ -22,29 +20,3 @@ returns-then-writes_texts_alone-clause-writes g c =
     let plain : (u : Text) → b.transform u ≡ u = λ u. ap (λ o. transform_of (option_map g.T.Transform.changed o) u) here.0 in
     writes_text c.args.errors.now.items (texts_events b env p plain here.1)
     (took_outside g.W.Write.contents c.args.out.now c.put_texts.new.out c.requires.unkept c.put_texts.ensures.took)
-
-pub returns-in-Some-clause-writes : goal.returns-in-Some-clause-writes
-unfolding bundle_parts state_parts
-returns-in-Some-clause-writes g c =
-    let of = meant g.M.MemoizerKind.category g.C.FluentType.shown g.C.FluentType.alike g.F.FluentFunction.answer g.G.FluentFormatter.formatted g.T.Transform.changed in
-    let a = state of is_plain g.F.FluentFunction.answer g.C.FluentType.content c.new-state.result in
-    let z = state of is_plain g.F.FluentFunction.answer g.C.FluentType.content c.write_whole-written.new.scope in
-    let held = ap (option_map (λ e. reported e.now.items)) (sym c.into_errors.ensures ∙ c.in-Some.is) in
-    writes_of {b = z} c.write_whole-written.ensures.did
-    (fresh a (of c.args.self.now) (arguments_view g.C.FluentType.content c.args.args) (pattern_view c.args.pattern.now) c.new-state.ensures.begins)
-    (search (rules, c.new-state.ensures.errors))
-    (search (rules, held))
-
-pub returns-in-None-clause-writes : goal.returns-in-None-clause-writes
-unfolding state_parts
-returns-in-None-clause-writes g c =
-    let kept = c.write_whole-written.ensures.did.happened.stays.list in
-    absurd (never_none (λ e. e.ghost_name) (state_parts c.write_whole-written.new.scope).errors _ (sym c.into_errors.ensures ∙ c.in-None.is) (kept ∙ ap (option_map (λ e. e.ghost_name)) c.new-state.ensures.errors))
-
-pub write_whole-written-requires : goal.write_whole-written-requires
-unfolding bundle_parts state_parts
-write_whole-written-requires g c = record {
-  idle = c.new-state.ensures.idle;
-  kept = c.requires.unkept;
-  placed = subst (λ m. IsPlaced m (references (pattern_view c.args.pattern.now)) c.args.cursor) (sym c.new-state.ensures.ids) c.requires.placed;
-}

@@ -1,14 +1,9 @@
 -- Patterns of one text.
-use Rattle.std.proofs.Common.{◌≡◌, refl, List, [], ◌∷◌, length, map, None, rules}
+use Rattle.std.proofs.Common.{◌≡◌, refl, List, [], ◌∷◌, length, map, None}
 use Rattle.fluent_tree.specs.Tree.{Element, text, placeable, more, pattern_of}
-use Rattle.fluent_tree.specs.View.{element_view, pattern_view}
-use Rattle.fluent_tree.specs.declared.ast.Pattern as of_pattern
+use Rattle.fluent_tree.specs.View.{element_view}
 use Rattle.fluent_tree.specs.declared.ast.PatternElement.{PatternElement}
-use Rattle.fluent_values.specs.Texts.{sole_text}
-
--- the content of a pattern, from its elements
-pub view_pattern : (p : of_pattern.Pattern) → pattern_view p ≡ pattern_of (map element_view p.elements.items)
-view_pattern p = search (rules, of_pattern.the_lemmas)
+use Rattle.fluent_entries.specs.Texts.{sole_text}
 
 pub sole_none : (es : List PatternElement) → (length es ≡ 1 → ⊥) → sole_text (pattern_of (map element_view es)) ≡ None
 sole_none [] h = refl

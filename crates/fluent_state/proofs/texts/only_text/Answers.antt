@@ -1,8 +1,9 @@
 use Rattle.std.proofs.Common.{◌≡◌, sym, ap, ◌∙◌, length, rules}
-use Rattle.fluent_values.specs.Texts.{sole_text}
-use Rattle.fluent_bundle.proofs.Soles.{sole_none, view_pattern}
-use Rattle.fluent_bundle.proofs.formatting.only_text.Goals.{in_default-via-then-as_slice-lt1, in_default-via-else-as_slice-lt1+else-this-lt2}
-use Rattle.fluent_bundle.proofs.formatting.only_text.Goals as goal
+use Rattle.fluent_entries.specs.Texts.{sole_text}
+use Rattle.fluent_state.specs.Facts.Views.{view_pattern}
+use Rattle.fluent_state.proofs.Soles.{sole_none}
+use Rattle.fluent_state.proofs.texts.only_text.Goals.{in_default-via-then-as_slice-lt1, in_default-via-else-as_slice-lt1+else-this-lt2}
+use Rattle.fluent_state.proofs.texts.only_text.Goals as goal
 
 pub returns-in_default : goal.returns-in_default
 returns-in_default c =
