@@ -238,9 +238,8 @@ impl<
     ) -> Result<(), Halt>
         requires placed { IsPlaced (entries_in self.now) (references (pattern_view pattern.now)) cursor }
         requires unkept { out.old.is_kept ≡ false }
-        ensures writes { ⟦<W as Takes<Self>>⟧.put self.now pattern.now args.entry result
+        ensures { ⟦<W as Takes<Self>>⟧.put self.now pattern.now args.entry result
             out.old out.new errors.old errors.new }
-        ensures memory { PutsFree self.now (pattern_view pattern.now) out.old result }
     {
         let mut state = State::new(self, &self.entries, args, Some(errors));
         let written = write_whole(&mut state, out, pattern, cursor);

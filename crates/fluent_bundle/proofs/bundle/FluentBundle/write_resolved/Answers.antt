@@ -8,9 +8,9 @@ use Rattle.fluent_resolver.specs.Status.{arguments_view, reported, state, state_
 use Rattle.fluent_bundle.proofs.Formats.{fresh, never_none, writes_of}
 use Rattle.fluent_bundle.proofs.bundle.FluentBundle.write_resolved.Goals as goal
 
-pub returns-in-Some-clause-writes : goal.returns-in-Some-clause-writes
+pub returns-in-Some : goal.returns-in-Some
 unfolding bundle_parts state_parts
-returns-in-Some-clause-writes g c =
+returns-in-Some g c =
     let of = meant g.M.MemoizerKind.category g.C.FluentType.shown g.C.FluentType.alike g.F.FluentFunction.answer g.G.FluentFormatter.formatted g.T.Transform.changed in
     let a = state of is_plain g.F.FluentFunction.answer g.C.FluentType.content c.new-state.result in
     let z = state of is_plain g.F.FluentFunction.answer g.C.FluentType.content c.write_whole-written.new.scope in
@@ -20,9 +20,9 @@ returns-in-Some-clause-writes g c =
     (search (rules, c.new-state.ensures.errors))
     (search (rules, held))
 
-pub returns-in-None-clause-writes : goal.returns-in-None-clause-writes
+pub returns-in-None : goal.returns-in-None
 unfolding state_parts
-returns-in-None-clause-writes g c =
+returns-in-None g c =
     let kept = c.write_whole-written.ensures.did.happened.stays.list in
     absurd (never_none (λ e. e.ghost_name) (state_parts c.write_whole-written.new.scope).errors _ (sym c.into_errors.ensures ∙ c.in-None.is) (kept ∙ ap (option_map (λ e. e.ghost_name)) c.new-state.ensures.errors))
 
