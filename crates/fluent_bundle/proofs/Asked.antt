@@ -1,26 +1,28 @@
 -- What is asked for by id.
 use Rattle.std.proofs.Common.{◌≡◌, ◌∙◌, refl, ap, subst, Option, Some, None, List, [], ◌∷◌, Bool, true, false, Result, Ok, Err, Global}
-use Rattle.std.specs.Prelude.{if◌then◌else◌}
+use Rattle.std.specs.Prelude.{◌≤◌, if◌then◌else◌, OnOk}
 use Rattle.std.specs.Option.{option_map, option_and_then}
 use Rattle.std.specs.declared.borrow.CowStr.{CowStr}
 use Rattle.std.specs.declared.borrow.CowStr.TheVariants.{Borrowed, Owned}
 use Rattle.std.specs.declared.alloc.AllocError.{AllocError}
 use Rattle.fluent_text.specs.Unescaped.{Borrows}
+use Rattle.fluent_text.specs.Writer.{writer_in}
 use Rattle.fluent_text.specs.declared.counting.Counting.{Counting}
 use Rattle.fluent_text.specs.declared.counting.WriteFault.{WriteFault}
 use Rattle.fluent_text.specs.declared.counting.WriteFault.TheVariants as fault
 use Rattle.fluent_tree.specs.Tree.{Text, Pattern, Attributes, Attribute, no_attribute, attribute}
-use Rattle.fluent_meaning.specs.Arguments.{get}
+use Rattle.fluent_meaning.specs.Arguments.{Map, get}
 use Rattle.fluent_meaning.specs.Bundle.{Bundle, Entry, a_message, a_term, a_function, number_builtin, Target, unknown, without_value, found, first_of, message_target}
 use Rattle.fluent_meaning.specs.Errors.{Error}
 use Rattle.fluent_meaning.specs.Number.{is_text}
+use Rattle.fluent_meaning.specs.Result.{formatted, written_pattern, substituted_pattern}
+use Rattle.fluent_meaning.specs.Value.{Value}
 use Rattle.fluent_values.specs.EntryView.{message_content}
 use Rattle.fluent_values.specs.MessageView.{first_named}
-use Rattle.fluent_bundle.specs.ById.{GivesAsked, GivesSome, BorrowsAsked, BorrowsSome, TakesNoMemory, WritesAsked}
-use Rattle.fluent_bundle.specs.Formatted.{GivesText}
+use Rattle.fluent_bundle.specs.Formatted.{AddsPrefix, BorrowsAsked, BorrowsSome, Errors, GivesAsked, GivesSome, GivesText, TakesNoMemory, WritesAll, WritesAsked, WritesPrefix, written_events}
+use Rattle.fluent_bundle.specs.Limits.{KeepsLimit}
 use Rattle.fluent_bundle.specs.PatternsWithoutMemory.{BorrowsText, WritesFree}
 use Rattle.fluent_bundle.specs.Inside.Asked.{pattern_at}
-use Rattle.fluent_bundle.specs.Under.{AddsBeginning, Errors, GivesWhole, GivesWithin, IsLimited, Under, WritesBeginning, WritesWhole, WritesWithin}
 use Rattle.fluent_bundle.specs.declared.bundle.FluentBundle.{FluentBundle}
 use Rattle.fluent_bundle.proofs.Formats.{substituted_of}
 use Rattle.fluent_bundle.proofs.Givings.{gives_within}
@@ -61,6 +63,12 @@ asked b id (attribute name) t is = ap pattern_in is ∙ in_attribute name (get i
 
 -- ---- given
 
+abbrev GivenWithin : {E : Type 0} → Bundle Text → Map (Value Text) → Pattern → Result (CowStr Global) E → Errors → Errors → Type 0
+GivenWithin b args p result old new = let means = substituted_pattern b args p in means.opened ≤ b.limit → GivesText (formatted b means.value) means.errors result old.items new.items
+
+abbrev Given : {E : Type 0} → Bundle Text → Map (Value Text) → Pattern → Result (CowStr Global) E → Errors → Errors → Type 0
+Given b args p result old new = let means = written_pattern b args p in GivesText (formatted b means.value) means.errors result old.items new.items
+
 gives_some : {D E : Type 0} {all : Text} {wrong : List Error} {text : CowStr Global} {old new : Errors} → GivesText {E = D} all wrong (Ok text) old.items new.items → GivesSome {E = E} all wrong (Ok (Some text)) old new
 gives_some h = record { text = ap (λ t. Some t) h.text; adds = h.adds }
 
@@ -68,19 +76,19 @@ gives_none : {E : Type 0} {all : Text} {wrong : List Error} {e : E} {old new : E
 gives_none = record { text = tt; adds = tt }
 
 -- the text of a pattern that is there
-pub gives_asked : {E : Type 0} {asked : Option Pattern} (u : Under) (p : Pattern) (text : CowStr Global) (old new : Errors) → Some p ≡ asked
-    → IsLimited u p → GivesWhole {E = E} u p (Ok text) old new → AddsBeginning u p old new → GivesAsked {E = E} u asked (Ok (Some text)) old new
-gives_asked {E = E} u p text old new is keeps whole prefix =
-    let within : GivesWithin {E = E} u p (Ok text) old new = gives_within u.bundle u.args p (Ok text) old.items new.items keeps whole in
-    subst (λ o. GivesAsked {E = E} u o (Ok (Some text)) old new) is (record { nothing = tt; within = λ few. gives_some (within few); whole = gives_some whole; prefix = prefix })
+pub gives_asked : {E : Type 0} {asked : Option Pattern} (b : Bundle Text) (args : Map (Value Text)) (p : Pattern) (text : CowStr Global) (old new : Errors) → Some p ≡ asked
+    → KeepsLimit b args p → Given {E = E} b args p (Ok text) old new → AddsPrefix (written_pattern b args p).errors old.items new.items → GivesAsked {E = E} b args asked (Ok (Some text)) old new
+gives_asked {E = E} b args p text old new is keeps whole prefix =
+    let within : GivenWithin {E = E} b args p (Ok text) old new = gives_within b args p (Ok text) old.items new.items keeps whole in
+    subst (λ o. GivesAsked {E = E} b args o (Ok (Some text)) old new) is (record { nothing = tt; within = λ few. gives_some (within few); whole = gives_some whole; prefix = prefix })
 
-pub gives_refused : {E : Type 0} {asked : Option Pattern} (u : Under) (p : Pattern) (e : E) (old new : Errors) → Some p ≡ asked
-    → AddsBeginning u p old new → GivesAsked u asked (Err e) old new
-gives_refused u p e old new is prefix =
-    subst (λ o. GivesAsked u o (Err e) old new) is (record { nothing = tt; within = λ few. gives_none; whole = gives_none; prefix = prefix })
+pub gives_refused : {E : Type 0} {asked : Option Pattern} (b : Bundle Text) (args : Map (Value Text)) (p : Pattern) (e : E) (old new : Errors) → Some p ≡ asked
+    → AddsPrefix (written_pattern b args p).errors old.items new.items → GivesAsked b args asked (Err e) old new
+gives_refused b args p e old new is prefix =
+    subst (λ o. GivesAsked b args o (Err e) old new) is (record { nothing = tt; within = λ few. gives_none; whole = gives_none; prefix = prefix })
 
-pub gives_nothing : {E : Type 0} {asked : Option Pattern} (u : Under) (old : Errors) → None ≡ asked → GivesAsked {E = E} u asked (Ok None) old old
-gives_nothing {E = E} u old is = subst (λ o. GivesAsked {E = E} u o (Ok None) old old) is (record { nothing = (refl, refl); within = tt; whole = tt; prefix = tt })
+pub gives_nothing : {E : Type 0} {asked : Option Pattern} (b : Bundle Text) (args : Map (Value Text)) (old : Errors) → None ≡ asked → GivesAsked {E = E} b args asked (Ok None) old old
+gives_nothing {E = E} b args old is = subst (λ o. GivesAsked {E = E} b args o (Ok None) old old) is (record { nothing = (refl, refl); within = tt; whole = tt; prefix = tt })
 
 -- it is borrowed
 borrows_some : (text : CowStr Global) (t : Text) → Borrows (Ok text) t → BorrowsSome (Ok (Some text)) t
@@ -99,21 +107,30 @@ module _ {M C F G X : Type 0} (b : FluentBundle M C F G X) where
 
 -- ---- written
 
+abbrev TakenWithin : {W T E : Type 0} → Bundle Text → Map (Value Text) → Pattern → Result T E → (W → Option Text) → Counting W → Counting W → Errors → Errors → Type 0
+TakenWithin b args p result contents w w' old new = let means = substituted_pattern b args p in means.opened ≤ b.limit → OnOk result (WritesAll means.value means.errors (contents (writer_in w)) (contents (writer_in w')) old.items new.items)
+
+abbrev Taken : {W T E : Type 0} → Bundle Text → Map (Value Text) → Pattern → Result T E → (W → Option Text) → Counting W → Counting W → Errors → Errors → Type 0
+Taken b args p result contents w w' old new = let means = written_pattern b args p in OnOk result (WritesAll means.value means.errors (contents (writer_in w)) (contents (writer_in w')) old.items new.items)
+
+abbrev TakenBeginning : {W : Type 0} → Bundle Text → Map (Value Text) → Pattern → (W → Option Text) → Counting W → Counting W → Errors → Errors → Type 0
+TakenBeginning b args p contents w w' old new = WritesPrefix (written_events b args p) (contents (writer_in w)) (contents (writer_in w')) old.items new.items
+
 -- the text of a pattern that is there
-pub writes_asked : {W E : Type 0} {asked : Option Pattern} (u : Under) (p : Pattern) (contents : W → Option Text) (w w' : Counting W) (old new : Errors) → Some p ≡ asked
-    → IsLimited u p → WritesWhole {T = Unit {0}} {E = E} u p (Ok tt) contents w w' old new → WritesBeginning u p contents w w' old new → WritesAsked {E = E} u asked (Ok true) contents w w' old new
-writes_asked {E = E} u p contents w w' old new is keeps whole prefix =
-    let within : WritesWithin {T = Unit {0}} {E = E} u p (Ok tt) contents w w' old new = substituted_of {T = Unit {0}} {E = E} (Ok tt) _ _ old.items new.items u.bundle u.args p keeps whole in
-    subst (λ o. WritesAsked {E = E} u o (Ok true) contents w w' old new) is (record { there = refl; nothing = tt; within = within; whole = whole; prefix = prefix })
+pub writes_asked : {W E : Type 0} {asked : Option Pattern} (b : Bundle Text) (args : Map (Value Text)) (p : Pattern) (contents : W → Option Text) (w w' : Counting W) (old new : Errors) → Some p ≡ asked
+    → KeepsLimit b args p → Taken {T = Unit {0}} {E = E} b args p (Ok tt) contents w w' old new → TakenBeginning b args p contents w w' old new → WritesAsked {E = E} b args asked (Ok true) contents w w' old new
+writes_asked {E = E} b args p contents w w' old new is keeps whole prefix =
+    let within : TakenWithin {T = Unit {0}} {E = E} b args p (Ok tt) contents w w' old new = substituted_of {T = Unit {0}} {E = E} (Ok tt) _ _ old.items new.items b args p keeps whole in
+    subst (λ o. WritesAsked {E = E} b args o (Ok true) contents w w' old new) is (record { there = refl; nothing = tt; within = within; whole = whole; prefix = prefix })
 
-pub writes_refused : {W E : Type 0} {asked : Option Pattern} (u : Under) (p : Pattern) (e : E) (contents : W → Option Text) (w w' : Counting W) (old new : Errors) → Some p ≡ asked
-    → WritesBeginning u p contents w w' old new → WritesAsked u asked (Err e) contents w w' old new
-writes_refused u p e contents w w' old new is prefix =
-    subst (λ o. WritesAsked u o (Err e) contents w w' old new) is (record { there = tt; nothing = tt; within = λ few. tt; whole = tt; prefix = prefix })
+pub writes_refused : {W E : Type 0} {asked : Option Pattern} (b : Bundle Text) (args : Map (Value Text)) (p : Pattern) (e : E) (contents : W → Option Text) (w w' : Counting W) (old new : Errors) → Some p ≡ asked
+    → TakenBeginning b args p contents w w' old new → WritesAsked b args asked (Err e) contents w w' old new
+writes_refused b args p e contents w w' old new is prefix =
+    subst (λ o. WritesAsked b args o (Err e) contents w w' old new) is (record { there = tt; nothing = tt; within = λ few. tt; whole = tt; prefix = prefix })
 
-pub writes_nothing : {W E : Type 0} {asked : Option Pattern} (u : Under) (contents : W → Option Text) (w : Counting W) (old : Errors) → None ≡ asked → WritesAsked {E = E} u asked (Ok false) contents w w old old
-writes_nothing {E = E} u contents w old is =
-    subst (λ o. WritesAsked {E = E} u o (Ok false) contents w w old old) is (record { there = refl; nothing = (refl, refl, refl); within = tt; whole = tt; prefix = tt })
+pub writes_nothing : {W E : Type 0} {asked : Option Pattern} (b : Bundle Text) (args : Map (Value Text)) (contents : W → Option Text) (w : Counting W) (old : Errors) → None ≡ asked → WritesAsked {E = E} b args asked (Ok false) contents w w old old
+writes_nothing {E = E} b args contents w old is =
+    subst (λ o. WritesAsked {E = E} b args o (Ok false) contents w w old old) is (record { there = refl; nothing = (refl, refl, refl); within = tt; whole = tt; prefix = tt })
 
 -- it takes no memory
 module _ {M C F G X : Type 0} (b : FluentBundle M C F G X) where

@@ -12,7 +12,7 @@ use Rattle.fluent_meaning.specs.Value.{Value}
 use Rattle.fluent_meaning.specs.Walk.{Environment, application, elements, has_one, inner}
 use Rattle.fluent_values.specs.Texts.{sole_text, is_text, texts_of}
 use Rattle.fluent_bundle.specs.Facts.Events.{errors_on, text_on, writes_on}
-use Rattle.fluent_bundle.specs.Formatting.{EventsAreRun, written_events}
+use Rattle.fluent_bundle.specs.Formatted.{EventsAreRun, written_events}
 
 -- they come to what the pattern gives
 pub are_run : EventsAreTheRun Text → CallsByThemselves Text → (b : Bundle Text) (args : Map (Value Text)) (p : Pattern) → EventsAreRun b args p

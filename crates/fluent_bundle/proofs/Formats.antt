@@ -27,8 +27,7 @@ use Rattle.fluent_resolver.specs.Scoped.{pattern_events}
 use Rattle.fluent_resolver.specs.Status.{Status, reported, with_errors}
 use Rattle.fluent_resolver.specs.Steps.{IsAtStart}
 use Rattle.fluent_bundle.specs.Facts.Events.{errors_of, text_of, writes_on}
-use Rattle.fluent_bundle.specs.Formatted.{AddsAll, AddsPrefix, WritesAll, Writes}
-use Rattle.fluent_bundle.specs.Formatting.{EventsAreRun, written_events}
+use Rattle.fluent_bundle.specs.Formatted.{AddsAll, AddsPrefix, EventsAreRun, WritesAll, Writes, written_events}
 use Rattle.fluent_bundle.specs.Limits.{KeepsLimit}
 
 -- what a pattern does in the state in which a call begins

@@ -11,8 +11,7 @@ use Rattle.fluent_meaning.specs.Arguments.{Map}
 use Rattle.fluent_meaning.specs.Bundle.{Bundle}
 use Rattle.fluent_resolver.specs.Status.{reported}
 use Rattle.fluent_entries.specs.declared.errors.FluentError.{FluentError}
-use Rattle.fluent_bundle.specs.Formatted.{AddsAll, AddsPrefix}
-use Rattle.fluent_bundle.specs.Messages.{attribute_errors, attribute_shown, attribute_texts, errors_of, text_of}
+use Rattle.fluent_bundle.specs.Formatted.{AddsAll, AddsPrefix, attribute_errors, attribute_shown, attribute_texts, errors_of, text_of}
 use Rattle.fluent_bundle.specs.declared.messages.FormattedAttribute.{FormattedAttribute}
 
 -- ---- errors that are added one after the other

@@ -1,9 +1,9 @@
 -- The content of resources, messages and bundles of the code.
 use Rattle.std.specs.Prelude.{ℕ, Bool, not, is_some, List, map, Option, None, Result, Ok, Err, ◌≡◌, ◌≢◌, [], ◌∷◌, String, string_bytes}
-use Rattle.std.specs.Option.{option_map}
+use Rattle.std.specs.Option.{option_map, option_and_then}
 use Rattle.std.specs.declared.alloc.Global.{Global}
 use Rattle.fluent_tree.specs.Tree as t
-use Rattle.fluent_tree.specs.Tree.{Text}
+use Rattle.fluent_tree.specs.Tree.{Text, Pattern}
 use Rattle.fluent_tree.specs.View.{resource_view}
 use Rattle.fluent_syntax.specs.Chunks.{entries, junk_ranges}
 use Rattle.fluent_syntax.specs.Parsed.{error_range}
@@ -12,7 +12,7 @@ use Rattle.fluent_meaning.specs.Value.{Value, Plurals, Custom}
 use Rattle.fluent_meaning.specs.Arguments.{get}
 use Rattle.fluent_meaning.specs.Bundle.{Bundle, Function, transform_of, formatter_of, Call, after, answered}
 use Rattle.fluent_values.specs.View.{error_view, value_view}
-use Rattle.fluent_values.specs.MessageView.{Content}
+use Rattle.fluent_values.specs.MessageView.{Content, first_named}
 use Rattle.fluent_values.specs.EntryView.{function_of, ids, message_content}
 use Rattle.fluent_values.specs.declared.types.value.FluentValue.{FluentValue}
 use Rattle.fluent_entries.specs.declared.entry.FunctionRef.{FunctionRef}
@@ -113,6 +113,14 @@ message_at id b = message_content (get id b.ids)
 abbrev pub message_entry_at : {C : Type 0} → Text → Bundle C → Option t.Entry
 message_entry_at id b = option_map (λ c. t.message_entry id c.value c.attributes) (message_at id b)
 
+-- the value of the message that an id names
+abbrev pub value_at : {C : Type 0} → Text → Bundle C → Option Pattern
+value_at id b = option_and_then (λ message. message.value) (message_at id b)
+
+-- its first attribute of the name
+abbrev pub attribute_at : {C : Type 0} → Text → Text → Bundle C → Option Pattern
+attribute_at id name b = option_and_then (λ message. option_map (λ a. a.1) (first_named name message.attributes)) (message_at id b)
+
 -- a function that was looked up, if there is one
 abbrev pub function_seen : {F : Type 0} → (F → Function Text) → Option (FunctionRef F) → Option (Function Text)
 function_seen answer found = option_map (function_of answer) found
@@ -120,6 +128,10 @@ function_seen answer found = option_map (function_of answer) found
 -- What a value is shown as by a formatter, if there is one, under a plural source.
 abbrev pub ShownBy : {M C G : Type 0} → (C → Text) → (G → Value Text → M → Option Text) → Option G → FluentValue C → M → Option (String Global) → Type 0
 ShownBy content formatted formatter value intls text = option_map string_bytes text ≡ formatter_of (option_map (λ g v. formatted g v intls) formatter) (value_view content value)
+
+-- a formatter, if there is one, under a plural source
+abbrev pub shown_by : {M G : Type 0} → (G → Value Text → M → Option Text) → M → Option G → Option (Value Text → Option Text)
+shown_by formatted intls formatter = option_map (λ f v. formatted f v intls) formatter
 
 -- ---- calls
 

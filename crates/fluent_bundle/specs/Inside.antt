@@ -1,5 +1,4 @@
 -- How private functions stand to the definitions beside this file. No public contract cites these.
 pub mod Asked
-pub mod TextSaid
 pub mod Outputs
 pub mod Unchanged

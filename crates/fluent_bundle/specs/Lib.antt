@@ -5,16 +5,10 @@ pub use Rattle.fluent_meaning.specs.Meaning
 pub use Rattle.fluent_meaning.specs.Result
 pub mod BundleView
 pub mod Formatted
-pub mod Formatting
 pub mod Limits
 pub mod AddAnswers
 pub mod Calls
-pub mod Said
 pub mod CallRows
-pub mod Messages
-pub mod Under
-pub mod TextSaid
 pub mod PatternsWithoutMemory
-pub mod ById
 pub mod Facts
 pub mod Inside

@@ -1,17 +1,18 @@
 //! The bundle: messages, terms and functions by id, and its settings.
 #![tactic(auto, unfolding(crate::specs::BundleView::bundle_parts))]
 
-ghost use Rattle.std.specs.Prelude.{◌≡◌, ◌≤◌, ◌↔◌, is_some, None, [], IfOk, IsOk, OnOk, OnErr, IsTrue};
+ghost use Rattle.std.specs.Prelude.{◌≡◌, ◌≤◌, ◌↔◌, is_some, map, None, [], IfOk, IsOk, OnOk, OnErr, IsTrue};
 ghost use Rattle.std.specs.Option.{option_map};
 ghost use Rattle.fluent_intl.specs.Plurals.{english};
-ghost use Rattle.fluent_bundle.specs.BundleView.{entries_in, entries_of, formatter_in, intls_in, transform_in, AreUndetermined, Kept, KeptBeside};
+ghost use Rattle.fluent_meaning.specs.Bundle.{add_builtins, add_function, add_resource, add_resource_overriding, after, answered, empty_bundle, set_formatter, set_placeable_limit, set_transform, set_use_isolating};
+ghost use Rattle.fluent_bundle.specs.BundleView.{custom_by, entries_in, entries_of, formatter_in, intls_in, message_at, message_entry_at, shown_by, transform_in, AnswersCall, AreUndetermined, Kept, KeptBeside};
 ghost use Rattle.fluent_values.specs.MessageView.{entry_seen, message_view};
+ghost use Rattle.fluent_values.specs.View.{error_view};
 ghost use Rattle.fluent_bundle.specs.AddAnswers.{answer_of};
 
-use crate::calls::Call;
 use crate::resource::FluentResource;
-use crate::says::{Has, Says};
 use fluent_intl::{EnglishPlurals, LanguageIdentifier, MemoizerKind};
+use fluent_resolver::Means;
 use fluent_syntax::ast;
 use fluent_values::types::FluentType;
 use fluent_values::{
@@ -88,7 +89,8 @@ impl<
     pub fn new(alloc: Global, locales: Vec<LanguageIdentifier>, intls: M) -> Self
         ensures holds { (result.locales ≡ locales) × (intls_in result ≡ intls) }
         ensures unset { (transform_in result ≡ None) × (formatter_in result ≡ None) }
-        ensures empty { ⟦<Self as Says>⟧.is_empty (M.category intls) result }
+        ensures empty { ⟦<Self as Means>⟧.meaning result
+            ≡ empty_bundle (M.category intls) (custom_by C.shown C.alike) }
     {
         FluentBundle {
             locales,
@@ -112,7 +114,8 @@ impl<
 
     /// Says whether placeables are written between U+2068 and U+2069.
     pub fn set_use_isolating(&mut self, value: bool)
-        ensures step { ⟦<Self as Says>⟧.steps (Call.SetUseIsolating value) self.old self.new }
+        ensures step { ⟦<Self as Means>⟧.meaning self.new
+            ≡ after (set_use_isolating value) (⟦<Self as Means>⟧.meaning self.old) }
         ensures kept { Kept self.old self.new }
     {
         self.use_isolating = value;
@@ -120,7 +123,8 @@ impl<
 
     /// Sets what changes text elements; `None` leaves them as they are. The transform that was set is dropped.
     pub fn set_transform(&mut self, transform: Option<T>)
-        ensures step { ⟦<Self as Says>⟧.steps (Call.SetTransform transform) self.old self.new }
+        ensures step { ⟦<Self as Means>⟧.meaning self.new
+            ≡ after (set_transform (option_map T.changed transform)) (⟦<Self as Means>⟧.meaning self.old) }
         ensures set { transform_in self.new ≡ transform }
         ensures kept { KeptBeside self.old self.new }
         ensures formatter { formatter_in self.new ≡ formatter_in self.old }
@@ -131,7 +135,8 @@ impl<
     /// Sets what is asked how a value is shown; `None` shows each value by its own text. The formatter that was
     /// set is dropped.
     pub fn set_formatter(&mut self, formatter: Option<G>)
-        ensures step { ⟦<Self as Says>⟧.steps (Call.SetFormatter formatter) self.old self.new }
+        ensures step { ⟦<Self as Means>⟧.meaning self.new
+            ≡ after (set_formatter (shown_by G.formatted (intls_in self.old) formatter)) (⟦<Self as Means>⟧.meaning self.old) }
         ensures set { formatter_in self.new ≡ formatter }
         ensures kept { KeptBeside self.old self.new }
         ensures transform { transform_in self.new ≡ transform_in self.old }
@@ -142,7 +147,8 @@ impl<
     /// Sets how many placeables one formatting call opens, 100 at first, and says whether that was done: a limit
     /// of 1 to 10,000 is set, any other leaves the bundle as it was.
     pub fn set_placeable_limit(&mut self, limit: usize) -> bool
-        ensures step { ⟦<Self as Says>⟧.steps (Call.SetPlaceableLimit limit) self.old self.new }
+        ensures step { ⟦<Self as Means>⟧.meaning self.new
+            ≡ after (set_placeable_limit limit) (⟦<Self as Means>⟧.meaning self.old) }
         ensures set { IsTrue result ↔ ((1 ≤ limit) × (limit ≤ 10000)) }
         ensures kept { Kept self.old self.new }
     {
@@ -155,7 +161,7 @@ impl<
 
     /// How many placeables one formatting call opens.
     pub fn placeable_limit(&self) -> u32
-        ensures { result ≡ (⟦<Self as Says>⟧.of self.now).limit }
+        ensures { result ≡ (⟦<Self as Means>⟧.meaning self.now).limit }
     {
         self.placeable_limit
     }
@@ -168,8 +174,8 @@ impl<
     /// `Overriding` where an id was there, also from an earlier entry of the same resource: all others are added.
     /// `Memory` where an allocation failed, which a resource without entries can't meet: the bundle is as before.
     pub fn add_resource(&mut self, resource: &'r FluentResource<'s>) -> Result<(), AddFault>
-        ensures step { ⟦<Self as Says>⟧.does (Call.AddResource resource.entry)
-            self.old self.new result }
+        ensures step { AnswersCall (⟦<Self as Means>⟧.meaning self.old) (add_resource (entries_of resource.now))
+            (⟦<Self as Means>⟧.meaning self.new) result }
         ensures kept { Kept self.old self.new }
         ensures empty { entries_of resource.now ≡ [] → IsOk result }
     {
@@ -181,9 +187,11 @@ impl<
         &mut self,
         resource: &'r FluentResource<'s>,
     ) -> Result<Vec<FluentError>, AllocError>
-        ensures ok { OnOk result (⟦<Self as Says>⟧.adds resource.entry self.old self.new) }
-        ensures errors { IfOk result (⟦<Self as Says>⟧.left (Call.AddResource resource.entry) self.old) }
-        ensures err { OnErr result (⟦<Self as Says>⟧.same self.old self.new) }
+        ensures ok { OnOk result (⟦<Self as Means>⟧.meaning self.new
+            ≡ after (add_resource (entries_of resource.now)) (⟦<Self as Means>⟧.meaning self.old)) }
+        ensures errors { IfOk result (λ left. map error_view left.items
+            ≡ answered (add_resource (entries_of resource.now)) (⟦<Self as Means>⟧.meaning self.old)) }
+        ensures err { OnErr result (⟦<Self as Means>⟧.meaning self.new ≡ ⟦<Self as Means>⟧.meaning self.old) }
         ensures kept { Kept self.old self.new }
         ensures empty { entries_of resource.now ≡ [] → IsOk result }
     {
@@ -204,8 +212,9 @@ impl<
         &mut self,
         resource: &'r FluentResource<'s>,
     ) -> Result<(), AllocError>
-        ensures ok { OnOk result (⟦<Self as Says>⟧.overrides resource.entry self.old self.new) }
-        ensures err { OnErr result (⟦<Self as Says>⟧.same self.old self.new) }
+        ensures ok { OnOk result (⟦<Self as Means>⟧.meaning self.new
+            ≡ after (add_resource_overriding (entries_of resource.now)) (⟦<Self as Means>⟧.meaning self.old)) }
+        ensures err { OnErr result (⟦<Self as Means>⟧.meaning self.new ≡ ⟦<Self as Means>⟧.meaning self.old) }
         ensures kept { Kept self.old self.new }
     {
         self.entries.override_entries(self.alloc, resource.all())
@@ -218,8 +227,8 @@ impl<
     /// `Overriding` with one error where the id was there, `Memory` where an allocation failed: the bundle is as
     /// before, and the function is dropped.
     pub fn add_function(&mut self, id: &str, function: F) -> Result<(), AddFault>
-        ensures step { ⟦<Self as Says>⟧.does (Call.AddFunction id.entry function)
-            self.old self.new result }
+        ensures step { AnswersCall (⟦<Self as Means>⟧.meaning self.old) (add_function id.now (F.answer function))
+            (⟦<Self as Means>⟧.meaning self.new) result }
         ensures kept { Kept self.old self.new }
     {
         all_added(self.take_function(id, function))
@@ -227,9 +236,11 @@ impl<
 
     /// Adds a function where its id is free, and gives the report where it is not.
     fn take_function(&mut self, id: &str, function: F) -> Result<Vec<FluentError>, AllocError>
-        ensures ok { OnOk result (⟦<Self as Says>⟧.adds_function id.entry function self.old self.new) }
-        ensures errors { IfOk result (⟦<Self as Says>⟧.left (Call.AddFunction id.entry function) self.old) }
-        ensures err { OnErr result (⟦<Self as Says>⟧.same self.old self.new) }
+        ensures ok { OnOk result (⟦<Self as Means>⟧.meaning self.new
+            ≡ after (add_function id.now (F.answer function)) (⟦<Self as Means>⟧.meaning self.old)) }
+        ensures errors { IfOk result (λ left. map error_view left.items
+            ≡ answered (add_function id.now (F.answer function)) (⟦<Self as Means>⟧.meaning self.old)) }
+        ensures err { OnErr result (⟦<Self as Means>⟧.meaning self.new ≡ ⟦<Self as Means>⟧.meaning self.old) }
         ensures kept { Kept self.old self.new }
     {
         let id = CowStr::Owned(String::from_str(self.alloc, id)?);
@@ -243,7 +254,8 @@ impl<
     /// `Overriding` with one error where the id `NUMBER` was there, `Memory` where an allocation failed: the bundle
     /// is as before.
     pub fn add_builtins(&mut self) -> Result<(), AddFault>
-        ensures step { ⟦<Self as Says>⟧.does Call.AddBuiltins self.old self.new result }
+        ensures step { AnswersCall (⟦<Self as Means>⟧.meaning self.old) add_builtins
+            (⟦<Self as Means>⟧.meaning self.new) result }
         ensures kept { Kept self.old self.new }
     {
         let id = CowStr::Borrowed("NUMBER");
@@ -252,15 +264,15 @@ impl<
 
     /// Whether the id names a message. Takes no memory.
     pub fn has_message(&self, id: &str) -> bool
-        ensures { result ≡ is_some (⟦<Self as Has>⟧.message self.now id.now) }
+        ensures { result ≡ is_some (message_at id.now (⟦<Self as Means>⟧.meaning self.now)) }
     {
         self.get_message(id).is_some()
     }
 
     /// The message that the id names, or `None`. Takes no memory.
     pub fn get_message(&self, id: &str) -> Option<FluentMessage<'r, 's>>
-        ensures content { option_map message_view result ≡ ⟦<Self as Has>⟧.message self.now id.now }
-        ensures whole { option_map entry_seen result ≡ ⟦<Self as Has>⟧.message_entry self.now id.now }
+        ensures content { option_map message_view result ≡ message_at id.now (⟦<Self as Means>⟧.meaning self.now) }
+        ensures whole { option_map entry_seen result ≡ message_entry_at id.now (⟦<Self as Means>⟧.meaning self.now) }
     {
         match self.entries.named(id) {
             Some(Entry::Message(node)) => Some(FluentMessage::from(*node)),
@@ -283,7 +295,8 @@ impl<
     ///
     /// An allocation failed.
     pub fn new_default(alloc: Global) -> Result<Self, AllocError>
-        ensures empty { IfOk result (⟦<Self as Says>⟧.is_empty english) }
+        ensures empty { IfOk result (λ b. ⟦<Self as Means>⟧.meaning b
+            ≡ empty_bundle english (custom_by C.shown C.alike)) }
         ensures locales { IfOk result (λ b. AreUndetermined b.locales.items) }
         ensures unset { IfOk result (λ b. (transform_in b ≡ None) × (formatter_in b ≡ None)) }
     {
@@ -304,6 +317,7 @@ impl<
 > GetEntry<'s, F> for FluentBundle<'r, 's, M, C, F, G, T> {
     ghost use Rattle.std.specs.Prelude.{Some};
     ghost use Rattle.fluent_meaning.specs.Arguments.{get};
+    ghost use Rattle.fluent_meaning.specs.Bundle.{function_found, number_builtin};
     ghost use Rattle.fluent_values.specs.EntryView.{ids};
     ghost use Rattle.fluent_bundle.specs.BundleView.{function_seen};
 
@@ -327,8 +341,10 @@ impl<
     }
 
     fn get_entry_function(&self, id: &str) -> Option<FunctionRef<'_, F>>
-        ensures answer { function_seen F.answer result ≡ ⟦<Self as Has>⟧.function self.now id.now }
-        ensures builtin { (result ≡ Some FunctionRef.Number) ↔ ⟦<Self as Has>⟧.builtin self.now id.now }
+        ensures answer { function_seen F.answer result
+            ≡ function_found (get id.now (⟦<Self as Means>⟧.meaning self.now).ids) }
+        ensures builtin { (result ≡ Some FunctionRef.Number)
+            ↔ (get id.now (⟦<Self as Means>⟧.meaning self.now).ids ≡ Some number_builtin) }
     {
         match self.entries.named(id) {
             Some(Entry::Function(function)) => Some(FunctionRef::Own(function)),

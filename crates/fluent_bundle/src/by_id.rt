@@ -5,20 +5,18 @@ ghost use Rattle.std.specs.Prelude.{◌≡◌, IfSome};
 ghost use Rattle.std.specs.Option.{option_map};
 ghost use Rattle.fluent_text.specs.Writer.{CountsFault};
 ghost use Rattle.fluent_resolver.specs.FoundView.{IsStored, content_at};
-ghost use Rattle.fluent_bundle.specs.BundleView.{entries_in};
-ghost use Rattle.fluent_bundle.specs.ById.{attribute_at, value_at};
+ghost use Rattle.fluent_bundle.specs.BundleView.{attribute_at, entries_in, value_at};
+ghost use Rattle.fluent_bundle.specs.Formatted.{BorrowsAsked, Finds, TakesNoMemory, WritesFound};
 ghost use Rattle.fluent_bundle.specs.Inside.Asked.{pattern_asked};
 
 use crate::bundle::FluentBundle;
 use crate::laws;
-use crate::says::Has;
-use crate::text_says::{Gives, Takes};
 use fluent_intl::MemoizerKind;
-use fluent_resolver::{Found, Target, found};
+use fluent_resolver::{Found, Means, Target, found};
 use fluent_syntax::ast::Identifier;
 use fluent_syntax::{Counting, WriteFault};
 use fluent_values::types::FluentType;
-use fluent_values::{FluentArgs, FluentError, FluentFormatter, FluentFunction, Transform};
+use fluent_values::{Context, FluentArgs, FluentError, FluentFormatter, FluentFunction, Transform};
 use std::alloc::AllocError;
 use std::borrow::CowStr;
 use std::io::Write;
@@ -46,9 +44,9 @@ impl<
         args: Option<&FluentArgs<'_, C>>,
         errors: &mut Vec<FluentError>,
     ) -> Result<Option<CowStr<'s>>, AllocError>
-        ensures finds { ⟦<Self as Gives>⟧.value self.now id.now args.entry result
-            errors.old errors.new }
-        ensures borrowed { ⟦<Self as Gives>⟧.borrows self.now (value_at id.now) result }
+        ensures finds { Finds (⟦<Self as Means>⟧.meaning self.now) C.content args.entry (value_at id.now)
+            result errors }
+        ensures borrowed { BorrowsAsked self.now (value_at id.now (⟦<Self as Means>⟧.meaning self.now)) result }
     {
         self.format_asked(id, &None, args, errors)
     }
@@ -66,9 +64,10 @@ impl<
         args: Option<&FluentArgs<'_, C>>,
         errors: &mut Vec<FluentError>,
     ) -> Result<Option<CowStr<'s>>, AllocError>
-        ensures finds { ⟦<Self as Gives>⟧.attribute self.now id.now name.now args.entry result
-            errors.old errors.new }
-        ensures borrowed { ⟦<Self as Gives>⟧.borrows self.now (attribute_at id.now name.now) result }
+        ensures finds { Finds (⟦<Self as Means>⟧.meaning self.now) C.content args.entry (attribute_at id.now name.now)
+            result errors }
+        ensures borrowed { BorrowsAsked self.now (attribute_at id.now name.now (⟦<Self as Means>⟧.meaning self.now))
+            result }
     {
         self.format_asked(id, &Some(Identifier { name }), args, errors)
     }
@@ -88,10 +87,10 @@ impl<
         args: Option<&FluentArgs<'_, C>>,
         errors: &mut Vec<FluentError>,
     ) -> Result<bool, WriteFault>
-        ensures writes { ⟦<W as Takes<Self>>⟧.value self.now id.now args.entry result
-            w.old w.new errors.old errors.new }
+        ensures writes { WritesFound (⟦<Self as Means>⟧.meaning self.now) C.content args.entry (value_at id.now)
+            result W.contents w errors }
         ensures fault { CountsFault w.old w.new result }
-        ensures memory { ⟦<Self as Gives>⟧.without_memory self.now (value_at id.now) result }
+        ensures memory { TakesNoMemory self.now (value_at id.now (⟦<Self as Means>⟧.meaning self.now)) result }
     {
         self.write_asked(w, id, &None, args, errors)
     }
@@ -110,10 +109,11 @@ impl<
         args: Option<&FluentArgs<'_, C>>,
         errors: &mut Vec<FluentError>,
     ) -> Result<bool, WriteFault>
-        ensures writes { ⟦<W as Takes<Self>>⟧.attribute self.now id.now name.now args.entry result
-            w.old w.new errors.old errors.new }
+        ensures writes { WritesFound (⟦<Self as Means>⟧.meaning self.now) C.content args.entry (attribute_at id.now name.now)
+            result W.contents w errors }
         ensures fault { CountsFault w.old w.new result }
-        ensures memory { ⟦<Self as Gives>⟧.without_memory self.now (attribute_at id.now name.now) result }
+        ensures memory { TakesNoMemory self.now (attribute_at id.now name.now (⟦<Self as Means>⟧.meaning self.now))
+            result }
     {
         self.write_asked(w, id, &Some(Identifier { name }), args, errors)
     }
@@ -126,9 +126,10 @@ impl<
         args: Option<&FluentArgs<'_, C>>,
         errors: &mut Vec<FluentError>,
     ) -> Result<Option<CowStr<'s>>, AllocError>
-        ensures finds { ⟦<Self as Gives>⟧.asked self.now id.now name.now args.entry result
-            errors.old errors.new }
-        ensures borrowed { ⟦<Self as Gives>⟧.borrows self.now (pattern_asked id.now name.now) result }
+        ensures finds { Finds (⟦<Self as Means>⟧.meaning self.now) C.content args.entry (pattern_asked id.now name.now)
+            result errors }
+        ensures borrowed { BorrowsAsked self.now (pattern_asked id.now name.now (⟦<Self as Means>⟧.meaning self.now))
+            result }
     {
         laws::limits_are_kept();
         match self.target(id, name) {
@@ -151,10 +152,11 @@ impl<
         args: Option<&FluentArgs<'_, C>>,
         errors: &mut Vec<FluentError>,
     ) -> Result<bool, WriteFault>
-        ensures writes { ⟦<W as Takes<Self>>⟧.asked self.now id.now name.now args.entry result
-            w.old w.new errors.old errors.new }
+        ensures writes { WritesFound (⟦<Self as Means>⟧.meaning self.now) C.content args.entry (pattern_asked id.now name.now)
+            result W.contents w errors }
         ensures fault { CountsFault w.old w.new result }
-        ensures memory { ⟦<Self as Gives>⟧.without_memory self.now (pattern_asked id.now name.now) result }
+        ensures memory { TakesNoMemory self.now (pattern_asked id.now name.now (⟦<Self as Means>⟧.meaning self.now))
+            result }
     {
         laws::limits_are_kept();
         match self.target(id, name) {
@@ -170,7 +172,8 @@ impl<
 
     /// What is asked for by id, with what is kept of it.
     fn target(&self, id: &str, name: &Option<Identifier<'_>>) -> Option<Target<'_, 's>>
-        ensures content { option_map content_at result ≡ ⟦<Self as Has>⟧.pattern self.now id.now name.now }
+        ensures content { option_map content_at result ≡ pattern_asked id.now name.now
+            (⟦<Self as Means>⟧.meaning self.now) }
         ensures stored { IfSome result (IsStored (entries_in self.now)) }
     {
         match found::by_id(&self.entries, id, name) {

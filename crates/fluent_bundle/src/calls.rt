@@ -2,13 +2,13 @@
 ghost use Rattle.std.specs.Prelude.{◌≡◌, [], ◌∷◌, OnOk, OnErr, IsOk};
 ghost use Rattle.std.specs.List.{All};
 ghost use Rattle.fluent_bundle.specs.AddAnswers.{unless_alloc_failed};
-ghost use Rattle.fluent_bundle.specs.BundleView.{Kept};
-ghost use Rattle.fluent_bundle.specs.Calls.{TakesNoMemory};
+ghost use Rattle.fluent_bundle.specs.BundleView.{intls_in, Kept};
+ghost use Rattle.fluent_bundle.specs.Calls.{asked, BegunBy, Makes, TakesNoMemory};
 
 use crate::bundle::{AddFault, FluentBundle};
 use crate::resource::FluentResource;
-use crate::says::Says;
 use fluent_intl::MemoizerKind;
+use fluent_resolver::Means;
 use fluent_values::types::FluentType;
 use fluent_values::{Context, FluentFormatter, FluentFunction, Transform};
 use std::alloc::AllocError;
@@ -43,9 +43,10 @@ impl<
     ///
     /// An allocation failed, which the setters can't meet: the bundle is as before.
     pub fn make(&mut self, call: Call<'r, 's, F, G, T>) -> Result<(), AllocError>
-        ensures ok { OnOk result (⟦<Self as Says>⟧.makes (call.entry ∷ []) self.old self.new) }
-        ensures err { OnErr result (⟦<Self as Says>⟧.same self.old self.new × Kept
-            self.old self.new) }
+        ensures ok { OnOk result (Makes ⟦<Self as Means>⟧.meaning (asked F.answer G.formatted T.changed (intls_in self.old))
+            (call.entry ∷ []) self.old self.new) }
+        ensures err { OnErr result ((⟦<Self as Means>⟧.meaning self.new ≡ ⟦<Self as Means>⟧.meaning self.old)
+            × Kept self.old self.new) }
         ensures succeeds { TakesNoMemory call.entry → IsOk result }
     {
         match call {
@@ -79,8 +80,10 @@ impl<
     /// An allocation failed at one of them, which is no setter: those before it were made, and no other; what the
     /// others hand over is dropped.
     pub fn make_all(&mut self, calls: Vec<Call<'r, 's, F, G, T>>) -> Result<(), AllocError>
-        ensures ok { OnOk result (⟦<Self as Says>⟧.makes calls.entry.items self.old self.new) }
-        ensures err { OnErr result (⟦<Self as Says>⟧.begins calls.entry.items self.old self.new) }
+        ensures ok { OnOk result (Makes ⟦<Self as Means>⟧.meaning (asked F.answer G.formatted T.changed (intls_in self.old))
+            calls.entry.items self.old self.new) }
+        ensures err { OnErr result (BegunBy ⟦<Self as Means>⟧.meaning (asked F.answer G.formatted T.changed (intls_in self.old))
+            calls.entry.items self.old self.new) }
         ensures succeeds { All TakesNoMemory calls.entry.items → IsOk result }
     {
         for call in calls {

@@ -1,7 +1,7 @@
 //! The formatting calls of a bundle.
 #![tactic(auto, unfolding(crate::specs::BundleView::bundle_parts))]
 
-ghost use Rattle.std.specs.Prelude.{◌≡◌, ◌&&◌, false, not, is_some, IfOk};
+ghost use Rattle.std.specs.Prelude.{◌≡◌, ◌&&◌, ◌++◌, false, not, is_some, string_bytes, IfOk, OnOk};
 ghost use Rattle.std.specs.Option.{option_map};
 ghost use Rattle.fluent_meaning.specs.Value.{text_value};
 ghost use Rattle.fluent_text.specs.Writer.{CountsFault};
@@ -9,25 +9,26 @@ ghost use Rattle.fluent_tree.specs.References.{references};
 ghost use Rattle.fluent_tree.specs.View.{pattern_view};
 ghost use Rattle.fluent_entries.specs.IdNumbers.{IsPlaced};
 ghost use Rattle.fluent_values.specs.Texts.{is_text};
+ghost use Rattle.fluent_resolver.specs.Status.{arguments_view};
 ghost use Rattle.fluent_bundle.specs.BundleView.{entries_in, transform_in};
-ghost use Rattle.fluent_bundle.specs.Inside.Outputs.{CountsHalt, PutsFree};
+ghost use Rattle.fluent_bundle.specs.Formatted.{Adds, AddsSome, GivesWhole, GivesWithin, WritesBeginning, WritesWhole, WritesWithin, written};
+ghost use Rattle.fluent_bundle.specs.Inside.Outputs.{CountsHalt, PutsFree, WritesOut};
 ghost use Rattle.fluent_bundle.specs.Inside.Unchanged.{unchanged_text, untransformed_text};
+ghost use Rattle.fluent_bundle.specs.Limits.{KeepsLimit};
 ghost use Rattle.fluent_bundle.specs.PatternsWithoutMemory.{BorrowsText, WritesFree};
 
 use crate::bundle::FluentBundle;
 use crate::laws;
 use crate::resolver::answers::formatted;
-use crate::says::Has;
-use crate::text_says::{Adds, Gives, Takes};
 use fluent_intl::MemoizerKind;
 use fluent_resolver::output::through;
 use fluent_resolver::texts::{is_text, only_text, put_texts};
-use fluent_resolver::{Cursor, State, write_whole};
+use fluent_resolver::{Cursor, Means, State, write_whole};
 use fluent_syntax::ast::Pattern;
 use fluent_syntax::{Counting, WriteFault, put};
 use fluent_values::output::{Halt, Output, with_error};
 use fluent_values::types::{FluentType, FluentValue};
-use fluent_values::{FluentArgs, FluentError, FluentFormatter, FluentFunction, Transform};
+use fluent_values::{Context, FluentArgs, FluentError, FluentFormatter, FluentFunction, Transform};
 use std::alloc::AllocError;
 use std::borrow::CowStr;
 use std::io::Write;
@@ -67,17 +68,18 @@ impl<
         errors: &mut Vec<FluentError>,
     ) -> Result<(), WriteFault>
         // By substitution, where that opens no more placeables than the limit.
-        ensures within { ⟦<W as Takes<Self>>⟧.within self.now pattern.now args.entry result
-            w.old w.new errors.old errors.new }
+        ensures within { WritesWithin (⟦<Self as Means>⟧.meaning self.now) C.content args.entry pattern.now
+            result W.contents w errors }
 
         // With the budget, in every case.
-        ensures whole { ⟦<W as Takes<Self>>⟧.all self.now pattern.now args.entry result
-            w.old w.new errors.old errors.new }
+        ensures whole { WritesWhole (⟦<Self as Means>⟧.meaning self.now) C.content args.entry pattern.now
+            result W.contents w errors }
 
         // Whatever is answered.
-        ensures prefix { ⟦<W as Takes<Self>>⟧.prefix self.now pattern.now args.entry
-            w.old w.new errors.old errors.new }
-        ensures limit { ⟦<Self as Gives>⟧.limit self.now pattern.now args.entry }
+        ensures prefix { WritesBeginning (⟦<Self as Means>⟧.meaning self.now) C.content args.entry pattern.now
+            W.contents w errors }
+        ensures limit { KeepsLimit (⟦<Self as Means>⟧.meaning self.now) (arguments_view C.content args.entry)
+            (pattern_view pattern.now) }
         ensures fault { CountsFault w.old w.new result }
         ensures memory { WritesFree self.now (pattern_view pattern.now) result }
     {
@@ -98,13 +100,13 @@ impl<
         args: Option<&FluentArgs<'_, C>>,
         errors: &mut Vec<FluentError>,
     ) -> Result<CowStr<'s>, AllocError>
-        ensures within { ⟦<Self as Gives>⟧.within self.now pattern.now args.entry result
-            errors.old errors.new }
-        ensures whole { ⟦<Self as Gives>⟧.all self.now pattern.now args.entry result
-            errors.old errors.new }
-        ensures prefix { ⟦<Self as Adds>⟧.prefix self.now pattern.now args.entry
-            errors.old errors.new }
-        ensures limit { ⟦<Self as Gives>⟧.limit self.now pattern.now args.entry }
+        ensures within { GivesWithin (⟦<Self as Means>⟧.meaning self.now) C.content args.entry pattern.now
+            result errors }
+        ensures whole { GivesWhole (⟦<Self as Means>⟧.meaning self.now) C.content args.entry pattern.now
+            result errors }
+        ensures prefix { AddsSome (written (⟦<Self as Means>⟧.meaning self.now) C.content args.entry pattern.now).errors errors }
+        ensures limit { KeepsLimit (⟦<Self as Means>⟧.meaning self.now) (arguments_view C.content args.entry)
+            (pattern_view pattern.now) }
         ensures borrowed { BorrowsText self.now (pattern_view pattern.now) result }
     {
         laws::limits_are_kept();
@@ -121,10 +123,10 @@ impl<
         errors: &mut Vec<FluentError>,
     ) -> Result<(), WriteFault>
         requires { IsPlaced (entries_in self.now) (references (pattern_view pattern.now)) cursor }
-        ensures whole { ⟦<W as Takes<Self>>⟧.all self.now pattern.now args.entry result
-            w.old w.new errors.old errors.new }
-        ensures prefix { ⟦<W as Takes<Self>>⟧.prefix self.now pattern.now args.entry
-            w.old w.new errors.old errors.new }
+        ensures whole { WritesWhole (⟦<Self as Means>⟧.meaning self.now) C.content args.entry pattern.now
+            result W.contents w errors }
+        ensures prefix { WritesBeginning (⟦<Self as Means>⟧.meaning self.now) C.content args.entry pattern.now
+            W.contents w errors }
         ensures fault { CountsFault w.old w.new result }
         ensures memory { WritesFree self.now (pattern_view pattern.now) result }
     {
@@ -149,10 +151,9 @@ impl<
         errors: &mut Vec<FluentError>,
     ) -> Result<CowStr<'s>, AllocError>
         requires { IsPlaced (entries_in self.now) (references (pattern_view pattern.now)) cursor }
-        ensures whole { ⟦<Self as Gives>⟧.all self.now pattern.now args.entry result
-            errors.old errors.new }
-        ensures prefix { ⟦<Self as Adds>⟧.prefix self.now pattern.now args.entry
-            errors.old errors.new }
+        ensures whole { GivesWhole (⟦<Self as Means>⟧.meaning self.now) C.content args.entry pattern.now
+            result errors }
+        ensures prefix { AddsSome (written (⟦<Self as Means>⟧.meaning self.now) C.content args.entry pattern.now).errors errors }
         ensures borrowed { BorrowsText self.now (pattern_view pattern.now) result }
     {
         if let Some(text) = self.sole_text(pattern) {
@@ -199,7 +200,8 @@ impl<
 
     /// The formatter's answer for a whole text.
     fn formatted_text(&self, text: &str) -> Result<Option<String>, AllocError>
-        ensures { IfOk result (⟦<Self as Has>⟧.shown self.now (text_value text.now)) }
+        ensures { IfOk result (λ shown. option_map string_bytes shown
+            ≡ (⟦<Self as Means>⟧.meaning self.now).formatter (text_value text.now)) }
     {
         let value = FluentValue::String(CowStr::Borrowed(text));
         formatted(self.alloc, &self.formatter, &value, &self.intls)
@@ -216,8 +218,8 @@ impl<
     ) -> Result<(), Halt>
         requires placed { IsPlaced (entries_in self.now) (references (pattern_view pattern.now)) cursor }
         requires unkept { out.old.is_kept ≡ false }
-        ensures writes { ⟦<W as Takes<Self>>⟧.put self.now pattern.now args.entry result
-            out.old out.new errors.old errors.new }
+        ensures writes { WritesOut (⟦<Self as Means>⟧.meaning self.now) C.content args.entry pattern.now
+            result W.contents out errors }
         ensures memory { PutsFree self.now (pattern_view pattern.now) out.old result }
     {
         if self.writes_texts_alone(pattern) {
@@ -238,8 +240,8 @@ impl<
     ) -> Result<(), Halt>
         requires placed { IsPlaced (entries_in self.now) (references (pattern_view pattern.now)) cursor }
         requires unkept { out.old.is_kept ≡ false }
-        ensures { ⟦<W as Takes<Self>>⟧.put self.now pattern.now args.entry result
-            out.old out.new errors.old errors.new }
+        ensures { WritesOut (⟦<Self as Means>⟧.meaning self.now) C.content args.entry pattern.now
+            result W.contents out errors }
     {
         let mut state = State::new(self, &self.entries, args, Some(errors));
         let written = write_whole(&mut state, out, pattern, cursor);
@@ -258,11 +260,10 @@ impl<
         errors: &mut Vec<FluentError>,
     ) -> Result<String, AllocError>
         requires { IsPlaced (entries_in self.now) (references (pattern_view pattern.now)) cursor }
-        ensures text { IfOk result (⟦<Self as Gives>⟧.text self.now pattern.now args.entry) }
-        ensures errors { ⟦<Self as Adds>⟧.all self.now pattern.now args.entry result
-            errors.old errors.new }
-        ensures prefix { ⟦<Self as Adds>⟧.prefix self.now pattern.now args.entry
-            errors.old errors.new }
+        ensures text { IfOk result (λ text. string_bytes text
+            ≡ (written (⟦<Self as Means>⟧.meaning self.now) C.content args.entry pattern.now).value) }
+        ensures errors { OnOk result (Adds (written (⟦<Self as Means>⟧.meaning self.now) C.content args.entry pattern.now).errors errors) }
+        ensures prefix { AddsSome (written (⟦<Self as Means>⟧.meaning self.now) C.content args.entry pattern.now).errors errors }
     {
         let mut text = String::with_capacity(self.alloc, ROOM)?;
         let mut unused = Counting::new(Vec::new(self.alloc));
@@ -283,12 +284,10 @@ impl<
         errors: &mut Vec<FluentError>,
     ) -> Result<(), Halt>
         requires { IsPlaced (entries_in self.now) (references (pattern_view pattern.now)) cursor }
-        ensures text { ⟦<Self as Gives>⟧.extends self.now pattern.now args.entry result
-            text.old text.new }
-        ensures errors { ⟦<Self as Adds>⟧.all self.now pattern.now args.entry result
-            errors.old errors.new }
-        ensures prefix { ⟦<Self as Adds>⟧.prefix self.now pattern.now args.entry
-            errors.old errors.new }
+        ensures text { OnOk result (string_bytes text.new
+            ≡ string_bytes text.old ++ (written (⟦<Self as Means>⟧.meaning self.now) C.content args.entry pattern.now).value) }
+        ensures errors { OnOk result (Adds (written (⟦<Self as Means>⟧.meaning self.now) C.content args.entry pattern.now).errors errors) }
+        ensures prefix { AddsSome (written (⟦<Self as Means>⟧.meaning self.now) C.content args.entry pattern.now).errors errors }
         ensures fault { CountsHalt unused.old unused.new result }
     {
         laws::events_are_the_run();

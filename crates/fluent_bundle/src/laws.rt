@@ -3,7 +3,7 @@ ghost use Rattle.fluent_tree.specs.Tree.{Pattern, Text};
 ghost use Rattle.fluent_meaning.specs.Arguments.{Map};
 ghost use Rattle.fluent_meaning.specs.Bundle.{Bundle};
 ghost use Rattle.fluent_meaning.specs.Value.{Value};
-ghost use Rattle.fluent_bundle.specs.Formatting.{EventsAreRun};
+ghost use Rattle.fluent_bundle.specs.Formatted.{EventsAreRun};
 ghost use Rattle.fluent_bundle.specs.Limits.{KeepsLimit};
 
 use fluent_meaning::laws;

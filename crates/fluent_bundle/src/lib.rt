@@ -7,11 +7,10 @@ mod calls;
 pub mod examples;
 mod formatting;
 pub mod laws;
+mod means;
 mod messages;
 pub mod resolver;
 mod resource;
-mod says;
-mod text_says;
 
 pub use bundle::{AddFault, FluentBundle};
 pub use calls::Call;
@@ -28,5 +27,5 @@ pub use fluent_values::{
     memoizer, types,
 };
 pub use messages::{FormattedAttribute, FormattedMessage};
-pub use resolver::{Context, ResolverError, Scope};
+pub use resolver::{Context, Means, ResolverError, Scope};
 pub use resource::{Entries, FluentResource, TryNewFault};

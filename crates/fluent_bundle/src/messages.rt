@@ -1,10 +1,16 @@
 //! A message with all its parts as text.
-ghost use Rattle.std.specs.Prelude.{◌≡◌, None, IfOk, IsOk};
+ghost use Rattle.std.specs.Prelude.{◌≡◌, map, None, IfOk, IsOk, OnOk};
+ghost use Rattle.std.specs.Cow.{cow_str_bytes};
+ghost use Rattle.std.specs.Option.{option_map};
+ghost use Rattle.fluent_tree.specs.View.{attribute_view, pattern_view};
+ghost use Rattle.fluent_values.specs.MessageView.{content_of};
+ghost use Rattle.fluent_resolver.specs.Status.{arguments_view};
+ghost use Rattle.fluent_bundle.specs.BundleView.{message_at};
+ghost use Rattle.fluent_bundle.specs.Formatted.{Adds, AddsSome, ShowsMessage, attribute_errors, attribute_shown, attribute_texts, message_errors, message_shown, message_text, value_errors, value_text, wrong_with};
 
 use crate::bundle::FluentBundle;
-use crate::says::Has;
-use crate::text_says::{Adds, Gives};
 use fluent_intl::MemoizerKind;
+use fluent_resolver::Means;
 use fluent_syntax::ast;
 use fluent_values::types::FluentType;
 use fluent_values::{
@@ -51,12 +57,10 @@ impl<
         args: Option<&FluentArgs<'_, C>>,
         errors: &mut Vec<FluentError>,
     ) -> Result<Option<FormattedMessage<'s>>, AllocError>
-        ensures text { IfOk result (⟦<Self as Gives>⟧.message self.now id.now args.entry) }
-        ensures errors { ⟦<Self as Adds>⟧.message self.now id.now args.entry result
-            errors.old errors.new }
-        ensures prefix { ⟦<Self as Adds>⟧.message_some self.now id.now args.entry
-            errors.old errors.new }
-        ensures none { ⟦<Self as Has>⟧.message self.now id.now ≡ None → IsOk result }
+        ensures text { IfOk result (ShowsMessage (⟦<Self as Means>⟧.meaning self.now) C.content args.entry id.now) }
+        ensures errors { OnOk result (Adds (wrong_with (⟦<Self as Means>⟧.meaning self.now) C.content args.entry id.now) errors) }
+        ensures prefix { AddsSome (wrong_with (⟦<Self as Means>⟧.meaning self.now) C.content args.entry id.now) errors }
+        ensures none { message_at id.now (⟦<Self as Means>⟧.meaning self.now) ≡ None → IsOk result }
     {
         match self.get_entry_message(id) {
             Some(message) => match self.format_parts(message, args, errors) {
@@ -74,11 +78,10 @@ impl<
         args: Option<&FluentArgs<'_, C>>,
         errors: &mut Vec<FluentError>,
     ) -> Result<FormattedMessage<'s>, AllocError>
-        ensures text { IfOk result (⟦<Self as Gives>⟧.parts self.now message.now args.entry) }
-        ensures all { ⟦<Self as Adds>⟧.parts self.now message.now args.entry result
-            errors.old errors.new }
-        ensures prefix { ⟦<Self as Adds>⟧.parts_some self.now message.now args.entry
-            errors.old errors.new }
+        ensures text { IfOk result (λ shown. message_shown shown
+            ≡ message_text (⟦<Self as Means>⟧.meaning self.now) (arguments_view C.content args.entry) (content_of message.now)) }
+        ensures all { OnOk result (Adds (message_errors (⟦<Self as Means>⟧.meaning self.now) (arguments_view C.content args.entry) (Some (content_of message.now))) errors) }
+        ensures prefix { AddsSome (message_errors (⟦<Self as Means>⟧.meaning self.now) (arguments_view C.content args.entry) (Some (content_of message.now))) errors }
     {
         let value = self.format_optional(&message.value, args, errors)?;
         let attributes = self.format_attributes(message.attributes.as_slice(), args, errors)?;
@@ -92,11 +95,10 @@ impl<
         args: Option<&FluentArgs<'_, C>>,
         errors: &mut Vec<FluentError>,
     ) -> Result<Option<CowStr<'s>>, AllocError>
-        ensures text { IfOk result (⟦<Self as Gives>⟧.maybe self.now value.now args.entry) }
-        ensures all { ⟦<Self as Adds>⟧.maybe self.now value.now args.entry result
-            errors.old errors.new }
-        ensures prefix { ⟦<Self as Adds>⟧.maybe_some self.now value.now args.entry
-            errors.old errors.new }
+        ensures text { IfOk result (λ shown. option_map cow_str_bytes shown
+            ≡ value_text (⟦<Self as Means>⟧.meaning self.now) (arguments_view C.content args.entry) (option_map pattern_view value.now)) }
+        ensures all { OnOk result (Adds (value_errors (⟦<Self as Means>⟧.meaning self.now) (arguments_view C.content args.entry) (option_map pattern_view value.now)) errors) }
+        ensures prefix { AddsSome (value_errors (⟦<Self as Means>⟧.meaning self.now) (arguments_view C.content args.entry) (option_map pattern_view value.now)) errors }
     {
         match value {
             Some(pattern) => match self.format_pattern(pattern, args, errors) {
@@ -114,11 +116,10 @@ impl<
         args: Option<&FluentArgs<'_, C>>,
         errors: &mut Vec<FluentError>,
     ) -> Result<Vec<FormattedAttribute<'s>>, AllocError>
-        ensures text { IfOk result (⟦<Self as Gives>⟧.listed self.now list.now args.entry) }
-        ensures all { ⟦<Self as Adds>⟧.listed self.now list.now args.entry result
-            errors.old errors.new }
-        ensures prefix { ⟦<Self as Adds>⟧.listed_some self.now list.now args.entry
-            errors.old errors.new }
+        ensures text { IfOk result (λ shown. map attribute_shown shown.items
+            ≡ attribute_texts (⟦<Self as Means>⟧.meaning self.now) (arguments_view C.content args.entry) (map attribute_view list.now)) }
+        ensures all { OnOk result (Adds (attribute_errors (⟦<Self as Means>⟧.meaning self.now) (arguments_view C.content args.entry) (map attribute_view list.now)) errors) }
+        ensures prefix { AddsSome (attribute_errors (⟦<Self as Means>⟧.meaning self.now) (arguments_view C.content args.entry) (map attribute_view list.now)) errors }
     {
         let mut texts = Vec::new(self.alloc);
         for attribute in list {

@@ -1,4 +1,4 @@
 //! Resolving a pattern to its text and errors.
 pub(crate) mod answers;
 
-pub use fluent_resolver::{Context, HasBundle, ResolverError, Scope, errors};
+pub use fluent_resolver::{Context, HasBundle, Means, ResolverError, Scope, errors};

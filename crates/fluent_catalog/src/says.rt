@@ -8,7 +8,7 @@ ghost use Rattle.std.proofs.Common.{Global};
 ghost use Rattle.fluent_tree.specs.Tree.{Text};
 ghost use Rattle.fluent_bundle.specs.declared.bundle.FluentBundle.{FluentBundle};
 ghost use Rattle.fluent_bundle.specs.declared.resource.FluentResource.{FluentResource};
-ghost use Rattle.fluent_chain.specs.ChainCalls.{Giving};
+ghost use Rattle.fluent_catalog.specs.CatalogCalls.{Giving};
 ghost use Rattle.fluent_catalog.specs.declared.reports.Report.{Report};
 
 use crate::catalog::Catalog;

@@ -18,8 +18,7 @@ use Rattle.fluent_meaning.specs.Arguments.{Map}
 use Rattle.fluent_meaning.specs.Bundle.{Bundle}
 use Rattle.fluent_meaning.specs.Errors.{Error}
 use Rattle.fluent_meaning.specs.Value.{Value}
-use Rattle.fluent_bundle.specs.ById.{GivesAsked, GivesSome, BorrowsAsked, BorrowsSome, TakesNoMemory, WritesAsked}
-use Rattle.fluent_bundle.specs.Formatted.{GivesText}
+use Rattle.fluent_bundle.specs.Formatted.{BorrowsAsked, BorrowsSome, GivesAsked, GivesSome, GivesText, TakesNoMemory, WritesAsked}
 use Rattle.fluent_bundle.specs.declared.bundle.FluentBundle.{FluentBundle}
 use Rattle.fluent_chain.specs.Chain.{first_with}
 use Rattle.fluent_chain.specs.ChainCalls.{Errors, GivesFound, BorrowsFound, NeedsNoMemory, WritesFound}
@@ -50,14 +49,14 @@ fails P (Err e) faulted h = h e
 module _ {M C F G X : Type 0} (of : FluentBundle M C F G X → Bundle Text) (has : Bundle Text → Option Pattern) (args : Map (Value Text)) where
   -- of a bundle that has none: nothing was added
   pub gives_nothing : (b : FluentBundle M C F G X) (asked : Option Pattern) (r : EvaluatesSilently) (errors errors' : Errors) → r ≡ Ok None
-      → GivesAsked (record { bundle = of b; args = args }) asked r errors errors' → (asked ≡ None) × (errors' ≡ errors)
+      → GivesAsked (of b) args asked r errors errors' → (asked ≡ None) × (errors' ≡ errors)
   gives_nothing b None r errors errors' is gives = (refl, gives.nothing.1)
   gives_nothing b (Some p) r errors errors' is gives = absurd (given_none _ r is gives.whole.text)
 
   module _ (bs : List (FluentBundle M C F G X)) (i : ℕ) (b : FluentBundle M C F G X) (at : slice_get bs i ≡ Some b) (first : first_with (λ a. has (of a)) (drop i bs) ≡ first_with (λ a. has (of a)) bs) where
     -- of one that answered with a text
     pub gives_here : (id : Text) (asked : Option Pattern) → has (of b) ≡ asked → (r : EvaluatesSilently) (text : CowStr Global) (old errors errors' : Errors) → errors ≡ old → r ≡ Ok (Some text)
-        → GivesAsked (record { bundle = of b; args = args }) asked r errors errors'
+        → GivesAsked (of b) args asked r errors errors'
         → GivesFound id args (first_with has (map of bs)) (Ok text) old errors'
     gives_here id None none r text old errors errors' same is gives =
         let never : Ok (Some text) ≡ Ok None = sym is ∙ gives.nothing.0 in
@@ -72,7 +71,7 @@ module _ {M C F G X : Type 0} (of : FluentBundle M C F G X → Bundle Text) (has
 
     -- of one that failed for want of memory
     pub gives_refused : (id : Text) (asked : Option Pattern) → has (of b) ≡ asked → (r : EvaluatesSilently) (e : AllocError) (r' : Result (CowStr Global) AllocError) (old errors errors' : Errors) → errors ≡ old → r ≡ Err e → is_ok r' ≡ false
-        → GivesAsked (record { bundle = of b; args = args }) asked r errors errors'
+        → GivesAsked (of b) args asked r errors errors'
         → GivesFound id args (first_with has (map of bs)) r' old errors'
     gives_refused id None none r e r' old errors errors' same is faulted gives =
         let never : Err e ≡ Ok None = sym is ∙ gives.nothing.0 in
@@ -105,7 +104,7 @@ borrows_text r (Owned s) t is h = absurd (subst (λ q. BorrowsSome q t) is h)
 
 module _ {M C F G X : Type 0} (of : FluentBundle M C F G X → Bundle Text) (has : Bundle Text → Option Pattern) (args : Map (Value Text)) (bs : List (FluentBundle M C F G X)) (i : ℕ) (b : FluentBundle M C F G X) (at : slice_get bs i ≡ Some b) (first : first_with (λ a. has (of a)) (drop i bs) ≡ first_with (λ a. has (of a)) bs) where
   pub borrows_here : (id : Text) (asked : Option Pattern) → has (of b) ≡ asked → (r : EvaluatesSilently) (text : CowStr Global) (errors errors' : Errors) → r ≡ Ok (Some text)
-      → GivesAsked (record { bundle = of b; args = args }) asked r errors errors' → BorrowsAsked b asked r
+      → GivesAsked (of b) args asked r errors errors' → BorrowsAsked b asked r
       → BorrowsFound id (first_with (λ a. has (of a)) bs) (Ok text)
   borrows_here id None none r text errors errors' is gives borrowed =
       let never : Ok (Some text) ≡ Ok None = sym is ∙ gives.nothing.0 in
@@ -115,7 +114,7 @@ module _ {M C F G X : Type 0} (of : FluentBundle M C F G X → Bundle Text) (has
       (λ t sole plain bare. borrows_text r text t is (borrowed t sole plain bare))
 
   pub borrows_failed : (id : Text) (asked : Option Pattern) → has (of b) ≡ asked → (r : EvaluatesSilently) (e : AllocError) (r' : Result (CowStr Global) AllocError) (errors errors' : Errors) → r ≡ Err e → is_ok r' ≡ false
-      → GivesAsked (record { bundle = of b; args = args }) asked r errors errors' → BorrowsAsked b asked r
+      → GivesAsked (of b) args asked r errors errors' → BorrowsAsked b asked r
       → BorrowsFound id (first_with (λ a. has (of a)) bs) r'
   borrows_failed id None none r e r' errors errors' is faulted gives borrowed =
       let never : Err e ≡ Ok None = sym is ∙ gives.nothing.0 in
@@ -135,7 +134,7 @@ done P r x is h = subst (λ q. OnOk q P) is h
 module _ {M C F G X W : Type 0} (of : FluentBundle M C F G X → Bundle Text) (has : Bundle Text → Option Pattern) (args : Map (Value Text)) (contents : W → Option Text) where
   -- of a bundle that has none: nothing was written, and nothing was added
   pub writes_nothing : (b : FluentBundle M C F G X) (asked : Option Pattern) (r : Wrote) (w w' : Counting W) (errors errors' : Errors) → r ≡ Ok false
-      → WritesAsked (record { bundle = of b; args = args }) asked r contents w w' errors errors' → (asked ≡ None) × (w' ≡ w) × (errors' ≡ errors)
+      → WritesAsked (of b) args asked r contents w w' errors errors' → (asked ≡ None) × (w' ≡ w) × (errors' ≡ errors)
   writes_nothing b None r w w' errors errors' is writes = (refl, writes.nothing.1, writes.nothing.2)
   writes_nothing b (Some p) r w w' errors errors' is writes =
       let never : false ≡ true = subst (λ q. IfOk q (λ answer. answer ≡ true)) is writes.there in
@@ -151,7 +150,7 @@ module _ {M C F G X W : Type 0} (of : FluentBundle M C F G X → Bundle Text) (h
   module _ (bs : List (FluentBundle M C F G X)) (i : ℕ) (b : FluentBundle M C F G X) (at : slice_get bs i ≡ Some b) (first : first_with (λ a. has (of a)) (drop i bs) ≡ first_with (λ a. has (of a)) bs) where
     -- of one that has it
     pub writes_here : (id : Text) (asked : Option Pattern) → has (of b) ≡ asked → (r : Wrote) (u : Unit {0}) (start w w' : Counting W) (old errors errors' : Errors) → w ≡ start → errors ≡ old → r ≡ Ok true
-        → WritesAsked (record { bundle = of b; args = args }) asked r contents w w' errors errors'
+        → WritesAsked (of b) args asked r contents w w' errors errors'
         → WritesFound id args (first_with has (map of bs)) (Ok u) (contents (writer_in start)) (contents (writer_in w')) old errors'
     writes_here id None none r u start w w' old errors errors' begun same is writes =
         let never : Ok true ≡ Ok false = sym is ∙ writes.nothing.0 in
@@ -166,7 +165,7 @@ module _ {M C F G X W : Type 0} (of : FluentBundle M C F G X → Bundle Text) (h
 
     -- of one where a fault came
     pub writes_fault : (id : Text) (asked : Option Pattern) → has (of b) ≡ asked → (r : Wrote) (r' : Result (Unit {0}) WriteFault) (e : WriteFault) (start w w' : Counting W) (old errors errors' : Errors) → w ≡ start → errors ≡ old → r ≡ Err e → r' ≡ Err e
-        → WritesAsked (record { bundle = of b; args = args }) asked r contents w w' errors errors'
+        → WritesAsked (of b) args asked r contents w w' errors errors'
         → WritesFound id args (first_with has (map of bs)) r' (contents (writer_in start)) (contents (writer_in w')) old errors'
     writes_fault id None none r r' e start w w' old errors errors' begun same is on writes =
         let never : Err e ≡ Ok false = sym is ∙ writes.nothing.0 in
@@ -182,7 +181,7 @@ module _ {M C F G X W : Type 0} (of : FluentBundle M C F G X → Bundle Text) (h
 
     -- which is no want of memory where none is needed
     pub owes_here : (asked : Option Pattern) → has (of b) ≡ asked → (r : Wrote) (r' : Result (Unit {0}) WriteFault) (e : WriteFault) (w w' : Counting W) (errors errors' : Errors) → r ≡ Err e → r' ≡ Err e
-        → WritesAsked (record { bundle = of b; args = args }) asked r contents w w' errors errors' → TakesNoMemory b asked r
+        → WritesAsked (of b) args asked r contents w w' errors errors' → TakesNoMemory b asked r
         → NeedsNoMemory (first_with (λ a. has (of a)) bs) → r' ≢ Err Memory
     owes_here None none r r' e w w' errors errors' is on writes free needs =
         let never : Err e ≡ Ok false = sym is ∙ writes.nothing.0 in

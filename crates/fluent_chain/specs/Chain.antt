@@ -11,7 +11,7 @@ use Rattle.fluent_meaning.specs.Events.{Event, writes}
 use Rattle.fluent_meaning.specs.Result.{formatted, written_pattern, substituted_pattern}
 use Rattle.fluent_values.specs.MessageView.{first_named}
 use Rattle.fluent_bundle.specs.BundleView.{message_at}
-use Rattle.fluent_bundle.specs.Formatting.{written_events}
+use Rattle.fluent_bundle.specs.Formatted.{written_events}
 
 -- ---- what a bundle has
 

@@ -6,7 +6,6 @@ use Rattle.std.specs.declared.borrow.CowStr.{CowStr}
 use Rattle.std.specs.declared.vec.Vec.{Vec}
 use Rattle.std.proofs.Common.{Global}
 use Rattle.fluent_text.specs.Unescaped.{Borrows}
-use Rattle.fluent_text.specs.Writer.{writer_in}
 use Rattle.fluent_text.specs.declared.counting.Counting.{Counting}
 use Rattle.fluent_text.specs.declared.counting.WriteFault.{WriteFault}
 use Rattle.fluent_text.specs.declared.counting.WriteFault.TheVariants.{Memory}
@@ -15,15 +14,16 @@ use Rattle.fluent_meaning.specs.Value.{Value}
 use Rattle.fluent_meaning.specs.Arguments.{Map}
 use Rattle.fluent_meaning.specs.Bundle.{Bundle}
 use Rattle.fluent_meaning.specs.Errors.{Error}
+use Rattle.fluent_resolver.specs.Changes.{Change}
 use Rattle.fluent_resolver.specs.Status.{arguments_view}
 use Rattle.fluent_values.specs.Texts.{sole_text, IsTextAlone}
 use Rattle.fluent_values.specs.declared.args.FluentArgs.{FluentArgs}
 use Rattle.fluent_entries.specs.declared.errors.FluentError.{FluentError}
 use Rattle.fluent_bundle.specs.BundleView.{formatter_in, transform_in}
-use Rattle.fluent_bundle.specs.Formatted.{AddsAll, AddsPrefix, GivesText, WritesAll, WritesPrefix}
+use Rattle.fluent_bundle.specs.Formatted.{AddsAll, AddsPrefix, GivesText, WritesAll, WritesPrefix, before, later, new, old}
 use Rattle.fluent_bundle.specs.declared.bundle.FluentBundle.{FluentBundle}
 use Rattle.fluent_chain.specs.Chain.{events_of, shown_of, substituted_of, written_of, written_by_substitution, IsWithin}
-use Rattle.fluent_chain.specs.ChainView.{bundle_with, meant_with}
+use Rattle.fluent_chain.specs.ChainView.{bundle_with}
 use Rattle.fluent_chain.specs.declared.chain.Chain.{Chain}
 
 -- a list of errors
@@ -76,26 +76,21 @@ abbrev pub NeedsNoMemory : {M C F G X : Type 0} → Option (FluentBundle M C F G
 NeedsNoMemory None = ⊤
 NeedsNoMemory (Some found) = IsTextAlone found.1 × (transform_in found.0 ≡ None)
 
+-- ---- what the calls say: of the id, by what an application's values show, with arguments, and what was found
+
+module _ {C : Type 0} (id : Text) (content : C → Text) (args : Option (Bor (FluentArgs C))) (found : Option (Bundle Text × Pattern)) where
+  abbrev pub Gives : Result (CowStr Global) AllocError → Change Errors → Type 0
+  Gives result errors = GivesFound id (arguments_view content args) found result (old errors) (new errors)
+
+  abbrev pub Owns : Result (String Global) AllocError → Change Errors → Type 0
+  Owns result errors = OwnsFound id (arguments_view content args) found result (old errors) (new errors)
+
+  abbrev pub Writes : {W : Type 0} → Result (Unit {0}) WriteFault → (W → Option Text) → Change (Counting W) → Change Errors → Type 0
+  Writes result contents w errors = WritesFound id (arguments_view content args) found result (before contents w) (later contents w) (old errors) (new errors)
+
 -- ---- of a chain, the id of a message and the name of an attribute, if one is given
 
--- with arguments, an answer, and the errors before and after
-abbrev pub Giving : Type 0 → Type 0 → Type 0 → Type 1
-Giving S C T = S → Text → Option (Bor Text) → Option (Bor (FluentArgs C)) → Result T AllocError → Errors → Errors → Type 0
-
--- and with the writer before and after
-abbrev pub Writing : Type 0 → Type 0 → Type 0 → Type 1
-Writing S C W = S → Text → Option (Bor Text) → Option (Bor (FluentArgs C)) → Result (Unit {0}) WriteFault → Counting W → Counting W → Errors → Errors → Type 0
-
 module _ {M C F G X : Type 0} (of : FluentBundle M C F G X → Bundle Text) where
-  abbrev pub gives : (C → Text) → Giving (Chain M C F G X) C (CowStr Global)
-  gives content chain id name args = GivesFound id (arguments_view content args) (meant_with of chain id name)
-
-  abbrev pub owns : (C → Text) → Giving (Chain M C F G X) C (String Global)
-  owns content chain id name args = OwnsFound id (arguments_view content args) (meant_with of chain id name)
-
-  abbrev pub writes : {W : Type 0} → (C → Text) → (W → Option Text) → Writing (Chain M C F G X) C W
-  writes content contents chain id name args result w w' = WritesFound id (arguments_view content args) (meant_with of chain id name) result (contents (writer_in w)) (contents (writer_in w'))
-
   abbrev pub borrows : Chain M C F G X → Text → Option (Bor Text) → Result (CowStr Global) AllocError → Type 0
   borrows chain id name result = BorrowsFound id (bundle_with of chain id name) result
 

@@ -44,9 +44,3 @@ index of chain id name = index_with (pattern_of of id name) (bundles_of chain)
 abbrev pub bundle_with : {M C F G X : Type 0} → (FluentBundle M C F G X → Bundle Text)
     → Chain M C F G X → Text → Option (Bor Text) → Option (FluentBundle M C F G X × Pattern)
 bundle_with of chain id name = first_with (pattern_of of id name) (bundles_of chain)
-
--- the same by what it means
-abbrev pub meant_with : {M C F G X : Type 0} → (FluentBundle M C F G X → Bundle Text)
-    → Chain M C F G X → Text → Option (Bor Text) → Option (Bundle Text × Pattern)
-meant_with of chain id name =
-    first_with (pattern_at id (option_map (λ n. n.now) name)) (map of (bundles_of chain))

@@ -2,13 +2,15 @@
 ghost use Rattle.std.specs.Prelude.{◌≡◌, length, slice_get};
 ghost use Rattle.std.specs.Option.{option_map};
 ghost use Rattle.fluent_text.specs.Writer.{CountsFault};
-ghost use Rattle.fluent_chain.specs.ChainView.{bundles_of, referred};
-ghost use Rattle.fluent_chain.specs.Inside.Found.{pattern_seen};
+ghost use Rattle.fluent_bundle.specs.Formatted.{BorrowsAsked, Finds, TakesNoMemory, WritesFound as BundleWrites};
+ghost use Rattle.fluent_chain.specs.Chain.{attribute_at, first_with, value_at};
+ghost use Rattle.fluent_chain.specs.ChainCalls.{Gives, Owns, Writes, borrows, needs_no_memory};
+ghost use Rattle.fluent_chain.specs.ChainView.{bundles_of, has, index, pattern_of, referred};
+ghost use Rattle.fluent_chain.specs.Inside.Found.{pattern_asked, pattern_seen};
 
-use crate::says::{Says, Takes};
 use fluent_bundle::{
     Counting, FluentArgs, FluentBundle, FluentError, FluentFormatter, FluentFunction, FluentType,
-    MemoizerKind, Transform, WriteFault, ast,
+    Means, MemoizerKind, Transform, WriteFault, ast,
 };
 use fluent_text::put;
 use std::alloc::{AllocError, Global};
@@ -50,6 +52,28 @@ impl<
     F: FluentFunction<C>,
     G: FluentFormatter<C, M>,
     T: Transform,
+> Means for Chain<'c, 'b, 'r, 's, M, C, F, G, T> {
+    ghost use Rattle.std.specs.Prelude.{List, map};
+    ghost use Rattle.fluent_tree.specs.Tree.{Text};
+    ghost use Rattle.fluent_meaning.specs.Bundle.{Bundle};
+    ghost use Rattle.fluent_bundle.specs.BundleView.{meant};
+
+    ghost Kind = { List (Bundle Text) };
+
+    ghost meaning = { λ chain. map
+        (meant M.category C.shown C.alike F.answer G.formatted T.changed) (bundles_of chain) };
+}
+
+impl<
+    'c,
+    'b,
+    'r,
+    's: 'r,
+    M: MemoizerKind,
+    C: FluentType,
+    F: FluentFunction<C>,
+    G: FluentFormatter<C, M>,
+    T: Transform,
 > Chain<'c, 'b, 'r, 's, M, C, F, G, T> {
     /// A chain of these bundles, of which the first is asked first.
     pub fn new(bundles: &'c [BundleRef<'b, 'r, 's, M, C, F, G, T>]) -> Self
@@ -71,7 +95,8 @@ impl<
 
     /// Whether one of the bundles has a message of this id with a value. Where none has, the id stands for the text.
     pub fn has_value(&self, id: &str) -> bool
-        ensures { result ≡ ⟦<Self as Says>⟧.has self.now id.now None }
+        ensures { result ≡ has ⟦<FluentBundle<'r, 's, M, C, F, G, T> as Means>⟧.meaning
+            self.now id.now None }
     {
         self.find_value(id).is_some()
     }
@@ -79,7 +104,8 @@ impl<
     /// Whether one of the bundles has a message of this id with an attribute of this name. Where none has, the id
     /// stands for the text.
     pub fn has_attribute(&self, id: &str, name: &str) -> bool
-        ensures { result ≡ ⟦<Self as Says>⟧.has self.now id.now (Some name.entry) }
+        ensures { result ≡ has ⟦<FluentBundle<'r, 's, M, C, F, G, T> as Means>⟧.meaning
+            self.now id.now (Some name.entry) }
     {
         self.find_attribute(id, name).is_some()
     }
@@ -87,14 +113,16 @@ impl<
     /// Which bundle answers for the value of a message: its index among the bundles, from 0 on. `None` where none has
     /// a value for it, and the id stands for the text.
     pub fn find_value(&self, id: &str) -> Option<usize>
-        ensures { result ≡ ⟦<Self as Says>⟧.index self.now id.now None }
+        ensures { result ≡ index ⟦<FluentBundle<'r, 's, M, C, F, G, T> as Means>⟧.meaning
+            self.now id.now None }
     {
         self.find(id, None)
     }
 
     /// Which bundle answers for an attribute of a message, by the rule of [`Chain::find_value`].
     pub fn find_attribute(&self, id: &str, name: &str) -> Option<usize>
-        ensures { result ≡ ⟦<Self as Says>⟧.index self.now id.now (Some name.entry) }
+        ensures { result ≡ index ⟦<FluentBundle<'r, 's, M, C, F, G, T> as Means>⟧.meaning
+            self.now id.now (Some name.entry) }
     {
         self.find(id, Some(name))
     }
@@ -114,9 +142,10 @@ impl<
     ) -> Result<CowStr<'t>, AllocError>
     where
         's: 't,
-        ensures text { ⟦<Self as Says>⟧.gives self.now id.now None args.entry result
-            errors.old errors.new }
-        ensures borrowed { ⟦<Self as Says>⟧.borrows self.now id.now None result }
+        ensures text { Gives id.now C.content args.entry
+            (first_with (value_at id.now) (⟦<Self as Means>⟧.meaning self.now)) result errors }
+        ensures borrowed { borrows ⟦<FluentBundle<'r, 's, M, C, F, G, T> as Means>⟧.meaning
+            self.now id.now None result }
     {
         self.format(id, None, args, errors)
     }
@@ -136,9 +165,10 @@ impl<
     ) -> Result<CowStr<'t>, AllocError>
     where
         's: 't,
-        ensures text { ⟦<Self as Says>⟧.gives self.now id.now (Some name.entry) args.entry result
-            errors.old errors.new }
-        ensures borrowed { ⟦<Self as Says>⟧.borrows self.now id.now (Some name.entry) result }
+        ensures text { Gives id.now C.content args.entry
+            (first_with (attribute_at id.now name.now) (⟦<Self as Means>⟧.meaning self.now)) result errors }
+        ensures borrowed { borrows ⟦<FluentBundle<'r, 's, M, C, F, G, T> as Means>⟧.meaning
+            self.now id.now (Some name.entry) result }
     {
         self.format(id, Some(name), args, errors)
     }
@@ -155,8 +185,8 @@ impl<
         args: Option<&FluentArgs<'_, C>>,
         errors: &mut Vec<FluentError>,
     ) -> Result<String, AllocError>
-        ensures { ⟦<Self as Says>⟧.owns self.now id.now None args.entry result
-            errors.old errors.new }
+        ensures { Owns id.now C.content args.entry
+            (first_with (value_at id.now) (⟦<Self as Means>⟧.meaning self.now)) result errors }
     {
         match self.format_value(id, args, errors) {
             Ok(text) => text.into_owned(alloc),
@@ -177,8 +207,8 @@ impl<
         args: Option<&FluentArgs<'_, C>>,
         errors: &mut Vec<FluentError>,
     ) -> Result<String, AllocError>
-        ensures { ⟦<Self as Says>⟧.owns self.now id.now (Some name.entry) args.entry result
-            errors.old errors.new }
+        ensures { Owns id.now C.content args.entry
+            (first_with (attribute_at id.now name.now) (⟦<Self as Means>⟧.meaning self.now)) result errors }
     {
         match self.format_attribute(id, name, args, errors) {
             Ok(text) => text.into_owned(alloc),
@@ -200,10 +230,11 @@ impl<
         args: Option<&FluentArgs<'_, C>>,
         errors: &mut Vec<FluentError>,
     ) -> Result<(), WriteFault>
-        ensures text { ⟦<W as Takes<Self>>⟧.text self.now id.now None args.entry result
-            w.old w.new errors.old errors.new }
+        ensures text { Writes id.now C.content args.entry
+            (first_with (value_at id.now) (⟦<Self as Means>⟧.meaning self.now)) result W.contents w errors }
         ensures fault { CountsFault w.old w.new result }
-        ensures memory { ⟦<Self as Says>⟧.needs_no_memory self.now id.now None result }
+        ensures memory { needs_no_memory ⟦<FluentBundle<'r, 's, M, C, F, G, T> as Means>⟧.meaning
+            self.now id.now None result }
     {
         self.write(w, id, None, args, errors)
     }
@@ -222,10 +253,11 @@ impl<
         args: Option<&FluentArgs<'_, C>>,
         errors: &mut Vec<FluentError>,
     ) -> Result<(), WriteFault>
-        ensures text { ⟦<W as Takes<Self>>⟧.text self.now id.now (Some name.entry) args.entry result
-            w.old w.new errors.old errors.new }
+        ensures text { Writes id.now C.content args.entry
+            (first_with (attribute_at id.now name.now) (⟦<Self as Means>⟧.meaning self.now)) result W.contents w errors }
         ensures fault { CountsFault w.old w.new result }
-        ensures memory { ⟦<Self as Says>⟧.needs_no_memory self.now id.now (Some name.entry) result }
+        ensures memory { needs_no_memory ⟦<FluentBundle<'r, 's, M, C, F, G, T> as Means>⟧.meaning
+            self.now id.now (Some name.entry) result }
     {
         self.write(w, id, Some(name), args, errors)
     }
@@ -240,9 +272,10 @@ impl<
     ) -> Result<CowStr<'t>, AllocError>
     where
         's: 't,
-        ensures text { ⟦<Self as Says>⟧.gives self.now id.now attribute.entry args.entry result
-            errors.old errors.new }
-        ensures borrowed { ⟦<Self as Says>⟧.borrows self.now id.now attribute.entry result }
+        ensures text { Gives id.now C.content args.entry
+            (first_with (pattern_asked id.now attribute.entry) (⟦<Self as Means>⟧.meaning self.now)) result errors }
+        ensures borrowed { borrows ⟦<FluentBundle<'r, 's, M, C, F, G, T> as Means>⟧.meaning
+            self.now id.now attribute.entry result }
     {
         for index in 0..self.len() {
             if let Some(bundle) = self.bundle_at(index) {
@@ -263,10 +296,11 @@ impl<
         args: Option<&FluentArgs<'_, C>>,
         errors: &mut Vec<FluentError>,
     ) -> Result<(), WriteFault>
-        ensures text { ⟦<W as Takes<Self>>⟧.text self.now id.now attribute.entry args.entry result
-            w.old w.new errors.old errors.new }
+        ensures text { Writes id.now C.content args.entry
+            (first_with (pattern_asked id.now attribute.entry) (⟦<Self as Means>⟧.meaning self.now)) result W.contents w errors }
         ensures fault { CountsFault w.old w.new result }
-        ensures memory { ⟦<Self as Says>⟧.needs_no_memory self.now id.now attribute.entry result }
+        ensures memory { needs_no_memory ⟦<FluentBundle<'r, 's, M, C, F, G, T> as Means>⟧.meaning
+            self.now id.now attribute.entry result }
     {
         for index in 0..self.len() {
             if let Some(bundle) = self.bundle_at(index) {
@@ -280,7 +314,8 @@ impl<
 
     /// The index of the first bundle that has the value of the message, or its attribute where a name is given.
     fn find(&self, id: &str, attribute: Option<&str>) -> Option<usize>
-        ensures { result ≡ ⟦<Self as Says>⟧.index self.now id.now attribute.entry }
+        ensures { result ≡ index ⟦<FluentBundle<'r, 's, M, C, F, G, T> as Means>⟧.meaning
+            self.now id.now attribute.entry }
     {
         for index in 0..self.len() {
             if let Some(bundle) = self.bundle_at(index) {
@@ -320,9 +355,10 @@ impl<
         args: Option<&FluentArgs<'_, C>>,
         errors: &mut Vec<FluentError>,
     ) -> Result<Option<CowStr<'s>>, AllocError>
-        ensures text { ⟦<Self as Says>⟧.gives_in bundle.now id.now attribute.entry args.entry result
-            errors.old errors.new }
-        ensures borrowed { ⟦<Self as Says>⟧.borrows_in bundle.now id.now attribute.entry result }
+        ensures text { Finds (⟦<FluentBundle<'r, 's, M, C, F, G, T> as Means>⟧.meaning bundle.now) C.content args.entry
+            (pattern_asked id.now attribute.entry) result errors }
+        ensures borrowed { BorrowsAsked bundle.now
+            (pattern_of ⟦<FluentBundle<'r, 's, M, C, F, G, T> as Means>⟧.meaning id.now attribute.entry bundle.now) result }
     {
         match attribute {
             None => bundle.format_value(id, args, errors),
@@ -340,10 +376,11 @@ impl<
         args: Option<&FluentArgs<'_, C>>,
         errors: &mut Vec<FluentError>,
     ) -> Result<bool, WriteFault>
-        ensures text { ⟦<W as Takes<Self>>⟧.there bundle.now id.now attribute.entry args.entry result
-            w.old w.new errors.old errors.new }
+        ensures text { BundleWrites (⟦<FluentBundle<'r, 's, M, C, F, G, T> as Means>⟧.meaning bundle.now) C.content args.entry
+            (pattern_asked id.now attribute.entry) result W.contents w errors }
         ensures fault { CountsFault w.old w.new result }
-        ensures memory { ⟦<Self as Says>⟧.owes_in bundle.now id.now attribute.entry result }
+        ensures memory { TakesNoMemory bundle.now
+            (pattern_of ⟦<FluentBundle<'r, 's, M, C, F, G, T> as Means>⟧.meaning id.now attribute.entry bundle.now) result }
     {
         match attribute {
             None => bundle.write_value(w, id, args, errors),
@@ -357,7 +394,7 @@ impl<
         id: &str,
         attribute: Option<&str>,
     ) -> Option<&'r ast::Pattern<'s>>
-        ensures { pattern_seen result ≡ ⟦<Self as Says>⟧.pattern id.now attribute.entry bundle.now }
+        ensures { pattern_seen result ≡ pattern_of ⟦<FluentBundle<'r, 's, M, C, F, G, T> as Means>⟧.meaning id.now attribute.entry bundle.now }
     {
         let message = bundle.get_message(id)?;
         match attribute {

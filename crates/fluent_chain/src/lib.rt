@@ -3,6 +3,5 @@
 
 pub mod chain;
 pub mod examples;
-mod says;
 
 pub use chain::{BundleRef, Chain};

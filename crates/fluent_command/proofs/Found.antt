@@ -9,8 +9,7 @@ use Rattle.fluent_meaning.specs.Arguments.{Map}
 use Rattle.fluent_meaning.specs.Bundle.{Bundle}
 use Rattle.fluent_meaning.specs.Result.{written_pattern}
 use Rattle.fluent_meaning.specs.Value.{Value}
-use Rattle.fluent_bundle.specs.ById.{WritesAsked}
-use Rattle.fluent_bundle.specs.Formatting.{EventsAreRun}
+use Rattle.fluent_bundle.specs.Formatted.{EventsAreRun, WritesAsked}
 use Rattle.fluent_command.specs.Ending.{shown, no_message}
 use Rattle.fluent_command.specs.Words.{Asked}
 use Rattle.fluent_command.specs.Program.{arguments_of, only, run_value}
@@ -24,7 +23,7 @@ module _ {W : Type 0} (asked : Asked) (bundle : Bundle Text) (args : Map (Value 
     (law : (p : Pattern) → EventsAreRun bundle args p) (contents : W → Option Text) (r : Result Bool WriteFault) (out out' : Counting W) (errors errors' : Errors) where
   -- what the call says of it, if it is there
   abbrev Wrote : Option Pattern → Type 0
-  Wrote value = WritesAsked (record { bundle = bundle; args = args }) value r contents out out' errors errors'
+  Wrote value = WritesAsked bundle args value r contents out out' errors errors'
 
   -- unless the call says that it isn't, there is a text to show
   pub is_shown : (value : Option Pattern) → Wrote value → r ≢ Ok false → (run_value asked bundle value).ending ≡ shown

@@ -13,8 +13,7 @@ use Rattle.fluent_meaning.specs.Result.{written_pattern}
 use Rattle.fluent_meaning.specs.Value.{Value}
 use Rattle.fluent_resolver.specs.Status.{reported}
 use Rattle.fluent_entries.specs.declared.errors.FluentError.{FluentError}
-use Rattle.fluent_bundle.specs.Formatted.{AddsAll, WritesPrefix}
-use Rattle.fluent_bundle.specs.Formatting.{EventsAreRun, written_events}
+use Rattle.fluent_bundle.specs.Formatted.{AddsAll, EventsAreRun, WritesPrefix, written_events}
 use Rattle.fluent_command.specs.Ending.{Ending, shown}
 use Rattle.fluent_command.specs.Outlet.{Precedes}
 use Rattle.fluent_command.specs.Program.{Run, First, all_first, in_pieces}

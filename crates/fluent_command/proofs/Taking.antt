@@ -13,8 +13,7 @@ use Rattle.fluent_meaning.specs.Bundle.{Bundle}
 use Rattle.fluent_meaning.specs.Events.{errors_in, text_in}
 use Rattle.fluent_meaning.specs.Result.{written_pattern}
 use Rattle.fluent_meaning.specs.Value.{Value}
-use Rattle.fluent_bundle.specs.Formatted.{WritesAll, WritesPrefix}
-use Rattle.fluent_bundle.specs.Formatting.{EventsAreRun, written_events}
+use Rattle.fluent_bundle.specs.Formatted.{EventsAreRun, WritesAll, WritesPrefix, written_events}
 use Rattle.fluent_entries.specs.declared.errors.FluentError.{FluentError}
 use Rattle.fluent_command.specs.Ending.{line}
 use Rattle.fluent_command.specs.Inside.OutputProgress.{Added, Took}

@@ -11,7 +11,7 @@ use Rattle.fluent_meaning.specs.Bundle.{Bundle}
 use Rattle.fluent_meaning.specs.Value.{Value}
 use Rattle.fluent_text.specs.Writer.{writer_in}
 use Rattle.fluent_text.specs.declared.counting.Counting.{Counting}
-use Rattle.fluent_bundle.specs.ById.{GivesAsked, WritesAsked}
+use Rattle.fluent_bundle.specs.Formatted.{GivesAsked, WritesAsked}
 use Rattle.fluent_headline.specs.ById.{GivesFound, WritesFound}
 use Rattle.fluent_headline.specs.Headline.{Errors, Gives, Writes}
 use Rattle.fluent_meaning.specs.Errors.{Error}
@@ -59,20 +59,20 @@ writes_found_none b args None (Err e) held errors h = record { there = tt; nothi
 writes_found_none b args (Some p) (Err e) held errors h = record { there = tt; nothing = tt; within = λ few. tt; whole = tt; prefix = none_written _ _ _ }
 
 found : (b : Bundle Text) (args : Map (Value Text)) (asked : Option Pattern) (r : Result (Option (CowStr Global)) AllocError) (errors errors' : Errors)
-    → GivesAsked (record { bundle = b; args = args }) asked r errors errors' → GivesFound b args asked r errors errors'
+    → GivesAsked b args asked r errors errors' → GivesFound b args asked r errors errors'
 found b args None r errors errors' gives = record { nothing = (subst (λ q. IfOk q (λ text. text ≡ None)) (sym gives.nothing.0) refl, gives.nothing.1); within = tt; whole = tt; prefix = tt }
 found b args (Some p) r errors errors' gives = record { nothing = tt; within = gives.within; whole = gives.whole; prefix = gives.prefix }
 
 pub gives_found_in : (b b' : Bundle Text) (args : Map (Value Text)) (ask : Bundle Text → Option Pattern) (r : Result (Option (CowStr Global)) AllocError) (errors errors' : Errors) → b ≡ b'
-    → GivesAsked (record { bundle = b; args = args }) (ask b) r errors errors' → GivesFound b' args (ask b') r errors errors'
+    → GivesAsked b args (ask b) r errors errors' → GivesFound b' args (ask b') r errors errors'
 gives_found_in b b' args ask r errors errors' same gives = subst (λ a. GivesFound a args (ask a) r errors errors') same (found b args (ask b) r errors errors' gives)
 
 found_written : {W : Type 0} (b : Bundle Text) (args : Map (Value Text)) (asked : Option Pattern) (r : Result Bool WriteFault) (contents : W → Option Text) (w w' : Counting W) (errors errors' : Errors)
-    → WritesAsked (record { bundle = b; args = args }) asked r contents w w' errors errors' → WritesFound b args asked r (contents (writer_in w)) (contents (writer_in w')) errors errors'
+    → WritesAsked b args asked r contents w w' errors errors' → WritesFound b args asked r (contents (writer_in w)) (contents (writer_in w')) errors errors'
 found_written b args None r contents w w' errors errors' writes = record { there = writes.there; nothing = (ap (λ v. contents (writer_in v)) writes.nothing.1, writes.nothing.2); within = tt; whole = tt; prefix = tt }
 found_written b args (Some p) r contents w w' errors errors' writes = record { there = writes.there; nothing = tt; within = writes.within; whole = writes.whole; prefix = writes.prefix }
 
 pub writes_found_in : {W : Type 0} (b b' : Bundle Text) (args : Map (Value Text)) (ask : Bundle Text → Option Pattern) (r : Result Bool WriteFault) (contents : W → Option Text) (w w' : Counting W) (errors errors' : Errors) → b ≡ b'
-    → WritesAsked (record { bundle = b; args = args }) (ask b) r contents w w' errors errors' → WritesFound b' args (ask b') r (contents (writer_in w)) (contents (writer_in w')) errors errors'
+    → WritesAsked b args (ask b) r contents w w' errors errors' → WritesFound b' args (ask b') r (contents (writer_in w)) (contents (writer_in w')) errors errors'
 writes_found_in b b' args ask r contents w w' errors errors' same writes =
     subst (λ a. WritesFound a args (ask a) r (contents (writer_in w)) (contents (writer_in w')) errors errors') same (found_written b args (ask b) r contents w w' errors errors' writes)

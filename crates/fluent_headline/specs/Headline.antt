@@ -1,12 +1,11 @@
 -- What a pattern gives in the bundle that calls make, by the texts of its sources alone.
-use Rattle.std.specs.Prelude.{◌≡◌, Bool, List, map, Option, Result}
+use Rattle.std.specs.Prelude.{◌≤◌, Bool, List, map, OnOk, Option, Result}
 use Rattle.std.specs.Option.{option_map}
 use Rattle.std.specs.Borrow.{Bor}
 use Rattle.std.specs.declared.alloc.AllocError.{AllocError}
 use Rattle.std.specs.declared.borrow.CowStr.{CowStr}
 use Rattle.std.specs.declared.vec.Vec.{Vec}
 use Rattle.std.proofs.Common.{Global}
-use Rattle.fluent_text.specs.Writer.{writer_in}
 use Rattle.fluent_text.specs.declared.counting.Counting.{Counting}
 use Rattle.fluent_text.specs.declared.counting.WriteFault.{WriteFault}
 use Rattle.fluent_tree.specs.Tree.{Text, Pattern}
@@ -16,12 +15,13 @@ use Rattle.fluent_syntax.specs.Chunks.{entries}
 use Rattle.fluent_meaning.specs.Value.{Value, Custom, Plurals}
 use Rattle.fluent_meaning.specs.Bundle.{Bundle, Function, Call, add_resource, add_resource_overriding, add_function, add_builtins, set_use_isolating, set_transform, set_formatter, set_placeable_limit, empty_bundle, after_all}
 use Rattle.fluent_meaning.specs.Arguments.{Map}
+use Rattle.fluent_meaning.specs.Result.{formatted, written_pattern, substituted_pattern}
+use Rattle.fluent_resolver.specs.Changes.{Change}
 use Rattle.fluent_resolver.specs.Status.{arguments_view}
 use Rattle.fluent_values.specs.declared.args.FluentArgs.{FluentArgs}
 use Rattle.fluent_entries.specs.declared.errors.FluentError.{FluentError}
 use Rattle.fluent_bundle.specs.BundleView.{custom_by}
-use Rattle.fluent_bundle.specs.Formatting.{WritesWithin, WritesWhole, WritesBeginning, GivesWithin, GivesWhole, AddsBeginning}
-use Rattle.fluent_bundle.specs.declared.bundle.FluentBundle.{FluentBundle}
+use Rattle.fluent_bundle.specs.Formatted.{AddsPrefix, GivesText, WritesAll, WritesPrefix, before, later, new, old, written_events}
 use Rattle.fluent_headline.specs.declared.Asked.{Asked}
 use Rattle.fluent_headline.specs.declared.Asked.TheVariants as asked
 
@@ -50,16 +50,16 @@ Errors = Vec FluentError Global
 
 pub record Gives (b : Bundle Text) (args : Map (Value Text)) (p : Pattern) (result : Result (CowStr Global) AllocError) (errors errors' : Errors) : Type 0 where
   -- by substitution, where that opens no more placeables than the limit
-  pub within : GivesWithin b args p result errors.items errors'.items
+  pub within : let means = substituted_pattern b args p in means.opened ≤ b.limit → GivesText (formatted b means.value) means.errors result errors.items errors'.items
   -- with the budget, in every case
-  pub whole : GivesWhole b args p result errors.items errors'.items
+  pub whole : let means = written_pattern b args p in GivesText (formatted b means.value) means.errors result errors.items errors'.items
   -- whatever is answered
-  pub prefix : AddsBeginning b args p errors.items errors'.items
+  pub prefix : AddsPrefix (written_pattern b args p).errors errors.items errors'.items
 
 pub record Writes (b : Bundle Text) (args : Map (Value Text)) (p : Pattern) (result : Result (Unit {0}) WriteFault) (held held' : Option Text) (errors errors' : Errors) : Type 0 where
-  pub within : WritesWithin b args p result held held' errors.items errors'.items
-  pub whole : WritesWhole b args p result held held' errors.items errors'.items
-  pub prefix : WritesBeginning b args p held held' errors.items errors'.items
+  pub within : let means = substituted_pattern b args p in means.opened ≤ b.limit → OnOk result (WritesAll means.value means.errors held held' errors.items errors'.items)
+  pub whole : let means = written_pattern b args p in OnOk result (WritesAll means.value means.errors held held' errors.items errors'.items)
+  pub prefix : WritesPrefix (written_events b args p) held held' errors.items errors'.items
 
 -- ---- of a plural source, calls, arguments and a pattern
 
@@ -71,24 +71,12 @@ bundle_made category shown alike answer formatted changed intls calls =
     bundle_after (category intls) (custom_by shown alike)
     (map (step answer formatted changed intls) calls.items)
 
--- with an answer, and the errors before and after
-abbrev pub Giving : Type 0 → Type 0 → Type 0 → Type 1
-Giving M C A = M → Vec A Global → Option (Bor (FluentArgs C)) → tree.Pattern
-    → Result (CowStr Global) AllocError → Errors → Errors → Type 0
+-- ---- of a pattern of the code: by what an application's values show, with arguments
 
--- and the writer before and after
-abbrev pub Writing : Type 0 → Type 0 → Type 0 → Type 0 → Type 1
-Writing M C A W = M → Vec A Global → Option (Bor (FluentArgs C)) → tree.Pattern
-    → Result (Unit {0}) WriteFault → Counting W → Counting W → Errors → Errors → Type 0
+module _ {C : Type 0} (b : Bundle Text) (content : C → Text) (args : Option (Bor (FluentArgs C))) (p : tree.Pattern) where
+  abbrev pub GivesPattern : Result (CowStr Global) AllocError → Change Errors → Type 0
+  GivesPattern result errors = Gives b (arguments_view content args) (pattern_view p) result (old errors) (new errors)
 
-module _ {M C F G X : Type 0} (made : M → Vec (Asked F G X) Global → Bundle Text) where
-  abbrev pub makes : (FluentBundle M C F G X → Bundle Text) → M → Vec (Asked F G X) Global → FluentBundle M C F G X → Type 0
-  makes of intls calls bundle = of bundle ≡ made intls calls
-
-  abbrev pub gives : (C → Text) → Giving M C (Asked F G X)
-  gives content intls calls args p = Gives (made intls calls) (arguments_view content args) (pattern_view p)
-
-  abbrev pub writes : {W : Type 0} → (C → Text) → (W → Option Text) → Writing M C (Asked F G X) W
-  writes content contents intls calls args p result w w' =
-      Writes (made intls calls) (arguments_view content args) (pattern_view p) result
-      (contents (writer_in w)) (contents (writer_in w'))
+  abbrev pub WritesPattern : {W : Type 0} → Result (Unit {0}) WriteFault → (W → Option Text) → Change (Counting W) → Change Errors → Type 0
+  WritesPattern result contents w errors =
+      Writes b (arguments_view content args) (pattern_view p) result (before contents w) (later contents w) (old errors) (new errors)

@@ -1,3 +1,2 @@
 -- How private functions stand to the definitions beside this file. No public contract cites these.
 pub mod OnTheWay
-pub mod InBundle

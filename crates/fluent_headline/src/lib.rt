@@ -5,14 +5,14 @@ ghost use Rattle.std.specs.Prelude.{◌≡◌, map, IfOk};
 ghost use Rattle.fluent_syntax.specs.Chunks.{entries};
 ghost use Rattle.fluent_text.specs.Writer.{CountsFault};
 ghost use Rattle.fluent_bundle.specs.BundleView.{entries_of};
+ghost use Rattle.fluent_bundle.specs.Formatted.{Finds as BundleFinds, WritesFound as BundleWrites};
+ghost use Rattle.fluent_headline.specs.ById.{Finds, WritesById, pattern_at};
+ghost use Rattle.fluent_headline.specs.Headline.{GivesPattern, WritesPattern, bundle_made};
 ghost use Rattle.fluent_headline.specs.Inside.OnTheWay.{source_of, AreReadFor, AsksOver, AskAll};
 
-mod makes;
-
-use crate::makes::{Makes, Takes};
 use fluent_bundle::{
     Call, Counting, FluentArgs, FluentBundle, FluentError, FluentFormatter, FluentFunction,
-    FluentResource, FluentType, MemoizerKind, Transform, TryNewFault, WriteFault, ast,
+    FluentResource, FluentType, Means, MemoizerKind, Transform, TryNewFault, WriteFault, ast,
 };
 use std::alloc::{AllocError, Global};
 use std::borrow::CowStr;
@@ -132,7 +132,8 @@ fn bundle_over<
     resources: &'r [FluentResource<'s>],
 ) -> Result<FluentBundle<'r, 's, M, C, F, G, T>, AllocError>
     requires { AreReadFor calls.items resources.now }
-    ensures { IfOk result (⟦<M as Makes<C, F, G, T>>⟧.makes intls calls.entry) }
+    ensures { IfOk result (λ bundle. ⟦<FluentBundle<'r, 's, M, C, F, G, T> as Means>⟧.meaning bundle
+        ≡ bundle_made M.category C.shown C.alike F.answer G.formatted T.changed intls calls.entry) }
 {
     let calls = calls_of::<M, C, F, G, T>(alloc, calls, resources)?;
     let mut bundle = FluentBundle::new(alloc, Vec::new(alloc), intls);
@@ -166,8 +167,8 @@ pub fn write_after<
     w: &mut Counting<W>,
     errors: &mut Vec<FluentError>,
 ) -> Result<(), WriteFault>
-    ensures text { ⟦<W as Takes<M, C, F, G, T>>⟧.text intls calls.entry args.entry pattern.now result
-        w.old w.new errors.old errors.new }
+    ensures text { WritesPattern (bundle_made M.category C.shown C.alike F.answer G.formatted T.changed intls calls.entry)
+        C.content args.entry pattern.now result W.contents w errors }
     ensures fault { CountsFault w.old w.new result }
 {
     let resources = resources_of(alloc, calls.as_slice())?;
@@ -202,8 +203,8 @@ pub fn format_after<
     pattern: &ast::Pattern<'s>,
     errors: &mut Vec<FluentError>,
 ) -> Result<CowStr<'s>, AllocError>
-    ensures { ⟦<M as Makes<C, F, G, T>>⟧.gives intls calls.entry args.entry pattern.now result
-        errors.old errors.new }
+    ensures { GivesPattern (bundle_made M.category C.shown C.alike F.answer G.formatted T.changed intls calls.entry)
+        C.content args.entry pattern.now result errors }
 {
     let resources = resources_of(alloc, calls.as_slice())?;
     let bundle: FluentBundle<'_, '_, M, C, F, G, T> = bundle_over(
@@ -233,8 +234,8 @@ fn write_in<
     w: &mut Counting<W>,
     errors: &mut Vec<FluentError>,
 ) -> Result<bool, WriteFault>
-    ensures text { ⟦<W as Takes<M, C, F, G, T>>⟧.there bundle.now args.entry id.now attribute.entry result
-        w.old w.new errors.old errors.new }
+    ensures text { BundleWrites (⟦<FluentBundle<'r, 's, M, C, F, G, T> as Means>⟧.meaning bundle.now)
+        C.content args.entry (pattern_at id.now attribute.entry) result W.contents w errors }
     ensures fault { CountsFault w.old w.new result }
 {
     match attribute {
@@ -259,8 +260,8 @@ fn format_in<
     attribute: Option<&str>,
     errors: &mut Vec<FluentError>,
 ) -> Result<Option<CowStr<'s>>, AllocError>
-    ensures { ⟦<M as Makes<C, F, G, T>>⟧.gives_in bundle.now args.entry id.now attribute.entry result
-        errors.old errors.new }
+    ensures { BundleFinds (⟦<FluentBundle<'r, 's, M, C, F, G, T> as Means>⟧.meaning bundle.now)
+        C.content args.entry (pattern_at id.now attribute.entry) result errors }
 {
     match attribute {
         None => bundle.format_value(id, args, errors),
@@ -293,8 +294,8 @@ pub fn write_by_id_after<
     w: &mut Counting<W>,
     errors: &mut Vec<FluentError>,
 ) -> Result<bool, WriteFault>
-    ensures text { ⟦<W as Takes<M, C, F, G, T>>⟧.found intls calls.entry args.entry
-        id.now attribute.entry result w.old w.new errors.old errors.new }
+    ensures text { WritesById (bundle_made M.category C.shown C.alike F.answer G.formatted T.changed intls calls.entry)
+        C.content args.entry id.now attribute.entry result W.contents w errors }
     ensures fault { CountsFault w.old w.new result }
 {
     let resources = resources_of(alloc, calls.as_slice())?;
@@ -330,8 +331,8 @@ pub fn format_by_id_after<
     attribute: Option<&str>,
     errors: &mut Vec<FluentError>,
 ) -> Result<Option<CowStr<'s>>, AllocError>
-    ensures { ⟦<M as Makes<C, F, G, T>>⟧.gives_found intls calls.entry args.entry
-        id.now attribute.entry result errors.old errors.new }
+    ensures { Finds (bundle_made M.category C.shown C.alike F.answer G.formatted T.changed intls calls.entry)
+        C.content args.entry id.now attribute.entry result errors }
 {
     let resources = resources_of(alloc, calls.as_slice())?;
     let bundle: FluentBundle<'_, '_, M, C, F, G, T> = bundle_over(

@@ -4,7 +4,7 @@ use Rattle.fluent_tree.specs.Tree.{Text, Pattern}
 use Rattle.fluent_meaning.specs.Arguments.{Map, set_all}
 use Rattle.fluent_meaning.specs.Bundle.{Bundle}
 use Rattle.fluent_meaning.specs.Value.{Value, text_value, try_number}
-use Rattle.fluent_bundle.specs.ById.{attribute_at, value_at}
+use Rattle.fluent_bundle.specs.BundleView.{attribute_at, value_at}
 use Rattle.fluent_buffers.specs.Arguments.{Argument}
 
 -- the value of a message, or an attribute of it where a name is given that is not empty

@@ -4,7 +4,7 @@ use Rattle.fluent_tree.specs.Tree.{Text, Pattern, Attribute, no_attribute, attri
 use Rattle.fluent_tree.specs.View.{attribute_of}
 use Rattle.fluent_tree.specs.declared.ast.Identifier.{Identifier}
 use Rattle.fluent_meaning.specs.Bundle.{Bundle}
-use Rattle.fluent_bundle.specs.ById.{value_at, attribute_at}
+use Rattle.fluent_bundle.specs.BundleView.{value_at, attribute_at}
 
 -- the value of a message, or its first attribute where a name is given
 abbrev pub pattern_at : {C : Type 0} → Text → Attribute → Bundle C → Option Pattern

@@ -1,7 +1,8 @@
 //! What a bundle answers to the resolver.
 #![tactic(auto, unfolding(crate::specs::BundleView::bundle_parts))]
 
-ghost use Rattle.std.specs.Prelude.{◌≡◌, Ok, None, IfOk, IsOk, IsTrue};
+ghost use Rattle.std.specs.Prelude.{◌≡◌, string_bytes, Ok, None, IfOk, IsOk, IsTrue};
+ghost use Rattle.std.specs.Option.{option_map};
 ghost use Rattle.fluent_intl.specs.Number.{number_of};
 ghost use Rattle.fluent_meaning.specs.Number.{category_word};
 ghost use Rattle.fluent_meaning.specs.Value.{category_of};
@@ -9,8 +10,8 @@ ghost use Rattle.fluent_values.specs.View.{value_view};
 ghost use Rattle.fluent_bundle.specs.BundleView.{ShownBy};
 
 use crate::bundle::FluentBundle;
-use crate::says::{Has, Says};
 use fluent_intl::{MemoizerKind, PluralCategory, PluralOperands, PluralRuleType};
+use fluent_resolver::Means;
 use fluent_values::types::{FluentNumber, FluentNumberType, FluentType, FluentValue};
 use fluent_values::{Context, FluentFormatter, FluentFunction, Transform};
 use std::alloc::{AllocError, Global};
@@ -55,8 +56,9 @@ impl<
     }
 
     fn formatted(&self, value: &FluentValue<'_, C>) -> Result<Option<String>, AllocError>
-        ensures answer { IfOk result (⟦<Self as Has>⟧.shown self.now (value_view C.content value.now)) }
-        ensures custom { (⟦<Self as Says>⟧.of self.now).custom
+        ensures answer { IfOk result (λ shown. option_map string_bytes shown
+            ≡ (⟦<Self as Means>⟧.meaning self.now).formatter (value_view C.content value.now)) }
+        ensures custom { (⟦<Self as Means>⟧.meaning self.now).custom
             ≡ record { text = C.shown; same = C.alike } }
         ensures own { IsTrue (shows_own self.now) → result ≡ Ok None }
         ensures succeeds { formatter_in self.now ≡ None → IsOk result }

@@ -7,8 +7,7 @@ use Rattle.fluent_values.specs.Facts.Took.{took_by}
 use Rattle.fluent_values.specs.Sinks.{without_error, writer}
 use Rattle.fluent_resolver.specs.Status.{arguments_view}
 use Rattle.fluent_bundle.specs.BundleView.{meant, transform_in}
-use Rattle.fluent_bundle.specs.Formatted.{Writes}
-use Rattle.fluent_bundle.specs.Formatting.{written_events}
+use Rattle.fluent_bundle.specs.Formatted.{Writes, written_events}
 use Rattle.fluent_bundle.proofs.Events.{sole_events}
 use Rattle.fluent_bundle.proofs.Formats.{faulted_as, ok_as, writes_text, writes_whole, written_through}
 use Rattle.fluent_bundle.proofs.Givings.{at_once_where}
