@@ -1,12 +1,18 @@
 /* Fluent for C: messages of one source, or of a bundle that is kept, formatted as the proved crates below say.
 
-   Texts are UTF-8, each by where it begins and how many bytes it has; a zero byte is a byte like any other. A pointer to a
-   text or a buffer may be null where that has no bytes. Every other null pointer, as to a bundle or to lengths, is the
-   caller's fault, and no call looks for it. What is written lies apart from all else that is handed over. A call keeps none
-   of the memory that it was given: a bundle has copies of its sources. Memory is taken by malloc and realloc and given back
-   by free, all of it before a call ends, but for that of a bundle, which fluent_close gives back. Calls in several threads at
-   once have nothing in common; a bundle is asked by one thread at a time (tried, and not proved). No call belongs into a
-   signal handler.
+   Texts are UTF-8, each by where it begins and how many bytes it has; a zero byte is a byte like any other, and none is
+   written after a text. A pointer to a text or a buffer may be null where that has no bytes. Every other null pointer, as to a
+   bundle or to lengths, is the caller's fault, and no call looks for it. What is written lies apart from all else that is
+   handed over.
+
+   Memory is taken by malloc and realloc and given back by free, all of it before a call ends, but for that of a bundle. A
+   call keeps none of the memory that it was given: a bundle has copies of its sources. Each copy, with what was read in it,
+   is kept until fluent_close, also where later entries took the place of its own, and perhaps where there was no memory to
+   add it.
+
+   Calls in several threads at once have nothing in common. A bundle may go from thread to thread, and is asked by one of them
+   at a time: the program sees to it that a call has ended before the next one begins (tried, and not proved). No call belongs
+   into a signal handler.
 
    No call takes more than a megabyte of stack, whatever it is given (tried, and not proved). */
 #ifndef FLUENT_H
@@ -65,7 +71,7 @@ struct fluent_bundle {
     bool is_open;
 };
 
-#define FLUENT_CLOSED {0}
+#define FLUENT_CLOSED {NULL, false}
 
 /* Opens a bundle that is closed, for the plural rules of a language: FLUENT_OK, or it stays closed. */
 uint8_t fluent_open(struct fluent_bundle *bundle, const uint8_t *language, size_t language_length, bool isolate);
@@ -138,12 +144,13 @@ static inline size_t fluent_argument_length(size_t name_length, size_t value_len
 static inline uint8_t *fluent_put_sized(uint8_t *at, const void *text, size_t length) {
     for (int i = 0; i < 4; i++)
         at[i] = (uint8_t)(length >> 8 * i);
-    memcpy(at + 4, text, length);
+    if (length)
+        memcpy(at + 4, text, length);
     return at + 4 + length;
 }
 
 /* Writes an argument where fluent_argument_length bytes are free, and gives where the next one goes. Name and value are
-   shorter than 4 gigabytes each. */
+   shorter than 4 gigabytes each, and may be null where they have no bytes. */
 static inline uint8_t *fluent_put_argument(uint8_t *at, enum fluent_kind kind, const void *name, size_t name_length,
                                            const void *value, size_t value_length) {
     *at = (uint8_t)kind;
