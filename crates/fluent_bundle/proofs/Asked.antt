@@ -10,15 +10,15 @@ use Rattle.fluent_text.specs.Writer.{writer_in}
 use Rattle.fluent_text.specs.declared.counting.Counting.{Counting}
 use Rattle.fluent_text.specs.declared.counting.WriteFault.{WriteFault}
 use Rattle.fluent_text.specs.declared.counting.WriteFault.TheVariants as fault
-use Rattle.fluent_tree.specs.Tree.{Text, Pattern, Attributes, Attribute, no_attribute, attribute}
-use Rattle.fluent_meaning.specs.Arguments.{Map, get}
-use Rattle.fluent_meaning.specs.Bundle.{Bundle, Entry, a_message, a_term, a_function, number_builtin, Target, unknown, without_value, found, first_of, message_target}
-use Rattle.fluent_meaning.specs.Errors.{Error}
-use Rattle.fluent_meaning.specs.Number.{is_text}
-use Rattle.fluent_meaning.specs.Result.{formatted, written_pattern, substituted_pattern}
-use Rattle.fluent_meaning.specs.Value.{Value}
-use Rattle.fluent_values.specs.EntryView.{message_content}
-use Rattle.fluent_values.specs.MessageView.{first_named}
+use Rattle.fluent_ast.specs.Tree.{Text, Pattern, Attributes, Attribute, no_attribute, attribute}
+use Rattle.fluent_semantics.specs.Arguments.{Map, get}
+use Rattle.fluent_semantics.specs.Bundle.{Bundle, Entry, a_message, a_term, a_function, number_builtin, Target, unknown, without_value, found, first_of, message_target}
+use Rattle.fluent_semantics.specs.Errors.{Error}
+use Rattle.fluent_semantics.specs.Number.{is_text}
+use Rattle.fluent_semantics.specs.Result.{formatted, written_pattern, substituted_pattern}
+use Rattle.fluent_semantics.specs.Value.{Value}
+use Rattle.fluent_entries.specs.EntryView.{message_content}
+use Rattle.fluent_entries.specs.MessageView.{first_named}
 use Rattle.fluent_bundle.specs.Formatted.{AddsPrefix, BorrowsAsked, BorrowsSome, Errors, GivesAsked, GivesSome, GivesText, TakesNoMemory, WritesAll, WritesAsked, WritesPrefix, written_events}
 use Rattle.fluent_bundle.specs.Limits.{KeepsLimit}
 use Rattle.fluent_bundle.specs.PatternsWithoutMemory.{BorrowsText, WritesFree}

@@ -1,16 +1,16 @@
 -- What the events of a pattern come to, and those of patterns of texts.
 use Rattle.std.proofs.Common.{◌≡◌, refl, sym, ap, ◌∙◌, ℕ, List, [], ◌∷◌, ◌++◌, append-nil, append_assoc, Bool, true, Some}
-use Rattle.fluent_tree.specs.Tree.{Text, Pattern, nothing, more, text, placeable}
-use Rattle.fluent_meaning.specs.Ahead.{Ahead, EventsAreTheRun, Next, ahead, comes, finished}
-use Rattle.fluent_meaning.specs.Arguments.{Map}
-use Rattle.fluent_meaning.specs.Bundle.{Bundle}
-use Rattle.fluent_meaning.specs.Events.{entered, writes, text_in, errors_in}
-use Rattle.fluent_meaning.specs.Meaning.{left}
-use Rattle.fluent_meaning.specs.Laws.{CallsByThemselves}
-use Rattle.fluent_meaning.specs.Result.{written_pattern}
-use Rattle.fluent_meaning.specs.Value.{Value}
-use Rattle.fluent_meaning.specs.Walk.{Environment, application, elements, has_one, inner}
-use Rattle.fluent_values.specs.Texts.{sole_text, is_text, texts_of}
+use Rattle.fluent_ast.specs.Tree.{Text, Pattern, nothing, more, text, placeable}
+use Rattle.fluent_semantics.specs.Ahead.{Ahead, EventsAreTheRun, Next, ahead, comes, finished}
+use Rattle.fluent_semantics.specs.Arguments.{Map}
+use Rattle.fluent_semantics.specs.Bundle.{Bundle}
+use Rattle.fluent_semantics.specs.Events.{entered, writes, text_in, errors_in}
+use Rattle.fluent_semantics.specs.Meaning.{left}
+use Rattle.fluent_semantics.specs.Laws.{CallsByThemselves}
+use Rattle.fluent_semantics.specs.Result.{written_pattern}
+use Rattle.fluent_semantics.specs.Value.{Value}
+use Rattle.fluent_semantics.specs.Walk.{Environment, application, elements, has_one, inner}
+use Rattle.fluent_entries.specs.Texts.{sole_text, is_text, texts_of}
 use Rattle.fluent_bundle.specs.Facts.Events.{errors_on, text_on, writes_on}
 use Rattle.fluent_bundle.specs.Formatted.{EventsAreRun, written_events}
 

@@ -4,7 +4,7 @@ use Rattle.std.proofs.lemmas.Result.{on_ok_weaker}
 use Rattle.std.specs.Option.{option_map}
 use Rattle.std.specs.Io.KnownBytes.{Appends}
 use Rattle.std.specs.Prelude.{◌≤◌}
-use Rattle.fluent_tree.specs.Tree.{Text, Pattern}
+use Rattle.fluent_ast.specs.Tree.{Text, Pattern}
 use Rattle.fluent_text.specs.Taken.{Faulted}
 use Rattle.fluent_text.specs.Writer.{writer_in}
 use Rattle.fluent_text.specs.declared.counting.Counting.{Counting}
@@ -13,19 +13,19 @@ use Rattle.fluent_text.specs.declared.counting.WriteFault.TheVariants as fault
 use Rattle.fluent_values.specs.declared.output.Halt.{Halt}
 use Rattle.fluent_values.specs.declared.output.Output.{Output}
 use Rattle.fluent_values.specs.Sinks.{Sink, SinkTook, CountsTell, at, keeping, outside, sink, without_error, writer}
-use Rattle.fluent_meaning.specs.Ahead.{ahead, comes, events_of}
-use Rattle.fluent_meaning.specs.Arguments.{Map}
-use Rattle.fluent_meaning.specs.Bundle.{Bundle}
-use Rattle.fluent_meaning.specs.Errors.{Error}
-use Rattle.fluent_meaning.specs.Events.{Event, entered, errors_in, text_in, writes}
-use Rattle.fluent_meaning.specs.Result.{written_pattern, substituted_pattern}
-use Rattle.fluent_meaning.specs.Value.{Value}
-use Rattle.fluent_meaning.specs.Walk.{application, whole}
+use Rattle.fluent_semantics.specs.Ahead.{ahead, comes, events_of}
+use Rattle.fluent_semantics.specs.Arguments.{Map}
+use Rattle.fluent_semantics.specs.Bundle.{Bundle}
+use Rattle.fluent_semantics.specs.Errors.{Error}
+use Rattle.fluent_semantics.specs.Events.{Event, entered, errors_in, text_in, writes}
+use Rattle.fluent_semantics.specs.Result.{written_pattern, substituted_pattern}
+use Rattle.fluent_semantics.specs.Value.{Value}
+use Rattle.fluent_semantics.specs.Walk.{application, whole}
 use Rattle.fluent_entries.specs.declared.errors.FluentError.{FluentError}
 use Rattle.fluent_resolver.specs.Frames.{Tried}
 use Rattle.fluent_resolver.specs.Scoped.{pattern_events}
-use Rattle.fluent_resolver.specs.Status.{Status, reported, with_errors}
-use Rattle.fluent_resolver.specs.Steps.{IsAtStart}
+use Rattle.fluent_resolver_state.specs.Status.{Status, reported, with_errors}
+use Rattle.fluent_resolver_state.specs.Steps.{IsAtStart}
 use Rattle.fluent_bundle.specs.Facts.Events.{errors_of, text_of, writes_on}
 use Rattle.fluent_bundle.specs.Formatted.{AddsAll, AddsPrefix, EventsAreRun, WritesAll, Writes, written_events}
 use Rattle.fluent_bundle.specs.Limits.{KeepsLimit}

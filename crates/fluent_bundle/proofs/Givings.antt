@@ -2,17 +2,17 @@
 use Rattle.std.proofs.Common.{rules, ◌≡◌, refl, sym, ap, subst, ◌∙◌, List, [], ◌++◌, append-nil, Option, Some, None, Result, Global}
 use Rattle.std.specs.Prelude.{true, ◌≤◌, ◌&&◌, not, is_some, if◌then◌else◌}
 use Rattle.std.specs.declared.borrow.CowStr.{CowStr}
-use Rattle.fluent_tree.specs.Tree.{Text, Pattern, nothing, more, text, placeable}
-use Rattle.fluent_meaning.specs.Errors.{Error}
-use Rattle.fluent_meaning.specs.Value.{Value, text_value}
-use Rattle.fluent_meaning.specs.Arguments.{Map}
-use Rattle.fluent_meaning.specs.Bundle.{Bundle, unless_formatted}
-use Rattle.fluent_meaning.specs.Result.{formatted, written_pattern, substituted_pattern}
+use Rattle.fluent_ast.specs.Tree.{Text, Pattern, nothing, more, text, placeable}
+use Rattle.fluent_semantics.specs.Errors.{Error}
+use Rattle.fluent_semantics.specs.Value.{Value, text_value}
+use Rattle.fluent_semantics.specs.Arguments.{Map}
+use Rattle.fluent_semantics.specs.Bundle.{Bundle, unless_formatted}
+use Rattle.fluent_semantics.specs.Result.{formatted, written_pattern, substituted_pattern}
 use Rattle.fluent_bundle.specs.Formatted.{AddsAll, AddsPrefix, GivesText}
-use Rattle.fluent_meaning.specs.Walk.{elements}
-use Rattle.fluent_meaning.specs.Meaning.{ran}
-use Rattle.fluent_values.specs.Texts.{sole_text, is_text}
-use Rattle.fluent_resolver.specs.Status.{reported}
+use Rattle.fluent_semantics.specs.Walk.{elements}
+use Rattle.fluent_semantics.specs.Meaning.{ran}
+use Rattle.fluent_entries.specs.Texts.{sole_text, is_text}
+use Rattle.fluent_resolver_state.specs.Status.{reported}
 use Rattle.fluent_bundle.specs.Limits.{KeepsLimit}
 use Rattle.fluent_entries.specs.declared.errors.FluentError.{FluentError}
 

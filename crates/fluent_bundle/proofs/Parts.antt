@@ -2,14 +2,14 @@
 use Rattle.std.proofs.Common.{◌≡◌, ℕ, zero, suc, ◌+◌, ◌<◌, ◌≤◌, List, [], ◌∷◌, ◌++◌, append-nil, append_assoc, map, length, get_or, take, drop, refl, sym, ap, subst, ◌∙◌, arith}
 use Rattle.std.proofs.lemmas.List.{map-append}
 use Rattle.std.proofs.lemmas.Grind.{flat_map-append}
-use Rattle.fluent_tree.specs.Tree.{Text, Pattern, Attributes}
-use Rattle.fluent_tree.specs.View.{attribute_view}
-use Rattle.fluent_tree.specs.declared.ast.Attribute.{Attribute}
-use Rattle.fluent_meaning.specs.Errors.{Error}
-use Rattle.fluent_meaning.specs.Value.{Value}
-use Rattle.fluent_meaning.specs.Arguments.{Map}
-use Rattle.fluent_meaning.specs.Bundle.{Bundle}
-use Rattle.fluent_resolver.specs.Status.{reported}
+use Rattle.fluent_ast.specs.Tree.{Text, Pattern, Attributes}
+use Rattle.fluent_ast.specs.View.{attribute_view}
+use Rattle.fluent_ast.specs.declared.ast.Attribute.{Attribute}
+use Rattle.fluent_semantics.specs.Errors.{Error}
+use Rattle.fluent_semantics.specs.Value.{Value}
+use Rattle.fluent_semantics.specs.Arguments.{Map}
+use Rattle.fluent_semantics.specs.Bundle.{Bundle}
+use Rattle.fluent_resolver_state.specs.Status.{reported}
 use Rattle.fluent_entries.specs.declared.errors.FluentError.{FluentError}
 use Rattle.fluent_bundle.specs.Formatted.{AddsAll, AddsPrefix, attribute_errors, attribute_shown, attribute_texts, errors_of, text_of}
 use Rattle.fluent_bundle.specs.declared.messages.FormattedAttribute.{FormattedAttribute}

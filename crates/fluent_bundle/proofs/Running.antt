@@ -4,9 +4,9 @@ use Rattle.std.proofs.Common.{sym, ◌∙◌, ap, subst}
 use Rattle.std.specs.List.{All}
 use Rattle.std.proofs.lemmas.List.{map-append, map-id}
 use Rattle.std.proofs.lemmas.List.Elements.{All-head, All-tail}
-use Rattle.fluent_tree.specs.Tree.{Text}
-use Rattle.fluent_meaning.specs.Bundle as m
-use Rattle.fluent_meaning.specs.Bundle.{Bundle, after, after_all}
+use Rattle.fluent_ast.specs.Tree.{Text}
+use Rattle.fluent_semantics.specs.Bundle as m
+use Rattle.fluent_semantics.specs.Bundle.{Bundle, after, after_all}
 use Rattle.fluent_bundle.specs.BundleView.{formatter_in, intls_in, transform_in, Kept, KeptBeside}
 use Rattle.fluent_bundle.specs.Calls.{Makes, BegunBy, TakesNoMemory, transform_after_all, formatter_after_all}
 use Rattle.fluent_bundle.specs.declared.bundle.FluentBundle.{FluentBundle}

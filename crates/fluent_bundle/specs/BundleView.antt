@@ -2,18 +2,21 @@
 use Rattle.std.specs.Prelude.{ℕ, Bool, not, is_some, List, map, Option, None, Result, Ok, Err, ◌≡◌, ◌≢◌, [], ◌∷◌, String, string_bytes}
 use Rattle.std.specs.Option.{option_map, option_and_then}
 use Rattle.std.specs.declared.alloc.Global.{Global}
-use Rattle.fluent_tree.specs.Tree as t
-use Rattle.fluent_tree.specs.Tree.{Text, Pattern}
-use Rattle.fluent_tree.specs.View.{resource_view}
+use Rattle.std.specs.declared.vec.Vec.{Vec}
+use Rattle.fluent_ast.specs.Tree as t
+use Rattle.fluent_ast.specs.Tree.{Text, Pattern}
+use Rattle.fluent_ast.specs.View.{resource_view}
+use Rattle.fluent_ast.specs.declared.errors.ParserError.{ParserError}
 use Rattle.fluent_syntax.specs.Chunks.{entries, junk_ranges}
 use Rattle.fluent_syntax.specs.Parsed.{error_range}
 use Rattle.fluent_intl.specs.declared.language.LanguageIdentifier.{LanguageIdentifier}
-use Rattle.fluent_meaning.specs.Value.{Value, Plurals, Custom}
-use Rattle.fluent_meaning.specs.Arguments.{get}
-use Rattle.fluent_meaning.specs.Bundle.{Bundle, Function, transform_of, formatter_of, Call, after, answered}
-use Rattle.fluent_values.specs.View.{error_view, value_view}
-use Rattle.fluent_values.specs.MessageView.{Content, first_named}
-use Rattle.fluent_values.specs.EntryView.{function_of, ids, message_content}
+use Rattle.fluent_semantics.specs.Value.{Value, Plurals, Custom}
+use Rattle.fluent_semantics.specs.Arguments.{get}
+use Rattle.fluent_semantics.specs.Bundle.{Bundle, Function, transform_of, formatter_of, Call, after, answered}
+use Rattle.fluent_entries.specs.ErrorView.{error_view}
+use Rattle.fluent_values.specs.View.{value_view}
+use Rattle.fluent_entries.specs.MessageView.{Content, first_named}
+use Rattle.fluent_entries.specs.EntryView.{function_of, ids, message_content}
 use Rattle.fluent_values.specs.declared.types.value.FluentValue.{FluentValue}
 use Rattle.fluent_entries.specs.declared.entry.FunctionRef.{FunctionRef}
 use Rattle.fluent_entries.specs.declared.ids.Ids.{Ids}
@@ -35,6 +38,10 @@ entries_of r = resource_view r.body
 -- a resource of the source, with its entries
 abbrev pub IsRead : Text → FluentResource → Type 0
 IsRead source r = (source_in r ≡ source) × (entries_of r ≡ entries source)
+
+-- the same, with an error for each part that can't be read
+abbrev pub IsReadWith : Text → FluentResource → Vec ParserError Global → Type 0
+IsReadWith source r errors = IsRead source r × (map error_range errors.items ≡ junk_ranges source)
 
 -- What reading a source answers: without Junk a resource, with Junk the byte ranges of it beside the resource.
 abbrev pub Tried : Text → Result FluentResource TryNewFault → Type 0

@@ -1,10 +1,10 @@
 -- Calls as values: what they ask for, and what a list of them makes of a bundle.
 use Rattle.std.specs.Prelude.{◌≡◌, List, [], ◌∷◌, ◌++◌, map, Option, ⊤}
 use Rattle.std.specs.Option.{option_map}
-use Rattle.fluent_tree.specs.Tree.{Text}
-use Rattle.fluent_meaning.specs.Value.{Value}
-use Rattle.fluent_meaning.specs.Bundle as m
-use Rattle.fluent_meaning.specs.Bundle.{Bundle, Function, after_all}
+use Rattle.fluent_ast.specs.Tree.{Text}
+use Rattle.fluent_semantics.specs.Value.{Value}
+use Rattle.fluent_semantics.specs.Bundle as m
+use Rattle.fluent_semantics.specs.Bundle.{Bundle, Function, after_all}
 use Rattle.fluent_bundle.specs.BundleView.{entries_of, formatter_in, transform_in, KeptBeside}
 use Rattle.fluent_bundle.specs.declared.bundle.FluentBundle.{FluentBundle}
 use Rattle.fluent_bundle.specs.declared.calls.Call.{Call}

@@ -13,27 +13,27 @@ use Rattle.std.proofs.Common.{Global}
 use Rattle.fluent_text.specs.Writer.{writer_in}
 use Rattle.fluent_text.specs.declared.counting.Counting.{Counting}
 use Rattle.fluent_text.specs.declared.counting.WriteFault.{WriteFault}
-use Rattle.fluent_tree.specs.Tree.{Text, Pattern, Attributes}
-use Rattle.fluent_tree.specs.View.{pattern_view}
-use Rattle.fluent_tree.specs.declared.ast.Pattern as code
-use Rattle.fluent_meaning.specs.Ahead.{ahead, comes, events_of}
-use Rattle.fluent_meaning.specs.Arguments.{Map}
-use Rattle.fluent_meaning.specs.Bundle.{Bundle}
-use Rattle.fluent_meaning.specs.Errors.{Error}
-use Rattle.fluent_meaning.specs.Events.{Event, text_in, errors_in}
-use Rattle.fluent_meaning.specs.Meaning.{Outcome, Ran, left}
-use Rattle.fluent_meaning.specs.Result.{formatted, written_pattern, substituted_pattern}
-use Rattle.fluent_meaning.specs.Value.{Value}
-use Rattle.fluent_meaning.specs.Walk.{application, whole}
+use Rattle.fluent_ast.specs.Tree.{Text, Pattern, Attributes}
+use Rattle.fluent_ast.specs.View.{pattern_view}
+use Rattle.fluent_ast.specs.declared.ast.Pattern as code
+use Rattle.fluent_semantics.specs.Ahead.{ahead, comes, events_of}
+use Rattle.fluent_semantics.specs.Arguments.{Map}
+use Rattle.fluent_semantics.specs.Bundle.{Bundle}
+use Rattle.fluent_semantics.specs.Errors.{Error}
+use Rattle.fluent_semantics.specs.Events.{Event, text_in, errors_in}
+use Rattle.fluent_semantics.specs.Meaning.{Outcome, Ran, left}
+use Rattle.fluent_semantics.specs.Result.{formatted, written_pattern, substituted_pattern}
+use Rattle.fluent_semantics.specs.Value.{Value}
+use Rattle.fluent_semantics.specs.Walk.{application, whole}
 use Rattle.fluent_entries.specs.declared.errors.FluentError.{FluentError}
-use Rattle.fluent_values.specs.MessageView.{Content}
+use Rattle.fluent_entries.specs.MessageView.{Content}
 use Rattle.fluent_values.specs.Sinks.{Sink, CountsTell}
-use Rattle.fluent_values.specs.Texts.{sole_text}
+use Rattle.fluent_entries.specs.Texts.{sole_text}
 use Rattle.fluent_values.specs.declared.args.FluentArgs.{FluentArgs}
 use Rattle.fluent_values.specs.declared.output.Halt.{Halt}
-use Rattle.fluent_resolver.specs.Changes.{Change}
+use Rattle.fluent_text.specs.Changes.{Change, new, old}
 use Rattle.fluent_resolver.specs.Scoped.{IsRunOf}
-use Rattle.fluent_resolver.specs.Status.{arguments_view, reported}
+use Rattle.fluent_resolver_state.specs.Status.{arguments_view, reported}
 use Rattle.fluent_bundle.specs.BundleView.{formatter_in, message_at, transform_in}
 use Rattle.fluent_bundle.specs.PatternsWithoutMemory.{WritesFree}
 use Rattle.fluent_bundle.specs.declared.bundle.FluentBundle.{FluentBundle}
@@ -96,13 +96,6 @@ pub record EventsAreRun (b : Bundle Text) (args : Map (Value Text)) (p : Pattern
 
 abbrev pub Errors : Type 0
 Errors = Vec FluentError Global
-
--- what a `&mut` parameter refers to before and after the call: in a clause both are the parameter's name alone
-abbrev pub old : {A : Type 0} → Change A → A
-old x = x.entry.now
-
-abbrev pub new : {A : Type 0} → Change A → A
-new x = x.exit.now
 
 -- what the writer held before and after
 abbrev pub before : {W : Type 0} → (W → Option Text) → Change (Counting W) → Option Text

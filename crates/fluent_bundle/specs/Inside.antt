@@ -2,3 +2,4 @@
 pub mod Asked
 pub mod Outputs
 pub mod Unchanged
+pub mod AddAnswers

@@ -1,12 +1,6 @@
-pub use Rattle.fluent_meaning.specs.Errors
-pub use Rattle.fluent_meaning.specs.Bundle
-pub use Rattle.fluent_meaning.specs.Walk
-pub use Rattle.fluent_meaning.specs.Meaning
-pub use Rattle.fluent_meaning.specs.Result
 pub mod BundleView
 pub mod Formatted
 pub mod Limits
-pub mod AddAnswers
 pub mod Calls
 pub mod CallRows
 pub mod PatternsWithoutMemory

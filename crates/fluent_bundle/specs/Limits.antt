@@ -1,14 +1,14 @@
 -- What the limit of a bundle does to the text and the errors of a pattern.
 use Rattle.std.specs.Prelude.{◌≡◌, ◌-◌, ◌<◌, ◌≤◌, ◌↔◌, []}
-use Rattle.fluent_tree.specs.Tree.{Pattern}
-use Rattle.fluent_meaning.specs.Value.{Value}
-use Rattle.fluent_meaning.specs.Arguments.{Map}
-use Rattle.fluent_meaning.specs.Bundle.{Bundle}
-use Rattle.fluent_meaning.specs.Walk.{application}
-use Rattle.fluent_meaning.specs.Meaning.{left, limit_reached}
-use Rattle.fluent_meaning.specs.Limit.{up_to_limit}
-use Rattle.fluent_meaning.specs.Laws.{IsBounded, IsLimitOf}
-use Rattle.fluent_meaning.specs.Result.{written_pattern, substituted_pattern}
+use Rattle.fluent_ast.specs.Tree.{Pattern}
+use Rattle.fluent_semantics.specs.Value.{Value}
+use Rattle.fluent_semantics.specs.Arguments.{Map}
+use Rattle.fluent_semantics.specs.Bundle.{Bundle}
+use Rattle.fluent_semantics.specs.Walk.{application}
+use Rattle.fluent_semantics.specs.Meaning.{left, limit_reached}
+use Rattle.fluent_semantics.specs.Limit.{up_to_limit}
+use Rattle.fluent_semantics.specs.Laws.{IsBounded, IsLimitOf}
+use Rattle.fluent_semantics.specs.Result.{written_pattern, substituted_pattern}
 
 pub record KeepsLimit {C : Type 0} (b : Bundle C) (args : Map (Value C)) (p : Pattern) : Type 0 where
   -- the limit is reached exactly where the substitution meaning opens more than the limit

@@ -4,7 +4,7 @@
 ghost use Rattle.std.specs.Prelude.{◌≡◌, IfSome};
 ghost use Rattle.std.specs.Option.{option_map};
 ghost use Rattle.fluent_text.specs.Writer.{CountsFault};
-ghost use Rattle.fluent_resolver.specs.FoundView.{IsStored, content_at};
+ghost use Rattle.fluent_resolver_state.specs.FoundView.{IsStored, content_at};
 ghost use Rattle.fluent_bundle.specs.BundleView.{attribute_at, entries_in, value_at};
 ghost use Rattle.fluent_bundle.specs.Formatted.{BorrowsAsked, Finds, TakesNoMemory, WritesFound};
 ghost use Rattle.fluent_bundle.specs.Inside.Asked.{pattern_asked};

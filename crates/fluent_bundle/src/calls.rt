@@ -1,7 +1,7 @@
 //! Calls on a bundle as values, so that what a list of them makes can be said.
 ghost use Rattle.std.specs.Prelude.{◌≡◌, [], ◌∷◌, OnOk, OnErr, IsOk};
 ghost use Rattle.std.specs.List.{All};
-ghost use Rattle.fluent_bundle.specs.AddAnswers.{unless_alloc_failed};
+ghost use Rattle.fluent_bundle.specs.Inside.AddAnswers.{unless_alloc_failed};
 ghost use Rattle.fluent_bundle.specs.BundleView.{intls_in, Kept};
 ghost use Rattle.fluent_bundle.specs.Calls.{asked, BegunBy, Makes, TakesNoMemory};
 

@@ -3,13 +3,13 @@
 
 ghost use Rattle.std.specs.Prelude.{◌≡◌, ◌&&◌, ◌++◌, false, not, is_some, string_bytes, IfOk, OnOk};
 ghost use Rattle.std.specs.Option.{option_map};
-ghost use Rattle.fluent_meaning.specs.Value.{text_value};
+ghost use Rattle.fluent_semantics.specs.Value.{text_value};
 ghost use Rattle.fluent_text.specs.Writer.{CountsFault};
-ghost use Rattle.fluent_tree.specs.References.{references};
-ghost use Rattle.fluent_tree.specs.View.{pattern_view};
+ghost use Rattle.fluent_ast.specs.References.{references};
+ghost use Rattle.fluent_ast.specs.View.{pattern_view};
 ghost use Rattle.fluent_entries.specs.IdNumbers.{IsPlaced};
-ghost use Rattle.fluent_values.specs.Texts.{is_text};
-ghost use Rattle.fluent_resolver.specs.Status.{arguments_view};
+ghost use Rattle.fluent_entries.specs.Texts.{is_text};
+ghost use Rattle.fluent_resolver_state.specs.Status.{arguments_view};
 ghost use Rattle.fluent_bundle.specs.BundleView.{entries_in, transform_in};
 ghost use Rattle.fluent_bundle.specs.Formatted.{Adds, AddsSome, GivesWhole, GivesWithin, WritesBeginning, WritesWhole, WritesWithin, written};
 ghost use Rattle.fluent_bundle.specs.Inside.Outputs.{CountsHalt, PutsFree, WritesOut};
@@ -130,6 +130,7 @@ impl<
         ensures fault { CountsFault w.old w.new result }
         ensures memory { WritesFree self.now (pattern_view pattern.now) result }
     {
+        // A law does nothing when it is called: its clauses go into the proof.
         laws::events_are_the_run();
         if let Some(text) = self.untransformed_text(pattern) {
             return put(w, text.as_bytes());
@@ -290,6 +291,7 @@ impl<
         ensures prefix { AddsSome (written (⟦<Self as Means>⟧.meaning self.now) C.content args.entry pattern.now).errors errors }
         ensures fault { CountsHalt unused.old unused.new result }
     {
+        // A law does nothing when it is called: its clauses go into the proof.
         laws::events_are_the_run();
         let mut kept = String::new(self.alloc);
         let mut out = Output {

@@ -1,13 +1,13 @@
 //! What a bundle's limit does, and what the events of a formatting call come to, from the laws of the meanings.
-ghost use Rattle.fluent_tree.specs.Tree.{Pattern, Text};
-ghost use Rattle.fluent_meaning.specs.Arguments.{Map};
-ghost use Rattle.fluent_meaning.specs.Bundle.{Bundle};
-ghost use Rattle.fluent_meaning.specs.Value.{Value};
+ghost use Rattle.fluent_ast.specs.Tree.{Pattern, Text};
+ghost use Rattle.fluent_semantics.specs.Arguments.{Map};
+ghost use Rattle.fluent_semantics.specs.Bundle.{Bundle};
+ghost use Rattle.fluent_semantics.specs.Value.{Value};
 ghost use Rattle.fluent_bundle.specs.Formatted.{EventsAreRun};
 ghost use Rattle.fluent_bundle.specs.Limits.{KeepsLimit};
 
-use fluent_meaning::laws;
 use fluent_resolver::calls_are_walks;
+use fluent_semantics::laws;
 use std::collections::LinkedList;
 
 /// What a pattern gives keeps the limit of its bundle, whatever the bundle, the arguments and the pattern.

@@ -27,5 +27,5 @@ pub use fluent_values::{
     memoizer, types,
 };
 pub use messages::{FormattedAttribute, FormattedMessage};
-pub use resolver::{Context, Means, ResolverError, Scope};
+pub use resolver::{Context, Means, ResolverError, Scope, category_word};
 pub use resource::{Entries, FluentResource, TryNewFault};

@@ -1,6 +1,6 @@
 //! What a bundle means, in the words of the definitions. Contracts alone name it.
-ghost use Rattle.fluent_meaning.specs.Bundle.{Bundle};
-ghost use Rattle.fluent_tree.specs.Tree.{Text};
+ghost use Rattle.fluent_semantics.specs.Bundle.{Bundle};
+ghost use Rattle.fluent_ast.specs.Tree.{Text};
 ghost use Rattle.fluent_bundle.specs.BundleView.{meant};
 
 use crate::bundle::FluentBundle;

@@ -1,15 +1,15 @@
 //! A source with what was read from it.
 #![tactic(auto, unfolding(crate::specs::BundleView::source_in, crate::specs::BundleView::entries_of))]
 
-ghost use Rattle.std.specs.Prelude.{◌≡◌, map};
+ghost use Rattle.std.specs.Prelude.{◌≡◌, ◌≢◌, [], map, IfOk, OnErr};
 ghost use Rattle.std.specs.Option.{option_map};
 ghost use Rattle.std.specs.List.{slice_get};
 ghost use Rattle.std.specs.Slice.Iter.{iter_rest};
-ghost use Rattle.fluent_tree.specs.View.{entry_view};
-ghost use Rattle.fluent_bundle.specs.BundleView.{Tried, entries_of, source_in};
+ghost use Rattle.fluent_ast.specs.View.{entry_view};
+ghost use Rattle.fluent_bundle.specs.BundleView.{IsReadWith, Tried, entries_of, source_in};
 
 use fluent_syntax::{ParseFault, ParserError, ast, parse_runtime};
-use std::alloc::Global;
+use std::alloc::{AllocError, Global};
 use std::slice::Iter;
 
 /// An FTL source and its entries.
@@ -55,6 +55,25 @@ impl<'s> FluentResource<'s> {
                 Err(TryNewFault::Parser(FluentResource { source, body }, errors))
             }
             Err(ParseFault::Memory) => Err(TryNewFault::Memory),
+        }
+    }
+
+    /// Reads a source, and keeps what can be read of it: the resource, and an error for each Junk, in order.
+    ///
+    /// # Errors
+    ///
+    /// An allocation failed, which an empty source can't meet.
+    pub fn read(
+        alloc: Global,
+        source: &'s str,
+    ) -> Result<(FluentResource<'s>, Vec<ParserError>), AllocError>
+        ensures read { IfOk result (λ read. IsReadWith source.now read.0 read.1) }
+        ensures memory { OnErr result (source.now ≢ []) }
+    {
+        match FluentResource::try_new(alloc, source) {
+            Ok(resource) => Ok((resource, Vec::new(alloc))),
+            Err(TryNewFault::Parser(resource, errors)) => Ok((resource, errors)),
+            Err(TryNewFault::Memory) => Err(AllocError),
         }
     }
 

@@ -1,13 +1,12 @@
 //! What C calls: `c/fluent.h` says how.
 #![tactic(auto)]
 
-ghost use Rattle.fluent_plain.specs.Statuses.{Answers};
-ghost use Rattle.fluent_kept.specs.Exports.{AddsToSlot, FindsInSlot, Formats, HasInSlot, IsClosed, LimitsSlot, ListsIdsOfSlot, OpensSlot, OpensSlotByRules, OverridesInSlot, ReportsOfSlot};
-ghost use Rattle.fluent_kept_chain.specs.First.{FirstGives};
-ghost use Rattle.fluent_kept_chain.specs.Kept.{MeanTheSame};
+ghost use Rattle.fluent_c_handles.specs.Calls.{Adds, Finds, Formats, Has, ListsIds, Opens, OpensByRules, Overrides, Reports, SetsLimit, WhenOpen};
+ghost use Rattle.fluent_c_handles.specs.First.{FormatsFirst};
+ghost use Rattle.fluent_c_handles.specs.Kept.{Does, GivesText, GivesTexts, IsClosed, MeanTheSame};
+ghost use Rattle.fluent_c_handles.specs.Sources.{FormatsSource};
 
-use fluent_kept::Slot;
-use fluent_plain::Lengths;
+use fluent_c_handles::{Lengths, Slot};
 use std::alloc::Global;
 
 /// Formats a message of a source.
@@ -24,15 +23,15 @@ pub extern "C" fn fluent_format_source(
     err: &mut [u8],
     sizes: &mut Lengths,
 ) -> u8
-    ensures { Answers tag isolate source id name args out.old out.new err.old err.new sizes.new result }
+    ensures { FormatsSource tag.now isolate source.now id.now name.now args.now out err sizes result }
 {
-    fluent_plain::answer(alloc, tag, isolate, source, id, name, args, out, err, sizes)
+    fluent_c_handles::format_source(alloc, tag, isolate, source, id, name, args, out, err, sizes)
 }
 
 /// Opens a bundle.
 #[unsafe(no_mangle)]
 pub extern "C" fn fluent_open(alloc: Global, slot: &mut Slot, tag: &[u8], isolate: bool) -> u8
-    ensures { OpensSlot tag isolate slot.old slot.new result }
+    ensures { Does (Opens tag.now isolate) slot result }
 {
     slot.open(alloc, tag, isolate)
 }
@@ -46,7 +45,7 @@ pub extern "C" fn fluent_open_rules(
     ordinal: &[u8],
     isolate: bool,
 ) -> u8
-    ensures { OpensSlotByRules cardinal ordinal isolate slot.old slot.new result }
+    ensures { Does (OpensByRules cardinal.now ordinal.now isolate) slot result }
 {
     slot.open_rules(alloc, cardinal, ordinal, isolate)
 }
@@ -54,7 +53,7 @@ pub extern "C" fn fluent_open_rules(
 /// Sets how many placeables one call opens.
 #[unsafe(no_mangle)]
 pub extern "C" fn fluent_set_limit(alloc: Global, slot: &mut Slot, limit: usize) -> u8
-    ensures { LimitsSlot limit slot.old slot.new result }
+    ensures { Does (WhenOpen (SetsLimit limit)) slot result }
 {
     slot.set_limit(alloc, limit)
 }
@@ -62,7 +61,7 @@ pub extern "C" fn fluent_set_limit(alloc: Global, slot: &mut Slot, limit: usize)
 /// Adds a source.
 #[unsafe(no_mangle)]
 pub extern "C" fn fluent_add(alloc: Global, slot: &mut Slot, source: &[u8]) -> u8
-    ensures { AddsToSlot source slot.old slot.new result }
+    ensures { Does (WhenOpen (Adds source.now)) slot result }
 {
     slot.add(alloc, source)
 }
@@ -70,7 +69,7 @@ pub extern "C" fn fluent_add(alloc: Global, slot: &mut Slot, source: &[u8]) -> u
 /// Adds a source whose entries take the place of what has their ids.
 #[unsafe(no_mangle)]
 pub extern "C" fn fluent_add_overriding(alloc: Global, slot: &mut Slot, source: &[u8]) -> u8
-    ensures { OverridesInSlot source slot.old slot.new result }
+    ensures { Does (WhenOpen (Overrides source.now)) slot result }
 {
     slot.add_overriding(alloc, source)
 }
@@ -83,7 +82,7 @@ pub extern "C" fn fluent_report(
     out: &mut [u8],
     length: &mut usize,
 ) -> u8
-    ensures { ReportsOfSlot slot.old slot.new out.old out.new length.new result }
+    ensures { GivesText (WhenOpen Reports) slot out length result }
 {
     slot.report(alloc, out, length)
 }
@@ -96,7 +95,7 @@ pub extern "C" fn fluent_ids(
     out: &mut [u8],
     length: &mut usize,
 ) -> u8
-    ensures { ListsIdsOfSlot slot.old slot.new out.old out.new length.new result }
+    ensures { GivesText (WhenOpen ListsIds) slot out length result }
 {
     slot.ids(alloc, out, length)
 }
@@ -104,7 +103,7 @@ pub extern "C" fn fluent_ids(
 /// Whether there is a message.
 #[unsafe(no_mangle)]
 pub extern "C" fn fluent_has(alloc: Global, slot: &mut Slot, id: &[u8]) -> u8
-    ensures { HasInSlot id slot.old slot.new result }
+    ensures { Does (WhenOpen (Has id.now)) slot result }
 {
     slot.has(alloc, id)
 }
@@ -112,7 +111,7 @@ pub extern "C" fn fluent_has(alloc: Global, slot: &mut Slot, id: &[u8]) -> u8
 /// Whether there is a message with a value, or with an attribute.
 #[unsafe(no_mangle)]
 pub extern "C" fn fluent_find(alloc: Global, slot: &mut Slot, id: &[u8], name: &[u8]) -> u8
-    ensures { FindsInSlot id name slot.old slot.new result }
+    ensures { Does (WhenOpen (Finds id.now name.now)) slot result }
 {
     slot.find(alloc, id, name)
 }
@@ -129,7 +128,7 @@ pub extern "C" fn fluent_format(
     err: &mut [u8],
     sizes: &mut Lengths,
 ) -> u8
-    ensures { Formats id name args slot.old slot.new out.old out.new err.old err.new sizes.new result }
+    ensures { GivesTexts (WhenOpen (Formats id.now name.now args.now)) slot out err sizes result }
 {
     slot.format(alloc, id, name, args, out, err, sizes)
 }
@@ -147,9 +146,9 @@ pub extern "C" fn fluent_format_chain(
     sizes: &mut Lengths,
 ) -> u8
     ensures left { MeanTheSame slots.old slots.new }
-    ensures text { FirstGives id name args slots.old out.old out.new err.old err.new sizes.new result }
+    ensures text { FormatsFirst id.now name.now args.now slots out err sizes result }
 {
-    fluent_kept_chain::format_first(alloc, slots, id, name, args, out, err, sizes)
+    fluent_c_handles::format_first(alloc, slots, id, name, args, out, err, sizes)
 }
 
 /// Closes a bundle.

@@ -3,7 +3,7 @@ use Rattle.std.specs.Prelude.{◌≡◌, ℕ, List, map, Option}
 use Rattle.std.specs.List.{slice_get}
 use Rattle.std.specs.Option.{option_and_then, option_map}
 use Rattle.std.specs.Borrow.{Bor}
-use Rattle.fluent_tree.specs.Tree.{Text}
+use Rattle.fluent_ast.specs.Tree.{Text}
 use Rattle.fluent_bundle.specs.declared.bundle.FluentBundle.{FluentBundle}
 use Rattle.fluent_catalog.specs.declared.catalog.Catalog.{Catalog}
 

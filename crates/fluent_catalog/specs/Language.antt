@@ -1,10 +1,10 @@
 -- The plural rules of a language.
 use Rattle.std.specs.Prelude.{codes, Option, Some, None, Result, Ok, Err}
-use Rattle.fluent_tree.specs.Tree.{Text}
-use Rattle.fluent_intl.specs.Languages.{Texts}
-use Rattle.fluent_intl.specs.RuleTree.{Rules}
-use Rattle.fluent_intl.specs.RuleTexts as rules
-use Rattle.fluent_intl.specs.RuleTexts.{IsParse}
+use Rattle.fluent_ast.specs.Tree.{Text}
+use Rattle.fluent_plural_rules.specs.Languages.{Texts}
+use Rattle.fluent_plural_rules.specs.RuleTree.{Rules}
+use Rattle.fluent_plural_rules.specs.RuleTexts as rules
+use Rattle.fluent_plural_rules.specs.RuleTexts.{IsParse}
 use Rattle.fluent_catalog.specs.declared.language.LanguageFault.{LanguageFault}
 use Rattle.fluent_catalog.specs.declared.language.LanguageFault.TheVariants as fault
 

@@ -1,5 +1,3 @@
-pub mod Adding
-pub mod CatalogCalls
 pub mod CatalogView
 pub mod Language
 pub mod Reports

@@ -1,14 +1,16 @@
 //! The bundles of several languages, the best first.
 ghost use Rattle.std.specs.Prelude.{◌≡◌, [], ◌∷◌, ◌++◌, map, OnOk, OnErr};
-ghost use Rattle.fluent_chain.specs.ChainView.{bundles_of};
+ghost use Rattle.fluent_bundle.specs.BundleView.{attribute_at, value_at};
+ghost use Rattle.fluent_fallback.specs.Chain.{index_with};
+ghost use Rattle.fluent_fallback.specs.ChainCalls.{BorrowsFirst, GivesFirst};
+ghost use Rattle.fluent_fallback.specs.ChainView.{bundles_of};
 ghost use Rattle.fluent_catalog.specs.CatalogView.{IsUnchanged, bundles_in, tag_in, tag_seen, tags_in};
 
-use crate::says::Says;
 use fluent_bundle::{
-    FluentArgs, FluentBundle, FluentError, FluentFormatter, FluentFunction, FluentType,
+    FluentArgs, FluentBundle, FluentError, FluentFormatter, FluentFunction, FluentType, Means,
     MemoizerKind, Transform,
 };
-use fluent_chain::Chain;
+use fluent_fallback::Chain;
 use std::alloc::{AllocError, Global};
 use std::borrow::CowStr;
 
@@ -30,6 +32,26 @@ impl<'r, 's: 'r, M: Drop, C, F: Drop, G: Drop, T: Drop> Drop for Catalog<'r, 's,
             bundles: _,
         } = self;
     }
+}
+
+impl<
+    'r,
+    's: 'r,
+    M: MemoizerKind,
+    C: FluentType,
+    F: FluentFunction<C>,
+    G: FluentFormatter<C, M>,
+    T: Transform,
+> Means for Catalog<'r, 's, M, C, F, G, T> {
+    ghost use Rattle.std.specs.Prelude.{List};
+    ghost use Rattle.fluent_ast.specs.Tree.{Text};
+    ghost use Rattle.fluent_semantics.specs.Bundle.{Bundle};
+    ghost use Rattle.fluent_bundle.specs.BundleView.{meant};
+
+    ghost Kind = { List (Bundle Text) };
+
+    ghost meaning = { λ catalog. map
+        (meant M.category C.shown C.alike F.answer G.formatted T.changed) (bundles_in catalog) };
 }
 
 impl<
@@ -107,9 +129,10 @@ impl<
     ) -> Result<CowStr<'t>, AllocError>
     where
         's: 't,
-        ensures text { ⟦<Self as Says>⟧.gives self.now id.now None args.entry result
-            errors.old errors.new }
-        ensures borrowed { ⟦<Self as Says>⟧.borrows self.now id.now None result }
+        ensures text { GivesFirst (⟦<Self as Means>⟧.meaning self.now) C.content args.entry id.now (value_at id.now)
+            result errors }
+        ensures borrowed { BorrowsFirst ⟦<FluentBundle<'r, 's, M, C, F, G, T> as Means>⟧.meaning (bundles_in self.now)
+            id.now (value_at id.now) result }
     {
         Chain::of(self.bundles.as_slice()).format_value(id, args, errors)
     }
@@ -129,9 +152,10 @@ impl<
     ) -> Result<CowStr<'t>, AllocError>
     where
         's: 't,
-        ensures text { ⟦<Self as Says>⟧.gives self.now id.now (Some name.entry) args.entry result
-            errors.old errors.new }
-        ensures borrowed { ⟦<Self as Says>⟧.borrows self.now id.now (Some name.entry) result }
+        ensures text { GivesFirst (⟦<Self as Means>⟧.meaning self.now) C.content args.entry id.now (attribute_at id.now name.now)
+            result errors }
+        ensures borrowed { BorrowsFirst ⟦<FluentBundle<'r, 's, M, C, F, G, T> as Means>⟧.meaning (bundles_in self.now)
+            id.now (attribute_at id.now name.now) result }
     {
         Chain::of(self.bundles.as_slice()).format_attribute(id, name, args, errors)
     }
@@ -139,14 +163,14 @@ impl<
     /// The language that answers for the value of a message. `None` where no language has a value for it, and the id
     /// stands for the text.
     pub fn find_value(&self, id: &str) -> Option<&'s str>
-        ensures { tag_seen result ≡ ⟦<Self as Says>⟧.tag self.now id.now None }
+        ensures { tag_seen result ≡ tag_in self.now (index_with (value_at id.now) (⟦<Self as Means>⟧.meaning self.now)) }
     {
         self.tag_at(Chain::of(self.bundles.as_slice()).find_value(id))
     }
 
     /// The language that answers for an attribute of a message, by the rule of [`Catalog::find_value`].
     pub fn find_attribute(&self, id: &str, name: &str) -> Option<&'s str>
-        ensures { tag_seen result ≡ ⟦<Self as Says>⟧.tag self.now id.now (Some name.entry) }
+        ensures { tag_seen result ≡ tag_in self.now (index_with (attribute_at id.now name.now) (⟦<Self as Means>⟧.meaning self.now)) }
     {
         self.tag_at(Chain::of(self.bundles.as_slice()).find_attribute(id, name))
     }

@@ -1,9 +1,9 @@
 //! The plural rules of a language, by its tag.
-ghost use Rattle.fluent_intl.specs.LanguageTable.{cldr_plurals};
-ghost use Rattle.fluent_intl.specs.Languages.{rules_of};
+ghost use Rattle.fluent_plural_rules.specs.LanguageTable.{cldr_plurals};
+ghost use Rattle.fluent_plural_rules.specs.Languages.{rules_of};
 ghost use Rattle.fluent_catalog.specs.Language.{HasPlurals};
 
-use fluent_intl::{RuleFault, RuleTexts, cldr_plurals, rules_for};
+use fluent_plural_rules::{RuleFault, RuleTexts, cldr_plurals, rules_for};
 use std::alloc::Global;
 use std::error::Error;
 use std::fmt;

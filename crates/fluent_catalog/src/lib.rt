@@ -4,7 +4,6 @@
 pub mod catalog;
 mod language;
 mod reports;
-mod says;
 
 pub use catalog::Catalog;
 pub use language::{LanguageFault, plurals_for};

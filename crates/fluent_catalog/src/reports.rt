@@ -1,12 +1,11 @@
 //! What is wrong with the sources of several languages.
 ghost use Rattle.std.specs.Prelude.{IfOk, OnOk, OnErr};
-ghost use Rattle.fluent_bundle.specs.BundleView.{IsRead, Kept};
-ghost use Rattle.fluent_catalog.specs.Reports.{TellsNothing, TellsUnreadable};
+ghost use Rattle.fluent_bundle.specs.BundleView.{IsRead, Kept, entries_of};
+ghost use Rattle.fluent_catalog.specs.Reports.{AddsSource, MeansTheSame, TellsLeft, TellsNothing, TellsUnreadable};
 
-use crate::says::Adds;
 use fluent_bundle::{
     AddFault, FluentBundle, FluentError, FluentFormatter, FluentFunction, FluentResource,
-    FluentType, MemoizerKind, ParserError, Transform, TryNewFault,
+    FluentType, Means, MemoizerKind, ParserError, Transform,
 };
 use std::alloc::{AllocError, Global};
 
@@ -19,7 +18,7 @@ pub enum Report<'t> {
     Left(&'t str, Vec<FluentError>),
 }
 
-/// Reads a source of a language, as [`FluentResource::try_new`] does; a report of what can't be read, if there is any,
+/// Reads a source of a language, as [`FluentResource::read`] does; a report of what can't be read, if there is any,
 /// is added at the end of the list. The rest of the source is there all the same.
 ///
 /// # Errors
@@ -32,17 +31,14 @@ pub fn read_source<'s>(
     reports: &mut Vec<Report<'s>>,
 ) -> Result<FluentResource<'s>, AllocError>
     ensures resource { IfOk result (λ resource. IsRead source.now resource) }
-    ensures reports { OnOk result (TellsUnreadable tag.now source.now reports.old reports.new) }
-    ensures err { OnErr result (TellsNothing reports.old reports.new) }
+    ensures reports { OnOk result (TellsUnreadable tag.now source.now reports) }
+    ensures err { OnErr result (TellsNothing reports) }
 {
-    match FluentResource::try_new(alloc, source) {
-        Ok(resource) => Ok(resource),
-        Err(TryNewFault::Parser(resource, errors)) => {
-            reports.push(Report::Unreadable(tag, errors))?;
-            Ok(resource)
-        }
-        Err(TryNewFault::Memory) => Err(AllocError),
+    let (resource, errors) = FluentResource::read(alloc, source)?;
+    if !errors.is_empty() {
+        reports.push(Report::Unreadable(tag, errors))?;
     }
+    Ok(resource)
 }
 
 /// Adds the messages and terms of a resource of a language to its bundle, as [`FluentBundle::add_resource`] does; a
@@ -65,11 +61,11 @@ pub fn add_source<
     resource: &'r FluentResource<'s>,
     reports: &mut Vec<Report<'s>>,
 ) -> Result<(), AllocError>
-    ensures step { OnOk result (⟦<M as Adds<C, F, G, T>>⟧.adds resource.now bundle.old bundle.new) }
-    ensures reports { OnOk result
-        (⟦<M as Adds<C, F, G, T>>⟧.reports tag.now resource.now bundle.old reports.old reports.new) }
-    ensures err { OnErr result (⟦<M as Adds<C, F, G, T>>⟧.same bundle.old bundle.new) }
-    ensures none { OnErr result (TellsNothing reports.old reports.new) }
+    ensures step { OnOk result (AddsSource ⟦<FluentBundle<'r, 's, M, C, F, G, T> as Means>⟧.meaning (entries_of resource.now) bundle) }
+    ensures reports { OnOk result (TellsLeft tag.now (⟦<FluentBundle<'r, 's, M, C, F, G, T> as Means>⟧.meaning bundle.old)
+        (entries_of resource.now) reports) }
+    ensures err { OnErr result (MeansTheSame ⟦<FluentBundle<'r, 's, M, C, F, G, T> as Means>⟧.meaning bundle) }
+    ensures none { OnErr result (TellsNothing reports) }
     ensures kept { Kept bundle.old bundle.new }
 {
     reports.reserve(1)?;

@@ -1,6 +1,6 @@
 -- A bundle of each resource, by its entries.
 use Rattle.std.proofs.Common.{◌≡◌, List, [], ◌∷◌, map, refl, ap}
-use Rattle.fluent_tree.specs.Tree.{Text}
+use Rattle.fluent_ast.specs.Tree.{Text}
 use Rattle.fluent_bundle.specs.declared.resource.FluentResource.{FluentResource}
 use Rattle.fluent_cli.specs.Language.{alone, bundle_of, entries_of_all}
 

@@ -1,17 +1,19 @@
 -- What the linter says where it finds nothing.
 use Rattle.std.proofs.Common.{◌≡◌, List, [], ◌∷◌, ◌++◌, inl, inr, refl, sym, ap, subst}
 use Rattle.std.specs.List.{AllByRecursion}
-use Rattle.fluent_tree.specs.Tree.{Text}
-use Rattle.fluent_meaning.specs.Bundle.{Bundle}
-use Rattle.fluent_clean.specs.Clean.{names_of}
-use Rattle.fluent_clean.specs.Places.{Place}
+use Rattle.std.specs.declared.vec.Vec.{Vec}
+use Rattle.std.proofs.Common.{Global}
+use Rattle.fluent_ast.specs.Tree.{Text}
+use Rattle.fluent_semantics.specs.Bundle.{Bundle}
+use Rattle.fluent_lint.specs.Clean.{names_of}
+use Rattle.fluent_lint.specs.Places.{Place}
 use Rattle.fluent_lint.specs.EntryPlaces as entries
-use Rattle.fluent_lint.specs.Findings.{IsFine}
+use Rattle.fluent_lint.specs.Findings.{IsFine, IsTold}
 use Rattle.fluent_bundle.specs.BundleView.{entries_of}
 use Rattle.fluent_bundle.specs.declared.resource.FluentResource.{FluentResource}
-use Rattle.fluent_linter.specs.Findings.{IsTold}
-use Rattle.fluent_linter.specs.Lints.{Lints, NeverFails, places_in}
-use Rattle.fluent_linter.specs.declared.finding.Finding.{Finding}
+use Rattle.fluent_lint.specs.Laws.{NeverFails}
+use Rattle.fluent_lint.specs.Lints.{Lints, places_in}
+use Rattle.fluent_lint.specs.declared.finding.Finding.{Finding}
 use Rattle.fluent_cli.specs.Checked.{NoneFails, places_of}
 use Rattle.fluent_cli.specs.Language.{entries_of_all}
 
@@ -23,7 +25,7 @@ never : (b : Bundle Text) (xs : List Place) → ((x : Place) → IsFine (names_o
 never b [] written all = tt
 never b (x ∷ xs) written all = (elim all.0 [ inl named ↦ absurd named | inr fine ↦ written x fine ], never b xs written all.1)
 
-pub none_fails : (b : Bundle Text) (rs : List FluentResource) (fs : List Finding) → fs ≡ [] → Lints b (places_in rs) fs → NoneFails b (entries_of_all rs)
+pub none_fails : (b : Bundle Text) (rs : List FluentResource) (fs : Vec Finding Global) → fs.items ≡ [] → Lints b rs fs → NoneFails b (entries_of_all rs)
 none_fails b rs fs none says =
     let all : AllByRecursion (IsTold (names_of b) b.limit []) (places_in rs) = subst (λ gs. AllByRecursion (IsTold (names_of b) b.limit gs) (places_in rs)) none says.finds.told in
     subst (λ xs. AllByRecursion (NeverFails b) xs) (same_places rs) (never b (places_in rs) says.written all)

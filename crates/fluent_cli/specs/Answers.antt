@@ -2,7 +2,7 @@
 use Rattle.std.specs.Prelude.{◌≡◌, ◌==◌, ◌&&◌, ℕ, Bool, true, false, List, [], ◌∷◌, ◌++◌, codes, String, string_bytes, if◌then◌else◌}
 use Rattle.std.specs.Fmt.{decimal}
 use Rattle.std.proofs.Common.{Global}
-use Rattle.fluent_tree.specs.Tree.{Text}
+use Rattle.fluent_ast.specs.Tree.{Text}
 use Rattle.fluent_cli.specs.declared.answer.Answer.{Answer}
 use Rattle.fluent_cli.specs.declared.answer.Status.{Status}
 use Rattle.fluent_cli.specs.declared.answer.Status.TheVariants.{Fine, Found, Usage, Fault}

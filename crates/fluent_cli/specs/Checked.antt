@@ -2,11 +2,11 @@
 use Rattle.std.specs.Prelude.{◌≡◌, ◌⊎◌, Bool, IsTrue, List, [], ◌∷◌, ◌++◌, Option, Some, None, Result, IfOk, codes}
 use Rattle.std.specs.Borrow.{Bor}
 use Rattle.std.specs.List.{AllByRecursion}
-use Rattle.fluent_tree.specs.Tree.{Text, Entry}
-use Rattle.fluent_meaning.specs.Bundle.{Bundle}
-use Rattle.fluent_clean.specs.Places.{Place}
+use Rattle.fluent_ast.specs.Tree.{Text, Entry}
+use Rattle.fluent_semantics.specs.Bundle.{Bundle}
+use Rattle.fluent_lint.specs.Places.{Place}
 use Rattle.fluent_lint.specs.EntryPlaces.{places_in}
-use Rattle.fluent_linter.specs.Lints.{NeverFails}
+use Rattle.fluent_lint.specs.Laws.{NeverFails}
 use Rattle.fluent_cli.specs.Answers.{EndsWith, counts_line}
 use Rattle.fluent_cli.specs.Files.{entries_read}
 use Rattle.fluent_cli.specs.Language.{all_of}

@@ -1,17 +1,17 @@
 -- The plural rules of a language, and the bundle that each file has.
 use Rattle.std.specs.Prelude.{ℕ, Bool, true, List, [], ◌∷◌, ◌++◌, map, Option, Some, None, Result, Ok, Err}
-use Rattle.fluent_tree.specs.Tree.{Text, Entry}
-use Rattle.fluent_intl.specs.Languages.{Texts, rules_of}
-use Rattle.fluent_intl.specs.LanguageTable.{cldr_plurals}
-use Rattle.fluent_intl.specs.RuleTree.{Rule, Rules}
-use Rattle.fluent_intl.specs.RuleGrammar.{rules}
-use Rattle.fluent_intl.specs.RuleTexts.{category_of}
-use Rattle.fluent_meaning.specs.Value.{Value, Custom, error_value}
-use Rattle.fluent_meaning.specs.Bundle.{Bundle, empty_bundle, after, after_all, add_resource, add_builtins}
+use Rattle.fluent_ast.specs.Tree.{Text, Entry}
+use Rattle.fluent_plural_rules.specs.Languages.{Texts, rules_of}
+use Rattle.fluent_plural_rules.specs.LanguageTable.{cldr_plurals}
+use Rattle.fluent_plural_rules.specs.RuleTree.{Rule, Rules}
+use Rattle.fluent_plural_rules.specs.RuleGrammar.{rules}
+use Rattle.fluent_plural_rules.specs.RuleTexts.{category_of}
+use Rattle.fluent_semantics.specs.Value.{Value, Custom, error_value}
+use Rattle.fluent_semantics.specs.Bundle.{Bundle, empty_bundle, after, after_all, add_resource, add_builtins}
 use Rattle.fluent_bundle.specs.BundleView.{meant, entries_of}
 use Rattle.fluent_bundle.specs.declared.bundle.FluentBundle.{FluentBundle}
 use Rattle.fluent_bundle.specs.declared.resource.FluentResource.{FluentResource}
-use Rattle.fluent_intl.specs.declared.rule_texts.RuleTexts.{RuleTexts}
+use Rattle.fluent_plural_rules.specs.declared.rule_texts.RuleTexts.{RuleTexts}
 use Rattle.fluent_values.specs.declared.formatter.NoFormatter.{NoFormatter}
 use Rattle.fluent_values.specs.declared.function.NoFunction.{NoFunction}
 use Rattle.fluent_values.specs.declared.transform.NoTransform.{NoTransform}

@@ -1,7 +1,7 @@
 -- What a run leaves, by what is asked for and the contents of its files.
 use Rattle.std.specs.Prelude.{◌≡◌, ◌⊎◌, ◌++◌, ◌∷◌, [], ℕ, min, List, map, take, length, Option, Some, None, codes, string_bytes}
 use Rattle.std.specs.Borrow.{Bor}
-use Rattle.fluent_tree.specs.Tree.{Text, Entry}
+use Rattle.fluent_ast.specs.Tree.{Text, Entry}
 use Rattle.fluent_cli.specs.Answers.{IsFault}
 use Rattle.fluent_cli.specs.Checked.{IsChecked, tag_of}
 use Rattle.fluent_cli.specs.Files.{file_entries, mark_lines, no_text_in, read_of}

@@ -2,11 +2,11 @@
 use Rattle.std.specs.Prelude.{◌≡◌, ◌==◌, ℕ, Bool, true, false, not, List, [], ◌∷◌, ◌++◌, map, Option, is_some, string_bytes, string_len}
 use Rattle.std.specs.List.{list_any}
 use Rattle.std.specs.Option.{option_map}
-use Rattle.fluent_tree.specs.Tree.{Text, Entry, Pattern}
-use Rattle.fluent_meaning.specs.Value.{Value, text_value, try_number}
-use Rattle.fluent_meaning.specs.Arguments.{Map, set_all}
-use Rattle.fluent_meaning.specs.Bundle.{Bundle}
-use Rattle.fluent_chain.specs.Chain.{Shown, pattern_at, first_with, shown_of}
+use Rattle.fluent_ast.specs.Tree.{Text, Entry, Pattern}
+use Rattle.fluent_semantics.specs.Value.{Value, text_value, try_number}
+use Rattle.fluent_semantics.specs.Arguments.{Map, set_all}
+use Rattle.fluent_semantics.specs.Bundle.{Bundle}
+use Rattle.fluent_fallback.specs.Chain.{Shown, pattern_at, first_with, shown_of}
 use Rattle.fluent_cli.specs.Answers.{status_shown}
 use Rattle.fluent_cli.specs.Language.{bundle_of}
 use Rattle.fluent_cli.specs.declared.answer.Answer.{Answer}

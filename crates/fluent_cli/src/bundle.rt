@@ -5,7 +5,7 @@ ghost use Rattle.fluent_cli.specs.Language.{adding, all_of, alone, bundle_view, 
 use fluent_bundle::{
     AddFault, FluentBundle, FluentResource, NoCustom, NoFormatter, NoFunction, NoTransform,
 };
-use fluent_intl::{LanguageRules, RuleTexts, cldr_plurals, rules_for};
+use fluent_plural_rules::{LanguageRules, RuleTexts, cldr_plurals, rules_for};
 use std::alloc::{AllocError, Global};
 
 /// The rules of a language that has none.

@@ -19,8 +19,8 @@ use crate::silent::{add_no_number, add_ungiven, asking_of};
 use crate::source::{Source, Sources};
 use crate::spots::Spots;
 use crate::words::CheckRequest;
-use fluent_intl::{LanguageRules, cldr_plurals, rules_for};
 use fluent_lint::place::pattern_at;
+use fluent_plural_rules::{LanguageRules, cldr_plurals, rules_for};
 use std::alloc::{AllocError, Global};
 
 /// What is found, and whether the linter found nothing.
@@ -51,11 +51,11 @@ fn add_silent<'s>(
         if let Some(rules) = &rules {
             add_pattern(rules, place, pattern, &mut kinds)?;
         }
-        for kind in &kinds {
+        for kind in kinds {
             findings.push(Finding {
                 file: spot.file,
                 at: spot.at,
-                kind: *kind,
+                kind,
             })?;
         }
     }

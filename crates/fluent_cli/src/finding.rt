@@ -1,6 +1,7 @@
 //! What is found in a source.
+use fluent_bundle::category_word;
 use fluent_intl::PluralCategory;
-use fluent_lint::{LineColumn, Place};
+use fluent_lint::{Finding as Linted, Kind as LintKind, LineColumn, Place};
 use std::fmt;
 
 /// How much a finding weighs.
@@ -21,30 +22,11 @@ impl fmt::Display for Weight {
     }
 }
 
-/// A place as it is written in a reference.
-#[derive(Clone, Copy, Drop)]
-pub(crate) struct Named<'s>(pub Place<'s>);
-
-impl fmt::Display for Named<'_> {
-    fn fmt<W: fmt::Write>(&self, f: &mut fmt::Formatter<W>) -> fmt::Result {
-        let (mark, id, attribute) = match self.0 {
-            Place::Message(id, attribute) => ("", id, attribute),
-            Place::Term(id, attribute) => ("-", id, attribute),
-        };
-        let name = id.name;
-        match attribute {
-            Some(attribute) => {
-                let attribute = attribute.name;
-                write!(f, "{mark}{name}.{attribute}")
-            }
-            None => write!(f, "{mark}{name}"),
-        }
-    }
-}
-
 /// What was found.
-#[derive(Clone, Copy, Drop)]
+#[derive(Drop)]
 pub(crate) enum Kind<'s> {
+    /// What the linter finds.
+    Linted(Linted<'s>),
     /// What can't be read as an entry, to the end of this line.
     Unreadable(usize),
     /// An entry whose id is that of one before it, in this file and there.
@@ -53,22 +35,6 @@ pub(crate) enum Kind<'s> {
     Builtin(Place<'s>),
     /// An attribute whose name its entry has before.
     Repeated(Place<'s>),
-    /// A pattern refers to what isn't there: first that, then the pattern.
-    Missing(Place<'s>, Place<'s>),
-    /// A pattern refers to the value of a message that has none: first that, then the pattern.
-    NoValue(Place<'s>, Place<'s>),
-    /// A pattern calls a function that isn't there, unless an application adds it.
-    NoFunction(&'s str, Place<'s>),
-    /// A pattern refers to itself.
-    Cyclic(Place<'s>),
-    /// A pattern refers to this one, which leads back to it.
-    Circular(Place<'s>, Place<'s>),
-    /// A pattern refers to one that has a finding itself: first that, then the pattern.
-    LeadsTo(Place<'s>, Place<'s>),
-    /// A select has no default variant. No source is read as one.
-    NoDefault(Place<'s>),
-    /// A pattern opens this many placeables, which are more than a bundle's limit.
-    Large(Place<'s>, u64, u32),
     /// A pattern refers to a term that shows a variable, and doesn't give it: that, the term, then the pattern.
     NotGiven(&'s str, Place<'s>, Place<'s>),
     /// A pattern calls `NUMBER` with what is no number, whatever the arguments are.
@@ -90,20 +56,13 @@ pub(crate) enum Kind<'s> {
 impl Kind<'_> {
     pub(crate) fn weight(&self) -> Weight {
         match self {
+            Kind::Linted(finding) => weight_of(finding),
             Kind::Unreadable(_)
             | Kind::Taken(..)
             | Kind::Builtin(_)
-            | Kind::Missing(..)
-            | Kind::NoValue(..)
-            | Kind::Cyclic(_)
-            | Kind::Circular(..)
-            | Kind::LeadsTo(..)
-            | Kind::NoDefault(_)
-            | Kind::Large(..)
             | Kind::Untranslated(_)
             | Kind::AsksFor(..) => Weight::Error,
             Kind::Repeated(_)
-            | Kind::NoFunction(..)
             | Kind::NotGiven(..)
             | Kind::NoNumber(_)
             | Kind::Lacks(..)
@@ -114,129 +73,65 @@ impl Kind<'_> {
     }
 }
 
-/// What kind of thing a place is.
-fn sort_of(place: Place<'_>) -> &'static str {
-    match place {
-        Place::Message(_, None) => "message",
-        Place::Term(_, None) => "term",
-        Place::Message(_, Some(_)) | Place::Term(_, Some(_)) => "attribute",
-    }
-}
-
-/// The key of a plural category.
-pub(crate) fn key_of(category: PluralCategory) -> &'static str {
-    match category {
-        PluralCategory::ZERO => "zero",
-        PluralCategory::ONE => "one",
-        PluralCategory::TWO => "two",
-        PluralCategory::FEW => "few",
-        PluralCategory::MANY => "many",
-        PluralCategory::OTHER => "other",
+/// How much a finding of the linter weighs. A function that isn't there may be one that the application adds.
+fn weight_of(finding: &Linted<'_>) -> Weight {
+    match &finding.kind {
+        LintKind::UnknownFunction { .. } => Weight::Warning,
+        _ => Weight::Error,
     }
 }
 
 impl fmt::Display for Kind<'_> {
     fn fmt<W: fmt::Write>(&self, f: &mut fmt::Formatter<W>) -> fmt::Result {
         match self {
+            Kind::Linted(finding) => write_linted(finding, f),
             Kind::Unreadable(line) => write!(f, "this can't be read, to the end of line {line}"),
-            Kind::Taken(place, file, at) => {
-                let name = Named(*place);
-                let line = at.line;
-                let column = at.column;
-                write!(f, "the id of '{name}' is taken by {file}:{line}:{column}")
+            Kind::Taken(place, file, at) => write!(
+                f,
+                "the id of '{place}' is taken by {file}:{at}"
+            ),
+            Kind::Builtin(place) => write!(f, "the id of '{place}' is that of a function"),
+            Kind::Repeated(place) => write!(
+                f,
+                "'{place}' stands there twice, and the first counts"
+            ),
+            Kind::NotGiven(variable, term, place) => write!(
+                f,
+                "'{term}' is not given ${variable} (in '{place}')"
+            ),
+            Kind::NoNumber(place) => write!(f, "NUMBER of what is no number (in '{place}')"),
+            Kind::Lacks(category, place) => {
+                let key = category_word(*category);
+                write!(f, "no variant [{key}] (in '{place}')")
             }
-            Kind::Builtin(place) => {
-                let name = Named(*place);
-                write!(f, "the id of '{name}' is that of a function")
+            Kind::NeverComes(category, place) => {
+                let key = category_word(*category);
+                write!(f, "[{key}] never comes in this language (in '{place}')")
             }
-            Kind::Repeated(place) => {
-                let name = Named(*place);
-                write!(f, "'{name}' stands there twice, and the first counts")
-            }
-            Kind::Missing(what, within) => {
-                let sort = sort_of(*what);
-                let name = Named(*what);
-                let within = Named(*within);
-                write!(f, "no {sort} '{name}' (in '{within}')")
-            }
-            Kind::NoValue(what, within) => {
-                let name = Named(*what);
-                let within = Named(*within);
-                write!(f, "no value of message '{name}' (in '{within}')")
-            }
-            Kind::NoFunction(name, within) => {
-                let within = Named(*within);
-                write!(
-                    f,
-                    "no function '{name}', unless the application adds it (in '{within}')"
-                )
-            }
-            Kind::Cyclic(place) => {
-                let name = Named(*place);
-                write!(f, "'{name}' refers to itself")
-            }
-            Kind::Circular(next, place) => {
-                let name = Named(*place);
-                let next = Named(*next);
-                write!(f, "'{name}' refers to '{next}', which leads back to it")
-            }
-            Kind::LeadsTo(next, place) => {
-                let name = Named(*place);
-                let next = Named(*next);
-                write!(f, "'{name}' refers to '{next}', where something is wrong")
-            }
-            Kind::NoDefault(place) => {
-                let name = Named(*place);
-                write!(f, "a select has no default (in '{name}')")
-            }
-            Kind::Large(place, count, limit) => {
-                let name = Named(*place);
-                write!(
-                    f,
-                    "'{name}' can open {count} placeables, and no more than {limit} are opened"
-                )
-            }
-            Kind::NotGiven(variable, term, within) => {
-                let name = Named(*term);
-                let within = Named(*within);
-                write!(f, "'{name}' is not given ${variable} (in '{within}')")
-            }
-            Kind::NoNumber(within) => {
-                let within = Named(*within);
-                write!(f, "NUMBER of what is no number (in '{within}')")
-            }
-            Kind::Lacks(category, within) => {
-                let key = key_of(*category);
-                let within = Named(*within);
-                write!(f, "no variant [{key}] (in '{within}')")
-            }
-            Kind::NeverComes(category, within) => {
-                let key = key_of(*category);
-                let within = Named(*within);
-                write!(f, "[{key}] never comes in this language (in '{within}')")
-            }
-            Kind::Untranslated(place) => {
-                let name = Named(*place);
-                write!(f, "'{name}' is not translated")
-            }
-            Kind::Obsolete(place) => {
-                let name = Named(*place);
-                write!(f, "'{name}' is not in the reference")
-            }
-            Kind::AsksFor(variable, place) => {
-                let name = Named(*place);
-                write!(
-                    f,
-                    "'{name}' asks for ${variable}, and the reference doesn't"
-                )
-            }
-            Kind::LeavesOut(variable, place) => {
-                let name = Named(*place);
-                write!(
-                    f,
-                    "'{name}' doesn't ask for ${variable}, and the reference does"
-                )
-            }
+            Kind::Untranslated(place) => write!(f, "'{place}' is not translated"),
+            Kind::Obsolete(place) => write!(f, "'{place}' is not in the reference"),
+            Kind::AsksFor(variable, place) => write!(
+                f,
+                "'{place}' asks for ${variable}, and the reference doesn't"
+            ),
+            Kind::LeavesOut(variable, place) => write!(
+                f,
+                "'{place}' doesn't ask for ${variable}, and the reference does"
+            ),
         }
+    }
+}
+
+/// Writes what the linter finds.
+fn write_linted<W: fmt::Write>(finding: &Linted<'_>, f: &mut fmt::Formatter<W>) -> fmt::Result {
+    match &finding.kind {
+        LintKind::UnknownFunction { id } => {
+            let place = finding.place;
+            write!(
+                f,
+                "no function '{id}', unless the application adds it (in '{place}')"
+            )
+        }
+        _ => write!(f, "{finding}"),
     }
 }

@@ -5,7 +5,6 @@ ghost use Rattle.std.specs.Prelude.{◌≡◌, IfOk};
 use crate::answer::{Answer, Status};
 use crate::bundle::bundle_of_all;
 use crate::faults::{say_faults, spots_in};
-use crate::finding::Named;
 use crate::places::{asked_at, places_of};
 use crate::source::Sources;
 use fluent_lint::{Asked, Place};
@@ -17,8 +16,7 @@ fn put_place<'s>(
     place: &Place<'s>,
     text: &mut String,
 ) -> Result<(), AllocError> {
-    let name = Named(*place);
-    write!(text, "{name}")?;
+    write!(text, "{place}")?;
     if let Some(variables) = asked.of(place) {
         for variable in variables.as_slice() {
             write!(text, " ${variable}")?;

@@ -1,10 +1,12 @@
 //! Selects on numbers, by the plural categories of a language.
-use crate::finding::{Kind, key_of};
+use crate::finding::Kind;
 use fluent_bundle::ast::{
     Expression, InlineExpression, NamedArgument, Pattern, PatternElement, Variant, VariantKey,
 };
-use fluent_intl::{LanguageRules, PluralCategory};
+use fluent_bundle::category_word;
+use fluent_intl::PluralCategory;
 use fluent_lint::Place;
+use fluent_plural_rules::LanguageRules;
 use std::alloc::AllocError;
 
 /// The plural categories.
@@ -116,8 +118,8 @@ fn add_select<'s>(
         rules.cardinal
     };
     for category in CATEGORIES {
-        let has_variant = has_key(variants, key_of(category));
-        match rule_of(text, key_of(category)) {
+        let has_variant = has_key(variants, category_word(category));
+        match rule_of(text, category_word(category)) {
             Some(rule) => {
                 if !has_variant && !is_met(rule, variants) {
                     kinds.push(Kind::Lacks(category, *place))?;

@@ -10,7 +10,7 @@ use indexmap::IndexSet;
 use std::alloc::{AllocError, Global};
 
 /// A finding, and where it is: the index of its source, and the line and column there.
-#[derive(Clone, Copy, Drop)]
+#[derive(Drop)]
 pub(crate) struct Finding<'s> {
     pub file: usize,
     pub at: LineColumn,
@@ -52,11 +52,10 @@ fn line_of(
         Some(source) => source.name,
         None => "",
     };
-    let line = finding.at.line;
-    let column = finding.at.column;
+    let at = finding.at;
     let weight = finding.kind.weight();
-    let kind = finding.kind;
-    format!(in alloc; "{name}:{line}:{column}: {weight}: {kind}\n")
+    let kind = &finding.kind;
+    format!(in alloc; "{name}:{at}: {weight}: {kind}\n")
 }
 
 /// Writes a line for each finding, and no line twice, as for two references to what isn't there: how many these are.

@@ -1,7 +1,7 @@
 //! A message as an application shows it.
 
 ghost use Rattle.std.specs.Prelude.{◌≡◌, [], IfOk, map, string_bytes};
-ghost use Rattle.fluent_chain.specs.ChainView.{bundles_of};
+ghost use Rattle.fluent_fallback.specs.ChainView.{bundles_of};
 ghost use Rattle.fluent_values.specs.View.{named, value_view};
 ghost use Rattle.fluent_cli.specs.Answers.{status_shown};
 ghost use Rattle.fluent_cli.specs.Files.{entries_read};
@@ -16,8 +16,8 @@ use crate::words::{Argument, ShowRequest};
 use fluent_bundle::{
     FluentArgs, FluentError, FluentValue, NoCustom, NoFormatter, NoFunction, NoTransform,
 };
-use fluent_chain::Chain;
-use fluent_intl::RuleTexts;
+use fluent_fallback::Chain;
+use fluent_plural_rules::RuleTexts;
 use std::alloc::{AllocError, Global};
 use std::borrow::CowStr;
 

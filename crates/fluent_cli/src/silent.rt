@@ -2,7 +2,7 @@
 
 ghost use Rattle.std.specs.Prelude.{IfOk, OnOk};
 ghost use Rattle.fluent_cli.specs.Language.{bundle_view};
-ghost use Rattle.fluent_cli.specs.Silent.{AddsAsking, AddsNoNumber, AddsUngiven, AreAsking};
+ghost use Rattle.fluent_cli.specs.Inside.Silent.{AddsAsking, AddsNoNumber, AddsUngiven, AreAsking};
 
 use crate::bundle::Bundle;
 use crate::finding::Kind;

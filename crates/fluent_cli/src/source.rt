@@ -4,7 +4,7 @@ ghost use Rattle.std.specs.Prelude.{◌≡◌, ◌≤◌, [], IfOk, IsTrue, OnOk
 ghost use Rattle.fluent_cli.specs.Answers.{Adds};
 ghost use Rattle.fluent_cli.specs.Files.{AreRead, IsTextOf, ReadsAll, ReadsFile, ReadsMore, has_mark, mark_line, mark_lines, read_view, without_mark};
 
-use fluent_bundle::{FluentResource, ParserError, TryNewFault};
+use fluent_bundle::{FluentResource, ParserError};
 use std::alloc::{AllocError, Global};
 use std::str;
 
@@ -90,17 +90,9 @@ impl<'f> Sources<'f> {
         ensures { OnOk result (ReadsMore (read_view source.entry) self.old self.new) }
     {
         self.texts.push(source)?;
-        match FluentResource::try_new(alloc, source.text) {
-            Ok(resource) => {
-                self.resources.push(resource)?;
-                self.unreadable.push(Vec::new(alloc))?;
-            }
-            Err(TryNewFault::Parser(resource, unreadable)) => {
-                self.resources.push(resource)?;
-                self.unreadable.push(unreadable)?;
-            }
-            Err(TryNewFault::Memory) => return Err(AllocError),
-        }
+        let (resource, unreadable) = FluentResource::read(alloc, source.text)?;
+        self.resources.push(resource)?;
+        self.unreadable.push(unreadable)?;
         Ok(())
     }
 }

@@ -6,7 +6,7 @@ ghost use Rattle.fluent_cli.specs.Runs.{IsAsked, file_names};
 use crate::answer::{Answer, Status};
 use clap::error::ErrorKind;
 use clap::{Arg, ArgAction, ArgMatches, Command, Error};
-use fluent_intl::{cldr_plurals, rules_for};
+use fluent_plural_rules::{cldr_plurals, rules_for};
 use std::alloc::{AllocError, Global};
 
 /// What is asked for.

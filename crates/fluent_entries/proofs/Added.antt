@@ -2,13 +2,13 @@
 use Rattle.std.specs.Prelude.{◌≡◌, ℕ, List, [], ◌∷◌, ◌++◌, map, refl, take, drop, length, ◌<◌, ◌+◌}
 use Rattle.std.proofs.Common.{sym, ◌∙◌, ap, get_or, append_assoc}
 use Rattle.std.proofs.lemmas.List.{drop_more, map_more, append-nil}
-use Rattle.fluent_tree.specs.Tree.{Text, Entry, message_entry, term_entry, junk_entry}
-use Rattle.fluent_tree.specs.View.{entry_view}
-use Rattle.fluent_tree.specs.declared.ast.Entry as code
-use Rattle.fluent_meaning.specs.Arguments.{Map, set}
-use Rattle.fluent_meaning.specs.Bundle.{added, overridden, not_added, add_free, error_if_taken, a_message, a_term}
-use Rattle.fluent_meaning.specs.Bundle as m
-use Rattle.fluent_meaning.specs.Errors.{Error, Kind, message_kind, term_kind}
+use Rattle.fluent_ast.specs.Tree.{Text, Entry, message_entry, term_entry, junk_entry}
+use Rattle.fluent_ast.specs.View.{entry_view}
+use Rattle.fluent_ast.specs.declared.ast.Entry as code
+use Rattle.fluent_semantics.specs.Arguments.{Map, set}
+use Rattle.fluent_semantics.specs.Bundle.{added, overridden, not_added, add_free, error_if_taken, a_message, a_term}
+use Rattle.fluent_semantics.specs.Bundle as m
+use Rattle.fluent_semantics.specs.Errors.{Error, Kind, message_kind, term_kind}
 
 module _ {C : Type 0} where
   pub added_append : (es fs : List Entry) (ids : Map (m.Entry C)) → added (es ++ fs) ids ≡ added fs (added es ids)

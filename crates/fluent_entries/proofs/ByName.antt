@@ -11,10 +11,9 @@ use Rattle.std.specs.Str.{bytes_eq}
 use Rattle.std.specs.List.{filter_map, cons_option}
 use Rattle.std.proofs.Common.{sym, ◌∙◌, ap, Bor}
 use Rattle.std.proofs.lemmas.Slice.Eq.{bytes_eq-Decides}
-use Rattle.fluent_tree.specs.Tree.{Text}
+use Rattle.fluent_ast.specs.Tree.{Text}
 use Rattle.fluent_links.specs.Slots.{named, flat}
-use Rattle.fluent_entries.specs.EntryView.{filled}
-use Rattle.fluent_entries.specs.EntryView.{by_name}
+use Rattle.fluent_entries.specs.EntryView.{filled, by_name}
 
 pub borrowed_view : {X Y : Type 0} (f : X → Y) (o : Option (Bor X)) → option_map (λ r. f r.now) o ≡ option_map f (option_map (λ r. r.now) o)
 borrowed_view f None = refl

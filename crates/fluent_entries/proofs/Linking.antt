@@ -7,10 +7,10 @@ use Rattle.std.specs.Str.{bytes_eq}
 use Rattle.std.proofs.Common.{Bor, ap, sym, subst, ◌∙◌, get_or}
 use Rattle.std.proofs.lemmas.Bool.{and_parts}
 use Rattle.std.proofs.lemmas.List.{map_more}
-use Rattle.fluent_tree.specs.Tree.{Text, Pattern, nothing, more, text, placeable}
-use Rattle.fluent_tree.specs.References.{references}
-use Rattle.fluent_tree.specs.View.{pattern_view}
-use Rattle.fluent_tree.specs.declared.ast.Attribute.{Attribute}
+use Rattle.fluent_ast.specs.Tree.{Text, Pattern, nothing, more, text, placeable}
+use Rattle.fluent_ast.specs.References.{references}
+use Rattle.fluent_ast.specs.View.{pattern_view}
+use Rattle.fluent_ast.specs.declared.ast.Attribute.{Attribute}
 use Rattle.fluent_links.specs.Classes.{Grows, HasClass}
 use Rattle.fluent_links.specs.Linked.{IsOf, are_some, class_of, still_of}
 use Rattle.fluent_links.specs.Links.{KeepsNumbers}

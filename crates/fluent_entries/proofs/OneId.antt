@@ -9,12 +9,12 @@ use Rattle.std.specs.List.{position_or_len}
 use Rattle.std.specs.Map.{keys_of}
 use Rattle.std.specs.Ordering.{nat_cmp, eq_by_cmp}
 use Rattle.std.specs.Str.{bytes_eq}
-use Rattle.fluent_tree.specs.Tree.{Text}
+use Rattle.fluent_ast.specs.Tree.{Text}
 use Rattle.fluent_links.specs.Slots.{number, slots}
-use Rattle.fluent_meaning.specs.Arguments.{Map, get, set}
-use Rattle.fluent_meaning.specs.Bundle.{add_free, error_if_taken}
-use Rattle.fluent_meaning.specs.Bundle as meaning
-use Rattle.fluent_meaning.specs.Errors.{Error, Kind, overriding}
+use Rattle.fluent_semantics.specs.Arguments.{Map, get, set}
+use Rattle.fluent_semantics.specs.Bundle.{add_free, error_if_taken}
+use Rattle.fluent_semantics.specs.Bundle as meaning
+use Rattle.fluent_semantics.specs.Errors.{Error, Kind, overriding}
 use Rattle.fluent_entries.specs.IdNumbers.{numbers}
 use Rattle.fluent_entries.specs.declared.ids.Ids.{Ids}
 

@@ -4,7 +4,7 @@ use Rattle.std.specs.Option.{option_map}
 use Rattle.std.specs.Str.{bytes_eq}
 use Rattle.std.proofs.Common.{Bor, sym, subst}
 use Rattle.std.proofs.lemmas.Slice.Eq.{bytes_eq-Decides}
-use Rattle.fluent_tree.specs.Tree.{Text}
+use Rattle.fluent_ast.specs.Tree.{Text}
 use Rattle.fluent_links.specs.Slots.{named}
 use Rattle.fluent_entries.specs.declared.entry.Entry.{Entry}
 use Rattle.fluent_entries.specs.declared.entry.Entry.TheVariants as entry

@@ -8,16 +8,16 @@ use Rattle.std.proofs.lemmas.Bool.{eq-eqb, eqb-true}
 use Rattle.std.proofs.lemmas.List.{append-nil}
 use Rattle.std.proofs.lemmas.Option.{slice_get_read, slice_get_within}
 use Rattle.std.proofs.lemmas.Slice.Eq.{bytes_eq-Decides}
-use Rattle.fluent_tree.specs.Tree.{Text, Pattern, Entry, message_entry, term_entry, junk_entry}
-use Rattle.fluent_tree.specs.View.{attribute_view, entry_view, pattern_view, value_view}
-use Rattle.fluent_tree.specs.declared.ast.Entry as code
-use Rattle.fluent_tree.specs.declared.ast.Entry.TheVariants as entries
+use Rattle.fluent_ast.specs.Tree.{Text, Pattern, Entry, message_entry, term_entry, junk_entry}
+use Rattle.fluent_ast.specs.View.{attribute_view, entry_view, pattern_view, value_view}
+use Rattle.fluent_ast.specs.declared.ast.Entry as code
+use Rattle.fluent_ast.specs.declared.ast.Entry.TheVariants as entries
 use Rattle.fluent_links.specs.Classes.{Grows}
 use Rattle.fluent_links.specs.Links.{KeepsNumbers}
-use Rattle.fluent_meaning.specs.Arguments.{Map, get, set, set_all}
-use Rattle.fluent_meaning.specs.Bundle.{added, overridden, not_added, a_message, a_term}
-use Rattle.fluent_meaning.specs.Bundle as m
-use Rattle.fluent_meaning.specs.Errors.{message_kind, overriding, term_kind}
+use Rattle.fluent_semantics.specs.Arguments.{Map, get, set, set_all}
+use Rattle.fluent_semantics.specs.Bundle.{added, overridden, not_added, a_message, a_term}
+use Rattle.fluent_semantics.specs.Bundle as m
+use Rattle.fluent_semantics.specs.Errors.{message_kind, overriding, term_kind}
 use Rattle.fluent_entries.specs.declared.adding.Parts.{Parts}
 use Rattle.fluent_entries.specs.declared.ids.Ids.{Ids}
 use Rattle.fluent_entries.specs.declared.ready.Ready.{Ready}

@@ -3,15 +3,15 @@ use Rattle.std.specs.Prelude.{List, map, Option, Some, None}
 use Rattle.std.specs.Borrow.{Bor}
 use Rattle.std.specs.List.{filter_map}
 use Rattle.std.specs.Option.{option_map}
-use Rattle.fluent_tree.specs.Tree.{Text, Pattern, Attributes}
-use Rattle.fluent_tree.specs.View as view
-use Rattle.fluent_tree.specs.View.{attribute_view, pattern_view}
-use Rattle.fluent_tree.specs.declared.ast.Message.{Message}
-use Rattle.fluent_tree.specs.declared.ast.Term.{Term}
+use Rattle.fluent_ast.specs.Tree.{Text, Pattern, Attributes}
+use Rattle.fluent_ast.specs.View as view
+use Rattle.fluent_ast.specs.View.{attribute_view, pattern_view}
+use Rattle.fluent_ast.specs.declared.ast.Message.{Message}
+use Rattle.fluent_ast.specs.declared.ast.Term.{Term}
 use Rattle.fluent_links.specs.Slots.{slots, named}
-use Rattle.fluent_meaning.specs.Arguments.{Map, number_function}
-use Rattle.fluent_meaning.specs.Bundle.{Function, a_message, a_term, a_function, number_builtin}
-use Rattle.fluent_meaning.specs.Bundle as m
+use Rattle.fluent_semantics.specs.Arguments.{Map, number_function}
+use Rattle.fluent_semantics.specs.Bundle.{Function, a_message, a_term, a_function, number_builtin}
+use Rattle.fluent_semantics.specs.Bundle as m
 use Rattle.std.specs.Ordering.{nat_cmp}
 use Rattle.std.specs.Cmp.Lexicographic.{slice_cmp}
 use Rattle.std.specs.FinMap.{from_entries, entries}

@@ -2,12 +2,12 @@
 use Rattle.std.specs.Prelude.{Option, Some, None, String, string_bytes}
 use Rattle.std.specs.Option.{option_map}
 use Rattle.std.proofs.Common.{Global}
-use Rattle.fluent_tree.specs.Tree as t
-use Rattle.fluent_tree.specs.Tree.{no_attribute, attribute}
-use Rattle.fluent_tree.specs.View.{inline_view}
-use Rattle.fluent_tree.specs.declared.ast.InlineExpression.{InlineExpression}
-use Rattle.fluent_meaning.specs.Errors as e
-use Rattle.fluent_meaning.specs.Errors.{Kind, message_kind, term_kind, function_kind, Reference, to_function, to_message, to_term, to_variable, reference_of, lost, no_value, missing_default, cyclic, too_many_placeables, overriding, parser_error, resolver_error}
+use Rattle.fluent_ast.specs.Tree as t
+use Rattle.fluent_ast.specs.Tree.{no_attribute, attribute}
+use Rattle.fluent_ast.specs.View.{inline_view}
+use Rattle.fluent_ast.specs.declared.ast.InlineExpression.{InlineExpression}
+use Rattle.fluent_semantics.specs.Errors as e
+use Rattle.fluent_semantics.specs.Errors.{Kind, message_kind, term_kind, function_kind, Reference, to_function, to_message, to_term, to_variable, reference_of, lost, no_value, missing_default, cyclic, too_many_placeables, overriding, parser_error, resolver_error}
 use Rattle.fluent_entries.specs.declared.errors.EntryKind.{EntryKind}
 use Rattle.fluent_entries.specs.declared.errors.EntryKind.TheVariants as kinds
 use Rattle.fluent_entries.specs.declared.errors.FluentError.{FluentError}

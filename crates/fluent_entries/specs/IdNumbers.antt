@@ -1,7 +1,7 @@
 -- The numbers of a bundle's ids, and the contents of its patterns.
 use Rattle.std.specs.Prelude.{◌≡◌, ℕ, List, Option, Some, IfSome}
-use Rattle.fluent_tree.specs.Tree.{Text, Pattern}
-use Rattle.fluent_tree.specs.References.{Reference}
+use Rattle.fluent_ast.specs.Tree.{Text, Pattern}
+use Rattle.fluent_ast.specs.References.{Reference}
 use Rattle.fluent_links.specs.Classes.{AreDistinct, Grows}
 use Rattle.fluent_links.specs.Links.{IsBefore, KeepsNumbers}
 use Rattle.fluent_links.specs.Cursors.{seen}

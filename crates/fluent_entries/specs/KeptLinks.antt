@@ -5,12 +5,12 @@ use Rattle.std.specs.Global.{Box}
 use Rattle.std.specs.List.{list_all}
 use Rattle.std.specs.Option.{option_map}
 use mathlib.Core.HLevel.{hedberg}
-use Rattle.fluent_tree.specs.References.{references}
-use Rattle.fluent_tree.specs.Tree.{Text, Pattern, pattern_same}
-use Rattle.fluent_tree.specs.View as view
-use Rattle.fluent_tree.specs.View.{pattern_view}
-use Rattle.fluent_tree.specs.declared.ast.Attribute.{Attribute}
-use Rattle.fluent_tree.specs.declared.ast.Pattern as code
+use Rattle.fluent_ast.specs.References.{references}
+use Rattle.fluent_ast.specs.Tree.{Text, Pattern, pattern_same}
+use Rattle.fluent_ast.specs.View as view
+use Rattle.fluent_ast.specs.View.{pattern_view}
+use Rattle.fluent_ast.specs.declared.ast.Attribute.{Attribute}
+use Rattle.fluent_ast.specs.declared.ast.Pattern as code
 use Rattle.fluent_links.specs.Linked.{IsOf, are_some, class_of}
 use Rattle.fluent_links.specs.Slots.{named, number}
 use Rattle.fluent_links.specs.declared.linked.Linked.{Linked}

@@ -7,7 +7,4 @@ pub mod KeptLinks
 pub mod IdNumbers
 pub mod Texts
 pub mod TextRows
-pub mod Changes
-pub mod LookUps
-pub mod KeptInIds
 pub mod Inside

@@ -2,12 +2,12 @@
 use Rattle.std.specs.Prelude.{◌≡◌, Option, Some, None, map, drop, slice_get, [], ◌∷◌, if◌then◌else◌}
 use Rattle.std.specs.Option.{option_map}
 use Rattle.std.specs.Slice.Iter.{iter_rest}
-use Rattle.fluent_tree.specs.Tree as t
-use Rattle.fluent_tree.specs.Tree.{Text, Pattern, Attributes}
-use Rattle.fluent_tree.specs.View as view
-use Rattle.fluent_tree.specs.View.{attribute_view}
-use Rattle.fluent_tree.specs.declared.ast.Message.{Message}
-use Rattle.fluent_meaning.specs.Number.{is_text}
+use Rattle.fluent_ast.specs.Tree as t
+use Rattle.fluent_ast.specs.Tree.{Text, Pattern, Attributes}
+use Rattle.fluent_ast.specs.View as view
+use Rattle.fluent_ast.specs.View.{attribute_view}
+use Rattle.fluent_ast.specs.declared.ast.Message.{Message}
+use Rattle.fluent_semantics.specs.Number.{is_text}
 use Rattle.fluent_entries.specs.declared.message.FluentMessage.{FluentMessage}
 use Rattle.fluent_entries.specs.declared.message.FluentAttribute.{FluentAttribute}
 use Rattle.fluent_entries.specs.declared.message.Attributes.{Attributes as IteratedAttributes}

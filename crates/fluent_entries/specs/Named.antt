@@ -1,7 +1,7 @@
 -- Messages and terms stand under their own ids.
 use Rattle.std.specs.Prelude.{List, [], Bool, true, Option, Some, None, IsTrue}
 use Rattle.std.specs.Str.{bytes_eq}
-use Rattle.fluent_tree.specs.Tree.{Text}
+use Rattle.fluent_ast.specs.Tree.{Text}
 use Rattle.fluent_links.specs.Slots.{named}
 use Rattle.fluent_entries.specs.declared.entry.Entry.{Entry}
 use Rattle.fluent_entries.specs.declared.entry.Entry.TheVariants as entry

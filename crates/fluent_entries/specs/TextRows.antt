@@ -1,6 +1,6 @@
 -- Which patterns are texts alone, and what their texts are, by rows.
 use Rattle.std.specs.Prelude.{◌≡◌, true, false, Some, None, codes}
-use Rattle.fluent_tree.specs.Tree.{Element, nothing, more, text, placeable, inline, string}
+use Rattle.fluent_ast.specs.Tree.{Element, nothing, more, text, placeable, inline, string}
 use Rattle.fluent_entries.specs.Texts.{is_text, texts_of, sole_text}
 
 abbrev one : Element

@@ -1,6 +1,6 @@
 -- Patterns of texts alone.
 use Rattle.std.specs.Prelude.{Bool, true, false, IsTrue, Option, None, Some, [], ◌++◌}
-use Rattle.fluent_tree.specs.Tree.{Text, Pattern, nothing, more, text, placeable}
+use Rattle.fluent_ast.specs.Tree.{Text, Pattern, nothing, more, text, placeable}
 
 -- whether a pattern is one of text elements alone
 abbrev pub is_text : Pattern → Bool

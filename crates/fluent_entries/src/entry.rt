@@ -1,12 +1,12 @@
 //! What an id of a bundle names.
 ghost use Rattle.std.specs.Prelude.{◌≡◌, IfSome, Option};
 ghost use Rattle.std.specs.Option.{option_map};
-ghost use Rattle.fluent_tree.specs.Tree.{Text};
-ghost use Rattle.fluent_meaning.specs.Bundle.{Function, function_found};
-ghost use Rattle.fluent_meaning.specs.Bundle as m;
+ghost use Rattle.fluent_ast.specs.Tree.{Text};
+ghost use Rattle.fluent_semantics.specs.Bundle.{Function, function_found};
+ghost use Rattle.fluent_semantics.specs.Bundle as m;
 ghost use Rattle.fluent_entries.specs.EntryView.{function_of, given_message, given_term, message_content, term_content};
 
-use fluent_tree::ast;
+use fluent_ast::ast;
 
 /// What an id names: messages, terms and functions share one map. `Ids::named` gives it.
 #[derive(Drop)]

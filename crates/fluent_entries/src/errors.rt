@@ -5,7 +5,7 @@ ghost use Rattle.fluent_entries.specs.ErrorsWithoutMemory.{HasNoText};
 
 pub mod resolver;
 
-use fluent_tree::ParserError;
+use fluent_ast::ParserError;
 use resolver::copy_of;
 pub use resolver::{ReferenceKind, ResolverError};
 use std::alloc::{AllocError, Global};
@@ -22,7 +22,7 @@ pub enum EntryKind {
 impl fmt::Display for EntryKind {
     ghost use Rattle.std.specs.Prelude.{Some};
     ghost use Rattle.fluent_entries.specs.ErrorView.{kind_view};
-    ghost use Rattle.fluent_meaning.specs.Errors.{kind_text};
+    ghost use Rattle.fluent_semantics.specs.Errors.{kind_text};
 
     ghost output = { λ kind. Some (kind_text (kind_view kind)) };
 
@@ -74,7 +74,7 @@ impl FluentError {
 impl fmt::Display for FluentError {
     ghost use Rattle.std.specs.Prelude.{Some};
     ghost use Rattle.fluent_entries.specs.ErrorView.{error_view};
-    ghost use Rattle.fluent_meaning.specs.Errors.{error_text};
+    ghost use Rattle.fluent_semantics.specs.Errors.{error_text};
 
     ghost output = { λ e. Some (error_text (error_view e)) };
 
@@ -94,7 +94,7 @@ impl std::error::Error for FluentError {}
 impl From<ParserError> for FluentError {
     ghost use Rattle.std.specs.Prelude.{◌≡◌};
     ghost use Rattle.fluent_entries.specs.ErrorView.{error_view};
-    ghost use Rattle.fluent_meaning.specs.Errors.{parser_error};
+    ghost use Rattle.fluent_semantics.specs.Errors.{parser_error};
 
     ghost from_gives = { λ e result. error_view result ≡ parser_error e.start e.end };
 
@@ -106,7 +106,7 @@ impl From<ParserError> for FluentError {
 impl From<ResolverError> for FluentError {
     ghost use Rattle.std.specs.Prelude.{◌≡◌};
     ghost use Rattle.fluent_entries.specs.ErrorView.{error_view, resolver_error_view};
-    ghost use Rattle.fluent_meaning.specs.Errors.{resolver_error};
+    ghost use Rattle.fluent_semantics.specs.Errors.{resolver_error};
 
     ghost from_gives = { λ e result. error_view result ≡ resolver_error (resolver_error_view e) };
 

@@ -7,8 +7,8 @@ ghost use Rattle.fluent_entries.specs.Named.{AreNamed};
 
 use crate::entry::Entry;
 use crate::slot::Slot;
+use fluent_ast::ast::Pattern;
 use fluent_links::{Classes, Linked, Slots};
-use fluent_tree::ast::Pattern;
 use std::alloc::{AllocError, Global};
 use std::borrow::CowStr;
 
@@ -35,12 +35,12 @@ impl<'r, 's: 'r, F: Drop> Drop for Ids<'r, 's, F> {
 
 impl<'r, 's, F> Ids<'r, 's, F> {
     ghost use Rattle.std.specs.Prelude.{◌≡◌, [], IfSome};
-    ghost use Rattle.fluent_tree.specs.Tree.{Text};
-    ghost use Rattle.fluent_meaning.specs.Bundle.{Function};
+    ghost use Rattle.fluent_ast.specs.Tree.{Text};
+    ghost use Rattle.fluent_semantics.specs.Bundle.{Function};
     ghost use Rattle.fluent_entries.specs.EntryView.{ids};
     ghost use Rattle.fluent_entries.specs.IdNumbers.{IsNumberOf};
-    ghost use Rattle.fluent_entries.specs.KeptInIds.{IsLinkedIn};
-    ghost use Rattle.fluent_entries.specs.LookUps.{FindsEntry, FindsSlot, TellsFilled, TellsNamed};
+    ghost use Rattle.fluent_entries.specs.Inside.KeptInIds.{IsLinkedIn};
+    ghost use Rattle.fluent_entries.specs.Inside.LookUps.{FindsEntry, FindsSlot, TellsFilled, TellsNamed};
     ghost use Rattle.fluent_entries.specs.Named.{IsNamed};
 
     /// A map that names nothing. It takes no memory yet.
@@ -93,12 +93,12 @@ impl<'r, 's, F> Ids<'r, 's, F> {
 impl<'r, 's, F: Drop> Ids<'r, 's, F> {
     ghost use Rattle.std.specs.Prelude.{◌≡◌, IfOk, Some};
     ghost use Rattle.std.specs.Cow.{cow_str_bytes};
-    ghost use Rattle.fluent_tree.specs.Tree.{Text};
-    ghost use Rattle.fluent_tree.specs.View.{pattern_view};
+    ghost use Rattle.fluent_ast.specs.Tree.{Text};
+    ghost use Rattle.fluent_ast.specs.View.{pattern_view};
     ghost use Rattle.fluent_links.specs.Linked.{IsOf};
-    ghost use Rattle.fluent_entries.specs.Changes.{FillsSlot, KeepsEntries};
+    ghost use Rattle.fluent_entries.specs.Inside.Changes.{FillsSlot, KeepsEntries};
     ghost use Rattle.fluent_entries.specs.IdNumbers.{Grown, numbers, table};
-    ghost use Rattle.fluent_entries.specs.KeptInIds.{IsLinkedIn};
+    ghost use Rattle.fluent_entries.specs.Inside.KeptInIds.{IsLinkedIn};
     ghost use Rattle.fluent_entries.specs.Named.{IsNamed};
 
     /// Makes room for so many more ids, so that their numbers and slots are put where they stay. What ids name stays.

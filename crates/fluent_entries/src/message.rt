@@ -3,10 +3,10 @@
 
 ghost use Rattle.std.specs.Prelude.{◌≡◌};
 ghost use Rattle.std.specs.Option.{option_map};
-ghost use Rattle.fluent_tree.specs.View.{pattern_view};
+ghost use Rattle.fluent_ast.specs.View.{pattern_view};
 ghost use Rattle.fluent_entries.specs.MessageView.{attribute_content, attribute_named, attributes_left, message_view};
 
-use fluent_tree::ast;
+use fluent_ast::ast;
 use std::slice::Iter;
 
 /// A message of a resource. Two are equal where their contents are, their ids among them.
@@ -60,8 +60,8 @@ impl<'m, 's> From<&'m ast::Message<'s>> for FluentMessage<'m, 's> {
 
 impl<'m, 's> PartialEq for FluentMessage<'m, 's> {
     ghost use Rattle.std.specs.Cmp.{partial_equiv_from_equiv};
-    ghost use Rattle.fluent_tree.specs.Tree.{is_yes};
-    ghost use Rattle.fluent_tree.specs.Same.{equivalent, entry_same};
+    ghost use Rattle.fluent_ast.specs.Tree.{is_yes};
+    ghost use Rattle.fluent_ast.specs.Same.{equivalent, entry_same};
     ghost use Rattle.fluent_entries.specs.MessageView.{entry_seen};
 
     ghost eq = { λ a b. is_yes (entry_same (entry_seen a) (entry_seen b)) };
@@ -74,7 +74,7 @@ impl<'m, 's> PartialEq for FluentMessage<'m, 's> {
 }
 
 impl<'m, 's> Eq for FluentMessage<'m, 's> {
-    ghost use Rattle.fluent_tree.specs.Same.{equivalent, entry_same};
+    ghost use Rattle.fluent_ast.specs.Same.{equivalent, entry_same};
     ghost use Rattle.fluent_entries.specs.MessageView.{entry_seen};
 
     ghost laws = { equivalent entry_seen entry_same };
@@ -105,7 +105,7 @@ impl<'m, 's> FluentAttribute<'m, 's> {
 
 impl<'m, 's> From<&'m ast::Attribute<'s>> for FluentAttribute<'m, 's> {
     ghost use Rattle.std.specs.Prelude.{◌≡◌};
-    ghost use Rattle.fluent_tree.specs.View.{attribute_view};
+    ghost use Rattle.fluent_ast.specs.View.{attribute_view};
     ghost use Rattle.fluent_entries.specs.MessageView.{attribute_content};
 
     ghost from_gives = { λ a result. attribute_content result ≡ attribute_view a.now };
@@ -117,8 +117,8 @@ impl<'m, 's> From<&'m ast::Attribute<'s>> for FluentAttribute<'m, 's> {
 
 impl<'m, 's> PartialEq for FluentAttribute<'m, 's> {
     ghost use Rattle.std.specs.Cmp.{partial_equiv_from_equiv};
-    ghost use Rattle.fluent_tree.specs.Tree.{is_yes};
-    ghost use Rattle.fluent_tree.specs.Same.{equivalent, attribute_same};
+    ghost use Rattle.fluent_ast.specs.Tree.{is_yes};
+    ghost use Rattle.fluent_ast.specs.Same.{equivalent, attribute_same};
     ghost use Rattle.fluent_entries.specs.MessageView.{attribute_content};
 
     ghost eq = { λ a b. is_yes (attribute_same (attribute_content a) (attribute_content b)) };
@@ -131,7 +131,7 @@ impl<'m, 's> PartialEq for FluentAttribute<'m, 's> {
 }
 
 impl<'m, 's> Eq for FluentAttribute<'m, 's> {
-    ghost use Rattle.fluent_tree.specs.Same.{equivalent, attribute_same};
+    ghost use Rattle.fluent_ast.specs.Same.{equivalent, attribute_same};
     ghost use Rattle.fluent_entries.specs.MessageView.{attribute_content};
 
     ghost laws = { equivalent attribute_content attribute_same };

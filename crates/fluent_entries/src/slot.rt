@@ -2,7 +2,7 @@
 ghost use Rattle.std.specs.Prelude.{◌≡◌, [], IfOk, List, None, Option, ℕ};
 ghost use Rattle.std.specs.List.{list_all};
 ghost use Rattle.std.specs.Option.{option_map};
-ghost use Rattle.fluent_tree.specs.Tree.{Pattern, Text};
+ghost use Rattle.fluent_ast.specs.Tree.{Pattern, Text};
 ghost use Rattle.fluent_entries.specs.KeptLinks.{IsLinked, Keeps, attributes_in, attributes_kept, is_bare, is_value_bare, value_in, value_kept};
 
 use crate::entry::Entry;

@@ -1,9 +1,9 @@
 //! Patterns of texts alone.
 ghost use Rattle.std.specs.Prelude.{◌≡◌};
-ghost use Rattle.fluent_tree.specs.View.{pattern_view};
+ghost use Rattle.fluent_ast.specs.View.{pattern_view};
 ghost use Rattle.fluent_entries.specs.Texts.{is_text};
 
-use fluent_tree::ast::{Pattern, PatternElement};
+use fluent_ast::ast::{Pattern, PatternElement};
 
 /// Whether each element of a pattern is a text.
 pub fn is_text(pattern: &Pattern) -> bool

@@ -7,12 +7,3 @@ pub mod DecimalTexts
 pub mod DecimalWhole
 pub mod Remainders
 pub mod OneOperands
-mod TabLemmas
-mod TagLemmas
-mod RuleRuns
-mod RuleValues
-mod RuleLines
-mod RuleDigits
-mod RuleRows
-pub mod EnglishRules
-pub mod RuleRelations

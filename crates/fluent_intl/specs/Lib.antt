@@ -4,12 +4,5 @@ pub mod SameContent
 pub mod Number
 pub mod Operands
 pub mod Plurals
-pub mod Languages
-pub mod LanguageTable
-pub mod RuleTree
-pub mod RuleGrammar
-pub mod RuleMeaning
-pub mod RuleReading
-pub mod RuleTexts
-pub mod EnglishRules
-pub mod RuleRelations
+pub mod LanguageTags
+pub mod Hashing

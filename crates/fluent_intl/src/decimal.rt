@@ -13,7 +13,7 @@ ghost use Rattle.fluent_intl.specs.Decimal.{IsMadeOf, signed};
 pub use backward::DecimalText;
 pub use errors::{NotANumber, OutOfRange};
 pub use laws::{each_number_has_one_text, each_text_is_one_number, whole_numbers_are_kept};
-pub(crate) use read::value_of;
+pub use read::value_of;
 use std::marker::Model;
 pub(crate) use text::significant_places;
 

@@ -6,9 +6,9 @@ use Rattle.std.proofs.lemmas.Option.{slice_get-map}
 use Rattle.std.proofs.lemmas.List.{map-append}
 use Rattle.std.proofs.lemmas.Bool.{false≢true}
 use Rattle.std.specs.Option.{option_map}
-use Rattle.fluent_tree.specs.Tree.{Pattern, is_yes, pattern_same}
+use Rattle.fluent_ast.specs.Tree.{Pattern, is_yes, pattern_same}
 use Rattle.fluent_links.specs.Classes.{HasClass, with_class}
-use Rattle.fluent_links.specs.Content.{content}
+use Rattle.fluent_links.specs.Inside.Content.{content}
 use Rattle.fluent_links.specs.declared.stored.Stored.{Stored}
 
 -- two stored patterns have the same content

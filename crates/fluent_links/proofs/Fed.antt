@@ -3,15 +3,15 @@ use Rattle.std.proofs.Common.{◌≡◌, ℕ, ◌+◌, ◌<◌, ◌≤◌, List,
 use Rattle.std.proofs.lemmas.List.{append_assoc, at_drop_more, at_drop_all}
 use Rattle.std.proofs.lemmas.List.Sums.{fold-append}
 use Rattle.std.specs.Hash as to_hash
-use Rattle.fluent_tree.specs.Tree.{pattern_of}
-use Rattle.fluent_tree.specs.View.{element_view, inline_view, key_view, pattern_view}
-use Rattle.fluent_tree.specs.References.{inlines_view, nameds_view, variants_view}
-use Rattle.fluent_tree.specs.declared.ast.Expression.{the_lemmas}
-use Rattle.fluent_tree.specs.declared.ast.InlineExpression.{InlineExpression}
-use Rattle.fluent_tree.specs.declared.ast.NamedArgument.{NamedArgument, out-NamedArgument}
-use Rattle.fluent_tree.specs.declared.ast.PatternElement.{PatternElement}
-use Rattle.fluent_tree.specs.declared.ast.Variant.{Variant, out-Variant}
-use Rattle.fluent_links.specs.Hashed.{HasherInput, hashed, hashed_element, hashed_end, hashed_inline, hashed_key, hashed_kind, hashed_named, hashed_positional, hashed_variants}
+use Rattle.fluent_ast.specs.Tree.{pattern_of}
+use Rattle.fluent_ast.specs.View.{element_view, inline_view, key_view, pattern_view}
+use Rattle.fluent_ast.specs.References.{inlines_view, nameds_view, variants_view}
+use Rattle.fluent_ast.specs.declared.ast.Expression.{the_lemmas}
+use Rattle.fluent_ast.specs.declared.ast.InlineExpression.{InlineExpression}
+use Rattle.fluent_ast.specs.declared.ast.NamedArgument.{NamedArgument, out-NamedArgument}
+use Rattle.fluent_ast.specs.declared.ast.PatternElement.{PatternElement}
+use Rattle.fluent_ast.specs.declared.ast.Variant.{Variant, out-Variant}
+use Rattle.fluent_links.specs.Inside.Hashed.{HasherInput, hashed, hashed_element, hashed_end, hashed_inline, hashed_key, hashed_kind, hashed_named, hashed_positional, hashed_variants}
 
 -- parts in turn, and the end after them
 module _ {P : Type 0} (all : List P → HasherInput) (one : P → HasherInput) (each : (x : P) (xs : List P) → all (x ∷ xs) ≡ one x ++ all xs) (ends : all [] ≡ hashed_end) where

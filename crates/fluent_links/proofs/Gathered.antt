@@ -3,13 +3,13 @@ use Rattle.std.proofs.Common.{◌≡◌, ℕ, ◌+◌, ◌<◌, List, [], ◌∷
 use Rattle.std.proofs.lemmas.Bool.{eqb-true}
 use Rattle.std.proofs.lemmas.List.{append_assoc, append-nil, length-append, map-append, take-append-drop, take_more}
 use Rattle.std.proofs.lemmas.List.Sums.{fold-append}
-use Rattle.fluent_tree.specs.Tree.{Text, Pattern}
-use Rattle.fluent_tree.specs.References.{AreSome, Reference, references}
+use Rattle.fluent_ast.specs.Tree.{Text, Pattern}
+use Rattle.fluent_ast.specs.References.{AreSome, Reference, references}
 use Rattle.fluent_links.specs.Classes.{HasClass, with_class}
 use Rattle.fluent_links.specs.Linked.{IsClassOf, are_some, with_referring}
 use Rattle.fluent_links.specs.Links.{id_of, KeepsNumbers}
-use Rattle.fluent_links.specs.LinkGrowth.{AppendsLinks, SlotsOfPrefix, with_slots}
-use Rattle.fluent_links.specs.LinkNumbers.{AreNumbers, keeps_numbers}
+use Rattle.fluent_links.specs.Inside.LinkGrowth.{AppendsLinks, SlotsOfPrefix, with_slots}
+use Rattle.fluent_links.specs.Inside.LinkNumbers.{AreNumbers, keeps_numbers}
 use Rattle.fluent_links.specs.CursorSteps.{IsInTurn, here}
 use Rattle.fluent_links.specs.Slots.{number, named, with_slot}
 use Rattle.fluent_links.proofs.Slotted.{number_kept, named_new}

@@ -5,8 +5,8 @@ use Rattle.std.specs.Prelude.{codes, nat_eq}
 use Rattle.std.specs.List.{concat}
 use Rattle.std.specs.Cmp.Lexicographic.{pointwise, bytes_decides}
 use Rattle.std.proofs.lemmas.Bool.{false≢true}
-use Rattle.fluent_tree.specs.Tree.{Element, Inline, Variant, name_key, number_key, no_attribute, attribute, text, placeable, inline, select, string, number, function, message, term, variable, nested, no_call, call, arguments, pattern_of, variants_of, inlines_of, nameds_of}
-use Rattle.fluent_links.specs.Hashed.{hashed}
+use Rattle.fluent_ast.specs.Tree.{Element, Inline, Variant, name_key, number_key, no_attribute, attribute, text, placeable, inline, select, string, number, function, message, term, variable, nested, no_call, call, arguments, pattern_of, variants_of, inlines_of, nameds_of}
+use Rattle.fluent_links.specs.Inside.Hashed.{hashed}
 
 -- all bytes that a pattern of these elements feeds, whatever the writes
 abbrev fed : List Element → List ℕ

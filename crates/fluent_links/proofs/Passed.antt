@@ -1,13 +1,13 @@
 -- Parts passed over one by one.
 use Rattle.std.proofs.Common.{◌≡◌, List, [], ◌++◌, Vec, Global, ap, sym, ◌∙◌}
-use Rattle.fluent_tree.specs.View.{pattern_view, expression_view, inline_view, arguments_view}
-use Rattle.fluent_tree.specs.References.{Reference, references, in_arguments, in_expression, in_inline, in_positional, in_named, in_variants, variants_view, inlines_view, nameds_view}
-use Rattle.fluent_tree.specs.declared.ast.Pattern as of_pattern
-use Rattle.fluent_tree.specs.declared.ast.Expression as of_expression
-use Rattle.fluent_tree.specs.declared.ast.Expression.TheVariants as expressions
-use Rattle.fluent_tree.specs.declared.ast.InlineExpression as of_inline
-use Rattle.fluent_tree.specs.declared.ast.CallArguments as of_call
-use Rattle.fluent_tree.specs.declared.ast.Variant as of_variant
+use Rattle.fluent_ast.specs.View.{pattern_view, expression_view, inline_view, arguments_view}
+use Rattle.fluent_ast.specs.References.{Reference, references, in_arguments, in_expression, in_inline, in_positional, in_named, in_variants, variants_view, inlines_view, nameds_view}
+use Rattle.fluent_ast.specs.declared.ast.Pattern as of_pattern
+use Rattle.fluent_ast.specs.declared.ast.Expression as of_expression
+use Rattle.fluent_ast.specs.declared.ast.Expression.TheVariants as expressions
+use Rattle.fluent_ast.specs.declared.ast.InlineExpression as of_inline
+use Rattle.fluent_ast.specs.declared.ast.CallArguments as of_call
+use Rattle.fluent_ast.specs.declared.ast.Variant as of_variant
 use Rattle.fluent_links.specs.Links.{Links, past}
 use Rattle.fluent_links.specs.CursorLaws.{after_append, after_last}
 use Rattle.fluent_links.specs.CursorSteps.{in_elements}

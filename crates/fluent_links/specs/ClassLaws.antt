@@ -3,7 +3,7 @@ use Rattle.std.specs.Prelude.{◌≡◌, ℕ, List, slice_get, Bool, true, false
 use Rattle.std.specs.Option.{unwrap_or}
 use Rattle.std.proofs.Common.{ap, sym, ◌∙◌}
 use Rattle.std.proofs.lemmas.Bool.{eq-eqb, eqb-true}
-use Rattle.fluent_tree.specs.Tree.{Pattern, is_yes, pattern_same}
+use Rattle.fluent_ast.specs.Tree.{Pattern, is_yes, pattern_same}
 use Rattle.fluent_links.specs.Classes.{AreDistinct, HasClass}
 
 not_true : (b : Bool) → (b ≡ true → ⊥) → b ≡ false

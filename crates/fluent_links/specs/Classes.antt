@@ -1,7 +1,7 @@
 -- Classes: the numbers of the contents that are stored.
 use Rattle.std.specs.Prelude.{◌≡◌, ℕ, List, [], ◌∷◌, ◌++◌, slice_get, Some, if◌then◌else◌}
 use Rattle.std.specs.List.{list_any}
-use Rattle.fluent_tree.specs.Tree.{Pattern, is_yes, pattern_same}
+use Rattle.fluent_ast.specs.Tree.{Pattern, is_yes, pattern_same}
 
 -- no content stands twice
 abbrev pub AreDistinct : List Pattern → Type 0

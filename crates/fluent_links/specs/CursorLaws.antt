@@ -1,7 +1,7 @@
 -- Cursors before references, and how they pass over parts.
 use Rattle.std.specs.Prelude.{◌≡◌, ℕ, List, [], ◌∷◌, ◌++◌, Option, Some, IfSome, refl}
-use Rattle.fluent_tree.specs.Tree.{Text}
-use Rattle.fluent_tree.specs.References.{Reference}
+use Rattle.fluent_ast.specs.Tree.{Text}
+use Rattle.fluent_ast.specs.References.{Reference}
 use Rattle.fluent_links.specs.Links.{Links, next, past, id_of, IsBefore, KeepsNumbers}
 use Rattle.fluent_links.specs.Cursors.{first_of}
 

@@ -2,19 +2,19 @@
 use Rattle.std.specs.Prelude.{◌≡◌, [], ◌∷◌, ◌++◌, Vec, Box, Option, None, Some}
 use Rattle.std.specs.declared.alloc.Global.{Global}
 use Rattle.std.proofs.Common.{rules, ap, ◌∙◌}
-use Rattle.fluent_tree.specs.View.{arguments_view, call_view, element_view, expression_view, inline_view, pattern_view}
-use Rattle.fluent_tree.specs.References.{a_message, a_term, a_function, references, in_element, in_expression, in_inline, in_call, in_arguments}
-use Rattle.fluent_tree.specs.ReferencesOf.{of_inlines, of_nameds, of_variants}
-use Rattle.fluent_tree.specs.declared.ast.Identifier.{Identifier}
-use Rattle.fluent_tree.specs.declared.ast.Pattern as of_pattern
-use Rattle.fluent_tree.specs.declared.ast.PatternElement as of_pattern_element
-use Rattle.fluent_tree.specs.declared.ast.PatternElement.TheVariants as elements
-use Rattle.fluent_tree.specs.declared.ast.Expression as of_expression
-use Rattle.fluent_tree.specs.declared.ast.Expression.TheVariants as expressions
-use Rattle.fluent_tree.specs.declared.ast.InlineExpression as of_inline
-use Rattle.fluent_tree.specs.declared.ast.InlineExpression.TheVariants as inlines
-use Rattle.fluent_tree.specs.declared.ast.CallArguments as of_call
-use Rattle.fluent_tree.specs.declared.ast.Variant.{Variant}
+use Rattle.fluent_ast.specs.View.{arguments_view, call_view, element_view, expression_view, inline_view, pattern_view}
+use Rattle.fluent_ast.specs.References.{a_message, a_term, a_function, references, in_element, in_expression, in_inline, in_call, in_arguments}
+use Rattle.fluent_ast.specs.ReferencesOf.{of_inlines, of_nameds, of_variants}
+use Rattle.fluent_ast.specs.declared.ast.Identifier.{Identifier}
+use Rattle.fluent_ast.specs.declared.ast.Pattern as of_pattern
+use Rattle.fluent_ast.specs.declared.ast.PatternElement as of_pattern_element
+use Rattle.fluent_ast.specs.declared.ast.PatternElement.TheVariants as elements
+use Rattle.fluent_ast.specs.declared.ast.Expression as of_expression
+use Rattle.fluent_ast.specs.declared.ast.Expression.TheVariants as expressions
+use Rattle.fluent_ast.specs.declared.ast.InlineExpression as of_inline
+use Rattle.fluent_ast.specs.declared.ast.InlineExpression.TheVariants as inlines
+use Rattle.fluent_ast.specs.declared.ast.CallArguments as of_call
+use Rattle.fluent_ast.specs.declared.ast.Variant.{Variant}
 use Rattle.fluent_links.specs.CursorSteps.{in_elements}
 
 -- a pattern: its elements

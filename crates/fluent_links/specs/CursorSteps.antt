@@ -2,15 +2,15 @@
 use Rattle.std.specs.Prelude.{◌≡◌, ℕ, ◌+◌, ◌<◌, List, ◌∷◌, ◌++◌, length, map, Option, drop, refl}
 use Rattle.std.proofs.Common.{rules, get_or, sym, ap, subst, ◌∙◌}
 use Rattle.std.proofs.lemmas.List.{drop_more}
-use Rattle.fluent_tree.specs.Tree.{Text, pattern_of}
-use Rattle.fluent_tree.specs.View.{element_view, variant_view, inline_view, named_view, pattern_view}
-use Rattle.fluent_tree.specs.References.{Reference, references, in_inline}
-use Rattle.fluent_tree.specs.ReferencesOf.{of_element, of_inline, of_inlines, of_nameds, of_variants}
-use Rattle.fluent_tree.specs.declared.ast.PatternElement.{PatternElement}
-use Rattle.fluent_tree.specs.declared.ast.Variant as of_the_variant
-use Rattle.fluent_tree.specs.declared.ast.Variant.{Variant}
-use Rattle.fluent_tree.specs.declared.ast.NamedArgument as of_the_argument
-use Rattle.fluent_tree.specs.declared.ast.NamedArgument.{NamedArgument}
+use Rattle.fluent_ast.specs.Tree.{Text, pattern_of}
+use Rattle.fluent_ast.specs.View.{element_view, variant_view, inline_view, named_view, pattern_view}
+use Rattle.fluent_ast.specs.References.{Reference, references, in_inline}
+use Rattle.fluent_ast.specs.ReferencesOf.{of_element, of_inline, of_inlines, of_nameds, of_variants}
+use Rattle.fluent_ast.specs.declared.ast.PatternElement.{PatternElement}
+use Rattle.fluent_ast.specs.declared.ast.Variant as of_the_variant
+use Rattle.fluent_ast.specs.declared.ast.Variant.{Variant}
+use Rattle.fluent_ast.specs.declared.ast.NamedArgument as of_the_argument
+use Rattle.fluent_ast.specs.declared.ast.NamedArgument.{NamedArgument}
 use Rattle.fluent_links.specs.Links.{Links, past, IsBefore}
 use Rattle.fluent_links.specs.CursorLaws.{prefix, back, after_append}
 

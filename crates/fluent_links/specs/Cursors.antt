@@ -1,6 +1,6 @@
 -- What a cursor sees of the links.
 use Rattle.std.specs.Prelude.{◌≡◌, ℕ, List, [], ◌∷◌, Option, Some, None}
-use Rattle.fluent_tree.specs.References.{Reference}
+use Rattle.fluent_ast.specs.References.{Reference}
 use Rattle.fluent_links.specs.Links.{Links, past}
 use Rattle.fluent_links.specs.declared.cursor.Cursor.{Cursor}
 

@@ -4,13 +4,8 @@ pub mod Cursors
 pub mod CursorLaws
 pub mod CursorSteps
 pub mod CursorParts
-pub mod Hashed
-pub mod Content
 pub mod Classes
 pub mod Table
 pub mod ClassLaws
-pub mod LinkNumbers
-pub mod LinkGrowth
 pub mod Linked
-pub mod Adding
-pub mod Filling
+pub mod Inside

@@ -1,12 +1,12 @@
 -- What is kept of a stored pattern, and of which pattern that is.
 use Rattle.std.specs.Prelude.{◌≡◌, ℕ, Bool, true, false, List, [], ◌∷◌, Option, Some, None}
-use Rattle.fluent_tree.specs.Tree.{Text, Pattern}
-use Rattle.fluent_tree.specs.References.{Reference, references}
-use Rattle.fluent_tree.specs.View.{pattern_view}
-use Rattle.fluent_tree.specs.declared.ast.Pattern as of_pattern
+use Rattle.fluent_ast.specs.Tree.{Text, Pattern}
+use Rattle.fluent_ast.specs.References.{Reference, references}
+use Rattle.fluent_ast.specs.View.{pattern_view}
+use Rattle.fluent_ast.specs.declared.ast.Pattern as of_pattern
 use Rattle.fluent_links.specs.Links.{IsBefore, KeepsNumbers, Links}
 use Rattle.fluent_links.specs.Classes.{HasClass, Grows, with_class}
-use Rattle.fluent_links.specs.LinkNumbers.{AreNumbers, keeps_numbers}
+use Rattle.fluent_links.specs.Inside.LinkNumbers.{AreNumbers, keeps_numbers}
 use Rattle.fluent_links.specs.Slots.{number, slots}
 use Rattle.fluent_links.specs.Table.{table}
 use Rattle.fluent_links.specs.declared.classes.Classes.{Classes}

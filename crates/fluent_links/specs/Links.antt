@@ -1,7 +1,7 @@
 -- Links: the numbers of the ids that a part of a pattern refers to, in the order of the tree.
 use Rattle.std.specs.Prelude.{◌≡◌, ℕ, List, [], ◌∷◌, Option, Some}
-use Rattle.fluent_tree.specs.Tree.{Text}
-use Rattle.fluent_tree.specs.References.{Reference, a_message, a_term, a_function}
+use Rattle.fluent_ast.specs.Tree.{Text}
+use Rattle.fluent_ast.specs.References.{Reference, a_message, a_term, a_function}
 
 abbrev pub id_of : Reference → Text
 id_of (a_message id) = id

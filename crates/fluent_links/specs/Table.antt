@@ -1,8 +1,8 @@
 -- The contents that are stored, by their classes.
 use Rattle.std.specs.Prelude.{List, map}
-use Rattle.fluent_tree.specs.Tree.{Pattern}
+use Rattle.fluent_ast.specs.Tree.{Pattern}
 use Rattle.fluent_links.specs.Classes.{AreDistinct}
-use Rattle.fluent_links.specs.Content.{content}
+use Rattle.fluent_links.specs.Inside.Content.{content}
 use Rattle.fluent_links.specs.declared.classes.Classes.{Classes}
 
 abbrev pub table : Classes → List Pattern

@@ -1,11 +1,11 @@
 //! Classes: numbers of the contents of patterns.
 ghost use Rattle.std.specs.Prelude.{◌≡◌, [], IfOk, OnOk, OnErr, map};
-ghost use Rattle.fluent_tree.specs.View.{pattern_view};
+ghost use Rattle.fluent_ast.specs.View.{pattern_view};
 ghost use Rattle.fluent_links.specs.Classes.{AreDistinct, Grows, HasClass};
-ghost use Rattle.fluent_links.specs.Content.{content};
+ghost use Rattle.fluent_links.specs.Inside.Content.{content};
 
 use crate::stored::Stored;
-use fluent_tree::ast::Pattern;
+use fluent_ast::ast::Pattern;
 use indexmap::IndexSet;
 use std::alloc::{AllocError, Global};
 
@@ -18,7 +18,7 @@ pub struct Classes<'r, 's> {
 }
 
 impl<'r, 's> Classes<'r, 's> {
-    ghost use Rattle.fluent_links.specs.Adding.{AddsClass};
+    ghost use Rattle.fluent_links.specs.Inside.Adding.{AddsClass};
     ghost use Rattle.fluent_links.specs.Table.{table};
 
     /// No content yet.

@@ -1,16 +1,13 @@
 //! Cursors among the links of a pattern, and how they pass over its parts.
 ghost use Rattle.std.specs.Prelude.{◌≡◌, []};
-ghost use Rattle.fluent_tree.specs.ReferencesOf.{of_arguments, of_call, of_element, of_expression, of_inline, of_inlines, of_variants, references_of};
+ghost use Rattle.fluent_ast.specs.ReferencesOf.{of_arguments, of_element, of_inline, of_inlines, references_of};
 ghost use Rattle.fluent_links.specs.Links.{past, next};
 ghost use Rattle.fluent_links.specs.Cursors.{first_of, seen};
 
 use crate::passing::{
-    pass_arguments, pass_element, pass_expression, pass_inline, pass_one, pass_pattern,
-    pass_positional, pass_variants,
+    pass_arguments, pass_element, pass_inline, pass_one, pass_pattern, pass_positional,
 };
-use fluent_tree::ast::{
-    CallArguments, Expression, InlineExpression, Pattern, PatternElement, Variant,
-};
+use fluent_ast::ast::{CallArguments, InlineExpression, Pattern, PatternElement};
 
 /// Where a part of a pattern stands among the links of the whole: the links from it on. Where there are none, ids are
 /// looked up. (A slice alone goes in registers; in an `Option`, through memory, calls took up to three times as long.)
@@ -62,35 +59,11 @@ impl<'b> Cursor<'b> {
         Cursor::from_links(pass_element(self.links, element))
     }
 
-    /// After what stands between the braces of a placeable.
-    pub fn after_expression(self, expression: &Expression<'_>) -> Self
-        ensures { seen result ≡ past (of_expression expression.now) (seen self.entry) }
-    {
-        Cursor::from_links(pass_expression(self.links, expression))
-    }
-
-    /// After all of these variants.
-    pub fn after_variants(self, variants: &[Variant<'_>]) -> Self
-        ensures { seen result ≡ past (of_variants variants.now) (seen self.entry) }
-    {
-        Cursor::from_links(pass_variants(self.links, variants))
-    }
-
     /// After an inline expression.
     pub fn after_inline(self, inline: &InlineExpression<'_>) -> Self
         ensures { seen result ≡ past (of_inline inline.now) (seen self.entry) }
     {
         Cursor::from_links(pass_inline(self.links, inline))
-    }
-
-    /// After the arguments of a term, which may have none.
-    pub fn after_call(self, arguments: &Option<Box<CallArguments<'_>>>) -> Self
-        ensures { seen result ≡ past (of_call arguments.now) (seen self.entry) }
-    {
-        match arguments {
-            Some(arguments) => self.after_arguments(arguments),
-            None => self,
-        }
     }
 
     /// After positional arguments.

@@ -1,10 +1,10 @@
 //! What of a pattern is hashed: each part after a byte for its kind, and a byte where each list ends.
 ghost use Rattle.std.specs.Prelude.{◌≡◌, fold};
-ghost use Rattle.fluent_tree.specs.View.{arguments_view, attribute_of, call_view, element_view, expression_view, inline_view, key_view, pattern_view};
-ghost use Rattle.fluent_tree.specs.References.{inlines_view, nameds_view, variants_view};
-ghost use Rattle.fluent_links.specs.Hashed.{hashed, hashed_arguments, hashed_attribute, hashed_call, hashed_element, hashed_expression, hashed_inline, hashed_key, hashed_kind, hashed_named, hashed_positional, hashed_variants};
+ghost use Rattle.fluent_ast.specs.View.{arguments_view, attribute_of, call_view, element_view, expression_view, inline_view, key_view, pattern_view};
+ghost use Rattle.fluent_ast.specs.References.{inlines_view, nameds_view, variants_view};
+ghost use Rattle.fluent_links.specs.Inside.Hashed.{hashed, hashed_arguments, hashed_attribute, hashed_call, hashed_element, hashed_expression, hashed_inline, hashed_key, hashed_kind, hashed_named, hashed_positional, hashed_variants};
 
-use fluent_tree::ast::{
+use fluent_ast::ast::{
     CallArguments, Expression, Identifier, InlineExpression, NamedArgument, Pattern,
     PatternElement, Variant, VariantKey,
 };

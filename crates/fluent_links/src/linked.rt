@@ -1,8 +1,8 @@
 //! What is kept of a stored pattern.
 ghost use Rattle.std.specs.Prelude.{◌≡◌, [], None, IfOk, IsOk, OnErr, OnOk};
-ghost use Rattle.fluent_tree.specs.Tree.{Text};
-ghost use Rattle.fluent_tree.specs.ReferencesOf.{references_of};
-ghost use Rattle.fluent_links.specs.Adding.{AddsContent, AddsPrefix, AddsSlots};
+ghost use Rattle.fluent_ast.specs.Tree.{Text};
+ghost use Rattle.fluent_ast.specs.ReferencesOf.{references_of};
+ghost use Rattle.fluent_links.specs.Inside.Adding.{AddsContent, AddsPrefix, AddsSlots};
 ghost use Rattle.fluent_links.specs.Links.{KeepsNumbers};
 ghost use Rattle.fluent_links.specs.Classes.{Grows};
 ghost use Rattle.fluent_links.specs.Cursors.{seen};
@@ -13,7 +13,7 @@ use crate::classes::Classes;
 use crate::cursor::Cursor;
 use crate::linking::link_pattern;
 use crate::slots::Slots;
-use fluent_tree::ast::Pattern;
+use fluent_ast::ast::Pattern;
 use std::alloc::{AllocError, Global};
 
 /// What is kept of a stored pattern: the numbers of the ids that it refers to, in the order of the tree, and, where it

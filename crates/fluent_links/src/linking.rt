@@ -1,11 +1,11 @@
 //! Links gathered in the order of the tree.
 ghost use Rattle.std.specs.Prelude.{OnErr, OnOk};
-ghost use Rattle.fluent_tree.specs.References.{AreSome};
-ghost use Rattle.fluent_tree.specs.ReferencesOf.{of_arguments, of_call, of_element, of_expression, of_inline, of_inlines, of_nameds, of_variants, references_of};
-ghost use Rattle.fluent_links.specs.Adding.{Adds, AddsAtMostOne, AddsOne, AddsPrefix};
+ghost use Rattle.fluent_ast.specs.References.{AreSome};
+ghost use Rattle.fluent_ast.specs.ReferencesOf.{of_arguments, of_call, of_element, of_expression, of_inline, of_inlines, of_nameds, of_variants, references_of};
+ghost use Rattle.fluent_links.specs.Inside.Adding.{Adds, AddsAtMostOne, AddsOne, AddsPrefix};
 
 use crate::slots::Slots;
-use fluent_tree::ast::{
+use fluent_ast::ast::{
     CallArguments, Expression, InlineExpression, NamedArgument, Pattern, PatternElement, Variant,
 };
 use std::alloc::AllocError;

@@ -1,10 +1,10 @@
 //! How links are passed over part by part, in the order of the tree.
 ghost use Rattle.std.specs.Prelude.{◌≡◌};
-ghost use Rattle.fluent_tree.specs.ReferencesOf.{of_arguments, of_element, of_expression, of_inline, of_inlines, of_nameds, of_variants, references_of};
+ghost use Rattle.fluent_ast.specs.ReferencesOf.{of_arguments, of_element, of_expression, of_inline, of_inlines, of_nameds, of_variants, references_of};
 ghost use Rattle.fluent_links.specs.Links.{next};
 ghost use Rattle.fluent_links.specs.Cursors.{Passes};
 
-use fluent_tree::ast::{
+use fluent_ast::ast::{
     CallArguments, Expression, InlineExpression, NamedArgument, Pattern, PatternElement, Variant,
 };
 

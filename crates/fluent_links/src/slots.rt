@@ -3,8 +3,8 @@ ghost use Rattle.std.specs.Prelude.{◌≡◌, ◌<◌, ◌≤◌, ◌+◌, ◌^
 ghost use Rattle.std.specs.Cow.{cow_str_bytes};
 ghost use Rattle.std.specs.Option.{option_map};
 ghost use Rattle.indexmap.specs.Layout.{set_value_at};
-ghost use Rattle.fluent_tree.specs.Tree.{Text};
-ghost use Rattle.fluent_links.specs.Filling.{Fills, IsNamedBy};
+ghost use Rattle.fluent_ast.specs.Tree.{Text};
+ghost use Rattle.fluent_links.specs.Inside.Filling.{Fills, IsNamedBy};
 ghost use Rattle.fluent_links.specs.Links.{KeepsNumbers};
 ghost use Rattle.fluent_links.specs.Slots.{room, slots, number as number_in, named, slot_at, with_slot};
 

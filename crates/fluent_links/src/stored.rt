@@ -1,8 +1,8 @@
 //! A stored pattern, by its content.
-ghost use Rattle.fluent_links.specs.Content.{content};
+ghost use Rattle.fluent_links.specs.Inside.Content.{content};
 
 use crate::hashing::hash_pattern;
-use fluent_tree::ast::Pattern;
+use fluent_ast::ast::Pattern;
 use std::hash::{Hash, Hasher};
 
 /// A pattern that stands for its content.
@@ -13,8 +13,8 @@ pub struct Stored<'r, 's> {
 
 impl<'r, 's> PartialEq for Stored<'r, 's> {
     ghost use Rattle.std.specs.Cmp.{partial_equiv_from_equiv};
-    ghost use Rattle.fluent_tree.specs.Tree.{is_yes, pattern_same};
-    ghost use Rattle.fluent_tree.specs.Same.{equivalent};
+    ghost use Rattle.fluent_ast.specs.Tree.{is_yes, pattern_same};
+    ghost use Rattle.fluent_ast.specs.Same.{equivalent};
 
     ghost eq = { λ a b. is_yes (pattern_same (content a) (content b)) };
 
@@ -26,15 +26,15 @@ impl<'r, 's> PartialEq for Stored<'r, 's> {
 }
 
 impl<'r, 's> Eq for Stored<'r, 's> {
-    ghost use Rattle.fluent_tree.specs.Tree.{pattern_same};
-    ghost use Rattle.fluent_tree.specs.Same.{equivalent};
+    ghost use Rattle.fluent_ast.specs.Tree.{pattern_same};
+    ghost use Rattle.fluent_ast.specs.Same.{equivalent};
 
     ghost laws = { equivalent content pattern_same };
 }
 
 impl<'r, 's> Hash for Stored<'r, 's> {
-    ghost use Rattle.fluent_links.specs.Content.{respects};
-    ghost use Rattle.fluent_links.specs.Hashed.{hashed};
+    ghost use Rattle.fluent_links.specs.Inside.Content.{respects};
+    ghost use Rattle.fluent_links.specs.Inside.Hashed.{hashed};
 
     ghost hash_input = { λ a. hashed (content a) };
 

@@ -1,15 +1,15 @@
 -- What is counted when all parts are.
 use Rattle.std.proofs.Common.{◌≡◌, ℕ, ◌+◌, ◌-◌, ◌≤◌, ◌^◌, max, List, [], length, drop, map, refl, arith}
 use Rattle.std.proofs.lemmas.List.{at_drop_all}
-use Rattle.fluent_tree.specs.Tree.{pattern_of}
-use Rattle.fluent_tree.specs.View.{element_view}
-use Rattle.fluent_tree.specs.References.{inlines_view, nameds_view, variants_view}
-use Rattle.fluent_tree.specs.declared.ast.InlineExpression.{InlineExpression}
-use Rattle.fluent_tree.specs.declared.ast.NamedArgument.{NamedArgument}
-use Rattle.fluent_tree.specs.declared.ast.PatternElement.{PatternElement}
-use Rattle.fluent_tree.specs.declared.ast.Variant.{Variant}
-use Rattle.fluent_clean.specs.Placeables.{in_pattern, in_largest, in_positional, in_named}
-use Rattle.fluent_lint.specs.Table.{Known, capped, count_of}
+use Rattle.fluent_ast.specs.Tree.{pattern_of}
+use Rattle.fluent_ast.specs.View.{element_view}
+use Rattle.fluent_ast.specs.References.{inlines_view, nameds_view, variants_view}
+use Rattle.fluent_ast.specs.declared.ast.InlineExpression.{InlineExpression}
+use Rattle.fluent_ast.specs.declared.ast.NamedArgument.{NamedArgument}
+use Rattle.fluent_ast.specs.declared.ast.PatternElement.{PatternElement}
+use Rattle.fluent_ast.specs.declared.ast.Variant.{Variant}
+use Rattle.fluent_lint.specs.Placeables.{in_pattern, in_largest, in_positional, in_named, capped}
+use Rattle.fluent_lint.specs.Inside.Table.{Known, count_of}
 
 sum_end : {A : Type 0} (opened : List A → ℕ) (xs : List A) (i total whole : ℕ) → opened [] ≡ 0 → length xs ≤ i → total ≤ 2 ^ 64 - 1 → capped whole ≡ capped (total + opened (drop i xs)) → total ≡ capped whole
 sum_end opened xs i total whole none h small e = let left = at_drop_all opened xs i h in omega (arith, none, left, small, e)

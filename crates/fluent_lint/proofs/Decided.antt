@@ -1,6 +1,6 @@
 -- What is decided is what holds.
 use Rattle.std.proofs.Common.{◌≡◌, ◌↔◌, IsTrue, Bool, true, false, refl, rules}
-use Rattle.fluent_tree.specs.Tree.{is_yes}
+use Rattle.fluent_ast.specs.Tree.{is_yes}
 
 pub decided : {P : Type 0} (r : Bool) (d : Dec P) → (IsTrue r ↔ P) → r ≡ is_yes d
 decided true (yes p) h = refl

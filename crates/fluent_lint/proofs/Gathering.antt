@@ -10,19 +10,18 @@ use Rattle.std.specs.Str.{bytes_eq}
 use Rattle.std.proofs.lemmas.Slice.Eq.{bytes_eq-Decides}
 use Rattle.indexmap.specs.IndexSet.{insert_key}
 use Rattle.std.proofs.lemmas.List.{append_assoc, append-nil, map-append}
-use Rattle.fluent_tree.specs.Tree.{Text, Attribute, Pattern, is_yes}
-use Rattle.fluent_meaning.specs.Bundle.{Target, unknown, without_value, found}
-use Rattle.fluent_clean.specs.Places.{Place, of_message, Names, place_target, place_same}
-use Rattle.fluent_clean.specs.Needs.{Need, a_message, a_term, a_function, a_variable, a_default, needs}
-use Rattle.fluent_clean.specs.Clean.{IsAmong, AsksFor, itself, by_message}
+use Rattle.fluent_ast.specs.Tree.{Text, Attribute, Pattern, is_yes}
+use Rattle.fluent_semantics.specs.Bundle.{Target, unknown, without_value, found}
+use Rattle.fluent_lint.specs.Places.{Place, of_message, Names, place_target, place_same}
+use Rattle.fluent_lint.specs.Needs.{Need, a_message, a_term, a_function, a_variable, a_default, needs}
+use Rattle.fluent_lint.specs.Clean.{IsAmong, AsksFor, itself, by_message}
 use Rattle.fluent_lint.specs.Asked.{AsksForAt, AreAsked, AreDistinct, texts}
-use Rattle.fluent_lint.specs.PlaceView.{pattern_in, place_view}
+use Rattle.fluent_lint.specs.PlaceView.{pattern_in, place_view, views}
 use Rattle.fluent_lint.specs.Inside.Reached.{Adds, AddsNames, IsReference, NotesOf, TellsAll, needs_there, needs_at, IsThrough, Gathered}
 use Rattle.fluent_lint.proofs.Growing.{all_map, among_at, prefix, last_of, wider, at_last}
 use Rattle.fluent_lint.specs.NeedsView.{need_view}
 use Rattle.fluent_lint.specs.declared.listing.Need as code
 use Rattle.fluent_lint.specs.declared.place.Place as places
-use Rattle.fluent_lint.specs.Findings.{views}
 
 -- what stands at a place of a list is there whatever the default
 pub got_self : {A : Type 0} (xs : List A) (i : ℕ) (d : A) → i < length xs → get_or xs i d ≡ get_or xs i (get_or xs i d)

@@ -1,8 +1,8 @@
 -- Lists of which all have a property, and that grow.
-use Rattle.std.proofs.Common.{◌≡◌, ◌⊎◌, ◌∙◌, ℕ, zero, suc, ◌+◌, ◌<◌, ◌≤◌, List, [], ◌∷◌, ◌++◌, length, get_or, slice_get, map, take, Some, inl, inr, refl, sym, ap, subst, add-one, arith}
+use Rattle.std.proofs.Common.{◌≡◌, ◌⊎◌, ◌∙◌, ℕ, zero, suc, ◌+◌, ◌<◌, List, [], ◌∷◌, ◌++◌, length, get_or, slice_get, map, take, Some, inl, inr, refl, sym, ap, subst, add-one, arith}
 use Rattle.std.specs.List.{AllByRecursion}
-use Rattle.std.proofs.lemmas.List.{take_all, take_more, map-append}
-use Rattle.fluent_clean.specs.Clean.{IsAmong}
+use Rattle.std.proofs.lemmas.List.{take_more, map-append}
+use Rattle.fluent_lint.specs.Clean.{IsAmong}
 
 all_snoc : {A : Type 0} (P : A → Type 0) (xs : List A) (x : A) → AllByRecursion P xs → P x → AllByRecursion P (xs ++ x ∷ [])
 all_snoc P [] x h p = (p, tt)
@@ -10,13 +10,6 @@ all_snoc P (y ∷ ys) x h p = (h.0, all_snoc P ys x h.1 p)
 
 pub all_pushed : {A : Type 0} (P : A → Type 0) (old new : List A) (x : A) → new ≡ old ++ x ∷ [] → AllByRecursion P old → P x → AllByRecursion P new
 all_pushed P old new x e h p = subst (AllByRecursion P) (sym e) (all_snoc P old x h p)
-
-some_pushed : {A : Type 0} (old : List A) (x : A) → old ++ x ∷ [] ≡ [] → ⊥
-some_pushed [] x e = absurd cc
-some_pushed (y ∷ ys) x e = absurd cc
-
-pub not_nil : {A : Type 0} (old new : List A) (x : A) → new ≡ old ++ x ∷ [] → new ≡ [] → ⊥
-not_nil old new x e h = some_pushed old x (subst (λ l. l ≡ []) e h)
 
 all_next : {A B : Type 0} (P : B → Type 0) (f : A → B) (xs : List A) (i : ℕ) (x : A) → i < length xs → x ≡ get_or xs i x → AllByRecursion P (map f (take i xs)) → P (f x) → AllByRecursion P (map f (take (suc i) xs))
 all_next P f [] i x h is all p = absurd (omega arith)
@@ -27,30 +20,11 @@ all_next P f (y ∷ ys) (suc i) x h is all p = (all.0, all_next P f ys i x (omeg
 pub all_more : {A B : Type 0} (P : B → Type 0) (f : A → B) (xs : List A) (i : ℕ) (x : A) → i < length xs → x ≡ get_or xs i x → AllByRecursion P (map f (take i xs)) → P (f x) → AllByRecursion P (map f (take (i + 1) xs))
 all_more P f xs i x h is all p = rw add-one (all_next P f xs i x h is all p)
 
--- at the end
-pub all_taken : {A B : Type 0} (P : B → Type 0) (f : A → B) (xs : List A) (i : ℕ) → length xs ≤ i → AllByRecursion P (map f (take i xs)) → AllByRecursion P (map f xs)
-all_taken P f xs i h all = subst (λ l. AllByRecursion P (map f l)) (take_all i xs h) all
-
 -- an element is among them
 pub among_at : {A B : Type 0} (f : A → B) (xs : List A) (i : ℕ) (x : A) → i < length xs → x ≡ get_or xs i x → IsAmong (f x) (map f xs)
 among_at f [] i x h is = absurd (omega arith)
 among_at f (y ∷ ys) zero x h is = inl (ap f is)
 among_at f (y ∷ ys) (suc i) x h is = inr (among_at f ys i x (omega arith) is)
-
-pub among_pushed : {A B : Type 0} (f : A → B) (old new : List A) (x : A) → new ≡ old ++ x ∷ [] → IsAmong (f x) (map f new)
-among_pushed f old new x e = subst (λ l. IsAmong (f x) (map f l)) (sym e) (last old)
-  where
-    last : (l : List _) → IsAmong (f x) (map f (l ++ x ∷ []))
-    last [] = inl refl
-    last (y ∷ ys) = inr (last ys)
-
-pub among_kept : {A B : Type 0} (f : A → B) (old new : List A) (x : A) (y : B) → new ≡ old ++ x ∷ [] → IsAmong y (map f old) → IsAmong y (map f new)
-among_kept f old new x y e h = subst (λ l. IsAmong y (map f l)) (sym e) (longer old h)
-  where
-    longer : (l : List _) → IsAmong y (map f l) → IsAmong y (map f (l ++ x ∷ []))
-    longer [] h = absurd h
-    longer (z ∷ zs) (inl same) = inl same
-    longer (z ∷ zs) (inr later) = inr (longer zs later)
 
 pub all_map : {A : Type 0} (P Q : A → Type 0) (xs : List A) → ((x : A) → P x → Q x) → AllByRecursion P xs → AllByRecursion Q xs
 all_map P Q [] f h = tt

@@ -1,17 +1,17 @@
 -- Lists of needs, one after the other.
 use Rattle.std.proofs.Common.{◌≡◌, ℕ, ◌+◌, ◌<◌, ◌≤◌, List, [], ◌∷◌, ◌++◌, length, get_or, drop, map, refl, sym, ap, ◌∙◌, rules}
 use Rattle.std.proofs.lemmas.List.{append_assoc, append-nil, map-append, at_drop_more, at_drop_all}
-use Rattle.fluent_tree.specs.Tree.{pattern_of}
-use Rattle.fluent_tree.specs.View.{element_view, inline_view, pattern_view}
-use Rattle.fluent_tree.specs.References.{inlines_view, nameds_view, variants_view}
-use Rattle.fluent_clean.specs.Needs.{Need, in_element, in_inline, in_named, in_positional, in_variants, needs}
+use Rattle.fluent_ast.specs.Tree.{pattern_of}
+use Rattle.fluent_ast.specs.View.{element_view, inline_view, pattern_view}
+use Rattle.fluent_ast.specs.References.{inlines_view, nameds_view, variants_view}
+use Rattle.fluent_lint.specs.Needs.{Need, in_element, in_inline, in_named, in_positional, in_variants, needs}
 use Rattle.fluent_lint.specs.NeedsView.{need_view}
 use Rattle.fluent_lint.specs.declared.listing.Need as code
-use Rattle.fluent_tree.specs.declared.ast.Expression.{the_lemmas}
-use Rattle.fluent_tree.specs.declared.ast.InlineExpression.{InlineExpression}
-use Rattle.fluent_tree.specs.declared.ast.NamedArgument.{NamedArgument, out-NamedArgument}
-use Rattle.fluent_tree.specs.declared.ast.PatternElement.{PatternElement}
-use Rattle.fluent_tree.specs.declared.ast.Variant.{Variant, out-Variant}
+use Rattle.fluent_ast.specs.declared.ast.Expression.{the_lemmas}
+use Rattle.fluent_ast.specs.declared.ast.InlineExpression.{InlineExpression}
+use Rattle.fluent_ast.specs.declared.ast.NamedArgument.{NamedArgument, out-NamedArgument}
+use Rattle.fluent_ast.specs.declared.ast.PatternElement.{PatternElement}
+use Rattle.fluent_ast.specs.declared.ast.Variant.{Variant, out-Variant}
 
 -- a list to which one is pushed
 pub pushed : (old new : List code.Need) (r : code.Need) → new ≡ old ++ r ∷ [] → map need_view new ≡ map need_view old ++ need_view r ∷ []

@@ -3,14 +3,14 @@ use Rattle.std.proofs.Common.{◌≡◌, ℕ, ◌+◌, ◌<◌, ◌≤◌, List,
 use Rattle.std.proofs.Common.{Global}
 use Rattle.std.specs.declared.vec.Vec.{Vec}
 use Rattle.std.proofs.lemmas.List.{append_assoc, append-nil, map-append, at_drop_more, at_drop_all}
-use Rattle.fluent_tree.specs.Tree.{Attribute, attribute}
-use Rattle.fluent_tree.specs.View.{attribute_view, entry_view}
-use Rattle.fluent_tree.specs.declared.ast.Attribute as of_attribute
-use Rattle.fluent_tree.specs.declared.ast.Entry as of_entry
-use Rattle.fluent_clean.specs.Places.{Place}
-use Rattle.fluent_lint.specs.PlaceView.{place_view}
-use Rattle.fluent_lint.specs.Findings.{views}
-use Rattle.fluent_lint.specs.EntryPlaces.{AddsPlaces, attribute_places, places_in, places_of}
+use Rattle.fluent_ast.specs.Tree.{Attribute, attribute}
+use Rattle.fluent_ast.specs.View.{attribute_view, entry_view}
+use Rattle.fluent_ast.specs.declared.ast.Attribute as of_attribute
+use Rattle.fluent_ast.specs.declared.ast.Entry as of_entry
+use Rattle.fluent_lint.specs.Places.{Place}
+use Rattle.fluent_lint.specs.PlaceView.{place_view, views}
+use Rattle.fluent_lint.specs.Inside.Listing.{AddsPlaces}
+use Rattle.fluent_lint.specs.EntryPlaces.{attribute_places, places_in, places_of}
 use Rattle.fluent_lint.specs.declared.place.Place as code
 
 -- a list to which one is pushed

@@ -1,15 +1,16 @@
 -- Counts by what is known are those of the bundle, from some depth on.
 use Rattle.std.proofs.Common.{◌≡◌, ℕ, zero, suc, ◌+◌, ◌<◌, ◌≤◌, ◌^◌, max, List, [], ◌∷◌, ◌++◌, IfSome, refl, sym, ap, subst, ◌∙◌, arith}
 use Rattle.std.specs.List.{AllByRecursion}
-use Rattle.fluent_tree.specs.Tree.{Text, Pattern, nothing, more, Element, text, placeable, Expression, inline, select, Variants, no_variants, variant, Inline, string, number, function, message, term, variable, nested, Call, no_call, call, Arguments, arguments, Inlines, no_inlines, argument, Nameds, no_nameds, named_argument}
-use Rattle.fluent_meaning.specs.Bundle.{Target, found}
-use Rattle.fluent_clean.specs.Places.{Place, Names, place_target}
-use Rattle.fluent_clean.specs.Needs.{Need, a_message, a_term, a_function, a_variable, a_default, has_default, unless, needs, in_element, in_expression, in_variants, in_inline, in_call, in_arguments, in_positional, in_named}
-use Rattle.fluent_clean.specs.Clean.{IsClean, IsMet, IsCleanAt}
-use Rattle.fluent_clean.specs.Laws.{MetIsClean, DeeperCountsMore}
-use Rattle.fluent_clean.specs.Placeables as p
-use Rattle.fluent_clean.specs.Placeables.{at_place, at_target, in_pattern, placeables_deep}
-use Rattle.fluent_lint.specs.Table.{Known, capped, count_of, IsRight, place_of, IsCounted, IsWell}
+use Rattle.fluent_ast.specs.Tree.{Text, Pattern, nothing, more, Element, text, placeable, Expression, inline, select, Variants, no_variants, variant, Inline, string, number, function, message, term, variable, nested, Call, no_call, call, Arguments, arguments, Inlines, no_inlines, argument, Nameds, no_nameds, named_argument}
+use Rattle.fluent_semantics.specs.Bundle.{Target, found}
+use Rattle.fluent_lint.specs.Places.{Place, Names, place_target}
+use Rattle.fluent_lint.specs.Needs.{Need, a_message, a_term, a_function, a_variable, a_default, has_default, unless, needs, in_element, in_expression, in_variants, in_inline, in_call, in_arguments, in_positional, in_named}
+use Rattle.fluent_lint.specs.Clean.{IsClean, IsMet, IsCleanAt}
+use Rattle.fluent_lint.specs.Laws.{MetIsClean, DeeperCountsMore}
+use Rattle.fluent_lint.specs.Placeables as p
+use Rattle.fluent_lint.specs.Placeables.{at_place, at_target, in_pattern, placeables_deep, capped, IsRight}
+use Rattle.fluent_lint.specs.Inside.Table.{Known, count_of, IsCounted, IsWell}
+use Rattle.fluent_lint.specs.References.{place_of}
 use Rattle.fluent_lint.specs.Findings.{IsFine}
 
 all_left : {A : Type 0} (P : A → Type 0) (xs ys : List A) → AllByRecursion P (xs ++ ys) → AllByRecursion P xs

@@ -6,19 +6,17 @@ use Rattle.std.specs.Map.{lookup}
 use Rattle.std.specs.Option.{option_map}
 use Rattle.std.specs.Prelude.{Result, Ok, Err}
 use Rattle.std.specs.Result.{OnOk}
-use Rattle.fluent_tree.specs.Tree.{Text, is_yes}
-use Rattle.fluent_clean.specs.Places.{Place, Names, place_same}
-use Rattle.fluent_clean.specs.Needs.{Need}
-use Rattle.fluent_clean.specs.Clean.{IsAmong}
-use Rattle.fluent_lint.specs.Asked.{AreAsked, AreDistinct, texts}
-use Rattle.fluent_lint.specs.Findings.{views}
-use Rattle.fluent_lint.specs.Lists.{index_of, list_at, list_of, IsSetTo, Takes, AreAskedIn}
-use Rattle.fluent_lint.specs.PlaceView.{place_view}
+use Rattle.fluent_ast.specs.Tree.{Text, is_yes}
+use Rattle.fluent_lint.specs.Places.{Place, Names, place_same}
+use Rattle.fluent_lint.specs.Needs.{Need}
+use Rattle.fluent_lint.specs.Clean.{IsAmong}
+use Rattle.fluent_lint.specs.Asked.{AreAsked, AreDistinct, texts, index_of, list_at, list_of, AreAskedIn}
+use Rattle.fluent_lint.specs.PlaceView.{views, place_view}
+use Rattle.fluent_lint.specs.Inside.Sharing.{IsSetTo, Takes, IsList, AreListed, IsGathered, Covers, IsOfList, LeadsToList, IsKnown, KeepsKnown, Joins, Settles}
 use Rattle.fluent_lint.specs.Inside.Reached.{IsReference, needs_at}
-use Rattle.fluent_lint.specs.Inside.Sharing.{IsList, AreListed, IsGathered, Covers, IsOfList, LeadsToList, IsKnown, KeepsKnown, Joins, Settles}
 use Rattle.fluent_lint.specs.declared.asked.Asked.{Asked}
 use Rattle.fluent_lint.specs.declared.place.Place as code
-use Rattle.fluent_lint.specs.declared.variables.Gathered.{Gathered}
+use Rattle.fluent_lint.specs.declared.asking.Gathered.{Gathered}
 use Rattle.fluent_lint.proofs.Gathering.{asks_through}
 
 pub ok_map : {T E : Type 0} (r : Result T E) (P Q : Type 0) → (P → Q) → OnOk r P → OnOk r Q

@@ -2,12 +2,12 @@
 use Rattle.std.proofs.Common.{◌≡◌, ◌⊎◌, ℕ, ◌+◌, ◌<◌, length, get_or, take, Bool, true, false, cond, List, [], ◌∷◌, Option, Some, None, inl, inr, refl, sym, ap, subst, ◌∙◌, if◌then◌else◌, arith}
 use Rattle.std.proofs.lemmas.Bool.{false≢true}
 use Rattle.indexmap.specs.IndexMap.{insert_entry}
-use Rattle.fluent_tree.specs.Tree.{Text, is_yes}
-use Rattle.fluent_clean.specs.Places.{Place, Names, place_same}
-use Rattle.fluent_clean.specs.Clean.{IsAmong}
-use Rattle.fluent_lint.specs.PlaceView.{place_view}
-use Rattle.fluent_lint.specs.Table.{Known, known_of, count_in, count_of, IsRight, AreRight}
-use Rattle.fluent_lint.specs.Findings.{views}
+use Rattle.fluent_ast.specs.Tree.{Text, is_yes}
+use Rattle.fluent_lint.specs.Places.{Place, Names, place_same}
+use Rattle.fluent_lint.specs.Clean.{IsAmong}
+use Rattle.fluent_lint.specs.PlaceView.{place_view, views}
+use Rattle.fluent_lint.specs.Inside.Table.{Known, known_of, count_in, count_of, AreRight}
+use Rattle.fluent_lint.specs.Placeables.{IsRight}
 use Rattle.fluent_lint.proofs.Growing.{so_far, further, this_one}
 use Rattle.fluent_lint.specs.Inside.Steps.{keys_in, IsListing, AreUnknown, one_if_none, untaken}
 use Rattle.fluent_lint.specs.declared.place.Place as code

@@ -1,13 +1,18 @@
--- Which variables a place asks the arguments for.
-use Rattle.std.specs.Prelude.{◌≡◌, ◌↔◌, List, [], ◌∷◌, map}
+-- Which variables places ask the arguments for.
+use Rattle.std.specs.Prelude.{◌≡◌, ◌↔◌, ℕ, List, [], ◌∷◌, map, Option, Some, None, slice_get}
 use Rattle.std.specs.Borrow.{Bor}
+use Rattle.std.specs.List.{AllByRecursion}
+use Rattle.std.specs.Map.{lookup}
+use Rattle.std.specs.Option.{option_map}
 use Rattle.std.specs.declared.vec.Vec.{Vec}
 use Rattle.std.proofs.Common.{Global}
-use Rattle.fluent_tree.specs.Tree.{Text, Pattern}
-use Rattle.fluent_meaning.specs.Bundle.{found}
-use Rattle.fluent_clean.specs.Places.{Place, Names, place_target}
-use Rattle.fluent_clean.specs.Clean.{AsksFor, IsAmong}
+use Rattle.indexmap.specs.IndexSet.{IndexSet}
+use Rattle.fluent_ast.specs.Tree.{Text, Pattern, is_yes}
+use Rattle.fluent_semantics.specs.Bundle.{found}
+use Rattle.fluent_lint.specs.Places.{Place, Names, place_same, place_target}
+use Rattle.fluent_lint.specs.Clean.{AsksFor, IsAmong}
 use Rattle.fluent_lint.specs.PlaceView.{place_view}
+use Rattle.fluent_lint.specs.declared.asked.Asked.{Asked}
 use Rattle.fluent_lint.specs.declared.place.Place as code
 
 abbrev pub texts : List (Bor Text) → List Text
@@ -29,3 +34,24 @@ AreAskedAt named x vs = AreAsked named (place_view x) (texts vs.items)
 abbrev pub AreDistinct : {A : Type 0} → List A → Type 0
 AreDistinct [] = Unit {0}
 AreDistinct (x ∷ xs) = (IsAmong x xs → ⊥) × AreDistinct xs
+
+-- ---- lists that places share
+
+-- which list is that of a place
+abbrev pub index_of : Asked → Place → Option ℕ
+index_of a x = lookup (λ k. is_yes (place_same x (place_view k))) a.indexes.entries
+
+abbrev pub list_at : {S : Type 0} → List (IndexSet (Bor Text) S) → Option ℕ → Option (List (Bor Text))
+list_at lists None = None
+list_at lists (Some k) = option_map (λ l. l.keys) (slice_get lists k)
+
+-- the list of a place
+abbrev pub list_of : Asked → Place → Option (List (Bor Text))
+list_of a x = list_at a.lists.items (index_of a x)
+
+-- its list is there, and has all that the place asks for, each once
+abbrev pub IsAskedIn : Names Text → Asked → Place → Type 0
+IsAskedIn named a x = (l : List (Bor Text)) × (list_of a x ≡ Some l) × AreAsked named x (texts l) × AreDistinct (texts l)
+
+abbrev pub AreAskedIn : Names Text → List Place → Asked → Type 0
+AreAskedIn named xs a = AllByRecursion (IsAskedIn named a) xs

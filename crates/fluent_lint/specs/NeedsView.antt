@@ -1,10 +1,8 @@
 -- What a listed need means.
-use Rattle.std.specs.Prelude.{◌≡◌, List, ◌++◌, map, Vec}
+use Rattle.std.specs.Prelude.{List, map, Vec}
 use Rattle.std.specs.declared.alloc.Global.{Global}
-use Rattle.fluent_tree.specs.View.{attribute_of, call_view}
-use Rattle.fluent_tree.specs.References.{variants_view}
-use Rattle.fluent_tree.specs.declared.ast.Variant as of_variant
-use Rattle.fluent_clean.specs.Needs.{Need, a_message, a_term, a_function, a_variable, a_default, has_default, names_set, unless}
+use Rattle.fluent_ast.specs.View.{attribute_of, call_view}
+use Rattle.fluent_lint.specs.Needs.{Need, a_message, a_term, a_function, a_variable, a_default, names_set}
 use Rattle.fluent_lint.specs.declared.listing.Need as code
 use Rattle.fluent_lint.specs.declared.listing.Need.TheVariants as variants
 
@@ -17,11 +15,3 @@ need_view variants.Default = a_default
 
 abbrev pub needs_view : Vec code.Need Global → List Need
 needs_view list = map need_view list.items
-
--- a default, where none of the variants is one
-abbrev pub missing_default : List of_variant.Variant → List Need
-missing_default vs = unless (has_default (variants_view vs)) a_default
-
--- the new list is the old one with these after it
-abbrev pub Appends : Vec code.Need Global → Vec code.Need Global → List Need → Type 0
-Appends old new these = needs_view new ≡ needs_view old ++ these

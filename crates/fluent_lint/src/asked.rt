@@ -2,7 +2,8 @@
 
 ghost use Rattle.std.specs.Prelude.{◌≡◌, [], IfOk, OnOk};
 ghost use Rattle.std.specs.Option.{option_map};
-ghost use Rattle.fluent_lint.specs.Lists.{IsSetTo, Takes, index_of, list_of};
+ghost use Rattle.fluent_lint.specs.Inside.Sharing.{IsSetTo, Takes};
+ghost use Rattle.fluent_lint.specs.Asked.{index_of, list_of};
 ghost use Rattle.fluent_lint.specs.PlaceView.{place_view};
 
 use crate::place::Place;

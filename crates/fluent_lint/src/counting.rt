@@ -1,14 +1,14 @@
 //! How many placeables a pattern opens at most.
 
 ghost use Rattle.std.specs.Prelude.{◌≡◌};
-ghost use Rattle.fluent_tree.specs.References.{inlines_view, nameds_view, variants_view};
-ghost use Rattle.fluent_tree.specs.View.{arguments_view, element_view, expression_view, inline_view, pattern_view};
-ghost use Rattle.fluent_clean.specs.Placeables.{in_arguments, in_element, in_expression, in_inline, in_largest, in_named, in_pattern, in_positional};
+ghost use Rattle.fluent_ast.specs.References.{inlines_view, nameds_view, variants_view};
+ghost use Rattle.fluent_ast.specs.View.{arguments_view, element_view, expression_view, inline_view, pattern_view};
+ghost use Rattle.fluent_lint.specs.Placeables.{in_arguments, in_element, in_expression, in_inline, in_largest, in_named, in_pattern, in_positional, capped};
 ghost use Rattle.fluent_lint.specs.PlaceView.{place_view};
-ghost use Rattle.fluent_lint.specs.Table.{capped, counts};
+ghost use Rattle.fluent_lint.specs.Inside.Table.{counts};
 
 use crate::place::Place;
-use fluent_tree::ast::{
+use fluent_ast::ast::{
     CallArguments, Expression, InlineExpression, NamedArgument, Pattern, PatternElement, Variant,
 };
 use indexmap::IndexMap;

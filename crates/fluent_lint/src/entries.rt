@@ -1,12 +1,13 @@
 //! The places of entries.
 
 ghost use Rattle.std.specs.Prelude.{◌≡◌, IfOk, OnOk, map};
-ghost use Rattle.fluent_tree.specs.View.{entry_view};
-ghost use Rattle.fluent_lint.specs.EntryPlaces.{AddsOfMessage, AddsOfTerm, AddsPlaces, places_in, places_of};
-ghost use Rattle.fluent_lint.specs.Findings.{views};
+ghost use Rattle.fluent_ast.specs.View.{entry_view};
+ghost use Rattle.fluent_lint.specs.Inside.Listing.{AddsOfMessage, AddsOfTerm, AddsPlaces};
+ghost use Rattle.fluent_lint.specs.EntryPlaces.{places_in, places_of};
+ghost use Rattle.fluent_lint.specs.PlaceView.{views};
 
 use crate::place::Place;
-use fluent_tree::ast::{Attribute, Entry, Identifier};
+use fluent_ast::ast::{Attribute, Entry, Identifier};
 use std::alloc::{AllocError, Global};
 
 /// The places of entries, in order: each value, then the attributes. What can't be read has none.

@@ -1,10 +1,13 @@
-//! What can be told of the messages and terms of a bundle before they are formatted.
+//! What is wrong with the messages and terms of a bundle, told before they are formatted.
 #![tactic(auto)]
 
 mod asked;
+mod asking;
 mod checking;
 mod counting;
+mod cycles;
 mod entries;
+pub mod examples;
 mod finding;
 mod groups;
 pub mod laws;
@@ -12,16 +15,19 @@ mod lines;
 mod linting;
 mod listing;
 mod order;
+mod passes;
 pub mod place;
 mod settling;
-mod variables;
+mod sources;
 
 pub use asked::Asked;
+pub use asking::variables_of;
 pub use entries::places_of;
-pub use finding::{Cause, Finding, Large, Report};
+pub use finding::{Finding, Kind};
 pub use lines::{LineColumn, position};
-pub use linting::lint_places;
+pub use linting::{lint, variables};
 pub use listing::{Need, needs, refers_to};
+pub use passes::lint_places;
 pub use place::{Place, pattern_at};
 pub use settling::variables_at;
-pub use variables::variables_of;
+pub use sources::{Definition, Twice, defined_twice, unreadable};

@@ -2,11 +2,21 @@
 ghost use Rattle.std.specs.Prelude.{◌≡◌, take};
 ghost use Rattle.fluent_lint.specs.Columns.{column_after, line_after};
 
+use std::fmt;
+
 /// A line and a column, each counted from 1. A column counts characters.
 #[derive(Clone, Copy, Drop)]
 pub struct LineColumn {
     pub line: usize,
     pub column: usize,
+}
+
+impl fmt::Display for LineColumn {
+    fn fmt<W: fmt::Write>(&self, f: &mut fmt::Formatter<W>) -> fmt::Result {
+        let line = self.line;
+        let column = self.column;
+        write!(f, "{line}:{column}")
+    }
 }
 
 /// The line and the column of the byte at an offset, as the one of what can't be read: the line feeds before it plus

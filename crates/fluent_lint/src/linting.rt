@@ -1,139 +1,74 @@
-//! Which of the patterns at some places are clean.
+//! The call that lints a bundle.
 
-ghost use Rattle.std.specs.Prelude.{IfOk, OnOk};
-ghost use Rattle.fluent_lint.specs.Findings.{Reports, views};
-ghost use Rattle.fluent_lint.specs.Table.{AreRight};
-ghost use Rattle.fluent_lint.specs.Inside.Steps.{AreUnknown, IsListing, IsStep, Takes};
+ghost use Rattle.std.specs.Prelude.{IfOk};
+ghost use Rattle.fluent_lint.specs.Asked.{AreAskedAt, AreDistinct, texts};
+ghost use Rattle.fluent_lint.specs.Clean.{names_of};
+ghost use Rattle.fluent_lint.specs.Lints.{Lints};
 
-use crate::checking::{Look, look_at};
-use crate::counting::Table;
-use crate::finding::{Finding, Large, Report};
-use crate::order::in_order;
+use crate::asking::variables_of;
+use crate::finding::Finding;
+use crate::laws;
+use crate::passes::lint_places;
 use crate::place::Place;
-use fluent_clean::laws;
-use fluent_entries::GetEntry;
-use indexmap::IndexMap;
+use crate::sources::places_in;
+use fluent_bundle::{
+    FluentBundle, FluentFormatter, FluentFunction, FluentResource, FluentType, Means, MemoizerKind,
+    Transform,
+};
 use std::alloc::{AllocError, Global};
-use std::collections::LinkedList;
 
-/// What comes of looking at all places.
-#[derive(Drop)]
-pub(crate) enum Step<'s> {
-    /// All were looked at.
-    Done(Report<'s>),
-    /// This one is clean, which wasn't known.
-    Clean(Place<'s>, u64),
-}
-
-/// What can be told of the patterns at these places: each has a finding, or is clean and opens at most as many
-/// placeables as the limit.
+/// What is wrong with the messages and terms of a bundle. Of the values and attributes of these resources, each has a
+/// finding, or it never shows an error: for all arguments that give each variable that it asks for ([`variables`]),
+/// what is formatted is its text with no error. What no resource here has isn't looked at, so hand in all that were
+/// added.
 ///
 /// # Errors
 ///
 /// An allocation failed.
-pub fn lint_places<'s, F, B: GetEntry<'s, F>>(
+pub fn lint<
+    'r,
+    's: 'r,
+    M: MemoizerKind,
+    C: FluentType,
+    F: FluentFunction<C>,
+    G: FluentFormatter<C, M>,
+    T: Transform,
+>(
     alloc: Global,
-    bundle: &B,
-    places: &[Place<'s>],
-    limit: u32,
-) -> Result<Report<'s>, AllocError>
-    ensures { IfOk result (Reports (B.named bundle.now) limit (views places.now)) }
+    bundle: &FluentBundle<'r, 's, M, C, F, G, T>,
+    resources: &[FluentResource<'s>],
+) -> Result<Vec<Finding<'s>>, AllocError>
+    ensures { IfOk result
+        (Lints (⟦<FluentBundle<'r, 's, M, C, F, G, T> as Means>⟧.meaning bundle.now) resources.now) }
 {
-    let mut table = prepared(alloc, bundle, places)?;
-    loop {
-        match look_at_all(alloc, bundle, &table, limit)? {
-            Step::Done(report) => return Ok(report),
-            Step::Clean(place, count) => {
-                table.insert(place, Some(count))?;
-            }
-        }
-    }
+    laws::fine_is_written();
+    let places = places_in(alloc, resources)?;
+    let limit = bundle.placeable_limit();
+    lint_places(alloc, bundle, &places, limit)
 }
 
-/// A table of these places, of which those are known to be clean that are found so in one pass.
-fn prepared<'s, F, B: GetEntry<'s, F>>(
+/// The variables that a value or an attribute asks the arguments for, by name and each once: its own, and those of
+/// the messages that it refers to.
+///
+/// # Errors
+///
+/// An allocation failed.
+pub fn variables<
+    'r,
+    's: 'r,
+    M: MemoizerKind,
+    C: FluentType,
+    F: FluentFunction<C>,
+    G: FluentFormatter<C, M>,
+    T: Transform,
+>(
     alloc: Global,
-    bundle: &B,
-    places: &[Place<'s>],
-) -> Result<Table<'s>, AllocError>
-    ensures right { IfOk result (λ table. AreRight (B.named bundle.now) table.entries) }
-    ensures listing { IfOk result (λ table. IsListing (views places.now) table.entries) }
+    bundle: &FluentBundle<'r, 's, M, C, F, G, T>,
+    place: &Place<'s>,
+) -> Result<Vec<&'s str>, AllocError>
+    ensures asked { IfOk result
+        (AreAskedAt (names_of (⟦<FluentBundle<'r, 's, M, C, F, G, T> as Means>⟧.meaning bundle.now)) place.now) }
+    ensures distinct { IfOk result (λ names. AreDistinct (texts names.items)) }
 {
-    let mut table = listed(alloc, places)?;
-    let order = in_order(alloc, bundle, &table)?;
-    for i in &order {
-        take(alloc, bundle, &mut table, *i)?;
-    }
-    Ok(table)
-}
-
-/// Notes the count of the place with this index, if its pattern is found clean.
-fn take<'s, F, B: GetEntry<'s, F>>(
-    alloc: Global,
-    bundle: &B,
-    table: &mut Table<'s>,
-    index: usize,
-) -> Result<(), AllocError>
-    requires { AreRight (B.named bundle.now) table.old.entries }
-    ensures { OnOk result (Takes (B.named bundle.now) table.old.entries table.new.entries) }
-{
-    let Some((place, _)) = table.get_index(index) else {
-        return Ok(());
-    };
-    let place = *place;
-    if let Look::Clean(count) = look_at(alloc, bundle, table, &place)? {
-        table.insert(place, Some(count))?;
-    }
-    Ok(())
-}
-
-/// A table of these places, of which nothing is known yet.
-fn listed<'s>(alloc: Global, places: &[Place<'s>]) -> Result<Table<'s>, AllocError>
-    ensures listing { IfOk result (λ table. IsListing (views places.now) table.entries) }
-    ensures unknown { IfOk result (λ table. AreUnknown table.entries) }
-{
-    let mut table = IndexMap::new(alloc);
-    for place in places {
-        table.insert(*place, None)?;
-    }
-    Ok(table)
-}
-
-/// Looks at each place of a table, until one is clean of which that wasn't known.
-fn look_at_all<'s, F, B: GetEntry<'s, F>>(
-    alloc: Global,
-    bundle: &B,
-    table: &Table<'s>,
-    limit: u32,
-) -> Result<Step<'s>, AllocError>
-    requires { AreRight (B.named bundle.now) table.now.entries }
-    ensures { IfOk result (IsStep (B.named bundle.now) limit table.now.entries) }
-{
-    laws::deeper_counts_more::<LinkedList<u8>>();
-    let mut unclean = Vec::new(alloc);
-    let mut large = Vec::new(alloc);
-    for i in 0..table.len() {
-        let Some((place, known)) = table.get_index(i) else {
-            continue;
-        };
-        match known {
-            Some(count) => {
-                if *count > limit as u64 {
-                    large.push(Large {
-                        place: *place,
-                        count: *count,
-                    })?;
-                }
-            }
-            None => match look_at(alloc, bundle, table, place)? {
-                Look::Nothing => {}
-                Look::Clean(count) => return Ok(Step::Clean(*place, count)),
-                Look::Unclean(causes) => unclean.push(Finding {
-                    place: *place,
-                    causes,
-                })?,
-            },
-        }
-    }
-    Ok(Step::Done(Report { unclean, large }))
+    variables_of(alloc, bundle, place)
 }

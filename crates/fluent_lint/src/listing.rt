@@ -1,15 +1,16 @@
 //! What a pattern asks for, listed.
 
 ghost use Rattle.std.specs.Prelude.{◌≡◌, ◌↔◌, IfOk, OnOk, IsTrue};
-ghost use Rattle.fluent_tree.specs.View.{arguments_view, expression_view, inline_view, pattern_view};
-ghost use Rattle.fluent_tree.specs.References.{inlines_view, nameds_view, variants_view};
-ghost use Rattle.fluent_clean.specs.Needs.{has_default, needs, in_arguments, in_expression, in_inline, in_named, in_positional, in_variants};
-ghost use Rattle.fluent_lint.specs.NeedsView.{Appends, missing_default, need_view, needs_view};
+ghost use Rattle.fluent_ast.specs.View.{arguments_view, expression_view, inline_view, pattern_view};
+ghost use Rattle.fluent_ast.specs.References.{inlines_view, nameds_view, variants_view};
+ghost use Rattle.fluent_lint.specs.Needs.{has_default, needs, in_arguments, in_expression, in_inline, in_named, in_positional, in_variants};
+ghost use Rattle.fluent_lint.specs.Inside.Listing.{Appends, missing_default};
+ghost use Rattle.fluent_lint.specs.NeedsView.{need_view, needs_view};
 ghost use Rattle.fluent_lint.specs.PlaceView.{place_view};
-ghost use Rattle.fluent_lint.specs.Table.{IsOfPlace, Refers};
+ghost use Rattle.fluent_lint.specs.References.{IsOfPlace, Refers};
 
 use crate::place::{Place, same_place};
-use fluent_tree::ast::{
+use fluent_ast::ast::{
     CallArguments, Expression, Identifier, InlineExpression, NamedArgument, Pattern,
     PatternElement, Variant,
 };

@@ -1,15 +1,17 @@
 //! Patterns of a bundle, by how they are referred to.
 
 ghost use Rattle.std.specs.Prelude.{◌≡◌, ◌↔◌, IsTrue, map};
-ghost use Rattle.fluent_tree.specs.View.{attribute_of, attribute_view};
-ghost use Rattle.fluent_meaning.specs.Bundle.{first_of};
+ghost use Rattle.fluent_ast.specs.View.{attribute_of, attribute_view};
+ghost use Rattle.fluent_semantics.specs.Bundle.{first_of};
 ghost use Rattle.fluent_lint.specs.PlaceView.{pattern_at, pattern_in, pattern_seen, place_view};
 
+use fluent_ast::ast::{Attribute, Identifier, Pattern};
 use fluent_entries::GetEntry;
-use fluent_tree::ast::{Attribute, Identifier, Pattern};
+use std::fmt;
 use std::hash::{Hash, Hasher};
 
-/// The value of a message or of a term, or an attribute of it. A term's id stands without the dash.
+/// The value of a message or of a term, or an attribute of it. A term's id stands without the dash. It is shown as it is
+/// written in a reference.
 #[derive(Clone, Copy, Debug, Drop)]
 pub enum Place<'s> {
     Message(Identifier<'s>, Option<Identifier<'s>>),
@@ -18,9 +20,9 @@ pub enum Place<'s> {
 
 impl<'s> PartialEq for Place<'s> {
     ghost use Rattle.std.specs.Cmp.{partial_equiv_from_equiv};
-    ghost use Rattle.fluent_tree.specs.Tree.{is_yes};
-    ghost use Rattle.fluent_tree.specs.Same.{equivalent};
-    ghost use Rattle.fluent_clean.specs.Places.{place_same};
+    ghost use Rattle.fluent_ast.specs.Tree.{is_yes};
+    ghost use Rattle.fluent_ast.specs.Same.{equivalent};
+    ghost use Rattle.fluent_lint.specs.Places.{place_same};
 
     ghost eq = { λ a b. is_yes (place_same (place_view a) (place_view b)) };
 
@@ -33,8 +35,8 @@ impl<'s> PartialEq for Place<'s> {
 }
 
 impl<'s> Eq for Place<'s> {
-    ghost use Rattle.fluent_tree.specs.Same.{equivalent};
-    ghost use Rattle.fluent_clean.specs.Places.{place_same};
+    ghost use Rattle.fluent_ast.specs.Same.{equivalent};
+    ghost use Rattle.fluent_lint.specs.Places.{place_same};
 
     ghost laws = { equivalent place_view place_same };
 }
@@ -54,6 +56,22 @@ impl<'s> Hash for Place<'s> {
                     name.name.hash(state);
                 }
             }
+        }
+    }
+}
+
+impl fmt::Display for Place<'_> {
+    fn fmt<W: fmt::Write>(&self, f: &mut fmt::Formatter<W>) -> fmt::Result {
+        let (mark, id, attribute) = match self {
+            Place::Message(id, attribute) => ("", id.name, attribute),
+            Place::Term(id, attribute) => ("-", id.name, attribute),
+        };
+        match attribute {
+            Some(attribute) => {
+                let attribute = attribute.name;
+                write!(f, "{mark}{id}.{attribute}")
+            }
+            None => write!(f, "{mark}{id}"),
         }
     }
 }

@@ -1,17 +1,16 @@
 //! Which variables each of some places asks for.
 
 ghost use Rattle.std.specs.Prelude.{◌≡◌, IfOk, IsTrue, OnOk};
-ghost use Rattle.fluent_lint.specs.Findings.{views};
-ghost use Rattle.fluent_lint.specs.Lists.{AreAskedIn, index_of};
+ghost use Rattle.fluent_lint.specs.PlaceView.{views, place_view};
+ghost use Rattle.fluent_lint.specs.Asked.{AreAskedIn, index_of};
 ghost use Rattle.fluent_lint.specs.Inside.Sharing.{AreListed, Covers, IsOfList, Joins, Settles, TellsLeading};
 ghost use Rattle.fluent_lint.specs.NeedsView.{need_view};
-ghost use Rattle.fluent_lint.specs.PlaceView.{place_view};
 
 use crate::asked::Asked;
+use crate::asking::gather;
 use crate::groups::groups_of;
 use crate::listing::{Need, needs};
 use crate::place::{Place, pattern_at};
-use crate::variables::gather;
 use fluent_entries::GetEntry;
 use indexmap::IndexSet;
 use std::alloc::{AllocError, Global};

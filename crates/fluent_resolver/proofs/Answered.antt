@@ -1,22 +1,22 @@
 -- What is made of the values of arguments.
 use Rattle.std.proofs.Common.{◌≡◌, refl, sym, ap, ◌∙◌, List, [], ◌++◌, Option, Some, None, Bool}
 use Rattle.std.specs.Option.{option_map, unwrap_or}
-use Rattle.fluent_tree.specs.Fallback.{fallback, in_braces}
-use Rattle.fluent_tree.specs.Tree.{Text, Inline}
-use Rattle.fluent_meaning.specs.Ahead.{Next, after, ahead, comes}
-use Rattle.fluent_meaning.specs.Arguments.{Map}
-use Rattle.fluent_meaning.specs.Bundle.{Bundle, Function}
-use Rattle.fluent_meaning.specs.Errors.{Error, Reference, reference_of}
-use Rattle.fluent_meaning.specs.Events.{tells, writes}
-use Rattle.fluent_meaning.specs.Meaning.{Budget}
-use Rattle.fluent_meaning.specs.Value.{Value, custom_value, error_value, no_value, number_value, text_value}
-use Rattle.fluent_meaning.specs.Walk as walk
-use Rattle.fluent_meaning.specs.Walk.{Environment, application}
-use Rattle.fluent_state.specs.Happened.{answer_events, lost_error, lost_of, shown_answer}
+use Rattle.fluent_ast.specs.Fallback.{fallback, in_braces}
+use Rattle.fluent_ast.specs.Tree.{Text, Inline}
+use Rattle.fluent_semantics.specs.Ahead.{Next, after, ahead, comes}
+use Rattle.fluent_semantics.specs.Arguments.{Map}
+use Rattle.fluent_semantics.specs.Bundle.{Bundle, Function}
+use Rattle.fluent_semantics.specs.Errors.{Error, Reference, reference_of}
+use Rattle.fluent_semantics.specs.Events.{tells, writes}
+use Rattle.fluent_semantics.specs.Meaning.{Budget}
+use Rattle.fluent_semantics.specs.Value.{Value, custom_value, error_value, no_value, number_value, text_value}
+use Rattle.fluent_semantics.specs.Walk as walk
+use Rattle.fluent_semantics.specs.Walk.{Environment, application}
+use Rattle.fluent_resolver_state.specs.Happened.{answer_events, lost_error, lost_of, shown_answer}
 use Rattle.fluent_values.specs.View.{value_view}
 use Rattle.fluent_values.specs.declared.types.value.FluentValue.{FluentValue}
 use Rattle.fluent_values.specs.declared.types.value.FluentValue.TheVariants as values
-use Rattle.fluent_resolver.specs.Parts.{Following, View, answered, tells_and_puts}
+use Rattle.fluent_resolver.specs.Inside.Parts.{Following, View, answered, tells_and_puts}
 
 -- ---- a function's answer, written
 

@@ -1,18 +1,18 @@
 -- An arm of a match on an expression that can't be taken.
 use Rattle.std.proofs.Common.{◌≡◌, refl, ap, sym, subst, ◌∙◌, Option, Box, Global}
-use Rattle.fluent_tree.specs.View.{inline_view}
-use Rattle.fluent_tree.specs.declared.ast.CallArguments as of_call
-use Rattle.fluent_tree.specs.declared.ast.Expression as of_expression
-use Rattle.fluent_tree.specs.declared.ast.Identifier.{Identifier}
-use Rattle.fluent_tree.specs.declared.ast.InlineExpression as of_inline
-use Rattle.fluent_tree.specs.declared.ast.InlineExpression.TheVariants as inlines
-use Rattle.fluent_tree.specs.declared.ast.Expression.TheOpen as level
-use Rattle.fluent_tree.specs.declared.ast.NamedArgument as of_named
-use Rattle.fluent_tree.specs.declared.ast.Pattern as of_pattern
-use Rattle.fluent_tree.specs.declared.ast.PatternElement as of_element
-use Rattle.fluent_tree.specs.declared.ast.Variant.{Variant}
-use Rattle.fluent_state.specs.Facts.Views.{view_function_in, view_message_in, view_nested_in, view_number_in, view_string_in, view_term_in, view_variable_in}
-use Rattle.fluent_resolver.specs.Parts.{IsMessage, IsTerm}
+use Rattle.fluent_ast.specs.View.{inline_view}
+use Rattle.fluent_ast.specs.declared.ast.CallArguments as of_call
+use Rattle.fluent_ast.specs.declared.ast.Expression as of_expression
+use Rattle.fluent_ast.specs.declared.ast.Identifier.{Identifier}
+use Rattle.fluent_ast.specs.declared.ast.InlineExpression as of_inline
+use Rattle.fluent_ast.specs.declared.ast.InlineExpression.TheVariants as inlines
+use Rattle.fluent_ast.specs.declared.ast.Expression.TheOpen as level
+use Rattle.fluent_ast.specs.declared.ast.NamedArgument as of_named
+use Rattle.fluent_ast.specs.declared.ast.Pattern as of_pattern
+use Rattle.fluent_ast.specs.declared.ast.PatternElement as of_element
+use Rattle.fluent_ast.specs.declared.ast.Variant.{Variant}
+use Rattle.fluent_resolver_state.specs.Facts.Views.{view_function_in, view_message_in, view_nested_in, view_number_in, view_string_in, view_term_in, view_variable_in}
+use Rattle.fluent_resolver.specs.Inside.Parts.{IsMessage, IsTerm}
 
 abbrev Level : Type 0
 Level = level.InlineExpression-F of_expression.Expression of_inline.InlineExpression of_element.PatternElement of_call.CallArguments of_named.NamedArgument of_pattern.Pattern Variant

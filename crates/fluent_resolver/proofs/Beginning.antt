@@ -1,21 +1,21 @@
 -- A pattern that begins.
 use Rattle.std.proofs.Common.{◌≡◌, refl, sym, ap, ◌∙◌, ℕ, length, List, [], ◌∷◌, Bool, true, false, is_none, Option, None}
-use Rattle.fluent_tree.specs.Tree.{Text, Pattern}
-use Rattle.fluent_meaning.specs.Ahead.{Rest, Values, after, ahead, begins, comes}
-use Rattle.fluent_meaning.specs.Bundle.{Bundle}
-use Rattle.fluent_meaning.specs.Events.{entered}
-use Rattle.fluent_meaning.specs.Meaning.{Budget}
-use Rattle.fluent_meaning.specs.Walk.{Environment, elements, has_one, inner}
-use Rattle.fluent_state.specs.Facts.Happening.{with_none}
-use Rattle.fluent_state.specs.Happened.{Happened}
-use Rattle.fluent_state.specs.PathContents.{front}
-use Rattle.fluent_state.specs.Status.{Status}
-use Rattle.fluent_state.specs.Steps.{StartsPattern}
+use Rattle.fluent_ast.specs.Tree.{Text, Pattern}
+use Rattle.fluent_semantics.specs.Ahead.{Rest, Values, after, ahead, begins, comes}
+use Rattle.fluent_semantics.specs.Bundle.{Bundle}
+use Rattle.fluent_semantics.specs.Events.{entered}
+use Rattle.fluent_semantics.specs.Meaning.{Budget}
+use Rattle.fluent_semantics.specs.Walk.{Environment, elements, has_one, inner}
+use Rattle.fluent_resolver_state.specs.Facts.Happening.{with_none}
+use Rattle.fluent_resolver_state.specs.Happened.{Happened}
+use Rattle.fluent_resolver_state.specs.PathContents.{front}
+use Rattle.fluent_resolver_state.specs.Status.{Status}
+use Rattle.fluent_resolver_state.specs.Steps.{StartsPattern}
 use Rattle.fluent_values.specs.Facts.Took.{appends_none}
 use Rattle.fluent_values.specs.Sinks.{Sink}
 use Rattle.fluent_resolver.specs.Frames.{Along, path_left}
-use Rattle.fluent_resolver.specs.Parts as parts
-use Rattle.fluent_resolver.specs.Parts.{View, Following, goes_on}
+use Rattle.fluent_resolver.specs.Inside.Parts as parts
+use Rattle.fluent_resolver.specs.Inside.Parts.{View, Following, goes_on}
 use Rattle.fluent_resolver.proofs.Going.{begun, passes, turns}
 
 pub happened_entered : {B : Type 0} {put : Bool} {p : Pattern} {a b : Status B} (w : Sink) → StartsPattern put p a b → Happened (entered (length b.path) ∷ []) w w a b

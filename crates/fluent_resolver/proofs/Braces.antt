@@ -1,14 +1,14 @@
 -- Braces that stand round an expression alone give what it gives.
 use Rattle.std.proofs.Common.{◌≡◌, refl, sym, ap, subst, ◌∙◌, List, false}
-use Rattle.fluent_tree.specs.Tree as t
-use Rattle.fluent_tree.specs.Tree.{Text, Pattern, Expression, Inline}
-use Rattle.fluent_tree.specs.References.{in_expression, in_inline}
-use Rattle.fluent_meaning.specs.Ahead.{ahead, comes}
-use Rattle.fluent_meaning.specs.Bundle.{Bundle}
-use Rattle.fluent_meaning.specs.Walk as walk
-use Rattle.fluent_meaning.specs.Walk.{Environment, Steps, elements}
-use Rattle.fluent_resolver.specs.Parts as parts
-use Rattle.fluent_resolver.specs.Parts.{View, Following, innermost, innermost_inline, is_braced, text_then, writes_now}
+use Rattle.fluent_ast.specs.Tree as t
+use Rattle.fluent_ast.specs.Tree.{Text, Pattern, Expression, Inline}
+use Rattle.fluent_ast.specs.References.{in_expression, in_inline}
+use Rattle.fluent_semantics.specs.Ahead.{ahead, comes}
+use Rattle.fluent_semantics.specs.Bundle.{Bundle}
+use Rattle.fluent_semantics.specs.Walk as walk
+use Rattle.fluent_semantics.specs.Walk.{Environment, Steps, elements}
+use Rattle.fluent_resolver.specs.Inside.Parts as parts
+use Rattle.fluent_resolver.specs.Inside.Parts.{View, Following, innermost, innermost_inline, is_braced, text_then, writes_now}
 
 mutual
   pub refers_same : (e : Expression) → in_expression (innermost e) ≡ in_expression e

@@ -1,12 +1,12 @@
 -- Calls: their arguments, one after the other.
 use Rattle.std.proofs.Common.{◌≡◌, refl, sym, ap, ◌∙◌, List, []}
-use Rattle.fluent_tree.specs.Tree.{Text, Inlines, Nameds, Arguments, arguments}
-use Rattle.fluent_meaning.specs.Ahead.{begins}
-use Rattle.fluent_meaning.specs.Arguments.{Map}
-use Rattle.fluent_meaning.specs.Bundle.{Bundle}
-use Rattle.fluent_meaning.specs.Value.{Value}
-use Rattle.fluent_meaning.specs.Walk.{elements}
-use Rattle.fluent_resolver.specs.Parts.{Following, Use, View, calls, gathering}
+use Rattle.fluent_ast.specs.Tree.{Text, Inlines, Nameds, Arguments, arguments}
+use Rattle.fluent_semantics.specs.Ahead.{begins}
+use Rattle.fluent_semantics.specs.Arguments.{Map}
+use Rattle.fluent_semantics.specs.Bundle.{Bundle}
+use Rattle.fluent_semantics.specs.Value.{Value}
+use Rattle.fluent_semantics.specs.Walk.{elements}
+use Rattle.fluent_resolver.specs.Inside.Parts.{Following, Use, View, calls, gathering}
 
 called_none : (made_of : Use) (ps : Inlines) (ns : Nameds) (b : Bundle Text) (k : Following) (v : View) → calls made_of (arguments ps ns) b k v ≡ begins (begins (gathering made_of (record { values = []; map = []; more = ps; more_named = ns }) b k v))
 unfolding elements

@@ -1,24 +1,24 @@
 -- The variant that a value goes to.
 use Rattle.std.proofs.Common.{◌≡◌, refl, sym, ap, ◌∙◌, ℕ, true, false, if◌then◌else◌, List, [], Option, Some, None, Result, Ok}
-use Rattle.fluent_tree.specs.Fallback.{fallback, in_braces}
-use Rattle.fluent_tree.specs.Tree.{Text, Pattern, Inline, Variants, variant, no_variants, select, variable}
-use Rattle.fluent_meaning.specs.Arguments.{get}
-use Rattle.fluent_meaning.specs.Bundle.{Bundle, goes_to}
-use Rattle.fluent_meaning.specs.Errors.{Reference, missing_default, reference_of}
-use Rattle.fluent_meaning.specs.Events.{tells}
-use Rattle.fluent_meaning.specs.Meaning.{Budget}
-use Rattle.fluent_meaning.specs.Value.{Value, error_value}
+use Rattle.fluent_ast.specs.Fallback.{fallback, in_braces}
+use Rattle.fluent_ast.specs.Tree.{Text, Pattern, Inline, Variants, variant, no_variants, select, variable}
+use Rattle.fluent_semantics.specs.Arguments.{get}
+use Rattle.fluent_semantics.specs.Bundle.{Bundle, goes_to}
+use Rattle.fluent_semantics.specs.Errors.{Reference, missing_default, reference_of}
+use Rattle.fluent_semantics.specs.Events.{tells}
+use Rattle.fluent_semantics.specs.Meaning.{Budget}
+use Rattle.fluent_semantics.specs.Value.{Value, error_value}
 use Rattle.std.specs.Option.{unwrap_or}
-use Rattle.fluent_meaning.specs.Walk.{Environment, Steps, application, default_of, elements, local, loses_as, matched, missing, resolved, variable_value, variables, whole}
-use Rattle.fluent_meaning.specs.Ahead.{Values, Next, Rest, after, ahead, begins, comes}
-use Rattle.fluent_state.specs.Choice.{choice, first_default}
-use Rattle.fluent_state.specs.Happened.{lost_error, missing_errors, variable_errors}
-use Rattle.fluent_state.specs.Status.{Status}
-use Rattle.fluent_state.specs.Steps.{ReportsIfOk}
+use Rattle.fluent_semantics.specs.Walk.{Environment, Steps, application, default_of, elements, local, loses_as, matched, missing, resolved, variable_value, variables, whole}
+use Rattle.fluent_semantics.specs.Ahead.{Values, Next, Rest, after, ahead, begins, comes}
+use Rattle.fluent_resolver_state.specs.Choice.{choice, first_default}
+use Rattle.fluent_resolver_state.specs.Happened.{lost_error, missing_errors, variable_errors}
+use Rattle.fluent_resolver_state.specs.Status.{Status}
+use Rattle.fluent_resolver_state.specs.Steps.{ReportsIfOk}
 use Rattle.fluent_values.specs.Sinks.{Sink}
 use Rattle.fluent_resolver.specs.Frames.{Along, selector_value}
-use Rattle.fluent_resolver.specs.Parts as parts
-use Rattle.fluent_resolver.specs.Parts.{View, Following, text_then, value_then, writes_now}
+use Rattle.fluent_resolver.specs.Inside.Parts as parts
+use Rattle.fluent_resolver.specs.Inside.Parts.{View, Following, text_then, value_then, writes_now}
 use Rattle.fluent_resolver.proofs.Going.{starts, turns}
 use Rattle.fluent_resolver.proofs.Telling.{tells_first}
 

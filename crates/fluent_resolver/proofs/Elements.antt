@@ -1,18 +1,18 @@
 -- Elements of a pattern, one after the other.
 use Rattle.std.proofs.Common.{◌≡◌, refl, sym, ap, ◌∙◌, ℕ, ◌+◌, ◌<◌, ◌≤◌, length, List, ◌++◌, append_assoc, map, drop, get_or, Bool, false, is_none, Option, Some, None}
-use Rattle.fluent_tree.specs.Tree.{Text, Pattern, nothing, more, Element, text, placeable, Expression, pattern_of}
-use Rattle.fluent_tree.specs.View.{element_view}
+use Rattle.fluent_ast.specs.Tree.{Text, Pattern, nothing, more, Element, text, placeable, Expression, pattern_of}
+use Rattle.fluent_ast.specs.View.{element_view}
 use Rattle.fluent_entries.specs.Texts.{IsTextAlone}
-use Rattle.fluent_tree.specs.declared.ast.Pattern as of_pattern
-use Rattle.fluent_tree.specs.declared.ast.PatternElement.{PatternElement}
-use Rattle.fluent_meaning.specs.Ahead.{ahead, begins, comes, put}
-use Rattle.fluent_meaning.specs.Bundle.{Bundle}
-use Rattle.fluent_meaning.specs.Meaning.{Budget, left, limit_reached}
-use Rattle.fluent_meaning.specs.Walk as walk
-use Rattle.fluent_state.specs.Facts.Lists.{next_of, none_left}
+use Rattle.fluent_ast.specs.declared.ast.Pattern as of_pattern
+use Rattle.fluent_ast.specs.declared.ast.PatternElement.{PatternElement}
+use Rattle.fluent_semantics.specs.Ahead.{ahead, begins, comes, put}
+use Rattle.fluent_semantics.specs.Bundle.{Bundle}
+use Rattle.fluent_semantics.specs.Meaning.{Budget, left, limit_reached}
+use Rattle.fluent_semantics.specs.Walk as walk
+use Rattle.fluent_resolver_state.specs.Facts.Lists.{next_of, none_left}
 use Rattle.fluent_resolver.specs.Frames.{elements_from}
-use Rattle.fluent_resolver.specs.Parts as parts
-use Rattle.fluent_resolver.specs.Parts.{View, Following, text_then, writes_now}
+use Rattle.fluent_resolver.specs.Inside.Parts as parts
+use Rattle.fluent_resolver.specs.Inside.Parts.{View, Following, text_then, writes_now}
 use Rattle.fluent_resolver.proofs.Telling.{puts_nothing}
 
 -- ---- which are left

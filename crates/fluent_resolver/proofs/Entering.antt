@@ -1,27 +1,27 @@
 -- Patterns that references lead to.
 use Rattle.std.proofs.Common.{◌≡◌, refl, sym, ap, ◌∙◌, ℕ, length, List, [], ◌∷◌, ◌++◌, Bool, true, false, is_none, Option, None, Some, Result, Ok, Err}
-use Rattle.fluent_tree.specs.Fallback.{fallback, in_braces}
-use Rattle.fluent_tree.specs.Tree.{Text, Inline, Pattern}
-use Rattle.fluent_meaning.specs.Ahead.{ComesByItself, Rest, Next, Values, after, ahead, begins, comes}
-use Rattle.fluent_meaning.specs.Bundle.{Bundle, Target, unknown, without_value, found}
-use Rattle.fluent_meaning.specs.Errors.{Reference, cyclic, no_value, reference_of, resolver_error}
-use Rattle.fluent_meaning.specs.Events.{entered}
-use Rattle.fluent_meaning.specs.Meaning.{Budget}
-use Rattle.fluent_meaning.specs.Walk as walk
-use Rattle.fluent_meaning.specs.Walk.{Environment, elements, has_one, inner, is_on, local}
-use Rattle.fluent_meaning.specs.Arguments.{Map}
-use Rattle.fluent_meaning.specs.Value.{Value}
-use Rattle.fluent_state.specs.Facts.Happening.{happened_as, with_none}
-use Rattle.fluent_state.specs.Facts.Trails.{front_snoc}
-use Rattle.fluent_state.specs.Happened.{Happened, lost_of}
-use Rattle.fluent_state.specs.PathContents.{front}
-use Rattle.fluent_state.specs.Status.{Status}
-use Rattle.fluent_state.specs.Steps.{Enters}
+use Rattle.fluent_ast.specs.Fallback.{fallback, in_braces}
+use Rattle.fluent_ast.specs.Tree.{Text, Inline, Pattern}
+use Rattle.fluent_semantics.specs.Ahead.{ComesByItself, Rest, Next, Values, after, ahead, begins, comes}
+use Rattle.fluent_semantics.specs.Bundle.{Bundle, Target, unknown, without_value, found}
+use Rattle.fluent_semantics.specs.Errors.{Reference, cyclic, no_value, reference_of, resolver_error}
+use Rattle.fluent_semantics.specs.Events.{entered}
+use Rattle.fluent_semantics.specs.Meaning.{Budget}
+use Rattle.fluent_semantics.specs.Walk as walk
+use Rattle.fluent_semantics.specs.Walk.{Environment, elements, has_one, inner, is_on, local}
+use Rattle.fluent_semantics.specs.Arguments.{Map}
+use Rattle.fluent_semantics.specs.Value.{Value}
+use Rattle.fluent_resolver_state.specs.Facts.Happening.{happened_as, with_none}
+use Rattle.fluent_resolver_state.specs.Facts.Trails.{front_snoc}
+use Rattle.fluent_resolver_state.specs.Happened.{Happened, lost_of}
+use Rattle.fluent_resolver_state.specs.PathContents.{front}
+use Rattle.fluent_resolver_state.specs.Status.{Status}
+use Rattle.fluent_resolver_state.specs.Steps.{Enters}
 use Rattle.fluent_values.specs.Facts.Took.{appends_none, at_err, at_ok}
 use Rattle.fluent_values.specs.Sinks.{Sink}
 use Rattle.fluent_resolver.specs.Frames.{Along}
-use Rattle.fluent_resolver.specs.Parts as parts
-use Rattle.fluent_resolver.specs.Parts.{View, Following, goes_on, tells_and_puts, text_then}
+use Rattle.fluent_resolver.specs.Inside.Parts as parts
+use Rattle.fluent_resolver.specs.Inside.Parts.{View, Following, goes_on, tells_and_puts, text_then}
 use Rattle.fluent_resolver.proofs.Answered.{loses_is}
 use Rattle.fluent_resolver.proofs.Going.{begun, passes, turns}
 

@@ -1,21 +1,21 @@
 -- Arguments that are gathered: the next begins, or none is left.
 use Rattle.std.proofs.Common.{◌≡◌, refl, sym, ap, subst, ◌∙◌, ℕ, List, [], ◌∷◌, ◌++◌, append-nil, append_assoc, Option, Some, None, false}
-use Rattle.fluent_tree.specs.References.{in_inline, in_named, in_positional}
-use Rattle.fluent_tree.specs.Tree.{Text, Inline, Inlines, Nameds, argument, named_argument, no_inlines, no_nameds}
+use Rattle.fluent_ast.specs.References.{in_inline, in_named, in_positional}
+use Rattle.fluent_ast.specs.Tree.{Text, Inline, Inlines, Nameds, argument, named_argument, no_inlines, no_nameds}
 use Rattle.fluent_links.specs.CursorLaws.{prefix}
 use Rattle.fluent_links.specs.Links.{IsBefore, Links}
-use Rattle.fluent_meaning.specs.Ahead.{Rest, ahead, begins, comes}
-use Rattle.fluent_meaning.specs.Arguments.{Map, set_all}
-use Rattle.fluent_meaning.specs.Bundle.{Bundle}
-use Rattle.fluent_meaning.specs.Value.{Value}
-use Rattle.fluent_meaning.specs.Walk as walk
-use Rattle.fluent_meaning.specs.Walk.{elements}
-use Rattle.fluent_state.specs.Status.{Status}
+use Rattle.fluent_semantics.specs.Ahead.{Rest, ahead, begins, comes}
+use Rattle.fluent_semantics.specs.Arguments.{Map, set_all}
+use Rattle.fluent_semantics.specs.Bundle.{Bundle}
+use Rattle.fluent_semantics.specs.Value.{Value}
+use Rattle.fluent_semantics.specs.Walk as walk
+use Rattle.fluent_semantics.specs.Walk.{elements}
+use Rattle.fluent_resolver_state.specs.Status.{Status}
 use Rattle.fluent_values.specs.Sinks.{Sink}
 use Rattle.fluent_resolver.specs.Frames.{Along, gathers, use_of}
-use Rattle.fluent_resolver.specs.Held.{held}
-use Rattle.fluent_resolver.specs.Parts as parts
-use Rattle.fluent_resolver.specs.Parts.{Following, Held, Use, View, after_value, first_argument, gathering, next_argument, stepping, taken}
+use Rattle.fluent_resolver.specs.Inside.Held.{held}
+use Rattle.fluent_resolver.specs.Inside.Parts as parts
+use Rattle.fluent_resolver.specs.Inside.Parts.{Following, Held, Use, View, after_value, first_argument, gathering, next_argument, stepping, taken}
 use Rattle.fluent_resolver.specs.declared.frame.Gathering.{Gathering}
 use Rattle.fluent_resolver.proofs.Going.{starts, turns}
 

@@ -1,11 +1,11 @@
 -- How far a call went, step by step.
 use Rattle.std.proofs.Common.{◌≡◌, refl, sym, ap, subst, ◌∙◌, ℕ, ◌+◌, ◌≤◌, List, [], ◌++◌, append_assoc, Result, Ok, Err, OnErr, IfOk, arith}
-use Rattle.fluent_tree.specs.Tree.{Text}
-use Rattle.fluent_meaning.specs.Ahead.{Rest, after, begins}
-use Rattle.fluent_meaning.specs.Events.{Event}
-use Rattle.fluent_state.specs.Facts.Happening.{happened_on, nothing_happened}
-use Rattle.fluent_state.specs.Happened.{Happened}
-use Rattle.fluent_state.specs.Status.{Status}
+use Rattle.fluent_ast.specs.Tree.{Text}
+use Rattle.fluent_semantics.specs.Ahead.{Rest, after, begins}
+use Rattle.fluent_semantics.specs.Events.{Event}
+use Rattle.fluent_resolver_state.specs.Facts.Happening.{happened_on, nothing_happened}
+use Rattle.fluent_resolver_state.specs.Happened.{Happened}
+use Rattle.fluent_resolver_state.specs.Status.{Status}
 use Rattle.fluent_values.specs.Facts.Took.{at_err, faulted_on}
 use Rattle.fluent_values.specs.Sinks.{Sink, CountsTell}
 use Rattle.fluent_values.specs.declared.output.Halt.{Halt}

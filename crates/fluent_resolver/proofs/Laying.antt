@@ -1,23 +1,23 @@
 -- Errors that are told and texts that are put, to where they go.
 use Rattle.std.proofs.Common.{◌≡◌, refl, sym, ap, subst, ◌∙◌, ℕ, List, [], ◌∷◌, ◌++◌, ◌⊎◌, inl, inr, append-nil, append_assoc, Bool, true, false, Option, Some, None, Result, Ok, Err, OnOk, OnErr, IfOk, String, Global, string_bytes, true≢false}
 use Rattle.std.specs.Io.KnownBytes.{Appends}
-use Rattle.fluent_tree.specs.Tree.{Text}
+use Rattle.fluent_ast.specs.Tree.{Text}
 use Rattle.fluent_text.specs.Writer.{writer_in}
 use Rattle.fluent_text.specs.declared.counting.Counting.{Counting}
-use Rattle.fluent_meaning.specs.Ahead.{Rest, Values, after}
-use Rattle.fluent_meaning.specs.Bundle.{Bundle}
-use Rattle.fluent_meaning.specs.Errors.{Error}
-use Rattle.fluent_meaning.specs.Events.{Event, wrote, told, opened, reached_limit, entered, errors_in, silent, spent, tells, text_in, writes, less_one}
-use Rattle.fluent_meaning.specs.Meaning.{Budget, limit_reached}
-use Rattle.fluent_state.specs.Facts.Happening.{did_put}
-use Rattle.fluent_state.specs.Happened.{Did, Happened, tallied}
-use Rattle.fluent_state.specs.Status.{Status, Tally, with_errors}
+use Rattle.fluent_semantics.specs.Ahead.{Rest, Values, after}
+use Rattle.fluent_semantics.specs.Bundle.{Bundle}
+use Rattle.fluent_semantics.specs.Errors.{Error}
+use Rattle.fluent_semantics.specs.Events.{Event, wrote, told, opened, reached_limit, entered, errors_in, silent, spent, tells, text_in, writes, less_one}
+use Rattle.fluent_semantics.specs.Meaning.{Budget, limit_reached}
+use Rattle.fluent_resolver_state.specs.Facts.Happening.{did_put}
+use Rattle.fluent_resolver_state.specs.Happened.{Did, Happened, tallied}
+use Rattle.fluent_resolver_state.specs.Status.{Status, Tally, with_errors}
 use Rattle.fluent_values.specs.Facts.Took.{appends_none, at_err, at_ok}
 use Rattle.fluent_values.specs.Sinks.{Sink, SinkTook, CountsTell, at, keeping, outside, sink}
 use Rattle.fluent_values.specs.declared.output.Halt.{Halt}
 use Rattle.fluent_values.specs.declared.output.Output.{Output}
 use Rattle.fluent_resolver.specs.Frames.{Along, Stopped, Went, kept_before}
-use Rattle.fluent_resolver.specs.Parts.{View, Following, goes_on, tells_and_puts, text_then}
+use Rattle.fluent_resolver.specs.Inside.Parts.{View, Following, goes_on, tells_and_puts, text_then}
 use Rattle.fluent_resolver.proofs.Going.{faults_on, happens, same_fault, stopped_on, turns}
 
 -- ---- events that write nothing

@@ -1,8 +1,8 @@
 -- How many arguments of a call are left.
 use Rattle.std.proofs.Common.{◌≡◌, sym, subst, ℕ, suc, ◌+◌, ◌<◌, arith, Some}
-use Rattle.fluent_tree.specs.Tree.{Text, Inline, Inlines, Nameds, argument, named_argument, no_inlines, no_nameds}
-use Rattle.fluent_meaning.specs.Value.{Value}
-use Rattle.fluent_resolver.specs.Parts.{Held, after_first, after_value, first_argument, next_argument}
+use Rattle.fluent_ast.specs.Tree.{Text, Inline, Inlines, Nameds, argument, named_argument, no_inlines, no_nameds}
+use Rattle.fluent_semantics.specs.Value.{Value}
+use Rattle.fluent_resolver.specs.Inside.Parts.{Held, after_first, after_value, first_argument, next_argument}
 
 pub inlines_left : Inlines → ℕ
 inlines_left no_inlines = 0

@@ -1,14 +1,14 @@
 -- What is paid for where no level is left, or more are.
 use Rattle.std.proofs.Common.{◌≡◌, sym, ap, subst, ℕ, zero, suc, ◌≤◌, arith, [], Option, None, Some}
-use Rattle.fluent_tree.specs.Tree.{Text}
-use Rattle.fluent_meaning.specs.Ahead.{Rest}
-use Rattle.fluent_meaning.specs.Bundle.{Bundle}
-use Rattle.fluent_state.specs.Status.{Status}
+use Rattle.fluent_ast.specs.Tree.{Text}
+use Rattle.fluent_semantics.specs.Ahead.{Rest}
+use Rattle.fluent_semantics.specs.Bundle.{Bundle}
+use Rattle.fluent_resolver_state.specs.Status.{Status}
 use Rattle.fluent_values.specs.Sinks.{Sink}
 use Rattle.fluent_resolver.specs.Frames.{Along, IsWhole, paid_within}
-use Rattle.fluent_resolver.specs.Parts.{Following}
+use Rattle.fluent_resolver.specs.Inside.Parts.{Following}
 use Rattle.fluent_resolver.specs.declared.work.Work.{Work}
-use Rattle.fluent_resolver.specs.Waits.{frames_in}
+use Rattle.fluent_resolver.specs.Inside.Waits.{frames_in}
 
 -- nothing is ahead
 pub no_more : Bundle Text → Following

@@ -1,10 +1,10 @@
 -- What a state has at hand is another, and nothing happens.
 use Rattle.std.proofs.Common.{◌≡◌, sym, ap, subst, ◌∙◌, ℕ, List, Bool, true, false}
-use Rattle.fluent_tree.specs.Tree.{Text, Pattern}
-use Rattle.fluent_meaning.specs.Ahead.{Rest}
-use Rattle.fluent_meaning.specs.Walk.{Environment}
-use Rattle.fluent_state.specs.Status.{Status}
-use Rattle.fluent_state.specs.Steps.{Leaves}
+use Rattle.fluent_ast.specs.Tree.{Text, Pattern}
+use Rattle.fluent_semantics.specs.Ahead.{Rest}
+use Rattle.fluent_semantics.specs.Walk.{Environment}
+use Rattle.fluent_resolver_state.specs.Status.{Status}
+use Rattle.fluent_resolver_state.specs.Steps.{Leaves}
 use Rattle.fluent_values.specs.Sinks.{Sink}
 use Rattle.fluent_resolver.specs.Frames.{Along, path_left}
 use Rattle.fluent_resolver.proofs.Opening.{At}

@@ -2,14 +2,14 @@
 use Rattle.std.specs.Prelude.{nat_eq, ◌&&◌}
 use Rattle.std.proofs.Common.{◌≡◌, refl, sym, ap, ◌∙◌, length, List, [], ◌∷◌, map, Some, true}
 use Rattle.std.proofs.Math.Dec.{eqb-suc-zero}
-use Rattle.fluent_tree.specs.Tree.{Arguments, arguments, no_inlines, argument, inlines_of, no_nameds, named_argument, nameds_of}
-use Rattle.fluent_tree.specs.View.{arguments_view, inline_view, named_view}
-use Rattle.fluent_tree.specs.declared.ast.CallArguments as of_call
-use Rattle.fluent_tree.specs.declared.ast.InlineExpression.{InlineExpression}
-use Rattle.fluent_tree.specs.declared.ast.NamedArgument.{NamedArgument}
-use Rattle.fluent_meaning.specs.Walk.{elements}
-use Rattle.fluent_state.specs.Facts.Views.{view_arguments}
-use Rattle.fluent_state.specs.Status.{Status}
+use Rattle.fluent_ast.specs.Tree.{Arguments, arguments, no_inlines, argument, inlines_of, no_nameds, named_argument, nameds_of}
+use Rattle.fluent_ast.specs.View.{arguments_view, inline_view, named_view}
+use Rattle.fluent_ast.specs.declared.ast.CallArguments as of_call
+use Rattle.fluent_ast.specs.declared.ast.InlineExpression.{InlineExpression}
+use Rattle.fluent_ast.specs.declared.ast.NamedArgument.{NamedArgument}
+use Rattle.fluent_semantics.specs.Walk.{elements}
+use Rattle.fluent_resolver_state.specs.Facts.Views.{view_arguments}
+use Rattle.fluent_resolver_state.specs.Status.{Status}
 use Rattle.fluent_resolver.specs.Scoped.{are_none, given_ahead}
 
 lists_none : (xs : List InlineExpression) (ns : List NamedArgument) → are_none (Some (arguments (inlines_of (map inline_view xs)) (nameds_of (map named_view ns)))) ≡ (nat_eq (length xs) 0 && nat_eq (length ns) 0)

@@ -1,18 +1,18 @@
 -- A placeable that is opened, or that the limit stops.
 use Rattle.std.proofs.Common.{◌≡◌, refl, sym, ap, ◌∙◌, List, [], ◌∷◌, ◌++◌, append_assoc, zero, suc, Bool, true, false, is_none, Option, Some, None}
-use Rattle.fluent_tree.specs.Tree.{Text, Pattern, Expression}
-use Rattle.fluent_tree.specs.Fallback.{fallback_of}
-use Rattle.fluent_meaning.specs.Ahead.{Rest, after, ahead, begins, comes, opens_ahead, put}
-use Rattle.fluent_meaning.specs.Bundle.{Bundle}
-use Rattle.fluent_meaning.specs.Errors.{resolver_error, too_many_placeables}
-use Rattle.fluent_meaning.specs.Events.{told, opened, reached_limit, less_one}
-use Rattle.fluent_meaning.specs.Meaning.{Budget, left, limit_reached, ending, first_mark, last_mark}
-use Rattle.fluent_meaning.specs.Walk as walk
-use Rattle.fluent_meaning.specs.Walk.{Environment, elements, is_marked}
-use Rattle.fluent_state.specs.Status.{Status}
-use Rattle.fluent_state.specs.Steps.{TakesOne, can_open}
-use Rattle.fluent_resolver.specs.Parts as parts
-use Rattle.fluent_resolver.specs.Parts.{View, Following, text_then}
+use Rattle.fluent_ast.specs.Tree.{Text, Pattern, Expression}
+use Rattle.fluent_ast.specs.Fallback.{fallback_of}
+use Rattle.fluent_semantics.specs.Ahead.{Rest, after, ahead, begins, comes, opens_ahead, put}
+use Rattle.fluent_semantics.specs.Bundle.{Bundle}
+use Rattle.fluent_semantics.specs.Errors.{resolver_error, too_many_placeables}
+use Rattle.fluent_semantics.specs.Events.{told, opened, reached_limit, less_one}
+use Rattle.fluent_semantics.specs.Meaning.{Budget, left, limit_reached, ending, first_mark, last_mark}
+use Rattle.fluent_semantics.specs.Walk as walk
+use Rattle.fluent_semantics.specs.Walk.{Environment, elements, is_marked}
+use Rattle.fluent_resolver_state.specs.Status.{Status}
+use Rattle.fluent_resolver_state.specs.Steps.{TakesOne, can_open}
+use Rattle.fluent_resolver.specs.Inside.Parts as parts
+use Rattle.fluent_resolver.specs.Inside.Parts.{View, Following, text_then}
 use Rattle.fluent_resolver.proofs.Telling.{puts_nothing}
 
 -- its first mark, its expression and its end, one after the other

@@ -1,12 +1,12 @@
 -- Cursors before parts.
 use Rattle.std.proofs.Common.{[], ◌≡◌, ℕ, List, ◌∷◌, ◌++◌, sym, subst, Option, Result, Ok, IfOk}
-use Rattle.fluent_tree.specs.References.{Reference}
-use Rattle.fluent_tree.specs.Tree.{Text}
+use Rattle.fluent_ast.specs.References.{Reference}
+use Rattle.fluent_ast.specs.Tree.{Text}
 use Rattle.fluent_links.specs.Links.{IsBefore, past, next}
 use Rattle.fluent_links.specs.CursorLaws.{back, prefix}
 use Rattle.fluent_links.specs.Cursors.{seen}
 use Rattle.fluent_links.specs.declared.cursor.Cursor.{Cursor}
-use Rattle.fluent_state.specs.Status.{Status}
+use Rattle.fluent_resolver_state.specs.Status.{Status}
 
 -- the same of references that are these
 pub placed_as : (number : Text → Option ℕ) (rs rs' : List Reference) (p : Cursor) → rs ≡ rs' → IsBefore number rs (seen p) → IsBefore number rs' (seen p)

@@ -1,10 +1,10 @@
 -- Frames that are put on.
 use Rattle.std.proofs.Common.{◌≡◌, refl, sym, ap, subst, ◌∙◌, ℕ, ◌+◌, length, length-append, List, [], ◌∷◌, ◌++◌, Option, Result, Ok, Err, OnOk}
-use Rattle.fluent_tree.specs.Tree.{Text, Pattern}
-use Rattle.fluent_meaning.specs.Bundle.{Bundle}
-use Rattle.fluent_state.specs.Status.{Status}
+use Rattle.fluent_ast.specs.Tree.{Text, Pattern}
+use Rattle.fluent_semantics.specs.Bundle.{Bundle}
+use Rattle.fluent_resolver_state.specs.Status.{Status}
 use Rattle.fluent_resolver.specs.Frames.{ArePlacedFrames, IsPlacedFrame, frame, onto}
-use Rattle.fluent_resolver.specs.Parts.{Following}
+use Rattle.fluent_resolver.specs.Inside.Parts.{Following}
 use Rattle.fluent_resolver.specs.declared.frame.Frame.{Frame}
 
 onto_one : {C : Type 0} (content : C → Text) (b : Bundle Text) (fs : List (Frame C)) (f : Frame C) (k : Following) → onto content b (fs ++ f ∷ []) k ≡ (λ given. frame content f given b (onto content b fs k))

@@ -1,24 +1,24 @@
 -- Values, by what has them.
 use Rattle.std.proofs.Common.{◌≡◌, refl, sym, ap, ◌∙◌, ℕ, Option, Some, None, false}
 use Rattle.std.specs.Option.{unwrap_or}
-use Rattle.fluent_tree.specs.Fallback.{fallback, in_braces}
-use Rattle.fluent_tree.specs.Tree.{Text, Inline, string, number, function, message, term, variable, nested, Arguments}
+use Rattle.fluent_ast.specs.Fallback.{fallback, in_braces}
+use Rattle.fluent_ast.specs.Tree.{Text, Inline, string, number, function, message, term, variable, nested, Arguments}
 use Rattle.fluent_text.specs.Escapes.{unescaped}
-use Rattle.fluent_meaning.specs.Ahead.{Rest, ahead, begins, comes}
-use Rattle.fluent_meaning.specs.Arguments.{get}
-use Rattle.fluent_meaning.specs.Bundle.{Bundle}
-use Rattle.fluent_meaning.specs.Errors.{Reference, reference_of}
-use Rattle.fluent_meaning.specs.Events.{tells}
-use Rattle.fluent_meaning.specs.Value.{Value, error_value, text_value, try_number}
-use Rattle.fluent_meaning.specs.Walk as walk
-use Rattle.fluent_meaning.specs.Walk.{Environment, application, elements, local, variables}
-use Rattle.fluent_state.specs.Happened.{Happened, lost_error, variable_errors}
-use Rattle.fluent_state.specs.Status.{Status}
-use Rattle.fluent_state.specs.Written.{IsWritten}
+use Rattle.fluent_semantics.specs.Ahead.{Rest, ahead, begins, comes}
+use Rattle.fluent_semantics.specs.Arguments.{get}
+use Rattle.fluent_semantics.specs.Bundle.{Bundle}
+use Rattle.fluent_semantics.specs.Errors.{Reference, reference_of}
+use Rattle.fluent_semantics.specs.Events.{tells}
+use Rattle.fluent_semantics.specs.Value.{Value, error_value, text_value, try_number}
+use Rattle.fluent_semantics.specs.Walk as walk
+use Rattle.fluent_semantics.specs.Walk.{Environment, application, elements, local, variables}
+use Rattle.fluent_resolver_state.specs.Happened.{Happened, lost_error, variable_errors}
+use Rattle.fluent_resolver_state.specs.Status.{Status}
+use Rattle.fluent_resolver_state.specs.Written.{IsWritten}
 use Rattle.fluent_values.specs.Sinks.{Sink}
 use Rattle.fluent_resolver.specs.Frames.{Along}
-use Rattle.fluent_resolver.specs.Parts as parts
-use Rattle.fluent_resolver.specs.Parts.{Following, View, value_then}
+use Rattle.fluent_resolver.specs.Inside.Parts as parts
+use Rattle.fluent_resolver.specs.Inside.Parts.{Following, View, value_then}
 use Rattle.fluent_resolver.proofs.Going.{passes, starts}
 
 resolved_string : (t : Text) (b : Bundle Text) (k : Following) (v : View) → parts.resolved (string t) b k v ≡ k (Some (text_value (unescaped t))) v

@@ -1,8 +1,8 @@
 -- The last frame is taken off, and the run ends.
 use Rattle.std.proofs.Common.{◌≡◌, refl, sym, ap, subst, ◌∙◌, ℕ, List, [], ◌∷◌, ◌++◌, append-nil, Option, Result, Ok, Err}
-use Rattle.fluent_tree.specs.Tree.{Text, Pattern}
-use Rattle.fluent_meaning.specs.Ahead.{Rest, Values}
-use Rattle.fluent_state.specs.Status.{Status}
+use Rattle.fluent_ast.specs.Tree.{Text, Pattern}
+use Rattle.fluent_semantics.specs.Ahead.{Rest, Values}
+use Rattle.fluent_resolver_state.specs.Status.{Status}
 use Rattle.fluent_values.specs.Sinks.{Sink}
 use Rattle.fluent_values.specs.declared.output.Halt.{Halt}
 use Rattle.fluent_resolver.specs.Frames.{Along, Went, RanToEnd, ArePlacedFrames, IsPlacedFrame}

@@ -1,13 +1,13 @@
 -- Nothing was put off.
 use Rattle.std.proofs.Common.{◌≡◌, sym, ap, ℕ, zero, suc, ◌+◌, ◌≤◌, List, [], length, arith, Option}
-use Rattle.fluent_tree.specs.Tree.{Text}
-use Rattle.fluent_meaning.specs.Ahead.{Rest}
-use Rattle.fluent_meaning.specs.Bundle.{Bundle}
-use Rattle.fluent_meaning.specs.Value.{Value}
-use Rattle.fluent_state.specs.Status.{Status}
+use Rattle.fluent_ast.specs.Tree.{Text}
+use Rattle.fluent_semantics.specs.Ahead.{Rest}
+use Rattle.fluent_semantics.specs.Bundle.{Bundle}
+use Rattle.fluent_semantics.specs.Value.{Value}
+use Rattle.fluent_resolver_state.specs.Status.{Status}
 use Rattle.fluent_values.specs.Sinks.{Sink}
 use Rattle.fluent_resolver.specs.Frames.{Along, before, paid_within}
-use Rattle.fluent_resolver.specs.Parts.{Following, View}
+use Rattle.fluent_resolver.specs.Inside.Parts.{Following, View}
 use Rattle.fluent_resolver.specs.declared.frame.Frame.{Frame}
 use Rattle.fluent_resolver.proofs.Going.{turns, with_fewer}
 use Rattle.fluent_resolver.proofs.Waiting.{before_none}

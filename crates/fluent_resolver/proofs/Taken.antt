@@ -3,16 +3,16 @@ use Rattle.std.proofs.Common.{◌≡◌, sym, ap, subst, ◌∙◌, ℕ, ◌+◌
 use Rattle.std.specs.Prelude.{reverse}
 use Rattle.std.proofs.lemmas.Grind.{reverse_onto}
 use Rattle.std.proofs.lemmas.List.{length-reverse}
-use Rattle.fluent_tree.specs.Tree.{Text, Pattern}
-use Rattle.fluent_meaning.specs.Ahead.{Rest, Values}
-use Rattle.fluent_meaning.specs.Bundle.{Bundle}
-use Rattle.fluent_meaning.specs.Value.{Value}
-use Rattle.fluent_state.specs.Status.{Status}
+use Rattle.fluent_ast.specs.Tree.{Text, Pattern}
+use Rattle.fluent_semantics.specs.Ahead.{Rest, Values}
+use Rattle.fluent_semantics.specs.Bundle.{Bundle}
+use Rattle.fluent_semantics.specs.Value.{Value}
+use Rattle.fluent_resolver_state.specs.Status.{Status}
 use Rattle.fluent_values.specs.Sinks.{Sink}
 use Rattle.fluent_values.specs.declared.output.Halt.{Halt}
 use Rattle.fluent_values.specs.declared.output.Halt.TheVariants.{Memory}
 use Rattle.fluent_resolver.specs.Frames.{Along, ArePlacedFrames, RanToEnd, before, frame, onto}
-use Rattle.fluent_resolver.specs.Parts.{Following, View}
+use Rattle.fluent_resolver.specs.Inside.Parts.{Following, View}
 use Rattle.fluent_resolver.specs.declared.frame.Frame.{Frame}
 use Rattle.fluent_resolver.proofs.Going.{turns, with_fewer}
 use Rattle.fluent_resolver.proofs.Pushing.{length_pushed, onto_pushed, placed_pushed}

@@ -1,20 +1,20 @@
 -- The next argument of a call has its value.
 use Rattle.std.proofs.Common.{◌≡◌, refl, sym, ap, subst, ◌∙◌, ℕ, ◌+◌, ◌≤◌, List, ◌++◌, append_assoc, length, drop, get_or, Option, true, ltb}
 use Rattle.std.proofs.lemmas.Bool.{ltb-true}
-use Rattle.fluent_tree.specs.References.{Reference, inlines_view, nameds_view}
-use Rattle.fluent_tree.specs.ReferencesOf.{of_inline, of_inlines, of_nameds}
-use Rattle.fluent_tree.specs.Tree.{Text, Inline, Nameds, named_argument, no_inlines}
-use Rattle.fluent_tree.specs.View.{inline_view}
-use Rattle.fluent_tree.specs.declared.ast.InlineExpression.{InlineExpression}
-use Rattle.fluent_tree.specs.declared.ast.NamedArgument.{NamedArgument}
+use Rattle.fluent_ast.specs.References.{Reference, inlines_view, nameds_view}
+use Rattle.fluent_ast.specs.ReferencesOf.{of_inline, of_inlines, of_nameds}
+use Rattle.fluent_ast.specs.Tree.{Text, Inline, Nameds, named_argument, no_inlines}
+use Rattle.fluent_ast.specs.View.{inline_view}
+use Rattle.fluent_ast.specs.declared.ast.InlineExpression.{InlineExpression}
+use Rattle.fluent_ast.specs.declared.ast.NamedArgument.{NamedArgument}
 use Rattle.fluent_links.specs.CursorLaws.{back}
 use Rattle.fluent_links.specs.CursorSteps.{here, leaves, named_in_turn, of_named, positional_in_turn}
 use Rattle.fluent_links.specs.Links.{IsBefore, Links, past}
-use Rattle.fluent_meaning.specs.Arguments.{Map, set}
-use Rattle.fluent_meaning.specs.Value.{Value}
-use Rattle.fluent_state.specs.Facts.Lists.{next_of, none_left}
-use Rattle.fluent_state.specs.Facts.Views.{view_named}
-use Rattle.fluent_resolver.specs.Parts.{after_value}
+use Rattle.fluent_semantics.specs.Arguments.{Map, set}
+use Rattle.fluent_semantics.specs.Value.{Value}
+use Rattle.fluent_resolver_state.specs.Facts.Lists.{next_of, none_left}
+use Rattle.fluent_resolver_state.specs.Facts.Views.{view_named}
+use Rattle.fluent_resolver.specs.Inside.Parts.{after_value}
 
 -- ---- where the cursor stands
 

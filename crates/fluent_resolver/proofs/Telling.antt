@@ -1,18 +1,18 @@
 -- Errors that are told while nothing is written.
 use Rattle.std.proofs.Common.{◌≡◌, refl, sym, ap, ◌∙◌, ℕ, List, [], append-nil, Option, Some, None, Result, Ok, Err}
-use Rattle.fluent_tree.specs.Tree.{Text, Pattern}
-use Rattle.fluent_meaning.specs.Ahead.{Rest, after}
-use Rattle.fluent_meaning.specs.Bundle.{Bundle}
-use Rattle.fluent_meaning.specs.Errors.{Error}
-use Rattle.fluent_meaning.specs.Events.{tells}
-use Rattle.fluent_meaning.specs.Meaning.{Budget}
-use Rattle.fluent_meaning.specs.Walk.{Environment}
-use Rattle.fluent_state.specs.Facts.Happening.{happened_told, happened_untold}
-use Rattle.fluent_state.specs.Status.{Status}
-use Rattle.fluent_state.specs.Steps.{ReportsIfOk}
+use Rattle.fluent_ast.specs.Tree.{Text, Pattern}
+use Rattle.fluent_semantics.specs.Ahead.{Rest, after}
+use Rattle.fluent_semantics.specs.Bundle.{Bundle}
+use Rattle.fluent_semantics.specs.Errors.{Error}
+use Rattle.fluent_semantics.specs.Events.{tells}
+use Rattle.fluent_semantics.specs.Meaning.{Budget}
+use Rattle.fluent_semantics.specs.Walk.{Environment}
+use Rattle.fluent_resolver_state.specs.Facts.Happening.{happened_told, happened_untold}
+use Rattle.fluent_resolver_state.specs.Status.{Status}
+use Rattle.fluent_resolver_state.specs.Steps.{ReportsIfOk}
 use Rattle.fluent_values.specs.Sinks.{Sink}
 use Rattle.fluent_resolver.specs.Frames.{Along}
-use Rattle.fluent_resolver.specs.Parts.{View, Following, goes_on, text_then}
+use Rattle.fluent_resolver.specs.Inside.Parts.{View, Following, goes_on, text_then}
 use Rattle.fluent_resolver.proofs.Going.{passes, turns}
 
 goes_on_same : (kept : Option Text) (k : Option Text → Budget → Rest Text) (b : Budget) → goes_on kept k [] b ≡ k kept b

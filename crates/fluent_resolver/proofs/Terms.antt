@@ -1,24 +1,24 @@
 -- Term references, by their arguments.
 use Rattle.std.proofs.Common.{◌≡◌, refl, ap, ◌∙◌, ℕ, length, List, [], ◌∷◌, map, Bool, true, false, ◌&&◌, nat_eq, arith}
 use Rattle.std.proofs.lemmas.Bool.{eqb-true}
-use Rattle.fluent_tree.specs.Tree.{Text, Inline, string, number, function, message, term, variable, nested, Pattern, no_call, call, Arguments, arguments, no_inlines, inlines_of, Nameds, nameds_of}
-use Rattle.fluent_tree.specs.View.{inline_view, named_view}
-use Rattle.fluent_tree.specs.declared.ast.InlineExpression.{InlineExpression}
-use Rattle.fluent_tree.specs.declared.ast.NamedArgument.{NamedArgument}
-use Rattle.fluent_meaning.specs.Ahead.{Rest, Next, ahead, begins, comes}
-use Rattle.fluent_meaning.specs.Arguments.{set_all}
-use Rattle.fluent_meaning.specs.Bundle.{Bundle, Target}
-use Rattle.fluent_meaning.specs.Meaning.{Budget}
-use Rattle.fluent_meaning.specs.Value.{Value}
-use Rattle.fluent_meaning.specs.Walk as walk
-use Rattle.fluent_meaning.specs.Walk.{Environment, elements}
-use Rattle.fluent_state.specs.Facts.Views.{view_named}
-use Rattle.fluent_state.specs.Locals.{are_literals, is_literal, literal_value, literal_values}
-use Rattle.fluent_state.specs.Status.{Status}
+use Rattle.fluent_ast.specs.Tree.{Text, Inline, string, number, function, message, term, variable, nested, Pattern, no_call, call, Arguments, arguments, no_inlines, inlines_of, Nameds, nameds_of}
+use Rattle.fluent_ast.specs.View.{inline_view, named_view}
+use Rattle.fluent_ast.specs.declared.ast.InlineExpression.{InlineExpression}
+use Rattle.fluent_ast.specs.declared.ast.NamedArgument.{NamedArgument}
+use Rattle.fluent_semantics.specs.Ahead.{Rest, Next, ahead, begins, comes}
+use Rattle.fluent_semantics.specs.Arguments.{set_all}
+use Rattle.fluent_semantics.specs.Bundle.{Bundle, Target}
+use Rattle.fluent_semantics.specs.Meaning.{Budget}
+use Rattle.fluent_semantics.specs.Value.{Value}
+use Rattle.fluent_semantics.specs.Walk as walk
+use Rattle.fluent_semantics.specs.Walk.{Environment, elements}
+use Rattle.fluent_resolver_state.specs.Facts.Views.{view_named}
+use Rattle.fluent_resolver_state.specs.Locals.{are_literals, is_literal, literal_value, literal_values}
+use Rattle.fluent_resolver_state.specs.Status.{Status}
 use Rattle.fluent_values.specs.Sinks.{Sink}
 use Rattle.fluent_resolver.specs.Frames.{Along}
-use Rattle.fluent_resolver.specs.Parts as parts
-use Rattle.fluent_resolver.specs.Parts.{View, Following}
+use Rattle.fluent_resolver.specs.Inside.Parts as parts
+use Rattle.fluent_resolver.specs.Inside.Parts.{View, Following}
 use Rattle.fluent_resolver.proofs.Going.{starts, turns}
 
 pub term_alone : (x : Inline) (id : Text) (t : Target) (b : Bundle Text) (k : Following) (v : View) → parts.term x id t no_call b k v ≡ begins (parts.entering_term x id t [] b k v)

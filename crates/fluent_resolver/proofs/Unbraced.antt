@@ -1,18 +1,18 @@
 -- Inline expressions that stand in no braces.
 use Rattle.std.proofs.Common.{◌≡◌, refl, sym, ap, ◌∙◌, is_none, Option, Some, None}
-use Rattle.fluent_tree.specs.Fallback.{fallback, in_braces}
-use Rattle.fluent_tree.specs.Tree.{Text, Attribute, Inline, string, number, function, message, term, variable, Call, Arguments}
+use Rattle.fluent_ast.specs.Fallback.{fallback, in_braces}
+use Rattle.fluent_ast.specs.Tree.{Text, Attribute, Inline, string, number, function, message, term, variable, Call, Arguments}
 use Rattle.fluent_text.specs.Escapes.{unescaped}
-use Rattle.fluent_meaning.specs.Ahead.{ahead, comes}
-use Rattle.fluent_meaning.specs.Arguments.{get}
-use Rattle.fluent_meaning.specs.Bundle.{Bundle, message_target, shown, term_target}
-use Rattle.fluent_meaning.specs.Errors.{reference_of}
-use Rattle.fluent_meaning.specs.Value.{Value, try_number}
-use Rattle.fluent_meaning.specs.Walk as walk
-use Rattle.fluent_meaning.specs.Walk.{Environment, application, elements, local, variables}
-use Rattle.fluent_state.specs.Happened.{variable_errors, variable_shown}
-use Rattle.fluent_resolver.specs.Parts as parts
-use Rattle.fluent_resolver.specs.Parts.{View, Following, tells_and_puts, text_then}
+use Rattle.fluent_semantics.specs.Ahead.{ahead, comes}
+use Rattle.fluent_semantics.specs.Arguments.{get}
+use Rattle.fluent_semantics.specs.Bundle.{Bundle, message_target, shown, term_target}
+use Rattle.fluent_semantics.specs.Errors.{reference_of}
+use Rattle.fluent_semantics.specs.Value.{Value, try_number}
+use Rattle.fluent_semantics.specs.Walk as walk
+use Rattle.fluent_semantics.specs.Walk.{Environment, application, elements, local, variables}
+use Rattle.fluent_resolver_state.specs.Happened.{variable_errors, variable_shown}
+use Rattle.fluent_resolver.specs.Inside.Parts as parts
+use Rattle.fluent_resolver.specs.Inside.Parts.{View, Following, tells_and_puts, text_then}
 use Rattle.fluent_resolver.proofs.Answered.{loses_is}
 
 pub written_string : (t : Text) (b : Bundle Text) (k : Following) (v : View) → parts.written (string t) b k v ≡ text_then k v (unescaped t) v.budget

@@ -1,20 +1,20 @@
 -- Patterns of one text that references lead to.
 use Rattle.std.proofs.Common.{◌≡◌, refl, sym, ap, ◌∙◌, ℕ, ◌+◌, max, length, List, [], ◌∷◌, ◌++◌, true, Option, None, Some}
 use Rattle.std.proofs.lemmas.List.{length-append}
-use Rattle.fluent_tree.specs.Tree.{Text, Pattern, nothing, more, placeable, text}
+use Rattle.fluent_ast.specs.Tree.{Text, Pattern, nothing, more, placeable, text}
 use Rattle.fluent_entries.specs.Texts.{sole_text}
-use Rattle.fluent_meaning.specs.Ahead.{after, begins}
-use Rattle.fluent_meaning.specs.Bundle.{Bundle}
-use Rattle.fluent_meaning.specs.Events.{entered}
-use Rattle.fluent_meaning.specs.Meaning.{limit_reached}
-use Rattle.fluent_state.specs.Facts.Happening.{with_none}
-use Rattle.fluent_state.specs.Happened.{Happened}
-use Rattle.fluent_state.specs.Status.{Status, counted}
-use Rattle.fluent_state.specs.Steps.{Visits}
+use Rattle.fluent_semantics.specs.Ahead.{after, begins}
+use Rattle.fluent_semantics.specs.Bundle.{Bundle}
+use Rattle.fluent_semantics.specs.Events.{entered}
+use Rattle.fluent_semantics.specs.Meaning.{limit_reached}
+use Rattle.fluent_resolver_state.specs.Facts.Happening.{with_none}
+use Rattle.fluent_resolver_state.specs.Happened.{Happened}
+use Rattle.fluent_resolver_state.specs.Status.{Status, counted}
+use Rattle.fluent_resolver_state.specs.Steps.{Visits}
 use Rattle.fluent_values.specs.Facts.Took.{appends_none}
 use Rattle.fluent_values.specs.Sinks.{Sink}
-use Rattle.fluent_resolver.specs.Parts as parts
-use Rattle.fluent_resolver.specs.Parts.{View, Following, text_alone, text_then}
+use Rattle.fluent_resolver.specs.Inside.Parts as parts
+use Rattle.fluent_resolver.specs.Inside.Parts.{View, Following, text_alone, text_then}
 use Rattle.fluent_resolver.proofs.Elements.{none_at_end, none_at_limit, text_first}
 
 -- what has one text is that text

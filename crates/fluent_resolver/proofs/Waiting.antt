@@ -1,15 +1,15 @@
 -- Work that waits for what was put off.
 use Rattle.std.proofs.Common.{◌≡◌, refl, sym, ap, subst, ◌∙◌, ℕ, zero, suc, ◌+◌, ◌≤◌, List, [], ◌∷◌, ◌++◌, length, arith, Option, Result, Ok, Err, OnOk, IfErr, IfOk}
-use Rattle.fluent_tree.specs.Tree.{Text, Pattern}
-use Rattle.fluent_meaning.specs.Ahead.{Rest}
-use Rattle.fluent_meaning.specs.Bundle.{Bundle}
-use Rattle.fluent_meaning.specs.Value.{Value}
-use Rattle.fluent_state.specs.Status.{Status}
+use Rattle.fluent_ast.specs.Tree.{Text, Pattern}
+use Rattle.fluent_semantics.specs.Ahead.{Rest}
+use Rattle.fluent_semantics.specs.Bundle.{Bundle}
+use Rattle.fluent_semantics.specs.Value.{Value}
+use Rattle.fluent_resolver_state.specs.Status.{Status}
 use Rattle.fluent_values.specs.Sinks.{Sink}
 use Rattle.fluent_values.specs.declared.output.Halt.{Halt}
 use Rattle.fluent_values.specs.declared.output.Halt.TheVariants.{Memory}
 use Rattle.fluent_resolver.specs.Frames.{Along, ArePlacedFrames, IsPlacedFrame, Went, before, frame, paid_within}
-use Rattle.fluent_resolver.specs.Parts.{Following, View}
+use Rattle.fluent_resolver.specs.Inside.Parts.{Following, View}
 use Rattle.fluent_resolver.specs.declared.frame.Frame.{Frame}
 use Rattle.fluent_resolver.proofs.Going.{finishes, lacks, turns, with_fewer}
 use Rattle.fluent_resolver.proofs.Pushing.{length_pushed, placed_pushed}

@@ -5,21 +5,21 @@ use Rattle.std.specs.declared.vec.Vec.{Vec}
 use Rattle.fluent_text.specs.Writer.{writer_in}
 use Rattle.fluent_text.specs.declared.counting.Counting.{Counting}
 use Rattle.fluent_text.specs.declared.counting.WriteFault.{WriteFault}
-use Rattle.fluent_tree.specs.Fallback.{fallback_of}
-use Rattle.fluent_tree.specs.Tree.{Text, Pattern, Expression, Inline, Arguments}
-use Rattle.fluent_meaning.specs.Ahead.{ComesByItself, EventsAreTheRun, Rest, Values, after, ahead, begins, closed_ahead, comes, events_of, finished}
-use Rattle.fluent_meaning.specs.Arguments.{Map}
-use Rattle.fluent_meaning.specs.Bundle.{Bundle}
-use Rattle.fluent_meaning.specs.Events.{Event, wrote, told, opened, reached_limit, entered, text_in, writes}
-use Rattle.fluent_meaning.specs.Laws.{CallsByThemselves}
-use Rattle.fluent_meaning.specs.Meaning.{Ran, ending}
-use Rattle.fluent_meaning.specs.Value.{Value}
-use Rattle.fluent_meaning.specs.Walk as walk
-use Rattle.fluent_meaning.specs.Walk.{Environment, application, go, inner, is_on, whole}
-use Rattle.fluent_state.specs.Facts.Happening.{happened_on, nothing_happened, stays_on}
-use Rattle.fluent_state.specs.Happened.{Did, Happened}
-use Rattle.fluent_state.specs.Status.{Status}
-use Rattle.fluent_state.specs.Steps.{Rests, StartsPattern}
+use Rattle.fluent_ast.specs.Fallback.{fallback_of}
+use Rattle.fluent_ast.specs.Tree.{Text, Pattern, Expression, Inline, Arguments}
+use Rattle.fluent_semantics.specs.Ahead.{ComesByItself, EventsAreTheRun, Rest, Values, after, ahead, begins, closed_ahead, comes, events_of, finished}
+use Rattle.fluent_semantics.specs.Arguments.{Map}
+use Rattle.fluent_semantics.specs.Bundle.{Bundle}
+use Rattle.fluent_semantics.specs.Events.{Event, wrote, told, opened, reached_limit, entered, text_in, writes}
+use Rattle.fluent_semantics.specs.Laws.{CallsByThemselves}
+use Rattle.fluent_semantics.specs.Meaning.{Ran, ending}
+use Rattle.fluent_semantics.specs.Value.{Value}
+use Rattle.fluent_semantics.specs.Walk as walk
+use Rattle.fluent_semantics.specs.Walk.{Environment, application, go, inner, is_on, whole}
+use Rattle.fluent_resolver_state.specs.Facts.Happening.{happened_on, nothing_happened, stays_on}
+use Rattle.fluent_resolver_state.specs.Happened.{Did, Happened}
+use Rattle.fluent_resolver_state.specs.Status.{Status}
+use Rattle.fluent_resolver_state.specs.Steps.{Rests, StartsPattern}
 use Rattle.fluent_values.specs.Facts.Took.{appends_none, at_ok, never}
 use Rattle.fluent_values.specs.Sinks.{CountsTell, Sink, at, keeping, outside, sink, without_error, writer}
 use Rattle.fluent_values.specs.declared.output.Halt.{Halt}
@@ -29,11 +29,11 @@ use Rattle.fluent_values.specs.declared.args.FluentArgs.{FluentArgs}
 use Rattle.fluent_values.specs.declared.output.Output.{Output}
 use Rattle.fluent_values.specs.declared.types.value.FluentValue.{FluentValue}
 use Rattle.fluent_resolver.specs.Frames.{Along, RanToEnd, Tried, at_end, kept_before, values_view}
-use Rattle.fluent_resolver.specs.Parts as parts
-use Rattle.fluent_resolver.specs.Parts.{Following, Part, View}
+use Rattle.fluent_resolver.specs.Inside.Parts as parts
+use Rattle.fluent_resolver.specs.Inside.Parts.{Following, Part, View}
 use Rattle.fluent_resolver.specs.Scoped.{Gets, GivenRun, MaybeTrackedRuns, TrackedRuns, given_ahead, given_values, maybe_tracked_events, pattern_events, tracked_events}
 use Rattle.fluent_resolver.specs.declared.work.Work.{Work}
-use Rattle.fluent_resolver.specs.Waits.{values_in}
+use Rattle.fluent_resolver.specs.Inside.Waits.{values_in}
 use Rattle.fluent_resolver.proofs.Beginning.{happened_entered}
 use Rattle.fluent_resolver.proofs.Laying.{viewed}
 use Rattle.fluent_resolver.proofs.Going.{begun, faults_on, passes, same_fault}

@@ -4,37 +4,37 @@ use Rattle.std.specs.Option.{option_map, unwrap_or}
 use Rattle.std.specs.declared.vec.Vec.{Vec}
 use Rattle.std.proofs.Common.{Global}
 use Rattle.std.specs.Global.{Box}
-use Rattle.fluent_tree.specs.References.{a_function, in_expression, in_inline, in_variants, references, variants_view}
-use Rattle.fluent_tree.specs.Tree.{Text, Pattern, pattern_of}
-use Rattle.fluent_tree.specs.View.{element_view, expression_view, inline_view, pattern_view}
-use Rattle.fluent_tree.specs.declared.ast.Pattern as of_pattern
+use Rattle.fluent_ast.specs.References.{a_function, in_expression, in_inline, in_variants, references, variants_view}
+use Rattle.fluent_ast.specs.Tree.{Text, Pattern, pattern_of}
+use Rattle.fluent_ast.specs.View.{element_view, expression_view, inline_view, pattern_view}
+use Rattle.fluent_ast.specs.declared.ast.Pattern as of_pattern
 use Rattle.fluent_entries.specs.IdNumbers.{numbers, table}
 use Rattle.fluent_entries.specs.declared.ids.Ids.{Ids}
 use Rattle.fluent_links.specs.Cursors.{seen}
 use Rattle.fluent_links.specs.Links.{IsBefore}
-use Rattle.fluent_meaning.specs.Ahead.{Rest, Values}
-use Rattle.fluent_meaning.specs.Arguments.{Map}
-use Rattle.fluent_meaning.specs.Bundle.{Bundle, Function}
-use Rattle.fluent_meaning.specs.Events.{Event, IsPrefix}
-use Rattle.fluent_meaning.specs.Value.{Value, error_value, text_value}
-use Rattle.fluent_meaning.specs.Walk.{has_one}
-use Rattle.fluent_state.specs.FoundView.{found_view, IsLedBy}
-use Rattle.fluent_state.specs.Gathered.{values_of}
-use Rattle.fluent_state.specs.Happened.{Happened}
-use Rattle.fluent_state.specs.PathContents.{front}
-use Rattle.fluent_state.specs.Status.{Status, environment_view, state}
-use Rattle.fluent_state.specs.declared.state.State.{State}
+use Rattle.fluent_semantics.specs.Ahead.{Rest, Values}
+use Rattle.fluent_semantics.specs.Arguments.{Map}
+use Rattle.fluent_semantics.specs.Bundle.{Bundle, Function}
+use Rattle.fluent_semantics.specs.Events.{Event, IsPrefix}
+use Rattle.fluent_semantics.specs.Value.{Value, error_value, text_value}
+use Rattle.fluent_semantics.specs.Walk.{has_one}
+use Rattle.fluent_resolver_state.specs.FoundView.{found_view, IsLedBy}
+use Rattle.fluent_resolver_state.specs.Gathered.{values_of}
+use Rattle.fluent_resolver_state.specs.Happened.{Happened}
+use Rattle.fluent_resolver_state.specs.PathContents.{front}
+use Rattle.fluent_resolver_state.specs.Status.{Status, environment_view, state}
+use Rattle.fluent_resolver_state.specs.declared.state.State.{State}
 use Rattle.fluent_values.specs.Sinks.{Sink, CountsTell, outside}
 use Rattle.fluent_values.specs.View.{named, value_view}
 use Rattle.fluent_values.specs.declared.args.FluentArgs.{FluentArgs}
 use Rattle.fluent_values.specs.declared.output.Halt.{Halt}
 use Rattle.fluent_values.specs.declared.output.Output.{Output}
 use Rattle.fluent_values.specs.declared.types.value.FluentValue.{FluentValue}
-use Rattle.fluent_resolver.specs.Changes.{Change}
-use Rattle.fluent_resolver.specs.Held.{held, IsBeforeMore}
-use Rattle.fluent_resolver.specs.Parts as parts
-use Rattle.fluent_resolver.specs.Waits.{frames_in, values_in}
-use Rattle.fluent_resolver.specs.Parts.{View, Following, Part, Use}
+use Rattle.fluent_text.specs.Changes.{Change}
+use Rattle.fluent_resolver.specs.Inside.Held.{held, IsBeforeMore}
+use Rattle.fluent_resolver.specs.Inside.Parts as parts
+use Rattle.fluent_resolver.specs.Inside.Waits.{frames_in, values_in}
+use Rattle.fluent_resolver.specs.Inside.Parts.{View, Following, Part, Use}
 use Rattle.fluent_resolver.specs.declared.frame.Frame.{Frame}
 use Rattle.fluent_resolver.specs.declared.frame.Frame.TheVariants as frames
 use Rattle.fluent_resolver.specs.declared.frame.Gathering.{Gathering}

@@ -1,11 +1,4 @@
-pub use Rattle.fluent_state.specs.FoundView
-pub use Rattle.fluent_state.specs.Status
-pub use Rattle.fluent_state.specs.Happened
-pub use Rattle.fluent_state.specs.Steps
-pub mod Changes
-pub mod Parts
-pub mod Held
 pub mod Frames
 pub mod ScopeView
 pub mod Scoped
-pub mod Waits
+pub mod Inside

@@ -3,12 +3,12 @@ use Rattle.std.specs.Prelude.{Bool, Option}
 use Rattle.std.specs.Borrow.{Bor, MutBor}
 use Rattle.std.specs.declared.vec.Vec.{Vec}
 use Rattle.std.proofs.Common.{Global}
-use Rattle.fluent_tree.specs.Tree.{Text}
-use Rattle.fluent_meaning.specs.Bundle.{Bundle, Function}
+use Rattle.fluent_ast.specs.Tree.{Text}
+use Rattle.fluent_semantics.specs.Bundle.{Bundle, Function}
 use Rattle.fluent_entries.specs.declared.errors.FluentError.{FluentError}
 use Rattle.fluent_resolver.specs.declared.scope.Scope.{Scope}
-use Rattle.fluent_state.specs.Status.{StateParts, Status, state_parts, status_of}
-use Rattle.fluent_state.specs.declared.budget.Counts.{Counts}
+use Rattle.fluent_resolver_state.specs.Status.{StateParts, Status, state_parts, status_of}
+use Rattle.fluent_resolver_state.specs.declared.budget.Counts.{Counts}
 
 unfoldable pub scope_parts : {C F B : Type 0} → Scope C F B → StateParts C F B
 unfolding state_parts

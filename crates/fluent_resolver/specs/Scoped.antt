@@ -4,29 +4,29 @@ use Rattle.std.specs.Borrow.{Bor}
 use Rattle.std.specs.Option.{option_map}
 use Rattle.std.specs.declared.vec.Vec.{Vec}
 use Rattle.std.proofs.Common.{Global}
-use Rattle.fluent_tree.specs.Fallback.{fallback_of}
-use Rattle.fluent_tree.specs.Tree.{Text, Pattern, Expression, Inline, Arguments, arguments, no_inlines, no_nameds}
-use Rattle.fluent_tree.specs.View.{arguments_view}
-use Rattle.fluent_tree.specs.declared.ast.CallArguments.{CallArguments}
+use Rattle.fluent_ast.specs.Fallback.{fallback_of}
+use Rattle.fluent_ast.specs.Tree.{Text, Pattern, Expression, Inline, Arguments, arguments, no_inlines, no_nameds}
+use Rattle.fluent_ast.specs.View.{arguments_view}
+use Rattle.fluent_ast.specs.declared.ast.CallArguments.{CallArguments}
 use Rattle.fluent_entries.specs.declared.errors.FluentError.{FluentError}
-use Rattle.fluent_meaning.specs.Ahead.{Rest, ahead, closed_ahead, comes, events_of, handed}
-use Rattle.fluent_meaning.specs.Arguments.{Map}
-use Rattle.fluent_meaning.specs.Errors.{Error}
-use Rattle.fluent_meaning.specs.Events.{Event, entered, errors_in, spent, text_in}
-use Rattle.fluent_meaning.specs.Meaning.{Budget, Ran}
-use Rattle.fluent_meaning.specs.Result.{arguments_of, maybe_tracked, tracked}
-use Rattle.fluent_meaning.specs.Value.{Value}
-use Rattle.fluent_meaning.specs.Walk.{called, expression, go, inner, is_on, whole}
-use Rattle.fluent_state.specs.Gathered.{values_of}
-use Rattle.fluent_state.specs.Happened.{Did, Happened}
-use Rattle.fluent_state.specs.Status.{Status, reported}
+use Rattle.fluent_semantics.specs.Ahead.{Rest, ahead, closed_ahead, comes, events_of, handed}
+use Rattle.fluent_semantics.specs.Arguments.{Map}
+use Rattle.fluent_semantics.specs.Errors.{Error}
+use Rattle.fluent_semantics.specs.Events.{Event, entered, errors_in, spent, text_in}
+use Rattle.fluent_semantics.specs.Meaning.{Budget, Ran}
+use Rattle.fluent_semantics.specs.Result.{arguments_of, maybe_tracked, tracked}
+use Rattle.fluent_semantics.specs.Value.{Value}
+use Rattle.fluent_semantics.specs.Walk.{called, expression, go, inner, is_on, whole}
+use Rattle.fluent_resolver_state.specs.Gathered.{values_of}
+use Rattle.fluent_resolver_state.specs.Happened.{Did, Happened}
+use Rattle.fluent_resolver_state.specs.Status.{Status, reported}
 use Rattle.fluent_text.specs.declared.counting.Counting.{Counting}
 use Rattle.fluent_text.specs.declared.counting.WriteFault.{WriteFault}
 use Rattle.fluent_values.specs.Sinks.{Sink, without_error, writer}
 use Rattle.fluent_values.specs.View.{named}
 use Rattle.fluent_values.specs.declared.args.FluentArgs.{FluentArgs}
 use Rattle.fluent_values.specs.declared.types.value.FluentValue.{FluentValue}
-use Rattle.fluent_resolver.specs.Changes.{Change}
+use Rattle.fluent_text.specs.Changes.{Change}
 
 -- ---- the events of parts
 

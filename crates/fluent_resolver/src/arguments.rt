@@ -1,18 +1,18 @@
 //! Values: of arguments and of selectors.
-#![tactic(auto, unfolding(fluent_state::specs::Status::state_parts))]
+#![tactic(auto, unfolding(fluent_resolver_state::specs::Status::state_parts))]
 
 ghost use Rattle.std.specs.Prelude.{◌≡◌, [], IfErr, IfOk, None, OnOk};
 ghost use Rattle.std.specs.Option.{option_map};
-ghost use Rattle.fluent_tree.specs.References.{in_arguments, in_inline};
-ghost use Rattle.fluent_tree.specs.View.{arguments_view, inline_view};
-ghost use Rattle.fluent_meaning.specs.Ahead.{begins};
+ghost use Rattle.fluent_ast.specs.References.{in_arguments, in_inline};
+ghost use Rattle.fluent_ast.specs.View.{arguments_view, inline_view};
+ghost use Rattle.fluent_semantics.specs.Ahead.{begins};
 ghost use Rattle.fluent_entries.specs.IdNumbers.{IsPlaced, numbers, table};
 ghost use Rattle.fluent_values.specs.View.{named as named_view, value_view};
-ghost use Rattle.fluent_state.specs.Gathered.{gathered, values_of};
-ghost use Rattle.fluent_resolver.specs.Held.{StaysPlaced, held};
-ghost use Rattle.fluent_resolver.specs.Parts.{after_value, next_argument};
-ghost use Rattle.fluent_resolver.specs.Parts as parts;
-ghost use Rattle.fluent_resolver.specs.Waits.{frames_in};
+ghost use Rattle.fluent_resolver_state.specs.Gathered.{gathered, values_of};
+ghost use Rattle.fluent_resolver.specs.Inside.Held.{StaysPlaced, held};
+ghost use Rattle.fluent_resolver.specs.Inside.Parts.{after_value, next_argument};
+ghost use Rattle.fluent_resolver.specs.Inside.Parts as parts;
+ghost use Rattle.fluent_resolver.specs.Inside.Waits.{frames_in};
 ghost use Rattle.fluent_resolver.specs.Frames.{IsGivenBy, IsPlacedCall, IsPlacedPurpose, gathers, made, use_of, AreReady, Goes, GoesWithin, IsWhole};
 
 use crate::expression::write_inline;
@@ -20,14 +20,14 @@ use crate::frame::{Gathering, Purpose, Remaining};
 use crate::inline_expression::enter_with_values;
 use crate::machine::end_text;
 use crate::work::Work;
+use fluent_ast::ast::{CallArguments, InlineExpression};
 use fluent_links::Cursor;
-use fluent_state::State;
-use fluent_state::found::answer_of;
-use fluent_state::gathered::{Gathered, push_value};
-use fluent_state::shown::put_answer;
-use fluent_state::variable::resolve_variable;
+use fluent_resolver_state::State;
+use fluent_resolver_state::found::answer_of;
+use fluent_resolver_state::gathered::{Gathered, push_value};
+use fluent_resolver_state::shown::put_answer;
+use fluent_resolver_state::variable::resolve_variable;
 use fluent_text::unescape_unicode_to_string;
-use fluent_tree::ast::{CallArguments, InlineExpression};
 use fluent_values::output::{Halt, Output};
 use fluent_values::{Context, FluentArgs, FluentFunction, FluentType, FluentValue};
 use std::alloc::AllocError;

@@ -1,27 +1,27 @@
 //! Expressions.
-#![tactic(auto, unfolding(fluent_state::specs::Status::state_parts))]
+#![tactic(auto, unfolding(fluent_resolver_state::specs::Status::state_parts))]
 
 ghost use Rattle.std.specs.Prelude.{◌≡◌, [], None, OnOk};
-ghost use Rattle.fluent_tree.specs.References.{in_expression, in_inline, in_variants, variants_view};
-ghost use Rattle.fluent_tree.specs.Tree.{select};
-ghost use Rattle.fluent_tree.specs.View.{expression_view, inline_view};
+ghost use Rattle.fluent_ast.specs.References.{in_expression, in_inline, in_variants, variants_view};
+ghost use Rattle.fluent_ast.specs.Tree.{select};
+ghost use Rattle.fluent_ast.specs.View.{expression_view, inline_view};
 ghost use Rattle.fluent_values.specs.View.{value_view};
 ghost use Rattle.fluent_entries.specs.IdNumbers.{IsPlaced, numbers};
-ghost use Rattle.fluent_state.specs.ChosenView.{BeginsAt, chosen_view};
-ghost use Rattle.fluent_resolver.specs.Parts as parts;
-ghost use Rattle.fluent_resolver.specs.Parts.{IsSelect};
-ghost use Rattle.fluent_resolver.specs.Waits.{frames_in};
+ghost use Rattle.fluent_resolver_state.specs.ChosenView.{BeginsAt, chosen_view};
+ghost use Rattle.fluent_resolver.specs.Inside.Parts as parts;
+ghost use Rattle.fluent_resolver.specs.Inside.Parts.{IsSelect};
+ghost use Rattle.fluent_resolver.specs.Inside.Waits.{frames_in};
 ghost use Rattle.fluent_resolver.specs.Frames.{made, selector_value, AreReady, Goes, GoesWithin};
 
 use crate::arguments::resolve;
 use crate::inline_expression::write_unbraced;
 use crate::pattern::write_elements;
 use crate::work::Work;
+use fluent_ast::ast::{Expression, InlineExpression, Variant};
 use fluent_links::Cursor;
-use fluent_state::State;
-use fluent_state::lost::report_no_default;
-use fluent_state::variants::{Chosen, choose, choose_by_variable};
-use fluent_tree::ast::{Expression, InlineExpression, Variant};
+use fluent_resolver_state::State;
+use fluent_resolver_state::lost::report_no_default;
+use fluent_resolver_state::variants::{Chosen, choose, choose_by_variable};
 use fluent_values::output::{Halt, Output};
 use fluent_values::{Context, FluentFunction, FluentType, FluentValue};
 use std::io::Write;

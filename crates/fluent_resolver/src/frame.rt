@@ -1,9 +1,9 @@
 //! Work that waits.
 
+use fluent_ast::ast::{CallArguments, Expression, Identifier, InlineExpression, Pattern, Variant};
 use fluent_links::Cursor;
-use fluent_state::gathered::Gathered;
-use fluent_state::{Environment, Found};
-use fluent_tree::ast::{CallArguments, Expression, Identifier, InlineExpression, Pattern, Variant};
+use fluent_resolver_state::gathered::Gathered;
+use fluent_resolver_state::{Environment, Found};
 use fluent_values::FluentValue;
 
 /// Work that waits: an expression or an argument that was put off, or what comes after one.

@@ -1,16 +1,16 @@
 //! Inline expressions.
-#![tactic(auto, unfolding(fluent_state::specs::Status::state_parts))]
+#![tactic(auto, unfolding(fluent_resolver_state::specs::Status::state_parts))]
 
 ghost use Rattle.std.specs.Prelude.{◌≡◌, [], false, None, OnOk};
-ghost use Rattle.fluent_tree.specs.References.{in_arguments, in_call, in_inline};
-ghost use Rattle.fluent_tree.specs.View.{arguments_view, call_view, inline_view};
-ghost use Rattle.fluent_meaning.specs.Ahead.{begins};
-ghost use Rattle.fluent_state.specs.Locals.{locals_view};
+ghost use Rattle.fluent_ast.specs.References.{in_arguments, in_call, in_inline};
+ghost use Rattle.fluent_ast.specs.View.{arguments_view, call_view, inline_view};
+ghost use Rattle.fluent_semantics.specs.Ahead.{begins};
+ghost use Rattle.fluent_resolver_state.specs.Locals.{locals_view};
 ghost use Rattle.fluent_entries.specs.IdNumbers.{IsPlaced};
-ghost use Rattle.fluent_state.specs.FoundView.{IsLed, IsStored, content_at, found_view};
-ghost use Rattle.fluent_resolver.specs.Parts as parts;
-ghost use Rattle.fluent_resolver.specs.Waits.{frames_in};
-ghost use Rattle.fluent_resolver.specs.Parts.{IsFunction, IsMessage, IsTerm, is_braced};
+ghost use Rattle.fluent_resolver_state.specs.FoundView.{IsLed, IsStored, content_at, found_view};
+ghost use Rattle.fluent_resolver.specs.Inside.Parts as parts;
+ghost use Rattle.fluent_resolver.specs.Inside.Waits.{frames_in};
+ghost use Rattle.fluent_resolver.specs.Inside.Parts.{IsFunction, IsMessage, IsTerm, is_braced};
 ghost use Rattle.fluent_values.specs.View.{named as named_view};
 ghost use Rattle.fluent_resolver.specs.Frames.{AreReady, Goes};
 
@@ -19,14 +19,14 @@ use crate::frame::Purpose;
 use crate::leaf::put_leaf;
 use crate::pattern::{write_elements, write_only_text};
 use crate::work::Work;
+use fluent_ast::ast::{CallArguments, Identifier, InlineExpression};
 use fluent_links::Cursor;
-use fluent_state::fallback::{put_id_in_braces, put_in_braces};
-use fluent_state::laws::events_are_the_run;
-use fluent_state::locals::has_literals_alone;
-use fluent_state::lost::{lose, report_cycle, report_no_value};
-use fluent_state::texts::only_text;
-use fluent_state::{Environment, Found, Locals, State, Target, found};
-use fluent_tree::ast::{CallArguments, Identifier, InlineExpression};
+use fluent_resolver_state::fallback::{put_id_in_braces, put_in_braces};
+use fluent_resolver_state::laws::events_are_the_run;
+use fluent_resolver_state::locals::has_literals_alone;
+use fluent_resolver_state::lost::{lose, report_cycle, report_no_value};
+use fluent_resolver_state::texts::only_text;
+use fluent_resolver_state::{Environment, Found, Locals, State, Target, found};
 use fluent_values::output::{Halt, Output};
 use fluent_values::{Context, FluentArgs, FluentFunction, FluentType};
 use std::io::Write;
@@ -358,6 +358,7 @@ fn go<'p, 's, 'args, W: Write, C: FluentType, F: FluentFunction<C>, B: Context<C
         report_cycle(scope)?;
         return put_in_braces(out, inline);
     }
+    // A law does nothing when it is called: its clauses go into the proof.
     events_are_the_run();
     if let Some(text) = only_text(target.pattern) {
         return write_only_text(scope, out, text);

@@ -1,17 +1,17 @@
 //! Literals and variables, in which nothing else stands.
-#![tactic(auto, unfolding(fluent_state::specs::Status::state_parts))]
+#![tactic(auto, unfolding(fluent_resolver_state::specs::Status::state_parts))]
 
 ghost use Rattle.std.specs.Prelude.{◌≡◌};
-ghost use Rattle.fluent_tree.specs.View.{inline_view};
-ghost use Rattle.fluent_state.specs.Status.{stored_in};
+ghost use Rattle.fluent_ast.specs.View.{inline_view};
+ghost use Rattle.fluent_resolver_state.specs.Status.{stored_in};
 ghost use Rattle.fluent_resolver.specs.Frames.{Passes};
-ghost use Rattle.fluent_resolver.specs.Parts as parts;
-ghost use Rattle.fluent_resolver.specs.Parts.{IsLeaf};
+ghost use Rattle.fluent_resolver.specs.Inside.Parts as parts;
+ghost use Rattle.fluent_resolver.specs.Inside.Parts.{IsLeaf};
 
-use fluent_state::State;
-use fluent_state::shown::put_number;
-use fluent_state::variable::write_variable;
-use fluent_tree::ast::InlineExpression;
+use fluent_ast::ast::InlineExpression;
+use fluent_resolver_state::State;
+use fluent_resolver_state::shown::put_number;
+use fluent_resolver_state::variable::write_variable;
 use fluent_values::output::{Halt, Output, put_unescaped};
 use fluent_values::{Context, FluentFunction, FluentType};
 use std::io::Write;

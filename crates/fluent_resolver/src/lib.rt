@@ -17,8 +17,10 @@ mod work;
 pub use fluent_entries::errors::resolver as errors;
 pub use fluent_entries::{ReferenceKind, ResolverError};
 pub use fluent_links::Cursor;
-pub use fluent_state::laws::{calls_are_walks, events_are_the_run};
-pub use fluent_state::{Budget, Counts, Found, State, Target, environment, found, output, texts};
+pub use fluent_resolver_state::laws::{calls_are_walks, events_are_the_run};
+pub use fluent_resolver_state::{
+    Budget, Counts, Found, State, Target, environment, found, output, texts,
+};
 pub use fluent_values::{Context, HasBundle};
 pub use means::Means;
 pub use scope::Scope;

@@ -1,11 +1,11 @@
 //! The machine: what was put off waits in frames on the heap, so that the stack of a call is bounded.
-#![tactic(auto, unfolding(fluent_state::specs::Status::state_parts))]
+#![tactic(auto, unfolding(fluent_resolver_state::specs::Status::state_parts))]
 
 ghost use Rattle.std.specs.Prelude.{◌≡◌, ◌++◌, [], OnOk, IfErr, reverse};
 ghost use Rattle.fluent_entries.specs.IdNumbers.{numbers, table};
 ghost use Rattle.fluent_resolver.specs.Frames as frames;
-ghost use Rattle.fluent_resolver.specs.Waits.{frames_in, values_in};
-ghost use Rattle.fluent_meaning.specs.Value.{text_value};
+ghost use Rattle.fluent_resolver.specs.Inside.Waits.{frames_in, values_in};
+ghost use Rattle.fluent_semantics.specs.Value.{text_value};
 ghost use Rattle.fluent_values.specs.Sinks.{outside};
 ghost use Rattle.fluent_values.specs.View.{value_view};
 ghost use Rattle.fluent_resolver.specs.Frames.{IsPlacedFrame, Runs, kept_before, kept_text, made, AreReady, Goes};
@@ -15,7 +15,7 @@ use crate::expression::{choose_given, write_expression};
 use crate::frame::Frame;
 use crate::pattern::{close, write_from};
 use crate::work::{LEVELS, Work};
-use fluent_state::State;
+use fluent_resolver_state::State;
 use fluent_values::output::{Halt, Output};
 use fluent_values::{Context, FluentFunction, FluentType, FluentValue};
 use std::borrow::CowStr;

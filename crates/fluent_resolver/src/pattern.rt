@@ -1,27 +1,29 @@
 //! Patterns.
-#![tactic(auto, unfolding(fluent_state::specs::Status::state_parts))]
+#![tactic(auto, unfolding(fluent_resolver_state::specs::Status::state_parts))]
 
 ghost use Rattle.std.specs.Prelude.{◌≡◌, ◌≢◌, [], Err, IsTrue, None, OnOk};
-ghost use Rattle.fluent_tree.specs.References.{in_expression, references};
-ghost use Rattle.fluent_tree.specs.View.{expression_view, pattern_view};
-ghost use Rattle.fluent_meaning.specs.Meaning.{limit_reached};
-ghost use Rattle.fluent_meaning.specs.Walk.{has_one};
+ghost use Rattle.fluent_ast.specs.References.{in_expression, references};
+ghost use Rattle.fluent_ast.specs.View.{expression_view, pattern_view};
+ghost use Rattle.fluent_semantics.specs.Meaning.{limit_reached};
+ghost use Rattle.fluent_semantics.specs.Walk.{has_one};
 ghost use Rattle.fluent_entries.specs.IdNumbers.{IsPlaced};
 ghost use Rattle.fluent_entries.specs.Texts.{IsTextAlone};
-ghost use Rattle.fluent_state.specs.Status.{budget_view, stored_in};
+ghost use Rattle.fluent_resolver_state.specs.Status.{budget_view, stored_in};
 ghost use Rattle.fluent_values.specs.Sinks.{GoesThrough};
-ghost use Rattle.fluent_resolver.specs.Parts as parts;
-ghost use Rattle.fluent_resolver.specs.Waits.{frames_in};
+ghost use Rattle.fluent_resolver.specs.Inside.Parts as parts;
+ghost use Rattle.fluent_resolver.specs.Inside.Waits.{frames_in};
 ghost use Rattle.fluent_resolver.specs.Frames.{elements_from, AreReady, Goes, Passes};
 
 use crate::expression::write_expression;
 use crate::work::Work;
+use fluent_ast::ast::{Expression, Pattern, PatternElement};
 use fluent_links::Cursor;
-use fluent_state::State;
-use fluent_state::lost::report_limit;
-use fluent_state::placeable::{has_one, is_marked, put_ending, put_first_mark, put_last_mark};
-use fluent_state::texts::put_changed;
-use fluent_tree::ast::{Expression, Pattern, PatternElement};
+use fluent_resolver_state::State;
+use fluent_resolver_state::lost::report_limit;
+use fluent_resolver_state::placeable::{
+    has_one, is_marked, put_ending, put_first_mark, put_last_mark,
+};
+use fluent_resolver_state::texts::put_changed;
 use fluent_values::output::{Halt, Output};
 use fluent_values::{Context, FluentFunction, FluentType};
 use std::io::Write;

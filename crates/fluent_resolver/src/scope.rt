@@ -1,13 +1,13 @@
 //! The state of one formatting call.
-#![tactic(auto, unfolding(crate::specs::ScopeView::scope_parts, fluent_state::specs::Status::state_parts))]
+#![tactic(auto, unfolding(crate::specs::ScopeView::scope_parts, fluent_resolver_state::specs::Status::state_parts))]
 
 ghost use Rattle.std.specs.Prelude.{◌≡◌, true};
-ghost use Rattle.fluent_state.specs.PathContents.{is_idle};
-ghost use Rattle.fluent_state.specs.Status.{is_outside};
+ghost use Rattle.fluent_resolver_state.specs.PathContents.{is_idle};
+ghost use Rattle.fluent_resolver_state.specs.Status.{is_outside};
 
 use crate::means::Means;
 use fluent_entries::Ids;
-use fluent_state::{Counts, State};
+use fluent_resolver_state::{Counts, State};
 use fluent_values::{
     Context, FluentArgs, FluentError, FluentFunction, FluentType, HasBundle, ResolverError,
 };
@@ -36,11 +36,11 @@ impl<'errors, 'p, 'r, 's, 'args, C: FluentType, F: FluentFunction<C>, B: Context
 > {
     ghost use Rattle.std.specs.Prelude.{◌≡◌, ◌↔◌, ◌∷◌, [], IfNone, IsOk, IsTrue};
     ghost use Rattle.fluent_entries.specs.EntryView.{ids as ids_of};
-    ghost use Rattle.fluent_meaning.specs.Errors.{resolver_error};
-    ghost use Rattle.fluent_meaning.specs.Meaning.{limit_reached};
-    ghost use Rattle.fluent_state.specs.Status.{arguments_view, with_ids};
-    ghost use Rattle.fluent_state.specs.Steps.{IsAtStart, ReportsIfOk};
-    ghost use Rattle.fluent_values.specs.View.{resolver_error_view};
+    ghost use Rattle.fluent_semantics.specs.Errors.{resolver_error};
+    ghost use Rattle.fluent_semantics.specs.Meaning.{limit_reached};
+    ghost use Rattle.fluent_resolver_state.specs.Status.{arguments_view, with_ids};
+    ghost use Rattle.fluent_resolver_state.specs.Steps.{IsAtStart, ReportsIfOk};
+    ghost use Rattle.fluent_entries.specs.ErrorView.{resolver_error_view};
     ghost use Rattle.fluent_resolver.specs.Scoped.{listed};
     ghost use Rattle.fluent_resolver.specs.ScopeView.{bundle_in, counts_in, errors_in, scope_parts};
 
@@ -135,7 +135,7 @@ impl<'errors, 'p, 'r, 's: 'r, 'args, C: FluentType, F: FluentFunction<C>, B: Con
 impl<'errors, 'p, 'r, 's, 'args, C: FluentType, F: FluentFunction<C>, B: Context<C>> Means
     for Scope<'errors, 'p, 'r, 's, 'args, C, F, B> {
     ghost use Rattle.fluent_resolver.specs.ScopeView.{status};
-    ghost use Rattle.fluent_state.specs.Status.{Status};
+    ghost use Rattle.fluent_resolver_state.specs.Status.{Status};
 
     ghost Kind = { Status B };
 

@@ -1,16 +1,15 @@
 //! The calls of a scope that resolve a part of a pattern by itself.
-#![tactic(auto, unfolding(crate::specs::ScopeView::scope_parts, fluent_state::specs::Status::state_parts))]
+#![tactic(auto, unfolding(crate::specs::ScopeView::scope_parts, fluent_resolver_state::specs::Status::state_parts))]
 
 ghost use Rattle.std.specs.Prelude.{◌≡◌, ◌≢◌, Err, IfOk, IsOk, IsTrue, None, Some, false, true};
-ghost use Rattle.fluent_tree.specs.View.{arguments_view, expression_view, inline_view, pattern_view};
+ghost use Rattle.fluent_ast.specs.View.{arguments_view, expression_view, inline_view, pattern_view};
 ghost use Rattle.fluent_entries.specs.Texts.{IsTextAlone};
-ghost use Rattle.fluent_meaning.specs.Errors.{reference_of};
-ghost use Rattle.fluent_state.specs.PathContents.{is_idle};
-ghost use Rattle.fluent_state.specs.Said.{lost};
-ghost use Rattle.fluent_state.specs.Status.{state};
+ghost use Rattle.fluent_semantics.specs.Errors.{reference_of};
+ghost use Rattle.fluent_resolver_state.specs.PathContents.{is_idle};
+ghost use Rattle.fluent_resolver_state.specs.StateCalls.{events_of_lost};
+ghost use Rattle.fluent_resolver_state.specs.Status.{state};
 ghost use Rattle.fluent_resolver.specs.Frames.{Tries, Yields};
-ghost use Rattle.fluent_resolver.specs.Scoped.{Does, Gets, GivenRun, MaybeTrackedRuns, TrackedRuns};
-ghost use Rattle.fluent_resolver.specs.Scoped.{are_none, given_ahead, given_values, given_view, maybe_tracked_events, tracked_events};
+ghost use Rattle.fluent_resolver.specs.Scoped.{Does, Gets, GivenRun, MaybeTrackedRuns, TrackedRuns, are_none, given_ahead, given_values, given_view, maybe_tracked_events, tracked_events};
 ghost use Rattle.fluent_resolver.specs.ScopeView.{bundle_in};
 
 use crate::arguments::begin_call;
@@ -22,13 +21,13 @@ use crate::pattern::close;
 use crate::scope::Scope;
 use crate::whole::write_whole;
 use crate::work::{LEVELS, Work};
+use fluent_ast::ast::{CallArguments, Expression, InlineExpression, Pattern};
 use fluent_links::Cursor;
-use fluent_state::State;
-use fluent_state::laws::{calls_are_walks, events_are_the_run};
-use fluent_state::lost::lose;
-use fluent_state::output::through;
+use fluent_resolver_state::State;
+use fluent_resolver_state::laws::{calls_are_walks, events_are_the_run};
+use fluent_resolver_state::lost::lose;
+use fluent_resolver_state::output::through;
 use fluent_text::{Counting, WriteFault};
-use fluent_tree::ast::{CallArguments, Expression, InlineExpression, Pattern};
 use fluent_values::output::{Halt, Output, with_error};
 use fluent_values::{Context, FluentArgs, FluentFunction, FluentType, FluentValue};
 use std::alloc::AllocError;
@@ -66,6 +65,7 @@ impl<'p, 's, C: FluentType, F: FluentFunction<C>, B: Context<C>> Scope<
         ensures memory { IsTextAlone (pattern_view pattern.now) →
             IsTrue (B.is_plain (bundle_in self.old).now) → result ≢ Err WriteFault.Memory }
     {
+        // Laws do nothing when they are called: their clauses go into the proof.
         calls_are_walks();
         events_are_the_run();
         let home = self.state.application();
@@ -98,6 +98,7 @@ impl<'p, 's, C: FluentType, F: FluentFunction<C>, B: Context<C>> Scope<
             (⟦<Self as Means>⟧.meaning self.old) }
         ensures bundle { bundle_in self.new ≡ bundle_in self.old }
     {
+        // Laws do nothing when they are called: their clauses go into the proof.
         calls_are_walks();
         events_are_the_run();
         let home = self.state.application();
@@ -122,7 +123,7 @@ impl<'p, 's, C: FluentType, F: FluentFunction<C>, B: Context<C>> Scope<
         w: &mut Counting<W>,
         inline: &InlineExpression<'_>,
     ) -> Result<(), WriteFault>
-        ensures did { Does (lost inline.now) result W.contents w ⟦<Self as Means>⟧.meaning self }
+        ensures did { Does (events_of_lost inline.now) result W.contents w ⟦<Self as Means>⟧.meaning self }
         ensures bundle { bundle_in self.new ≡ bundle_in self.old }
         ensures memory { reference_of (inline_view inline.now) ≡ None →
             result ≢ Err WriteFault.Memory }
@@ -152,6 +153,7 @@ impl<'p, 's, C: FluentType, F: FluentFunction<C>, B: Context<C>> Scope<
         ensures bundle { bundle_in self.new ≡ bundle_in self.old }
         ensures succeeds { IsTrue (are_none (given_view arguments.entry)) → IsOk result }
     {
+        // Laws do nothing when they are called: their clauses go into the proof.
         calls_are_walks();
         events_are_the_run();
         let alloc = self.state.bundle.allocator();
@@ -230,6 +232,7 @@ fn give_arguments<'p, 's, W: Write, C: FluentType, F: FluentFunction<C>, B: Cont
         (given_values C.content) W.contents out
         (state B.meant B.is_plain F.answer C.content) scope }
 {
+    // A law does nothing when it is called: its clauses go into the proof.
     events_are_the_run();
     let mut work = Work::new(scope.bundle.allocator());
     match begin_call(

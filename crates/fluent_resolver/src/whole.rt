@@ -1,23 +1,23 @@
 //! Patterns that are written in a scope, and what a run of them does.
-#![tactic(auto, unfolding(fluent_state::specs::Status::state_parts))]
+#![tactic(auto, unfolding(fluent_resolver_state::specs::Status::state_parts))]
 
 ghost use Rattle.std.specs.Prelude.{◌≡◌, ◌≢◌, Err, IsTrue, false, true};
-ghost use Rattle.fluent_tree.specs.References.{references};
-ghost use Rattle.fluent_tree.specs.View.{pattern_view};
+ghost use Rattle.fluent_ast.specs.References.{references};
+ghost use Rattle.fluent_ast.specs.View.{pattern_view};
 ghost use Rattle.fluent_entries.specs.IdNumbers.{IsPlaced};
 ghost use Rattle.fluent_entries.specs.Texts.{IsTextAlone};
 ghost use Rattle.fluent_values.specs.Sinks.{GoesThrough};
-ghost use Rattle.fluent_state.specs.PathContents.{is_idle};
-ghost use Rattle.fluent_state.specs.Status.{state};
+ghost use Rattle.fluent_resolver_state.specs.PathContents.{is_idle};
+ghost use Rattle.fluent_resolver_state.specs.Status.{state};
 ghost use Rattle.fluent_resolver.specs.Frames.{Tries};
 ghost use Rattle.fluent_resolver.specs.Scoped.{pattern_events};
 
 use crate::machine::run;
 use crate::pattern::write_elements;
 use crate::work::{LEVELS, Work};
+use fluent_ast::ast::Pattern;
 use fluent_links::Cursor;
-use fluent_state::State;
-use fluent_tree::ast::Pattern;
+use fluent_resolver_state::State;
 use fluent_values::output::{Halt, Output};
 use fluent_values::{Context, FluentFunction, FluentType};
 use std::io::Write;

@@ -1,9 +1,9 @@
 //! What a run put off, and the values that it ends with.
 
 use crate::frame::{Frame, Gathering};
+use fluent_ast::ast::{Expression, InlineExpression, Pattern, Variant};
 use fluent_links::Cursor;
-use fluent_state::Environment;
-use fluent_tree::ast::{Expression, InlineExpression, Pattern, Variant};
+use fluent_resolver_state::Environment;
 use fluent_values::output::Halt;
 use fluent_values::{FluentArgs, FluentType, FluentValue};
 use std::alloc::Global;
@@ -30,7 +30,7 @@ pub(crate) struct Rest<'p, 'args, 's, C> {
 
 impl<'p, 'args, 's, C: FluentType> Work<'p, 'args, 's, C> {
     ghost use Rattle.std.specs.Prelude.{◌≡◌, ◌↔◌, ◌++◌, ◌∷◌, [], IsTrue, None, Some, IfErr, OnOk};
-    ghost use Rattle.fluent_resolver.specs.Waits.{frames_in, values_in, IsHeld, Waits};
+    ghost use Rattle.fluent_resolver.specs.Inside.Waits.{frames_in, values_in, IsHeld, Waits};
     ghost use Rattle.fluent_resolver.specs.declared.frame.Frame.TheVariants as frame;
 
     /// Nothing. It takes no memory yet.

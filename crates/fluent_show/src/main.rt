@@ -3,13 +3,13 @@
 
 ghost use Rattle.std.specs.Prelude.{◌≡◌, ◌≢◌};
 ghost use Rattle.std.specs.IoError.{error_kind};
-ghost use Rattle.fluent_command.specs.Ending.{bad_usage, out_of_memory};
-ghost use Rattle.fluent_command.specs.EndingView.{ending_view};
+ghost use Rattle.fluent_show_cli.specs.Ending.{bad_usage, out_of_memory};
+ghost use Rattle.fluent_show_cli.specs.EndingView.{ending_view};
 
 use fluent_bundle::Counting;
-use fluent_command::input::Reads;
-use fluent_command::report::{Ending, say};
-use fluent_command::run::run;
+use fluent_show_cli::input::Reads;
+use fluent_show_cli::report::{Ending, say};
+use fluent_show_cli::run::run;
 use std::io::ErrorKind;
 use std::process::ExitCode;
 use std::{env, io};

@@ -3,12 +3,12 @@ use Rattle.std.proofs.Common.{◌≡◌, ◌==◌, ◌<◌, ◌∙◌, ℕ, Bool
 use Rattle.std.proofs.lemmas.Bool.Decides.{nat_tests}
 use Rattle.fluent_text.specs.Parser.{Text, Read, ◌<$>◌, ◌<|>◌, ◌>>◌, and_then, otherwise, pure, skip, first, byte}
 use Rattle.fluent_text.specs.Lexical.{identifier, blank}
-use Rattle.fluent_tree.specs.Tree.{Attribute, attribute, no_attribute, name_key, number_key, Inline, Arguments, function, message, nested}
+use Rattle.fluent_ast.specs.Tree.{Attribute, attribute, no_attribute, name_key, number_key, Inline, Arguments, function, message, nested}
 use Rattle.fluent_syntax.specs.Expressions.{Level, level, Argument, positional, by_name, number_literal, literal, key_inside, attribute_access, message_reference, is_function_name, function_reference, term_reference, variable_reference, inline_expression, named_argument, argument}
-use Rattle.fluent_syntax.specs.Gathering.{positional_argument, value_argument, message_argument, reference_argument}
+use Rattle.fluent_syntax.specs.Inside.Gathering.{positional_argument, value_argument, message_argument, reference_argument}
 use Rattle.fluent_syntax.proofs.Spaces.{no_spaces}
 use Rattle.fluent_syntax.proofs.BareReferences.{no_byte, no_brackets, bare_message, no_number, no_literal, name_letter, letter_else, no_function, no_message, variable_first}
-use Rattle.fluent_syntax.specs.Parts.{message_to, reference_to, nameless}
+use Rattle.fluent_syntax.specs.Inside.Parts.{message_to, reference_to, nameless}
 
 -- a name is no literal
 name_no_literal : (s r : List ℕ) (id : Text) → identifier s ≡ Some (id, r) → literal s ≡ None

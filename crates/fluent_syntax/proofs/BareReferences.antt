@@ -4,10 +4,10 @@ use Rattle.std.proofs.lemmas.Bool.{cases_Bool}
 use Rattle.std.proofs.lemmas.Bool.Decides.{nat_tests}
 use Rattle.std.specs.Prelude.{is_some}
 use Rattle.fluent_text.specs.Parser.{Read, ◌>>=◌, ◌>>◌, and_then, pure, skip, first, byte, run1}
-use Rattle.fluent_tree.specs.Tree.{Text, Inline, inline, select, variants_of, message, term, variable, no_attribute, no_call, function}
+use Rattle.fluent_ast.specs.Tree.{Text, Inline, inline, select, variants_of, message, term, variable, no_attribute, no_call, function}
 use Rattle.fluent_text.specs.Lexical.{is_letter, is_digit, identifier, blank}
 use Rattle.fluent_syntax.specs.Expressions.{Level, level, digits, number_parts, number_literal, string_literal, literal, attribute_access, message_reference, provided, is_function_name, function_reference, optional_call, term_reference, inline_expression, call_arguments, is_selector, select_expression, arrow, stands_alone, variant_list, expression, inline_placeable, variable_reference}
-use Rattle.fluent_syntax.specs.Bare.{IsBare}
+use Rattle.fluent_syntax.specs.Inside.Bare.{IsBare}
 use Rattle.fluent_syntax.proofs.TextRuns.{not_both}
 
 -- ---- what a first byte rules out

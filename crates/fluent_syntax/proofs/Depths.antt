@@ -1,7 +1,7 @@
 -- Placeables and argument lists in one another, as deep as they may stand and one deeper.
 use Rattle.std.proofs.Common.{◌≡◌, ℕ, zero, suc, [], ◌∷◌, length, Some, None, true, false, ◌==◌, refl, sym, ap, ◌∙◌, arith}
 use Rattle.std.proofs.lemmas.Bool.Decides.{nat_tests}
-use Rattle.fluent_tree.specs.Tree.{Text, Expression, inline, no_attribute, message, nested, function, Inline, Arguments, arguments, no_inlines, argument, no_nameds}
+use Rattle.fluent_ast.specs.Tree.{Text, Expression, inline, no_attribute, message, nested, function, Inline, Arguments, arguments, no_inlines, argument, no_nameds}
 use Rattle.fluent_text.specs.Parser.{many_from, byte, run1}
 use Rattle.fluent_text.specs.Lexical as l
 use Rattle.fluent_syntax.specs.Expressions as e

@@ -6,8 +6,8 @@ use Rattle.std.proofs.Math.Seq.{take-append_seam}
 use Rattle.std.proofs.lemmas.List.{length-map, take-map, reverse-append, map-append, take-append-drop}
 use Rattle.std.proofs.lemmas.List.Sums.{suffix_len-take_yes}
 use Rattle.fluent_syntax.specs.Layout.{without_last, trimmed, trim_last}
-use Rattle.fluent_tree.specs.Tree.{Element}
-use Rattle.fluent_syntax.specs.Backwards.{backwards}
+use Rattle.fluent_ast.specs.Tree.{Element}
+use Rattle.fluent_syntax.specs.Inside.Backwards.{backwards}
 
 -- what a loop that counts down keeps: so many elements at the end pass
 pub turn : {A : Type 0} (p : A → Bool) (xs : List A) (n : ℕ) (d : A) → 0 < n → n ≤ length xs → p (get_or xs (n - 1) d) ≡ true

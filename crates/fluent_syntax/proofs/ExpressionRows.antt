@@ -1,7 +1,7 @@
 -- Worked expressions.
 use Rattle.std.proofs.Common.{◌≡◌, [], Some, None, true, false, refl}
 use Rattle.std.specs.Prelude.{codes}
-use Rattle.fluent_tree.specs.Tree.{no_attribute, attribute, name_key, number_key, nothing, more, text, placeable, inline, select, string, number, function, message, term, variable, nested, no_call, call, arguments, no_inlines, argument, no_nameds, named_argument, no_variants, variant}
+use Rattle.fluent_ast.specs.Tree.{no_attribute, attribute, name_key, number_key, nothing, more, text, placeable, inline, select, string, number, function, message, term, variable, nested, no_call, call, arguments, no_inlines, argument, no_nameds, named_argument, no_variants, variant}
 use Rattle.fluent_text.specs.Parser as p
 use Rattle.fluent_text.specs.Lexical as l
 use Rattle.fluent_syntax.specs.Pieces as t

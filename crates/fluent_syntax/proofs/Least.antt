@@ -3,7 +3,7 @@ use Rattle.std.proofs.Common.{◌≡◌, ℕ, ◌+◌, ◌<◌, min, map, List, 
 use Rattle.std.proofs.lemmas.List.{drop_more}
 use Rattle.fluent_syntax.specs.Layout.{smaller, smallest_indent, indent_in}
 use Rattle.fluent_syntax.specs.declared.parser.piece.Piece as code
-use Rattle.fluent_syntax.specs.PieceView.{piece_view}
+use Rattle.fluent_syntax.specs.Inside.PieceView.{piece_view}
 
 pub smaller_assoc : (a b c : Option ℕ) → smaller a (smaller b c) ≡ smaller (smaller a b) c
 smaller_assoc None b c = refl

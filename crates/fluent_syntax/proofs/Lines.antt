@@ -1,7 +1,7 @@
 -- The lines of a pattern, piece by piece.
 use Rattle.std.proofs.Common.{◌≡◌, ◌&&◌, Bool, true, false, List, [], ◌∷◌, ◌++◌, drop, refl, sym, ◌∙◌, ◌<◌, ◌≤◌, length, arith}
 use Rattle.std.specs.Prelude.{ℕ}
-use Rattle.fluent_tree.specs.Tree.{Text, text}
+use Rattle.fluent_ast.specs.Tree.{Text, text}
 use Rattle.fluent_syntax.specs.Layout.{Words, Piece, words, dedented, lines, starts_line, unless_empty}
 
 -- a text whose line feed follows

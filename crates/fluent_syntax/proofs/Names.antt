@@ -11,7 +11,7 @@ use Rattle.std.proofs.lemmas.Slice.Eq.{bytes_eq-Decides}
 use Rattle.std.proofs.lemmas.Map.Text.{is_eq-slice_cmp}
 use Rattle.std.proofs.lemmas.Bool.{false≢true}
 use Rattle.std.proofs.lemmas.Bool.Decides.{same_from_decides}
-use Rattle.fluent_tree.specs.Tree.{Text, Named}
+use Rattle.fluent_ast.specs.Tree.{Text, Named}
 use Rattle.fluent_syntax.specs.Expressions.{names, differ}
 
 -- the names from an index on

@@ -5,7 +5,7 @@ use Rattle.std.proofs.lemmas.Bool.Decides.{nat_tests}
 use Rattle.fluent_text.specs.Parser.{first, one_more, count}
 use Rattle.fluent_text.specs.Lexical.{blank_inline, line_break, line_end, blank_line, blank_block}
 use Rattle.fluent_text.specs.Facts.Turns.{none, done}
-use Rattle.fluent_syntax.specs.Progress.{closes_pattern, LineEndsPattern}
+use Rattle.fluent_syntax.specs.Inside.Progress.{closes_pattern, LineEndsPattern}
 use Rattle.fluent_syntax.specs.Facts.OneLine.{no_blank_inline, ends, ends_at, closes}
 use Rattle.fluent_syntax.proofs.BareReferences.{no_byte, none_some}
 use Rattle.fluent_syntax.proofs.Spaces.{not_end, some_bytes}

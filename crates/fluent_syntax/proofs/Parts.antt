@@ -1,12 +1,12 @@
 -- A rule is its parts, one after the other.
 use Rattle.std.proofs.Common.{◌≡◌, ℕ, Bool, List, Some, None, length, refl, ◌∙◌, inl, inr, arith}
 use Rattle.std.proofs.lemmas.Bool.{cases_lt}
-use Rattle.fluent_tree.specs.Tree.{Text, Pattern}
+use Rattle.fluent_ast.specs.Tree.{Text, Pattern}
 use Rattle.fluent_text.specs.Parser.{Read, Parser, and_then, many_from, push}
 use Rattle.fluent_text.specs.Facts.Turns.{none, done}
 use Rattle.fluent_syntax.specs.Expressions.{Level, variant_key, variant_head, variant}
 use Rattle.fluent_syntax.specs.Entries.{attribute}
-use Rattle.fluent_syntax.specs.Parts.{attribute_dot, named_attribute, key_opened, opened_variant}
+use Rattle.fluent_syntax.specs.Inside.Parts.{attribute_dot, named_attribute, key_opened, opened_variant}
 
 assoc : {A B C : Type 0} (r : Read A) (f : A → Parser B) (g : B → Parser C) → and_then (and_then r f) g ≡ and_then r (λ a t. and_then (f a t) g)
 assoc None f g = refl

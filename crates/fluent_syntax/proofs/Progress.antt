@@ -5,12 +5,12 @@ use Rattle.std.proofs.lemmas.Bool.Decides.{nat_tests}
 use Rattle.std.proofs.lemmas.List.{map-append, length-map}
 use Rattle.std.specs.List.{prefix_len}
 use Rattle.fluent_text.specs.Parser.{Read, Parser, ◌<$>◌, ◌<|>◌, otherwise, pure, skip, many_from, turn, go_on, run, run1, run_len, byte, first}
-use Rattle.fluent_tree.specs.Tree.{Text, Expression, Element, text, placeable, pattern_of}
+use Rattle.fluent_ast.specs.Tree.{Text, Expression, Element, text, placeable, pattern_of}
 use Rattle.fluent_text.specs.Lexical.{is_text, blank, blank_inline, at_end, line_break, line_end, blank_line, blank_block}
 use Rattle.fluent_syntax.specs.Layout.{Words, Piece, line, words, hole, unless_empty, lines, smallest_indent, is_feed, trim_last, elements}
 use Rattle.fluent_syntax.specs.Pieces.{pattern, follows, is_indented, indented_text, words_after, inline_text, block_text, indent, block_placeable, pattern_element, pieces}
 use Rattle.fluent_syntax.specs.Expressions.{level, expression, inline_placeable}
-use Rattle.fluent_syntax.specs.Progress.{goes_on, Reached, ended, piece_of, Plain, InLine, text_pieces, hole_pieces}
+use Rattle.fluent_syntax.specs.Inside.Progress.{goes_on, Reached, ended, piece_of, Plain, InLine, text_pieces, hole_pieces}
 use Rattle.fluent_text.specs.Facts.Runs.{run_len-le}
 use Rattle.fluent_text.specs.Facts.Turns.{more}
 use Rattle.fluent_syntax.specs.Facts.OneLine.{stops, stays, not_placeable, no_words, some_words, no_feed}

@@ -4,7 +4,7 @@ use Rattle.std.proofs.lemmas.Bool.Decides.{nat_tests}
 use Rattle.std.specs.Str.{IsCharBoundary}
 use Rattle.fluent_syntax.specs.declared.parser.bytes.Class.{Class}
 use Rattle.fluent_syntax.specs.declared.parser.bytes.Class.TheVariants.{Identifier, Space, Text, Digit, Inside, Quoted, Function}
-use Rattle.fluent_syntax.specs.Classes.{class_test}
+use Rattle.fluent_syntax.specs.Inside.Classes.{class_test}
 use Rattle.fluent_text.specs.Parser.{run_len}
 use Rattle.fluent_text.specs.Lexical.{is_identifier_byte, is_space, is_text, is_digit, is_inside, is_quoted, is_function_byte}
 use Rattle.fluent_text.specs.Facts.Runs.{boundary-ascii, boundary-wide}

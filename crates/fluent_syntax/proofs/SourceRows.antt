@@ -1,7 +1,7 @@
 -- Worked sources.
 use Rattle.std.proofs.Common.{◌≡◌, List, [], ◌∷◌, Some, refl}
 use Rattle.std.specs.Prelude.{codes}
-use Rattle.fluent_tree.specs.Tree.{Text, Entry, message_entry, junk_entry, Element, text, placeable, inline, variable, pattern_of}
+use Rattle.fluent_ast.specs.Tree.{Text, Entry, message_entry, junk_entry, Element, text, placeable, inline, variable, pattern_of}
 use Rattle.fluent_text.specs.Parser.{many_from, byte, run1}
 use Rattle.fluent_text.specs.Lexical.{identifier, blank_inline, line_break, line_end, blank_line, blank_block, blank_turn, blank}
 use Rattle.fluent_syntax.specs.Expressions.{variable_reference}

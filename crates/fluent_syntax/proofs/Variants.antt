@@ -1,6 +1,6 @@
 -- A variant takes at least one byte.
 use Rattle.std.proofs.Common.{◌≡◌, ℕ, ◌<◌, Bool, true, false, List, [], ◌∷◌, length, Some, None, refl, arith, subst}
-use Rattle.fluent_tree.specs.Tree.{Key, Pattern}
+use Rattle.fluent_ast.specs.Tree.{Key, Pattern}
 use Rattle.fluent_text.specs.Parser.{skip, byte, pure, many_from, run1}
 use Rattle.fluent_text.specs.Lexical.{blank, blank_inline, blank_turn, line_end, line_break}
 use Rattle.fluent_syntax.specs.Pieces.{pattern}

@@ -1,21 +1,21 @@
 -- The content of each case of an element.
 use Rattle.std.proofs.Common.{◌≡◌, ℕ, List, Vec, Box, Global, Bool, Option, None, map, ap, ◌∙◌, rules}
 use Rattle.std.specs.Borrow.{Bor}
-use Rattle.fluent_tree.specs.Tree.{text, placeable, pattern_of, inline, variable, message, term, function, no_attribute, no_call}
-use Rattle.fluent_tree.specs.View.{element_view, expression_view, inline_view, pattern_view, name_view, attribute_of, arguments_view, named_view, key_view, variant_view}
-use Rattle.fluent_tree.specs.declared.ast.Expression as of_expression
-use Rattle.fluent_tree.specs.declared.ast.PatternElement as of_element
-use Rattle.fluent_tree.specs.declared.ast.PatternElement.TheVariants as elements
-use Rattle.fluent_tree.specs.declared.ast.InlineExpression as of_inline
-use Rattle.fluent_tree.specs.declared.ast.InlineExpression.TheVariants as inlines
-use Rattle.fluent_tree.specs.declared.ast.Expression.TheVariants as expressions
-use Rattle.fluent_tree.specs.declared.ast.Identifier.{Identifier}
-use Rattle.fluent_tree.specs.declared.ast.Pattern as of_pattern
-use Rattle.fluent_tree.specs.declared.ast.CallArguments.{CallArguments}
-use Rattle.fluent_tree.specs.declared.ast.NamedArgument as of_named
-use Rattle.fluent_tree.specs.declared.ast.Variant as of_variant
-use Rattle.fluent_tree.specs.declared.ast.VariantKey as of_key
-use Rattle.fluent_tree.specs.declared.ast.Expression.TheViews.{roll-Pattern, roll-NamedArgument, roll-Variant}
+use Rattle.fluent_ast.specs.Tree.{text, placeable, pattern_of, inline, variable, message, term, function, no_attribute, no_call}
+use Rattle.fluent_ast.specs.View.{element_view, expression_view, inline_view, pattern_view, name_view, attribute_of, arguments_view, named_view, key_view, variant_view}
+use Rattle.fluent_ast.specs.declared.ast.Expression as of_expression
+use Rattle.fluent_ast.specs.declared.ast.PatternElement as of_element
+use Rattle.fluent_ast.specs.declared.ast.PatternElement.TheVariants as elements
+use Rattle.fluent_ast.specs.declared.ast.InlineExpression as of_inline
+use Rattle.fluent_ast.specs.declared.ast.InlineExpression.TheVariants as inlines
+use Rattle.fluent_ast.specs.declared.ast.Expression.TheVariants as expressions
+use Rattle.fluent_ast.specs.declared.ast.Identifier.{Identifier}
+use Rattle.fluent_ast.specs.declared.ast.Pattern as of_pattern
+use Rattle.fluent_ast.specs.declared.ast.CallArguments.{CallArguments}
+use Rattle.fluent_ast.specs.declared.ast.NamedArgument as of_named
+use Rattle.fluent_ast.specs.declared.ast.Variant as of_variant
+use Rattle.fluent_ast.specs.declared.ast.VariantKey as of_key
+use Rattle.fluent_ast.specs.declared.ast.Expression.TheViews.{roll-Pattern, roll-NamedArgument, roll-Variant}
 
 pub view_text : (t : Bor (List ℕ)) → element_view (elements.TextElement t) ≡ text t.now
 view_text t = search (rules, of_element.the_lemmas)

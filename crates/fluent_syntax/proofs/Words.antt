@@ -5,7 +5,7 @@ use Rattle.std.proofs.lemmas.List.{drop-take}
 use Rattle.std.proofs.lemmas.Str.{IsCharBoundary-after_ascii, IsCharBoundary-from_rest}
 use Rattle.std.specs.Str.{IsCharBoundary}
 use Rattle.fluent_text.specs.Parser.{run_len, run, run1}
-use Rattle.fluent_syntax.specs.Reading.{IsIndent}
+use Rattle.fluent_syntax.specs.Inside.Reading.{IsIndent}
 use Rattle.fluent_text.specs.Lexical.{is_space, is_text}
 use Rattle.fluent_syntax.specs.Pieces.{follows, words_after}
 use Rattle.fluent_text.specs.Facts.Runs.{boundary-wide, run_len-le, run_len-passes, within_from_byte}

@@ -1,6 +1,6 @@
 -- A source is chunks, one after the other (Fluent Syntax 1.0, EBNF, "Resource" and "Junk").
 use Rattle.std.specs.Prelude.{ℕ, zero, suc, ◌+◌, ◌-◌, ◌||◌, ◌==◌, Bool, if◌then◌else◌, List, [], ◌∷◌, ◌++◌, length, take, flat_map, Some, None}
-use Rattle.fluent_tree.specs.Tree.{Text, Entry, junk_entry}
+use Rattle.fluent_ast.specs.Tree.{Text, Entry, junk_entry}
 use Rattle.fluent_text.specs.Parser.{Read, Parser, ◌>>◌, ◌<$>◌, ◌<|>◌, pure, ignore, skip, count, first, byte, run}
 use Rattle.fluent_text.specs.Lexical.{is_inside, is_letter, blank_block}
 use Rattle.fluent_syntax.specs.Entries.{entry}

@@ -1,6 +1,6 @@
 -- Messages and terms with their attributes (Fluent Syntax 1.0, EBNF, "Entry", "Message", "Term" and "Attribute").
 use Rattle.std.specs.Prelude.{[], ◌∷◌, length, Option, Some, None}
-use Rattle.fluent_tree.specs.Tree.{Text, Pattern, Attributes, Entry, message_entry, term_entry}
+use Rattle.fluent_ast.specs.Tree.{Text, Pattern, Attributes, Entry, message_entry, term_entry}
 use Rattle.fluent_text.specs.Parser.{Parser, ◌>>=◌, ◌>>◌, ◌<|>◌, pure, skip, many, many_from, push, byte}
 use Rattle.fluent_text.specs.Lexical.{identifier, blank_inline, blank, line_end}
 use Rattle.fluent_syntax.specs.Pieces.{pattern}

@@ -3,7 +3,7 @@ use Rattle.std.specs.Prelude.{ℕ, zero, suc, ◌-◌, Bool, true, false, not, �
 use Rattle.std.specs.Char.{is_ascii_uppercase, is_ascii_hexdigit}
 use Rattle.std.specs.Str.{bytes_eq}
 use Rattle.std.specs.Set.{is_member}
-use Rattle.fluent_tree.specs.Tree.{Text, Attribute, no_attribute, attribute, Key, name_key, number_key, Expression, inline, select, Inline, string, number, function, message, term, variable, nested, Call, no_call, call, Arguments, arguments, Named, Variant, variants_of, inlines_of, nameds_of}
+use Rattle.fluent_ast.specs.Tree.{Text, Attribute, no_attribute, attribute, Key, name_key, number_key, Expression, inline, select, Inline, string, number, function, message, term, variable, nested, Call, no_call, call, Arguments, arguments, Named, Variant, variants_of, inlines_of, nameds_of}
 use Rattle.fluent_text.specs.Parser.{Read, Parser, ◌>>=◌, ◌>>◌, ◌<$>◌, ◌<|>◌, pure, refuse, ignore, skip, many, many_from, count, push, first, byte, run_len, run1}
 use Rattle.fluent_text.specs.Lexical.{is_digit, is_quoted, is_function_byte, identifier, blank_inline, line_end, blank}
 use Rattle.fluent_syntax.specs.Pieces.{pattern}

@@ -4,7 +4,7 @@ use Rattle.std.specs.Prelude.{ℕ, ◌-◌, min, Bool, true, false, ◌&&◌, �
 use Rattle.std.specs.Coded.{Coded, code_by, coded×, coded_ℕ, coded_bool, coded_list, coded_option}
 use Rattle.std.specs.List.{prefix_len, suffix_len}
 use Rattle.std.specs.Str.{bytes_eq}
-use Rattle.fluent_tree.specs.Tree.{Text, Expression, Element, text, placeable}
+use Rattle.fluent_ast.specs.Tree.{Text, Expression, Element, text, placeable}
 
 -- text of one line
 pub record Words : Type 0 where

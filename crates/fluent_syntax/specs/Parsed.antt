@@ -1,9 +1,9 @@
 -- What the reader's answer holds.
 use Rattle.std.specs.Prelude.{◌≡◌, ℕ, List, [], map, Result, Ok, Err}
-use Rattle.fluent_tree.specs.Tree.{Entry}
-use Rattle.fluent_tree.specs.View.{resource_view}
-use Rattle.fluent_tree.specs.declared.ast.Resource.{Resource}
-use Rattle.fluent_tree.specs.declared.errors.ParserError.{ParserError}
+use Rattle.fluent_ast.specs.Tree.{Entry}
+use Rattle.fluent_ast.specs.View.{resource_view}
+use Rattle.fluent_ast.specs.declared.ast.Resource.{Resource}
+use Rattle.fluent_ast.specs.declared.errors.ParserError.{ParserError}
 use Rattle.fluent_syntax.specs.declared.parser.errors.ParseFault.{ParseFault}
 use Rattle.fluent_syntax.specs.declared.parser.errors.ParseFault.TheVariants.{Parser, Memory}
 

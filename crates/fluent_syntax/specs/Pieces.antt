@@ -1,6 +1,6 @@
 -- The pieces of a pattern in the source (Fluent Syntax 1.0, EBNF, "Pattern" and "PatternElement").
 use Rattle.std.specs.Prelude.{ℕ, Bool, false, not, ◌&&◌, ◌==◌, if◌then◌else◌, List, [], ◌∷◌, ◌++◌, length, Option, Some, None, unwrap_or}
-use Rattle.fluent_tree.specs.Tree.{Expression, Pattern, pattern_of}
+use Rattle.fluent_ast.specs.Tree.{Expression, Pattern, pattern_of}
 use Rattle.fluent_text.specs.Parser.{Parser, ◌>>=◌, ◌<$>◌, ◌<|>◌, pure, optional, many_from, first, run1}
 use Rattle.fluent_text.specs.Lexical.{is_text, blank_inline, blank_block}
 use Rattle.fluent_syntax.specs.Layout.{Words, Piece, line, words, hole, elements}

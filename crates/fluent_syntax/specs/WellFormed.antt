@@ -1,6 +1,6 @@
 -- Trees as they may stand in a source (Fluent Syntax 1.0, "Abstract Syntax", its rules on well-formed trees), and how deep.
 use Rattle.std.specs.Prelude.{◌≡◌, ℕ, zero, suc, ◌+◌, ◌<◌, length, Option, Some, None, Bool, true, false, IsTrue, List, [], ◌∷◌}
-use Rattle.fluent_tree.specs.Tree.{Text, Pattern, nothing, more, Element, text, placeable, Expression, inline, select, Variants, no_variants, variant, Inline, string, number, function, message, term, variable, nested, Call, no_call, call, Arguments, arguments, Inlines, no_inlines, argument, Nameds, no_nameds, named_argument, Attributes, Entry, message_entry, term_entry, junk_entry}
+use Rattle.fluent_ast.specs.Tree.{Text, Pattern, nothing, more, Element, text, placeable, Expression, inline, select, Variants, no_variants, variant, Inline, string, number, function, message, term, variable, nested, Call, no_call, call, Arguments, arguments, Inlines, no_inlines, argument, Nameds, no_nameds, named_argument, Attributes, Entry, message_entry, term_entry, junk_entry}
 use Rattle.fluent_syntax.specs.Expressions.{is_function_name, is_selector, stands_alone, differ}
 
 abbrev pub is_literal : Inline → Bool

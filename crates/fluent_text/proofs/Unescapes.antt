@@ -2,10 +2,9 @@
 use Rattle.std.proofs.Common.{◌≡◌, ◌≢◌, ℕ, zero, suc, ◌-◌, ◌<◌, ◌==◌, List, [], ◌∷◌, ◌++◌, length, take, drop, Option, Some, None, ap, sym, ◌∙◌, append_assoc, append-nil, length-drop, arith, refl, nat_lt, true, false, Bool, Result, Ok, Err, OnErr, inl, inr}
 use Rattle.std.specs.Io.KnownBytes.{Appends}
 use Rattle.std.proofs.lemmas.Bool.Decides.{nat_tests}
-use Rattle.fluent_text.specs.Parser.{Text}
+use Rattle.fluent_text.specs.Parser.{Text, Read, Parser, many_from, turn, go_on, run, run1, run_len, byte}
 use Rattle.fluent_text.specs.Taken.{LeftSome, TookPrefix}
 use Rattle.fluent_text.specs.Lexical.{is_plain}
-use Rattle.fluent_text.specs.Parser.{Read, Parser, many_from, turn, go_on, run, run1, run_len, byte}
 use Rattle.fluent_text.specs.Escapes.{value_of, part, unescaped}
 use Rattle.fluent_text.proofs.Prefix.{appends_twice}
 use Rattle.fluent_text.specs.Facts.Runs.{run_len-stops}

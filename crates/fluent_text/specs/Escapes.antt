@@ -1,8 +1,7 @@
 -- What a quoted text means, escape by escape (Fluent Syntax 1.0, EBNF, "quoted_char", and "Special Characters").
 use Rattle.std.specs.Prelude.{ℕ, zero, suc, ◌+◌, ◌*◌, ◌&&◌, ◌||◌, nat_lt, nat_le, [], ◌∷◌, ◌++◌, length, drop, encode_utf8, Some, None, if◌then◌else◌}
 use Rattle.std.specs.Char.{digit_value}
-use Rattle.fluent_text.specs.Parser.{Text}
-use Rattle.fluent_text.specs.Parser.{Read, Parser, ◌>>=◌, ◌>>◌, ◌<|>◌, pure, ◌<$>◌, many_from, first, byte, run1}
+use Rattle.fluent_text.specs.Parser.{Text, Read, Parser, ◌>>=◌, ◌>>◌, ◌<|>◌, pure, ◌<$>◌, many_from, first, byte, run1}
 use Rattle.fluent_text.specs.Lexical.{is_plain}
 
 -- U+FFFD

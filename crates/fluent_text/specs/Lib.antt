@@ -7,3 +7,4 @@ pub mod Reading
 pub mod Lexical
 pub mod Escapes
 pub mod Unescaped
+pub mod Changes

@@ -3,12 +3,12 @@ use Rattle.std.proofs.Common.{◌≡◌, ℕ, [], ◌∷◌, Bool, true, false, 
 use Rattle.std.specs.Ordering.{is_eq}
 use Rattle.std.specs.Cmp.Lexicographic.{bytes_decides, nat_list_eq_equiv, texts_ties}
 use Rattle.std.specs.FinMap.{find, is_sorted}
-use Rattle.fluent_tree.specs.Tree.{Text}
+use Rattle.fluent_ast.specs.Tree.{Text}
 use Rattle.fluent_intl.specs.Options.{Options, type_named, style_named, currency_display_named}
-use Rattle.fluent_meaning.specs.Number.{as_count, is_text}
-use Rattle.fluent_meaning.specs.Value.{Value, text_value, number_value, custom_value, no_value, error_value}
-use Rattle.fluent_meaning.specs.Arguments.{Map, merge, merge_one}
-use Rattle.fluent_values.specs.Merging.{currency_by, with_currency, with_one, with_rest}
+use Rattle.fluent_semantics.specs.Number.{as_count, is_text}
+use Rattle.fluent_semantics.specs.Value.{Value, text_value, number_value, custom_value, no_value, error_value}
+use Rattle.fluent_semantics.specs.Arguments.{Map, merge, merge_one}
+use Rattle.fluent_values.specs.Inside.Merging.{currency_by, with_currency, with_one, with_rest}
 use Rattle.fluent_values.specs.Facts.Ordered.{bytes_cmp, prefix_of, rest_of, not_below_itself}
 
 -- ---- the chain of tests on a name, with the tests as variables

@@ -1,8 +1,8 @@
 -- What functions answer, by the types of the code.
 use Rattle.std.specs.Prelude.{◌≡◌, List, map}
-use Rattle.fluent_tree.specs.Tree.{Text}
-use Rattle.fluent_meaning.specs.Value.{Value}
-use Rattle.fluent_meaning.specs.Arguments.{Map}
+use Rattle.fluent_ast.specs.Tree.{Text}
+use Rattle.fluent_semantics.specs.Value.{Value}
+use Rattle.fluent_semantics.specs.Arguments.{Map}
 use Rattle.fluent_values.specs.View.{value_view, named}
 use Rattle.fluent_values.specs.ValuesWithoutMemory.{AsksForCurrency}
 use Rattle.fluent_values.specs.declared.types.value.FluentValue.{FluentValue}

@@ -6,9 +6,9 @@ use Rattle.std.specs.Slice.Iter.{iter_rest}
 use Rattle.std.specs.Vec.Iter.{into_iter_items}
 use Rattle.std.specs.declared.borrow.CowStr.{CowStr}
 use Rattle.std.proofs.Common.{Global}
-use Rattle.fluent_tree.specs.Tree.{Text}
-use Rattle.fluent_meaning.specs.Value.{Value}
-use Rattle.fluent_meaning.specs.Arguments.{Map}
+use Rattle.fluent_ast.specs.Tree.{Text}
+use Rattle.fluent_semantics.specs.Value.{Value}
+use Rattle.fluent_semantics.specs.Arguments.{Map}
 use Rattle.fluent_values.specs.View.{value_view}
 use Rattle.fluent_values.specs.declared.types.value.FluentValue.{FluentValue}
 use Rattle.fluent_values.specs.declared.args.ArgsIter.{ArgsIter}

@@ -2,7 +2,7 @@
 use Rattle.std.specs.Prelude.{Option, Some, None, ℤ}
 use Rattle.fluent_intl.specs.Decimal.{whole}
 use Rattle.fluent_intl.specs.Number.{number_with}
-use Rattle.fluent_meaning.specs.Value.{Value, no_value, number_value}
+use Rattle.fluent_semantics.specs.Value.{Value, no_value, number_value}
 
 -- what is there as a value, or no value
 abbrev pub or_nothing : {A C : Type 0} → (A → Value C) → Option A → Value C

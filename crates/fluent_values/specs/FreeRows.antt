@@ -5,12 +5,12 @@ use Rattle.std.specs.Prelude.{String as Owned}
 use Rattle.std.specs.Borrow.{Bor}
 use Rattle.std.specs.declared.borrow.CowStr.TheVariants as texts
 use Rattle.std.proofs.Common.{Global}
-use Rattle.fluent_tree.specs.Tree.{Text}
+use Rattle.fluent_ast.specs.Tree.{Text}
 use Rattle.fluent_intl.specs.Number.{number_with}
 use Rattle.fluent_intl.specs.Options.{default_options}
 use Rattle.fluent_intl.specs.declared.number.FluentNumber.{FluentNumber}
-use Rattle.fluent_meaning.specs.Value.{Value, text_value, number_value}
-use Rattle.fluent_meaning.specs.Arguments.{Map}
+use Rattle.fluent_semantics.specs.Value.{Value, text_value, number_value}
+use Rattle.fluent_semantics.specs.Arguments.{Map}
 use Rattle.fluent_values.specs.ValuesWithoutMemory.{IsTextless, IsBorrowed, HasOwnText, IsEmpty, IsTextGiven, AsksForCurrency}
 use Rattle.fluent_values.specs.declared.types.custom.NoCustom.{NoCustom}
 use Rattle.fluent_values.specs.declared.types.value.FluentValue.{FluentValue}

@@ -4,12 +4,12 @@ use Rattle.std.specs.Option.{option_map}
 use Rattle.std.specs.Cow.{cow_str_bytes}
 use Rattle.std.specs.declared.borrow.CowStr.{CowStr}
 use Rattle.std.proofs.Common.{Global}
-use Rattle.fluent_tree.specs.Tree.{Text}
+use Rattle.fluent_ast.specs.Tree.{Text}
 use Rattle.fluent_text.specs.declared.counting.Counting.{Counting}
 use Rattle.fluent_text.specs.declared.counting.WriteFault.{WriteFault}
 use Rattle.fluent_text.specs.declared.counting.WriteFault.TheVariants as fault
-use Rattle.fluent_meaning.specs.Bundle.{Bundle, shown}
-use Rattle.fluent_meaning.specs.Value.{Value, matches, same, value_text}
+use Rattle.fluent_semantics.specs.Bundle.{Bundle, shown}
+use Rattle.fluent_semantics.specs.Value.{Value, matches, same, value_text}
 use Rattle.fluent_values.specs.Sinks.{GoesThrough, SinkTook, sink, writer, without_error}
 use Rattle.fluent_values.specs.View.{value_view}
 use Rattle.fluent_values.specs.ValuesWithoutMemory.{HasOwnText, IsEmpty}

@@ -1,10 +1,9 @@
 -- What takes no memory, so that it can't fail.
-pub use Rattle.fluent_entries.specs.ErrorsWithoutMemory.{NamesNothing, HasNoText}
 use Rattle.std.specs.Prelude.{◌≡◌, ⊤, List, ◌∷◌, Option, Some, None, codes}
 use Rattle.std.specs.declared.borrow.CowStr.TheVariants as text
-use Rattle.fluent_tree.specs.Tree.{Text}
-use Rattle.fluent_meaning.specs.Value.{Value, text_value, number_value}
-use Rattle.fluent_meaning.specs.Arguments.{Map, get}
+use Rattle.fluent_ast.specs.Tree.{Text}
+use Rattle.fluent_semantics.specs.Value.{Value, text_value, number_value}
+use Rattle.fluent_semantics.specs.Arguments.{Map, get}
 use Rattle.fluent_values.specs.declared.types.value.FluentValue.{FluentValue}
 use Rattle.fluent_values.specs.declared.types.value.FluentValue.TheVariants as values
 

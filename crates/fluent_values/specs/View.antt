@@ -1,13 +1,11 @@
 -- The content of the types of the code.
-pub use Rattle.fluent_entries.specs.EntryView.{by_name}
-pub use Rattle.fluent_entries.specs.ErrorView.{kind_view, attribute_name, reference_view, resolver_error_view, error_view}
 use Rattle.std.specs.Prelude.{List, map}
 use Rattle.std.specs.Cow.{cow_str_bytes}
-use Rattle.fluent_tree.specs.Tree.{Text}
+use Rattle.fluent_ast.specs.Tree.{Text}
 use Rattle.fluent_intl.specs.Number.{number_of}
-use Rattle.fluent_meaning.specs.Value.{Value, text_value, number_value, custom_value, error_value}
-use Rattle.fluent_meaning.specs.Value as values_of
-use Rattle.fluent_meaning.specs.Arguments.{Map}
+use Rattle.fluent_semantics.specs.Value.{Value, text_value, number_value, custom_value, error_value}
+use Rattle.fluent_semantics.specs.Value as values_of
+use Rattle.fluent_semantics.specs.Arguments.{Map}
 use Rattle.fluent_values.specs.declared.types.value.FluentValue.{FluentValue}
 use Rattle.fluent_values.specs.declared.types.value.FluentValue.TheVariants as values
 use Rattle.fluent_values.specs.declared.args.FluentArgs.{FluentArgs}

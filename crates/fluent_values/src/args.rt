@@ -3,7 +3,7 @@
 
 ghost use Rattle.std.specs.Prelude.{◌≡◌, ◌≤◌, length};
 ghost use Rattle.std.specs.Result.{is_ok};
-ghost use Rattle.fluent_values.specs.Inserted.{inserted};
+ghost use Rattle.fluent_values.specs.Inside.Inserted.{inserted};
 ghost use Rattle.fluent_values.specs.Names.{NamesRise};
 
 use crate::types::{FluentType, FluentValue};
@@ -30,7 +30,7 @@ impl<'a, C: Drop> Drop for FluentArgs<'a, C> {
 impl<'a, C: FluentType> FluentArgs<'a, C> {
     ghost use Rattle.std.specs.Prelude.{◌≡◌, [], List, map, IfOk, IsOk, OnOk, OnErr};
     ghost use Rattle.std.specs.Iterator.{IsFinite, Drains};
-    ghost use Rattle.fluent_meaning.specs.Arguments as fin;
+    ghost use Rattle.fluent_semantics.specs.Arguments as fin;
     ghost use Rattle.fluent_values.specs.View.{named};
     ghost use Rattle.fluent_values.specs.Args.{CanGive, pair_view, shown_left};
     ghost use Rattle.fluent_values.specs.ArgsCalls.{Finds, Lacks, Sets};
@@ -176,7 +176,7 @@ impl<'a, C: FluentType> IntoIterator for FluentArgs<'a, C> {
     type IntoIter = ArgsIntoIter<'a, C>;
 
     ghost use Rattle.std.specs.Prelude.{◌≡◌};
-    ghost use Rattle.fluent_meaning.specs.Arguments.{IsInOrder};
+    ghost use Rattle.fluent_semantics.specs.Arguments.{IsInOrder};
     ghost use Rattle.fluent_values.specs.View.{named};
     ghost use Rattle.fluent_values.specs.Args.{given_left};
 

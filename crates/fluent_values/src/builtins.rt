@@ -1,6 +1,6 @@
 //! The functions that a bundle can have built in.
 ghost use Rattle.std.specs.Prelude.{IfOk, OnErr};
-ghost use Rattle.fluent_meaning.specs.Arguments.{number_function};
+ghost use Rattle.fluent_semantics.specs.Arguments.{number_function};
 ghost use Rattle.fluent_values.specs.Answers.{IsAnswer, IsForCurrency};
 
 use crate::args::FluentArgs;

@@ -2,11 +2,11 @@
 
 ghost use Rattle.std.specs.Prelude.{◌≡◌, Ok, None, IfOk, IsOk, IsTrue, Bool};
 ghost use Rattle.std.specs.declared.alloc.Global.{Global as Heap};
-ghost use Rattle.fluent_tree.specs.Tree.{Text};
+ghost use Rattle.fluent_ast.specs.Tree.{Text};
 ghost use Rattle.fluent_intl.specs.Number.{number_of};
-ghost use Rattle.fluent_meaning.specs.Bundle.{Bundle};
-ghost use Rattle.fluent_meaning.specs.Number.{category_word};
-ghost use Rattle.fluent_meaning.specs.Value.{category_of};
+ghost use Rattle.fluent_semantics.specs.Bundle.{Bundle};
+ghost use Rattle.fluent_semantics.specs.Number.{category_word};
+ghost use Rattle.fluent_semantics.specs.Value.{category_of};
 ghost use Rattle.fluent_values.specs.Shown.{IsFormatted, IsText};
 
 use crate::types::{FluentType, FluentValue};

@@ -1,8 +1,8 @@
 //! How values are shown, in place of their own text.
 ghost use Rattle.std.specs.Prelude.{◌≡◌, IfOk, IsOk, Option, None, string_bytes};
 ghost use Rattle.std.specs.Option.{option_map};
-ghost use Rattle.fluent_tree.specs.Tree.{Text};
-ghost use Rattle.fluent_meaning.specs.Value.{Value};
+ghost use Rattle.fluent_ast.specs.Tree.{Text};
+ghost use Rattle.fluent_semantics.specs.Value.{Value};
 ghost use Rattle.fluent_values.specs.Shown.{IsFormatted};
 
 use crate::types::{FluentType, FluentValue};

@@ -1,8 +1,8 @@
 //! Functions of the application, which messages call by name.
 ghost use Rattle.std.specs.Prelude.{◌≡◌, List, IfOk, IsOk};
-ghost use Rattle.fluent_tree.specs.Tree.{Text};
-ghost use Rattle.fluent_meaning.specs.Value.{Value, error_value};
-ghost use Rattle.fluent_meaning.specs.Arguments.{Map};
+ghost use Rattle.fluent_ast.specs.Tree.{Text};
+ghost use Rattle.fluent_semantics.specs.Value.{Value, error_value};
+ghost use Rattle.fluent_semantics.specs.Arguments.{Map};
 ghost use Rattle.fluent_values.specs.View.{value_view};
 ghost use Rattle.fluent_values.specs.Answers.{IsAnswer};
 

@@ -1,6 +1,6 @@
 //! Changes of the texts of patterns, as pseudolocalization makes them.
 ghost use Rattle.std.specs.Prelude.{◌≡◌, IfOk, string_bytes};
-ghost use Rattle.fluent_tree.specs.Tree.{Text};
+ghost use Rattle.fluent_ast.specs.Tree.{Text};
 
 use std::alloc::{AllocError, Global};
 

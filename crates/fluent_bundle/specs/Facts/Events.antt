@@ -1,7 +1,7 @@
 -- What events come to, and those of a text that is written.
 use Rattle.std.proofs.Common.{◌≡◌, refl, ap, List, [], ◌∷◌, ◌++◌}
-use Rattle.fluent_tree.specs.Tree.{Text}
-use Rattle.fluent_meaning.specs.Events.{Event, wrote, told, opened, reached_limit, entered, writes, text_in, errors_in}
+use Rattle.fluent_ast.specs.Tree.{Text}
+use Rattle.fluent_semantics.specs.Events.{Event, wrote, told, opened, reached_limit, entered, writes, text_in, errors_in}
 
 -- ---- one after the other
 

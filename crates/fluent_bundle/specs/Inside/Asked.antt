@@ -1,9 +1,9 @@
 -- The pattern that is asked for by id.
 use Rattle.std.specs.Prelude.{Option}
-use Rattle.fluent_tree.specs.Tree.{Text, Pattern, Attribute, no_attribute, attribute}
-use Rattle.fluent_tree.specs.View.{attribute_of}
-use Rattle.fluent_tree.specs.declared.ast.Identifier.{Identifier}
-use Rattle.fluent_meaning.specs.Bundle.{Bundle}
+use Rattle.fluent_ast.specs.Tree.{Text, Pattern, Attribute, no_attribute, attribute}
+use Rattle.fluent_ast.specs.View.{attribute_of}
+use Rattle.fluent_ast.specs.declared.ast.Identifier.{Identifier}
+use Rattle.fluent_semantics.specs.Bundle.{Bundle}
 use Rattle.fluent_bundle.specs.BundleView.{value_at, attribute_at}
 
 -- the value of a message, or its first attribute where a name is given

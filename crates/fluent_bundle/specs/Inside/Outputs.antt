@@ -3,18 +3,18 @@ use Rattle.std.specs.Prelude.{◌≡◌, ◌≢◌, None, false, Option, Result,
 use Rattle.std.specs.Borrow.{Bor}
 use Rattle.fluent_text.specs.Writer.{failed_in, empty_in}
 use Rattle.fluent_text.specs.declared.counting.Counting.{Counting}
-use Rattle.fluent_tree.specs.Tree.{Text, Pattern}
-use Rattle.fluent_tree.specs.declared.ast.Pattern as code
-use Rattle.fluent_meaning.specs.Bundle.{Bundle}
+use Rattle.fluent_ast.specs.Tree.{Text, Pattern}
+use Rattle.fluent_ast.specs.declared.ast.Pattern as code
+use Rattle.fluent_semantics.specs.Bundle.{Bundle}
 use Rattle.fluent_values.specs.Sinks.{CountsTell, outside}
-use Rattle.fluent_values.specs.Texts.{IsTextAlone}
+use Rattle.fluent_entries.specs.Texts.{IsTextAlone}
 use Rattle.fluent_values.specs.declared.args.FluentArgs.{FluentArgs}
 use Rattle.fluent_values.specs.declared.output.Halt.{Halt}
 use Rattle.fluent_values.specs.declared.output.Halt.TheVariants as halt
 use Rattle.fluent_values.specs.declared.output.Output.{Output}
-use Rattle.fluent_resolver.specs.Changes.{Change}
+use Rattle.fluent_text.specs.Changes.{Change, new, old}
 use Rattle.fluent_bundle.specs.BundleView.{transform_in}
-use Rattle.fluent_bundle.specs.Formatted.{Errors, Writes, events, new, old}
+use Rattle.fluent_bundle.specs.Formatted.{Errors, Writes, events}
 use Rattle.fluent_bundle.specs.declared.bundle.FluentBundle.{FluentBundle}
 
 -- the events of a pattern happened where an output that keeps none sends its text, or a prefix of them

@@ -4,8 +4,8 @@
 ghost use Rattle.std.specs.Prelude.{◌≡◌, string_bytes, Ok, None, IfOk, IsOk, IsTrue};
 ghost use Rattle.std.specs.Option.{option_map};
 ghost use Rattle.fluent_intl.specs.Number.{number_of};
-ghost use Rattle.fluent_meaning.specs.Number.{category_word};
-ghost use Rattle.fluent_meaning.specs.Value.{category_of};
+ghost use Rattle.fluent_semantics.specs.Number.{category_word};
+ghost use Rattle.fluent_semantics.specs.Value.{category_of};
 ghost use Rattle.fluent_values.specs.View.{value_view};
 ghost use Rattle.fluent_bundle.specs.BundleView.{ShownBy};
 
@@ -67,7 +67,7 @@ impl<
     }
 
     fn category_word(&self, number: &FluentNumber) -> &'static str {
-        word_of(category_of(&self.intls, number))
+        category_word(category_of(&self.intls, number))
     }
 }
 
@@ -100,7 +100,7 @@ fn category_of<M: MemoizerKind>(intls: &M, number: &FluentNumber) -> PluralCateg
 }
 
 /// The word of a plural category, as it stands as the key of a variant.
-fn word_of(category: PluralCategory) -> &'static str
+pub fn category_word(category: PluralCategory) -> &'static str
     ensures { result.now ≡ category_word category }
 {
     match category {

@@ -4,12 +4,12 @@ use Rattle.std.specs.Global.{Box}
 use Rattle.std.specs.Option.{option_to_list}
 use Rattle.std.specs.declared.vec.Vec.{Vec}
 use Rattle.std.proofs.Common.{Global}
-use Rattle.fluent_tree.specs.Tree.{Text}
-use Rattle.fluent_tree.specs.View.{entry_view}
-use Rattle.fluent_tree.specs.declared.ast.Entry.{Entry}
-use Rattle.fluent_meaning.specs.Arguments.{Map, get, set_all}
-use Rattle.fluent_meaning.specs.Bundle.{Function, added, not_added}
-use Rattle.fluent_meaning.specs.Bundle as m
+use Rattle.fluent_ast.specs.Tree.{Text}
+use Rattle.fluent_ast.specs.View.{entry_view}
+use Rattle.fluent_ast.specs.declared.ast.Entry.{Entry}
+use Rattle.fluent_semantics.specs.Arguments.{Map, get, set_all}
+use Rattle.fluent_semantics.specs.Bundle.{Function, added, not_added}
+use Rattle.fluent_semantics.specs.Bundle as m
 use Rattle.fluent_entries.specs.EntryView.{ids}
 use Rattle.fluent_entries.specs.ErrorView.{error_view}
 use Rattle.fluent_entries.specs.IdNumbers.{numbers}

@@ -3,14 +3,14 @@ use Rattle.std.specs.Prelude.{◌≡◌, ◌++◌, ℕ, nat_eq, Bool, false, Lis
 use Rattle.std.specs.Global.{Box}
 use Rattle.std.specs.List.{list_any}
 use Rattle.std.specs.Option.{option_to_list, unwrap_or}
-use Rattle.fluent_tree.specs.Tree.{Text, Pattern, message_entry, term_entry, junk_entry}
-use Rattle.fluent_tree.specs.Tree as t
-use Rattle.fluent_tree.specs.View.{entry_view, pattern_view, value_view}
-use Rattle.fluent_tree.specs.declared.ast.Entry.{Entry}
-use Rattle.fluent_tree.specs.declared.ast.Entry.TheVariants as entries
-use Rattle.fluent_meaning.specs.Bundle.{a_message, a_term}
-use Rattle.fluent_meaning.specs.Bundle as m
-use Rattle.fluent_meaning.specs.Errors.{message_kind, term_kind}
+use Rattle.fluent_ast.specs.Tree.{Text, Pattern, message_entry, term_entry, junk_entry}
+use Rattle.fluent_ast.specs.Tree as t
+use Rattle.fluent_ast.specs.View.{entry_view, pattern_view, value_view}
+use Rattle.fluent_ast.specs.declared.ast.Entry.{Entry}
+use Rattle.fluent_ast.specs.declared.ast.Entry.TheVariants as entries
+use Rattle.fluent_semantics.specs.Bundle.{a_message, a_term}
+use Rattle.fluent_semantics.specs.Bundle as m
+use Rattle.fluent_semantics.specs.Errors.{message_kind, term_kind}
 use Rattle.fluent_entries.specs.declared.adding.Parts.{Parts}
 use Rattle.fluent_entries.specs.declared.ids.Ids.{Ids}
 use Rattle.fluent_entries.specs.declared.ready.Ready.{Ready}

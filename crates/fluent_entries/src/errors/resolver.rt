@@ -1,11 +1,11 @@
 //! What goes wrong where a pattern is resolved.
 ghost use Rattle.std.specs.Prelude.{◌≡◌, IfOk, IsOk, None, string_bytes};
 ghost use Rattle.std.specs.Option.{option_map};
-ghost use Rattle.fluent_tree.specs.View.{attribute_of};
+ghost use Rattle.fluent_ast.specs.View.{attribute_of};
 ghost use Rattle.fluent_entries.specs.ErrorView.{attribute_name, lost_in, reference_in, reference_view, resolver_error_view};
 ghost use Rattle.fluent_entries.specs.ErrorsWithoutMemory.{NamesNothing};
 
-use fluent_tree::ast::{Identifier, InlineExpression};
+use fluent_ast::ast::{Identifier, InlineExpression};
 use std::alloc::{AllocError, Global};
 use std::fmt;
 
@@ -179,7 +179,7 @@ impl ResolverError {
 impl fmt::Display for ResolverError {
     ghost use Rattle.std.specs.Prelude.{Some};
     ghost use Rattle.fluent_entries.specs.ErrorView.{resolver_error_view};
-    ghost use Rattle.fluent_meaning.specs.Errors.{resolver_error_text};
+    ghost use Rattle.fluent_semantics.specs.Errors.{resolver_error_text};
 
     ghost output = { λ e. Some (resolver_error_text (resolver_error_view e)) };
 

@@ -96,7 +96,7 @@ fn pointed_units(text: &[u8], at: usize) -> Option<(u128, Option<usize>)>
 }
 
 /// The number of the digits, where they are digits and it fits.
-pub(crate) fn value_of(digits: &[u8]) -> Option<u64>
+pub fn value_of(digits: &[u8]) -> Option<u64>
     ensures { SomeIff result (AreDigitsThatFit digits.now) (digits_value 10 digits.now) }
 {
     let mut value = 0u64;

@@ -4,14 +4,13 @@ use Rattle.std.specs.List.{AllByRecursion}
 use Rattle.std.specs.Borrow.{Bor, MutBor}
 use denote.Triple.Both.{Both}
 use Rattle.indexmap.specs.IndexSet.{IndexSet}
-use Rattle.fluent_tree.specs.Tree.{Text, Attribute}
-use Rattle.fluent_meaning.specs.Bundle.{Target, unknown, without_value, found}
-use Rattle.fluent_clean.specs.Places.{Place, of_message, Names, place_target}
-use Rattle.fluent_clean.specs.Needs.{Need, a_message, a_variable, needs}
-use Rattle.fluent_clean.specs.Clean.{IsAmong}
+use Rattle.fluent_ast.specs.Tree.{Text, Attribute}
+use Rattle.fluent_semantics.specs.Bundle.{Target, unknown, without_value, found}
+use Rattle.fluent_lint.specs.Places.{Place, of_message, Names, place_target}
+use Rattle.fluent_lint.specs.Needs.{Need, a_message, a_variable, needs}
+use Rattle.fluent_lint.specs.Clean.{IsAmong}
 use Rattle.fluent_lint.specs.Asked.{AsksForAt, AreAsked, AreDistinct, texts}
-use Rattle.fluent_lint.specs.Findings.{views}
-use Rattle.fluent_lint.specs.PlaceView.{place_view}
+use Rattle.fluent_lint.specs.PlaceView.{views, place_view}
 use Rattle.fluent_lint.specs.declared.place.Place as code
 
 abbrev Change : Type 0 → Type 0

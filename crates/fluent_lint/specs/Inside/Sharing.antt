@@ -1,18 +1,27 @@
 -- What is known of lists of variables while places are settled.
-use Rattle.std.specs.Prelude.{◌≡◌, ℕ, Bool, List, [], ◌∷◌, Some, IsTrue}
+use Rattle.std.specs.Prelude.{◌≡◌, ℕ, Bool, List, [], ◌∷◌, Some, IsTrue, cond}
 use Rattle.std.specs.Borrow.{Bor}
-use Rattle.fluent_tree.specs.Tree.{Text}
-use Rattle.fluent_clean.specs.Places.{Place, Names}
-use Rattle.fluent_clean.specs.Needs.{Need}
-use Rattle.fluent_clean.specs.Clean.{IsAmong}
-use Rattle.fluent_lint.specs.Asked.{AsksForAt, AreAsked, AreDistinct, texts}
-use Rattle.fluent_lint.specs.Findings.{views}
+use Rattle.fluent_ast.specs.Tree.{Text, is_yes}
+use Rattle.fluent_lint.specs.Places.{Place, Names, place_same}
+use Rattle.fluent_lint.specs.Needs.{Need}
+use Rattle.fluent_lint.specs.Clean.{IsAmong}
+use Rattle.fluent_lint.specs.Asked.{AsksForAt, AreAsked, AreDistinct, texts, index_of, list_at}
+use Rattle.fluent_lint.specs.PlaceView.{views, place_view}
 use Rattle.fluent_lint.specs.Inside.Reached.{IsReference, needs_at}
-use Rattle.fluent_lint.specs.Lists.{index_of, list_at}
-use Rattle.fluent_lint.specs.PlaceView.{place_view}
 use Rattle.fluent_lint.specs.declared.asked.Asked.{Asked}
 use Rattle.fluent_lint.specs.declared.place.Place as code
-use Rattle.fluent_lint.specs.declared.variables.Gathered.{Gathered}
+use Rattle.fluent_lint.specs.declared.asking.Gathered.{Gathered}
+
+-- the place has this list now, and others have theirs
+abbrev pub IsSetTo : Asked → Asked → code.Place → ℕ → Type 0
+IsSetTo old new x k = (q : code.Place) → index_of new (place_view q) ≡ cond (is_yes (place_same (place_view x) (place_view q))) (Some k) (index_of old (place_view q))
+
+-- a list is added, as that of a place, and the others stay
+abbrev pub Takes : Asked → Asked → code.Place → List (Bor Text) → ℕ → Type 0
+Takes old new x names k =
+    ((j : ℕ) (l : List (Bor Text)) → list_at old.lists.items (Some j) ≡ Some l → list_at new.lists.items (Some j) ≡ Some l)
+    × (list_at new.lists.items (Some k) ≡ Some names)
+    × IsSetTo old new x k
 
 -- a list is there, and has all that a place asks for, each once
 pub record IsList (named : Names Text) (a : Asked) (x : Place) (k : ℕ) : Type 0 where

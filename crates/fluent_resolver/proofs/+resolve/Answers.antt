@@ -3,30 +3,30 @@ use Rattle.std.specs.Borrow.{Bor}
 use Rattle.std.specs.Option.{option_map}
 use Rattle.std.specs.Prelude.{IsTrue}
 use Rattle.std.proofs.lemmas.Bool.{ltb-false, ltb-true, true≢false}
-use Rattle.fluent_tree.specs.References.{a_function, in_arguments, in_expression, in_inline, in_variants, variants_view, a_term, in_element, references}
-use Rattle.fluent_tree.specs.Tree.{Text, function, inline, nested, select, call, message, term, placeable, text}
-use Rattle.fluent_tree.specs.View.{arguments_view, inline_view, expression_view, pattern_view, attribute_of, call_view}
-use Rattle.fluent_tree.specs.declared.ast.InlineExpression.{InlineExpression}
+use Rattle.fluent_ast.specs.References.{a_function, in_arguments, in_expression, in_inline, in_variants, variants_view, a_term, in_element, references}
+use Rattle.fluent_ast.specs.Tree.{Text, function, inline, nested, select, call, message, term, placeable, text}
+use Rattle.fluent_ast.specs.View.{arguments_view, inline_view, expression_view, pattern_view, attribute_of, call_view}
+use Rattle.fluent_ast.specs.declared.ast.InlineExpression.{InlineExpression}
 use Rattle.fluent_entries.specs.IdNumbers.{numbers, table}
 use Rattle.fluent_links.specs.CursorParts.{in_arguments_is, in_function_is}
 use Rattle.fluent_links.specs.Cursors.{seen}
 use Rattle.fluent_links.specs.Links.{IsBefore, past}
-use Rattle.fluent_meaning.specs.Ahead.{begins, after, Rest}
-use Rattle.fluent_meaning.specs.Arguments.{get}
-use Rattle.fluent_meaning.specs.Bundle.{Bundle, function_found}
-use Rattle.fluent_meaning.specs.Value.{text_value}
-use Rattle.fluent_meaning.specs.Walk.{variables, has_one, Environment, local, is_marked}
-use Rattle.fluent_state.specs.Facts.Happening.{did_as, happened_told, happened_untold, happened_as, did_tell_and_put, happened_limit, happened_opened}
-use Rattle.fluent_state.specs.Facts.Views.{view_arguments, view_function_in, view_number_in, view_string_in, view_variable_in, view_written, view_in, view_nested_in, view_pattern, view_select_in, view_message_in, view_term_in, view_placeable_in, view_text_in}
-use Rattle.fluent_state.specs.Gathered.{gathered, values_of}
-use Rattle.fluent_state.specs.Happened.{answer_events, lost_of}
-use Rattle.fluent_state.specs.Status.{state, state_parts, environment_view}
+use Rattle.fluent_semantics.specs.Ahead.{begins, after, Rest}
+use Rattle.fluent_semantics.specs.Arguments.{get}
+use Rattle.fluent_semantics.specs.Bundle.{Bundle, function_found}
+use Rattle.fluent_semantics.specs.Value.{text_value}
+use Rattle.fluent_semantics.specs.Walk.{variables, has_one, Environment, local, is_marked}
+use Rattle.fluent_resolver_state.specs.Facts.Happening.{did_as, happened_told, happened_untold, happened_as, did_tell_and_put, happened_limit, happened_opened}
+use Rattle.fluent_resolver_state.specs.Facts.Views.{view_arguments, view_function_in, view_number_in, view_string_in, view_variable_in, view_written, view_in, view_nested_in, view_pattern, view_select_in, view_message_in, view_term_in, view_placeable_in, view_text_in}
+use Rattle.fluent_resolver_state.specs.Gathered.{gathered, values_of}
+use Rattle.fluent_resolver_state.specs.Happened.{answer_events, lost_of}
+use Rattle.fluent_resolver_state.specs.Status.{state, state_parts, environment_view}
 use Rattle.fluent_values.specs.Sinks.{outside}
 use Rattle.fluent_values.specs.View.{named, value_view}
 use Rattle.fluent_values.specs.declared.output.Halt.TheVariants.{Memory}
 use Rattle.fluent_resolver.specs.Frames.{ArePlacedFrames, IsPlacedCall, IsPlacedPurpose, IsWhole, at_end, before, frame, gathers, kept_before, made, paid_within, use_of, values_view, path_left, selector_value, elements_from}
-use Rattle.fluent_resolver.specs.Held.{held, more, more_named}
-use Rattle.fluent_resolver.specs.Parts.{Following, View, next_argument, is_braced}
+use Rattle.fluent_resolver.specs.Inside.Held.{held, more, more_named}
+use Rattle.fluent_resolver.specs.Inside.Parts.{Following, View, next_argument, is_braced}
 use Rattle.fluent_resolver.specs.declared.frame.Gathering.{Gathering}
 use Rattle.fluent_resolver.proofs.Answered.{answer_errors, answer_is, answer_text, answered_is, answered_none, answered_some}
 use Rattle.fluent_resolver.proofs.Called.{called_at}
@@ -44,32 +44,32 @@ use Rattle.fluent_resolver.proofs.Ranks.{less_level, less_rank}
 use Rattle.fluent_resolver.proofs.Resolved.{function_at, kept_at, looked_up, number_at, string_at, variable_at}
 use Rattle.fluent_resolver.proofs.Settled.{none_put, paid_least, paid_none}
 use Rattle.fluent_resolver.proofs.Waiting.{is_done, is_put, pays, all_done, placed_last, put_last, none_waits, placed_none}
-use Rattle.fluent_meaning.specs.Errors.{missing_default, resolver_error, cyclic, no_value, too_many_placeables}
-use Rattle.fluent_meaning.specs.Events.{tells, told}
-use Rattle.fluent_state.specs.ChosenView.{chosen_view}
+use Rattle.fluent_semantics.specs.Errors.{missing_default, resolver_error, cyclic, no_value, too_many_placeables}
+use Rattle.fluent_semantics.specs.Events.{tells, told}
+use Rattle.fluent_resolver_state.specs.ChosenView.{chosen_view}
 use Rattle.fluent_resolver.proofs.Beginning.{begins_pattern}
 use Rattle.fluent_resolver.proofs.Braces.{ahead_same, inline_ahead, nested_ahead, refers_same, unbraced}
 use Rattle.fluent_resolver.proofs.Choosing.{chosen_ahead, select_ahead, select_chosen}
 use Rattle.fluent_resolver.proofs.Levels.{at_least, at_most, from_there, no_more, none_left, whole_if}
 use Rattle.fluent_resolver.proofs.Taken.{is_still}
 use Rattle.fluent_resolver.proofs.Telling.{puts_nothing, tells_first, tells_none}
-use Rattle.fluent_tree.specs.Fallback.{fallback, in_braces}
-use Rattle.fluent_state.specs.FoundView.{content_at, found_view}
-use Rattle.fluent_state.specs.Locals.{locals_view}
-use Rattle.fluent_state.specs.PathContents.{front}
+use Rattle.fluent_ast.specs.Fallback.{fallback, in_braces}
+use Rattle.fluent_resolver_state.specs.FoundView.{content_at, found_view}
+use Rattle.fluent_resolver_state.specs.Locals.{locals_view}
+use Rattle.fluent_resolver_state.specs.PathContents.{front}
 use Rattle.fluent_values.specs.Facts.Took.{at_ok}
 use Rattle.fluent_resolver.proofs.Entering.{enters_term, follow_found, follow_unknown, follow_without, go_cyclic, goes_into, goes_visited, looks_in, not_entered}
 use Rattle.fluent_resolver.proofs.Terms.{term_alone, term_called, term_literals}
 use Rattle.fluent_resolver.proofs.Unbraced.{written_function, written_message, written_term}
 use Rattle.fluent_entries.specs.Texts.{IsTextAlone}
-use Rattle.fluent_meaning.specs.Meaning.{limit_reached}
+use Rattle.fluent_semantics.specs.Meaning.{limit_reached}
 use Rattle.fluent_values.specs.Facts.Outputs.{stays_through}
 use Rattle.fluent_resolver.proofs.Visiting.{sole_is}
 use Rattle.fluent_resolver.proofs.Elements.{from_end, from_next, never_text, none_at_end, none_at_limit, placeable_first, text_first}
-use Rattle.fluent_resolver.specs.Parts as parts
+use Rattle.fluent_resolver.specs.Inside.Parts as parts
 use Rattle.fluent_resolver.specs.declared.frame.Frame.TheVariants as put_off
-use Rattle.fluent_resolver.specs.Waits.{frames_in, values_in}
-use Rattle.fluent_tree.specs.declared.ast.CallArguments as of_call
+use Rattle.fluent_resolver.specs.Inside.Waits.{frames_in, values_in}
+use Rattle.fluent_ast.specs.declared.ast.CallArguments as of_call
 use Rattle.fluent_resolver.proofs.+resolve.Goals.{pattern::write_from-in-TextElement+in_ok-put_changed-in-TextElement, pattern::write_from-in-Placeable+in_ok-write_placeable-in-Placeable+else-not-is_done}
 use Rattle.fluent_resolver.proofs.+resolve.Goals as goal
 

@@ -1,19 +1,19 @@
 use Rattle.std.proofs.Common.{◌≡◌, ◌+◌, ◌-◌, ◌*◌, ℕ, [], None, length}
-use Rattle.fluent_tree.specs.References.{references}
-use Rattle.fluent_tree.specs.Tree.{Text}
-use Rattle.fluent_tree.specs.View.{pattern_view}
+use Rattle.fluent_ast.specs.References.{references}
+use Rattle.fluent_ast.specs.Tree.{Text}
+use Rattle.fluent_ast.specs.View.{pattern_view}
 use Rattle.fluent_links.specs.Cursors.{seen}
 use Rattle.fluent_links.specs.Links.{IsBefore}
 use Rattle.fluent_entries.specs.Texts.{IsTextAlone}
-use Rattle.fluent_meaning.specs.Bundle.{Bundle}
-use Rattle.fluent_meaning.specs.Walk.{has_one}
-use Rattle.fluent_state.specs.Status.{state}
+use Rattle.fluent_semantics.specs.Bundle.{Bundle}
+use Rattle.fluent_semantics.specs.Walk.{has_one}
+use Rattle.fluent_resolver_state.specs.Status.{state}
 use Rattle.fluent_values.specs.Sinks.{GoesThrough, outside}
 use Rattle.fluent_resolver.specs.Frames.{Along, IsPlacedCall, elements_from, gathers, values_view}
-use Rattle.fluent_resolver.specs.Held.{held}
-use Rattle.fluent_resolver.specs.Parts as parts
-use Rattle.fluent_resolver.specs.Parts.{Following}
-use Rattle.fluent_resolver.specs.Waits.{frames_in, values_in}
+use Rattle.fluent_resolver.specs.Inside.Held.{held}
+use Rattle.fluent_resolver.specs.Inside.Parts as parts
+use Rattle.fluent_resolver.specs.Inside.Parts.{Following}
+use Rattle.fluent_resolver.specs.Inside.Waits.{frames_in, values_in}
 use Rattle.fluent_resolver.proofs.Laying.{viewed}
 use Rattle.fluent_resolver.proofs.Left.{left}
 use Rattle.fluent_resolver.proofs.+resolve.Given as goal

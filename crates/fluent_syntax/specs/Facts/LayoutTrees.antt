@@ -2,7 +2,7 @@
 use Rattle.std.proofs.Common.{ℕ, zero, suc, Bool, true, false, ◌&&◌, List, [], ◌∷◌, ◌++◌, drop, arith, length-append}
 use Rattle.std.specs.Prelude.{replicate}
 use Rattle.std.specs.List.{prefix_len}
-use Rattle.fluent_tree.specs.Tree.{Text, Element, text, placeable, pattern_of}
+use Rattle.fluent_ast.specs.Tree.{Text, Element, text, placeable, pattern_of}
 use Rattle.fluent_syntax.specs.Layout.{Piece, line, words, hole, common_indent, dedented, feed, unless_empty, starts_line, joined, lines, is_feed, trim_start, trim_spaces, trimmed, trim_last, elements}
 use Rattle.fluent_syntax.specs.WellFormed.{IsWellFormed, IsWellFormedElement, IsWellFormedPattern}
 

@@ -1,7 +1,7 @@
 -- The rules that hold no other take a prefix of the text.
 use Rattle.std.proofs.Common.{◌==◌, ◌+◌, length, ℕ, [], true, false, Bool, Option, Some, None, refl}
 use Rattle.std.specs.Prelude.{unwrap_or}
-use Rattle.fluent_tree.specs.Tree.{no_attribute, attribute, name_key, number_key}
+use Rattle.fluent_ast.specs.Tree.{no_attribute, attribute, name_key, number_key}
 use Rattle.fluent_text.specs.Parser.{Parser, ◌>>=◌, ◌>>◌, pure, optional, ignore, skip, count, first, byte, run, run1}
 use Rattle.fluent_text.specs.Lexical.{is_letter, is_space, is_identifier_byte, identifier, blank_inline, at_end, line_break, line_end, blank_line, blank_block, blank_turn, blank, is_text}
 use Rattle.fluent_syntax.specs.Expressions.{quoted_turn, number_parts, string_literal, number_literal, attribute_access, comma, key_inside, variant_key, star, variant_head, arrow}

@@ -3,10 +3,10 @@ use Rattle.std.proofs.Common.{◌≡◌, ◌==◌, ℕ, zero, suc, ◌+◌, ◌<
 use Rattle.std.proofs.lemmas.Bool.{cases_Bool, cases_lt}
 use Rattle.std.proofs.lemmas.Bool.Decides.{nat_tests}
 use Rattle.fluent_text.specs.Parser.{Read, Parser, many_from, run, run1, run_len, byte, first}
-use Rattle.fluent_tree.specs.Tree.{Text, pattern_of}
+use Rattle.fluent_ast.specs.Tree.{Text, pattern_of}
 use Rattle.fluent_text.specs.Lexical.{is_text, is_space, blank_inline, blank_block}
 use Rattle.fluent_syntax.specs.Layout.{Piece, words, unless_empty, trim_spaces, lines, elements}
-use Rattle.fluent_syntax.specs.Progress.{closes_pattern, LineEndsPattern}
+use Rattle.fluent_syntax.specs.Inside.Progress.{closes_pattern, LineEndsPattern}
 use Rattle.fluent_syntax.specs.Pieces.{follows, is_indented, indented_text, words_after, block_text, indent, block_placeable, pattern_element, pieces, pattern}
 use Rattle.fluent_syntax.specs.Expressions.{level, inline_placeable}
 use Rattle.fluent_text.specs.Facts.Turns.{none, done}

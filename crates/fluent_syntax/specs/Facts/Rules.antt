@@ -2,7 +2,7 @@
 use Rattle.std.proofs.Common.{◌≡◌, ◌==◌, ℕ, ◌<◌, Bool, true, false, List, [], ◌∷◌, length, Some, None, if◌then◌else◌, refl, arith}
 use Rattle.std.proofs.lemmas.Bool.Decides.{nat_tests}
 use Rattle.fluent_text.specs.Parser.{◌>>=◌, ◌>>◌, ◌<|>◌, pure, skip, many, push, run_len, run, run1, byte, first}
-use Rattle.fluent_tree.specs.Tree.{Text, message_entry, term_entry}
+use Rattle.fluent_ast.specs.Tree.{Text, message_entry, term_entry}
 use Rattle.fluent_text.specs.Lexical.{is_identifier_byte, is_space, is_letter, identifier, blank_inline, at_end, line_break, line_end, blank_line, blank_block, blank}
 use Rattle.fluent_syntax.specs.Pieces.{pattern}
 use Rattle.fluent_syntax.specs.Expressions.{level}

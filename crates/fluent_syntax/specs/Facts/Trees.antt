@@ -1,7 +1,7 @@
 -- Every tree that is read is well-formed and no deeper than its level.
 use Rattle.std.proofs.Common.{◌≡◌, ℕ, zero, suc, ◌+◌, Bool, true, false, None, ◌&&◌, List, [], ◌∷◌, ◌++◌, refl, ap, ◌∙◌, arith}
 use Rattle.std.specs.Prelude.{IsTrue}
-use Rattle.fluent_tree.specs.Tree.{Text, Named, Variant, Pattern, Expression, inline, select, Inline, string, number, function, message, term, variable, nested, Call, no_call, call, Arguments, pattern_of, variants_of, inlines_of, nameds_of}
+use Rattle.fluent_ast.specs.Tree.{Text, Named, Variant, Pattern, Expression, inline, select, Inline, string, number, function, message, term, variable, nested, Call, no_call, call, Arguments, pattern_of, variants_of, inlines_of, nameds_of}
 use Rattle.fluent_text.specs.Parser.{Parser, ◌>>=◌, ◌>>◌, pure, skip, many, push, byte}
 use Rattle.fluent_text.specs.Lexical.{identifier, line_end, blank, blank_block}
 use Rattle.fluent_syntax.specs.Layout.{Piece, line, words, hole}

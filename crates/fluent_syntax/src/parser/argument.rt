@@ -3,10 +3,10 @@ ghost use Rattle.std.specs.Prelude.{◌≡◌, map, OnOk, IfOk};
 ghost use Rattle.fluent_syntax.specs.Expressions as spec;
 ghost use Rattle.fluent_syntax.specs.Expressions.{level};
 ghost use Rattle.fluent_text.specs.Reading.{found, passed};
-ghost use Rattle.fluent_syntax.specs.Reading.{Gives};
-ghost use Rattle.fluent_syntax.specs.Gathering.{argument_view, gathered_view, positional_argument, value_argument, call_argument, message_argument, reference_argument, Adds, Gathers, GathersNamed};
-ghost use Rattle.fluent_syntax.specs.Nests.{GivesBraces, GivesBrackets};
-ghost use Rattle.fluent_tree.specs.View.{named_view, name_view, arguments_view};
+ghost use Rattle.fluent_syntax.specs.Inside.Reading.{Gives};
+ghost use Rattle.fluent_syntax.specs.Inside.Gathering.{argument_view, gathered_view, positional_argument, value_argument, call_argument, message_argument, reference_argument, Adds, Gathers, GathersNamed};
+ghost use Rattle.fluent_syntax.specs.Inside.Nests.{GivesBraces, GivesBrackets};
+ghost use Rattle.fluent_ast.specs.View.{named_view, name_view, arguments_view};
 
 use crate::parser::bytes::{byte_at, eat};
 use crate::parser::inner::Inner;
@@ -14,7 +14,7 @@ use crate::parser::lines::{after_blank, identifier};
 use crate::parser::list::push;
 use crate::parser::reference::{attribute_access, is_function_name, literal};
 use crate::parser::stop::Stop;
-use fluent_tree::ast::{CallArguments, Expression, Identifier, InlineExpression, NamedArgument};
+use fluent_ast::ast::{CallArguments, Expression, Identifier, InlineExpression, NamedArgument};
 use std::alloc::{AllocError, Global};
 use std::collections::BTreeSet;
 

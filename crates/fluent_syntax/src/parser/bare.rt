@@ -1,11 +1,11 @@
 //! References that stand alone between braces, which most placeables are.
 ghost use Rattle.std.specs.Prelude.{IfSome};
-ghost use Rattle.fluent_syntax.specs.Bare.{IsBare, IsBarePlaceable};
-ghost use Rattle.fluent_tree.specs.View.{inline_view, expression_view};
+ghost use Rattle.fluent_syntax.specs.Inside.Bare.{IsBare, IsBarePlaceable};
+ghost use Rattle.fluent_ast.specs.View.{inline_view, expression_view};
 
 use crate::parser::bytes::{byte_at, eat};
 use crate::parser::lines::{after_blank, identifier};
-use fluent_tree::ast::{Expression, InlineExpression};
+use fluent_ast::ast::{Expression, InlineExpression};
 
 /// A variable, a message or a term, without an attribute and without arguments.
 #[inline(always)]

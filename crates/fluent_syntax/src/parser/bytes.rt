@@ -2,7 +2,7 @@
 ghost use Rattle.std.specs.Prelude.{◌≡◌, ◌+◌, ◌<◌, ◌≤◌, ℕ, true, Some, length, drop, slice_index, IfSome};
 ghost use Rattle.fluent_text.specs.Parser as parser;
 ghost use Rattle.fluent_text.specs.Lexical as spec;
-ghost use Rattle.fluent_syntax.specs.Classes.{class_test};
+ghost use Rattle.fluent_syntax.specs.Inside.Classes.{class_test};
 ghost use Rattle.fluent_text.specs.Reading.{passed};
 
 use crate::parser::lanes::{LANES, name_lanes, space_lanes};

@@ -2,11 +2,11 @@
 ghost use Rattle.std.specs.Prelude.{◌≡◌, ◌+◌, ◌^◌, ◌<◌, ◌++◌, [], Some, length, OnOk, IfOk, IsOk};
 ghost use Rattle.fluent_syntax.specs.Chunks as spec;
 ghost use Rattle.fluent_syntax.specs.Chunks.{entries, entry_starts, junk_ranges};
-ghost use Rattle.fluent_syntax.specs.Leaving.{LeavesEntry, LeavesError};
+ghost use Rattle.fluent_syntax.specs.Inside.Leaving.{LeavesEntry, LeavesError};
 ghost use Rattle.fluent_syntax.specs.Parsed.{HoldsEntries, HoldsErrors, HasSome, error_range};
-ghost use Rattle.fluent_syntax.specs.PartView.{part_view, chunk_view};
-ghost use Rattle.fluent_syntax.specs.Reading.{all};
-ghost use Rattle.fluent_tree.specs.View.{entry_view};
+ghost use Rattle.fluent_syntax.specs.Inside.PartView.{part_view, chunk_view};
+ghost use Rattle.fluent_syntax.specs.Inside.Reading.{all};
+ghost use Rattle.fluent_ast.specs.View.{entry_view};
 
 use crate::parser::entry::entry;
 use crate::parser::errors::ParseFault;
@@ -14,8 +14,8 @@ use crate::parser::junk::{comment_line, junk};
 use crate::parser::lines::blank_block;
 use crate::parser::list::push;
 use crate::parser::stop::Stop;
-use fluent_tree::ParserError;
-use fluent_tree::ast::{Entry, Resource};
+use fluent_ast::ParserError;
+use fluent_ast::ast::{Entry, Resource};
 use std::alloc::{AllocError, Global};
 
 /// What a chunk is.

@@ -1,11 +1,11 @@
 //! Messages and terms, with their attributes.
 ghost use Rattle.std.specs.Prelude.{◌≡◌};
 ghost use Rattle.fluent_syntax.specs.Entries as spec;
-ghost use Rattle.fluent_syntax.specs.Parts as parts;
+ghost use Rattle.fluent_syntax.specs.Inside.Parts as parts;
 ghost use Rattle.fluent_text.specs.Reading.{found, passed};
-ghost use Rattle.fluent_syntax.specs.Reading.{Gives, GivesMore};
-ghost use Rattle.fluent_syntax.specs.ContentView.{content_view};
-ghost use Rattle.fluent_tree.specs.View.{name_view, pattern_view, attribute_view, entry_view};
+ghost use Rattle.fluent_syntax.specs.Inside.Reading.{Gives, GivesMore};
+ghost use Rattle.fluent_syntax.specs.Inside.ContentView.{content_view};
+ghost use Rattle.fluent_ast.specs.View.{name_view, pattern_view, attribute_view, entry_view};
 
 use crate::parser::bytes::eat;
 use crate::parser::expression::inline_placeable;
@@ -13,7 +13,7 @@ use crate::parser::lines::{after_blank, after_spaces, identifier, line_end};
 use crate::parser::list::push;
 use crate::parser::pattern::pattern;
 use crate::parser::stop::Stop;
-use fluent_tree::ast::{Attribute, Entry, Identifier, Message, Pattern, Term};
+use fluent_ast::ast::{Attribute, Entry, Identifier, Message, Pattern, Term};
 use std::alloc::Global;
 
 /// How many placeables and argument lists of an entry may stand in one another.

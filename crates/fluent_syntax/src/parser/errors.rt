@@ -1,8 +1,8 @@
 //! Why a source was not read without a fault.
 ghost use Rattle.std.specs.Prelude.{◌≡◌};
 
-use fluent_tree::ParserError;
-use fluent_tree::ast::Resource;
+use fluent_ast::ParserError;
+use fluent_ast::ast::Resource;
 use std::alloc::AllocError;
 
 /// Why a source was not read without a fault.

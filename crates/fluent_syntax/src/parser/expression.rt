@@ -2,16 +2,16 @@
 ghost use Rattle.std.specs.Prelude.{◌≡◌};
 ghost use Rattle.fluent_syntax.specs.Expressions as spec;
 ghost use Rattle.fluent_syntax.specs.Expressions.{level};
-ghost use Rattle.fluent_syntax.specs.Reading.{Gives};
-ghost use Rattle.fluent_syntax.specs.Nests.{GivesBraces, GivesBrackets};
-ghost use Rattle.fluent_tree.specs.View.{inline_view, expression_view, arguments_view};
+ghost use Rattle.fluent_syntax.specs.Inside.Reading.{Gives};
+ghost use Rattle.fluent_syntax.specs.Inside.Nests.{GivesBraces, GivesBrackets};
+ghost use Rattle.fluent_ast.specs.View.{inline_view, expression_view, arguments_view};
 
 use crate::parser::bytes::eat;
 use crate::parser::inner::Inner;
 use crate::parser::lines::after_blank;
 use crate::parser::select::{arrow, is_selector};
 use crate::parser::stop::Stop;
-use fluent_tree::ast::{CallArguments, Expression, InlineExpression};
+use fluent_ast::ast::{CallArguments, Expression, InlineExpression};
 use std::alloc::Global;
 
 /// Whether an expression may stand between braces without variants.

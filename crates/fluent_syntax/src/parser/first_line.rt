@@ -3,20 +3,20 @@ ghost use Rattle.std.specs.Prelude.{◌≡◌, ◌==◌, ◌+◌, ◌++◌, [], 
 ghost use Rattle.fluent_text.specs.Lexical.{is_text};
 ghost use Rattle.fluent_text.specs.Parser.{first, run};
 ghost use Rattle.fluent_syntax.specs.Expressions.{level};
-ghost use Rattle.fluent_syntax.specs.FirstLine.{AppendsBoth, EndsFirstLine};
+ghost use Rattle.fluent_syntax.specs.Inside.FirstLine.{AppendsBoth, EndsFirstLine};
 ghost use Rattle.fluent_syntax.specs.Layout.{unless_empty};
-ghost use Rattle.fluent_syntax.specs.Nests.{GivesBraces};
-ghost use Rattle.fluent_syntax.specs.Progress.{closes_pattern, LineEndsPattern, IsFirstLine};
-ghost use Rattle.fluent_syntax.specs.Pushing.{Appends};
-ghost use Rattle.fluent_syntax.specs.Reading.{Gives, all};
-ghost use Rattle.fluent_tree.specs.View.{element_view, expression_view};
+ghost use Rattle.fluent_syntax.specs.Inside.Nests.{GivesBraces};
+ghost use Rattle.fluent_syntax.specs.Inside.Progress.{closes_pattern, LineEndsPattern, IsFirstLine};
+ghost use Rattle.fluent_syntax.specs.Inside.Pushing.{Appends};
+ghost use Rattle.fluent_syntax.specs.Inside.Reading.{Gives, all};
+ghost use Rattle.fluent_ast.specs.View.{element_view, expression_view};
 
 use crate::parser::bare::bare_placeable;
 use crate::parser::bytes::{Class, byte_at, split_run};
 use crate::parser::lines::{blank_block, line_break, line_indent};
 use crate::parser::list::push;
 use crate::parser::stop::Stop;
-use fluent_tree::ast::{Expression, PatternElement};
+use fluent_ast::ast::{Expression, PatternElement};
 use std::alloc::{AllocError, Global};
 
 /// What follows the elements of a pattern's first line.

@@ -1,15 +1,15 @@
 //! From the pieces of a pattern to its elements.
 ghost use Rattle.std.specs.Prelude.{true, ◌≡◌, map, replicate, IfOk, OnOk};
 ghost use Rattle.fluent_syntax.specs.Layout as spec;
-ghost use Rattle.fluent_tree.specs.View.{element_view};
-ghost use Rattle.fluent_syntax.specs.PieceView.{piece_view};
-ghost use Rattle.fluent_syntax.specs.Reading.{all};
-ghost use Rattle.fluent_syntax.specs.Trimmed.{AllStay, Stays};
-ghost use Rattle.fluent_syntax.specs.Backwards.{HoldsLines, Prepends, PrependsPiece, TellsStart};
+ghost use Rattle.fluent_ast.specs.View.{element_view};
+ghost use Rattle.fluent_syntax.specs.Inside.PieceView.{piece_view};
+ghost use Rattle.fluent_syntax.specs.Inside.Reading.{all};
+ghost use Rattle.fluent_syntax.specs.Inside.Trimmed.{AllStay, Stays};
+ghost use Rattle.fluent_syntax.specs.Inside.Backwards.{HoldsLines, Prepends, PrependsPiece, TellsStart};
 
 use crate::parser::list::push;
 use crate::parser::piece::{Piece, Slice};
-use fluent_tree::ast::PatternElement;
+use fluent_ast::ast::PatternElement;
 use std::alloc::{AllocError, Global};
 
 /// The elements of a pattern's pieces.

@@ -4,11 +4,11 @@ ghost use Rattle.fluent_text.specs.Parser as parser;
 ghost use Rattle.fluent_text.specs.Lexical as spec;
 ghost use Rattle.fluent_syntax.specs.Expressions as expression;
 ghost use Rattle.fluent_text.specs.Reading.{found, passed};
-ghost use Rattle.fluent_syntax.specs.Reading.{IsIndent};
-ghost use Rattle.fluent_tree.specs.View.{name_view, inline_view};
+ghost use Rattle.fluent_syntax.specs.Inside.Reading.{IsIndent};
+ghost use Rattle.fluent_ast.specs.View.{name_view, inline_view};
 
 use crate::parser::bytes::{Class, byte_at, eat, split_indent, split_run};
-use fluent_tree::ast::{Identifier, InlineExpression};
+use fluent_ast::ast::{Identifier, InlineExpression};
 
 #[inline(always)]
 #[tactic(auto, unfolding(fluent_text::specs::Lexical::identifier))]

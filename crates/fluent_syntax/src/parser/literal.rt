@@ -2,9 +2,9 @@
 ghost use Rattle.std.specs.Prelude.{◌≡◌, ◌-◌, ◌≤◌, Some, length, take, drop};
 ghost use Rattle.fluent_text.specs.Parser as parser;
 ghost use Rattle.fluent_syntax.specs.Expressions as spec;
-ghost use Rattle.fluent_syntax.specs.Parts as parts;
+ghost use Rattle.fluent_syntax.specs.Inside.Parts as parts;
 ghost use Rattle.fluent_text.specs.Reading.{found, passed};
-ghost use Rattle.fluent_syntax.specs.Reading.{text_view};
+ghost use Rattle.fluent_syntax.specs.Inside.Reading.{text_view};
 
 use crate::parser::bytes::{Class, byte_at, eat, split_run};
 

@@ -3,20 +3,20 @@ ghost use Rattle.std.specs.Prelude.{◌≡◌, true, Some, IfOk};
 ghost use Rattle.fluent_text.specs.Lexical.{is_text};
 ghost use Rattle.fluent_text.specs.Parser.{run};
 ghost use Rattle.fluent_syntax.specs.Expressions.{level};
-ghost use Rattle.fluent_syntax.specs.FirstLine.{IsPattern};
+ghost use Rattle.fluent_syntax.specs.Inside.FirstLine.{IsPattern};
 ghost use Rattle.fluent_syntax.specs.Pieces as spec;
 ghost use Rattle.fluent_syntax.specs.Layout.{unless_empty, trim_spaces};
-ghost use Rattle.fluent_syntax.specs.Reading.{Gives, all};
-ghost use Rattle.fluent_syntax.specs.Nests.{GivesBraces};
-ghost use Rattle.fluent_syntax.specs.Progress.{GivesWhole, pieces_of};
-ghost use Rattle.fluent_tree.specs.View.{element_view, pattern_view};
+ghost use Rattle.fluent_syntax.specs.Inside.Reading.{Gives, all};
+ghost use Rattle.fluent_syntax.specs.Inside.Nests.{GivesBraces};
+ghost use Rattle.fluent_syntax.specs.Inside.Progress.{GivesWhole, pieces_of};
+ghost use Rattle.fluent_ast.specs.View.{element_view, pattern_view};
 
 use crate::parser::bytes::{Class, split_run};
 use crate::parser::first_line::{Line, ends_pattern, first_line};
 use crate::parser::layout::{elements, trim_last, without_spaces};
 use crate::parser::pieces::{as_pieces, more_pieces};
 use crate::parser::stop::Stop;
-use fluent_tree::ast::{Expression, Pattern, PatternElement};
+use fluent_ast::ast::{Expression, Pattern, PatternElement};
 use std::alloc::{AllocError, Global};
 
 /// A pattern whose placeables are read by `braces`, no deeper than `depth`.

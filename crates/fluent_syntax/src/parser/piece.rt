@@ -2,12 +2,12 @@
 ghost use Rattle.std.specs.Prelude.{None, ◌≡◌, ◌<◌, ◌≤◌, ℕ, false, Some, length, drop, slice_index, unwrap_or, IfSome};
 ghost use Rattle.fluent_syntax.specs.Layout.{dedented};
 ghost use Rattle.fluent_syntax.specs.Pieces as spec;
-ghost use Rattle.fluent_syntax.specs.Slice.{IsFed};
+ghost use Rattle.fluent_syntax.specs.Inside.Slice.{IsFed};
 ghost use Rattle.fluent_text.specs.Reading.{found};
 
 use crate::parser::bytes::{Class, byte_at, run_len};
 use crate::parser::lines::{blank_block, line_indent};
-use fluent_tree::ast::Expression;
+use fluent_ast::ast::Expression;
 use std::marker::Model;
 
 /// Text of one line, after its indent where it stands at the start of the line.
@@ -27,7 +27,7 @@ impl<'s> Model for Slice<'s> {
 
     ghost coded = { words_code };
 
-    ghost use Rattle.fluent_syntax.specs.Slice.{words_of, HoldsInside};
+    ghost use Rattle.fluent_syntax.specs.Inside.Slice.{words_of, HoldsInside};
 
     ghost view = { words_of };
 

@@ -1,12 +1,12 @@
 //! The pieces of a pattern that has several lines.
 ghost use Rattle.std.specs.Prelude.{◌≡◌, IfOk};
 ghost use Rattle.fluent_syntax.specs.Expressions.{level};
-ghost use Rattle.fluent_syntax.specs.Nests.{GivesBraces};
+ghost use Rattle.fluent_syntax.specs.Inside.Nests.{GivesBraces};
 ghost use Rattle.fluent_syntax.specs.Pieces.{pattern_element, pieces};
-ghost use Rattle.fluent_syntax.specs.PieceView.{piece_view};
-ghost use Rattle.fluent_syntax.specs.Progress.{GivesWhole, PushesPieces, piece_of, pieces_of, ended, text_pieces, hole_pieces};
-ghost use Rattle.fluent_syntax.specs.Reading.{Gives, all};
-ghost use Rattle.fluent_tree.specs.View.{element_view, expression_view};
+ghost use Rattle.fluent_syntax.specs.Inside.PieceView.{piece_view};
+ghost use Rattle.fluent_syntax.specs.Inside.Progress.{GivesWhole, PushesPieces, piece_of, pieces_of, ended, text_pieces, hole_pieces};
+ghost use Rattle.fluent_syntax.specs.Inside.Reading.{Gives, all};
+ghost use Rattle.fluent_ast.specs.View.{element_view, expression_view};
 
 use crate::parser::bare::bare_placeable;
 use crate::parser::bytes::byte_at;
@@ -14,7 +14,7 @@ use crate::parser::lines::blank_block;
 use crate::parser::list::push;
 use crate::parser::piece::{Piece, Slice, block_text, indent, inline_text};
 use crate::parser::stop::Stop;
-use fluent_tree::ast::{Expression, PatternElement};
+use fluent_ast::ast::{Expression, PatternElement};
 use std::alloc::{AllocError, Global};
 
 /// How many pieces a list of them has room for at first: a pattern of three or four lines needs no more.

@@ -2,18 +2,18 @@
 ghost use Rattle.std.specs.Prelude.{◌≡◌, Some};
 ghost use Rattle.fluent_syntax.specs.Expressions as spec;
 ghost use Rattle.fluent_syntax.specs.Expressions.{level};
-ghost use Rattle.fluent_syntax.specs.Parts as parts;
+ghost use Rattle.fluent_syntax.specs.Inside.Parts as parts;
 ghost use Rattle.fluent_text.specs.Reading.{found};
-ghost use Rattle.fluent_syntax.specs.Reading.{Gives};
-ghost use Rattle.fluent_syntax.specs.Nests.{GivesBraces, GivesBrackets};
-ghost use Rattle.fluent_tree.specs.View.{name_view, inline_view, attribute_of, call_view};
+ghost use Rattle.fluent_syntax.specs.Inside.Reading.{Gives};
+ghost use Rattle.fluent_syntax.specs.Inside.Nests.{GivesBraces, GivesBrackets};
+ghost use Rattle.fluent_ast.specs.View.{name_view, inline_view, attribute_of, call_view};
 
 use crate::parser::bytes::{Class, byte_at, eat, run_len};
 use crate::parser::inner::Inner;
 use crate::parser::lines::{identifier, variable_reference};
 use crate::parser::literal::{number_literal, string_literal};
 use crate::parser::stop::Stop;
-use fluent_tree::ast::{CallArguments, Expression, Identifier, InlineExpression};
+use fluent_ast::ast::{CallArguments, Expression, Identifier, InlineExpression};
 use std::alloc::Global;
 
 /// A string or a number.

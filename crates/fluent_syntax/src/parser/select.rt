@@ -2,12 +2,12 @@
 ghost use Rattle.std.specs.Prelude.{◌≡◌, false};
 ghost use Rattle.fluent_syntax.specs.Expressions as spec;
 ghost use Rattle.fluent_syntax.specs.Expressions.{level, variant};
-ghost use Rattle.fluent_syntax.specs.Parts as parts;
+ghost use Rattle.fluent_syntax.specs.Inside.Parts as parts;
 ghost use Rattle.fluent_text.specs.Reading.{found, passed};
-ghost use Rattle.fluent_syntax.specs.Reading.{Gives, GivesMore, all};
-ghost use Rattle.fluent_syntax.specs.Nests.{GivesBraces};
-ghost use Rattle.fluent_syntax.specs.Pushing.{Pushes};
-ghost use Rattle.fluent_tree.specs.View.{key_view, inline_view, variant_view};
+ghost use Rattle.fluent_syntax.specs.Inside.Reading.{Gives, GivesMore, all};
+ghost use Rattle.fluent_syntax.specs.Inside.Nests.{GivesBraces};
+ghost use Rattle.fluent_syntax.specs.Inside.Pushing.{Pushes};
+ghost use Rattle.fluent_ast.specs.View.{key_view, inline_view, variant_view};
 
 use crate::parser::bytes::eat;
 use crate::parser::inner::Inner;
@@ -16,7 +16,7 @@ use crate::parser::list::push;
 use crate::parser::literal::number_literal;
 use crate::parser::pattern::pattern;
 use crate::parser::stop::Stop;
-use fluent_tree::ast::{CallArguments, Expression, InlineExpression, Variant, VariantKey};
+use fluent_ast::ast::{CallArguments, Expression, InlineExpression, Variant, VariantKey};
 use std::alloc::Global;
 
 /// Whether an expression may select a variant.

@@ -1,7 +1,7 @@
 -- Texts that go to a writer, or to a buffer beside it.
 use Rattle.std.proofs.Common.{◌≡◌, refl, sym, ap, subst, ◌∙◌, ℕ, List, [], ◌∷◌, ◌++◌, Bool, true, false, Option, Some, None, Result, Ok, OnOk, OnErr, Global, String, string_bytes}
 use Rattle.std.specs.Io.KnownBytes.{Appends}
-use Rattle.fluent_tree.specs.Tree.{Text}
+use Rattle.fluent_ast.specs.Tree.{Text}
 use Rattle.fluent_text.specs.Taken.{TookPrefix}
 use Rattle.fluent_text.specs.Writer.{writer_in, CountsFault}
 use Rattle.fluent_text.specs.declared.counting.WriteFault.{WriteFault}

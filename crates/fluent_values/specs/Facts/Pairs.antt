@@ -13,8 +13,8 @@ use Rattle.std.specs.List.Sorted.{IsSearchInRange, IsBinarySearchResult, IsNonDe
 use Rattle.std.proofs.Common.{sym, ap, subst, ◌∙◌, arith, length, get_or, set, Global}
 use Rattle.std.proofs.lemmas.List.{append-nil, append_assoc}
 use Rattle.std.proofs.lemmas.List.Sorted.{searchable_from_sorted}
-use Rattle.fluent_tree.specs.Tree.{Text}
-use Rattle.fluent_meaning.specs.Arguments.{set_all, IsInOrder}
+use Rattle.fluent_ast.specs.Tree.{Text}
+use Rattle.fluent_semantics.specs.Arguments.{set_all, IsInOrder}
 use Rattle.fluent_values.specs.Names.{NamesRise, IsPlaceOf, to_name}
 use Rattle.fluent_values.specs.Facts.Keyed.{both}
 use Rattle.fluent_values.specs.Facts.Ordered.{prefix_of, rest_of, less_of}

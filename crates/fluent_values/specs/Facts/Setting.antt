@@ -1,8 +1,8 @@
 -- Pairs that are set one after another.
 use Rattle.std.proofs.Common.{◌≡◌, List, [], ◌∷◌, ◌++◌, map, refl, sym, subst, Option, Some, Result, Ok, Err, OnErr}
 use Rattle.std.specs.Iterator.{Yields}
-use Rattle.fluent_tree.specs.Tree.{Text}
-use Rattle.fluent_meaning.specs.Arguments.{Map, set, set_all}
+use Rattle.fluent_ast.specs.Tree.{Text}
+use Rattle.fluent_semantics.specs.Arguments.{Map, set, set_all}
 use Rattle.fluent_values.specs.Args.{CanGive}
 
 module _ {A X : Type 0} (f : X → Text × A) where

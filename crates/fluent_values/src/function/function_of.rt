@@ -1,8 +1,8 @@
 //! A function kept beside the fact of what it answers.
 ghost use Rattle.std.specs.Prelude.{◌≡◌, List, Ok, IfOk};
-ghost use Rattle.fluent_tree.specs.Tree.{Text};
-ghost use Rattle.fluent_meaning.specs.Value.{Value};
-ghost use Rattle.fluent_meaning.specs.Arguments.{Map};
+ghost use Rattle.fluent_ast.specs.Tree.{Text};
+ghost use Rattle.fluent_semantics.specs.Value.{Value};
+ghost use Rattle.fluent_semantics.specs.Arguments.{Map};
 ghost use Rattle.fluent_values.specs.Answers.{IsAnswer};
 
 use crate::args::FluentArgs;

@@ -2,7 +2,7 @@
 ghost use Rattle.std.specs.Prelude.{◌≡◌, pos, string_bytes};
 ghost use Rattle.std.specs.Cow.{cow_str_bytes};
 ghost use Rattle.fluent_intl.specs.Number.{number_of};
-ghost use Rattle.fluent_meaning.specs.Value.{text_value, number_value};
+ghost use Rattle.fluent_semantics.specs.Value.{text_value, number_value};
 ghost use Rattle.fluent_values.specs.View.{value_view};
 ghost use Rattle.fluent_values.specs.Conversions.{or_nothing, whole_value};
 

@@ -1,6 +1,6 @@
 //! Values of the application's own.
 ghost use Rattle.std.specs.Prelude.{◌≡◌, [], Bool, true, IfOk, IsOk, string_bytes};
-ghost use Rattle.fluent_tree.specs.Tree.{Text};
+ghost use Rattle.fluent_ast.specs.Tree.{Text};
 
 use std::alloc::{AllocError, Global};
 

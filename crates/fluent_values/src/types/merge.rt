@@ -1,9 +1,9 @@
 //! Options of a number from named arguments.
 ghost use Rattle.std.specs.Prelude.{◌≡◌, OnOk, OnErr};
 ghost use Rattle.fluent_intl.specs.Options.{Options, options_of};
-ghost use Rattle.fluent_meaning.specs.Arguments as fin;
+ghost use Rattle.fluent_semantics.specs.Arguments as fin;
 ghost use Rattle.fluent_values.specs.View.{value_view, named};
-ghost use Rattle.fluent_values.specs.Merging.{merged, with_currency, with_one, with_rest, with_text, GivesCurrency, IsMadeBy};
+ghost use Rattle.fluent_values.specs.Inside.Merging.{merged, with_currency, with_one, with_rest, with_text, GivesCurrency, IsMadeBy};
 
 use crate::args::FluentArgs;
 use crate::types::{FluentType, FluentValue};

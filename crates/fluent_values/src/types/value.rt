@@ -1,13 +1,13 @@
 //! Values.
 ghost use Rattle.std.specs.Prelude.{◌≡◌, IfOk, IsOk};
-ghost use Rattle.fluent_meaning.specs.Value as meaning;
+ghost use Rattle.fluent_semantics.specs.Value as meaning;
 ghost use Rattle.fluent_values.specs.Shown.{are_same};
 ghost use Rattle.fluent_values.specs.View.{value_view};
 ghost use Rattle.fluent_values.specs.ValuesWithoutMemory.{IsBorrowed, IsTextless};
 
 use crate::types::FluentType;
 use fluent_intl::FluentNumber;
-use fluent_meaning::laws::numbers_read_as_defined;
+use fluent_semantics::laws::numbers_read_as_defined;
 use std::alloc::{AllocError, Global};
 use std::borrow::CowStr;
 use std::str::FromStr;

@@ -1,5 +1,5 @@
 use Rattle.std.proofs.Common.{[]}
-use Rattle.fluent_meaning.specs.Walk.{application}
+use Rattle.fluent_semantics.specs.Walk.{application}
 use Rattle.fluent_bundle.proofs.laws.limits_are_kept.Goals as goal
 
 pub returns : goal.returns

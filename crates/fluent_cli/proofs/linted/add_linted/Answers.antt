@@ -5,5 +5,5 @@ use Rattle.fluent_cli.proofs.linted.add_linted.Goals as goal
 
 pub returns : goal.returns
 returns c = λ yes.
-    let none : c.in_ok-list.list.items ≡ [] = cc (c.is_none.ensures yes, c.as_slice-2.ensures.value) in
-    none_fails (bundle_view c.args.bundle.now) c.args.resources.now c.in_ok-list.list.items none c.in_ok-list.ensures
+    let none : c.in_ok-list.list.items ≡ [] = cc (c.is_none-is_clean.ensures yes, c.as_slice.ensures.value) in
+    none_fails (bundle_view c.args.bundle.now) c.args.resources.now c.in_ok-list.list none c.in_ok-list.ensures

@@ -1,8 +1,8 @@
 use Rattle.std.proofs.Common.{◌≡◌, drop, map}
-use Rattle.fluent_tree.specs.Tree.{pattern_of}
-use Rattle.fluent_tree.specs.View.{element_view}
-use Rattle.fluent_tree.specs.References.{inlines_view, variants_view}
-use Rattle.fluent_cli.specs.Parts.{has_inlines, has_pattern, has_variants, sought_view}
+use Rattle.fluent_ast.specs.Tree.{pattern_of}
+use Rattle.fluent_ast.specs.View.{element_view}
+use Rattle.fluent_ast.specs.References.{inlines_view, variants_view}
+use Rattle.fluent_cli.specs.Inside.Parts.{has_inlines, has_pattern, has_variants, sought_view}
 use Rattle.fluent_cli.proofs.parts.+parts.Given as goal
 
 abbrev pub invariant-has-loop-element : goal.invariant-has-loop-element

@@ -1,7 +1,7 @@
 use Rattle.std.proofs.Common.{◌≡◌, drop}
-use Rattle.fluent_tree.specs.References.{nameds_view}
-use Rattle.fluent_clean.specs.Needs.{names_in}
-use Rattle.fluent_cli.specs.Parts.{gives}
+use Rattle.fluent_ast.specs.References.{nameds_view}
+use Rattle.fluent_lint.specs.Needs.{names_in}
+use Rattle.fluent_cli.specs.Inside.Parts.{gives}
 use Rattle.fluent_cli.proofs.parts.gives.Given as goal
 
 abbrev pub invariant-loop-argument : goal.invariant-loop-argument

@@ -1,5 +1,5 @@
 use Rattle.std.proofs.Common.{◌≡◌, [], map, drop}
-use Rattle.fluent_meaning.specs.Arguments.{set_all}
+use Rattle.fluent_semantics.specs.Arguments.{set_all}
 use Rattle.fluent_values.specs.View.{named}
 use Rattle.fluent_cli.specs.Shown.{argument, arguments_of}
 use Rattle.fluent_cli.proofs.show.arguments.Given as goal

@@ -1,5 +1,5 @@
 use Rattle.fluent_cli.specs.Language.{bundle_view}
-use Rattle.fluent_cli.specs.Silent.{AddsAsking}
+use Rattle.fluent_cli.specs.Inside.Silent.{AddsAsking}
 use Rattle.fluent_cli.proofs.silent.add_asking.Given as goal
 
 abbrev pub invariant-loop-variable : goal.invariant-loop-variable

@@ -1,6 +1,6 @@
 use Rattle.std.proofs.Common.{◌≡◌, ◌++◌, drop}
-use Rattle.fluent_tree.specs.View.{pattern_view}
-use Rattle.fluent_cli.specs.Silent.{ungiven}
+use Rattle.fluent_ast.specs.View.{pattern_view}
+use Rattle.fluent_cli.specs.Inside.Silent.{ungiven}
 use Rattle.fluent_cli.proofs.silent.add_ungiven.Given as goal
 
 abbrev pub invariant-loop-one : goal.invariant-loop-one

@@ -1,5 +1,5 @@
 use Rattle.fluent_cli.specs.Language.{bundle_view}
-use Rattle.fluent_cli.specs.Silent.{AreAsking}
+use Rattle.fluent_cli.specs.Inside.Silent.{AreAsking}
 use Rattle.fluent_cli.proofs.silent.asking_of.Given as goal
 
 abbrev pub invariant-loop-place : goal.invariant-loop-place

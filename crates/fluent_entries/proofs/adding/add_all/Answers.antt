@@ -1,7 +1,7 @@
 use Rattle.std.proofs.Common.{◌∙◌, ◌++◌, ap, sym, append_assoc, map, take}
-use Rattle.fluent_tree.specs.View.{entry_view}
-use Rattle.fluent_meaning.specs.Arguments.{set_all}
-use Rattle.fluent_meaning.specs.Bundle.{added, not_added}
+use Rattle.fluent_ast.specs.View.{entry_view}
+use Rattle.fluent_semantics.specs.Arguments.{set_all}
+use Rattle.fluent_semantics.specs.Bundle.{added, not_added}
 use Rattle.fluent_entries.specs.Inside.WaitingEntries.{at_index, given_by}
 use Rattle.fluent_entries.specs.EntryView.{ids}
 use Rattle.fluent_entries.specs.ErrorView.{error_view}

@@ -1,8 +1,8 @@
 use Rattle.std.proofs.Common.{◌≡◌, ◌++◌, take, map}
-use Rattle.fluent_tree.specs.Tree.{Text}
-use Rattle.fluent_tree.specs.View.{entry_view}
-use Rattle.fluent_meaning.specs.Bundle.{Function, added, not_added}
-use Rattle.fluent_entries.specs.Changes.{KeepsEntries}
+use Rattle.fluent_ast.specs.Tree.{Text}
+use Rattle.fluent_ast.specs.View.{entry_view}
+use Rattle.fluent_semantics.specs.Bundle.{Function, added, not_added}
+use Rattle.fluent_entries.specs.Inside.Changes.{KeepsEntries}
 use Rattle.fluent_entries.specs.EntryView.{ids}
 use Rattle.fluent_entries.specs.IdNumbers.{Grown}
 use Rattle.fluent_entries.specs.ErrorView.{error_view}

@@ -2,8 +2,8 @@ use Rattle.std.proofs.Common.{◌≡◌, ◌∙◌, ◌++◌, ◌∷◌, [], ap,
 use Rattle.std.proofs.lemmas.List.{append-nil, map-append}
 use Rattle.std.proofs.lemmas.Option.{slice_get_read}
 use Rattle.std.proofs.lemmas.Result.{on_ok_weaker}
-use Rattle.fluent_meaning.specs.Arguments.{get, set_all}
-use Rattle.fluent_meaning.specs.Bundle.{added, not_added}
+use Rattle.fluent_semantics.specs.Arguments.{get, set_all}
+use Rattle.fluent_semantics.specs.Bundle.{added, not_added}
 use Rattle.fluent_entries.specs.Inside.WaitingEntries.{given, given_at, given_by}
 use Rattle.fluent_entries.specs.EntryView.{ids}
 use Rattle.fluent_entries.specs.IdNumbers.{numbers, table}

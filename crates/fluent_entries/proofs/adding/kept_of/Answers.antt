@@ -1,6 +1,6 @@
 use Rattle.std.proofs.lemmas.Result.{IfOk-weaker}
 use Rattle.std.specs.Option.{option_map}
-use Rattle.fluent_tree.specs.View.{pattern_view}
+use Rattle.fluent_ast.specs.View.{pattern_view}
 use Rattle.fluent_entries.specs.KeptLinks.{IsKeptOf, Keeps, patterns}
 use Rattle.fluent_entries.specs.IdNumbers.{numbers, table}
 use Rattle.fluent_entries.proofs.Linking.{both_kept, still_value}

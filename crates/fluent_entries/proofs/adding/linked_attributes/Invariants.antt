@@ -1,5 +1,5 @@
 use Rattle.std.proofs.Common.{take}
-use Rattle.fluent_entries.specs.Changes.{KeepsEntries}
+use Rattle.fluent_entries.specs.Inside.Changes.{KeepsEntries}
 use Rattle.fluent_entries.specs.KeptLinks.{AreOf, patterns}
 use Rattle.fluent_entries.specs.IdNumbers.{Grown, numbers, table}
 use Rattle.fluent_entries.proofs.adding.linked_attributes.Given as goal

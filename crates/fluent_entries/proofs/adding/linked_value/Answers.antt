@@ -1,6 +1,6 @@
 use Rattle.std.proofs.Common.{◌∙◌, ap, sym, subst, None, Some}
 use Rattle.std.specs.Option.{option_map}
-use Rattle.fluent_tree.specs.View.{pattern_view}
+use Rattle.fluent_ast.specs.View.{pattern_view}
 use Rattle.fluent_entries.specs.KeptLinks.{IsValueKept}
 use Rattle.fluent_entries.specs.IdNumbers.{numbers, table}
 use Rattle.fluent_entries.proofs.Linking.{one_value, text_value}

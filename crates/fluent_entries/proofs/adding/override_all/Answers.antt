@@ -1,5 +1,5 @@
 use Rattle.std.proofs.Common.{◌∙◌, ◌++◌, ap, map, sym, take}
-use Rattle.fluent_tree.specs.View.{entry_view}
+use Rattle.fluent_ast.specs.View.{entry_view}
 use Rattle.fluent_entries.specs.Inside.WaitingEntries.{at_index, given, given_at}
 use Rattle.fluent_entries.proofs.Linking.{grown_twice}
 use Rattle.fluent_entries.proofs.Waiting.{given_append, one_more}

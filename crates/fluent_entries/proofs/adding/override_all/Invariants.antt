@@ -1,6 +1,6 @@
 use Rattle.std.proofs.Common.{◌≡◌, take, map}
-use Rattle.fluent_tree.specs.View.{entry_view}
-use Rattle.fluent_entries.specs.Changes.{KeepsEntries}
+use Rattle.fluent_ast.specs.View.{entry_view}
+use Rattle.fluent_entries.specs.Inside.Changes.{KeepsEntries}
 use Rattle.fluent_entries.specs.IdNumbers.{Grown}
 use Rattle.fluent_entries.specs.Inside.WaitingEntries.{AreReadyFor, given, given_by}
 use Rattle.fluent_entries.proofs.adding.override_all.Given as goal

@@ -1,6 +1,6 @@
 use Rattle.std.proofs.Common.{ap, sym, subst, ◌∙◌, ◌++◌, ◌∷◌, [], append_assoc}
 use Rattle.std.specs.Vec.Iter.{into_iter_items}
-use Rattle.fluent_meaning.specs.Arguments.{set_all}
+use Rattle.fluent_semantics.specs.Arguments.{set_all}
 use Rattle.fluent_entries.specs.EntryView.{ids}
 use Rattle.fluent_entries.specs.IdNumbers.{numbers, table}
 use Rattle.fluent_entries.specs.Inside.WaitingEntries.{AreReady, given_at, given_by}

@@ -1,6 +1,6 @@
 use Rattle.std.proofs.Common.{◌≡◌, drop, map}
-use Rattle.fluent_tree.specs.Tree.{pattern_of}
-use Rattle.fluent_tree.specs.View.{element_view, pattern_view}
+use Rattle.fluent_ast.specs.Tree.{pattern_of}
+use Rattle.fluent_ast.specs.View.{element_view, pattern_view}
 use Rattle.fluent_entries.specs.Texts.{is_text}
 use Rattle.fluent_entries.proofs.texts.is_text.Given as goal
 

@@ -1,6 +1,6 @@
 use Rattle.std.proofs.Common.{rules}
 use Rattle.std.proofs.lemmas.List.Sums.{fold-append}
-use Rattle.fluent_tree.specs.declared.ast.Expression.{the_lemmas}
+use Rattle.fluent_ast.specs.declared.ast.Expression.{the_lemmas}
 use Rattle.fluent_links.proofs.Fed.{elements_more, elements_end, variants_more, variants_end, positional_more, positional_end, named_more, named_end}
 use Rattle.fluent_links.proofs.hashing.+hashing.Goals as goal
 

@@ -1,8 +1,8 @@
 use Rattle.std.proofs.Common.{◌≡◌, drop, fold, map}
-use Rattle.fluent_tree.specs.Tree.{pattern_of}
-use Rattle.fluent_tree.specs.View.{element_view}
-use Rattle.fluent_tree.specs.References.{variants_view, inlines_view, nameds_view}
-use Rattle.fluent_links.specs.Hashed.{hashed, hashed_variants, hashed_positional, hashed_named}
+use Rattle.fluent_ast.specs.Tree.{pattern_of}
+use Rattle.fluent_ast.specs.View.{element_view}
+use Rattle.fluent_ast.specs.References.{variants_view, inlines_view, nameds_view}
+use Rattle.fluent_links.specs.Inside.Hashed.{hashed, hashed_variants, hashed_positional, hashed_named}
 use Rattle.fluent_links.proofs.hashing.+hashing.Given as goal
 
 abbrev pub invariant-hash_pattern-loop-element : goal.invariant-hash_pattern-loop-element

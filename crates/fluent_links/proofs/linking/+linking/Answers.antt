@@ -1,9 +1,9 @@
 use Rattle.std.proofs.Common.{[], ◌∷◌, ◌++◌, refl, ap, sym, ◌∙◌, arith, length, take}
 use Rattle.std.proofs.lemmas.List.{length-append, take_all}
-use Rattle.fluent_tree.specs.References.{a_function, a_message, a_term, in_arguments, in_call, in_expression, in_inline, references}
-use Rattle.fluent_tree.specs.ReferencesOf.{of_element, of_inline, of_inlines, of_nameds, of_variants}
-use Rattle.fluent_tree.specs.View.{arguments_view, call_view, expression_view, inline_view, pattern_view}
-use Rattle.fluent_tree.specs.declared.ast.CallArguments as of_call
+use Rattle.fluent_ast.specs.References.{a_function, a_message, a_term, in_arguments, in_call, in_expression, in_inline, references}
+use Rattle.fluent_ast.specs.ReferencesOf.{of_element, of_inline, of_inlines, of_nameds, of_variants}
+use Rattle.fluent_ast.specs.View.{arguments_view, call_view, expression_view, inline_view, pattern_view}
+use Rattle.fluent_ast.specs.declared.ast.CallArguments as of_call
 use Rattle.fluent_links.specs.CursorParts.{in_pattern_is, in_select_is, in_function_is, in_message_is, in_term_is, in_arguments_is}
 use Rattle.fluent_links.specs.CursorSteps.{in_elements, of_variant, of_named, element_in_turn, variant_in_turn, positional_in_turn, named_in_turn}
 use Rattle.fluent_links.specs.Slots.{slots}

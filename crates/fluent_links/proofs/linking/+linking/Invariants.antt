@@ -1,6 +1,6 @@
 use Rattle.std.proofs.Common.{take}
-use Rattle.fluent_tree.specs.ReferencesOf.{of_inlines, of_nameds, of_variants}
-use Rattle.fluent_links.specs.LinkGrowth.{AppendsLinks}
+use Rattle.fluent_ast.specs.ReferencesOf.{of_inlines, of_nameds, of_variants}
+use Rattle.fluent_links.specs.Inside.LinkGrowth.{AppendsLinks}
 use Rattle.fluent_links.specs.CursorSteps.{in_elements}
 use Rattle.fluent_links.specs.Slots.{slots}
 use Rattle.fluent_links.proofs.linking.+linking.Given as goal

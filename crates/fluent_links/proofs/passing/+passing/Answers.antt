@@ -1,8 +1,8 @@
 use Rattle.std.proofs.Common.{◌≡◌, ap, sym, subst, ◌∙◌, rules}
 use Rattle.std.proofs.lemmas.List.{drop_all, nil_from_length}
-use Rattle.fluent_tree.specs.References.{in_expression}
-use Rattle.fluent_tree.specs.ReferencesOf.{of_element, of_inline, of_inlines, of_nameds, of_variants}
-use Rattle.fluent_tree.specs.View.{expression_view}
+use Rattle.fluent_ast.specs.References.{in_expression}
+use Rattle.fluent_ast.specs.ReferencesOf.{of_element, of_inline, of_inlines, of_nameds, of_variants}
+use Rattle.fluent_ast.specs.View.{expression_view}
 use Rattle.fluent_links.specs.Links.{past}
 use Rattle.fluent_links.specs.CursorSteps.{passed, in_elements, of_variant, of_named, element_in_turn, variant_in_turn, positional_in_turn, named_in_turn}
 use Rattle.fluent_links.proofs.Passed.{ended, pattern_passed, select_passed, arguments_passed}

@@ -1,7 +1,7 @@
 use Rattle.std.proofs.Common.{◌≡◌, drop, map}
-use Rattle.fluent_tree.specs.Tree.{pattern_of}
-use Rattle.fluent_tree.specs.View.{element_view}
-use Rattle.fluent_tree.specs.References.{references, in_variants, in_positional, in_named, variants_view, inlines_view, nameds_view}
+use Rattle.fluent_ast.specs.Tree.{pattern_of}
+use Rattle.fluent_ast.specs.View.{element_view}
+use Rattle.fluent_ast.specs.References.{references, in_variants, in_positional, in_named, variants_view, inlines_view, nameds_view}
 use Rattle.fluent_links.specs.Links.{past}
 use Rattle.fluent_links.proofs.passing.+passing.Given as goal
 

@@ -1,5 +1,5 @@
 use Rattle.std.proofs.Common.{rules}
-use Rattle.fluent_tree.specs.declared.ast.Expression.{the_lemmas}
+use Rattle.fluent_ast.specs.declared.ast.Expression.{the_lemmas}
 use Rattle.fluent_lint.proofs.CountedEnds.{elements_counted, variants_counted, positional_counted, named_counted}
 use Rattle.fluent_lint.proofs.counting.+counting.Goals as goal
 

@@ -1,9 +1,9 @@
 use Rattle.std.proofs.Common.{◌≡◌, ◌+◌, ◌-◌, ◌≤◌, ◌^◌, max, drop, map}
-use Rattle.fluent_tree.specs.Tree.{pattern_of}
-use Rattle.fluent_tree.specs.View.{element_view}
-use Rattle.fluent_tree.specs.References.{inlines_view, nameds_view, variants_view}
-use Rattle.fluent_clean.specs.Placeables.{in_pattern, in_largest, in_positional, in_named}
-use Rattle.fluent_lint.specs.Table.{capped, count_of}
+use Rattle.fluent_ast.specs.Tree.{pattern_of}
+use Rattle.fluent_ast.specs.View.{element_view}
+use Rattle.fluent_ast.specs.References.{inlines_view, nameds_view, variants_view}
+use Rattle.fluent_lint.specs.Placeables.{in_pattern, in_largest, in_positional, in_named, capped}
+use Rattle.fluent_lint.specs.Inside.Table.{count_of}
 use Rattle.fluent_lint.proofs.counting.+counting.Given as goal
 
 abbrev pub invariant-most_opened-loop-element : goal.invariant-most_opened-loop-element

@@ -1,4 +1,4 @@
-use Rattle.fluent_meaning.specs.Meaning.{settling}
+use Rattle.fluent_semantics.specs.Meaning.{settling}
 use Rattle.fluent_lint.proofs.laws.fine_is_written.Goals as goal
 
 pub returns : goal.returns

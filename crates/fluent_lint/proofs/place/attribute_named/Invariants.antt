@@ -1,6 +1,6 @@
 use Rattle.std.proofs.Common.{◌≡◌, drop, map}
-use Rattle.fluent_tree.specs.View.{attribute_view}
-use Rattle.fluent_meaning.specs.Bundle.{first_of}
+use Rattle.fluent_ast.specs.View.{attribute_view}
+use Rattle.fluent_semantics.specs.Bundle.{first_of}
 use Rattle.fluent_lint.proofs.place.attribute_named.Given as goal
 
 -- the first of that name among those left is the first of all

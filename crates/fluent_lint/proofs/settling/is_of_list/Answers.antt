@@ -1,5 +1,5 @@
 use Rattle.std.proofs.Common.{inl, refl, sym, ap}
-use Rattle.fluent_tree.specs.View.{attribute_of}
+use Rattle.fluent_ast.specs.View.{attribute_of}
 use Rattle.fluent_lint.specs.NeedsView.{need_view}
 use Rattle.fluent_lint.specs.declared.place.Place.TheVariants as place
 use Rattle.fluent_lint.proofs.settling.is_of_list.Goals as goal

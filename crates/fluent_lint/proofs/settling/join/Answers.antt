@@ -1,9 +1,8 @@
 use Rattle.std.proofs.Common.{sym, ap, ◌∙◌}
-use Rattle.fluent_tree.specs.Tree.{is_yes}
-use Rattle.fluent_clean.specs.Clean.{IsAmong}
-use Rattle.fluent_clean.specs.Places.{place_same}
-use Rattle.fluent_lint.specs.Findings.{views}
-use Rattle.fluent_lint.specs.PlaceView.{place_view}
+use Rattle.fluent_ast.specs.Tree.{is_yes}
+use Rattle.fluent_lint.specs.Clean.{IsAmong}
+use Rattle.fluent_lint.specs.Places.{place_same}
+use Rattle.fluent_lint.specs.PlaceView.{views, place_view}
 use Rattle.fluent_lint.proofs.Gathering.{found_among, place_test}
 use Rattle.fluent_lint.proofs.Shared.{joined}
 use Rattle.fluent_lint.proofs.settling.join.Goals as goal

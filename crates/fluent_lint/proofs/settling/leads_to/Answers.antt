@@ -1,10 +1,10 @@
 use Rattle.std.proofs.Common.{◌≡◌, map, sym, ap, ◌∙◌}
-use Rattle.fluent_clean.specs.Places.{place_target}
+use Rattle.fluent_lint.specs.Places.{place_target}
 use Rattle.fluent_lint.specs.Inside.Reached.{needs_at, needs_there}
 use Rattle.fluent_lint.specs.NeedsView.{need_view}
 use Rattle.fluent_lint.specs.PlaceView.{place_view}
 use Rattle.fluent_lint.proofs.Growing.{among_at}
-use Rattle.fluent_lint.proofs.Reported.{some_there}
+use Rattle.fluent_lint.proofs.Explained.{some_there}
 use Rattle.fluent_lint.proofs.Shared.{leads_by}
 use Rattle.fluent_lint.proofs.settling.leads_to.Goals as goal
 

@@ -1,10 +1,10 @@
 use Rattle.std.proofs.Common.{rules, sym, ap, subst, ◌∙◌, Some, None}
 use Rattle.fluent_entries.specs.IdNumbers.{numbers, table}
-use Rattle.fluent_state.specs.Status.{state, state_parts}
+use Rattle.fluent_resolver_state.specs.Status.{state, state_parts}
 use Rattle.fluent_values.specs.Sinks.{outside}
 use Rattle.fluent_values.specs.View.{value_view}
 use Rattle.fluent_resolver.specs.Frames.{Along, IsPlacedCall, IsPlacedPurpose, gathers, made, values_view}
-use Rattle.fluent_resolver.specs.Waits.{values_in}
+use Rattle.fluent_resolver.specs.Inside.Waits.{values_in}
 use Rattle.fluent_resolver.proofs.Gathers.{gets_value}
 use Rattle.fluent_resolver.proofs.Going.{begun, lacks, turns, went_on}
 use Rattle.fluent_resolver.proofs.Laying.{viewed}

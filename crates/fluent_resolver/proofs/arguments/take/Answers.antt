@@ -1,10 +1,10 @@
 use Rattle.std.proofs.Common.{◌≡◌, rules, subst, ◌≤◌, length, true, ltb, get_or}
-use Rattle.fluent_tree.specs.References.{in_named}
-use Rattle.fluent_tree.specs.declared.ast.CallArguments as of_call
+use Rattle.fluent_ast.specs.References.{in_named}
+use Rattle.fluent_ast.specs.declared.ast.CallArguments as of_call
 use Rattle.fluent_links.specs.Cursors.{seen}
-use Rattle.fluent_state.specs.Gathered.{gathered, values_of}
+use Rattle.fluent_resolver_state.specs.Gathered.{gathered, values_of}
 use Rattle.fluent_values.specs.View.{value_view}
-use Rattle.fluent_resolver.specs.Held.{more_named}
+use Rattle.fluent_resolver.specs.Inside.Held.{more_named}
 use Rattle.fluent_resolver.proofs.Taking.{held_named, passed_first, passed_named}
 use Rattle.fluent_resolver.proofs.arguments.take.Goals as goal
 

@@ -1,10 +1,10 @@
 use Rattle.std.proofs.Common.{ap}
-use Rattle.fluent_tree.specs.References.{variants_view}
-use Rattle.fluent_state.specs.Status.{state, state_parts}
+use Rattle.fluent_ast.specs.References.{variants_view}
+use Rattle.fluent_resolver_state.specs.Status.{state, state_parts}
 use Rattle.fluent_values.specs.Sinks.{outside}
 use Rattle.fluent_resolver.specs.Frames.{made, selector_value, values_view}
-use Rattle.fluent_resolver.specs.Parts as parts
-use Rattle.fluent_resolver.specs.Waits.{values_in}
+use Rattle.fluent_resolver.specs.Inside.Parts as parts
+use Rattle.fluent_resolver.specs.Inside.Waits.{values_in}
 use Rattle.fluent_resolver.proofs.Going.{begun, turns, went_on}
 use Rattle.fluent_resolver.proofs.Laying.{viewed}
 use Rattle.fluent_resolver.proofs.expression.choose_given.Goals as goal

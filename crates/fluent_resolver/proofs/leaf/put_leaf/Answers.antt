@@ -1,15 +1,15 @@
 use Rattle.std.proofs.Common.{refl, sym, ap, ◌∙◌, None}
-use Rattle.fluent_tree.specs.View.{inline_view}
+use Rattle.fluent_ast.specs.View.{inline_view}
 use Rattle.fluent_text.specs.Escapes.{unescaped}
-use Rattle.fluent_meaning.specs.Arguments.{get}
-use Rattle.fluent_meaning.specs.Bundle.{shown}
-use Rattle.fluent_meaning.specs.Value.{try_number}
-use Rattle.fluent_meaning.specs.Walk.{variables}
-use Rattle.fluent_state.specs.Facts.Views.{view_number_in, view_string_in, view_variable_in}
-use Rattle.fluent_state.specs.Happened.{variable_errors, variable_shown}
-use Rattle.fluent_state.specs.Status.{state, state_parts}
+use Rattle.fluent_semantics.specs.Arguments.{get}
+use Rattle.fluent_semantics.specs.Bundle.{shown}
+use Rattle.fluent_semantics.specs.Value.{try_number}
+use Rattle.fluent_semantics.specs.Walk.{variables}
+use Rattle.fluent_resolver_state.specs.Facts.Views.{view_number_in, view_string_in, view_variable_in}
+use Rattle.fluent_resolver_state.specs.Happened.{variable_errors, variable_shown}
+use Rattle.fluent_resolver_state.specs.Status.{state, state_parts}
 use Rattle.fluent_values.specs.Sinks.{outside}
-use Rattle.fluent_resolver.specs.Parts as parts
+use Rattle.fluent_resolver.specs.Inside.Parts as parts
 use Rattle.fluent_resolver.proofs.Going.{begun, turns}
 use Rattle.fluent_resolver.proofs.Laying.{laid, laid_last, put, viewed}
 use Rattle.fluent_resolver.proofs.Unbraced.{variable_is, written_number, written_string}

@@ -1,12 +1,12 @@
 use Rattle.std.proofs.Common.{refl, rules, sym, ap, ◌∙◌, Some, None}
-use Rattle.fluent_tree.specs.References.{variants_view}
-use Rattle.fluent_state.specs.Facts.Happening.{happened_as}
-use Rattle.fluent_state.specs.Status.{environment_view, state, state_parts}
+use Rattle.fluent_ast.specs.References.{variants_view}
+use Rattle.fluent_resolver_state.specs.Facts.Happening.{happened_as}
+use Rattle.fluent_resolver_state.specs.Status.{environment_view, state, state_parts}
 use Rattle.fluent_values.specs.Sinks.{outside}
 use Rattle.fluent_values.specs.View.{value_view}
 use Rattle.fluent_resolver.specs.Frames.{frame, kept_before, made, selector_value, values_view}
-use Rattle.fluent_resolver.specs.Parts as parts
-use Rattle.fluent_resolver.specs.Waits.{frames_in, values_in}
+use Rattle.fluent_resolver.specs.Inside.Parts as parts
+use Rattle.fluent_resolver.specs.Inside.Waits.{frames_in, values_in}
 use Rattle.fluent_resolver.proofs.Going.{begun, finishes, goes, halts, passes, turns, went_on}
 use Rattle.fluent_resolver.proofs.Laying.{kept_of, viewed}
 use Rattle.fluent_resolver.proofs.Moving.{elsewhere, moves, path_is}

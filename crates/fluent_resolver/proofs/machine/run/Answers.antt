@@ -1,8 +1,8 @@
 use Rattle.std.proofs.Common.{◌≡◌, ◌+◌, rules, sym, ap, arith, length, [], None}
-use Rattle.fluent_state.specs.Status.{state, state_parts}
+use Rattle.fluent_resolver_state.specs.Status.{state, state_parts}
 use Rattle.fluent_values.specs.Sinks.{outside}
 use Rattle.fluent_resolver.specs.Frames.{at_end, frame, made, onto, values_view}
-use Rattle.fluent_resolver.specs.Waits.{frames_in, values_in}
+use Rattle.fluent_resolver.specs.Inside.Waits.{frames_in, values_in}
 use Rattle.fluent_resolver.proofs.Going.{begun, goes, turns, with_fewer}
 use Rattle.fluent_resolver.proofs.Laying.{viewed}
 use Rattle.fluent_resolver.proofs.Pushing.{ready_still}

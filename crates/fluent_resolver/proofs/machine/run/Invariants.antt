@@ -1,8 +1,8 @@
 use Rattle.std.proofs.Common.{◌≡◌, ◌+◌, ◌*◌, length, [], None}
-use Rattle.fluent_state.specs.Status.{state}
+use Rattle.fluent_resolver_state.specs.Status.{state}
 use Rattle.fluent_values.specs.Sinks.{outside}
 use Rattle.fluent_resolver.specs.Frames.{Along, ArePlacedFrames, at_end, before, made, onto, values_view}
-use Rattle.fluent_resolver.specs.Waits.{frames_in, values_in}
+use Rattle.fluent_resolver.specs.Inside.Waits.{frames_in, values_in}
 use Rattle.fluent_resolver.proofs.Laying.{viewed}
 use Rattle.fluent_resolver.proofs.machine.run.Given as goal
 

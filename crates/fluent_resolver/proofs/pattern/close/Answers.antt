@@ -1,10 +1,10 @@
 use Rattle.std.proofs.Common.{rules, refl}
-use Rattle.fluent_tree.specs.View.{expression_view}
-use Rattle.fluent_tree.specs.Fallback.{fallback_of}
-use Rattle.fluent_meaning.specs.Meaning.{ending, last_mark}
-use Rattle.fluent_state.specs.Status.{state, state_parts}
+use Rattle.fluent_ast.specs.View.{expression_view}
+use Rattle.fluent_ast.specs.Fallback.{fallback_of}
+use Rattle.fluent_semantics.specs.Meaning.{ending, last_mark}
+use Rattle.fluent_resolver_state.specs.Status.{state, state_parts}
 use Rattle.fluent_values.specs.Sinks.{outside}
-use Rattle.fluent_resolver.specs.Parts.{text_then}
+use Rattle.fluent_resolver.specs.Inside.Parts.{text_then}
 use Rattle.fluent_resolver.proofs.Laying.{laid_halts, laid_last, laid_ok, put, viewed}
 use Rattle.fluent_resolver.proofs.Going.{begun, turns}
 use Rattle.fluent_resolver.proofs.TextsInTurn.{texts_in_turn}

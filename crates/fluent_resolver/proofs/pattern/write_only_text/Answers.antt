@@ -1,8 +1,8 @@
 use Rattle.std.proofs.Common.{◌≡◌, refl, sym, ◌∙◌, None, true≢false}
-use Rattle.fluent_meaning.specs.Meaning.{limit_reached}
-use Rattle.fluent_state.specs.Status.{state, state_parts}
+use Rattle.fluent_semantics.specs.Meaning.{limit_reached}
+use Rattle.fluent_resolver_state.specs.Status.{state, state_parts}
 use Rattle.fluent_values.specs.Sinks.{outside}
-use Rattle.fluent_resolver.specs.Parts.{text_alone, text_then}
+use Rattle.fluent_resolver.specs.Inside.Parts.{text_alone, text_then}
 use Rattle.fluent_resolver.proofs.Going.{begun, finishes, passes, starts, turns}
 use Rattle.fluent_resolver.proofs.Laying.{kept_of, laid_last, put, viewed}
 use Rattle.fluent_resolver.proofs.Moving.{moves}

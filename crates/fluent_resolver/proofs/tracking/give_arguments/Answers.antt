@@ -1,12 +1,12 @@
 use Rattle.std.proofs.Common.{refl, rules, sym, ap, ◌∙◌, None, Some}
-use Rattle.fluent_tree.specs.View.{arguments_view}
-use Rattle.fluent_state.specs.Status.{state, state_parts}
+use Rattle.fluent_ast.specs.View.{arguments_view}
+use Rattle.fluent_resolver_state.specs.Status.{state, state_parts}
 use Rattle.fluent_values.specs.Facts.Took.{at_ok}
 use Rattle.fluent_values.specs.Sinks.{outside}
 use Rattle.fluent_resolver.specs.Frames.{at_end, before, made, values_view}
-use Rattle.fluent_resolver.specs.Parts as parts
+use Rattle.fluent_resolver.specs.Inside.Parts as parts
 use Rattle.fluent_resolver.specs.Scoped.{given_values}
-use Rattle.fluent_resolver.specs.Waits.{frames_in, values_in}
+use Rattle.fluent_resolver.specs.Inside.Waits.{frames_in, values_in}
 use Rattle.fluent_resolver.proofs.Going.{begun, goes, turns}
 use Rattle.fluent_resolver.proofs.Laying.{viewed}
 use Rattle.fluent_resolver.proofs.Running.{ends_err}

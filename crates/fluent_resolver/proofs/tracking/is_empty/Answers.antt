@@ -1,6 +1,6 @@
 use Rattle.std.specs.Prelude.{nat_eq, ◌&&◌}
 use Rattle.std.proofs.Common.{◌≡◌, ap, sym, ◌∙◌, length, rules}
-use Rattle.fluent_tree.specs.declared.ast.CallArguments as of_call
+use Rattle.fluent_ast.specs.declared.ast.CallArguments as of_call
 use Rattle.fluent_resolver.proofs.NoArguments.{are_none_at}
 use Rattle.fluent_resolver.proofs.tracking.is_empty.Goals as goal
 

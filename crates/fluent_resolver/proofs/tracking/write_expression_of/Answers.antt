@@ -1,13 +1,13 @@
 use Rattle.std.proofs.Common.{rules, ap, sym, arith, false, None}
-use Rattle.fluent_tree.specs.Tree.{Text}
-use Rattle.fluent_tree.specs.View.{expression_view}
-use Rattle.fluent_meaning.specs.Bundle.{Bundle}
-use Rattle.fluent_state.specs.Status.{state, state_parts}
+use Rattle.fluent_ast.specs.Tree.{Text}
+use Rattle.fluent_ast.specs.View.{expression_view}
+use Rattle.fluent_semantics.specs.Bundle.{Bundle}
+use Rattle.fluent_resolver_state.specs.Status.{state, state_parts}
 use Rattle.fluent_values.specs.Sinks.{outside}
 use Rattle.fluent_resolver.specs.Frames.{at_end, before, values_view}
-use Rattle.fluent_resolver.specs.Parts as parts
-use Rattle.fluent_resolver.specs.Parts.{Following}
-use Rattle.fluent_resolver.specs.Waits.{frames_in, values_in}
+use Rattle.fluent_resolver.specs.Inside.Parts as parts
+use Rattle.fluent_resolver.specs.Inside.Parts.{Following}
+use Rattle.fluent_resolver.specs.Inside.Waits.{frames_in, values_in}
 use Rattle.fluent_resolver.proofs.Going.{goes, turns, waits}
 use Rattle.fluent_resolver.proofs.Laying.{viewed}
 use Rattle.fluent_resolver.proofs.Pushing.{placed_pushed}

@@ -1,12 +1,12 @@
 use Rattle.std.proofs.Common.{refl, rules, ap, ◌∙◌, None}
-use Rattle.fluent_tree.specs.View.{pattern_view}
-use Rattle.fluent_meaning.specs.Walk.{has_one}
-use Rattle.fluent_state.specs.Facts.Views.{view_pattern}
-use Rattle.fluent_state.specs.Status.{state, state_parts}
+use Rattle.fluent_ast.specs.View.{pattern_view}
+use Rattle.fluent_semantics.specs.Walk.{has_one}
+use Rattle.fluent_resolver_state.specs.Facts.Views.{view_pattern}
+use Rattle.fluent_resolver_state.specs.Status.{state, state_parts}
 use Rattle.fluent_values.specs.Sinks.{outside}
 use Rattle.fluent_resolver.specs.Frames.{at_end, elements_from, values_view}
-use Rattle.fluent_resolver.specs.Parts as parts
-use Rattle.fluent_resolver.specs.Waits.{frames_in, values_in}
+use Rattle.fluent_resolver.specs.Inside.Parts as parts
+use Rattle.fluent_resolver.specs.Inside.Waits.{frames_in, values_in}
 use Rattle.fluent_resolver.proofs.Beginning.{begins_pattern}
 use Rattle.fluent_resolver.proofs.Going.{goes, starts, turns}
 use Rattle.fluent_resolver.proofs.Laying.{viewed}

@@ -1,8 +1,8 @@
 use Rattle.std.proofs.Common.{◌+◌, ◌<◌, ◌≤◌, suc, map, length, take, drop, ap, arith}
-use Rattle.fluent_tree.specs.View.{attribute_view}
+use Rattle.fluent_ast.specs.View.{attribute_view}
 use Rattle.fluent_bundle.specs.BundleView.{meant}
 use Rattle.fluent_bundle.specs.Formatted.{errors_of}
-use Rattle.fluent_resolver.specs.Status.{arguments_view}
+use Rattle.fluent_resolver_state.specs.Status.{arguments_view}
 use Rattle.fluent_bundle.proofs.Parts.{all_parts, errors_more, prefix_at, prefix_of_all, prefix_of_done, one_more, texts_more}
 use Rattle.fluent_bundle.proofs.bundle.FluentBundle.format_attributes.Goals as goal
 

@@ -1,8 +1,8 @@
 use Rattle.std.proofs.Common.{◌≡◌, map, take}
-use Rattle.fluent_tree.specs.View.{attribute_view}
+use Rattle.fluent_ast.specs.View.{attribute_view}
 use Rattle.fluent_bundle.specs.BundleView.{meant}
 use Rattle.fluent_bundle.specs.Formatted.{AddsAll, attribute_errors, attribute_shown, attribute_texts}
-use Rattle.fluent_resolver.specs.Status.{arguments_view}
+use Rattle.fluent_resolver_state.specs.Status.{arguments_view}
 use Rattle.fluent_bundle.proofs.bundle.FluentBundle.format_attributes.Given as goal
 
 -- the texts and the errors of the attributes so far

@@ -1,9 +1,9 @@
 use Rattle.std.proofs.Common.{sym, ap, ◌∙◌}
 use Rattle.std.specs.Option.{option_map, unwrap_or}
-use Rattle.fluent_tree.specs.View.{pattern_view}
-use Rattle.fluent_meaning.specs.Bundle.{transform_of, formatter_of}
+use Rattle.fluent_ast.specs.View.{pattern_view}
+use Rattle.fluent_semantics.specs.Bundle.{transform_of, formatter_of}
 use Rattle.fluent_bundle.specs.BundleView.{formatter_in, intls_in, meant, transform_in}
-use Rattle.fluent_resolver.specs.Status.{arguments_view}
+use Rattle.fluent_resolver_state.specs.Status.{arguments_view}
 use Rattle.fluent_bundle.proofs.Givings.{borrowed_where, no_prefix_added, none_added, sole_formatted, sole_known}
 use Rattle.fluent_bundle.proofs.bundle.FluentBundle.format_linked.Goals as goal
 

@@ -1,5 +1,5 @@
 use Rattle.std.proofs.Common.{refl, sym, [], append-nil}
-use Rattle.fluent_resolver.specs.Status.{reported}
+use Rattle.fluent_resolver_state.specs.Status.{reported}
 use Rattle.fluent_bundle.proofs.bundle.FluentBundle.format_message.Goals as goal
 
 pub returns-in-None-clause-prefix : goal.returns-in-None-clause-prefix

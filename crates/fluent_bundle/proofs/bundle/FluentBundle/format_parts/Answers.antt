@@ -1,9 +1,9 @@
 use Rattle.std.proofs.Common.{rules, ◌≡◌}
 use Rattle.std.specs.Option.{option_map}
-use Rattle.fluent_tree.specs.View.{pattern_view}
+use Rattle.fluent_ast.specs.View.{pattern_view}
 use Rattle.fluent_bundle.specs.BundleView.{meant}
 use Rattle.fluent_bundle.specs.Formatted.{value_errors}
-use Rattle.fluent_resolver.specs.Status.{arguments_view}
+use Rattle.fluent_resolver_state.specs.Status.{arguments_view}
 use Rattle.fluent_bundle.proofs.Parts.{prefix_first, prefix_of_all, parts_all, parts_prefix}
 use Rattle.fluent_bundle.proofs.bundle.FluentBundle.format_parts.Goals as goal
 

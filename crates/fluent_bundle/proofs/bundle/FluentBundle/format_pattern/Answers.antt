@@ -1,6 +1,6 @@
-use Rattle.fluent_tree.specs.View.{pattern_view}
+use Rattle.fluent_ast.specs.View.{pattern_view}
 use Rattle.fluent_bundle.specs.BundleView.{meant}
-use Rattle.fluent_resolver.specs.Status.{arguments_view}
+use Rattle.fluent_resolver_state.specs.Status.{arguments_view}
 use Rattle.fluent_bundle.proofs.Givings.{gives_within}
 use Rattle.fluent_bundle.proofs.bundle.FluentBundle.format_pattern.Goals as goal
 

@@ -1,5 +1,5 @@
 use Rattle.std.proofs.Common.{refl, sym, [], append-nil}
-use Rattle.fluent_resolver.specs.Status.{reported}
+use Rattle.fluent_resolver_state.specs.Status.{reported}
 use Rattle.fluent_bundle.proofs.bundle.FluentBundle.gather.Goals as goal
 
 pub returns-in_err-text-clause-prefix : goal.returns-in_err-text-clause-prefix

@@ -1,5 +1,5 @@
 use Rattle.std.proofs.Common.{◌≡◌, ◌∙◌, List, [], ◌∷◌, map, refl, rules}
-use Rattle.fluent_tree.specs.View.{entry_view}
+use Rattle.fluent_ast.specs.View.{entry_view}
 use Rattle.fluent_bundle.proofs.bundle.FluentBundle.take_resource.Goals as goal
 
 nothing_mapped : {A B : Type 0} (f : A → B) (xs : List A) → map f xs ≡ [] → xs ≡ []

@@ -1,6 +1,6 @@
 use Rattle.std.proofs.Common.{sym, ap, subst, ◌∙◌}
-use Rattle.fluent_tree.specs.View.{attribute_of}
-use Rattle.fluent_resolver.specs.FoundView.{IsLed, found_view}
+use Rattle.fluent_ast.specs.View.{attribute_of}
+use Rattle.fluent_resolver_state.specs.FoundView.{IsLed, found_view}
 use Rattle.fluent_bundle.specs.BundleView.{bundle_parts, entries_in, meant}
 use Rattle.fluent_bundle.proofs.Asked.{asked, pattern_in}
 use Rattle.fluent_bundle.proofs.bundle.FluentBundle.target.Goals as goal

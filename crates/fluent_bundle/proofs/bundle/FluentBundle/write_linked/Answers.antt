@@ -1,11 +1,11 @@
 use Rattle.std.proofs.Common.{rules, ◌≡◌, refl, sym, ap, ◌∙◌}
 use Rattle.std.specs.Option.{option_map}
-use Rattle.fluent_tree.specs.Tree.{Text}
-use Rattle.fluent_tree.specs.View.{pattern_view}
-use Rattle.fluent_meaning.specs.Bundle.{transform_of}
+use Rattle.fluent_ast.specs.Tree.{Text}
+use Rattle.fluent_ast.specs.View.{pattern_view}
+use Rattle.fluent_semantics.specs.Bundle.{transform_of}
 use Rattle.fluent_values.specs.Facts.Took.{took_by}
 use Rattle.fluent_values.specs.Sinks.{without_error, writer}
-use Rattle.fluent_resolver.specs.Status.{arguments_view}
+use Rattle.fluent_resolver_state.specs.Status.{arguments_view}
 use Rattle.fluent_bundle.specs.BundleView.{meant, transform_in}
 use Rattle.fluent_bundle.specs.Formatted.{Writes, written_events}
 use Rattle.fluent_bundle.proofs.Events.{sole_events}

@@ -1,10 +1,10 @@
 use Rattle.std.proofs.Common.{◌≡◌, ap, sym, ◌∙◌}
 use Rattle.std.specs.Option.{option_map}
-use Rattle.fluent_tree.specs.Tree.{Text}
-use Rattle.fluent_tree.specs.View.{pattern_view}
-use Rattle.fluent_meaning.specs.Bundle.{transform_of}
+use Rattle.fluent_ast.specs.Tree.{Text}
+use Rattle.fluent_ast.specs.View.{pattern_view}
+use Rattle.fluent_semantics.specs.Bundle.{transform_of}
 use Rattle.fluent_bundle.specs.BundleView.{meant, transform_in}
-use Rattle.fluent_resolver.specs.Status.{arguments_view}
+use Rattle.fluent_resolver_state.specs.Status.{arguments_view}
 use Rattle.fluent_bundle.proofs.Events.{texts_events}
 use Rattle.fluent_bundle.proofs.Formats.{took_outside, writes_text}
 use Rattle.fluent_bundle.proofs.Givings.{texts_where}

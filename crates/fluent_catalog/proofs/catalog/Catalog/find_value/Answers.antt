@@ -1,9 +1,9 @@
-use Rattle.std.proofs.Common.{◌≡◌, ◌∙◌, ap}
+use Rattle.std.proofs.Common.{◌≡◌, ◌∙◌, ap, map}
 use Rattle.std.specs.List.{slice_get}
 use Rattle.std.specs.Option.{option_and_then}
-use Rattle.fluent_bundle.specs.BundleView.{meant}
-use Rattle.fluent_chain.specs.Chain.{value_at, index_with}
-use Rattle.fluent_chain.specs.ChainView.{bundles_of}
+use Rattle.fluent_bundle.specs.BundleView.{value_at, meant}
+use Rattle.fluent_fallback.specs.Chain.{index_with}
+use Rattle.fluent_fallback.specs.ChainView.{bundles_of}
 use Rattle.fluent_catalog.specs.CatalogView.{bundles_in, tags_in}
 use Rattle.fluent_catalog.proofs.catalog.Catalog.find_value.Goals as goal
 
@@ -11,4 +11,4 @@ pub returns : goal.returns
 returns g c =
     let of = meant g.M.MemoizerKind.category g.C.FluentType.shown g.C.FluentType.alike g.F.FluentFunction.answer g.G.FluentFormatter.formatted g.T.Transform.changed in
     let asked : bundles_of c.of.result ≡ bundles_in c.args.self.now = c.of.ensures ∙ c.as_slice.ensures.value in
-    c.tag_at.ensures ∙ ap (option_and_then (slice_get (tags_in c.args.self.now))) (c.find_value.ensures ∙ ap (index_with (λ b. value_at c.args.id.now (of b))) asked)
+    c.tag_at.ensures ∙ ap (option_and_then (slice_get (tags_in c.args.self.now))) (c.find_value.ensures ∙ ap (λ bundles. index_with (value_at c.args.id.now) (map of bundles)) asked)

@@ -1,6 +1,6 @@
 use Rattle.std.proofs.Common.{ap, ◌∙◌, map}
-use Rattle.fluent_tree.specs.View.{entry_view}
-use Rattle.fluent_meaning.specs.Arguments.{set_all}
+use Rattle.fluent_ast.specs.View.{entry_view}
+use Rattle.fluent_semantics.specs.Arguments.{set_all}
 use Rattle.fluent_entries.specs.EntryView.{ids}
 use Rattle.fluent_entries.specs.Inside.WaitingEntries.{given}
 use Rattle.fluent_entries.proofs.Waiting.{overridden_given}

@@ -1,5 +1,5 @@
 use Rattle.std.proofs.Common.{◌≡◌, ◌∙◌, ap}
-use Rattle.fluent_tree.specs.Tree.{Text}
+use Rattle.fluent_ast.specs.Tree.{Text}
 use Rattle.fluent_links.specs.Slots.{slots, named, number}
 use Rattle.fluent_links.specs.Table.{table as contents}
 use Rattle.fluent_entries.specs.EntryView.{ids, entry_of}

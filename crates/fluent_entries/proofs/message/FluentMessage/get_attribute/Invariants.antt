@@ -1,5 +1,5 @@
 use Rattle.std.proofs.Common.{◌≡◌, drop, map}
-use Rattle.fluent_tree.specs.View.{attribute_view}
+use Rattle.fluent_ast.specs.View.{attribute_view}
 use Rattle.fluent_entries.specs.MessageView.{first_named}
 use Rattle.fluent_entries.proofs.message.FluentMessage.get_attribute.Given as goal
 

@@ -1,7 +1,6 @@
 use Rattle.std.proofs.Common.{rules, ◌≡◌, ◌∙◌, ap, subst, sym}
 use Rattle.std.specs.Str.Parse.{starts_with_minus, without_leading_sign}
-use Rattle.fluent_intl.specs.Decimal.{signed}
-use Rattle.fluent_intl.specs.Decimal.{ReadsUnsigned}
+use Rattle.fluent_intl.specs.Decimal.{signed, ReadsUnsigned}
 use Rattle.fluent_intl.proofs.decimal.Decimal.from_text.Goals as goal
 
 pub returns-in-Some : goal.returns-in-Some

@@ -1,6 +1,6 @@
 use Rattle.std.proofs.Common.{◌∙◌, ap, sym, subst, map}
 use Rattle.fluent_links.specs.Classes.{HasClass}
-use Rattle.fluent_links.specs.Content.{content}
+use Rattle.fluent_links.specs.Inside.Content.{content}
 use Rattle.fluent_links.proofs.Distinct.{distinct, kept_in, class_is, stored_in}
 use Rattle.fluent_links.proofs.classes.Classes.class_of.Goals as goal
 

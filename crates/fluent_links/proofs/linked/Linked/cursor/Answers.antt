@@ -1,8 +1,8 @@
 use Rattle.std.proofs.Common.{sym, subst, ◌∙◌}
-use Rattle.fluent_tree.specs.References.{references}
+use Rattle.fluent_ast.specs.References.{references}
 use Rattle.fluent_links.specs.Links.{IsBefore}
 use Rattle.fluent_links.specs.Linked.{links_of}
-use Rattle.fluent_links.specs.LinkNumbers.{are_links}
+use Rattle.fluent_links.specs.Inside.LinkNumbers.{are_links}
 use Rattle.fluent_links.proofs.linked.Linked.cursor.Goals as goal
 
 pub returns-clause-before : goal.returns-clause-before

@@ -1,6 +1,6 @@
 use Rattle.std.proofs.Common.{[], Some, arith, map, ap, sym, rules, ◌≡◌, ◌∙◌, length, nat_eq}
-use Rattle.fluent_tree.specs.References.{references}
-use Rattle.fluent_tree.specs.View.{pattern_view}
+use Rattle.fluent_ast.specs.References.{references}
+use Rattle.fluent_ast.specs.View.{pattern_view}
 use Rattle.fluent_links.specs.Linked.{with_referring}
 use Rattle.fluent_links.specs.Slots.{slots as slots_of, number}
 use Rattle.fluent_links.specs.Table.{table}

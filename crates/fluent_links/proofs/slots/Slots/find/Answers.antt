@@ -2,8 +2,7 @@ use Rattle.std.proofs.Common.{◌≡◌, ◌∙◌, sym, ap, rules}
 use Rattle.std.specs.Cow.{cow_str_bytes}
 use Rattle.std.specs.Option.{option_map, option_copied}
 use Rattle.std.specs.Str.{bytes_eq}
-use Rattle.fluent_links.specs.Slots.{flat}
-use Rattle.fluent_links.specs.Slots.{slots}
+use Rattle.fluent_links.specs.Slots.{flat, slots}
 use Rattle.fluent_links.proofs.Slotted.{lookup_seen}
 use Rattle.fluent_links.proofs.slots.Slots.find.Goals as goal
 

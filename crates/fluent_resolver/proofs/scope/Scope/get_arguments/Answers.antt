@@ -1,8 +1,8 @@
 use Rattle.std.proofs.Common.{rules, sym, ap, ◌∙◌, Some}
-use Rattle.fluent_tree.specs.View.{arguments_view}
+use Rattle.fluent_ast.specs.View.{arguments_view}
 use Rattle.fluent_entries.specs.IdNumbers.{table}
-use Rattle.fluent_state.specs.Facts.Trails.{idle_path}
-use Rattle.fluent_state.specs.Status.{environment_view, state_parts}
+use Rattle.fluent_resolver_state.specs.Facts.Trails.{idle_path}
+use Rattle.fluent_resolver_state.specs.Status.{environment_view, state_parts}
 use Rattle.fluent_resolver.specs.Scoped.{given_ahead, given_view}
 use Rattle.fluent_resolver.specs.ScopeView.{scope_parts, status}
 use Rattle.fluent_resolver.proofs.NoArguments.{no_values, nothing_given, nothing_is}

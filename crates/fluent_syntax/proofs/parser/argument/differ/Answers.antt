@@ -1,7 +1,7 @@
 use Rattle.std.proofs.Common.{◌≡◌, ◌-◌, ◌+◌, ◌∷◌, ◌∙◌, sym, ap, subst, map, drop, true, false, arith}
 use Rattle.std.specs.Str.{bytes_eq}
 use Rattle.std.specs.Set.{is_member}
-use Rattle.fluent_tree.specs.View.{named_view}
+use Rattle.fluent_ast.specs.View.{named_view}
 use Rattle.fluent_syntax.specs.Expressions.{names, differ}
 use Rattle.fluent_syntax.proofs.Names.{Holds, names-drop, differ-later, differ-seen, differ-new, differ-few, members-more, was_there, was_absent}
 use Rattle.fluent_syntax.proofs.parser.argument.differ.Goals as goal

@@ -1,5 +1,5 @@
 use Rattle.std.proofs.Common.{◌≡◌, ◌≤◌, true, length, map, drop}
-use Rattle.fluent_tree.specs.View.{named_view}
+use Rattle.fluent_ast.specs.View.{named_view}
 use Rattle.fluent_syntax.specs.Expressions.{names, differ}
 use Rattle.fluent_syntax.proofs.Names.{Holds}
 use Rattle.fluent_syntax.proofs.parser.argument.differ.Given as goal

@@ -1,6 +1,6 @@
 use Rattle.std.proofs.Common.{refl}
-use Rattle.fluent_tree.specs.View.{inline_view}
-use Rattle.fluent_tree.specs.declared.ast.InlineExpression.TheVariants.{MessageReference}
+use Rattle.fluent_ast.specs.View.{inline_view}
+use Rattle.fluent_ast.specs.declared.ast.InlineExpression.TheVariants.{MessageReference}
 use Rattle.fluent_syntax.specs.Expressions.{positional}
 use Rattle.fluent_syntax.proofs.Views.{view_reference}
 use Rattle.fluent_syntax.proofs.parser.argument.push_message.Goals as goal

@@ -1,6 +1,6 @@
 use Rattle.std.proofs.Common.{refl}
-use Rattle.fluent_tree.specs.View.{named_view}
-use Rattle.fluent_tree.specs.declared.ast.Expression.TheViews.{roll-NamedArgument}
+use Rattle.fluent_ast.specs.View.{named_view}
+use Rattle.fluent_ast.specs.declared.ast.Expression.TheViews.{roll-NamedArgument}
 use Rattle.fluent_syntax.specs.Expressions.{by_name}
 use Rattle.fluent_syntax.proofs.Views.{view_named}
 use Rattle.fluent_syntax.proofs.parser.argument.push_named.Goals as goal

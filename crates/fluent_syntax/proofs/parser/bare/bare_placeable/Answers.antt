@@ -1,5 +1,5 @@
 use Rattle.std.proofs.Common.{Some, sym, ap, ◌∙◌}
-use Rattle.fluent_tree.specs.View.{inline_view}
+use Rattle.fluent_ast.specs.View.{inline_view}
 use Rattle.fluent_syntax.proofs.BareReferences.{placeable_at}
 use Rattle.fluent_syntax.proofs.Views.{view_inline}
 use Rattle.fluent_syntax.proofs.parser.bare.bare_placeable.Goals as goal

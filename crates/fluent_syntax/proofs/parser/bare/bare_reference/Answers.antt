@@ -1,5 +1,5 @@
 use Rattle.std.proofs.Common.{sym, ◌∙◌, subst}
-use Rattle.fluent_syntax.specs.Bare.{IsBare}
+use Rattle.fluent_syntax.specs.Inside.Bare.{IsBare}
 use Rattle.fluent_text.specs.Parser.{first}
 use Rattle.fluent_syntax.specs.Facts.OneLine.{is_other}
 use Rattle.fluent_syntax.proofs.BareReferences.{bare_variable, bare_message, bare_term}

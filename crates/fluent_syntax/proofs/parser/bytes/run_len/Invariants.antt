@@ -1,6 +1,6 @@
 use Rattle.std.proofs.Common.{◌≡◌, ◌+◌, drop}
 use Rattle.fluent_text.specs.Parser as parser
-use Rattle.fluent_syntax.specs.Classes.{class_test}
+use Rattle.fluent_syntax.specs.Inside.Classes.{class_test}
 use Rattle.fluent_syntax.proofs.parser.bytes.run_len.Given as goal
 
 abbrev pub invariant-bytes : goal.invariant-bytes

@@ -1,6 +1,6 @@
 use Rattle.std.proofs.Common.{◌≡◌, ◌+◌, ◌-◌, ◌<◌, length, arith, rules}
 use Rattle.std.proofs.lemmas.Bool.Decides.{nat_tests}
-use Rattle.fluent_syntax.specs.PartView.{chunk_view}
+use Rattle.fluent_syntax.specs.Inside.PartView.{chunk_view}
 use Rattle.fluent_syntax.specs.Facts.Chunked.{chunk_shorter, chunk_lens, starts-step, starts-end}
 use Rattle.fluent_syntax.proofs.parser.chunks.entry_starts.Goals as goal
 

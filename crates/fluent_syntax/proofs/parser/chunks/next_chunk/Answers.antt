@@ -1,5 +1,5 @@
 use Rattle.std.proofs.Common.{rules}
-use Rattle.fluent_syntax.specs.PartView.{part_view}
+use Rattle.fluent_syntax.specs.Inside.PartView.{part_view}
 use Rattle.fluent_syntax.specs.Facts.Chunked.{part_le, part_boundary}
 use Rattle.fluent_syntax.proofs.parser.chunks.next_chunk.Goals as goal
 

@@ -1,6 +1,6 @@
 use Rattle.std.proofs.Common.{◌≡◌, ◌<◌, ◌∙◌, ap, arith, length, map, List, [], ◌∷◌, refl}
 use Rattle.std.proofs.lemmas.Bool.Decides.{nat_tests}
-use Rattle.fluent_tree.specs.declared.errors.ParserError.{ParserError}
+use Rattle.fluent_ast.specs.declared.errors.ParserError.{ParserError}
 use Rattle.fluent_syntax.specs.Chunks.{chunks_within, junk_ranges}
 use Rattle.fluent_syntax.specs.Parsed.{error_range}
 use Rattle.fluent_syntax.proofs.parser.chunks.parse_runtime.Goals as goal

@@ -1,9 +1,9 @@
 use Rattle.std.proofs.Common.{◌≡◌, ◌+◌, ◌-◌, ◌<◌, length, arith, rules}
 use Rattle.std.proofs.lemmas.Bool.Decides.{nat_tests}
 use Rattle.fluent_syntax.specs.Parsed.{error_range}
-use Rattle.fluent_syntax.specs.PartView.{chunk_view}
-use Rattle.fluent_syntax.specs.Reading.{all}
-use Rattle.fluent_tree.specs.View.{entry_view}
+use Rattle.fluent_syntax.specs.Inside.PartView.{chunk_view}
+use Rattle.fluent_syntax.specs.Inside.Reading.{all}
+use Rattle.fluent_ast.specs.View.{entry_view}
 use Rattle.fluent_syntax.specs.Facts.Chunked.{chunk_shorter, chunk_lens, entries-step, ranges-step, entries-end, ranges-end}
 use Rattle.fluent_syntax.proofs.parser.chunks.read_chunks.Goals as goal
 

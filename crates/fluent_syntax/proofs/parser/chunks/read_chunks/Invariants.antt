@@ -3,8 +3,8 @@ use denote.Text.{Utf8}
 use denote.Shadow.{shadow}
 use Rattle.fluent_syntax.specs.Chunks.{chunks, entries, entries_of, junk_ranges, ranges_from}
 use Rattle.fluent_syntax.specs.Parsed.{error_range}
-use Rattle.fluent_syntax.specs.Reading.{all}
-use Rattle.fluent_tree.specs.View.{entry_view}
+use Rattle.fluent_syntax.specs.Inside.Reading.{all}
+use Rattle.fluent_ast.specs.View.{entry_view}
 use Rattle.fluent_syntax.proofs.parser.chunks.read_chunks.Given as goal
 
 abbrev pub invariant-chunks : goal.invariant-chunks

@@ -1,8 +1,8 @@
 use Rattle.std.proofs.Common.{◌-◌, ◌+◌, ◌∙◌, length, arith, rules}
-use Rattle.fluent_tree.specs.View.{attribute_view}
+use Rattle.fluent_ast.specs.View.{attribute_view}
 use Rattle.fluent_text.specs.Parser.{push}
 use Rattle.fluent_syntax.specs.Entries.{attribute}
-use Rattle.fluent_syntax.specs.Reading.{all}
+use Rattle.fluent_syntax.specs.Inside.Reading.{all}
 use Rattle.fluent_text.specs.Facts.Turns.{pushed, empty}
 use Rattle.fluent_syntax.proofs.parser.entry.more_attributes.Goals as goal
 

@@ -1,10 +1,10 @@
 use Rattle.std.proofs.Common.{◌-◌, ◌≡◌, length}
 use denote.Shadow.{shadow}
 use denote.Text.{Utf8}
-use Rattle.fluent_tree.specs.View.{attribute_view}
+use Rattle.fluent_ast.specs.View.{attribute_view}
 use Rattle.fluent_text.specs.Parser.{many_from, push}
 use Rattle.fluent_syntax.specs.Entries.{attribute}
-use Rattle.fluent_syntax.specs.Reading.{all}
+use Rattle.fluent_syntax.specs.Inside.Reading.{all}
 use Rattle.fluent_syntax.proofs.parser.entry.more_attributes.Given as goal
 
 abbrev pub invariant-attributes : goal.invariant-attributes

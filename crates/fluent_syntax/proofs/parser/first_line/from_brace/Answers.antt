@@ -2,10 +2,10 @@ use Rattle.std.proofs.Common.{◌≡◌, ◌==◌, ◌++◌, ◌∷◌, [], true
 use Rattle.fluent_text.specs.Parser.{first}
 use Rattle.fluent_syntax.specs.Expressions.{level}
 use Rattle.fluent_syntax.specs.Layout.{unless_empty}
-use Rattle.fluent_tree.specs.Tree.{placeable}
-use Rattle.fluent_tree.specs.View.{element_view, expression_view}
-use Rattle.fluent_syntax.specs.Progress.{InLine}
-use Rattle.fluent_syntax.specs.Reading.{Gives, all}
+use Rattle.fluent_ast.specs.Tree.{placeable}
+use Rattle.fluent_ast.specs.View.{element_view, expression_view}
+use Rattle.fluent_syntax.specs.Inside.Progress.{InLine}
+use Rattle.fluent_syntax.specs.Inside.Reading.{Gives, all}
 use Rattle.fluent_syntax.proofs.Progress.{AreWhole, text_in_line, hole_in_line, line_ended, brace_ended, after_run, is_equal}
 use Rattle.fluent_syntax.proofs.parser.first_line.from_brace.Goals as goal
 

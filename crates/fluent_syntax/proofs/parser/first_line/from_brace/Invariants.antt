@@ -2,10 +2,10 @@ use denote.Shadow.{shadow}
 use denote.Text.{Utf8}
 use Rattle.std.proofs.Common.{◌≡◌, ◌==◌, ◌++◌, ℕ, List, true}
 use Rattle.fluent_text.specs.Parser.{first}
-use Rattle.fluent_tree.specs.View.{element_view}
+use Rattle.fluent_ast.specs.View.{element_view}
 use Rattle.fluent_syntax.specs.Layout.{unless_empty}
-use Rattle.fluent_syntax.specs.Progress.{InLine}
-use Rattle.fluent_syntax.specs.Reading.{all}
+use Rattle.fluent_syntax.specs.Inside.Progress.{InLine}
+use Rattle.fluent_syntax.specs.Inside.Reading.{all}
 use Rattle.fluent_syntax.proofs.parser.first_line.from_brace.Given as goal
 
 abbrev pub invariant-elements : goal.invariant-elements

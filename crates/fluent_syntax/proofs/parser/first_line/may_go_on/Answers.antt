@@ -1,6 +1,6 @@
 use Rattle.std.proofs.Common.{sym, ap, ◌∙◌, ◌<◌, subst}
 use Rattle.std.specs.Bool.{◌==◌}
-use Rattle.fluent_syntax.specs.Progress.{closes_pattern}
+use Rattle.fluent_syntax.specs.Inside.Progress.{closes_pattern}
 use Rattle.fluent_syntax.proofs.NextLine.{negated, plain_ends, indented_ends}
 use Rattle.fluent_syntax.proofs.parser.first_line.may_go_on.Goals as goal
 

@@ -1,6 +1,6 @@
 use Rattle.std.proofs.Common.{◌≡◌, ◌-◌, suc, Some, subst, arith}
 use Rattle.fluent_syntax.specs.Expressions.{level}
-use Rattle.fluent_tree.specs.View.{expression_view}
+use Rattle.fluent_ast.specs.View.{expression_view}
 use Rattle.fluent_syntax.proofs.parser.first_line.placeable.Goals as goal
 
 pub returns : goal.returns

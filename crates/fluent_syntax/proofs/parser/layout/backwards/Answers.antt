@@ -1,7 +1,7 @@
 use Rattle.std.proofs.Common.{[], ◌∷◌, refl, rules, append-nil, append_assoc}
 use Rattle.std.proofs.lemmas.List.{map-append}
 use Rattle.fluent_syntax.specs.Layout.{lines}
-use Rattle.fluent_syntax.specs.PieceView.{piece_view}
+use Rattle.fluent_syntax.specs.Inside.PieceView.{piece_view}
 use Rattle.fluent_syntax.proofs.parser.layout.backwards.Goals as goal
 
 pub pieces-init : goal.pieces-init

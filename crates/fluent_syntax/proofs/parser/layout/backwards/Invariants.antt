@@ -1,8 +1,8 @@
 use Rattle.std.proofs.Common.{◌≡◌, List, ◌++◌, length, map}
-use Rattle.fluent_syntax.specs.Backwards.{backwards}
-use Rattle.fluent_tree.specs.View.{element_view}
+use Rattle.fluent_syntax.specs.Inside.Backwards.{backwards}
+use Rattle.fluent_ast.specs.View.{element_view}
 use Rattle.fluent_syntax.specs.Layout.{Piece, lines, starts_line}
-use Rattle.fluent_syntax.specs.PieceView.{piece_view}
+use Rattle.fluent_syntax.specs.Inside.PieceView.{piece_view}
 use Rattle.fluent_syntax.proofs.parser.layout.backwards.Given as goal
 
 abbrev pub invariant-pieces : goal.invariant-pieces

@@ -1,6 +1,6 @@
 use Rattle.std.proofs.Common.{◌≡◌, drop, map}
 use Rattle.fluent_syntax.specs.Layout.{smaller, smallest_indent}
-use Rattle.fluent_syntax.specs.PieceView.{piece_view}
+use Rattle.fluent_syntax.specs.Inside.PieceView.{piece_view}
 use Rattle.fluent_syntax.proofs.parser.layout.common_indent.Given as goal
 
 abbrev pub invariant-pieces : goal.invariant-pieces

@@ -3,7 +3,7 @@ use Rattle.std.proofs.Math.ListN as ListN
 use Rattle.std.specs.List.{suffix_len}
 use Rattle.std.proofs.lemmas.List.{length-map, take-map}
 use Rattle.std.proofs.lemmas.List.Sums.{suffix_len-take_no}
-use Rattle.fluent_tree.specs.View.{element_view}
+use Rattle.fluent_ast.specs.View.{element_view}
 use Rattle.fluent_syntax.specs.Layout.{is_feed}
 use Rattle.fluent_syntax.proofs.Ends.{turn, stopped, none_left}
 use Rattle.fluent_syntax.proofs.parser.layout.drop_feeds.Goals.{then-feeds-test+else-is_feed, else-feeds-test}

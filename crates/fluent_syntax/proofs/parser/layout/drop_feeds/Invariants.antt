@@ -1,6 +1,6 @@
 use Rattle.std.proofs.Common.{◌≡◌, ◌+◌, ◌≤◌, take, length, map}
 use Rattle.std.specs.List.{suffix_len}
-use Rattle.fluent_tree.specs.View.{element_view}
+use Rattle.fluent_ast.specs.View.{element_view}
 use Rattle.fluent_syntax.specs.Layout.{is_feed}
 use Rattle.fluent_syntax.proofs.parser.layout.drop_feeds.Given as goal
 

@@ -1,7 +1,7 @@
 use Rattle.std.proofs.Common.{◌≡◌, map, ap, ◌∙◌}
-use Rattle.fluent_tree.specs.View.{element_view}
+use Rattle.fluent_ast.specs.View.{element_view}
 use Rattle.fluent_syntax.specs.Layout.{elements, lines, trim_last, trim_start, is_feed, common_indent}
-use Rattle.fluent_syntax.specs.PieceView.{piece_view}
+use Rattle.fluent_syntax.specs.Inside.PieceView.{piece_view}
 use Rattle.std.specs.Prelude.{reverse}
 use Rattle.fluent_syntax.proofs.Reversed.{map-reverse}
 use Rattle.fluent_syntax.proofs.Ends.{trimmed_after}

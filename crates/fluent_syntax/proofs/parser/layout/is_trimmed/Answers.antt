@@ -1,5 +1,5 @@
 use Rattle.std.proofs.Common.{}
-use Rattle.fluent_tree.specs.View.{element_view}
+use Rattle.fluent_ast.specs.View.{element_view}
 use Rattle.fluent_syntax.proofs.Ends.{kept_last}
 use Rattle.fluent_syntax.proofs.parser.layout.is_trimmed.Goals as goal
 

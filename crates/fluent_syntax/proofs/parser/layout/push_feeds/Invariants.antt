@@ -1,8 +1,8 @@
 use Rattle.std.proofs.Common.{◌≡◌, List, ◌++◌, map}
 use Rattle.std.specs.Prelude.{replicate}
-use Rattle.fluent_tree.specs.Tree.{Element}
-use Rattle.fluent_tree.specs.View.{element_view}
-use Rattle.fluent_syntax.specs.Backwards.{backwards}
+use Rattle.fluent_ast.specs.Tree.{Element}
+use Rattle.fluent_ast.specs.View.{element_view}
+use Rattle.fluent_syntax.specs.Inside.Backwards.{backwards}
 use Rattle.fluent_syntax.specs.Layout.{feed}
 use Rattle.fluent_syntax.proofs.parser.layout.push_feeds.Given as goal
 

@@ -1,8 +1,8 @@
 use Rattle.std.proofs.Common.{◌≡◌, ◌<◌, ◌∙◌, ◌&&◌, ◌++◌, ap, sym, true, false, length, drop, arith, rules}
 use Rattle.std.proofs.lemmas.Bool.Decides.{nat_tests}
-use Rattle.fluent_tree.specs.Tree.{text}
-use Rattle.fluent_tree.specs.View.{element_view}
-use Rattle.fluent_syntax.specs.Backwards.{backwards}
+use Rattle.fluent_ast.specs.Tree.{text}
+use Rattle.fluent_ast.specs.View.{element_view}
+use Rattle.fluent_syntax.specs.Inside.Backwards.{backwards}
 use Rattle.fluent_syntax.specs.Layout.{lines, starts_line}
 use Rattle.fluent_syntax.proofs.Views.{view_text}
 use Rattle.fluent_syntax.proofs.Lines.{words_fed, words_alone, not_empty, either_false, first_false}

@@ -1,7 +1,7 @@
 use Rattle.std.proofs.Common.{◌<◌, ◌≤◌, length, refl, sym, ap, ◌∙◌, arith}
 use Rattle.std.proofs.lemmas.Bool.Decides.{nat_tests}
-use Rattle.fluent_tree.specs.Tree.{text, placeable}
-use Rattle.fluent_tree.specs.View.{element_view, expression_view}
+use Rattle.fluent_ast.specs.Tree.{text, placeable}
+use Rattle.fluent_ast.specs.View.{element_view, expression_view}
 use Rattle.fluent_syntax.specs.Layout.{unless_empty}
 use Rattle.fluent_syntax.proofs.Ends.{trimmed_last, trimmed_away}
 use Rattle.fluent_syntax.proofs.Views.{view_text, view_text_in, view_placeable, view_placeable_in}

@@ -1,10 +1,10 @@
 use Rattle.std.proofs.Common.{◌<◌, ◌≤◌, Some, length, sym, ap, ◌∙◌, subst, arith}
 use Rattle.std.proofs.lemmas.Bool.Decides.{nat_tests}
 use Rattle.std.proofs.lemmas.List.{length-map}
-use Rattle.fluent_syntax.specs.Progress.{IsFirstLine}
-use Rattle.fluent_syntax.specs.Reading.{all}
-use Rattle.fluent_tree.specs.Tree.{pattern_of}
-use Rattle.fluent_tree.specs.View.{element_view}
+use Rattle.fluent_syntax.specs.Inside.Progress.{IsFirstLine}
+use Rattle.fluent_syntax.specs.Inside.Reading.{all}
+use Rattle.fluent_ast.specs.Tree.{pattern_of}
+use Rattle.fluent_ast.specs.View.{element_view}
 use Rattle.fluent_syntax.proofs.Progress.{AreWhole, pattern_absent, pattern_ended}
 use Rattle.fluent_syntax.proofs.Views.{view_pattern}
 use Rattle.fluent_syntax.proofs.parser.pattern.long_pattern.Goals as goal

@@ -1,8 +1,8 @@
 use Rattle.std.proofs.Common.{Some, sym, ap, ◌∙◌, subst}
-use Rattle.fluent_syntax.specs.Progress.{Reached}
-use Rattle.fluent_syntax.specs.PieceView.{piece_view}
-use Rattle.fluent_syntax.specs.Reading.{all}
-use Rattle.fluent_tree.specs.Tree.{pattern_of}
+use Rattle.fluent_syntax.specs.Inside.Progress.{Reached}
+use Rattle.fluent_syntax.specs.Inside.PieceView.{piece_view}
+use Rattle.fluent_syntax.specs.Inside.Reading.{all}
+use Rattle.fluent_ast.specs.Tree.{pattern_of}
 use Rattle.fluent_syntax.proofs.Progress.{pattern_read}
 use Rattle.fluent_syntax.proofs.Views.{view_pattern}
 use Rattle.fluent_syntax.proofs.parser.pattern.many_lines.Goals as goal

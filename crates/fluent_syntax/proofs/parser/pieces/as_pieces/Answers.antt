@@ -1,7 +1,7 @@
 use Rattle.std.proofs.Common.{◌∷◌, [], ◌++◌, map, sym, ap, ◌∙◌}
-use Rattle.fluent_syntax.specs.PieceView.{piece_view}
-use Rattle.fluent_syntax.specs.Progress.{piece_of}
-use Rattle.fluent_tree.specs.View.{element_view}
+use Rattle.fluent_syntax.specs.Inside.PieceView.{piece_view}
+use Rattle.fluent_syntax.specs.Inside.Progress.{piece_of}
+use Rattle.fluent_ast.specs.View.{element_view}
 use Rattle.fluent_syntax.proofs.Progress.{added, as_pieces-next}
 use Rattle.fluent_syntax.proofs.parser.pieces.as_pieces.Goals as goal
 

@@ -1,8 +1,8 @@
 use Rattle.std.proofs.Common.{◌≡◌, map}
-use Rattle.fluent_syntax.specs.PieceView.{piece_view}
-use Rattle.fluent_syntax.specs.Progress.{piece_of}
-use Rattle.fluent_syntax.specs.Reading.{all}
-use Rattle.fluent_tree.specs.View.{element_view}
+use Rattle.fluent_syntax.specs.Inside.PieceView.{piece_view}
+use Rattle.fluent_syntax.specs.Inside.Progress.{piece_of}
+use Rattle.fluent_syntax.specs.Inside.Reading.{all}
+use Rattle.fluent_ast.specs.View.{element_view}
 use Rattle.fluent_syntax.proofs.parser.pieces.as_pieces.Given as goal
 
 abbrev pub invariant-elements : goal.invariant-elements

@@ -2,9 +2,9 @@ use Rattle.std.proofs.Common.{◌≡◌, ◌<◌, ◌≤◌, ◌∷◌, None, Er
 use Rattle.std.proofs.lemmas.Bool.Decides.{nat_tests}
 use Rattle.fluent_syntax.specs.Expressions.{level}
 use Rattle.fluent_syntax.specs.Pieces.{pattern_element}
-use Rattle.fluent_syntax.specs.PieceView.{piece_view}
-use Rattle.fluent_syntax.specs.Progress.{PushesPieces, Reached}
-use Rattle.fluent_syntax.specs.Reading.{Gives, all}
+use Rattle.fluent_syntax.specs.Inside.PieceView.{piece_view}
+use Rattle.fluent_syntax.specs.Inside.Progress.{PushesPieces, Reached}
+use Rattle.fluent_syntax.specs.Inside.Reading.{Gives, all}
 use Rattle.fluent_syntax.proofs.Progress.{step, stop, element_shorter, nothing_left}
 use Rattle.fluent_syntax.proofs.parser.pieces.more_pieces.Goals as goal
 

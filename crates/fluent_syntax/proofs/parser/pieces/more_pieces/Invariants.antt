@@ -1,9 +1,9 @@
 use Rattle.std.proofs.Common.{ℕ, List, length}
 use denote.Text.{Utf8}
 use denote.Shadow.{shadow}
-use Rattle.fluent_syntax.specs.PieceView.{piece_view}
-use Rattle.fluent_syntax.specs.Progress.{Reached}
-use Rattle.fluent_syntax.specs.Reading.{all}
+use Rattle.fluent_syntax.specs.Inside.PieceView.{piece_view}
+use Rattle.fluent_syntax.specs.Inside.Progress.{Reached}
+use Rattle.fluent_syntax.specs.Inside.Reading.{all}
 use Rattle.fluent_syntax.proofs.parser.pieces.more_pieces.Given as goal
 
 abbrev pub invariant-pieces : goal.invariant-pieces

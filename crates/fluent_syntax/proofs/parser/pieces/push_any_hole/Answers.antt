@@ -1,8 +1,8 @@
 use Rattle.std.proofs.Common.{◌≡◌, [], ◌∷◌, None, sym}
 use Rattle.fluent_syntax.specs.Layout.{line, words, hole}
 use Rattle.fluent_syntax.specs.Expressions.{level}
-use Rattle.fluent_syntax.specs.PieceView.{piece_view}
-use Rattle.fluent_tree.specs.View.{expression_view}
+use Rattle.fluent_syntax.specs.Inside.PieceView.{piece_view}
+use Rattle.fluent_ast.specs.View.{expression_view}
 use Rattle.fluent_syntax.proofs.Progress.{hole_here, hole_below, added, added_three}
 use Rattle.fluent_syntax.proofs.parser.pieces.push_any_hole.Goals as goal
 

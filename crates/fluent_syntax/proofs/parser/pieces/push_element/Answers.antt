@@ -5,11 +5,11 @@ use Rattle.fluent_syntax.specs.Layout as spec
 use Rattle.fluent_syntax.specs.declared.parser.piece.Piece.{Piece}
 use Rattle.fluent_syntax.specs.declared.parser.stop.Stop.{Stop}
 use Rattle.fluent_syntax.specs.declared.parser.stop.Stop.TheVariants.{Absent, Memory}
-use Rattle.fluent_syntax.specs.Progress.{PushesPieces, text_pieces, hole_pieces}
+use Rattle.fluent_syntax.specs.Inside.Progress.{PushesPieces, text_pieces, hole_pieces}
 use Rattle.fluent_syntax.specs.Expressions.{level}
 use Rattle.fluent_syntax.specs.Pieces.{pattern_element}
-use Rattle.fluent_syntax.specs.PieceView.{piece_view}
-use Rattle.fluent_syntax.specs.Reading.{all}
+use Rattle.fluent_syntax.specs.Inside.PieceView.{piece_view}
+use Rattle.fluent_syntax.specs.Inside.Reading.{all}
 use Rattle.fluent_syntax.proofs.Progress.{element_is}
 use Rattle.fluent_syntax.proofs.parser.pieces.push_element.Goals as goal
 

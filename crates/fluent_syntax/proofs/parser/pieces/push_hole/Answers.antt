@@ -1,8 +1,8 @@
 use Rattle.std.proofs.Common.{◌≡◌, ◌-◌, suc, [], Some, subst, arith}
 use Rattle.fluent_syntax.specs.Expressions.{level}
 use Rattle.fluent_syntax.specs.Layout.{hole}
-use Rattle.fluent_syntax.specs.PieceView.{piece_view}
-use Rattle.fluent_tree.specs.View.{expression_view}
+use Rattle.fluent_syntax.specs.Inside.PieceView.{piece_view}
+use Rattle.fluent_ast.specs.View.{expression_view}
 use Rattle.fluent_syntax.proofs.Progress.{hole_here, added}
 use Rattle.fluent_syntax.proofs.parser.pieces.push_hole.Goals as goal
 

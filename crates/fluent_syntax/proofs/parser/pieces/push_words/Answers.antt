@@ -1,6 +1,6 @@
 use Rattle.std.proofs.Common.{[], ◌∷◌, refl, sym, ◌∙◌}
 use Rattle.fluent_syntax.specs.Layout.{line, words}
-use Rattle.fluent_syntax.specs.PieceView.{piece_view}
+use Rattle.fluent_syntax.specs.Inside.PieceView.{piece_view}
 use Rattle.fluent_syntax.proofs.Progress.{no_text_here, text_here, text_below, added, added_two, is_equal}
 use Rattle.fluent_syntax.proofs.parser.pieces.push_words.Goals as goal
 

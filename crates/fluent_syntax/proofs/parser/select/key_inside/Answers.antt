@@ -1,6 +1,6 @@
 use Rattle.std.proofs.Common.{sym, ap, ◌∙◌}
 use Rattle.fluent_text.specs.Reading.{found}
-use Rattle.fluent_tree.specs.View.{key_view}
+use Rattle.fluent_ast.specs.View.{key_view}
 use Rattle.fluent_syntax.proofs.Arguments.{key_name, key_number, no_key}
 use Rattle.fluent_syntax.proofs.parser.select.key_inside.Goals as goal
 

@@ -2,7 +2,7 @@ use Rattle.std.proofs.Common.{◌≡◌, ◌∙◌, None, Ok, Err, if◌then◌e
 use Rattle.std.specs.List.{insert}
 use Rattle.std.specs.Result.{is_ok}
 use Rattle.std.specs.Cow.{cow_str_bytes}
-use Rattle.fluent_meaning.specs.Arguments as fin
+use Rattle.fluent_semantics.specs.Arguments as fin
 use Rattle.fluent_values.specs.Names.{IsPlaceOf}
 use Rattle.fluent_values.specs.View.{value_view, named}
 use Rattle.fluent_values.specs.Facts.Keyed.{both}

@@ -1,6 +1,6 @@
 use Rattle.std.proofs.Common.{◌∙◌, ap, subst, sym}
 use Rattle.std.specs.Cow.{cow_str_bytes}
-use Rattle.fluent_meaning.specs.Arguments.{set}
+use Rattle.fluent_semantics.specs.Arguments.{set}
 use Rattle.fluent_values.specs.View.{value_view}
 use Rattle.fluent_values.specs.Args.{CanGive, pair_view}
 use Rattle.fluent_values.specs.Facts.Setting.{first_given, on_err, set_all_more}

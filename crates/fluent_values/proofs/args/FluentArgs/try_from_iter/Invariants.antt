@@ -1,5 +1,5 @@
 use Rattle.std.proofs.Common.{◌≡◌, [], map}
-use Rattle.fluent_meaning.specs.Arguments.{set_all}
+use Rattle.fluent_semantics.specs.Arguments.{set_all}
 use Rattle.fluent_values.specs.Args.{pair_view}
 use Rattle.fluent_values.specs.View.{named}
 use Rattle.fluent_values.proofs.args.FluentArgs.try_from_iter.Given as goal

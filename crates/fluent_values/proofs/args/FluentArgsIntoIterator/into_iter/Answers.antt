@@ -1,5 +1,5 @@
 use Rattle.std.proofs.Common.{ap, map, subst, sym}
-use Rattle.fluent_meaning.specs.Arguments.{IsInOrder}
+use Rattle.fluent_semantics.specs.Arguments.{IsInOrder}
 use Rattle.fluent_values.specs.View.{value_view, named}
 use Rattle.fluent_values.specs.Args.{pair_view, given_left}
 use Rattle.fluent_values.specs.Facts.Pairs.{in_order}

@@ -1,7 +1,7 @@
 use Rattle.std.proofs.Common.{◌∙◌, ap, sym}
 use Rattle.fluent_intl.specs.Options.{options_of}
 use Rattle.fluent_values.specs.Args.{shown_left}
-use Rattle.fluent_values.specs.Merging.{with_rest}
+use Rattle.fluent_values.specs.Inside.Merging.{with_rest}
 use Rattle.fluent_values.proofs.types.merge.merge_rest.Goals as goal
 
 pub loop-name-init : goal.loop-name-init

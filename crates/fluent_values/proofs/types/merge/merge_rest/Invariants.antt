@@ -2,7 +2,7 @@ use Rattle.std.proofs.Common.{◌≡◌}
 use Rattle.fluent_intl.specs.Options.{options_of}
 use Rattle.fluent_values.specs.Args.{shown_left}
 use Rattle.fluent_values.specs.View.{named}
-use Rattle.fluent_values.specs.Merging.{with_rest}
+use Rattle.fluent_values.specs.Inside.Merging.{with_rest}
 use Rattle.fluent_values.proofs.types.merge.merge_rest.Given as goal
 
 -- what is left to merge gives what all gives

@@ -1,6 +1,6 @@
 use Rattle.std.proofs.Common.{◌-◌, ◌+◌, ◌∙◌, sym, ap, length, arith, rules}
 use Rattle.fluent_syntax.specs.Expressions.{level}
-use Rattle.fluent_syntax.specs.Gathering.{gathered_view}
+use Rattle.fluent_syntax.specs.Inside.Gathering.{gathered_view}
 use Rattle.fluent_syntax.proofs.Gathers.{gathers, gathers-more, gathers-none, gathers-last, gathers-empty, gathers-done, starts}
 use Rattle.fluent_syntax.proofs.parser.inner.Inner.argument_list.Goals as goal
 

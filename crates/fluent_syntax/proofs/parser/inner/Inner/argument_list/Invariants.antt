@@ -2,7 +2,7 @@ use Rattle.std.proofs.Common.{◌-◌, ◌≡◌}
 use denote.Shadow.{shadow}
 use denote.Text.{Utf8}
 use Rattle.fluent_syntax.specs.Expressions.{argument_list, level}
-use Rattle.fluent_syntax.specs.Gathering.{gathered_view}
+use Rattle.fluent_syntax.specs.Inside.Gathering.{gathered_view}
 use Rattle.fluent_syntax.proofs.Gathers.{gathers}
 use Rattle.fluent_syntax.proofs.parser.inner.Inner.argument_list.Given as goal
 

@@ -1,13 +1,12 @@
 use Rattle.std.proofs.Common.{◌==◌, ◌≡◌, true, sym, ap, ◌∙◌}
 use Rattle.fluent_text.specs.Parser.{first}
-use Rattle.fluent_tree.specs.Tree.{message, no_attribute}
-use Rattle.fluent_tree.specs.View.{name_view}
-use Rattle.fluent_syntax.specs.Expressions.{level, positional}
+use Rattle.fluent_ast.specs.Tree.{message, no_attribute}
+use Rattle.fluent_ast.specs.View.{name_view}
+use Rattle.fluent_syntax.specs.Expressions.{level, positional, add}
 use Rattle.fluent_syntax.proofs.Arguments.{nameless_at, message_before}
 use Rattle.fluent_syntax.proofs.Progress.{is_equal}
 use Rattle.fluent_syntax.proofs.Views.{view_message}
-use Rattle.fluent_syntax.specs.Gathering.{gathered_view}
-use Rattle.fluent_syntax.specs.Expressions.{add}
+use Rattle.fluent_syntax.specs.Inside.Gathering.{gathered_view}
 use Rattle.fluent_syntax.proofs.parser.inner.Inner.push_argument.Goals as goal
 
 pub returns-in_default : goal.returns-in_default

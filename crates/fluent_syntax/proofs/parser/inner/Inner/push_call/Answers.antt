@@ -1,6 +1,6 @@
 use Rattle.std.proofs.Common.{refl}
-use Rattle.fluent_tree.specs.View.{inline_view}
-use Rattle.fluent_tree.specs.declared.ast.InlineExpression.TheVariants.{FunctionReference}
+use Rattle.fluent_ast.specs.View.{inline_view}
+use Rattle.fluent_ast.specs.declared.ast.InlineExpression.TheVariants.{FunctionReference}
 use Rattle.fluent_syntax.specs.Expressions.{positional}
 use Rattle.fluent_syntax.proofs.Views.{view_function}
 use Rattle.fluent_syntax.proofs.parser.inner.Inner.push_call.Goals as goal

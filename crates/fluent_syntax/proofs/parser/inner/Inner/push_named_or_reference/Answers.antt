@@ -1,12 +1,12 @@
 use Rattle.std.proofs.Common.{◌≡◌, ℕ, List, Result, Ok, Err, sym, ap, ◌∙◌}
 use Rattle.std.specs.Borrow.{Bor}
 use Rattle.fluent_text.specs.Parser.{Read}
-use Rattle.fluent_tree.specs.View.{name_view}
+use Rattle.fluent_ast.specs.View.{name_view}
 use Rattle.fluent_syntax.specs.Expressions.{level, Argument, add}
 use Rattle.fluent_syntax.specs.declared.parser.argument.Gathered.{Gathered}
 use Rattle.fluent_syntax.specs.declared.parser.stop.Stop.{Stop}
 use Rattle.fluent_syntax.specs.declared.parser.stop.Stop.TheVariants.{Absent, Memory}
-use Rattle.fluent_syntax.specs.Gathering.{gathered_view, reference_argument, Gathers}
+use Rattle.fluent_syntax.specs.Inside.Gathering.{gathered_view, reference_argument, Gathers}
 use Rattle.fluent_syntax.proofs.Arguments.{plain_at, named_at, unnamed_at}
 use Rattle.fluent_syntax.proofs.parser.inner.Inner.push_named_or_reference.Goals as goal
 

@@ -1,5 +1,5 @@
 use Rattle.std.proofs.Common.{refl}
-use Rattle.fluent_tree.specs.View.{inline_view}
+use Rattle.fluent_ast.specs.View.{inline_view}
 use Rattle.fluent_syntax.specs.Expressions.{positional}
 use Rattle.fluent_syntax.proofs.parser.inner.Inner.push_nameless.Goals as goal
 

@@ -1,7 +1,7 @@
 use Rattle.std.proofs.Common.{◌∷◌, [], ◌++◌, refl, sym, ap, map, ◌∙◌}
 use Rattle.std.proofs.lemmas.List.{map-append}
-use Rattle.fluent_tree.specs.View.{key_view, pattern_view, variant_view}
-use Rattle.fluent_syntax.specs.Reading.{all}
+use Rattle.fluent_ast.specs.View.{key_view, pattern_view, variant_view}
+use Rattle.fluent_syntax.specs.Inside.Reading.{all}
 use Rattle.fluent_syntax.proofs.Views.{view_variant}
 use Rattle.fluent_syntax.proofs.parser.inner.Inner.push_opened.Goals as goal
 

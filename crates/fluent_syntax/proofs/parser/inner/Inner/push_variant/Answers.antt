@@ -1,6 +1,6 @@
 use Rattle.std.proofs.Common.{◌≡◌, refl, sym, ◌∙◌}
 use Rattle.fluent_syntax.specs.Expressions.{level, variant}
-use Rattle.fluent_syntax.specs.Parts.{opened_variant}
+use Rattle.fluent_syntax.specs.Inside.Parts.{opened_variant}
 use Rattle.fluent_syntax.proofs.Parts.{variant_parts}
 use Rattle.fluent_syntax.proofs.parser.inner.Inner.push_variant.Goals as goal
 

@@ -1,8 +1,8 @@
 use Rattle.std.proofs.Common.{◌-◌, ◌+◌, ◌∙◌, false, length, sym, ap, Some, arith, rules}
-use Rattle.fluent_tree.specs.View.{variant_view}
+use Rattle.fluent_ast.specs.View.{variant_view}
 use Rattle.fluent_text.specs.Parser.{push}
 use Rattle.fluent_syntax.specs.Expressions.{variant, level}
-use Rattle.fluent_syntax.specs.Reading.{all}
+use Rattle.fluent_syntax.specs.Inside.Reading.{all}
 use Rattle.fluent_text.specs.Facts.Turns.{next, none}
 use Rattle.fluent_syntax.proofs.Variants.{variant_less}
 use Rattle.fluent_syntax.proofs.parser.inner.Inner.variants.Goals as goal

@@ -1,10 +1,10 @@
 use Rattle.std.proofs.Common.{◌-◌, ◌≡◌, false, length}
 use denote.Shadow.{shadow}
 use denote.Text.{Utf8}
-use Rattle.fluent_tree.specs.View.{variant_view}
+use Rattle.fluent_ast.specs.View.{variant_view}
 use Rattle.fluent_text.specs.Parser.{many_from, push}
 use Rattle.fluent_syntax.specs.Expressions.{variant, level}
-use Rattle.fluent_syntax.specs.Reading.{all}
+use Rattle.fluent_syntax.specs.Inside.Reading.{all}
 use Rattle.fluent_syntax.proofs.parser.inner.Inner.variants.Given as goal
 
 abbrev pub invariant-variants : goal.invariant-variants

@@ -1,6 +1,6 @@
 use Rattle.std.proofs.Common.{◌∙◌, ap}
 use Rattle.fluent_values.specs.View.{value_view, named}
-use Rattle.fluent_values.specs.Merging.{with_rest}
+use Rattle.fluent_values.specs.Inside.Merging.{with_rest}
 use Rattle.fluent_values.proofs.Merging.{merged_in_one_walk}
 use Rattle.fluent_values.specs.Facts.Pairs.{rise_seen}
 use Rattle.fluent_values.proofs.types.merge.FluentNumberOptionsMergeArgs.merge.Goals as goal

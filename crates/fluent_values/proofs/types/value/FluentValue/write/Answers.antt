@@ -1,5 +1,5 @@
 use Rattle.std.proofs.Common.{ap, rules, sym}
-use Rattle.fluent_meaning.specs.Bundle.{shown}
+use Rattle.fluent_semantics.specs.Bundle.{shown}
 use Rattle.fluent_values.specs.Facts.Outputs.{by_writer}
 use Rattle.fluent_values.specs.Facts.Took.{took_as, took_same}
 use Rattle.fluent_values.specs.View.{value_view}

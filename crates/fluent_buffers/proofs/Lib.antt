@@ -1,2 +1,0 @@
-mod Stands
-mod Written

@@ -1,0 +1,119 @@
+//! What a call on a kept bundle answers, and how C gets it.
+ghost use Rattle.std.specs.Prelude.{◌≡◌, ◌<◌};
+ghost use Rattle.fluent_c_handles.specs.Statuses.{GivenBy, GivenOneBy, status_by, status_of};
+
+use crate::buffers::put_text;
+use crate::encoded::Fault;
+use crate::opening::OpenFault;
+use crate::sources::SourceFault;
+use crate::texts::{FormatFault, Lengths};
+use fluent_catalog::LanguageFault;
+use fluent_plural_rules::RuleFault;
+
+/// What is answered.
+#[derive(Debug, Drop)]
+pub enum Answer {
+    /// It was done, or there is such a message.
+    Done,
+    /// A text, and the lines of its errors, if it is that of a message.
+    Texts { text: String, lines: String },
+    /// Nothing is open.
+    Closed,
+    /// There is a bundle, which stays.
+    Open,
+    /// The limit is none of those that can be set, and nothing was done.
+    OutOfRange,
+    /// Nothing was done, and why.
+    Fault(SourceFault),
+}
+
+impl Answer {
+    /// The status of an answer that is no text.
+    pub(crate) fn status(&self) -> u8
+        ensures { result ≡ status_by self.now }
+    {
+        match self {
+            Answer::Done => 0,
+            Answer::Texts { .. } => 0,
+            Answer::Closed => 11,
+            Answer::Open => 12,
+            Answer::OutOfRange => 13,
+            Answer::Fault(fault) => status(*fault),
+        }
+    }
+
+    /// Writes the texts to buffers.
+    pub(crate) fn give(&self, out: &mut [u8], err: &mut [u8], sizes: &mut Lengths) -> u8
+        ensures { GivenBy self.now out.old out.new err.old err.new sizes.new result }
+    {
+        let Answer::Texts { text, lines } = self else {
+            *sizes = Lengths { text: 0, errors: 0 };
+            return self.status();
+        };
+        let room = out.len();
+        let err_room = err.len();
+        *sizes = Lengths {
+            text: put_text(text.as_str(), out),
+            errors: put_text(lines.as_str(), err),
+        };
+        if sizes.text <= room && sizes.errors <= err_room {
+            0
+        } else {
+            1
+        }
+    }
+
+    /// Writes the text to a buffer.
+    pub(crate) fn give_one(&self, out: &mut [u8], length: &mut usize) -> u8
+        ensures { GivenOneBy self.now out.old out.new length.new result }
+    {
+        let Answer::Texts { text, lines: _ } = self else {
+            *length = 0;
+            return self.status();
+        };
+        let room = out.len();
+        let needed = put_text(text.as_str(), out);
+        *length = needed;
+        if needed <= room { 0 } else { 1 }
+    }
+}
+
+/// The status of a fault, from 2 on.
+pub(crate) fn status(fault: SourceFault) -> u8
+    ensures status { result ≡ status_of fault }
+    ensures above { 1 < result }
+{
+    match fault {
+        SourceFault::Memory => 2,
+        SourceFault::NotText => 3,
+        SourceFault::Open(fault) => open_status(fault),
+        SourceFault::Format(fault) => format_status(fault),
+    }
+}
+
+fn open_status(fault: OpenFault) -> u8
+    ensures status { result ≡ status_of (SourceFault.Open fault) }
+    ensures above { 1 < result }
+{
+    match fault {
+        OpenFault::Memory => 2,
+        OpenFault::NotText => 4,
+        OpenFault::Language(LanguageFault::Unknown) => 5,
+        OpenFault::Language(LanguageFault::Rules(RuleFault::Memory)) => 2,
+        OpenFault::Language(LanguageFault::Rules(RuleFault::Syntax(..))) => 6,
+    }
+}
+
+fn format_status(fault: FormatFault) -> u8
+    ensures status { result ≡ status_of (SourceFault.Format fault) }
+    ensures above { 1 < result }
+{
+    match fault {
+        FormatFault::Memory => 2,
+        FormatFault::NotText => 7,
+        FormatFault::NoMessage => 8,
+        FormatFault::Arguments(Fault::Cut) => 9,
+        FormatFault::Arguments(Fault::NotText) => 10,
+        FormatFault::Arguments(Fault::Memory) => 2,
+    }
+}

@@ -1,0 +1,6 @@
+//! The calls on a slot: each is a method of `Slot`, with what it does of the bundle that is kept there.
+
+mod add;
+mod find;
+mod format;
+mod open;

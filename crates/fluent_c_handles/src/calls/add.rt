@@ -1,0 +1,95 @@
+//! Adds sources, and tells what was passed over in them.
+ghost use Rattle.fluent_c_handles.specs.Calls.{Adds, Overrides, Reports, WhenOpen};
+ghost use Rattle.fluent_c_handles.specs.Kept.{Does, GivesText};
+
+use crate::answer::Answer;
+use crate::slot::Slot;
+use crate::sources::SourceFault;
+use crate::stock::Stock;
+use crate::turns::Call;
+use std::alloc::{AllocError, Global};
+
+/// To add a source.
+#[derive(Drop)]
+struct Add<'w> {
+    source: &'w [u8],
+}
+
+/// To add a source whose entries take the place of what has their ids.
+#[derive(Drop)]
+struct Override<'w> {
+    source: &'w [u8],
+}
+
+/// To tell what was passed over.
+#[derive(Drop)]
+struct Report {}
+
+impl Slot {
+    /// Adds a source. What can't be read in it, and messages whose id is there, are passed over. That it is no UTF-8 is told
+    /// before any memory is taken.
+    pub fn add(&mut self, alloc: Global, source: &[u8]) -> u8
+        ensures { Does (WhenOpen (Adds source.now)) self result }
+    {
+        self.ask(alloc, &Add { source }).status()
+    }
+
+    /// Adds a source whose entries take the place of what has their ids.
+    pub fn add_overriding(&mut self, alloc: Global, source: &[u8]) -> u8
+        ensures { Does (WhenOpen (Overrides source.now)) self result }
+    {
+        self.ask(alloc, &Override { source }).status()
+    }
+
+    /// Gives what was passed over in the source that was added last: a line for each part that can't be read, and for each
+    /// entry whose id was there.
+    pub fn report(&mut self, alloc: Global, out: &mut [u8], length: &mut usize) -> u8
+        ensures { GivesText (WhenOpen Reports) self out length result }
+    {
+        self.ask(alloc, &Report {}).give_one(out, length)
+    }
+}
+
+impl Call for Add<'_> {
+    ghost does = { λ add. Adds add.source.now };
+
+    fn done<'r, 's: 'r>(&self, alloc: Global, stock: &mut Stock<'r, 's>) -> Answer {
+        let (resource, unreadable) = match stock.read(alloc, self.source) {
+            Ok(read) => read,
+            Err(fault) => return Answer::Fault(fault),
+        };
+        match stock.put(alloc, resource, unreadable.as_slice()) {
+            Ok(()) => Answer::Done,
+            Err(AllocError) => Answer::Fault(SourceFault::Memory),
+        }
+    }
+}
+
+impl Call for Override<'_> {
+    ghost does = { λ add. Overrides add.source.now };
+
+    fn done<'r, 's: 'r>(&self, alloc: Global, stock: &mut Stock<'r, 's>) -> Answer {
+        let (resource, unreadable) = match stock.read(alloc, self.source) {
+            Ok(read) => read,
+            Err(fault) => return Answer::Fault(fault),
+        };
+        match stock.put_over(alloc, resource, unreadable.as_slice()) {
+            Ok(()) => Answer::Done,
+            Err(AllocError) => Answer::Fault(SourceFault::Memory),
+        }
+    }
+}
+
+impl Call for Report {
+    ghost does = { λ _. Reports };
+
+    fn done<'r, 's: 'r>(&self, alloc: Global, stock: &mut Stock<'r, 's>) -> Answer {
+        match String::from_str(alloc, stock.told.as_str()) {
+            Ok(text) => Answer::Texts {
+                text,
+                lines: String::new(alloc),
+            },
+            Err(AllocError) => Answer::Fault(SourceFault::Memory),
+        }
+    }
+}

@@ -1,0 +1,98 @@
+//! Says which messages there are.
+ghost use Rattle.fluent_c_handles.specs.Calls.{Finds, Has, ListsIds, WhenOpen};
+ghost use Rattle.fluent_c_handles.specs.Kept.{Does, GivesText};
+
+use crate::answer::Answer;
+use crate::lookup::is_there;
+use crate::message_ids::listed;
+use crate::slot::Slot;
+use crate::sources::SourceFault;
+use crate::stock::Stock;
+use crate::texts::FormatFault;
+use crate::turns::Call;
+use std::alloc::{AllocError, Global};
+use std::str;
+
+/// The ids of all messages.
+#[derive(Drop)]
+struct Ids {}
+
+/// Whether there is a message.
+#[derive(Drop)]
+struct Message<'w> {
+    id: &'w [u8],
+}
+
+/// Whether there is a message with a value, or with an attribute.
+#[derive(Drop)]
+struct Part<'w> {
+    id: &'w [u8],
+    name: &'w [u8],
+}
+
+impl Slot {
+    /// Gives the ids of all messages, a line each.
+    pub fn ids(&mut self, alloc: Global, out: &mut [u8], length: &mut usize) -> u8
+        ensures { GivesText (WhenOpen ListsIds) self out length result }
+    {
+        self.ask(alloc, &Ids {}).give_one(out, length)
+    }
+
+    /// Whether there is a message.
+    pub fn has(&mut self, alloc: Global, id: &[u8]) -> u8
+        ensures { Does (WhenOpen (Has id.now)) self result }
+    {
+        self.ask(alloc, &Message { id }).status()
+    }
+
+    /// Whether there is a message with a value, or with an attribute of a name that is not empty.
+    pub fn find(&mut self, alloc: Global, id: &[u8], name: &[u8]) -> u8
+        ensures { Does (WhenOpen (Finds id.now name.now)) self result }
+    {
+        self.ask(alloc, &Part { id, name }).status()
+    }
+}
+
+impl Call for Ids {
+    ghost does = { λ _. ListsIds };
+
+    fn done<'r, 's: 'r>(&self, alloc: Global, stock: &mut Stock<'r, 's>) -> Answer {
+        match listed(alloc, &stock.bundle, stock.added.as_slice()) {
+            Ok(text) => Answer::Texts {
+                text,
+                lines: String::new(alloc),
+            },
+            Err(AllocError) => Answer::Fault(SourceFault::Memory),
+        }
+    }
+}
+
+impl Call for Message<'_> {
+    ghost does = { λ it. Has it.id.now };
+
+    fn done<'r, 's: 'r>(&self, _: Global, stock: &mut Stock<'r, 's>) -> Answer {
+        let Ok(id) = str::from_utf8(self.id) else {
+            return Answer::Fault(SourceFault::Format(FormatFault::NotText));
+        };
+        if stock.bundle.has_message(id) {
+            Answer::Done
+        } else {
+            Answer::Fault(SourceFault::Format(FormatFault::NoMessage))
+        }
+    }
+}
+
+impl Call for Part<'_> {
+    ghost does = { λ it. Finds it.id.now it.name.now };
+
+    fn done<'r, 's: 'r>(&self, _: Global, stock: &mut Stock<'r, 's>) -> Answer {
+        let (Ok(id), Ok(name)) = (str::from_utf8(self.id), str::from_utf8(self.name)) else {
+            return Answer::Fault(SourceFault::Format(FormatFault::NotText));
+        };
+        if is_there(&stock.bundle, id, name) {
+            Answer::Done
+        } else {
+            Answer::Fault(SourceFault::Format(FormatFault::NoMessage))
+        }
+    }
+}

@@ -1,0 +1,163 @@
+//! Opens a bundle, and sets it up.
+ghost use Rattle.std.specs.Prelude.{◌≡◌, None, is_some};
+ghost use Rattle.fluent_c_handles.specs.Calls.{Opens, OpensByRules, SetsLimit, WhenOpen};
+ghost use Rattle.fluent_c_handles.specs.Held.{meant_by};
+ghost use Rattle.fluent_c_handles.specs.Inside.Boxed.{Boxed};
+ghost use Rattle.fluent_c_handles.specs.Kept.{Does};
+
+use crate::answer::Answer;
+use crate::opening::OpenFault;
+use crate::slot::Slot;
+use crate::sources::SourceFault;
+use crate::stock::Stock;
+use crate::turns::{Call, Turn};
+use self_borrow::RawBox;
+use std::alloc::Global;
+
+/// By the tag of its language.
+#[derive(Drop)]
+struct ByTag<'w> {
+    tag: &'w [u8],
+    isolate: bool,
+}
+
+/// By the texts of its plural rules.
+#[derive(Drop)]
+struct ByRules<'w> {
+    cardinal: &'w [u8],
+    ordinal: &'w [u8],
+    isolate: bool,
+}
+
+/// How many placeables one call opens.
+#[derive(Drop)]
+struct Limit {
+    limit: usize,
+}
+
+impl Slot {
+    /// Opens a bundle, by the tag of its language.
+    pub fn open(&mut self, alloc: Global, tag: &[u8], isolate: bool) -> u8
+        ensures { Does (Opens tag.now isolate) self result }
+    {
+        self.turn(alloc, &ByTag { tag, isolate }).status()
+    }
+
+    /// Opens a bundle, by the texts of its plural rules.
+    pub fn open_rules(
+        &mut self,
+        alloc: Global,
+        cardinal: &[u8],
+        ordinal: &[u8],
+        isolate: bool,
+    ) -> u8
+        ensures { Does (OpensByRules cardinal.now ordinal.now isolate) self result }
+    {
+        let rules = ByRules {
+            cardinal,
+            ordinal,
+            isolate,
+        };
+        self.turn(alloc, &rules).status()
+    }
+
+    /// Sets how many placeables one call opens, from 1 to 10,000.
+    pub fn set_limit(&mut self, alloc: Global, limit: usize) -> u8
+        ensures { Does (WhenOpen (SetsLimit limit)) self result }
+    {
+        self.ask(alloc, &Limit { limit }).status()
+    }
+}
+
+impl Turn for ByTag<'_> {
+    ghost does = { λ by. Opens by.tag.now by.isolate };
+
+    fn done<'r, 's: 'r>(
+        &self,
+        alloc: Global,
+        stock: RawBox<Stock<'r, 's>, Global>,
+        is_open: bool,
+    ) -> (RawBox<Stock<'r, 's>, Global>, bool, Answer) {
+        if is_open {
+            return (stock, true, Answer::Open);
+        }
+        open_by_tag(alloc, stock, self.tag, self.isolate)
+    }
+}
+
+impl Turn for ByRules<'_> {
+    ghost does = { λ by. OpensByRules by.cardinal.now by.ordinal.now by.isolate };
+
+    fn done<'r, 's: 'r>(
+        &self,
+        alloc: Global,
+        stock: RawBox<Stock<'r, 's>, Global>,
+        is_open: bool,
+    ) -> (RawBox<Stock<'r, 's>, Global>, bool, Answer) {
+        if is_open {
+            return (stock, true, Answer::Open);
+        }
+        open_by_rules(alloc, stock, self)
+    }
+}
+
+impl Call for Limit {
+    ghost does = { λ it. SetsLimit it.limit };
+
+    #[tactic(auto, using(crate::proofs::Limits::limits))]
+    fn done<'r, 's: 'r>(&self, _: Global, stock: &mut Stock<'r, 's>) -> Answer {
+        if stock.bundle.set_placeable_limit(self.limit) {
+            Answer::Done
+        } else {
+            Answer::OutOfRange
+        }
+    }
+}
+
+/// Opens a bundle where there is none.
+fn open_by_tag<'r, 's: 'r>(
+    alloc: Global,
+    none: RawBox<Stock<'r, 's>, Global>,
+    tag: &[u8],
+    isolate: bool,
+) -> (RawBox<Stock<'r, 's>, Global>, bool, Answer)
+    requires { none.held ≡ None }
+    ensures opens { Opens tag.now isolate None (meant_by result.0.held) result.2 }
+    ensures open { result.1 ≡ is_some result.0.held }
+{
+    let opened = Stock::open(alloc, tag, isolate);
+    boxed(alloc, none, opened)
+}
+
+/// Opens a bundle where there is none.
+fn open_by_rules<'r, 's: 'r>(
+    alloc: Global,
+    none: RawBox<Stock<'r, 's>, Global>,
+    by: &ByRules<'_>,
+) -> (RawBox<Stock<'r, 's>, Global>, bool, Answer)
+    requires { none.held ≡ None }
+    ensures opens { OpensByRules by.now.cardinal.now by.now.ordinal.now by.now.isolate None (meant_by result.0.held) result.2 }
+    ensures open { result.1 ≡ is_some result.0.held }
+{
+    let opened = Stock::open_by_rules(alloc, by.cardinal, by.ordinal, by.isolate);
+    boxed(alloc, none, opened)
+}
+
+/// Puts a bundle that was opened into a box.
+fn boxed<'r, 's: 'r>(
+    alloc: Global,
+    none: RawBox<Stock<'r, 's>, Global>,
+    opened: Result<Stock<'r, 's>, OpenFault>,
+) -> (RawBox<Stock<'r, 's>, Global>, bool, Answer)
+    requires { none.held ≡ None }
+    ensures boxed { Boxed opened.entry (meant_by result.0.held) result.2 }
+    ensures open { result.1 ≡ is_some result.0.held }
+{
+    match opened {
+        Ok(stock) => match Box::new(alloc, stock) {
+            Ok(stock) => (RawBox::of(stock), true, Answer::Done),
+            Err(_) => (none, false, Answer::Fault(SourceFault::Memory)),
+        },
+        Err(fault) => (none, false, Answer::Fault(SourceFault::Open(fault))),
+    }
+}

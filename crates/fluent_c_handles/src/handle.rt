@@ -1,0 +1,81 @@
+//! A bundle by a handle that C can hold.
+ghost use Rattle.std.specs.Prelude.{◌≡◌, None, Some, Option, is_some};
+ghost use Rattle.self_borrow.specs.Owned.{IsHeld};
+ghost use Rattle.fluent_c_handles.specs.Handles.{handle_owns, held_coded};
+ghost use Rattle.fluent_c_handles.specs.Held.{meant_by};
+ghost use Rattle.fluent_c_handles.specs.declared.stock.Stock.{Stock as Held};
+
+use crate::answer::Answer;
+use crate::closing::{drop_bundle, free_resources, free_sources};
+use crate::stock::Stock;
+use crate::turns::{Turn, take_turn};
+use self_borrow::{Ended, Lifetime, RawBox};
+use std::alloc::Global;
+use std::marker::Model;
+use std::ptr::null_mut;
+
+/// What a handle holds: a bundle, its resources and their sources in one, or nothing.
+#[repr(C)]
+#[derive(Drop)]
+pub struct Handle {
+    ptr: *mut u8,
+    alloc: Global,
+    pub ghost held: { Option Held } by { held_coded },
+}
+
+impl Model for Handle {
+    ghost also_owns = { λ h. handle_owns h.alloc h.ptr h.held };
+}
+
+impl Handle {
+    /// Holds nothing.
+    pub(crate) fn none(alloc: Global) -> Handle
+        ensures { result.held ≡ None }
+    {
+        Handle {
+            ptr: null_mut(),
+            alloc,
+        }
+    }
+
+    /// Does something of what is held, and says whether a bundle is open then.
+    pub(crate) fn turn<T: Turn>(
+        self,
+        alloc: Global,
+        is_open: bool,
+        what: &T,
+    ) -> (Handle, bool, Answer)
+        requires { is_open ≡ is_some self.held }
+        ensures { T.does what.now (meant_by self.held) (meant_by result.0.held) result.2 × (result.1 ≡ is_some result.0.held) }
+    {
+        let Handle { ptr, alloc: own } = self;
+        let stock = RawBox {
+            ptr: ptr as *mut Stock,
+            alloc: own,
+        };
+        let (stock, is_open, answer) = take_turn(alloc, stock, is_open, what);
+        let RawBox { ptr, alloc: own } = stock;
+        (
+            Handle {
+                ptr: ptr as *mut u8,
+                alloc: own,
+            },
+            is_open,
+            answer,
+        )
+    }
+
+    /// Drops the bundle, and then frees the resources, and then their sources.
+    pub(crate) fn close(self)
+        requires { IsHeld self.held }
+    {
+        let Handle { ptr, alloc } = self;
+        let stock = RawBox {
+            ptr: ptr as *mut Stock,
+            alloc,
+        };
+        let (Lifetime { a: _ }, rest) = drop_bundle(stock);
+        let (Lifetime { a: _ }, last) = free_resources(Ended {}, rest);
+        free_sources(Ended {}, last);
+    }
+}

@@ -1,0 +1,32 @@
+//! Bundles for other languages: asked by runs of bytes, kept behind a handle, and asked in turn; what stands after each
+//! call from C.
+#![tactic(auto)]
+
+mod adding;
+mod answer;
+mod buffers;
+mod calls;
+mod closing;
+mod counted;
+mod encoded;
+mod first;
+mod handle;
+pub mod laws;
+mod left;
+mod lines;
+mod lookup;
+mod message_ids;
+mod opening;
+mod shelves;
+mod slot;
+mod sources;
+mod stock;
+mod telling;
+mod texts;
+mod turns;
+
+pub use first::format_first;
+pub use handle::Handle;
+pub use slot::Slot;
+pub use sources::format_source;
+pub use texts::Lengths;

@@ -1,0 +1,51 @@
+//! Whether a bundle has a message, and the values of arguments.
+ghost use Rattle.std.specs.Prelude.{◌≡◌, [], is_some, map, IfOk};
+ghost use Rattle.fluent_values.specs.View.{value_view};
+ghost use Rattle.fluent_c_handles.specs.Inside.ArgumentView.{argument_view};
+ghost use Rattle.fluent_c_handles.specs.Lookup.{arguments_of, found_at, value_of};
+ghost use Rattle.fluent_c_handles.specs.PlainView.{args_view, bundle_view};
+
+use crate::encoded::Argument;
+use crate::opening::Plain;
+use fluent_bundle::{FluentArgs, FluentValue, NoCustom};
+use std::alloc::{AllocError, Global};
+use std::borrow::CowStr;
+
+/// Whether there is a message of the id with a value, or with an attribute of a name that is not empty. Takes no memory.
+pub(crate) fn is_there<'r, 's: 'r>(bundle: &Plain<'r, 's>, id: &str, name: &str) -> bool
+    ensures { result ≡ is_some (found_at id.now name.now (bundle_view bundle.now)) }
+{
+    let Some(message) = bundle.get_message(id) else {
+        return false;
+    };
+    if name.is_empty() {
+        message.value().is_some()
+    } else {
+        message.get_attribute(name).is_some()
+    }
+}
+
+/// The value of an argument.
+fn value<'w>(argument: &Argument<'w>) -> FluentValue<'w, NoCustom>
+    ensures { value_view (λ c. []) result ≡ value_of (argument_view argument.now) }
+{
+    if argument.is_number {
+        FluentValue::try_number(argument.value)
+    } else {
+        FluentValue::String(CowStr::Borrowed(argument.value))
+    }
+}
+
+/// The arguments of a call. The last of a repeated name stands.
+pub(crate) fn values<'w>(
+    alloc: Global,
+    list: &[Argument<'w>],
+) -> Result<FluentArgs<'w, NoCustom>, AllocError>
+    ensures { IfOk result (λ args. args_view args ≡ arguments_of (map argument_view list.now)) }
+{
+    let mut args = FluentArgs::new(alloc);
+    for argument in list {
+        args.set(CowStr::Borrowed(argument.name), value(argument))?;
+    }
+    Ok(args)
+}

@@ -1,0 +1,82 @@
+//! The ids of the messages of a bundle, a line each.
+ghost use Rattle.std.specs.Prelude.{◌≡◌, IfOk, OnOk, string_bytes};
+ghost use Rattle.fluent_bundle.specs.BundleView.{entries_of};
+ghost use Rattle.fluent_c_handles.specs.PlainView.{bundle_view};
+ghost use Rattle.fluent_c_handles.specs.Inside.Gathered.{Puts, PutsAll, texts_of};
+ghost use Rattle.fluent_c_handles.specs.Inside.Given.{given};
+ghost use Rattle.fluent_c_handles.specs.Listed.{AllFrom, id_lines, message_ids};
+
+use crate::opening::Plain;
+use fluent_bundle::FluentResource;
+use fluent_syntax::ast;
+use std::alloc::{AllocError, Global};
+use std::collections::BTreeSet;
+
+/// A resource that was added to a bundle.
+#[derive(Clone, Copy, Debug, Drop)]
+pub struct Added<'r, 's> {
+    pub resource: &'r FluentResource<'s>,
+}
+
+/// The ids of the messages of a bundle, a line each, in the order of their bytes. The resources are those that the
+/// bundle's messages come from.
+///
+/// # Errors
+///
+/// An allocation failed.
+pub fn listed(
+    alloc: Global,
+    bundle: &Plain<'_, '_>,
+    resources: &[Added<'_, '_>],
+) -> Result<String, AllocError>
+    requires { AllFrom (given resources.now) (bundle_view bundle.now) }
+    ensures { IfOk result (λ t. string_bytes t ≡ id_lines (message_ids (bundle_view bundle.now))) }
+{
+    let mut ids = BTreeSet::new(alloc);
+    for added in resources {
+        put_entries(bundle, added.resource, &mut ids)?;
+    }
+    lines(alloc, ids)
+}
+
+/// Puts the ids of the messages of a bundle that are among the entries of a resource beside others.
+fn put_entries<'s>(
+    bundle: &Plain<'_, '_>,
+    resource: &FluentResource<'s>,
+    ids: &mut BTreeSet<&'s str>,
+) -> Result<(), AllocError>
+    ensures { OnOk result (PutsAll (bundle_view bundle.now) (entries_of resource.now) ids.old ids.new) }
+{
+    for entry in resource.entries() {
+        if let ast::Entry::Message(message) = entry {
+            put(bundle, message.id.name, ids)?;
+        }
+    }
+    Ok(())
+}
+
+/// Puts an id beside others where it names a message of the bundle.
+fn put<'s>(
+    bundle: &Plain<'_, '_>,
+    id: &'s str,
+    ids: &mut BTreeSet<&'s str>,
+) -> Result<(), AllocError>
+    ensures { OnOk result (Puts (bundle_view bundle.now) id.now ids.old ids.new) }
+{
+    if bundle.has_message(id) {
+        ids.insert(id)?;
+    }
+    Ok(())
+}
+
+/// A line for each id.
+fn lines(alloc: Global, ids: BTreeSet<&str>) -> Result<String, AllocError>
+    ensures { IfOk result (λ text. string_bytes text ≡ id_lines (texts_of ids.entry.keys)) }
+{
+    let mut text = String::new(alloc);
+    for id in ids {
+        text.push_str(id)?;
+        text.push_str("\n")?;
+    }
+    Ok(text)
+}

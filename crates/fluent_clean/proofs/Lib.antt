@@ -1,8 +1,0 @@
-pub mod Acyclic
-pub mod NoErrors
-pub mod Counted
-pub mod SetTerms
-pub mod Deepened
-pub mod Cleaned
-pub mod Grounded
-pub mod RowProofs

@@ -1,7 +1,0 @@
-pub mod Places
-pub mod Needs
-pub mod Clean
-pub mod Placeables
-pub mod Unclean
-pub mod Laws
-pub mod Rows

@@ -1,0 +1,10 @@
+use Rattle.std.proofs.Common.{◌∙◌}
+use Rattle.fluent_bundle.specs.BundleView.{value_at, meant}
+use Rattle.fluent_fallback.specs.ChainView.{bundles_of}
+use Rattle.fluent_fallback.proofs.First.{index-map}
+use Rattle.fluent_fallback.proofs.chain.Chain.find_value.Goals as goal
+
+pub returns : goal.returns
+returns g c =
+    let of = meant g.M.MemoizerKind.category g.C.FluentType.shown g.C.FluentType.alike g.F.FluentFunction.answer g.G.FluentFormatter.formatted g.T.Transform.changed in
+    c.find.ensures ∙ index-map of (value_at c.args.id.now) (bundles_of c.args.self.now)

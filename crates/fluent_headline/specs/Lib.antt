@@ -1,3 +1,0 @@
-pub mod Headline
-pub mod ById
-pub mod Inside

@@ -1,7 +1,0 @@
-use Rattle.std.proofs.Common.{refl}
-use Rattle.fluent_intl.specs.LanguageTable.{cldr_plurals}
-use Rattle.fluent_intl.proofs.languages.cldr_plurals.Goals as goal
-
-pub returns : goal.returns
-unfolding cldr_plurals
-returns c = refl

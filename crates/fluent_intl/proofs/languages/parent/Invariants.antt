@@ -1,6 +1,0 @@
-use Rattle.std.proofs.Common.{◌≡◌, ◌∷◌, [], drop}
-use Rattle.fluent_intl.specs.Languages.{shortened}
-use Rattle.fluent_intl.proofs.languages.parent.Given as goal
-
-abbrev pub invariant-loop-end : goal.invariant-loop-end
-invariant-loop-end l = shortened (drop l.end l.tag) ≡ drop l.end l.tag ∷ []

@@ -1,8 +1,0 @@
-use Rattle.std.proofs.Common.{sym, ◌∙◌}
-use Rattle.fluent_intl.specs.Languages.{content}
-use Rattle.fluent_intl.proofs.TagLemmas.{own_first}
-use Rattle.fluent_intl.proofs.languages.rules_for.Goals as goal
-
-pub returns-in-Some : goal.returns-in-Some
-returns-in-Some c =
-    sym (own_first c.args.table.now c.loop-rules.asked.now (content c.in-Some.rules) (sym (c.in-Some.ensures))) ∙ c.loop-rules.invariant

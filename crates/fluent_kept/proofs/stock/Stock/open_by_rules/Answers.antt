@@ -1,6 +1,0 @@
-use Rattle.fluent_kept.proofs.From.{opened_by_from}
-use Rattle.fluent_kept.proofs.stock.Stock.open_by_rules.Goals as goal
-
--- nothing was added yet
-pub of-requires : goal.of-requires
-of-requires c = opened_by_from _ _ _ _ c.in-Ok.ensures.ok

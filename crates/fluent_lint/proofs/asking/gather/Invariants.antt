@@ -1,0 +1,11 @@
+use Rattle.std.proofs.Common.{◌-◌, ◌^◌}
+use Rattle.fluent_lint.specs.Asked.{texts}
+use Rattle.fluent_lint.specs.PlaceView.{views, place_view}
+use Rattle.fluent_lint.specs.Inside.Reached.{Gathered}
+use Rattle.fluent_lint.proofs.asking.gather.Given as goal
+
+abbrev pub invariant-loop-next : goal.invariant-loop-next
+invariant-loop-next g l = Gathered (g.B.GetEntry.named l.bundle) (place_view l.place) l.next (views l.reached.keys) (texts l.names.keys)
+
+abbrev pub decreases-loop-next : goal.decreases-loop-next
+decreases-loop-next g l = 2 ^ 64 - l.next

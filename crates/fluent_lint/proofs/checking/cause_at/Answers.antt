@@ -1,9 +1,0 @@
-use Rattle.std.proofs.Common.{◌≡◌, Some, rules}
-use Rattle.fluent_lint.proofs.Reported.{some_there}
-use Rattle.fluent_lint.proofs.Tables.{right_known}
-use Rattle.fluent_lint.proofs.checking.cause_at.Goals as goal
-
-pub returns-in-Some-Some : goal.returns-in-Some-Some
-returns-in-Some-Some g c =
-    let counts : c.in-Some-Some.field-0.now ≡ Some c.in-Some-Some.field-0-0 = search (rules, c.in-Some-Some.field-0-is) in
-    ((_, some_there _ _ c.in-Some.ensures), right_known _ _ c.args.place.now _ _ c.requires c.in-Some-Some.ensures.value counts)

@@ -1,8 +1,0 @@
-use Rattle.fluent_tree.specs.Tree.{is_yes}
-use Rattle.fluent_clean.specs.Places.{place_same}
-use Rattle.fluent_lint.specs.PlaceView.{place_view}
-use Rattle.fluent_lint.proofs.Gathering.{adds_inserted, place_test}
-use Rattle.fluent_lint.proofs.variables.add_place.Goals as goal
-
-pub returns : goal.returns
-returns c = adds_inserted place_view (λ a b. is_yes (place_same (place_view a) (place_view b))) place_test c.args.place c.args.places.now.keys c.insert.new.self.keys c.in_ok-insert.ensures.keys

@@ -1,6 +1,0 @@
-mod Among
-mod Missing
-mod Telling
-mod Round
-mod Again
-mod Linted

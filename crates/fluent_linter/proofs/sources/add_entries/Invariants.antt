@@ -1,8 +1,0 @@
-use Rattle.std.proofs.Common.{map, take}
-use Rattle.fluent_tree.specs.View.{entry_view}
-use Rattle.fluent_linter.specs.Twice.{defined_from}
-use Rattle.fluent_linter.specs.Inside.Seen.{GoesOver}
-use Rattle.fluent_linter.proofs.sources.add_entries.Given as goal
-
-abbrev pub invariant-loop-k : goal.invariant-loop-k
-invariant-loop-k l = GoesOver (defined_from l.resource 0 (map entry_view (take l.k l.entries))) l.initial.seen l.seen

@@ -1,7 +1,0 @@
-use Rattle.std.proofs.Common.{◌≡◌, take}
-use Rattle.fluent_lint.specs.Findings.{views}
-use Rattle.fluent_linter.specs.Lints.{places_in}
-use Rattle.fluent_linter.proofs.sources.places_in.Given as goal
-
-abbrev pub invariant-loop-resource : goal.invariant-loop-resource
-invariant-loop-resource l = views l.places.items ≡ places_in (take l.resource-index l.resources)

@@ -1,4 +1,0 @@
-pub mod Findings
-pub mod Lints
-pub mod Twice
-pub mod Inside

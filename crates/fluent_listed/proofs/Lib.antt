@@ -1,4 +1,0 @@
-mod Gathered
-mod Inserted
-mod Line
-mod Ordered

@@ -1,4 +1,0 @@
-pub mod Given
-pub mod Listed
-pub mod Gathered
-pub mod Facts

@@ -1,5 +1,0 @@
-use Rattle.fluent_meaning.proofs.Whole.{text_whole}
-use Rattle.fluent_meaning.proofs.laws.is_a_whole_text.Goals as goal
-
-pub returns : goal.returns
-returns c = text_whole c.args.text.now c.utf8.text

@@ -1,5 +1,0 @@
-use Rattle.fluent_meaning.proofs.Quiet.{marks_balanced}
-use Rattle.fluent_meaning.proofs.laws.marks_are_balanced.Goals as goal
-
-pub returns : goal.returns
-returns c s = marks_balanced

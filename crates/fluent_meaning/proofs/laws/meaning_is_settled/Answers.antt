@@ -1,5 +1,0 @@
-use Rattle.fluent_meaning.proofs.Deeper.{settled}
-use Rattle.fluent_meaning.proofs.laws.meaning_is_settled.Goals as goal
-
-pub returns : goal.returns
-returns c s = settled

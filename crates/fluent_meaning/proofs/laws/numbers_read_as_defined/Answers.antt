@@ -1,5 +1,0 @@
-use Rattle.fluent_meaning.proofs.Readings.{reads_as_defined}
-use Rattle.fluent_meaning.proofs.laws.numbers_read_as_defined.Goals as goal
-
-pub returns : goal.returns
-returns c = reads_as_defined

@@ -1,5 +1,0 @@
-use Rattle.fluent_meaning.proofs.Whole.{text_whole}
-use Rattle.fluent_meaning.proofs.laws.texts_are_whole.Goals as goal
-
-pub returns : goal.returns
-returns c = text_whole

@@ -1,9 +1,0 @@
-//! Worked rows of the look-up.
-ghost use Rattle.fluent_negotiate.specs.Rows.{Answers, Lists, Trials};
-
-/// What is tried for ranges, what serves them, and in which order.
-pub fn look_up_cuts_from_the_end()
-    ensures trials { Trials }
-    ensures answers { Answers }
-    ensures lists { Lists }
-{}

@@ -1,0 +1,9 @@
+pub mod Languages
+pub mod LanguageTable
+pub mod RuleTree
+pub mod RuleGrammar
+pub mod RuleMeaning
+pub mod RuleTexts
+pub mod EnglishRules
+pub mod RuleRelations
+pub mod Inside

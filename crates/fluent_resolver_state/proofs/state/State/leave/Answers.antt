@@ -1,0 +1,5 @@
+use Rattle.fluent_entries.specs.IdNumbers.{table}
+use Rattle.fluent_resolver_state.proofs.state.State.leave.Goals as goal
+
+pub invariant_of-self : goal.invariant_of-self
+invariant_of-self g c = record { classed = c.leave.ensures.classes (table c.args.self.now.ids.now) c.args.self.now.classed }

@@ -1,0 +1,12 @@
+pub mod Gathered
+pub mod Locals
+pub mod FoundView
+pub mod PathContents
+pub mod Status
+pub mod Happened
+pub mod Steps
+pub mod Choice
+pub mod ChosenView
+pub mod Written
+pub mod StateCalls
+pub mod Facts

@@ -1,0 +1,92 @@
+//! Fallbacks: how an expression shows where it can't be resolved.
+
+ghost use Rattle.std.specs.Prelude.{◌≢◌, Err};
+ghost use Rattle.fluent_values.specs.Sinks.{GoesThrough};
+ghost use Rattle.fluent_ast.specs.Fallback.{fallback, dotted, in_braces};
+ghost use Rattle.fluent_ast.specs.View.{inline_view, attribute_of};
+ghost use Rattle.fluent_resolver_state.specs.StateCalls.{Puts};
+
+use fluent_ast::ast::{Expression, Identifier, InlineExpression};
+use fluent_values::output::{Halt, Output, put_text};
+use std::io::Write;
+
+/// Writes a message's id in braces.
+#[inline(never)]
+#[cold]
+pub fn put_id_in_braces<W: Write>(out: &mut Output<W>, id: &str) -> Result<(), Halt>
+    ensures { Puts W.contents (in_braces id.now) result out }
+{
+    put_text(out, "{")?;
+    put_text(out, id)?;
+    put_text(out, "}")
+}
+
+/// Writes an expression's fallback in braces.
+#[inline(never)]
+#[cold]
+pub fn put_in_braces<W: Write>(
+    out: &mut Output<W>,
+    expression: &InlineExpression,
+) -> Result<(), Halt>
+    ensures took { Puts W.contents (in_braces (fallback (inline_view expression.now))) result out }
+    ensures memory { GoesThrough out.old → result ≢ Err Halt.Memory }
+{
+    put_text(out, "{")?;
+    put_fallback(out, expression)?;
+    put_text(out, "}")
+}
+
+/// Writes an expression's fallback, without braces.
+pub(crate) fn put_fallback<W: Write>(
+    out: &mut Output<W>,
+    expression: &InlineExpression,
+) -> Result<(), Halt>
+    ensures took { Puts W.contents (fallback (inline_view expression.now)) result out }
+    ensures memory { GoesThrough out.old → result ≢ Err Halt.Memory }
+{
+    match expression {
+        InlineExpression::StringLiteral { value } => {
+            put_text(out, "\"")?;
+            put_text(out, value)?;
+            put_text(out, "\"")
+        }
+        InlineExpression::NumberLiteral { value } => put_text(out, value),
+        InlineExpression::FunctionReference { id, .. } => {
+            put_text(out, id.name)?;
+            put_text(out, "()")
+        }
+        InlineExpression::MessageReference { id, attribute } => put_dotted(out, id, attribute),
+        InlineExpression::TermReference { id, attribute, .. } => {
+            put_text(out, "-")?;
+            put_dotted(out, id, attribute)
+        }
+        InlineExpression::VariableReference { id } => {
+            put_text(out, "$")?;
+            put_text(out, id.name)
+        }
+        InlineExpression::Placeable { expression } => match &**expression {
+            Expression::Inline(shown)
+            | Expression::Select {
+                selector: shown,
+                ..
+            } => put_fallback(out, shown),
+        },
+    }
+}
+
+/// Writes a name, and after a point that of an attribute.
+fn put_dotted<W: Write>(
+    out: &mut Output<W>,
+    id: &Identifier,
+    attribute: &Option<Identifier>,
+) -> Result<(), Halt>
+    ensures took { Puts W.contents (dotted id.now.name.now (attribute_of attribute.now)) result out }
+    ensures memory { GoesThrough out.old → result ≢ Err Halt.Memory }
+{
+    put_text(out, id.name)?;
+    if let Some(attribute) = attribute {
+        put_text(out, ".")?;
+        put_text(out, attribute.name)?;
+    }
+    Ok(())
+}

@@ -1,0 +1,16 @@
+pub mod Backwards
+pub mod Bare
+pub mod Classes
+pub mod ContentView
+pub mod FirstLine
+pub mod Gathering
+pub mod Leaving
+pub mod Nests
+pub mod PartView
+pub mod Parts
+pub mod PieceView
+pub mod Progress
+pub mod Pushing
+pub mod Reading
+pub mod Slice
+pub mod Trimmed

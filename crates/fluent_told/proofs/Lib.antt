@@ -1,5 +1,0 @@
-mod ToldRows
-pub mod Counting
-pub mod Going
-pub mod Writing
-pub mod Placing

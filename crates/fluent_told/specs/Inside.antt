@@ -1,4 +1,0 @@
-pub mod Counted
-pub mod Lines
-pub mod Seen
-pub mod Telling

@@ -1,4 +1,0 @@
-pub mod Told
-pub mod Rows
-pub mod Inside
-pub mod Facts

@@ -1,6 +1,0 @@
-use Rattle.std.proofs.Common.{◌≡◌, map, take}
-use Rattle.fluent_tree.specs.View.{attribute_view}
-use Rattle.fluent_tree.proofs.same_entries.same_attributes.Given as goal
-
-abbrev pub invariant-attributes : goal.invariant-attributes
-invariant-attributes l = map attribute_view (take l.i l.a) ≡ map attribute_view (take l.i l.b)

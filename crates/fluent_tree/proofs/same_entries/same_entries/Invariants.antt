@@ -1,6 +1,0 @@
-use Rattle.std.proofs.Common.{◌≡◌, map, take}
-use Rattle.fluent_tree.specs.View.{entry_view}
-use Rattle.fluent_tree.proofs.same_entries.same_entries.Given as goal
-
-abbrev pub invariant-entries : goal.invariant-entries
-invariant-entries l = map entry_view (take l.i l.a) ≡ map entry_view (take l.i l.b)

@@ -1,0 +1,13 @@
+//! What a test asserts.
+use std::process::Abort;
+
+/// Asserts that something holds. A call is one step of a test's proof, where `assert!` puts its message and its end
+/// into it.
+pub fn check(rt: &impl Abort, holds: bool, what: &str) {
+    assert!(rt; holds, "{what}");
+}
+
+/// Asserts that a text is found.
+pub fn check_same(rt: &impl Abort, found: &str, wanted: &str) {
+    assert!(rt; found == wanted, "{wanted}: {found}");
+}
