@@ -17,8 +17,8 @@ use Rattle.fluent_semantics.specs.Errors.{Error}
 use Rattle.fluent_semantics.specs.Number.{is_text}
 use Rattle.fluent_semantics.specs.Result.{formatted, written_pattern, substituted_pattern}
 use Rattle.fluent_semantics.specs.Value.{Value}
-use Rattle.fluent_entries.specs.EntryView.{message_content}
-use Rattle.fluent_entries.specs.MessageView.{first_named}
+use Rattle.fluent_bundle_entries.specs.EntryView.{message_content}
+use Rattle.fluent_bundle_entries.specs.MessageView.{first_named}
 use Rattle.fluent_bundle.specs.Formatted.{AddsPrefix, BorrowsAsked, BorrowsSome, Errors, GivesAsked, GivesSome, GivesText, TakesNoMemory, WritesAll, WritesAsked, WritesPrefix, written_events}
 use Rattle.fluent_bundle.specs.Limits.{KeepsLimit}
 use Rattle.fluent_bundle.specs.PatternsWithoutMemory.{BorrowsText, WritesFree}

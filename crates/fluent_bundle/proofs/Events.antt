@@ -10,7 +10,7 @@ use Rattle.fluent_semantics.specs.Laws.{CallsByThemselves}
 use Rattle.fluent_semantics.specs.Result.{written_pattern}
 use Rattle.fluent_semantics.specs.Value.{Value}
 use Rattle.fluent_semantics.specs.Walk.{Environment, application, elements, has_one, inner}
-use Rattle.fluent_entries.specs.Texts.{sole_text, is_text, texts_of}
+use Rattle.fluent_bundle_entries.specs.Texts.{sole_text, is_text, texts_of}
 use Rattle.fluent_bundle.specs.Facts.Events.{errors_on, text_on, writes_on}
 use Rattle.fluent_bundle.specs.Formatted.{EventsAreRun, written_events}
 

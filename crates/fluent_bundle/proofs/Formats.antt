@@ -21,7 +21,7 @@ use Rattle.fluent_semantics.specs.Events.{Event, entered, errors_in, text_in, wr
 use Rattle.fluent_semantics.specs.Result.{written_pattern, substituted_pattern}
 use Rattle.fluent_semantics.specs.Value.{Value}
 use Rattle.fluent_semantics.specs.Walk.{application, whole}
-use Rattle.fluent_entries.specs.declared.errors.FluentError.{FluentError}
+use Rattle.fluent_bundle_entries.specs.declared.errors.FluentError.{FluentError}
 use Rattle.fluent_resolver.specs.Frames.{Tried}
 use Rattle.fluent_resolver.specs.Scoped.{pattern_events}
 use Rattle.fluent_resolver_state.specs.Status.{Status, reported, with_errors}

@@ -11,10 +11,10 @@ use Rattle.fluent_semantics.specs.Result.{formatted, written_pattern, substitute
 use Rattle.fluent_bundle.specs.Formatted.{AddsAll, AddsPrefix, GivesText}
 use Rattle.fluent_semantics.specs.Walk.{elements}
 use Rattle.fluent_semantics.specs.Meaning.{ran}
-use Rattle.fluent_entries.specs.Texts.{sole_text, is_text}
+use Rattle.fluent_bundle_entries.specs.Texts.{sole_text, is_text}
 use Rattle.fluent_resolver_state.specs.Status.{reported}
 use Rattle.fluent_bundle.specs.Limits.{KeepsLimit}
-use Rattle.fluent_entries.specs.declared.errors.FluentError.{FluentError}
+use Rattle.fluent_bundle_entries.specs.declared.errors.FluentError.{FluentError}
 
 -- the same by substitution, within the limit
 pub gives_within : {E : Type 0} (b : Bundle Text) (env : Map (Value Text)) (p : Pattern) (r : Result (CowStr Global) E) (list list' : List FluentError) → KeepsLimit b env p

@@ -10,7 +10,7 @@ use Rattle.fluent_semantics.specs.Value.{Value}
 use Rattle.fluent_semantics.specs.Arguments.{Map}
 use Rattle.fluent_semantics.specs.Bundle.{Bundle}
 use Rattle.fluent_resolver_state.specs.Status.{reported}
-use Rattle.fluent_entries.specs.declared.errors.FluentError.{FluentError}
+use Rattle.fluent_bundle_entries.specs.declared.errors.FluentError.{FluentError}
 use Rattle.fluent_bundle.specs.Formatted.{AddsAll, AddsPrefix, attribute_errors, attribute_shown, attribute_texts, errors_of, text_of}
 use Rattle.fluent_bundle.specs.declared.messages.FormattedAttribute.{FormattedAttribute}
 

@@ -13,13 +13,13 @@ use Rattle.fluent_intl.specs.declared.language.LanguageIdentifier.{LanguageIdent
 use Rattle.fluent_semantics.specs.Value.{Value, Plurals, Custom}
 use Rattle.fluent_semantics.specs.Arguments.{get}
 use Rattle.fluent_semantics.specs.Bundle.{Bundle, Function, transform_of, formatter_of, Call, after, answered}
-use Rattle.fluent_entries.specs.ErrorView.{error_view}
+use Rattle.fluent_bundle_entries.specs.ErrorView.{error_view}
 use Rattle.fluent_values.specs.View.{value_view}
-use Rattle.fluent_entries.specs.MessageView.{Content, first_named}
-use Rattle.fluent_entries.specs.EntryView.{function_of, ids, message_content}
+use Rattle.fluent_bundle_entries.specs.MessageView.{Content, first_named}
+use Rattle.fluent_bundle_entries.specs.EntryView.{function_of, ids, message_content}
 use Rattle.fluent_values.specs.declared.types.value.FluentValue.{FluentValue}
-use Rattle.fluent_entries.specs.declared.entry.FunctionRef.{FunctionRef}
-use Rattle.fluent_entries.specs.declared.ids.Ids.{Ids}
+use Rattle.fluent_bundle_entries.specs.declared.entry.FunctionRef.{FunctionRef}
+use Rattle.fluent_bundle_entries.specs.declared.ids.Ids.{Ids}
 use Rattle.fluent_bundle.specs.declared.resource.FluentResource.{FluentResource}
 use Rattle.fluent_bundle.specs.declared.resource.TryNewFault.{TryNewFault}
 use Rattle.fluent_bundle.specs.declared.resource.TryNewFault.TheVariants as alloc_failed

@@ -25,10 +25,10 @@ use Rattle.fluent_semantics.specs.Meaning.{Outcome, Ran, left}
 use Rattle.fluent_semantics.specs.Result.{formatted, written_pattern, substituted_pattern}
 use Rattle.fluent_semantics.specs.Value.{Value}
 use Rattle.fluent_semantics.specs.Walk.{application, whole}
-use Rattle.fluent_entries.specs.declared.errors.FluentError.{FluentError}
-use Rattle.fluent_entries.specs.MessageView.{Content}
+use Rattle.fluent_bundle_entries.specs.declared.errors.FluentError.{FluentError}
+use Rattle.fluent_bundle_entries.specs.MessageView.{Content}
 use Rattle.fluent_values.specs.Sinks.{Sink, CountsTell}
-use Rattle.fluent_entries.specs.Texts.{sole_text}
+use Rattle.fluent_bundle_entries.specs.Texts.{sole_text}
 use Rattle.fluent_values.specs.declared.args.FluentArgs.{FluentArgs}
 use Rattle.fluent_values.specs.declared.output.Halt.{Halt}
 use Rattle.fluent_text.specs.Changes.{Change, new, old}

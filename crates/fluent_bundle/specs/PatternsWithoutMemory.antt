@@ -7,7 +7,7 @@ use Rattle.fluent_text.specs.Unescaped.{Borrows}
 use Rattle.fluent_text.specs.declared.counting.WriteFault.{WriteFault}
 use Rattle.fluent_text.specs.declared.counting.WriteFault.TheVariants as fault
 use Rattle.fluent_ast.specs.Tree.{Text, Pattern}
-use Rattle.fluent_entries.specs.Texts.{sole_text, IsTextAlone}
+use Rattle.fluent_bundle_entries.specs.Texts.{sole_text, IsTextAlone}
 use Rattle.fluent_bundle.specs.BundleView.{formatter_in, transform_in}
 use Rattle.fluent_bundle.specs.declared.bundle.FluentBundle.{FluentBundle}
 

@@ -6,8 +6,8 @@ ghost use Rattle.std.specs.Option.{option_map};
 ghost use Rattle.fluent_intl.specs.Plurals.{english};
 ghost use Rattle.fluent_semantics.specs.Bundle.{add_builtins, add_function, add_resource, add_resource_overriding, after, answered, empty_bundle, set_formatter, set_placeable_limit, set_transform, set_use_isolating};
 ghost use Rattle.fluent_bundle.specs.BundleView.{custom_by, entries_in, entries_of, formatter_in, intls_in, message_at, message_entry_at, shown_by, transform_in, AnswersCall, AreUndetermined, Kept, KeptBeside};
-ghost use Rattle.fluent_entries.specs.MessageView.{entry_seen, message_view};
-ghost use Rattle.fluent_entries.specs.ErrorView.{error_view};
+ghost use Rattle.fluent_bundle_entries.specs.MessageView.{entry_seen, message_view};
+ghost use Rattle.fluent_bundle_entries.specs.ErrorView.{error_view};
 ghost use Rattle.fluent_bundle.specs.Inside.AddAnswers.{answer_of};
 
 use crate::resource::FluentResource;
@@ -318,7 +318,7 @@ impl<
     ghost use Rattle.std.specs.Prelude.{Some};
     ghost use Rattle.fluent_semantics.specs.Arguments.{get};
     ghost use Rattle.fluent_semantics.specs.Bundle.{function_found, number_builtin};
-    ghost use Rattle.fluent_entries.specs.EntryView.{ids};
+    ghost use Rattle.fluent_bundle_entries.specs.EntryView.{ids};
     ghost use Rattle.fluent_bundle.specs.BundleView.{function_seen};
 
     // The ids of what the bundle means.

@@ -3,7 +3,7 @@ ghost use Rattle.std.specs.Prelude.{◌≡◌, map, None, IfOk, IsOk, OnOk};
 ghost use Rattle.std.specs.Cow.{cow_str_bytes};
 ghost use Rattle.std.specs.Option.{option_map};
 ghost use Rattle.fluent_ast.specs.View.{attribute_view, pattern_view};
-ghost use Rattle.fluent_entries.specs.MessageView.{content_of};
+ghost use Rattle.fluent_bundle_entries.specs.MessageView.{content_of};
 ghost use Rattle.fluent_resolver_state.specs.Status.{arguments_view};
 ghost use Rattle.fluent_bundle.specs.BundleView.{message_at};
 ghost use Rattle.fluent_bundle.specs.Formatted.{Adds, AddsSome, ShowsMessage, attribute_errors, attribute_shown, attribute_texts, message_errors, message_shown, message_text, value_errors, value_text, wrong_with};

@@ -9,7 +9,7 @@ use Rattle.fluent_ast.specs.Tree.{Text, Entry, message_entry, term_entry, junk_e
 use Rattle.fluent_semantics.specs.Arguments.{Map, get, set}
 use Rattle.fluent_semantics.specs.Bundle.{Bundle}
 use Rattle.fluent_semantics.specs.Number.{is_text}
-use Rattle.fluent_entries.specs.EntryView.{message_content}
+use Rattle.fluent_bundle_entries.specs.EntryView.{message_content}
 use Rattle.fluent_c_handles.specs.Listed.{AllFrom, is_message_of, is_among, message_ids, names_message}
 use Rattle.fluent_c_handles.specs.Inside.Gathered.{Ids, with_id, with_entries, with_resources}
 use Rattle.fluent_c_handles.specs.Facts.Added.{key_is_text, text_is_key}

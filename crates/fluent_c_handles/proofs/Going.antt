@@ -18,8 +18,8 @@ use Rattle.fluent_semantics.specs.Arguments.{Map, get, set}
 use Rattle.fluent_semantics.specs.Bundle as m
 use Rattle.fluent_semantics.specs.Bundle.{Function, a_message, a_term, add_free, added, error_if_taken, not_added}
 use Rattle.fluent_semantics.specs.Errors.{Error, Kind, overriding, message_kind, term_kind}
-use Rattle.fluent_entries.specs.EntryView.{ids}
-use Rattle.fluent_entries.specs.declared.ids.Ids.{Ids}
+use Rattle.fluent_bundle_entries.specs.EntryView.{ids}
+use Rattle.fluent_bundle_entries.specs.declared.ids.Ids.{Ids}
 use Rattle.fluent_c_handles.specs.declared.left.Left.{Left}
 use Rattle.fluent_c_handles.specs.declared.left.Seen.{Seen}
 use Rattle.fluent_c_handles.specs.Told.{placed}

@@ -8,9 +8,9 @@ use Rattle.fluent_semantics.specs.Bundle as m
 use Rattle.fluent_semantics.specs.Bundle.{Function, added, not_added}
 use Rattle.fluent_semantics.specs.Errors.{Error}
 use Rattle.fluent_semantics.specs.Value.{error_value}
-use Rattle.fluent_entries.specs.EntryView.{ids}
-use Rattle.fluent_entries.specs.ErrorView.{error_view}
-use Rattle.fluent_entries.specs.declared.ids.Ids.{Ids}
+use Rattle.fluent_bundle_entries.specs.EntryView.{ids}
+use Rattle.fluent_bundle_entries.specs.ErrorView.{error_view}
+use Rattle.fluent_bundle_entries.specs.declared.ids.Ids.{Ids}
 use Rattle.fluent_c_handles.specs.Told as told
 use Rattle.fluent_c_handles.specs.Told.{left, placed}
 use Rattle.fluent_c_handles.specs.Facts.Errors.{as_many}

@@ -1,7 +1,7 @@
 //! Entries of a resource that a bundle leaves, since their ids are there.
 ghost use Rattle.std.specs.Prelude.{◌≡◌, [], ◌∷◌, IfOk, OnOk, map};
 ghost use Rattle.fluent_ast.specs.View.{entry_view};
-ghost use Rattle.fluent_entries.specs.ErrorView.{kind_view};
+ghost use Rattle.fluent_bundle_entries.specs.ErrorView.{kind_view};
 ghost use Rattle.fluent_c_handles.specs.Inside.Seen.{AreLeft, GoesOver, GoesOverId, TellsTaken};
 
 use fluent_bundle::{EntryKind, FluentError, Ids, ast};

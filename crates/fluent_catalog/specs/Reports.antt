@@ -8,7 +8,7 @@ use Rattle.fluent_syntax.specs.Chunks.{junk_ranges}
 use Rattle.fluent_syntax.specs.Parsed.{error_range}
 use Rattle.fluent_semantics.specs.Bundle.{Bundle, add_resource, after, answered}
 use Rattle.fluent_semantics.specs.Errors.{Error}
-use Rattle.fluent_entries.specs.ErrorView.{error_view}
+use Rattle.fluent_bundle_entries.specs.ErrorView.{error_view}
 use Rattle.fluent_catalog.specs.declared.reports.Report.{Report}
 use Rattle.fluent_catalog.specs.declared.reports.Report.TheVariants as of
 

@@ -17,7 +17,7 @@ use Rattle.fluent_semantics.specs.Bundle.{Bundle}
 use Rattle.fluent_semantics.specs.Errors.{Error}
 use Rattle.fluent_semantics.specs.Events.{Event}
 use Rattle.fluent_semantics.specs.Value.{Value}
-use Rattle.fluent_entries.specs.declared.errors.FluentError.{FluentError}
+use Rattle.fluent_bundle_entries.specs.declared.errors.FluentError.{FluentError}
 use Rattle.fluent_values.specs.declared.args.FluentArgs.{FluentArgs}
 use Rattle.fluent_bundle.specs.Formatted.{AddsPrefix, Errors, GivesAsked, WritesAsked, WritesPrefix, events, written}
 use Rattle.fluent_end_to_end_laws.specs.Given.{GivesAfter, WritesAfter}

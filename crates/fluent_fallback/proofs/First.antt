@@ -11,7 +11,7 @@ use Rattle.fluent_text.specs.Taken.{TookPrefix}
 use Rattle.std.specs.declared.borrow.CowStr.{CowStr}
 use Rattle.fluent_ast.specs.Tree.{Text, Pattern}
 use Rattle.fluent_semantics.specs.Errors.{Error}
-use Rattle.fluent_entries.specs.declared.errors.FluentError.{FluentError}
+use Rattle.fluent_bundle_entries.specs.declared.errors.FluentError.{FluentError}
 use Rattle.fluent_semantics.specs.Events.{writes}
 use Rattle.fluent_resolver_state.specs.Status.{reported}
 use Rattle.fluent_bundle.specs.Facts.Events.{errors_of, text_of, writes_on}

@@ -16,9 +16,9 @@ use Rattle.fluent_semantics.specs.Bundle.{Bundle}
 use Rattle.fluent_semantics.specs.Errors.{Error}
 use Rattle.fluent_text.specs.Changes.{Change, new, old}
 use Rattle.fluent_resolver_state.specs.Status.{arguments_view}
-use Rattle.fluent_entries.specs.Texts.{sole_text, IsTextAlone}
+use Rattle.fluent_bundle_entries.specs.Texts.{sole_text, IsTextAlone}
 use Rattle.fluent_values.specs.declared.args.FluentArgs.{FluentArgs}
-use Rattle.fluent_entries.specs.declared.errors.FluentError.{FluentError}
+use Rattle.fluent_bundle_entries.specs.declared.errors.FluentError.{FluentError}
 use Rattle.fluent_bundle.specs.BundleView.{formatter_in, transform_in}
 use Rattle.fluent_bundle.specs.Formatted.{AddsAll, AddsPrefix, GivesText, WritesAll, WritesPrefix, before, later}
 use Rattle.fluent_bundle.specs.declared.bundle.FluentBundle.{FluentBundle}

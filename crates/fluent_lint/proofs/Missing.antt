@@ -8,8 +8,8 @@ use Rattle.fluent_lint.specs.Needs as need
 use Rattle.fluent_lint.specs.Needs.{Need}
 use Rattle.fluent_lint.specs.Clean.{LeadsOn}
 use Rattle.fluent_lint.specs.References.{place_of}
-use Rattle.fluent_entries.specs.EntryView.{TermContent, message_content, term_content}
-use Rattle.fluent_entries.specs.MessageView.{Content}
+use Rattle.fluent_bundle_entries.specs.EntryView.{TermContent, message_content, term_content}
+use Rattle.fluent_bundle_entries.specs.MessageView.{Content}
 use Rattle.fluent_lint.specs.Inside.Steps.{Misses, MissesMessage, MissesTerm, SaysAnyhow}
 use Rattle.fluent_lint.specs.declared.finding.Kind.{Kind}
 

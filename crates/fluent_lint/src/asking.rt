@@ -10,7 +10,7 @@ ghost use Rattle.fluent_lint.specs.PlaceView.{place_view};
 use crate::asked::Asked;
 use crate::listing::{Need, needs};
 use crate::place::{Place, pattern_at};
-use fluent_entries::GetEntry;
+use fluent_bundle_entries::GetEntry;
 use indexmap::IndexSet;
 use std::alloc::{AllocError, Global};
 

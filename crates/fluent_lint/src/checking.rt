@@ -13,7 +13,7 @@ use crate::laws;
 use crate::listing::{Need, needs};
 use crate::place::{Place, pattern_at};
 use fluent_ast::ast::{Identifier, Pattern};
-use fluent_entries::GetEntry;
+use fluent_bundle_entries::GetEntry;
 use std::alloc::{AllocError, Global};
 use std::collections::LinkedList;
 

@@ -10,7 +10,7 @@ ghost use Rattle.fluent_lint.specs.Inside.Steps.{AddsCycles};
 use crate::finding::{Finding, Kind};
 use crate::listing::refers_to;
 use crate::place::{Place, pattern_at};
-use fluent_entries::GetEntry;
+use fluent_bundle_entries::GetEntry;
 use indexmap::IndexSet;
 use std::alloc::{AllocError, Global};
 

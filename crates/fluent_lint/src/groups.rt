@@ -5,7 +5,7 @@
 
 use crate::listing::{Need, needs};
 use crate::place::{Place, pattern_at};
-use fluent_entries::GetEntry;
+use fluent_bundle_entries::GetEntry;
 use indexmap::IndexSet;
 use std::alloc::{AllocError, Global};
 

@@ -5,7 +5,7 @@
 use crate::counting::Table;
 use crate::listing::{Need, needs};
 use crate::place::{Place, pattern_at};
-use fluent_entries::GetEntry;
+use fluent_bundle_entries::GetEntry;
 use std::alloc::{AllocError, Global};
 
 /// What refers to each place, by their indexes in a table, and to how many places each refers.

@@ -14,7 +14,7 @@ use crate::finding::{Finding, Kind};
 use crate::laws;
 use crate::order::in_order;
 use crate::place::Place;
-use fluent_entries::GetEntry;
+use fluent_bundle_entries::GetEntry;
 use indexmap::IndexMap;
 use std::alloc::{AllocError, Global};
 use std::collections::LinkedList;

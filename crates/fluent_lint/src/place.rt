@@ -6,7 +6,7 @@ ghost use Rattle.fluent_semantics.specs.Bundle.{first_of};
 ghost use Rattle.fluent_lint.specs.PlaceView.{pattern_at, pattern_in, pattern_seen, place_view};
 
 use fluent_ast::ast::{Attribute, Identifier, Pattern};
-use fluent_entries::GetEntry;
+use fluent_bundle_entries::GetEntry;
 use std::fmt;
 use std::hash::{Hash, Hasher};
 

@@ -2,7 +2,7 @@
 use Rattle.std.proofs.Common.{◌≡◌, refl, sym, ap, ◌∙◌, ℕ, ◌+◌, ◌<◌, ◌≤◌, length, List, ◌++◌, append_assoc, map, drop, get_or, Bool, false, is_none, Option, Some, None}
 use Rattle.fluent_ast.specs.Tree.{Text, Pattern, nothing, more, Element, text, placeable, Expression, pattern_of}
 use Rattle.fluent_ast.specs.View.{element_view}
-use Rattle.fluent_entries.specs.Texts.{IsTextAlone}
+use Rattle.fluent_bundle_entries.specs.Texts.{IsTextAlone}
 use Rattle.fluent_ast.specs.declared.ast.Pattern as of_pattern
 use Rattle.fluent_ast.specs.declared.ast.PatternElement.{PatternElement}
 use Rattle.fluent_semantics.specs.Ahead.{ahead, begins, comes, put}

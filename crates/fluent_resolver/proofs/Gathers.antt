@@ -2,8 +2,8 @@
 use Rattle.std.proofs.Common.{◌≡◌, refl, sym, ap, subst, ◌∙◌, ℕ, List, [], ◌∷◌, ◌++◌, append-nil, append_assoc, Option, Some, None, false}
 use Rattle.fluent_ast.specs.References.{in_inline, in_named, in_positional}
 use Rattle.fluent_ast.specs.Tree.{Text, Inline, Inlines, Nameds, argument, named_argument, no_inlines, no_nameds}
-use Rattle.fluent_links.specs.CursorLaws.{prefix}
-use Rattle.fluent_links.specs.Links.{IsBefore, Links}
+use Rattle.fluent_references.specs.CursorLaws.{prefix}
+use Rattle.fluent_references.specs.Links.{IsBefore, Links}
 use Rattle.fluent_semantics.specs.Ahead.{Rest, ahead, begins, comes}
 use Rattle.fluent_semantics.specs.Arguments.{Map, set_all}
 use Rattle.fluent_semantics.specs.Bundle.{Bundle}

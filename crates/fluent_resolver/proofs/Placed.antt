@@ -2,10 +2,10 @@
 use Rattle.std.proofs.Common.{[], ◌≡◌, ℕ, List, ◌∷◌, ◌++◌, sym, subst, Option, Result, Ok, IfOk}
 use Rattle.fluent_ast.specs.References.{Reference}
 use Rattle.fluent_ast.specs.Tree.{Text}
-use Rattle.fluent_links.specs.Links.{IsBefore, past, next}
-use Rattle.fluent_links.specs.CursorLaws.{back, prefix}
-use Rattle.fluent_links.specs.Cursors.{seen}
-use Rattle.fluent_links.specs.declared.cursor.Cursor.{Cursor}
+use Rattle.fluent_references.specs.Links.{IsBefore, past, next}
+use Rattle.fluent_references.specs.CursorLaws.{back, prefix}
+use Rattle.fluent_references.specs.Cursors.{seen}
+use Rattle.fluent_references.specs.declared.cursor.Cursor.{Cursor}
 use Rattle.fluent_resolver_state.specs.Status.{Status}
 
 -- the same of references that are these

@@ -7,9 +7,9 @@ use Rattle.fluent_ast.specs.Tree.{Text, Inline, Nameds, named_argument, no_inlin
 use Rattle.fluent_ast.specs.View.{inline_view}
 use Rattle.fluent_ast.specs.declared.ast.InlineExpression.{InlineExpression}
 use Rattle.fluent_ast.specs.declared.ast.NamedArgument.{NamedArgument}
-use Rattle.fluent_links.specs.CursorLaws.{back}
-use Rattle.fluent_links.specs.CursorSteps.{here, leaves, named_in_turn, of_named, positional_in_turn}
-use Rattle.fluent_links.specs.Links.{IsBefore, Links, past}
+use Rattle.fluent_references.specs.CursorLaws.{back}
+use Rattle.fluent_references.specs.CursorSteps.{here, leaves, named_in_turn, of_named, positional_in_turn}
+use Rattle.fluent_references.specs.Links.{IsBefore, Links, past}
 use Rattle.fluent_semantics.specs.Arguments.{Map, set}
 use Rattle.fluent_semantics.specs.Value.{Value}
 use Rattle.fluent_resolver_state.specs.Facts.Lists.{next_of, none_left}

@@ -2,7 +2,7 @@
 use Rattle.std.proofs.Common.{◌≡◌, refl, sym, ap, ◌∙◌, ℕ, ◌+◌, max, length, List, [], ◌∷◌, ◌++◌, true, Option, None, Some}
 use Rattle.std.proofs.lemmas.List.{length-append}
 use Rattle.fluent_ast.specs.Tree.{Text, Pattern, nothing, more, placeable, text}
-use Rattle.fluent_entries.specs.Texts.{sole_text}
+use Rattle.fluent_bundle_entries.specs.Texts.{sole_text}
 use Rattle.fluent_semantics.specs.Ahead.{after, begins}
 use Rattle.fluent_semantics.specs.Bundle.{Bundle}
 use Rattle.fluent_semantics.specs.Events.{entered}

@@ -8,10 +8,10 @@ use Rattle.fluent_ast.specs.References.{a_function, in_expression, in_inline, in
 use Rattle.fluent_ast.specs.Tree.{Text, Pattern, pattern_of}
 use Rattle.fluent_ast.specs.View.{element_view, expression_view, inline_view, pattern_view}
 use Rattle.fluent_ast.specs.declared.ast.Pattern as of_pattern
-use Rattle.fluent_entries.specs.IdNumbers.{numbers, table}
-use Rattle.fluent_entries.specs.declared.ids.Ids.{Ids}
-use Rattle.fluent_links.specs.Cursors.{seen}
-use Rattle.fluent_links.specs.Links.{IsBefore}
+use Rattle.fluent_bundle_entries.specs.IdNumbers.{numbers, table}
+use Rattle.fluent_bundle_entries.specs.declared.ids.Ids.{Ids}
+use Rattle.fluent_references.specs.Cursors.{seen}
+use Rattle.fluent_references.specs.Links.{IsBefore}
 use Rattle.fluent_semantics.specs.Ahead.{Rest, Values}
 use Rattle.fluent_semantics.specs.Arguments.{Map}
 use Rattle.fluent_semantics.specs.Bundle.{Bundle, Function}

@@ -5,7 +5,7 @@ use Rattle.std.specs.declared.vec.Vec.{Vec}
 use Rattle.std.proofs.Common.{Global}
 use Rattle.fluent_ast.specs.Tree.{Text}
 use Rattle.fluent_semantics.specs.Bundle.{Bundle, Function}
-use Rattle.fluent_entries.specs.declared.errors.FluentError.{FluentError}
+use Rattle.fluent_bundle_entries.specs.declared.errors.FluentError.{FluentError}
 use Rattle.fluent_resolver.specs.declared.scope.Scope.{Scope}
 use Rattle.fluent_resolver_state.specs.Status.{StateParts, Status, state_parts, status_of}
 use Rattle.fluent_resolver_state.specs.declared.budget.Counts.{Counts}

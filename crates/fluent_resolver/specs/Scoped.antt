@@ -8,7 +8,7 @@ use Rattle.fluent_ast.specs.Fallback.{fallback_of}
 use Rattle.fluent_ast.specs.Tree.{Text, Pattern, Expression, Inline, Arguments, arguments, no_inlines, no_nameds}
 use Rattle.fluent_ast.specs.View.{arguments_view}
 use Rattle.fluent_ast.specs.declared.ast.CallArguments.{CallArguments}
-use Rattle.fluent_entries.specs.declared.errors.FluentError.{FluentError}
+use Rattle.fluent_bundle_entries.specs.declared.errors.FluentError.{FluentError}
 use Rattle.fluent_semantics.specs.Ahead.{Rest, ahead, closed_ahead, comes, events_of, handed}
 use Rattle.fluent_semantics.specs.Arguments.{Map}
 use Rattle.fluent_semantics.specs.Errors.{Error}

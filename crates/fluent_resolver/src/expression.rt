@@ -6,7 +6,7 @@ ghost use Rattle.fluent_ast.specs.References.{in_expression, in_inline, in_varia
 ghost use Rattle.fluent_ast.specs.Tree.{select};
 ghost use Rattle.fluent_ast.specs.View.{expression_view, inline_view};
 ghost use Rattle.fluent_values.specs.View.{value_view};
-ghost use Rattle.fluent_entries.specs.IdNumbers.{IsPlaced, numbers};
+ghost use Rattle.fluent_bundle_entries.specs.IdNumbers.{IsPlaced, numbers};
 ghost use Rattle.fluent_resolver_state.specs.ChosenView.{BeginsAt, chosen_view};
 ghost use Rattle.fluent_resolver.specs.Inside.Parts as parts;
 ghost use Rattle.fluent_resolver.specs.Inside.Parts.{IsSelect};
@@ -18,7 +18,7 @@ use crate::inline_expression::write_unbraced;
 use crate::pattern::write_elements;
 use crate::work::Work;
 use fluent_ast::ast::{Expression, InlineExpression, Variant};
-use fluent_links::Cursor;
+use fluent_references::Cursor;
 use fluent_resolver_state::State;
 use fluent_resolver_state::lost::report_no_default;
 use fluent_resolver_state::variants::{Chosen, choose, choose_by_variable};

@@ -1,7 +1,7 @@
 //! Work that waits.
 
 use fluent_ast::ast::{CallArguments, Expression, Identifier, InlineExpression, Pattern, Variant};
-use fluent_links::Cursor;
+use fluent_references::Cursor;
 use fluent_resolver_state::gathered::Gathered;
 use fluent_resolver_state::{Environment, Found};
 use fluent_values::FluentValue;

@@ -14,9 +14,9 @@ mod tracking;
 mod whole;
 mod work;
 
-pub use fluent_entries::errors::resolver as errors;
-pub use fluent_entries::{ReferenceKind, ResolverError};
-pub use fluent_links::Cursor;
+pub use fluent_bundle_entries::errors::resolver as errors;
+pub use fluent_bundle_entries::{ReferenceKind, ResolverError};
+pub use fluent_references::Cursor;
 pub use fluent_resolver_state::laws::{calls_are_walks, events_are_the_run};
 pub use fluent_resolver_state::{
     Budget, Counts, Found, State, Target, environment, found, output, texts,

@@ -2,7 +2,7 @@
 #![tactic(auto, unfolding(fluent_resolver_state::specs::Status::state_parts))]
 
 ghost use Rattle.std.specs.Prelude.{◌≡◌, ◌++◌, [], OnOk, IfErr, reverse};
-ghost use Rattle.fluent_entries.specs.IdNumbers.{numbers, table};
+ghost use Rattle.fluent_bundle_entries.specs.IdNumbers.{numbers, table};
 ghost use Rattle.fluent_resolver.specs.Frames as frames;
 ghost use Rattle.fluent_resolver.specs.Inside.Waits.{frames_in, values_in};
 ghost use Rattle.fluent_semantics.specs.Value.{text_value};

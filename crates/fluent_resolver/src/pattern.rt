@@ -6,8 +6,8 @@ ghost use Rattle.fluent_ast.specs.References.{in_expression, references};
 ghost use Rattle.fluent_ast.specs.View.{expression_view, pattern_view};
 ghost use Rattle.fluent_semantics.specs.Meaning.{limit_reached};
 ghost use Rattle.fluent_semantics.specs.Walk.{has_one};
-ghost use Rattle.fluent_entries.specs.IdNumbers.{IsPlaced};
-ghost use Rattle.fluent_entries.specs.Texts.{IsTextAlone};
+ghost use Rattle.fluent_bundle_entries.specs.IdNumbers.{IsPlaced};
+ghost use Rattle.fluent_bundle_entries.specs.Texts.{IsTextAlone};
 ghost use Rattle.fluent_resolver_state.specs.Status.{budget_view, stored_in};
 ghost use Rattle.fluent_values.specs.Sinks.{GoesThrough};
 ghost use Rattle.fluent_resolver.specs.Inside.Parts as parts;
@@ -17,7 +17,7 @@ ghost use Rattle.fluent_resolver.specs.Frames.{elements_from, AreReady, Goes, Pa
 use crate::expression::write_expression;
 use crate::work::Work;
 use fluent_ast::ast::{Expression, Pattern, PatternElement};
-use fluent_links::Cursor;
+use fluent_references::Cursor;
 use fluent_resolver_state::State;
 use fluent_resolver_state::lost::report_limit;
 use fluent_resolver_state::placeable::{

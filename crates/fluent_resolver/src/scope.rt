@@ -6,7 +6,7 @@ ghost use Rattle.fluent_resolver_state.specs.PathContents.{is_idle};
 ghost use Rattle.fluent_resolver_state.specs.Status.{is_outside};
 
 use crate::means::Means;
-use fluent_entries::Ids;
+use fluent_bundle_entries::Ids;
 use fluent_resolver_state::{Counts, State};
 use fluent_values::{
     Context, FluentArgs, FluentError, FluentFunction, FluentType, HasBundle, ResolverError,
@@ -35,12 +35,12 @@ impl<'errors, 'p, 'r, 's, 'args, C: FluentType, F: FluentFunction<C>, B: Context
     B,
 > {
     ghost use Rattle.std.specs.Prelude.{◌≡◌, ◌↔◌, ◌∷◌, [], IfNone, IsOk, IsTrue};
-    ghost use Rattle.fluent_entries.specs.EntryView.{ids as ids_of};
+    ghost use Rattle.fluent_bundle_entries.specs.EntryView.{ids as ids_of};
     ghost use Rattle.fluent_semantics.specs.Errors.{resolver_error};
     ghost use Rattle.fluent_semantics.specs.Meaning.{limit_reached};
     ghost use Rattle.fluent_resolver_state.specs.Status.{arguments_view, with_ids};
     ghost use Rattle.fluent_resolver_state.specs.Steps.{IsAtStart, ReportsIfOk};
-    ghost use Rattle.fluent_entries.specs.ErrorView.{resolver_error_view};
+    ghost use Rattle.fluent_bundle_entries.specs.ErrorView.{resolver_error_view};
     ghost use Rattle.fluent_resolver.specs.Scoped.{listed};
     ghost use Rattle.fluent_resolver.specs.ScopeView.{bundle_in, counts_in, errors_in, scope_parts};
 

@@ -3,7 +3,7 @@
 
 ghost use Rattle.std.specs.Prelude.{◌≡◌, ◌≢◌, Err, IfOk, IsOk, IsTrue, None, Some, false, true};
 ghost use Rattle.fluent_ast.specs.View.{arguments_view, expression_view, inline_view, pattern_view};
-ghost use Rattle.fluent_entries.specs.Texts.{IsTextAlone};
+ghost use Rattle.fluent_bundle_entries.specs.Texts.{IsTextAlone};
 ghost use Rattle.fluent_semantics.specs.Errors.{reference_of};
 ghost use Rattle.fluent_resolver_state.specs.PathContents.{is_idle};
 ghost use Rattle.fluent_resolver_state.specs.StateCalls.{events_of_lost};
@@ -22,7 +22,7 @@ use crate::scope::Scope;
 use crate::whole::write_whole;
 use crate::work::{LEVELS, Work};
 use fluent_ast::ast::{CallArguments, Expression, InlineExpression, Pattern};
-use fluent_links::Cursor;
+use fluent_references::Cursor;
 use fluent_resolver_state::State;
 use fluent_resolver_state::laws::{calls_are_walks, events_are_the_run};
 use fluent_resolver_state::lost::lose;

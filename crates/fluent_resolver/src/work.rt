@@ -2,7 +2,7 @@
 
 use crate::frame::{Frame, Gathering};
 use fluent_ast::ast::{Expression, InlineExpression, Pattern, Variant};
-use fluent_links::Cursor;
+use fluent_references::Cursor;
 use fluent_resolver_state::Environment;
 use fluent_values::output::Halt;
 use fluent_values::{FluentArgs, FluentType, FluentValue};

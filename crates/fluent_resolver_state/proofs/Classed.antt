@@ -11,9 +11,9 @@ use Rattle.fluent_ast.specs.Tree.{Element, Pattern, is_yes, more, nothing, patte
 use Rattle.fluent_ast.specs.References.{references}
 use Rattle.fluent_ast.specs.View.{element_view, pattern_view}
 use Rattle.fluent_ast.specs.declared.ast.Pattern as of_pattern
-use Rattle.fluent_links.specs.Classes.{AreDistinct, HasClass}
-use Rattle.fluent_links.specs.ClassLaws.{same_class}
-use Rattle.fluent_links.specs.Linked.{IsClassOf, are_some}
+use Rattle.fluent_references.specs.Classes.{AreDistinct, HasClass}
+use Rattle.fluent_references.specs.ClassLaws.{same_class}
+use Rattle.fluent_references.specs.Linked.{IsClassOf, are_some}
 use Rattle.fluent_semantics.specs.Walk.{is_on}
 use Rattle.fluent_resolver_state.specs.Facts.Views.{view_pattern}
 use Rattle.fluent_resolver_state.specs.PathContents.{AreClassed, by_class, by_classes, content_above, content_of, contents, is_classed, is_same}

@@ -6,10 +6,10 @@ use Rattle.fluent_ast.specs.Tree.{Key, Pattern, Text, Variants, variants_of}
 use Rattle.fluent_ast.specs.View.{key_view, pattern_view, variant_view}
 use Rattle.fluent_ast.specs.declared.ast.Variant as of_the_variant
 use Rattle.fluent_ast.specs.declared.ast.Variant.{Variant}
-use Rattle.fluent_links.specs.Links.{IsBefore, Links, past}
-use Rattle.fluent_links.specs.CursorSteps.{enters, leaves, of_variant, variant_in_turn}
-use Rattle.fluent_links.specs.Cursors.{seen}
-use Rattle.fluent_links.specs.declared.cursor.Cursor.{Cursor}
+use Rattle.fluent_references.specs.Links.{IsBefore, Links, past}
+use Rattle.fluent_references.specs.CursorSteps.{enters, leaves, of_variant, variant_in_turn}
+use Rattle.fluent_references.specs.Cursors.{seen}
+use Rattle.fluent_references.specs.declared.cursor.Cursor.{Cursor}
 use Rattle.fluent_resolver_state.specs.Choice.{choice, first_default}
 use Rattle.fluent_resolver_state.specs.declared.variants.Chosen.{Chosen}
 use Rattle.fluent_resolver_state.specs.Facts.Lists.{next_of}

@@ -3,7 +3,7 @@ use Rattle.std.proofs.Common.{◌≡◌, refl, List, [], ◌∷◌, length, map,
 use Rattle.fluent_ast.specs.Tree.{Element, text, placeable, more, pattern_of}
 use Rattle.fluent_ast.specs.View.{element_view}
 use Rattle.fluent_ast.specs.declared.ast.PatternElement.{PatternElement}
-use Rattle.fluent_entries.specs.Texts.{sole_text}
+use Rattle.fluent_bundle_entries.specs.Texts.{sole_text}
 
 pub sole_none : (es : List PatternElement) → (length es ≡ 1 → ⊥) → sole_text (pattern_of (map element_view es)) ≡ None
 sole_none [] h = refl

@@ -3,7 +3,7 @@ use Rattle.std.proofs.Common.{◌≡◌, refl, sym, ap, ◌∙◌, ℕ, ◌+◌,
 use Rattle.fluent_ast.specs.Tree.{Text, Expression, text, placeable, more, pattern_of}
 use Rattle.fluent_ast.specs.View.{element_view}
 use Rattle.fluent_ast.specs.declared.ast.PatternElement.{PatternElement}
-use Rattle.fluent_entries.specs.Texts.{texts_of}
+use Rattle.fluent_bundle_entries.specs.Texts.{texts_of}
 use Rattle.fluent_values.specs.Sinks.{Sink, SinkTook}
 use Rattle.fluent_resolver_state.specs.Facts.Lists.{next_of, none_left}
 use Rattle.fluent_values.specs.Facts.Took.{appends_none, took_same, took_whole}

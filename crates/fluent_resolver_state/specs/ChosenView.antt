@@ -10,9 +10,9 @@ use Rattle.fluent_intl.specs.Number.{number_of}
 use Rattle.fluent_intl.specs.declared.number.FluentNumber.{FluentNumber}
 use Rattle.fluent_semantics.specs.Bundle.{key_value}
 use Rattle.fluent_semantics.specs.Value.{Value}
-use Rattle.fluent_links.specs.Links.{IsBefore}
-use Rattle.fluent_links.specs.Cursors.{seen}
-use Rattle.fluent_links.specs.declared.cursor.Cursor.{Cursor}
+use Rattle.fluent_references.specs.Links.{IsBefore}
+use Rattle.fluent_references.specs.Cursors.{seen}
+use Rattle.fluent_references.specs.declared.cursor.Cursor.{Cursor}
 use Rattle.fluent_resolver_state.specs.Choice.{choice, first_default, is_like}
 use Rattle.fluent_resolver_state.specs.declared.variants.Chosen.{Chosen}
 

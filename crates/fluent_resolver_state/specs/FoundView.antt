@@ -6,17 +6,17 @@ use Rattle.fluent_ast.specs.References.{references}
 use Rattle.fluent_ast.specs.Tree.{Pattern, Text}
 use Rattle.fluent_ast.specs.View.{attribute_of, pattern_view}
 use Rattle.fluent_ast.specs.declared.ast.Identifier.{Identifier}
-use Rattle.fluent_links.specs.Linked.{IsClassOf, IsOf}
-use Rattle.fluent_links.specs.Links.{IsBefore}
-use Rattle.fluent_links.specs.Cursors.{seen}
-use Rattle.fluent_links.specs.declared.linked.Linked.{Linked}
+use Rattle.fluent_references.specs.Linked.{IsClassOf, IsOf}
+use Rattle.fluent_references.specs.Links.{IsBefore}
+use Rattle.fluent_references.specs.Cursors.{seen}
+use Rattle.fluent_references.specs.declared.linked.Linked.{Linked}
 use Rattle.fluent_semantics.specs.Arguments.{get}
 use Rattle.fluent_semantics.specs.Bundle.{Function, Target, unknown, without_value, found, message_target, term_target}
-use Rattle.fluent_entries.specs.EntryView.{entry_of, ids as ids_of}
-use Rattle.fluent_entries.specs.IdNumbers.{numbers, table}
-use Rattle.fluent_entries.specs.KeptLinks.{RefersToNothing}
-use Rattle.fluent_entries.specs.declared.ids.Ids.{Ids}
-use Rattle.fluent_entries.specs.declared.slot.Slot.{Slot}
+use Rattle.fluent_bundle_entries.specs.EntryView.{entry_of, ids as ids_of}
+use Rattle.fluent_bundle_entries.specs.IdNumbers.{numbers, table}
+use Rattle.fluent_bundle_entries.specs.KeptLinks.{RefersToNothing}
+use Rattle.fluent_bundle_entries.specs.declared.ids.Ids.{Ids}
+use Rattle.fluent_bundle_entries.specs.declared.slot.Slot.{Slot}
 use Rattle.fluent_resolver_state.specs.declared.found.Found.{Found}
 use Rattle.fluent_resolver_state.specs.declared.found.Found.TheVariants as leads
 use Rattle.fluent_resolver_state.specs.declared.found.Target as code

@@ -7,7 +7,7 @@ use Rattle.std.proofs.Common.{Global}
 use Rattle.fluent_ast.specs.Tree.{Text}
 use Rattle.fluent_semantics.specs.Value.{Value}
 use Rattle.fluent_semantics.specs.Arguments.{Map, set}
-use Rattle.fluent_entries.specs.EntryView.{by_name}
+use Rattle.fluent_bundle_entries.specs.EntryView.{by_name}
 use Rattle.fluent_values.specs.View.{value_view, named}
 use Rattle.fluent_values.specs.declared.types.value.FluentValue.{FluentValue}
 use Rattle.fluent_resolver_state.specs.declared.gathered.Gathered.{Gathered}

@@ -8,8 +8,8 @@ use Rattle.fluent_ast.specs.Tree.{is_yes, more, nothing, pattern_same, placeable
 use Rattle.fluent_ast.specs.References.{references}
 use Rattle.fluent_ast.specs.View.{pattern_view}
 use Rattle.fluent_ast.specs.declared.ast.Pattern as of_pattern
-use Rattle.fluent_links.specs.Classes.{AreDistinct}
-use Rattle.fluent_links.specs.Linked.{IsClassOf, are_some}
+use Rattle.fluent_references.specs.Classes.{AreDistinct}
+use Rattle.fluent_references.specs.Linked.{IsClassOf, are_some}
 use Rattle.fluent_semantics.specs.Walk.{is_on}
 use Rattle.fluent_resolver_state.specs.declared.path.Above.{Above}
 use Rattle.fluent_resolver_state.specs.declared.path.Above.TheVariants as above

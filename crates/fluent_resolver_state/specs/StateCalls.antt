@@ -15,8 +15,8 @@ use Rattle.fluent_semantics.specs.Errors.{Error}
 use Rattle.fluent_semantics.specs.Events.{Event}
 use Rattle.fluent_semantics.specs.Value.{Value, error_value}
 use Rattle.fluent_semantics.specs.Walk.{variables}
-use Rattle.fluent_entries.specs.EntryView.{ids as ids_of}
-use Rattle.fluent_entries.specs.declared.ids.Ids.{Ids}
+use Rattle.fluent_bundle_entries.specs.EntryView.{ids as ids_of}
+use Rattle.fluent_bundle_entries.specs.declared.ids.Ids.{Ids}
 use Rattle.fluent_resolver_state.specs.ChosenView.{chosen, chosen_view}
 use Rattle.fluent_resolver_state.specs.Happened.{Did, answer_events, lost_events, variable_errors, variable_events}
 use Rattle.fluent_resolver_state.specs.Status.{Status, arguments_view, state, with_ids}

@@ -12,15 +12,15 @@ use Rattle.fluent_semantics.specs.Arguments.{Map}
 use Rattle.fluent_semantics.specs.Bundle.{Bundle, Entry, Function}
 use Rattle.fluent_semantics.specs.Walk.{Environment, application, local}
 use Rattle.fluent_semantics.specs.Meaning.{Budget, left, limit_reached}
-use Rattle.fluent_entries.specs.EntryView.{ids}
-use Rattle.fluent_entries.specs.IdNumbers.{numbers, table}
+use Rattle.fluent_bundle_entries.specs.EntryView.{ids}
+use Rattle.fluent_bundle_entries.specs.IdNumbers.{numbers, table}
 use Rattle.fluent_resolver_state.specs.Locals.{locals_view}
 use Rattle.fluent_resolver_state.specs.PathContents.{on_path}
-use Rattle.fluent_entries.specs.ErrorView.{error_view}
+use Rattle.fluent_bundle_entries.specs.ErrorView.{error_view}
 use Rattle.fluent_values.specs.View.{named}
 use Rattle.fluent_values.specs.declared.args.FluentArgs.{FluentArgs}
-use Rattle.fluent_entries.specs.declared.errors.FluentError.{FluentError}
-use Rattle.fluent_entries.specs.declared.ids.Ids.{Ids}
+use Rattle.fluent_bundle_entries.specs.declared.errors.FluentError.{FluentError}
+use Rattle.fluent_bundle_entries.specs.declared.ids.Ids.{Ids}
 use Rattle.fluent_resolver_state.specs.declared.environment.Environment as environments
 use Rattle.fluent_resolver_state.specs.declared.environment.Environment.TheVariants as environment
 use Rattle.fluent_resolver_state.specs.declared.budget.Budget as budgets

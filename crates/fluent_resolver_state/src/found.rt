@@ -4,15 +4,15 @@ ghost use Rattle.std.specs.Prelude.{◌≡◌, ◌∷◌, [], IfSome, IsTrue, Op
 ghost use Rattle.fluent_ast.specs.References.{a_function, a_message, a_term};
 ghost use Rattle.fluent_ast.specs.View.{attribute_view, pattern_view, value_view as optional_view};
 ghost use Rattle.fluent_semantics.specs.Bundle.{Function, value_target, first_of};
-ghost use Rattle.fluent_entries.specs.KeptLinks.{IsLinked};
-ghost use Rattle.fluent_entries.specs.Named.{is_named};
+ghost use Rattle.fluent_bundle_entries.specs.KeptLinks.{IsLinked};
+ghost use Rattle.fluent_bundle_entries.specs.Named.{is_named};
 ghost use Rattle.fluent_resolver_state.specs.FoundView.{IsLed, IsLedAmong, IsLedAs, IsMessage, IsNamed, IsStoredAs, IsTerm, content_at, found_view};
-ghost use Rattle.fluent_entries.specs.IdNumbers.{IsNumberOf, IsPlaced, numbers, table};
+ghost use Rattle.fluent_bundle_entries.specs.IdNumbers.{IsNumberOf, IsPlaced, numbers, table};
 ghost use Rattle.fluent_resolver_state.specs.StateCalls.{Answers};
 
 use fluent_ast::ast::{Attribute, Identifier, Pattern};
-use fluent_entries::{Entry, Ids, Slot};
-use fluent_links::{Cursor, Linked};
+use fluent_bundle_entries::{Entry, Ids, Slot};
+use fluent_references::{Cursor, Linked};
 use fluent_values::builtins::NUMBER;
 use fluent_values::{FluentArgs, FluentFunction, FluentType, FluentValue};
 use std::alloc::{AllocError, Global};

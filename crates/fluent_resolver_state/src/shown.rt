@@ -7,7 +7,7 @@ ghost use Rattle.fluent_ast.specs.View.{inline_view};
 ghost use Rattle.fluent_semantics.specs.Bundle.{shown};
 ghost use Rattle.fluent_semantics.specs.Value.{try_number};
 ghost use Rattle.fluent_resolver_state.specs.Happened.{shown_answer};
-ghost use Rattle.fluent_entries.specs.IdNumbers.{IsPlaced};
+ghost use Rattle.fluent_bundle_entries.specs.IdNumbers.{IsPlaced};
 ghost use Rattle.fluent_values.specs.View.{value_view};
 ghost use Rattle.fluent_resolver_state.specs.StateCalls.{Puts, Writes, events_of_answer};
 
@@ -16,7 +16,7 @@ use crate::found::answer_of;
 use crate::lost::lose;
 use crate::state::State;
 use fluent_ast::ast::{Identifier, InlineExpression};
-use fluent_links::Cursor;
+use fluent_references::Cursor;
 use fluent_values::output::{Halt, Output};
 use fluent_values::shown::put_value;
 use fluent_values::{Context, FluentArgs, FluentFunction, FluentType, FluentValue};

@@ -1,14 +1,14 @@
 //! What one formatting call carries while it resolves patterns.
 #![tactic(auto, unfolding(crate::specs::Status::state_parts))]
 
-ghost use Rattle.fluent_entries.specs.IdNumbers.{table};
+ghost use Rattle.fluent_bundle_entries.specs.IdNumbers.{table};
 ghost use Rattle.fluent_resolver_state.specs.PathContents.{AreClassed, above_on};
 
 use crate::budget::{Budget, Counts};
 use crate::environment::Environment;
 use crate::path::Path;
 use fluent_ast::ast::Pattern;
-use fluent_entries::Ids;
+use fluent_bundle_entries::Ids;
 use fluent_values::{Context, FluentArgs, FluentError, FluentFunction, FluentType, ResolverError};
 use std::alloc::AllocError;
 
@@ -61,12 +61,12 @@ impl<'errors, 'p, 'r, 's, 'args, C: FluentType, F: FluentFunction<C>, B: Context
     ghost use Rattle.std.specs.Prelude.{◌≡◌, ◌↔◌, ◌∷◌, [], IfNone, IsOk, IsTrue, true};
     ghost use Rattle.fluent_semantics.specs.Errors.{resolver_error};
     ghost use Rattle.fluent_semantics.specs.Meaning.{limit_reached};
-    ghost use Rattle.fluent_entries.specs.ErrorView.{resolver_error_view};
+    ghost use Rattle.fluent_bundle_entries.specs.ErrorView.{resolver_error_view};
     ghost use Rattle.fluent_resolver_state.specs.Status.{budget_view, state_parts};
     ghost use Rattle.fluent_semantics.specs.Walk.{is_on};
     ghost use Rattle.fluent_resolver_state.specs.Steps.{can_open};
     ghost use Rattle.fluent_ast.specs.View.{pattern_view};
-    ghost use Rattle.fluent_links.specs.Linked.{IsClassOf};
+    ghost use Rattle.fluent_references.specs.Linked.{IsClassOf};
     ghost use Rattle.fluent_resolver_state.specs.PathContents.{is_idle};
     ghost use Rattle.fluent_resolver_state.specs.Status.{is_outside};
     ghost use Rattle.fluent_resolver_state.specs.StateCalls.{BeginsCall, Enters, Leaves, Reports, Rests, Starts, TakesOne, Visits, status};

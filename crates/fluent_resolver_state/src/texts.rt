@@ -5,12 +5,12 @@ ghost use Rattle.std.specs.Prelude.{◌≡◌, ◌≢◌, Err, IsTrue};
 ghost use Rattle.std.specs.Option.{option_map};
 ghost use Rattle.fluent_values.specs.Sinks.{GoesThrough};
 ghost use Rattle.fluent_ast.specs.View.{pattern_view};
-ghost use Rattle.fluent_entries.specs.Texts.{sole_text, texts_of};
+ghost use Rattle.fluent_bundle_entries.specs.Texts.{sole_text, texts_of};
 ghost use Rattle.fluent_resolver_state.specs.StateCalls.{Puts};
 
 use crate::state::State;
 use fluent_ast::ast::{Pattern, PatternElement};
-pub use fluent_entries::is_text;
+pub use fluent_bundle_entries::is_text;
 use fluent_values::output::{Halt, Output, put_text};
 use fluent_values::{Context, FluentFunction, FluentType};
 use std::io::Write;

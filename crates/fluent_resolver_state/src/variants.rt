@@ -20,7 +20,7 @@ use crate::state::State;
 use crate::variable::argument;
 use fluent_ast::ast::{Identifier, InlineExpression, Pattern, Variant, VariantKey};
 use fluent_intl::FluentNumber;
-use fluent_links::Cursor;
+use fluent_references::Cursor;
 use fluent_semantics::laws::numbers_read_as_defined;
 use fluent_values::{Context, FluentFunction, FluentType, FluentValue};
 use std::alloc::AllocError;

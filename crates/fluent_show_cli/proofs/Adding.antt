@@ -5,8 +5,8 @@ use Rattle.std.proofs.lemmas.List.{take-append-drop, map-append}
 use Rattle.std.proofs.lemmas.Result.{on_ok_weaker}
 use Rattle.fluent_semantics.specs.Errors.{Error}
 use Rattle.fluent_resolver_state.specs.Status.{reported}
-use Rattle.fluent_entries.specs.ErrorView.{error_view}
-use Rattle.fluent_entries.specs.declared.errors.FluentError.{FluentError}
+use Rattle.fluent_bundle_entries.specs.ErrorView.{error_view}
+use Rattle.fluent_bundle_entries.specs.declared.errors.FluentError.{FluentError}
 use Rattle.fluent_bundle.specs.Formatted.{AddsAll, AddsPrefix}
 use Rattle.fluent_show_cli.specs.Inside.OutputProgress.{Added}
 

@@ -4,8 +4,8 @@ use Rattle.std.proofs.Math.Seq.{take-suc}
 use Rattle.std.proofs.lemmas.List.{take-append-drop, map-append}
 use Rattle.fluent_semantics.specs.Errors.{Error, error_text}
 use Rattle.fluent_resolver_state.specs.Status.{reported}
-use Rattle.fluent_entries.specs.ErrorView.{error_view}
-use Rattle.fluent_entries.specs.declared.errors.FluentError.{FluentError}
+use Rattle.fluent_bundle_entries.specs.ErrorView.{error_view}
+use Rattle.fluent_bundle_entries.specs.declared.errors.FluentError.{FluentError}
 use Rattle.fluent_show_cli.specs.Ending.{line, error_lines}
 use Rattle.fluent_show_cli.specs.Outlet.{Precedes}
 

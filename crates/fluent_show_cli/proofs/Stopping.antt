@@ -12,7 +12,7 @@ use Rattle.fluent_semantics.specs.Events.{text_in}
 use Rattle.fluent_semantics.specs.Result.{written_pattern}
 use Rattle.fluent_semantics.specs.Value.{Value}
 use Rattle.fluent_resolver_state.specs.Status.{reported}
-use Rattle.fluent_entries.specs.declared.errors.FluentError.{FluentError}
+use Rattle.fluent_bundle_entries.specs.declared.errors.FluentError.{FluentError}
 use Rattle.fluent_bundle.specs.Formatted.{AddsAll, EventsAreRun, WritesPrefix, written_events}
 use Rattle.fluent_show_cli.specs.Ending.{Ending, shown}
 use Rattle.fluent_show_cli.specs.Outlet.{Precedes}

@@ -3,7 +3,7 @@
 ghost use Rattle.std.specs.Prelude.{◌≡◌, ◌≢◌, Err, IfOk, string_bytes};
 ghost use Rattle.fluent_text.specs.Writer.{CountsFault};
 ghost use Rattle.fluent_semantics.specs.Errors.{error_text};
-ghost use Rattle.fluent_entries.specs.ErrorView.{error_view};
+ghost use Rattle.fluent_bundle_entries.specs.ErrorView.{error_view};
 ghost use Rattle.fluent_show_cli.specs.Ending.{exit_status, line, no_message, ending_line};
 ghost use Rattle.fluent_resolver_state.specs.Status.{reported};
 ghost use Rattle.fluent_show_cli.specs.EndingView.{ending_view};

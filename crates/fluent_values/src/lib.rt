@@ -15,7 +15,7 @@ pub mod types;
 
 pub use args::{ArgsIntoIter, ArgsIter, FluentArgs};
 pub use context::{Context, HasBundle};
-pub use fluent_entries::{
+pub use fluent_bundle_entries::{
     Attributes, Entry, EntryKind, FluentAttribute, FluentError, FluentMessage, FunctionRef,
     GetEntry, Ids, ReferenceKind, ResolverError,
 };

@@ -1,7 +1,7 @@
 //! Patterns of a source that are linked: the numbers of what they refer to, in order, and their classes.
 use crate::check::{check, check_at};
 use crate::slots::has_number;
-use fluent_links::{Classes, Linked, Slots};
+use fluent_references::{Classes, Linked, Slots};
 use fluent_syntax::ast::{Entry, Pattern};
 use fluent_syntax::parse_runtime;
 use std::alloc::{AllocError, Global};

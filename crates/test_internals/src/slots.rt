@@ -1,6 +1,6 @@
 //! Numbers of ids, and what stands in their slots.
 use crate::check::check;
-use fluent_links::Slots;
+use fluent_references::Slots;
 use std::alloc::AllocError;
 use std::borrow::CowStr;
 use std::process::Abort;

@@ -4,7 +4,7 @@ use Rattle.fluent_ast.specs.Tree.{Text}
 use Rattle.fluent_ast.specs.declared.ast.Message.{Message}
 use Rattle.fluent_semantics.specs.Bundle.{function_found}
 use Rattle.fluent_semantics.specs.Number.{is_text}
-use Rattle.fluent_entries.specs.EntryView.{term_content}
+use Rattle.fluent_bundle_entries.specs.EntryView.{term_content}
 use Rattle.test_lint.specs.Alone.{message_if, named}
 
 no_term_if : (m : Message) (b : Bool) → None ≡ term_content (message_if m b)

@@ -1,6 +1,6 @@
 //! A message made by hand, as all that a bundle has.
 use fluent_ast::ast::{Message, Term};
-use fluent_entries::{FunctionRef, GetEntry};
+use fluent_bundle_entries::{FunctionRef, GetEntry};
 
 /// A message that stands alone.
 #[derive(Drop)]
@@ -13,7 +13,7 @@ impl<'s> GetEntry<'s, u8> for Alone<'s> {
     ghost use Rattle.std.specs.Prelude.{◌≡◌, IfSome};
     ghost use Rattle.std.specs.Option.{option_map};
     ghost use Rattle.fluent_semantics.specs.Bundle.{function_found};
-    ghost use Rattle.fluent_entries.specs.EntryView.{function_of, given_message, given_term, message_content, term_content};
+    ghost use Rattle.fluent_bundle_entries.specs.EntryView.{function_of, given_message, given_term, message_content, term_content};
     ghost use Rattle.test_lint.specs.Alone.{answer, named};
 
     ghost named = { λ alone. named alone.message };

@@ -2,7 +2,7 @@
 ghost use Rattle.std.specs.Prelude.{◌≡◌, IfOk, IsTrue, Some};
 ghost use Rattle.fluent_ast.specs.Tree.{Text};
 ghost use Rattle.fluent_ast.specs.View.{pattern_view};
-ghost use Rattle.fluent_entries.specs.Texts.{sole_text};
+ghost use Rattle.fluent_bundle_entries.specs.Texts.{sole_text};
 ghost use Rattle.fluent_bundle.specs.BundleView.{entries_of};
 ghost use Rattle.test_public_api.specs.Composed.{calling, showing};
 

@@ -7,7 +7,7 @@ use Rattle.fluent_ast.specs.Tree.{Text, Pattern}
 use Rattle.fluent_ast.specs.declared.ast.Pattern as code
 use Rattle.fluent_semantics.specs.Bundle.{Bundle}
 use Rattle.fluent_values.specs.Sinks.{CountsTell, outside}
-use Rattle.fluent_entries.specs.Texts.{IsTextAlone}
+use Rattle.fluent_bundle_entries.specs.Texts.{IsTextAlone}
 use Rattle.fluent_values.specs.declared.args.FluentArgs.{FluentArgs}
 use Rattle.fluent_values.specs.declared.output.Halt.{Halt}
 use Rattle.fluent_values.specs.declared.output.Halt.TheVariants as halt

@@ -1,7 +1,7 @@
 -- The text of a pattern that is one text, which nothing changes.
 use Rattle.std.specs.Prelude.{◌&&◌, not, if◌then◌else◌, is_some, Option, None}
 use Rattle.fluent_ast.specs.Tree.{Text, Pattern}
-use Rattle.fluent_entries.specs.Texts.{sole_text}
+use Rattle.fluent_bundle_entries.specs.Texts.{sole_text}
 use Rattle.fluent_bundle.specs.BundleView.{formatter_in, transform_in}
 use Rattle.fluent_bundle.specs.declared.bundle.FluentBundle.{FluentBundle}
 

@@ -9,7 +9,7 @@ use Rattle.fluent_ast.specs.Tree.{Text, Entry}
 use Rattle.fluent_semantics.specs.Value.{Plurals}
 use Rattle.fluent_semantics.specs.Bundle.{Bundle, number_builtin, after, add_resource, add_resource_overriding}
 use Rattle.fluent_semantics.specs.Bundle as m
-use Rattle.fluent_entries.specs.EntryView.{message_content}
+use Rattle.fluent_bundle_entries.specs.EntryView.{message_content}
 use Rattle.fluent_c_handles.specs.Opened.{start}
 use Rattle.fluent_c_handles.specs.Held.{with_source}
 use Rattle.fluent_syntax.specs.Chunks.{entries}

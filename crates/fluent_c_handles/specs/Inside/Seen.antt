@@ -7,9 +7,9 @@ use Rattle.fluent_semantics.specs.Arguments.{Map, get}
 use Rattle.fluent_semantics.specs.Bundle as m
 use Rattle.fluent_semantics.specs.Bundle.{Function, add_free, added, error_if_taken, not_added}
 use Rattle.fluent_semantics.specs.Errors.{Error, Kind}
-use Rattle.fluent_entries.specs.EntryView.{ids}
-use Rattle.fluent_entries.specs.ErrorView.{error_view}
-use Rattle.fluent_entries.specs.declared.ids.Ids.{Ids}
+use Rattle.fluent_bundle_entries.specs.EntryView.{ids}
+use Rattle.fluent_bundle_entries.specs.ErrorView.{error_view}
+use Rattle.fluent_bundle_entries.specs.declared.ids.Ids.{Ids}
 use Rattle.fluent_c_handles.specs.Told.{placed}
 use Rattle.fluent_c_handles.specs.declared.left.Left.{Left}
 use Rattle.fluent_c_handles.specs.declared.left.Seen.{Seen}

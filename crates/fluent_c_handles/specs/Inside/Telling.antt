@@ -5,9 +5,9 @@ use Rattle.fluent_ast.specs.Tree.{Text}
 use Rattle.fluent_ast.specs.declared.errors.ParserError.{ParserError}
 use Rattle.fluent_syntax.specs.Parsed.{error_range}
 use Rattle.fluent_semantics.specs.Bundle.{Function}
-use Rattle.fluent_entries.specs.EntryView.{ids}
-use Rattle.fluent_entries.specs.ErrorView.{error_view}
-use Rattle.fluent_entries.specs.declared.ids.Ids.{Ids}
+use Rattle.fluent_bundle_entries.specs.EntryView.{ids}
+use Rattle.fluent_bundle_entries.specs.ErrorView.{error_view}
+use Rattle.fluent_bundle_entries.specs.declared.ids.Ids.{Ids}
 use Rattle.fluent_syntax.specs.Chunks.{entries, entry_starts}
 use Rattle.fluent_c_handles.specs.Told as told
 use Rattle.fluent_c_handles.specs.Told.{left, left_lines, told_by, unreadable_lines}

@@ -7,10 +7,10 @@ use Rattle.fluent_ast.specs.References.{a_function, in_arguments, in_expression,
 use Rattle.fluent_ast.specs.Tree.{Text, function, inline, nested, select, call, message, term, placeable, text}
 use Rattle.fluent_ast.specs.View.{arguments_view, inline_view, expression_view, pattern_view, attribute_of, call_view}
 use Rattle.fluent_ast.specs.declared.ast.InlineExpression.{InlineExpression}
-use Rattle.fluent_entries.specs.IdNumbers.{numbers, table}
-use Rattle.fluent_links.specs.CursorParts.{in_arguments_is, in_function_is}
-use Rattle.fluent_links.specs.Cursors.{seen}
-use Rattle.fluent_links.specs.Links.{IsBefore, past}
+use Rattle.fluent_bundle_entries.specs.IdNumbers.{numbers, table}
+use Rattle.fluent_references.specs.CursorParts.{in_arguments_is, in_function_is}
+use Rattle.fluent_references.specs.Cursors.{seen}
+use Rattle.fluent_references.specs.Links.{IsBefore, past}
 use Rattle.fluent_semantics.specs.Ahead.{begins, after, Rest}
 use Rattle.fluent_semantics.specs.Arguments.{get}
 use Rattle.fluent_semantics.specs.Bundle.{Bundle, function_found}
@@ -61,7 +61,7 @@ use Rattle.fluent_values.specs.Facts.Took.{at_ok}
 use Rattle.fluent_resolver.proofs.Entering.{enters_term, follow_found, follow_unknown, follow_without, go_cyclic, goes_into, goes_visited, looks_in, not_entered}
 use Rattle.fluent_resolver.proofs.Terms.{term_alone, term_called, term_literals}
 use Rattle.fluent_resolver.proofs.Unbraced.{written_function, written_message, written_term}
-use Rattle.fluent_entries.specs.Texts.{IsTextAlone}
+use Rattle.fluent_bundle_entries.specs.Texts.{IsTextAlone}
 use Rattle.fluent_semantics.specs.Meaning.{limit_reached}
 use Rattle.fluent_values.specs.Facts.Outputs.{stays_through}
 use Rattle.fluent_resolver.proofs.Visiting.{sole_is}

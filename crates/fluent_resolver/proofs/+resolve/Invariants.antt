@@ -2,9 +2,9 @@ use Rattle.std.proofs.Common.{◌≡◌, ◌+◌, ◌-◌, ◌*◌, ℕ, [], Non
 use Rattle.fluent_ast.specs.References.{references}
 use Rattle.fluent_ast.specs.Tree.{Text}
 use Rattle.fluent_ast.specs.View.{pattern_view}
-use Rattle.fluent_links.specs.Cursors.{seen}
-use Rattle.fluent_links.specs.Links.{IsBefore}
-use Rattle.fluent_entries.specs.Texts.{IsTextAlone}
+use Rattle.fluent_references.specs.Cursors.{seen}
+use Rattle.fluent_references.specs.Links.{IsBefore}
+use Rattle.fluent_bundle_entries.specs.Texts.{IsTextAlone}
 use Rattle.fluent_semantics.specs.Bundle.{Bundle}
 use Rattle.fluent_semantics.specs.Walk.{has_one}
 use Rattle.fluent_resolver_state.specs.Status.{state}

@@ -3,8 +3,8 @@ use Rattle.std.specs.Prelude.{ℕ, ◌++◌, Option, drop}
 use Rattle.fluent_ast.specs.References.{in_named, in_positional, inlines_view, nameds_view}
 use Rattle.fluent_ast.specs.Tree.{Text, Inlines, Nameds}
 use Rattle.fluent_ast.specs.declared.ast.CallArguments as of_call
-use Rattle.fluent_links.specs.Cursors.{seen}
-use Rattle.fluent_links.specs.Links.{IsBefore}
+use Rattle.fluent_references.specs.Cursors.{seen}
+use Rattle.fluent_references.specs.Links.{IsBefore}
 use Rattle.fluent_resolver_state.specs.Gathered.{gathered, values_of}
 use Rattle.fluent_resolver.specs.Inside.Parts.{Held}
 use Rattle.fluent_resolver.specs.declared.frame.Gathering.{Gathering}

@@ -5,7 +5,7 @@ use Rattle.std.proofs.Common.{Global}
 use Rattle.fluent_text.specs.declared.counting.Counting.{Counting}
 use Rattle.fluent_ast.specs.Tree.{Text}
 use Rattle.fluent_resolver_state.specs.Status.{reported}
-use Rattle.fluent_entries.specs.declared.errors.FluentError.{FluentError}
+use Rattle.fluent_bundle_entries.specs.declared.errors.FluentError.{FluentError}
 use Rattle.fluent_show_cli.specs.Ending.{bad_rule, out_of_memory}
 use Rattle.fluent_show_cli.specs.EndingView.{ending_view}
 use Rattle.fluent_show_cli.specs.Input.{ReadFor, inlet, reader_in, state_in}

@@ -9,7 +9,7 @@ use Rattle.fluent_text.specs.Writer.{writer_in}
 use Rattle.fluent_text.specs.declared.counting.Counting.{Counting}
 use Rattle.fluent_semantics.specs.Errors.{Error}
 use Rattle.fluent_resolver_state.specs.Status.{reported}
-use Rattle.fluent_entries.specs.declared.errors.FluentError.{FluentError}
+use Rattle.fluent_bundle_entries.specs.declared.errors.FluentError.{FluentError}
 use Rattle.fluent_show_cli.specs.Ending.{Ending, out_of_memory, ending_line, error_lines, said}
 use Rattle.fluent_show_cli.specs.EndingView.{ending_view}
 use Rattle.fluent_show_cli.specs.Outlet.{Precedes}

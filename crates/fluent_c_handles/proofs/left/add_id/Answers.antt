@@ -1,6 +1,6 @@
 use Rattle.std.proofs.Common.{◌∙◌, sym, ap}
 use Rattle.fluent_semantics.specs.Errors.{overriding}
-use Rattle.fluent_entries.specs.ErrorView.{kind_view}
+use Rattle.fluent_bundle_entries.specs.ErrorView.{kind_view}
 use Rattle.fluent_c_handles.proofs.Going.{left_free, left_taken}
 use Rattle.fluent_c_handles.proofs.left.add_id.Goals as goal
 

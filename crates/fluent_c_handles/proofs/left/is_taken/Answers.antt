@@ -1,6 +1,6 @@
 use Rattle.std.proofs.Common.{sym, ◌∙◌, is_some, false, ◌≡◌}
 use Rattle.fluent_semantics.specs.Arguments.{get}
-use Rattle.fluent_entries.specs.EntryView.{entry_of, ids}
+use Rattle.fluent_bundle_entries.specs.EntryView.{entry_of, ids}
 use Rattle.fluent_c_handles.proofs.Going.{is_unnamed, some_mapped}
 use Rattle.fluent_c_handles.proofs.left.is_taken.Goals as goal
 

@@ -1,5 +1,5 @@
 use Rattle.std.proofs.Common.{rules, sym, ap, subst, ◌∙◌, Some, None}
-use Rattle.fluent_entries.specs.IdNumbers.{numbers, table}
+use Rattle.fluent_bundle_entries.specs.IdNumbers.{numbers, table}
 use Rattle.fluent_resolver_state.specs.Status.{state, state_parts}
 use Rattle.fluent_values.specs.Sinks.{outside}
 use Rattle.fluent_values.specs.View.{value_view}

@@ -1,7 +1,7 @@
 use Rattle.std.proofs.Common.{◌≡◌, rules, subst, ◌≤◌, length, true, ltb, get_or}
 use Rattle.fluent_ast.specs.References.{in_named}
 use Rattle.fluent_ast.specs.declared.ast.CallArguments as of_call
-use Rattle.fluent_links.specs.Cursors.{seen}
+use Rattle.fluent_references.specs.Cursors.{seen}
 use Rattle.fluent_resolver_state.specs.Gathered.{gathered, values_of}
 use Rattle.fluent_values.specs.View.{value_view}
 use Rattle.fluent_resolver.specs.Inside.Held.{more_named}

@@ -1,8 +1,8 @@
 use Rattle.std.proofs.Common.{ap, sym, ◌∙◌, slice_get}
 use Rattle.std.specs.Option.{option_map}
 use Rattle.fluent_ast.specs.View.{pattern_view}
-use Rattle.fluent_entries.specs.KeptLinks.{attributes_in, patterns, value_in}
-use Rattle.fluent_entries.specs.IdNumbers.{numbers, table}
+use Rattle.fluent_bundle_entries.specs.KeptLinks.{attributes_in, patterns, value_in}
+use Rattle.fluent_bundle_entries.specs.IdNumbers.{numbers, table}
 use Rattle.fluent_resolver_state.proofs.found.term.Goals as goal
 
 pub returns-in-None-clause-led : goal.returns-in-None-clause-led

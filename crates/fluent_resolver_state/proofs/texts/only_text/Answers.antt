@@ -1,5 +1,5 @@
 use Rattle.std.proofs.Common.{◌≡◌, sym, ap, ◌∙◌, length, rules}
-use Rattle.fluent_entries.specs.Texts.{sole_text}
+use Rattle.fluent_bundle_entries.specs.Texts.{sole_text}
 use Rattle.fluent_resolver_state.specs.Facts.Views.{view_pattern}
 use Rattle.fluent_resolver_state.proofs.Soles.{sole_none}
 use Rattle.fluent_resolver_state.proofs.texts.only_text.Goals.{in_default-via-then-as_slice-lt1, in_default-via-else-as_slice-lt1+else-this-lt2}

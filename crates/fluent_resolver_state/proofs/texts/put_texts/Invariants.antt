@@ -1,7 +1,7 @@
 use Rattle.std.proofs.Common.{◌≡◌, drop, map, Result}
 use Rattle.fluent_ast.specs.Tree.{pattern_of}
 use Rattle.fluent_ast.specs.View.{element_view, pattern_view}
-use Rattle.fluent_entries.specs.Texts.{texts_of}
+use Rattle.fluent_bundle_entries.specs.Texts.{texts_of}
 use Rattle.fluent_values.specs.Sinks.{Sink, SinkTook, sink}
 use Rattle.fluent_values.specs.declared.output.Halt.{Halt}
 use Rattle.fluent_resolver_state.proofs.texts.put_texts.Given as goal

@@ -1,5 +1,5 @@
 use Rattle.std.proofs.Common.{◌∙◌}
-use Rattle.fluent_links.specs.Cursors.{seen}
+use Rattle.fluent_references.specs.Cursors.{seen}
 use Rattle.fluent_resolver_state.proofs.InTurn.{begins_after, begins_here, not_default}
 use Rattle.fluent_resolver_state.proofs.variants.first_default.Goals as goal
 

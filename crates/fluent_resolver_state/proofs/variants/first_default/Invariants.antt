@@ -2,8 +2,8 @@ use Rattle.std.proofs.Common.{◌≡◌, ℕ, Option, drop, map}
 use Rattle.fluent_ast.specs.References.{in_variants, variants_view}
 use Rattle.fluent_ast.specs.Tree.{Text, variants_of}
 use Rattle.fluent_ast.specs.View.{variant_view}
-use Rattle.fluent_links.specs.Links.{IsBefore}
-use Rattle.fluent_links.specs.Cursors.{seen}
+use Rattle.fluent_references.specs.Links.{IsBefore}
+use Rattle.fluent_references.specs.Cursors.{seen}
 use Rattle.fluent_resolver_state.specs.Choice.{first_default}
 use Rattle.fluent_resolver_state.proofs.variants.first_default.Given as goal
 

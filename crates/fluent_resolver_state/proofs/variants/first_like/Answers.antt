@@ -5,7 +5,7 @@ use Rattle.fluent_ast.specs.View.{variant_view}
 use Rattle.fluent_intl.specs.Number.{number_of}
 use Rattle.fluent_semantics.specs.Bundle.{key_value}
 use Rattle.fluent_resolver_state.specs.Choice.{first_default, is_like}
-use Rattle.fluent_links.specs.Cursors.{seen}
+use Rattle.fluent_references.specs.Cursors.{seen}
 use Rattle.fluent_resolver_state.proofs.InTurn.{begins_after, begins_here, not_like}
 use Rattle.fluent_resolver_state.proofs.variants.first_like.Goals as goal
 

@@ -5,8 +5,8 @@ use Rattle.fluent_ast.specs.Tree.{Text, variants_of}
 use Rattle.fluent_ast.specs.View.{variant_view}
 use Rattle.fluent_intl.specs.Number.{number_of}
 use Rattle.fluent_semantics.specs.Bundle.{key_value}
-use Rattle.fluent_links.specs.Links.{IsBefore}
-use Rattle.fluent_links.specs.Cursors.{seen}
+use Rattle.fluent_references.specs.Links.{IsBefore}
+use Rattle.fluent_references.specs.Cursors.{seen}
 use Rattle.fluent_resolver_state.specs.Choice.{choice, first_default, is_like}
 use Rattle.fluent_resolver_state.proofs.variants.first_like.Given as goal
 

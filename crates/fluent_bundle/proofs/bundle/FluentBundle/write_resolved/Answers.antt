@@ -2,7 +2,7 @@ use Rattle.std.proofs.Common.{rules, ap, sym, subst, ◌∙◌}
 use Rattle.std.specs.Option.{option_map}
 use Rattle.fluent_ast.specs.References.{references}
 use Rattle.fluent_ast.specs.View.{pattern_view}
-use Rattle.fluent_entries.specs.IdNumbers.{IsPlaced}
+use Rattle.fluent_bundle_entries.specs.IdNumbers.{IsPlaced}
 use Rattle.fluent_bundle.specs.BundleView.{bundle_parts, is_plain, meant}
 use Rattle.fluent_resolver_state.specs.Status.{arguments_view, reported, state, state_parts}
 use Rattle.fluent_bundle.proofs.Formats.{fresh, never_none, writes_of}

@@ -1,4 +1,4 @@
-use Rattle.fluent_entries.specs.IdNumbers.{table}
+use Rattle.fluent_bundle_entries.specs.IdNumbers.{table}
 use Rattle.fluent_resolver_state.specs.Facts.Trails.{idle_kept}
 use Rattle.fluent_resolver_state.specs.Status.{state_parts}
 use Rattle.fluent_resolver.specs.ScopeView.{scope_parts}

@@ -1,5 +1,5 @@
 use Rattle.std.proofs.Common.{rules, ap}
-use Rattle.fluent_entries.specs.IdNumbers.{table}
+use Rattle.fluent_bundle_entries.specs.IdNumbers.{table}
 use Rattle.fluent_resolver_state.specs.Facts.Trails.{idle_path}
 use Rattle.fluent_resolver_state.specs.Status.{environment_view, state_parts}
 use Rattle.fluent_resolver.specs.ScopeView.{scope_parts, status}

@@ -1,6 +1,6 @@
 use Rattle.std.proofs.Common.{sym, subst, ◌∙◌}
 use Rattle.fluent_ast.specs.References.{references}
-use Rattle.fluent_links.specs.Links.{IsBefore}
+use Rattle.fluent_references.specs.Links.{IsBefore}
 use Rattle.fluent_ast.specs.View.{pattern_view}
 use Rattle.fluent_resolver_state.proofs.found.Target.of.Goals as goal
 

@@ -1,6 +1,6 @@
 use Rattle.std.proofs.Common.{◌∙◌, ap}
 use Rattle.std.specs.Cow.{cow_str_bytes}
-use Rattle.fluent_entries.specs.EntryView.{by_name}
+use Rattle.fluent_bundle_entries.specs.EntryView.{by_name}
 use Rattle.fluent_values.specs.View.{value_view}
 use Rattle.fluent_values.specs.Facts.Keyed.{both}
 use Rattle.fluent_values.specs.Facts.Ordered.{entries_of_empty}

@@ -1,4 +1,4 @@
-use Rattle.fluent_entries.specs.IdNumbers.{table}
+use Rattle.fluent_bundle_entries.specs.IdNumbers.{table}
 use Rattle.fluent_resolver_state.proofs.state.State.begin.Goals as goal
 
 pub invariant_of-self : goal.invariant_of-self

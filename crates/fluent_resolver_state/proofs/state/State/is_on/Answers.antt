@@ -1,4 +1,4 @@
-use Rattle.fluent_entries.specs.IdNumbers.{table, table_is_distinct}
+use Rattle.fluent_bundle_entries.specs.IdNumbers.{table, table_is_distinct}
 use Rattle.fluent_resolver_state.specs.Status.{state_parts}
 use Rattle.fluent_resolver_state.proofs.state.State.is_on.Goals as goal
 
