@@ -5,8 +5,7 @@ use Rattle.std.specs.Option.{option_map}
 use Rattle.std.specs.Io.KnownBytes.{Appends}
 use Rattle.std.specs.Prelude.{◌≤◌}
 use Rattle.fluent_ast.specs.Tree.{Text, Pattern}
-use Rattle.fluent_text.specs.Taken.{Faulted}
-use Rattle.fluent_text.specs.Writer.{writer_in}
+use Rattle.fluent_text.specs.Writer.{writer_in, Faulted}
 use Rattle.fluent_text.specs.declared.counting.Counting.{Counting}
 use Rattle.fluent_text.specs.declared.counting.WriteFault.{WriteFault}
 use Rattle.fluent_text.specs.declared.counting.WriteFault.TheVariants as fault

@@ -2,7 +2,8 @@
 use Rattle.std.proofs.Common.{◌≡◌, ◌≢◌, ◌∙◌, sym, ap, subst, refl, ℕ, List, inl, inr, Option, Result, Ok, Err}
 use Rattle.std.specs.Io.KnownBytes.{Appends}
 use Rattle.fluent_ast.specs.Tree.{Text}
-use Rattle.fluent_text.specs.Taken.{Faulted, TookPrefix}
+use Rattle.fluent_text.specs.Taken.{TookPrefix}
+use Rattle.fluent_text.specs.Writer.{Faulted}
 use Rattle.fluent_text.specs.declared.counting.WriteFault.{WriteFault}
 use Rattle.fluent_text.specs.declared.counting.WriteFault.TheVariants.{Memory, Writer, Zero}
 use Rattle.fluent_semantics.specs.Errors.{Error}

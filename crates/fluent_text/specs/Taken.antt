@@ -31,13 +31,6 @@ TookPrefix old new piece = (prefix : List ℕ) × (rest : List ℕ) × (piece �
 abbrev pub LeftSome : Option (List ℕ) → Option (List ℕ) → List ℕ → Type 0
 LeftSome old new piece = (prefix : List ℕ) × (rest : List ℕ) × (rest ≢ []) × (piece ≡ prefix ++ rest) × Appends old new prefix
 
--- which count a fault raised, from the counts before and after
-abbrev pub Faulted : {T : Type 0} → ℕ → ℕ → ℕ → ℕ → Result T WriteFault → Type 0
-Faulted failed empty failed' empty' (Ok x) = (failed' ≡ failed) × (empty' ≡ empty)
-Faulted failed empty failed' empty' (Err (Writer e)) = (failed' ≡ raised failed) × (empty' ≡ empty)
-Faulted failed empty failed' empty' (Err Zero) = (failed' ≡ failed) × (empty' ≡ raised empty)
-Faulted failed empty failed' empty' (Err Memory) = (failed' ≡ failed) × (empty' ≡ empty)
-
 -- if there was a fault it was the writer's
 abbrev pub ByWriter : {T : Type 0} → Result T WriteFault → Type 0
 ByWriter (Ok x) = Unit {0}

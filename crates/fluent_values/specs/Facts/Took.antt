@@ -2,7 +2,8 @@
 use Rattle.std.proofs.Common.{◌≡◌, refl, sym, ap, subst, ◌∙◌, ℕ, [], ◌++◌, append-nil, append_assoc, Option, Some, None, Result, Ok, Err, OnOk, OnErr}
 use Rattle.std.specs.Io.KnownBytes.{Appends}
 use Rattle.fluent_ast.specs.Tree.{Text}
-use Rattle.fluent_text.specs.Taken.{TookPrefix, Faulted}
+use Rattle.fluent_text.specs.Taken.{TookPrefix}
+use Rattle.fluent_text.specs.Writer.{Faulted}
 use Rattle.fluent_text.specs.declared.counting.WriteFault.{WriteFault}
 use Rattle.fluent_text.specs.declared.counting.WriteFault.TheVariants as fault
 use Rattle.fluent_values.specs.declared.output.Halt.{Halt}
