@@ -19,9 +19,7 @@ use Rattle.fluent_semantics.specs.Result.{formatted, written_pattern, substitute
 use Rattle.fluent_semantics.specs.Value.{Value}
 use Rattle.fluent_bundle_entries.specs.EntryView.{message_content}
 use Rattle.fluent_bundle_entries.specs.MessageView.{first_named}
-use Rattle.fluent_bundle.specs.Formatted.{AddsPrefix, BorrowsAsked, BorrowsSome, Errors, GivesAsked, GivesSome, GivesText, TakesNoMemory, WritesAll, WritesAsked, WritesPrefix, written_events}
-use Rattle.fluent_bundle.specs.Limits.{KeepsLimit}
-use Rattle.fluent_bundle.specs.PatternsWithoutMemory.{BorrowsText, WritesFree}
+use Rattle.fluent_bundle.specs.Formatted.{AddsPrefix, BorrowsAsked, BorrowsSome, BorrowsText, Errors, GivesAsked, GivesSome, GivesText, KeepsLimit, TakesNoMemory, WritesAll, WritesAsked, WritesFree, WritesPrefix, written_events}
 use Rattle.fluent_bundle.specs.Inside.Asked.{pattern_at}
 use Rattle.fluent_bundle.specs.declared.bundle.FluentBundle.{FluentBundle}
 use Rattle.fluent_bundle.proofs.Formats.{substituted_of}

@@ -26,8 +26,7 @@ use Rattle.fluent_resolver.specs.Scoped.{pattern_events}
 use Rattle.fluent_resolver_state.specs.Status.{Status, reported, with_errors}
 use Rattle.fluent_resolver_state.specs.Steps.{IsAtStart}
 use Rattle.fluent_bundle.specs.Facts.Events.{errors_of, text_of, writes_on}
-use Rattle.fluent_bundle.specs.Formatted.{AddsAll, AddsPrefix, EventsAreRun, WritesAll, Writes, written_events}
-use Rattle.fluent_bundle.specs.Limits.{KeepsLimit}
+use Rattle.fluent_bundle.specs.Formatted.{AddsAll, AddsPrefix, EventsAreRun, KeepsLimit, Writes, WritesAll, written_events}
 
 -- what a pattern does in the state in which a call begins
 pub fresh : {K : Type 0} (s : Status K) (b : Bundle Text) (args : Map (Value Text)) (p : Pattern) → IsAtStart s b args → pattern_events p s ≡ written_events b args p

@@ -8,12 +8,11 @@ use Rattle.fluent_semantics.specs.Value.{Value, text_value}
 use Rattle.fluent_semantics.specs.Arguments.{Map}
 use Rattle.fluent_semantics.specs.Bundle.{Bundle, unless_formatted}
 use Rattle.fluent_semantics.specs.Result.{formatted, written_pattern, substituted_pattern}
-use Rattle.fluent_bundle.specs.Formatted.{AddsAll, AddsPrefix, GivesText}
+use Rattle.fluent_bundle.specs.Formatted.{AddsAll, AddsPrefix, GivesText, KeepsLimit}
 use Rattle.fluent_semantics.specs.Walk.{elements}
 use Rattle.fluent_semantics.specs.Meaning.{ran}
 use Rattle.fluent_bundle_entries.specs.Texts.{sole_text, is_text}
 use Rattle.fluent_resolver_state.specs.Status.{reported}
-use Rattle.fluent_bundle.specs.Limits.{KeepsLimit}
 use Rattle.fluent_bundle_entries.specs.declared.errors.FluentError.{FluentError}
 
 -- the same by substitution, within the limit

@@ -7,8 +7,8 @@ use Rattle.std.proofs.lemmas.List.Elements.{All-head, All-tail}
 use Rattle.fluent_ast.specs.Tree.{Text}
 use Rattle.fluent_semantics.specs.Bundle as m
 use Rattle.fluent_semantics.specs.Bundle.{Bundle, after, after_all}
-use Rattle.fluent_bundle.specs.BundleView.{formatter_in, intls_in, transform_in, Kept, KeptBeside}
-use Rattle.fluent_bundle.specs.Calls.{Makes, BegunBy, TakesNoMemory, transform_after_all, formatter_after_all}
+use Rattle.fluent_bundle.specs.BundleView.{formatter_in, intls_in, transform_in, KeepsSettings, KeepsLanguages}
+use Rattle.fluent_bundle.specs.Calls.{Makes, BegunBy, IsSetting, transform_after_all, formatter_after_all}
 use Rattle.fluent_bundle.specs.declared.bundle.FluentBundle.{FluentBundle}
 use Rattle.fluent_bundle.specs.declared.calls.Call.{Call}
 
@@ -35,7 +35,7 @@ formatter_more : {F G X : Type 0} (cs ds : List (Call F G X)) (held : Option G) 
 formatter_more [] ds held = refl
 formatter_more (c ∷ cs) ds held = formatter_more cs ds _
 
-beside_on : {M C F G X : Type 0} (a b c : FluentBundle M C F G X) → KeptBeside a b → KeptBeside b c → KeptBeside a c
+beside_on : {M C F G X : Type 0} (a b c : FluentBundle M C F G X) → KeepsLanguages a b → KeepsLanguages b c → KeepsLanguages a c
 beside_on a b c h k = record { locales = k.locales ∙ h.locales; intls = k.intls ∙ h.intls }
 
 module _ {M C F G X : Type 0} (of : FluentBundle M C F G X → Bundle Text) (ask : Call F G X → m.Call Text) where
@@ -56,7 +56,7 @@ module _ {M C F G X : Type 0} (of : FluentBundle M C F G X → Bundle Text) (ask
   all_made cs all a b h = subst (λ ds. Makes of ask ds a b) (sym (map-id cs) ∙ h)
 
   -- a bundle as it was
-  pub made_still : (cs : List (Call F G X)) (a b c : FluentBundle M C F G X) → Makes of ask cs a b → of c ≡ of b → Kept b c → Makes of ask cs a c
+  pub made_still : (cs : List (Call F G X)) (a b c : FluentBundle M C F G X) → Makes of ask cs a b → of c ≡ of b → KeepsSettings b c → Makes of ask cs a c
   made_still cs a b c h same kept = record {
     meaning = same ∙ h.meaning;
     beside = beside_on a b c h.beside kept.beside;
@@ -70,8 +70,8 @@ module _ {M C F G X : Type 0} (of : FluentBundle M C F G X → Bundle Text) (ask
   one_made cs d a b c h k = made_on of (ask (intls_in a)) cs (d ∷ []) a b c h (subst (λ i. Makes of (ask i) (d ∷ []) b c) h.beside.intls k)
 
   -- where a call is refused, which takes memory, those before it were made
-  pub begun_by : (all cs ds : List (Call F G X)) (d : Call F G X) (a b c : FluentBundle M C F G X) → all ≡ cs ++ d ∷ ds → (TakesNoMemory d → ⊥) → Makes of (ask (intls_in a)) cs a b → (of c ≡ of b) × Kept b c → BegunBy of (ask (intls_in a)) all a c
-  begun_by all cs ds d a b c whole takes h same = record { made = cs; alloc_failed = d; left = ds; whole = whole; takes = takes; makes = made_still of (ask (intls_in a)) cs a b c h same.0 same.1 }
+  pub begun_by : (all cs ds : List (Call F G X)) (d : Call F G X) (a b c : FluentBundle M C F G X) → all ≡ cs ++ d ∷ ds → (IsSetting d → ⊥) → Makes of (ask (intls_in a)) cs a b → (of c ≡ of b) × KeepsSettings b c → BegunBy of (ask (intls_in a)) all a c
+  begun_by all cs ds d a b c whole takes h same = record { made = cs; alloc_failed = d; undone = ds; whole = whole; takes = takes; makes = made_still of (ask (intls_in a)) cs a b c h same.0 same.1 }
 
 -- what holds of all holds of each
 of_each : {K : Type 0} (P : K → Type 0) (cs : List K) (d : K) (ds : List K) → All P (cs ++ d ∷ ds) → P d

@@ -157,12 +157,12 @@ abbrev pub shows_own : {M C F G X : Type 0} → FluentBundle M C F G X → Bool
 shows_own b = not (is_some (formatter_in b))
 
 -- What a bundle's meaning does not show is as before, but for its transform and its formatter: its locales and its plural source.
-pub record KeptBeside {M C F G X : Type 0} (b b' : FluentBundle M C F G X) : Type 0 where
+pub record KeepsLanguages {M C F G X : Type 0} (b b' : FluentBundle M C F G X) : Type 0 where
   pub locales : b'.locales ≡ b.locales
   pub intls : intls_in b' ≡ intls_in b
 
 -- The same, and it holds the transform and the formatter that it held.
-pub record Kept {M C F G X : Type 0} (b b' : FluentBundle M C F G X) : Type 0 where
-  pub beside : KeptBeside b b'
+pub record KeepsSettings {M C F G X : Type 0} (b b' : FluentBundle M C F G X) : Type 0 where
+  pub beside : KeepsLanguages b b'
   pub transform : transform_in b' ≡ transform_in b
   pub formatter : formatter_in b' ≡ formatter_in b

@@ -1,5 +1,5 @@
 -- What the formatting calls write, answer and report.
-use Rattle.std.specs.Prelude.{◌≡◌, ◌≤◌, ◌++◌, Bool, false, List, [], map, Option, Some, None, is_some, IfNone, IfSome, Result, Ok, Err, IfOk, OnOk}
+use Rattle.std.specs.Prelude.{◌≡◌, ◌≢◌, ◌-◌, ◌<◌, ◌≤◌, ◌↔◌, ◌++◌, Bool, false, List, [], map, Option, Some, None, is_some, IfNone, IfSome, Result, Ok, Err, IfOk, OnOk}
 use Rattle.std.specs.Borrow.{Bor}
 use Rattle.std.specs.Cow.{cow_str_bytes}
 use Rattle.std.specs.Io.KnownBytes.{Appends}
@@ -10,9 +10,11 @@ use Rattle.std.specs.declared.borrow.CowStr.{CowStr}
 use Rattle.std.specs.declared.borrow.CowStr.TheVariants.{Borrowed, Owned}
 use Rattle.std.specs.declared.vec.Vec.{Vec}
 use Rattle.std.proofs.Common.{Global}
+use Rattle.fluent_text.specs.Unescaped.{Borrows}
 use Rattle.fluent_text.specs.Writer.{writer_in}
 use Rattle.fluent_text.specs.declared.counting.Counting.{Counting}
 use Rattle.fluent_text.specs.declared.counting.WriteFault.{WriteFault}
+use Rattle.fluent_text.specs.declared.counting.WriteFault.TheVariants as fault
 use Rattle.fluent_ast.specs.Tree.{Text, Pattern, Attributes}
 use Rattle.fluent_ast.specs.View.{pattern_view}
 use Rattle.fluent_ast.specs.declared.ast.Pattern as code
@@ -21,21 +23,22 @@ use Rattle.fluent_semantics.specs.Arguments.{Map}
 use Rattle.fluent_semantics.specs.Bundle.{Bundle}
 use Rattle.fluent_semantics.specs.Errors.{Error}
 use Rattle.fluent_semantics.specs.Events.{Event, text_in, errors_in}
-use Rattle.fluent_semantics.specs.Meaning.{Outcome, Ran, left}
+use Rattle.fluent_semantics.specs.Laws.{IsBounded, IsLimitOf}
+use Rattle.fluent_semantics.specs.Limit.{up_to_limit}
+use Rattle.fluent_semantics.specs.Meaning.{Outcome, Ran, left, limit_reached}
 use Rattle.fluent_semantics.specs.Result.{formatted, written_pattern, substituted_pattern}
 use Rattle.fluent_semantics.specs.Value.{Value}
 use Rattle.fluent_semantics.specs.Walk.{application, whole}
 use Rattle.fluent_bundle_entries.specs.declared.errors.FluentError.{FluentError}
 use Rattle.fluent_bundle_entries.specs.MessageView.{Content}
 use Rattle.fluent_values.specs.Sinks.{Sink, CountsTell}
-use Rattle.fluent_bundle_entries.specs.Texts.{sole_text}
+use Rattle.fluent_bundle_entries.specs.Texts.{sole_text, IsTextAlone}
 use Rattle.fluent_values.specs.declared.args.FluentArgs.{FluentArgs}
 use Rattle.fluent_values.specs.declared.output.Halt.{Halt}
 use Rattle.fluent_text.specs.Changes.{Change, new, old}
 use Rattle.fluent_resolver.specs.Scoped.{IsRunOf}
 use Rattle.fluent_resolver_state.specs.Status.{arguments_view, reported}
 use Rattle.fluent_bundle.specs.BundleView.{formatter_in, message_at, transform_in}
-use Rattle.fluent_bundle.specs.PatternsWithoutMemory.{WritesFree}
 use Rattle.fluent_bundle.specs.declared.bundle.FluentBundle.{FluentBundle}
 use Rattle.fluent_bundle.specs.declared.messages.FormattedAttribute.{FormattedAttribute}
 use Rattle.fluent_bundle.specs.declared.messages.FormattedMessage.{FormattedMessage}
@@ -147,6 +150,32 @@ module _ {C : Type 0} (b : Bundle Text) (content : C → Text) (args : Option (B
   abbrev pub GivesWhole : {E : Type 0} → Result (CowStr Global) E → Change Errors → Type 0
   GivesWhole result errors = GivesText (formatted b written.value) written.errors result (old errors).items (new errors).items
 
+-- ---- what its limit does to the text and the errors of a pattern
+
+pub record KeepsLimit {C : Type 0} (b : Bundle C) (args : Map (Value C)) (p : Pattern) : Type 0 where
+  -- the limit is reached exactly where the substitution meaning opens more than the limit
+  pub reaches_limit : (written_pattern b args p).budget ≡ limit_reached ↔ b.limit < (substituted_pattern b args p).opened
+  -- where it opens no more, text and errors are its own, and what is left is the limit less what was opened
+  pub within : (substituted_pattern b args p).opened ≤ b.limit → written_pattern b args p ≡ record {
+    value = (substituted_pattern b args p).value;
+    errors = (substituted_pattern b args p).errors;
+    budget = left (b.limit - (substituted_pattern b args p).opened);
+  }
+  -- where it opens more, the text at the limit and the errors before it begin both
+  pub beyond : b.limit < (substituted_pattern b args p).opened → IsLimitOf (up_to_limit b (application args) [] p b.limit) (substituted_pattern b args p) (written_pattern b args p)
+  -- how many placeables are opened, how long the path becomes, how many patterns are entered
+  pub bounded : IsBounded b (application args) [] p b.limit
+
+-- ---- what takes no memory
+
+-- a pattern that is one text is borrowed, where no transform and no formatter is set
+abbrev pub BorrowsText : {M C F G X : Type 0} → FluentBundle M C F G X → Pattern → Result (CowStr Global) AllocError → Type 0
+BorrowsText b p result = (t : Text) → sole_text p ≡ Some t → transform_in b ≡ None → formatter_in b ≡ None → Borrows result t
+
+-- one of texts alone, without a placeable, takes none to write, where no transform is set
+abbrev pub WritesFree : {M C F G X T : Type 0} → FluentBundle M C F G X → Pattern → Result T WriteFault → Type 0
+WritesFree b p result = IsTextAlone p → transform_in b ≡ None → result ≢ Err fault.Memory
+
 -- ---- of a pattern that is asked for by id: what is given of it
 
 -- The text is answered, and the errors are added.
@@ -165,8 +194,8 @@ pub record GivesAsked {E : Type 0} (b : Bundle Text) (args : Map (Value Text)) (
   -- whatever is answered
   pub prefix : IfSome asked (λ p. AddsPrefix (written_pattern b args p).errors errors.items errors'.items)
 
-abbrev pub Finds : {C E : Type 0} → Bundle Text → (C → Text) → Option (Bor (FluentArgs C)) → (Bundle Text → Option Pattern) → Result (Option (CowStr Global)) E → Change Errors → Type 0
-Finds b content args ask result errors = GivesAsked b (arguments_view content args) (ask b) result (old errors) (new errors)
+abbrev pub GivesFound : {C E : Type 0} → Bundle Text → (C → Text) → Option (Bor (FluentArgs C)) → (Bundle Text → Option Pattern) → Result (Option (CowStr Global)) E → Change Errors → Type 0
+GivesFound b content args ask result errors = GivesAsked b (arguments_view content args) (ask b) result (old errors) (new errors)
 
 -- the answer is this text, borrowed and not made
 abbrev pub BorrowsSome : Result (Option (CowStr Global)) AllocError → Text → Type 0

@@ -5,7 +5,7 @@ ghost use Rattle.std.specs.Prelude.{◌≡◌, ◌≤◌, ◌↔◌, is_some, ma
 ghost use Rattle.std.specs.Option.{option_map};
 ghost use Rattle.fluent_intl.specs.Plurals.{english};
 ghost use Rattle.fluent_semantics.specs.Bundle.{add_builtins, add_function, add_resource, add_resource_overriding, after, answered, empty_bundle, set_formatter, set_placeable_limit, set_transform, set_use_isolating};
-ghost use Rattle.fluent_bundle.specs.BundleView.{custom_by, entries_in, entries_of, formatter_in, intls_in, message_at, message_entry_at, shown_by, transform_in, AnswersCall, AreUndetermined, Kept, KeptBeside};
+ghost use Rattle.fluent_bundle.specs.BundleView.{custom_by, entries_in, entries_of, formatter_in, intls_in, message_at, message_entry_at, shown_by, transform_in, AnswersCall, AreUndetermined, KeepsSettings, KeepsLanguages};
 ghost use Rattle.fluent_bundle_entries.specs.MessageView.{entry_seen, message_view};
 ghost use Rattle.fluent_bundle_entries.specs.ErrorView.{error_view};
 ghost use Rattle.fluent_bundle.specs.Inside.AddAnswers.{answer_of};
@@ -116,7 +116,7 @@ impl<
     pub fn set_use_isolating(&mut self, value: bool)
         ensures step { ⟦<Self as Means>⟧.meaning self.new
             ≡ after (set_use_isolating value) (⟦<Self as Means>⟧.meaning self.old) }
-        ensures kept { Kept self.old self.new }
+        ensures kept { KeepsSettings self.old self.new }
     {
         self.use_isolating = value;
     }
@@ -126,7 +126,7 @@ impl<
         ensures step { ⟦<Self as Means>⟧.meaning self.new
             ≡ after (set_transform (option_map T.changed transform)) (⟦<Self as Means>⟧.meaning self.old) }
         ensures set { transform_in self.new ≡ transform }
-        ensures kept { KeptBeside self.old self.new }
+        ensures kept { KeepsLanguages self.old self.new }
         ensures formatter { formatter_in self.new ≡ formatter_in self.old }
     {
         self.transform = transform;
@@ -138,7 +138,7 @@ impl<
         ensures step { ⟦<Self as Means>⟧.meaning self.new
             ≡ after (set_formatter (shown_by G.formatted (intls_in self.old) formatter)) (⟦<Self as Means>⟧.meaning self.old) }
         ensures set { formatter_in self.new ≡ formatter }
-        ensures kept { KeptBeside self.old self.new }
+        ensures kept { KeepsLanguages self.old self.new }
         ensures transform { transform_in self.new ≡ transform_in self.old }
     {
         self.formatter = formatter;
@@ -150,7 +150,7 @@ impl<
         ensures step { ⟦<Self as Means>⟧.meaning self.new
             ≡ after (set_placeable_limit limit) (⟦<Self as Means>⟧.meaning self.old) }
         ensures set { IsTrue result ↔ ((1 ≤ limit) × (limit ≤ 10000)) }
-        ensures kept { Kept self.old self.new }
+        ensures kept { KeepsSettings self.old self.new }
     {
         let is_allowed = limit >= 1 && limit <= MAX_PLACEABLE_LIMIT;
         if is_allowed {
@@ -176,7 +176,7 @@ impl<
     pub fn add_resource(&mut self, resource: &'r FluentResource<'s>) -> Result<(), AddFault>
         ensures step { AnswersCall (⟦<Self as Means>⟧.meaning self.old) (add_resource (entries_of resource.now))
             (⟦<Self as Means>⟧.meaning self.new) result }
-        ensures kept { Kept self.old self.new }
+        ensures kept { KeepsSettings self.old self.new }
         ensures empty { entries_of resource.now ≡ [] → IsOk result }
     {
         all_added(self.take_resource(resource))
@@ -192,7 +192,7 @@ impl<
         ensures errors { IfOk result (λ left. map error_view left.items
             ≡ answered (add_resource (entries_of resource.now)) (⟦<Self as Means>⟧.meaning self.old)) }
         ensures err { OnErr result (⟦<Self as Means>⟧.meaning self.new ≡ ⟦<Self as Means>⟧.meaning self.old) }
-        ensures kept { Kept self.old self.new }
+        ensures kept { KeepsSettings self.old self.new }
         ensures empty { entries_of resource.now ≡ [] → IsOk result }
     {
         let entries = resource.all();
@@ -215,7 +215,7 @@ impl<
         ensures ok { OnOk result (⟦<Self as Means>⟧.meaning self.new
             ≡ after (add_resource_overriding (entries_of resource.now)) (⟦<Self as Means>⟧.meaning self.old)) }
         ensures err { OnErr result (⟦<Self as Means>⟧.meaning self.new ≡ ⟦<Self as Means>⟧.meaning self.old) }
-        ensures kept { Kept self.old self.new }
+        ensures kept { KeepsSettings self.old self.new }
     {
         self.entries.override_entries(self.alloc, resource.all())
     }
@@ -229,7 +229,7 @@ impl<
     pub fn add_function(&mut self, id: &str, function: F) -> Result<(), AddFault>
         ensures step { AnswersCall (⟦<Self as Means>⟧.meaning self.old) (add_function id.now (F.answer function))
             (⟦<Self as Means>⟧.meaning self.new) result }
-        ensures kept { Kept self.old self.new }
+        ensures kept { KeepsSettings self.old self.new }
     {
         all_added(self.take_function(id, function))
     }
@@ -241,7 +241,7 @@ impl<
         ensures errors { IfOk result (λ left. map error_view left.items
             ≡ answered (add_function id.now (F.answer function)) (⟦<Self as Means>⟧.meaning self.old)) }
         ensures err { OnErr result (⟦<Self as Means>⟧.meaning self.new ≡ ⟦<Self as Means>⟧.meaning self.old) }
-        ensures kept { Kept self.old self.new }
+        ensures kept { KeepsSettings self.old self.new }
     {
         let id = CowStr::Owned(String::from_str(self.alloc, id)?);
         self.entries.add_function(self.alloc, id, function)
@@ -256,7 +256,7 @@ impl<
     pub fn add_builtins(&mut self) -> Result<(), AddFault>
         ensures step { AnswersCall (⟦<Self as Means>⟧.meaning self.old) add_builtins
             (⟦<Self as Means>⟧.meaning self.new) result }
-        ensures kept { Kept self.old self.new }
+        ensures kept { KeepsSettings self.old self.new }
     {
         let id = CowStr::Borrowed("NUMBER");
         all_added(self.entries.add_number(self.alloc, id))

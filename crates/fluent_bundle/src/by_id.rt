@@ -6,7 +6,7 @@ ghost use Rattle.std.specs.Option.{option_map};
 ghost use Rattle.fluent_text.specs.Writer.{CountsFault};
 ghost use Rattle.fluent_resolver_state.specs.FoundView.{IsStored, content_at};
 ghost use Rattle.fluent_bundle.specs.BundleView.{attribute_at, entries_in, value_at};
-ghost use Rattle.fluent_bundle.specs.Formatted.{BorrowsAsked, Finds, TakesNoMemory, WritesFound};
+ghost use Rattle.fluent_bundle.specs.Formatted.{BorrowsAsked, GivesFound, TakesNoMemory, WritesFound};
 ghost use Rattle.fluent_bundle.specs.Inside.Asked.{pattern_asked};
 
 use crate::bundle::FluentBundle;
@@ -44,7 +44,7 @@ impl<
         args: Option<&FluentArgs<'_, C>>,
         errors: &mut Vec<FluentError>,
     ) -> Result<Option<CowStr<'s>>, AllocError>
-        ensures finds { Finds (⟦<Self as Means>⟧.meaning self.now) C.content args.entry (value_at id.now)
+        ensures finds { GivesFound (⟦<Self as Means>⟧.meaning self.now) C.content args.entry (value_at id.now)
             result errors }
         ensures borrowed { BorrowsAsked self.now (value_at id.now (⟦<Self as Means>⟧.meaning self.now)) result }
     {
@@ -64,7 +64,7 @@ impl<
         args: Option<&FluentArgs<'_, C>>,
         errors: &mut Vec<FluentError>,
     ) -> Result<Option<CowStr<'s>>, AllocError>
-        ensures finds { Finds (⟦<Self as Means>⟧.meaning self.now) C.content args.entry (attribute_at id.now name.now)
+        ensures finds { GivesFound (⟦<Self as Means>⟧.meaning self.now) C.content args.entry (attribute_at id.now name.now)
             result errors }
         ensures borrowed { BorrowsAsked self.now (attribute_at id.now name.now (⟦<Self as Means>⟧.meaning self.now))
             result }
@@ -126,7 +126,7 @@ impl<
         args: Option<&FluentArgs<'_, C>>,
         errors: &mut Vec<FluentError>,
     ) -> Result<Option<CowStr<'s>>, AllocError>
-        ensures finds { Finds (⟦<Self as Means>⟧.meaning self.now) C.content args.entry (pattern_asked id.now name.now)
+        ensures finds { GivesFound (⟦<Self as Means>⟧.meaning self.now) C.content args.entry (pattern_asked id.now name.now)
             result errors }
         ensures borrowed { BorrowsAsked self.now (pattern_asked id.now name.now (⟦<Self as Means>⟧.meaning self.now))
             result }

@@ -2,8 +2,8 @@
 ghost use Rattle.std.specs.Prelude.{◌≡◌, [], ◌∷◌, OnOk, OnErr, IsOk};
 ghost use Rattle.std.specs.List.{All};
 ghost use Rattle.fluent_bundle.specs.Inside.AddAnswers.{unless_alloc_failed};
-ghost use Rattle.fluent_bundle.specs.BundleView.{intls_in, Kept};
-ghost use Rattle.fluent_bundle.specs.Calls.{asked, BegunBy, Makes, TakesNoMemory};
+ghost use Rattle.fluent_bundle.specs.BundleView.{intls_in, KeepsSettings};
+ghost use Rattle.fluent_bundle.specs.Calls.{asks, BegunBy, Makes, IsSetting};
 
 use crate::bundle::{AddFault, FluentBundle};
 use crate::resource::FluentResource;
@@ -43,11 +43,11 @@ impl<
     ///
     /// An allocation failed, which the setters can't meet: the bundle is as before.
     pub fn make(&mut self, call: Call<'r, 's, F, G, T>) -> Result<(), AllocError>
-        ensures ok { OnOk result (Makes ⟦<Self as Means>⟧.meaning (asked F.answer G.formatted T.changed (intls_in self.old))
+        ensures ok { OnOk result (Makes ⟦<Self as Means>⟧.meaning (asks F.answer G.formatted T.changed (intls_in self.old))
             (call.entry ∷ []) self.old self.new) }
         ensures err { OnErr result ((⟦<Self as Means>⟧.meaning self.new ≡ ⟦<Self as Means>⟧.meaning self.old)
-            × Kept self.old self.new) }
-        ensures succeeds { TakesNoMemory call.entry → IsOk result }
+            × KeepsSettings self.old self.new) }
+        ensures succeeds { IsSetting call.entry → IsOk result }
     {
         match call {
             Call::AddResource(resource) => known(self.add_resource(resource)),
@@ -80,11 +80,11 @@ impl<
     /// An allocation failed at one of them, which is no setter: those before it were made, and no other; what the
     /// others hand over is dropped.
     pub fn make_all(&mut self, calls: Vec<Call<'r, 's, F, G, T>>) -> Result<(), AllocError>
-        ensures ok { OnOk result (Makes ⟦<Self as Means>⟧.meaning (asked F.answer G.formatted T.changed (intls_in self.old))
+        ensures ok { OnOk result (Makes ⟦<Self as Means>⟧.meaning (asks F.answer G.formatted T.changed (intls_in self.old))
             calls.entry.items self.old self.new) }
-        ensures err { OnErr result (BegunBy ⟦<Self as Means>⟧.meaning (asked F.answer G.formatted T.changed (intls_in self.old))
+        ensures err { OnErr result (BegunBy ⟦<Self as Means>⟧.meaning (asks F.answer G.formatted T.changed (intls_in self.old))
             calls.entry.items self.old self.new) }
-        ensures succeeds { All TakesNoMemory calls.entry.items → IsOk result }
+        ensures succeeds { All IsSetting calls.entry.items → IsOk result }
     {
         for call in calls {
             self.make(call)?;

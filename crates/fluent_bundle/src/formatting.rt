@@ -11,11 +11,9 @@ ghost use Rattle.fluent_bundle_entries.specs.IdNumbers.{IsPlaced};
 ghost use Rattle.fluent_bundle_entries.specs.Texts.{is_text};
 ghost use Rattle.fluent_resolver_state.specs.Status.{arguments_view};
 ghost use Rattle.fluent_bundle.specs.BundleView.{entries_in, transform_in};
-ghost use Rattle.fluent_bundle.specs.Formatted.{Adds, AddsSome, GivesWhole, GivesWithin, WritesBeginning, WritesWhole, WritesWithin, written};
+ghost use Rattle.fluent_bundle.specs.Formatted.{Adds, AddsSome, BorrowsText, GivesWhole, GivesWithin, KeepsLimit, WritesBeginning, WritesFree, WritesWhole, WritesWithin, written};
 ghost use Rattle.fluent_bundle.specs.Inside.Outputs.{CountsHalt, PutsFree, WritesOut};
 ghost use Rattle.fluent_bundle.specs.Inside.Unchanged.{unchanged_text, untransformed_text};
-ghost use Rattle.fluent_bundle.specs.Limits.{KeepsLimit};
-ghost use Rattle.fluent_bundle.specs.PatternsWithoutMemory.{BorrowsText, WritesFree};
 
 use crate::bundle::FluentBundle;
 use crate::laws;

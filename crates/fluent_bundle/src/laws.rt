@@ -3,8 +3,7 @@ ghost use Rattle.fluent_ast.specs.Tree.{Pattern, Text};
 ghost use Rattle.fluent_semantics.specs.Arguments.{Map};
 ghost use Rattle.fluent_semantics.specs.Bundle.{Bundle};
 ghost use Rattle.fluent_semantics.specs.Value.{Value};
-ghost use Rattle.fluent_bundle.specs.Formatted.{EventsAreRun};
-ghost use Rattle.fluent_bundle.specs.Limits.{KeepsLimit};
+ghost use Rattle.fluent_bundle.specs.Formatted.{EventsAreRun, KeepsLimit};
 
 use fluent_resolver::calls_are_walks;
 use fluent_semantics::laws;

@@ -1,6 +1,6 @@
 //! What is wrong with the sources of several languages.
 ghost use Rattle.std.specs.Prelude.{IfOk, OnOk, OnErr};
-ghost use Rattle.fluent_bundle.specs.BundleView.{IsRead, Kept, entries_of};
+ghost use Rattle.fluent_bundle.specs.BundleView.{IsRead, KeepsSettings, entries_of};
 ghost use Rattle.fluent_catalog.specs.Reports.{AddsSource, MeansTheSame, TellsLeft, TellsNothing, TellsUnreadable};
 
 use fluent_bundle::{
@@ -66,7 +66,7 @@ pub fn add_source<
         (entries_of resource.now) reports) }
     ensures err { OnErr result (MeansTheSame ⟦<FluentBundle<'r, 's, M, C, F, G, T> as Means>⟧.meaning bundle) }
     ensures none { OnErr result (TellsNothing reports) }
-    ensures kept { Kept bundle.old bundle.new }
+    ensures kept { KeepsSettings bundle.old bundle.new }
 {
     reports.reserve(1)?;
     match bundle.add_resource(resource) {

@@ -13,7 +13,7 @@ use Rattle.fluent_ast.specs.declared.ast.Pattern as code
 use Rattle.fluent_semantics.specs.Bundle.{Bundle}
 use Rattle.fluent_values.specs.declared.args.FluentArgs.{FluentArgs}
 use Rattle.fluent_bundle.specs.BundleView.{attribute_at, value_at}
-use Rattle.fluent_bundle.specs.Formatted.{AddsSome, Errors, Finds, GivesWhole, GivesWithin, WritesBeginning, WritesFound, WritesWhole, WritesWithin, written}
+use Rattle.fluent_bundle.specs.Formatted.{AddsSome, Errors, GivesFound, GivesWhole, GivesWithin, WritesBeginning, WritesFound, WritesWhole, WritesWithin, written}
 
 -- ---- of a pattern: what a bundle gives and writes of it, by what an application's values show, with arguments
 
@@ -36,7 +36,7 @@ pattern_asked id (Some name) b = attribute_at id name.now b
 module _ {C : Type 0} (b : Bundle Text) (content : C → Text) (args : Option (Bor (FluentArgs C))) (id : Text) (name : Option (Bor Text)) where
   -- it is found as in the bundle, or nothing was begun
   abbrev pub FindsAfter : Result (Option (CowStr Global)) AllocError → Change Errors → Type 0
-  FindsAfter result errors = Finds b content args (pattern_asked id name) result errors ⊎ (IsErr result × (new errors ≡ old errors))
+  FindsAfter result errors = GivesFound b content args (pattern_asked id name) result errors ⊎ (IsErr result × (new errors ≡ old errors))
 
   abbrev pub WritesFoundAfter : {W : Type 0} → Result Bool WriteFault → (W → Option Text) → Change (Counting W) → Change Errors → Type 0
   WritesFoundAfter result contents w errors =

@@ -5,7 +5,7 @@ ghost use Rattle.std.specs.Prelude.{◌≡◌, map, IfOk};
 ghost use Rattle.fluent_syntax.specs.Chunks.{entries};
 ghost use Rattle.fluent_text.specs.Writer.{CountsFault};
 ghost use Rattle.fluent_bundle.specs.BundleView.{entries_of};
-ghost use Rattle.fluent_bundle.specs.Formatted.{Finds, WritesFound};
+ghost use Rattle.fluent_bundle.specs.Formatted.{GivesFound, WritesFound};
 ghost use Rattle.fluent_end_to_end_laws.specs.Given.{FindsAfter, GivesAfter, WritesAfter, WritesFoundAfter, pattern_asked};
 ghost use Rattle.fluent_end_to_end_laws.specs.Made.{made};
 ghost use Rattle.fluent_end_to_end_laws.specs.Inside.OnTheWay.{source_of, AreReadFor, AsksOver, AskAll};
@@ -257,7 +257,7 @@ fn format_in<
     name: Option<&str>,
     errors: &mut Vec<FluentError>,
 ) -> Result<Option<CowStr<'s>>, AllocError>
-    ensures { Finds (⟦<FluentBundle<'r, 's, M, C, F, G, T> as Means>⟧.meaning bundle.now)
+    ensures { GivesFound (⟦<FluentBundle<'r, 's, M, C, F, G, T> as Means>⟧.meaning bundle.now)
         C.content args.entry (pattern_asked id.now name.entry) result errors }
 {
     match name {

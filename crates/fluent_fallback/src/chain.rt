@@ -3,7 +3,7 @@ ghost use Rattle.std.specs.Prelude.{◌≡◌, length, slice_get};
 ghost use Rattle.std.specs.Option.{option_map};
 ghost use Rattle.fluent_text.specs.Writer.{CountsFault};
 ghost use Rattle.fluent_bundle.specs.BundleView.{attribute_at, value_at};
-ghost use Rattle.fluent_bundle.specs.Formatted.{BorrowsAsked, Finds, TakesNoMemory, WritesFound};
+ghost use Rattle.fluent_bundle.specs.Formatted.{BorrowsAsked, GivesFound, TakesNoMemory, WritesFound};
 ghost use Rattle.fluent_fallback.specs.Chain.{index_with};
 ghost use Rattle.fluent_fallback.specs.ChainCalls.{BorrowsFirst, FirstTakesNoMemory, GivesFirst, OwnsFirst, WritesFirst};
 ghost use Rattle.fluent_fallback.specs.ChainView.{bundles_of, has, pattern_of, referred};
@@ -354,7 +354,7 @@ impl<
         args: Option<&FluentArgs<'_, C>>,
         errors: &mut Vec<FluentError>,
     ) -> Result<Option<CowStr<'s>>, AllocError>
-        ensures text { Finds (⟦<FluentBundle<'r, 's, M, C, F, G, T> as Means>⟧.meaning bundle.now) C.content args.entry
+        ensures text { GivesFound (⟦<FluentBundle<'r, 's, M, C, F, G, T> as Means>⟧.meaning bundle.now) C.content args.entry
             (pattern_asked id.now attribute.entry) result errors }
         ensures borrowed { BorrowsAsked bundle.now
             (pattern_of ⟦<FluentBundle<'r, 's, M, C, F, G, T> as Means>⟧.meaning id.now attribute.entry bundle.now) result }

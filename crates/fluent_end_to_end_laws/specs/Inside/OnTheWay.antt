@@ -6,7 +6,7 @@ use Rattle.fluent_semantics.specs.Value.{Value}
 use Rattle.fluent_semantics.specs.Bundle.{Function, Call, add_resource, add_resource_overriding}
 use Rattle.fluent_syntax.specs.Chunks.{entries}
 use Rattle.fluent_bundle.specs.BundleView.{entries_of}
-use Rattle.fluent_bundle.specs.Calls.{asked}
+use Rattle.fluent_bundle.specs.Calls.{asks}
 use Rattle.fluent_bundle.specs.declared.calls.Call as code
 use Rattle.fluent_bundle.specs.declared.resource.FluentResource.{FluentResource}
 use Rattle.fluent_end_to_end_laws.specs.Made.{step}
@@ -40,7 +40,7 @@ abbrev pub AsksOver : {M F G X : Type 0} → (F → Function Text)
     → (G → Value Text → M → Option Text) → (X → Text → Text) → Asked F G X → List t.Entry
     → code.Call F G X → Type 0
 AsksOver {M} answer formatted changed a es call =
-    (intls : M) → asked answer formatted changed intls call
+    (intls : M) → asks answer formatted changed intls call
     ≡ step_over answer formatted changed intls a es
 
 -- as each step over its own source
@@ -48,5 +48,5 @@ abbrev pub AskAll : {M F G X : Type 0} → (F → Function Text)
     → (G → Value Text → M → Option Text) → (X → Text → Text) → List (Asked F G X)
     → List (code.Call F G X) → Type 0
 AskAll {M} answer formatted changed steps calls =
-    (intls : M) → map (asked answer formatted changed intls) calls
+    (intls : M) → map (asks answer formatted changed intls) calls
     ≡ map (step answer formatted changed intls) steps

@@ -1,7 +1,7 @@
 use Rattle.std.proofs.Common.{rules, sym, ap, ◌∙◌, [], ◌∷◌, ◌++◌, append_assoc, ◌≡◌, true, false}
 use Rattle.std.proofs.lemmas.Iterator.Adapters.{YieldsList-from_vec}
 use Rattle.std.proofs.lemmas.Iterator.Consumers.{YieldsList-end}
-use Rattle.fluent_bundle.specs.Calls.{asked, TakesNoMemory}
+use Rattle.fluent_bundle.specs.Calls.{asks, IsSetting}
 use Rattle.fluent_bundle.proofs.Running.{none_made, one_made, begun_by, of_this, on_err, all_made}
 use Rattle.fluent_bundle.proofs.bundle.FluentBundle.make_all.Goals as goal
 
@@ -11,16 +11,16 @@ loop-call-init g c = record { made = none_made _ _ _; whole = search rules }
 pub loop-call-preserved : goal.loop-call-preserved
 loop-call-preserved g c =
     record {
-      made = one_made _ (asked g.F.FluentFunction.answer g.G.FluentFormatter.formatted g.T.Transform.changed) c.loop-call.yielded c.in-Some.call _ _ _ c.loop-call.invariant.made c.in_ok-make.ensures.ok;
+      made = one_made _ (asks g.F.FluentFunction.answer g.G.FluentFormatter.formatted g.T.Transform.changed) c.loop-call.yielded c.in-Some.call _ _ _ c.loop-call.invariant.made c.in_ok-make.ensures.ok;
       whole = c.loop-call.invariant.whole ∙ ap (λ xs. c.loop-call.yielded ++ xs) c.in-Some.ensures.steps.0 ∙ sym (append_assoc c.loop-call.yielded (c.in-Some.call ∷ []) _);
     }
 
 pub returns-in_err-make-clause-err : goal.returns-in_err-make-clause-err
 returns-in_err-make-clause-err g c =
     let whole = c.loop-call.invariant.whole ∙ ap (λ xs. c.loop-call.yielded ++ xs) c.in-Some.ensures.steps.0 in
-    let takes : TakesNoMemory c.in-Some.call → ⊥ = λ few. let no : false ≡ true = c.in_err-make.ensures.succeeds few in cc in
+    let takes : IsSetting c.in-Some.call → ⊥ = λ few. let no : false ≡ true = c.in_err-make.ensures.succeeds few in cc in
     on_err c.from_residual.result
-    (begun_by _ (asked g.F.FluentFunction.answer g.G.FluentFormatter.formatted g.T.Transform.changed) c.args.calls.items c.loop-call.yielded _ c.in-Some.call c.args.self.now c.loop-call.self c.make.new.self
+    (begun_by _ (asks g.F.FluentFunction.answer g.G.FluentFormatter.formatted g.T.Transform.changed) c.args.calls.items c.loop-call.yielded _ c.in-Some.call c.args.self.now c.loop-call.self c.make.new.self
     whole
     takes
     c.loop-call.invariant.made
@@ -29,7 +29,7 @@ returns-in_err-make-clause-err g c =
 pub returns-in_err-make-clause-succeeds : goal.returns-in_err-make-clause-succeeds
 returns-in_err-make-clause-succeeds g c few =
     let whole = c.loop-call.invariant.whole ∙ ap (λ xs. c.loop-call.yielded ++ xs) c.in-Some.ensures.steps.0 in
-    let no : false ≡ true = c.in_err-make.ensures.succeeds (of_this TakesNoMemory c.args.calls.items c.loop-call.yielded c.in-Some.call _ whole few) in
+    let no : false ≡ true = c.in_err-make.ensures.succeeds (of_this IsSetting c.args.calls.items c.loop-call.yielded c.in-Some.call _ whole few) in
     absurd (cc no)
 
 pub returns-clause-ok : goal.returns-clause-ok
