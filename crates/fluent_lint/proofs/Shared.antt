@@ -7,11 +7,8 @@ use Rattle.std.specs.Option.{option_map}
 use Rattle.std.specs.Prelude.{Result, Ok, Err}
 use Rattle.std.specs.Result.{OnOk}
 use Rattle.fluent_ast.specs.Tree.{Text, is_yes}
-use Rattle.fluent_lint.specs.Places.{Place, Names, place_same}
-use Rattle.fluent_lint.specs.Needs.{Need}
-use Rattle.fluent_lint.specs.Clean.{IsAmong}
+use Rattle.fluent_lint.specs.Clean.{Place, place_same, place_view, views, Names, Need, IsAmong}
 use Rattle.fluent_lint.specs.Asked.{AreAsked, AreDistinct, texts, index_of, list_at, list_of, AreAskedIn}
-use Rattle.fluent_lint.specs.PlaceView.{views, place_view}
 use Rattle.fluent_lint.specs.Inside.Sharing.{IsSetTo, Takes, IsList, AreListed, IsGathered, Covers, IsOfList, LeadsToList, IsKnown, KeepsKnown, Joins, Settles}
 use Rattle.fluent_lint.specs.Inside.Reached.{IsReference, needs_at}
 use Rattle.fluent_lint.specs.declared.asked.Asked.{Asked}

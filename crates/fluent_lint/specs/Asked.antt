@@ -9,9 +9,7 @@ use Rattle.std.proofs.Common.{Global}
 use Rattle.indexmap.specs.IndexSet.{IndexSet}
 use Rattle.fluent_ast.specs.Tree.{Text, Pattern, is_yes}
 use Rattle.fluent_semantics.specs.Bundle.{found}
-use Rattle.fluent_lint.specs.Places.{Place, Names, place_same, place_target}
-use Rattle.fluent_lint.specs.Clean.{AsksFor, IsAmong}
-use Rattle.fluent_lint.specs.PlaceView.{place_view}
+use Rattle.fluent_lint.specs.Clean.{Place, place_same, place_view, Names, place_target, IsAmong, AsksFor}
 use Rattle.fluent_lint.specs.declared.asked.Asked.{Asked}
 use Rattle.fluent_lint.specs.declared.place.Place as code
 

@@ -4,7 +4,7 @@ ghost use Rattle.std.specs.Prelude.{◌≡◌, [], IfOk, OnOk};
 ghost use Rattle.std.specs.Option.{option_map};
 ghost use Rattle.fluent_lint.specs.Inside.Sharing.{IsSetTo, Takes};
 ghost use Rattle.fluent_lint.specs.Asked.{index_of, list_of};
-ghost use Rattle.fluent_lint.specs.PlaceView.{place_view};
+ghost use Rattle.fluent_lint.specs.Clean.{place_view};
 
 use crate::place::Place;
 use indexmap::{IndexMap, IndexSet};

@@ -5,7 +5,7 @@ ghost use Rattle.fluent_lint.specs.Asked.{AreAskedAt, AreDistinct, texts};
 ghost use Rattle.fluent_lint.specs.Inside.Reached.{AddsAll, AddsName, AddsPlace, NotedAt, Notes, NotesPattern};
 ghost use Rattle.fluent_lint.specs.Inside.Sharing.{AreListed, IsGathered};
 ghost use Rattle.fluent_lint.specs.NeedsView.{need_view};
-ghost use Rattle.fluent_lint.specs.PlaceView.{place_view};
+ghost use Rattle.fluent_lint.specs.Clean.{place_view};
 
 use crate::asked::Asked;
 use crate::listing::{Need, needs};

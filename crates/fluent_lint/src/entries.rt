@@ -3,8 +3,7 @@
 ghost use Rattle.std.specs.Prelude.{◌≡◌, IfOk, OnOk, map};
 ghost use Rattle.fluent_ast.specs.View.{entry_view};
 ghost use Rattle.fluent_lint.specs.Inside.Listing.{AddsOfMessage, AddsOfTerm, AddsPlaces};
-ghost use Rattle.fluent_lint.specs.EntryPlaces.{places_in, places_of};
-ghost use Rattle.fluent_lint.specs.PlaceView.{views};
+ghost use Rattle.fluent_lint.specs.Clean.{views, places_of, places_in};
 
 use crate::place::Place;
 use fluent_ast::ast::{Attribute, Entry, Identifier};

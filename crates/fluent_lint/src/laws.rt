@@ -3,7 +3,7 @@
 //! A crate above has a law by a call of its function, which does nothing. `C` is what custom values
 //! stand by.
 
-ghost use Rattle.fluent_lint.specs.Laws.{CleanMeansNoErrors, TreesBoundPlaceables, CleanIsWrittenInFull, SetTermsMissNothing, MetIsClean, StuckAreUnclean, DeeperCountsMore, FineIsWritten};
+ghost use Rattle.fluent_lint.specs.Laws.{CleanMeansNoErrors, TreesBoundPlaceables, CleanIsWrittenInFull, FineIsWritten, DeeperCountsMore, SetTermsMissNothing, MetIsClean, StuckAreUnclean};
 
 use fluent_semantics::laws;
 use std::collections::LinkedList;

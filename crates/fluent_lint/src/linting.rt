@@ -3,7 +3,7 @@
 ghost use Rattle.std.specs.Prelude.{IfOk};
 ghost use Rattle.fluent_lint.specs.Asked.{AreAskedAt, AreDistinct, texts};
 ghost use Rattle.fluent_lint.specs.Clean.{names_of};
-ghost use Rattle.fluent_lint.specs.Lints.{Lints};
+ghost use Rattle.fluent_lint.specs.Findings.{Lints};
 
 use crate::asking::variables_of;
 use crate::finding::Finding;

@@ -3,11 +3,9 @@
 ghost use Rattle.std.specs.Prelude.{◌≡◌, ◌↔◌, IfOk, OnOk, IsTrue};
 ghost use Rattle.fluent_ast.specs.View.{arguments_view, expression_view, inline_view, pattern_view};
 ghost use Rattle.fluent_ast.specs.References.{inlines_view, nameds_view, variants_view};
-ghost use Rattle.fluent_lint.specs.Needs.{has_default, needs, in_arguments, in_expression, in_inline, in_named, in_positional, in_variants};
+ghost use Rattle.fluent_lint.specs.Clean.{place_view, has_default, needs, in_expression, in_variants, in_inline, in_arguments, in_positional, in_named};
 ghost use Rattle.fluent_lint.specs.Inside.Listing.{Appends, missing_default};
-ghost use Rattle.fluent_lint.specs.NeedsView.{need_view, needs_view};
-ghost use Rattle.fluent_lint.specs.PlaceView.{place_view};
-ghost use Rattle.fluent_lint.specs.References.{IsOfPlace, Refers};
+ghost use Rattle.fluent_lint.specs.NeedsView.{need_view, needs_view, IsOfPlace, Refers};
 
 use crate::place::{Place, same_place};
 use fluent_ast::ast::{

@@ -1,7 +1,7 @@
 //! Which variables each of some places asks for.
 
 ghost use Rattle.std.specs.Prelude.{◌≡◌, IfOk, IsTrue, OnOk};
-ghost use Rattle.fluent_lint.specs.PlaceView.{views, place_view};
+ghost use Rattle.fluent_lint.specs.Clean.{place_view, views};
 ghost use Rattle.fluent_lint.specs.Asked.{AreAskedIn, index_of};
 ghost use Rattle.fluent_lint.specs.Inside.Sharing.{AreListed, Covers, IsOfList, Joins, Settles, TellsLeading};
 ghost use Rattle.fluent_lint.specs.NeedsView.{need_view};

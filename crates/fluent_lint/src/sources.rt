@@ -5,8 +5,8 @@ ghost use Rattle.std.specs.Option.{option_map};
 ghost use Rattle.fluent_ast.specs.View.{entry_view};
 ghost use Rattle.fluent_lint.specs.Twice.{AreTwice, AreUnreadable, defined_from, defined_if, id_of};
 ghost use Rattle.fluent_lint.specs.Inside.Seen.{GoesOver, noted_first};
-ghost use Rattle.fluent_lint.specs.PlaceView.{views};
-ghost use Rattle.fluent_lint.specs.Lints.{places_in};
+ghost use Rattle.fluent_lint.specs.Clean.{views};
+ghost use Rattle.fluent_lint.specs.Findings.{places_in_resources};
 ghost use Rattle.fluent_bundle.specs.BundleView.{source_in};
 
 use crate::entries::places_of;
@@ -43,7 +43,7 @@ pub(crate) fn places_in<'s>(
     alloc: Global,
     resources: &[FluentResource<'s>],
 ) -> Result<Vec<Place<'s>>, AllocError>
-    ensures { IfOk result (λ places. views places.items ≡ places_in resources.now) }
+    ensures { IfOk result (λ places. views places.items ≡ places_in_resources resources.now) }
 {
     let mut places = Vec::new(alloc);
     for resource in resources {

@@ -6,11 +6,8 @@ use denote.Triple.Both.{Both}
 use Rattle.indexmap.specs.IndexSet.{IndexSet}
 use Rattle.fluent_ast.specs.Tree.{Text, Attribute}
 use Rattle.fluent_semantics.specs.Bundle.{Target, unknown, without_value, found}
-use Rattle.fluent_lint.specs.Places.{Place, of_message, Names, place_target}
-use Rattle.fluent_lint.specs.Needs.{Need, a_message, a_variable, needs}
-use Rattle.fluent_lint.specs.Clean.{IsAmong}
+use Rattle.fluent_lint.specs.Clean.{Place, of_message, place_view, views, Names, place_target, Need, a_message, a_variable, needs, IsAmong}
 use Rattle.fluent_lint.specs.Asked.{AsksForAt, AreAsked, AreDistinct, texts}
-use Rattle.fluent_lint.specs.PlaceView.{views, place_view}
 use Rattle.fluent_lint.specs.declared.place.Place as code
 
 abbrev Change : Type 0 → Type 0

@@ -2,11 +2,8 @@
 use Rattle.std.specs.Prelude.{◌≡◌, ℕ, Bool, List, [], ◌∷◌, Some, IsTrue, cond}
 use Rattle.std.specs.Borrow.{Bor}
 use Rattle.fluent_ast.specs.Tree.{Text, is_yes}
-use Rattle.fluent_lint.specs.Places.{Place, Names, place_same}
-use Rattle.fluent_lint.specs.Needs.{Need}
-use Rattle.fluent_lint.specs.Clean.{IsAmong}
+use Rattle.fluent_lint.specs.Clean.{Place, place_same, place_view, views, Names, Need, IsAmong}
 use Rattle.fluent_lint.specs.Asked.{AsksForAt, AreAsked, AreDistinct, texts, index_of, list_at}
-use Rattle.fluent_lint.specs.PlaceView.{views, place_view}
 use Rattle.fluent_lint.specs.Inside.Reached.{IsReference, needs_at}
 use Rattle.fluent_lint.specs.declared.asked.Asked.{Asked}
 use Rattle.fluent_lint.specs.declared.place.Place as code
