@@ -7,7 +7,7 @@ use Rattle.fluent_semantics.specs.Bundle.{found}
 use Rattle.fluent_lint.specs.Clean.{Place, place_same, place_view, Names, place_target, Need, needs, IsAmong, LeadsOn, IsThere, IsClean, clean, IsMet, IsFine}
 use Rattle.fluent_lint.specs.Findings.{named_by, NeedsAt, IsRight, IsUncleanBy, SaysOf, IsTrueFinding, IsNamedOrFine, IsWhole, AreFindingsOf}
 use Rattle.fluent_lint.specs.Inside.Table.{Known, known_of}
-use Rattle.fluent_lint.specs.Inside.Steps.{AddsTrue, AreAll, ExplainedAt, IsListing, IsOfAsked, IsToldAs, IsTrueBy, IsWholeBy, Looked, keys_in}
+use Rattle.fluent_lint.specs.Inside.Steps.{AddsTrue, AreAll, ExplainedAt, IsListing, IsOfNeeds, IsToldAs, IsTrueBy, IsWholeBy, Looked, keys_in}
 use Rattle.fluent_lint.specs.declared.place.Place as code
 use Rattle.fluent_lint.specs.declared.finding.Finding.{Finding}
 use Rattle.fluent_lint.specs.declared.finding.Kind.TheVariants as kind
@@ -84,12 +84,12 @@ pub looked_unclean : (named : Names Text) (limit : ℕ) (known : Known) (fs more
 looked_unclean named limit known fs more gs i q at grown some explained h =
     let x = place_view q in
     let one = some_of more some in
-    let of = one_of (IsOfAsked named known x) more one.0 one.1 explained.each in
+    let of = one_of (IsOfNeeds named known x) more one.0 one.1 explained.each in
     let here = added named limit known fs more gs i (q, None) at grown h in
     looked_grown named limit known fs more gs i (q, None) at grown h
     (all_map _ _ more (λ f k. inl (k.1.0, subst (λ y. NeedsAt named y k.1.0) (sym k.0) k.1.1, k.1.2)) explained.each)
     (inl (one.0, here one.0 one.1, of.0, of.1.2.0))
-    (λ n asks. elim (explained.every n asks) [ inl well ↦ inl well.0 | inr k ↦ inr (k.0, here k.0 k.1, (one_of (IsOfAsked named known x) more k.0 k.1 explained.each).0, k.2) ])
+    (λ n asks. elim (explained.every n asks) [ inl well ↦ inl well.0 | inr k ↦ inr (k.0, here k.0 k.1, (one_of (IsOfNeeds named known x) more k.0 k.1 explained.each).0, k.2) ])
 
 -- what stands in an entry of which nothing is known
 pub entry_at : (known : Known) (i : ℕ) (q : code.Place) (o a : Option ℕ) → Some (q, o) ≡ slice_get known i → o ≡ a → slice_get known i ≡ Some (q, a)

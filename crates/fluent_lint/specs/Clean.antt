@@ -64,11 +64,11 @@ places_in (e ∷ es) = places_of e ++ places_in es
 
 pub data Need : Type 0 where
   a_message : Text → Attribute → Need
-  -- with the names of the variables that the reference sets
+  -- with the names of the variables that the reference gives it
   a_term : Text → Attribute → List Text → Need
   a_function : Text → Need
   a_variable : Text → Need
-  -- of a select
+  -- of a select that has none
   a_default : Need
 
 abbrev pub has_default : Variants → Bool
@@ -199,7 +199,7 @@ at_target count (found q) = count q
 abbrev pub at_place : {C : Type 0} → Names C → (Pattern → ℕ) → Place → ℕ
 at_place named count x = at_target count (place_target named x)
 
--- by how many stand where references lead
+-- of a pattern by its tree, where `at` has the counts of the places that it refers to
 module _ (at : Place → ℕ) where
   abbrev mutual
     pub most_in_pattern : Pattern → ℕ
@@ -235,12 +235,12 @@ module _ (at : Place → ℕ) where
     most_in_named no_nameds = 0
     most_in_named (named_argument name x ns) = most_in_inline x + most_in_named ns
 
--- with references followed n deep
+-- of a pattern, with references followed n deep
 unfoldable pub placeables_deep : {C : Type 0} → Names C → ℕ → Pattern → ℕ
 placeables_deep named zero p = 0
 placeables_deep named (suc n) p = most_in_pattern (at_place named (placeables_deep named n)) p
 
--- With all references followed: deeper than `settling b` (fluent_semantics) no meaning of this bundle's patterns goes.
+-- Of a pattern, with all references followed: deeper than `settling b` (fluent_semantics) no meaning of this bundle's patterns goes.
 abbrev pub placeables : {C : Type 0} → Bundle C → Pattern → ℕ
 placeables b p = placeables_deep (names_of b) (settling b) p
 

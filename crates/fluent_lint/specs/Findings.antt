@@ -17,7 +17,7 @@ abbrev pub places_in_resources : List FluentResource → List Place
 places_in_resources [] = []
 places_in_resources (r ∷ rs) = places_in (entries_of r) ++ places_in_resources rs
 
--- the places that findings name
+-- the places at which there is a finding
 abbrev pub named_by : List Finding → List Place
 named_by fs = map (λ f. place_view f.place) fs
 
@@ -25,16 +25,17 @@ named_by fs = map (λ f. place_view f.place) fs
 abbrev pub NeedsAt : Names Text → Place → Need → Type 0
 NeedsAt named x n = (p : Pattern) × (place_target named x ≡ found p) × IsAmong n (needs p)
 
--- ---- counts of placeables, which stop at the largest that a `u64` holds
+-- ---- counts of placeables
 
+-- a count stops at the largest number that a `u64` holds
 abbrev pub capped : ℕ → ℕ
 capped n = min n (2 ^ 64 - 1)
 
--- From some depth on, so many placeables are opened at a place.
+-- What stands at a place opens so many placeables at most: k is the count from some depth of references on.
 abbrev pub CountsAs : {C : Type 0} → Names C → Place → ℕ → Type 0
 CountsAs named x k = (deep : ℕ) × ((n : ℕ) → deep ≤ n → k ≡ capped (at_place named (placeables_deep named n) x))
 
--- what stands there is clean, and opens so many
+-- A count of a place is right: what stands there, if a pattern does, is clean, and opens so many at most.
 abbrev pub IsRight : {C : Type 0} → Names C → Place → ℕ → Type 0
 IsRight named x k = IsCleanAt named (place_target named x) × CountsAs named x k
 
@@ -53,7 +54,7 @@ abbrev pub end : Place → List Place → Place
 end x [] = x
 end x (y ∷ ys) = end y ys
 
--- they refer each to the next, and the last to the first
+-- there are some; each refers to the next, and the last to the first
 abbrev pub GoRound : Names Text → List Place → Type 0
 GoRound named [] = ⊥
 GoRound named (x ∷ xs) = Leads named (end x xs) (x ∷ xs)
@@ -64,7 +65,7 @@ BeginsWith x (y ∷ ys) = x ≡ y
 
 -- ---- what a finding says, by its kind
 
--- of a pattern that is clean
+-- a kind of finding that clean patterns have
 abbrev pub is_large : Kind → Bool
 is_large (kind.TooManyPlaceables count limit) = true
 is_large k = false
@@ -73,7 +74,7 @@ is_large k = false
 abbrev pub IsUncleanBy : List Finding → Place → Type 0
 IsUncleanBy fs x = (f : Finding) × IsAmong f fs × (place_view f.place ≡ x) × (is_large f.kind ≡ false)
 
--- What a kind says of something that a pattern needs, where these places were looked at, and these are all findings.
+-- What a kind says of something that a pattern needs (n), where the places `seen` were looked at, and `fs` are all findings. The kinds of the last line say nothing of a need: see SaysOf.
 abbrev pub Says : Names Text → List Place → List Finding → Need → Kind → Type 0
 Says named seen fs n (kind.UnknownMessage id) = (a : Attribute) × (n ≡ a_message id.now a) × (is_message (named id.now) ≡ false)
 Says named seen fs n (kind.UnknownAttribute id a) = (n ≡ a_message id.now (attribute a.now)) × (is_message (named id.now) ≡ true) × (message_target (named id.now) (attribute a.now) ≡ unknown)
@@ -86,7 +87,7 @@ Says named seen fs n (kind.LeadsTo y) = (place_of n ≡ Some (place_view y)) × 
 Says named seen fs n (kind.Elsewhere y) = (place_of n ≡ Some (place_view y)) × LeadsOn (place_target named (place_view y)) × (IsAmong (place_view y) seen → ⊥)
 Says named seen fs n k = ⊥
 
--- What a kind says of a place, whatever its pattern needs.
+-- What a kind says of a place (x) as a whole; the kinds of the last line say nothing of it.
 abbrev pub SaysOf : Names Text → ℕ → Place → Kind → Type 0
 SaysOf named limit x (kind.Cycle ys) = BeginsWith x (views ys.items) × GoRound named (views ys.items)
 SaysOf named limit x (kind.TooManyPlaceables count most) = (most ≡ limit) × (limit < count) × IsRight named x count
@@ -98,7 +99,7 @@ SaysAt named seen fs x k = (n : Need) × NeedsAt named x n × Says named seen fs
 
 -- ---- what is found
 
--- It is true of something that its pattern needs, or of its place.
+-- A finding is true: its kind says so of something that its pattern needs, or of its place.
 abbrev pub IsTrueFinding : Names Text → ℕ → List Place → List Finding → Finding → Type 0
 IsTrueFinding named limit seen fs f = SaysAt named seen fs (place_view f.place) f.kind ⊎ SaysOf named limit (place_view f.place) f.kind
 
@@ -106,17 +107,17 @@ IsTrueFinding named limit seen fs f = SaysAt named seen fs (place_view f.place) 
 abbrev pub IsNamedOrFine : Names Text → ℕ → List Finding → Place → Type 0
 IsNamedOrFine named limit fs x = IsAmong x (named_by fs) ⊎ IsFine named limit x
 
--- Of what stands there, all that is needed is met, or a finding of the place says why not.
+-- All that what stands there needs is met, or a finding of the place says why not.
 abbrev pub IsWhole : Names Text → List Place → List Finding → Place → Type 0
 IsWhole named seen fs x = (n : Need) → NeedsAt named x n → IsMet named n ⊎ ((f : Finding) × IsAmong f fs × (place_view f.place ≡ x) × Says named seen fs n f.kind)
 
--- The findings of these places: each place is named or fine, each finding is true, and all that is needed and not met has one.
+-- These are the findings of the places `seen`: of each place there is one, or it is fine (`told`); each is true (`holds`); and for all that a place needs and that isn't met there is one (`whole`).
 pub record AreFindingsOf (named : Names Text) (limit : ℕ) (seen : List Place) (fs : List Finding) : Type 0 where
   pub told : AllByRecursion (IsNamedOrFine named limit fs) seen
   pub holds : AllByRecursion (IsTrueFinding named limit seen fs) fs
   pub whole : AllByRecursion (IsWhole named seen fs) seen
 
--- What linting says of a bundle and these resources: the findings of their places, by the bundle's limit; and what is fine never shows an error.
+-- What linting says of a bundle and these resources: these are the findings of their places, by the bundle's limit; and what is fine never shows an error.
 pub record Lints (b : Bundle Text) (rs : List FluentResource) (fs : Vec Finding Global) : Type 0 where
   pub finds : AreFindingsOf (names_of b) b.limit (places_in_resources rs) fs.items
   pub written : (x : Place) → IsFine (names_of b) b.limit x → NeverFails b x

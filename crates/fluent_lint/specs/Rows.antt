@@ -1,4 +1,4 @@
--- Worked rows: what patterns ask for, which of them are clean, and how many placeables they open.
+-- Worked rows: what patterns need, which of them are clean, and how many placeables they open.
 use Rattle.std.specs.Prelude.{◌≡◌, [], ◌∷◌, None, codes}
 use Rattle.fluent_ast.specs.Tree.{no_attribute, attribute, Pattern, Element, pattern_of, message_entry}
 use Rattle.fluent_semantics.specs.Bundle.{Bundle}

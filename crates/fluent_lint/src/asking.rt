@@ -21,9 +21,9 @@ pub(crate) struct Gathered<'s> {
     pub names: IndexSet<&'s str>,
 }
 
-/// The variables that what stands at a place asks the arguments for, by name and each once: its own, and those of
-/// the messages that it refers to. Variables of a term are set by the reference to it, and not asked for. Where no
-/// pattern stands there, none.
+/// The variables that what stands at a place asks the arguments for, all of them and no other, by name and each once:
+/// its own, and those of the messages that it refers to. Those of a term are set by the reference to it, and not asked
+/// for. Where no pattern stands there, none.
 ///
 /// # Errors
 ///

@@ -9,7 +9,8 @@ use crate::place::Place;
 use fluent_ast::ast::{Attribute, Entry, Identifier};
 use std::alloc::{AllocError, Global};
 
-/// The places of entries, in order: each value, then the attributes. What can't be read has none.
+/// The places of entries, in order: of each message or term its value, then its attributes. A message that has no value
+/// has the place of it all the same. What can't be read has none.
 ///
 /// # Errors
 ///

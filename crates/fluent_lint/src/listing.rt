@@ -1,4 +1,4 @@
-//! What a pattern asks for, listed.
+//! What a pattern needs, listed.
 
 ghost use Rattle.std.specs.Prelude.{◌≡◌, ◌↔◌, IfOk, OnOk, IsTrue};
 ghost use Rattle.fluent_ast.specs.View.{arguments_view, expression_view, inline_view, pattern_view};
@@ -14,7 +14,7 @@ use fluent_ast::ast::{
 };
 use std::alloc::{AllocError, Global};
 
-/// What a pattern asks of its bundle, or of its arguments.
+/// What a pattern needs of its bundle, or of the arguments.
 #[derive(Clone, Copy, Drop)]
 pub enum Need<'t, 's> {
     /// A message's value, or an attribute of it.
@@ -27,7 +27,9 @@ pub enum Need<'t, 's> {
     Default,
 }
 
-/// Lists what a pattern asks for, in the order of the tree and as often as it stands there.
+/// Lists what a pattern needs: each message, term and function that it refers to, each variable, and a default for each
+/// select that has none. They stand in the order of the tree, those of all variants and arguments, each as often as it
+/// stands there.
 ///
 /// # Errors
 ///
@@ -43,7 +45,8 @@ pub fn needs<'t, 's>(
     Ok(list)
 }
 
-/// Whether a pattern refers to a place.
+/// Whether a pattern refers to a place: whether a reference to it stands in the pattern itself, in any variant,
+/// selector or argument.
 ///
 /// # Errors
 ///

@@ -28,8 +28,11 @@ pub(crate) enum Step<'s> {
     Clean(Place<'s>, u64),
 }
 
-/// What is wrong with the patterns at these places: each has a finding, or is clean and opens at most as many
-/// placeables as the limit. The findings stand in the order of the places, those of cycles after all others.
+/// What is wrong with the patterns at these places. Each place has a finding, or what stands there is clean and opens no
+/// more placeables than the limit. Each finding is true, as its [`Kind`] says. Whatever one of the places needs that
+/// isn't there, or isn't clean, has a finding of its own.
+///
+/// The findings stand in the order of the places, those of cycles after all others.
 ///
 /// # Errors
 ///

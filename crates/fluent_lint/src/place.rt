@@ -98,7 +98,8 @@ fn same_attribute(a: &Option<Identifier<'_>>, b: &Option<Identifier<'_>>) -> boo
     }
 }
 
-/// The pattern that stands there, or `None`. Takes no memory.
+/// The pattern that stands there: a message's value, if it has one, a term's value, or the first attribute of the name.
+/// `None` where there is none. Takes no memory.
 pub fn pattern_at<'b, 's, F, B: GetEntry<'s, F>>(
     bundle: &'b B,
     place: &Place<'s>,

@@ -15,8 +15,9 @@ use fluent_bundle_entries::GetEntry;
 use indexmap::IndexSet;
 use std::alloc::{AllocError, Global};
 
-/// The variables that each of these places asks the arguments for, as [`crate::variables_of`] says them of one: each
-/// place is gone through once, and so is each that they lead to.
+/// The variables that each of these places asks the arguments for: [`Asked::of`] gives those of each place, all of them
+/// and no other, each once, as [`crate::variables_of`] does. Each place is gone through once, and so is each that they
+/// lead to.
 ///
 /// # Errors
 ///

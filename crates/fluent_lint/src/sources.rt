@@ -53,7 +53,8 @@ pub(crate) fn places_in<'s>(
     Ok(places)
 }
 
-/// The byte ranges of what can't be read, in order.
+/// The byte ranges of what can't be read of a resource's source, one for each Junk, in order. Where all can be read,
+/// there is none.
 ///
 /// # Errors
 ///
@@ -72,7 +73,8 @@ pub fn unreadable(
 }
 
 /// The ids that are defined again, in order: of each entry whose id an earlier one has, in the same resource or in one
-/// before it, where it stands, and where the first entry with that id does.
+/// before it, where it stands, and where the first entry with that id does. Resources, and the entries of each, are
+/// numbered from 0; Junk is an entry without an id.
 ///
 /// # Errors
 ///

@@ -31,7 +31,7 @@ pub record NotesOf (ns : List Need) (xs xs' : List Place) (vs vs' : List Text) :
   pub variables : (v : Text) → IsAmong (a_variable v) ns → IsAmong v vs'
   pub distinct : AreDistinct vs → AreDistinct vs'
 
--- what a pattern asks for, if one stands there
+-- what a pattern needs, if one stands there
 abbrev pub needs_there : Target → List Need
 needs_there unknown = []
 needs_there without_value = []

@@ -14,8 +14,8 @@ abbrev pub IsSetTo : Asked → Asked → code.Place → ℕ → Type 0
 IsSetTo old new x k = (q : code.Place) → index_of new (place_view q) ≡ cond (is_yes (place_same (place_view x) (place_view q))) (Some k) (index_of old (place_view q))
 
 -- a list is added, as that of a place, and the others stay
-abbrev pub Takes : Asked → Asked → code.Place → List (Bor Text) → ℕ → Type 0
-Takes old new x names k =
+abbrev pub AddsList : Asked → Asked → code.Place → List (Bor Text) → ℕ → Type 0
+AddsList old new x names k =
     ((j : ℕ) (l : List (Bor Text)) → list_at old.lists.items (Some j) ≡ Some l → list_at new.lists.items (Some j) ≡ Some l)
     × (list_at new.lists.items (Some k) ≡ Some names)
     × IsSetTo old new x k

@@ -76,13 +76,13 @@ pub record Explained (named : Names Text) (known : Known) (x : Place) (all some 
 abbrev pub IsExplainedBy : Names Text → Known → code.Place → tree.Pattern → Vec Finding Global → Type 0
 IsExplainedBy named known x p fs = Explained named known (place_view x) (needs (pattern_view p)) (needs (pattern_view p)) fs.items
 
--- a finding is of a place, and of something that its pattern asks for
-abbrev pub IsOfAsked : Names Text → Known → Place → Finding → Type 0
-IsOfAsked named known x f = (place_view f.place ≡ x) × ((n : Need) × NeedsAt named x n × Explains named known n f.kind)
+-- a finding is of a place, and of something that its pattern needs
+abbrev pub IsOfNeeds : Names Text → Known → Place → Finding → Type 0
+IsOfNeeds named known x f = (place_view f.place ≡ x) × ((n : Need) × NeedsAt named x n × Explains named known n f.kind)
 
 -- the same of what stands at a place
 pub record ExplainedAt (named : Names Text) (known : Known) (x : Place) (fs : List Finding) : Type 0 where
-  pub each : AllByRecursion (IsOfAsked named known x) fs
+  pub each : AllByRecursion (IsOfNeeds named known x) fs
   pub every : (n : Need) → NeedsAt named x n → IsAnswered named known fs n
 
 abbrev pub IsLook : Names Text → Known → Place → Look → Type 0
@@ -97,11 +97,11 @@ abbrev pub IsToldAs : Names Text → ℕ → List Finding → Place → Option �
 IsToldAs named limit fs x (Some k) = IsAmong x (named_by fs) ⊎ IsFine named limit x
 IsToldAs named limit fs x None = IsUncleanBy fs x ⊎ (LeadsOn (place_target named x) → ⊥)
 
--- all that stands at a place asks for is met, or explained by a finding of it
+-- all that what stands at a place needs is met, or explained by a finding of it
 abbrev pub IsWholeBy : Names Text → Known → List Finding → Place → Type 0
 IsWholeBy named known fs x = (n : Need) → NeedsAt named x n → IsMet named n ⊎ ((f : Finding) × IsAmong f fs × (place_view f.place ≡ x) × Explains named known n f.kind)
 
--- a finding is of something that its pattern asks for, or true of its place
+-- a finding is of something that its pattern needs, or true of its place
 abbrev pub IsTrueBy : Names Text → ℕ → Known → Finding → Type 0
 IsTrueBy named limit known f = ((n : Need) × NeedsAt named (place_view f.place) n × Explains named known n f.kind) ⊎ SaysOf named limit (place_view f.place) f.kind
 
