@@ -5,14 +5,11 @@ use Rattle.std.specs.declared.vec.Vec.{Vec}
 use Rattle.std.proofs.Common.{Global}
 use Rattle.fluent_ast.specs.Tree.{Text}
 use Rattle.fluent_semantics.specs.Bundle.{Bundle}
-use Rattle.fluent_lint.specs.Clean.{names_of}
-use Rattle.fluent_lint.specs.Places.{Place}
-use Rattle.fluent_lint.specs.EntryPlaces as entries
-use Rattle.fluent_lint.specs.Findings.{IsFine, IsTold}
+use Rattle.fluent_lint.specs.Clean.{Place, names_of, IsFine, NeverFails}
+use Rattle.fluent_lint.specs.Clean as entries
+use Rattle.fluent_lint.specs.Findings.{places_in_resources as places_in, IsNamedOrFine as IsTold, Lints}
 use Rattle.fluent_bundle.specs.BundleView.{entries_of}
 use Rattle.fluent_bundle.specs.declared.resource.FluentResource.{FluentResource}
-use Rattle.fluent_lint.specs.Laws.{NeverFails}
-use Rattle.fluent_lint.specs.Lints.{Lints, places_in}
 use Rattle.fluent_lint.specs.declared.finding.Finding.{Finding}
 use Rattle.fluent_cli.specs.Checked.{NoneFails, places_of}
 use Rattle.fluent_cli.specs.Language.{entries_of_all}

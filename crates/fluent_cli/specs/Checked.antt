@@ -4,9 +4,7 @@ use Rattle.std.specs.Borrow.{Bor}
 use Rattle.std.specs.List.{AllByRecursion}
 use Rattle.fluent_ast.specs.Tree.{Text, Entry}
 use Rattle.fluent_semantics.specs.Bundle.{Bundle}
-use Rattle.fluent_lint.specs.Places.{Place}
-use Rattle.fluent_lint.specs.EntryPlaces.{places_in}
-use Rattle.fluent_lint.specs.Laws.{NeverFails}
+use Rattle.fluent_lint.specs.Clean.{Place, places_in, NeverFails}
 use Rattle.fluent_cli.specs.Answers.{EndsWith, counts_line}
 use Rattle.fluent_cli.specs.Files.{entries_read}
 use Rattle.fluent_cli.specs.Language.{all_of}

@@ -4,7 +4,7 @@
 ghost use Rattle.std.specs.Prelude.{◌≡◌};
 ghost use Rattle.fluent_ast.specs.References.{inlines_view, variants_view};
 ghost use Rattle.fluent_ast.specs.View.{call_view, expression_view, inline_view, pattern_view};
-ghost use Rattle.fluent_lint.specs.Needs.{names_set};
+ghost use Rattle.fluent_lint.specs.Clean.{names_set};
 ghost use Rattle.fluent_cli.specs.Inside.Parts.{gives, has_expression, has_inline, has_inlines, has_pattern, has_variants, is_always_text, is_in_selectors, is_sought, lacks_number, sought_view};
 
 use fluent_bundle::ast::{

@@ -3,8 +3,7 @@ use Rattle.std.proofs.Common.{◌≡◌, ℕ, zero, suc, List, [], ◌∷◌, �
 use Rattle.std.specs.List.{AllByRecursion}
 use Rattle.fluent_ast.specs.Tree.{is_yes, pattern_same, Pattern}
 use Rattle.fluent_semantics.specs.Walk.{is_on}
-use Rattle.fluent_lint.specs.Places.{Names}
-use Rattle.fluent_lint.specs.Clean.{RefersTo, IsClean, clean}
+use Rattle.fluent_lint.specs.Clean.{Names, RefersTo, IsClean, clean}
 
 module _ {C : Type 0} (named : Names C) where
   -- n references lead from one pattern to another

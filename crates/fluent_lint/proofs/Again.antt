@@ -11,7 +11,7 @@ use Rattle.fluent_ast.specs.View.{entry_view}
 use Rattle.fluent_ast.specs.declared.ast.Entry as code
 use Rattle.fluent_bundle.specs.BundleView.{entries_of}
 use Rattle.fluent_bundle.specs.declared.resource.FluentResource.{FluentResource}
-use Rattle.fluent_lint.specs.Twice.{Defined, again_after, again_if, again_view, defined_from, defined_if, defined_in, first_of, id_of}
+use Rattle.fluent_lint.specs.Twice.{Defined, again_after, again_if, again_view, defined_from, defined_if, defined_in, first_defined, id_of}
 use Rattle.fluent_lint.specs.Inside.Seen.{AreFirsts, GoesOver, IsSeen, noted_first}
 use Rattle.fluent_lint.specs.declared.sources.Definition.{Definition}
 use Rattle.fluent_lint.specs.declared.sources.Seen.{Seen}
@@ -25,7 +25,7 @@ goes_none s = λ before h. (subst (AreFirsts s.firsts.entries) (sym (append-nil 
 again_append : (before ds es : List Defined) → again_after before (ds ++ es) ≡ again_after before ds ++ again_after (before ++ ds) es
 again_append before [] es = ap (λ b. again_after b es) (sym (append-nil before))
 again_append before (d ∷ ds) es =
-    let here = again_if (first_of d.0 before) d in
+    let here = again_if (first_defined d.0 before) d in
     let on = before ++ d ∷ [] in
     ap (λ l. here ++ l) (again_append on ds es) ∙ (sym (append_assoc here (again_after on ds) (again_after (on ++ ds) es)) ∙ ap (λ b. (here ++ again_after on ds) ++ again_after b es) (append_assoc before (d ∷ []) ds))
 
@@ -44,9 +44,9 @@ snoc_head : {X : Type 0} (b : Bool) (x : X) (o p : Option X) → cond b (Some x)
 snoc_head true x o p = refl
 snoc_head false x o p = refl
 
-found_last : (q : Text) (ds : List Defined) (d : Defined) → first_of q (ds ++ d ∷ []) ≡ option_or (first_of q ds) (cond (bytes_eq q d.0) (Some d.1) None)
+found_last : (q : Text) (ds : List Defined) (d : Defined) → first_defined q (ds ++ d ∷ []) ≡ option_or (first_defined q ds) (cond (bytes_eq q d.0) (Some d.1) None)
 found_last q [] d = refl
-found_last q (e ∷ es) d = ap (λ o. cond (bytes_eq q e.0) (Some e.1) o) (found_last q es d) ∙ snoc_head (bytes_eq q e.0) e.1 (first_of q es) (cond (bytes_eq q d.0) (Some d.1) None)
+found_last q (e ∷ es) d = ap (λ o. cond (bytes_eq q e.0) (Some e.1) o) (found_last q es d) ∙ snoc_head (bytes_eq q e.0) e.1 (first_defined q es) (cond (bytes_eq q d.0) (Some d.1) None)
 
 -- an id that wasn't defined: its definition is the first
 new_id : (q id : Text) (here : Definition) (o : Option Definition) (x y : Bool) → bytes_eq id q ≡ x → bytes_eq q id ≡ y → (id ≡ q → o ≡ None) → cond x (Some here) o ≡ option_or o (cond y (Some here) None)
@@ -66,18 +66,18 @@ old_id q id first here (Some z) false e some = refl
 pub goes_first : (id : Bor Text) (here : Definition) (old new : Seen) → noted_first id.now old ≡ None → ((q : Bor Text) → noted_first q.now new ≡ cond (bytes_eq id.now q.now) (Some here) (noted_first q.now old)) → new.list.items ≡ old.list.items
     → GoesOver ((id.now, here) ∷ []) old new
 goes_first id here old new none updates same = λ before h.
-    let free : first_of id.now before ≡ None = sym (h id) ∙ none in (
+    let free : first_defined id.now before ≡ None = sym (h id) ∙ none in (
       λ q. updates q ∙ (ap (λ o. cond (bytes_eq id.now q.now) (Some here) o) (h q)
-          ∙ (new_id q.now id.now here (first_of q.now before) (bytes_eq id.now q.now) (bytes_eq q.now id.now) refl refl (λ e. subst (λ t. first_of t before ≡ None) e free) ∙ sym (found_last q.now before (id.now, here)))),
+          ∙ (new_id q.now id.now here (first_defined q.now before) (bytes_eq id.now q.now) (bytes_eq q.now id.now) refl refl (λ e. subst (λ t. first_defined t before ≡ None) e free) ∙ sym (found_last q.now before (id.now, here)))),
       ap (λ l. map again_view l) same ∙ (sym (append-nil (map again_view old.list.items)) ∙ ap (λ o. map again_view old.list.items ++ (again_if o (id.now, here) ++ [])) (sym free)),
     )
 
 pub goes_again : (id : Bor Text) (here first : Definition) (t : Twice) (old new : Seen) → noted_first id.now old ≡ Some first → new.firsts ≡ old.firsts → new.list.items ≡ old.list.items ++ t ∷ [] → again_view t ≡ (id.now, (first, here))
     → GoesOver ((id.now, here) ∷ []) old new
 goes_again id here first t old new some same pushed this = λ before h.
-    let taken : first_of id.now before ≡ Some first = sym (h id) ∙ some in (
+    let taken : first_defined id.now before ≡ Some first = sym (h id) ∙ some in (
       λ q. ap (λ m. lookup (λ k. bytes_eq q.now k.now) m.entries) same ∙ (h q
-          ∙ (old_id q.now id.now first here (first_of q.now before) (bytes_eq q.now id.now) refl (λ e. subst (λ u. first_of u before ≡ Some first) e taken) ∙ sym (found_last q.now before (id.now, here)))),
+          ∙ (old_id q.now id.now first here (first_defined q.now before) (bytes_eq q.now id.now) refl (λ e. subst (λ u. first_defined u before ≡ Some first) e taken) ∙ sym (found_last q.now before (id.now, here)))),
       ap (λ l. map again_view l) pushed ∙ (map-append again_view old.list.items (t ∷ []) ∙ (ap (λ a. map again_view old.list.items ++ a ∷ []) this ∙ ap (λ o. map again_view old.list.items ++ (again_if o (id.now, here) ++ [])) (sym taken))),
     )
 

@@ -3,9 +3,7 @@ use Rattle.std.proofs.Common.{◌≡◌, List, [], ◌∷◌, inl, inr, sym, ap,
 use Rattle.std.specs.List.{AllByRecursion}
 use Rattle.fluent_ast.specs.Tree.{Pattern}
 use Rattle.fluent_semantics.specs.Bundle.{found}
-use Rattle.fluent_lint.specs.Needs.{Need, needs}
-use Rattle.fluent_lint.specs.Places.{Names}
-use Rattle.fluent_lint.specs.Clean.{IsAmong, IsThere, IsMet, target, IsClean, clean}
+use Rattle.fluent_lint.specs.Clean.{Names, Need, needs, IsAmong, target, IsThere, IsClean, clean, IsMet}
 
 module _ {C : Type 0} (named : Names C) where
   all_there : (ns : List Need) → AllByRecursion (IsMet named) ns → AllByRecursion (IsThere named) ns

@@ -9,8 +9,7 @@ use Rattle.fluent_semantics.specs.Arguments.{Map, get}
 use Rattle.fluent_semantics.specs.Bundle.{Bundle, Function, Target, unknown, without_value, found, message_target, term_target, function_found, goes_to}
 use Rattle.fluent_semantics.specs.Walk.{Environment, application, local, variables, is_on, inner, has_one, loses_as, go, follow, missing, variable_text, variable_value, answer_text, function_text, elements, part, expression, matched, default_of, written, resolved, local_of, called, positional, named, deep}
 use Rattle.fluent_semantics.specs.Meaning.{Outcome, by_substitution, substituted, meaning, settling}
-use Rattle.fluent_lint.specs.Clean.{names_of}
-use Rattle.fluent_lint.specs.Placeables.{at_target, at_place, in_pattern, in_element, in_expression, in_largest, in_inline, in_call, in_arguments, in_positional, in_named, placeables_deep, placeables}
+use Rattle.fluent_lint.specs.Clean.{names_of, at_target, at_place, most_in_pattern, most_in_element, most_in_expression, most_in_variants, most_in_inline, most_in_call, most_in_arguments, most_in_positional, most_in_named, placeables_deep, placeables}
 
 abbrev OpensUpTo : ℕ → Outcome Text → Type 0
 OpensUpTo k o = o.opened ≤ k
@@ -55,21 +54,21 @@ module _ {C : Type 0} (b : Bundle C) (below : Environment C → List Pattern →
   mutual
     unfolding elements
 
-    pub elements_open : (path : List Pattern) (one : Bool) (p : Pattern) → (elements by_substitution b below env path one p).opened ≤ in_pattern (at_place (names_of b) count) p
+    pub elements_open : (path : List Pattern) (one : Bool) (p : Pattern) → (elements by_substitution b below env path one p).opened ≤ most_in_pattern (at_place (names_of b) count) p
     elements_open path one nothing = omega arith
     elements_open path one (more e p) = omega (arith, part_opens path one e, elements_open path one p)
 
-    part_opens : (path : List Pattern) (one : Bool) (e : Element) → (part by_substitution b below env path one e).opened ≤ in_element (at_place (names_of b) count) e
+    part_opens : (path : List Pattern) (one : Bool) (e : Element) → (part by_substitution b below env path one e).opened ≤ most_in_element (at_place (names_of b) count) e
     part_opens path one (text t) = omega arith
     part_opens path one (placeable e) = omega (arith, expression_opens path e)
 
-    expression_opens : (path : List Pattern) (e : Expression) → (expression by_substitution b below env path e).opened ≤ in_expression (at_place (names_of b) count) e
+    expression_opens : (path : List Pattern) (e : Expression) → (expression by_substitution b below env path e).opened ≤ most_in_expression (at_place (names_of b) count) e
     expression_opens path (inline x) = written_opens path x
     expression_opens path (select x vs) =
         let m = resolved by_substitution b below env path x in
-        omega (arith, resolved_opens path x, matched_opens path m.value (default_of by_substitution b below env path vs) (in_largest (at_place (names_of b) count) vs) vs (default_opens path vs) (omega arith))
+        omega (arith, resolved_opens path x, matched_opens path m.value (default_of by_substitution b below env path vs) (most_in_variants (at_place (names_of b) count) vs) vs (default_opens path vs) (omega arith))
 
-    matched_opens : (path : List Pattern) (v : Value C) (m : Outcome Text) (k : ℕ) (vs : Variants) → m.opened ≤ k → in_largest (at_place (names_of b) count) vs ≤ k → (matched by_substitution b below env path v m vs).opened ≤ k
+    matched_opens : (path : List Pattern) (v : Value C) (m : Outcome Text) (k : ℕ) (vs : Variants) → m.opened ≤ k → most_in_variants (at_place (names_of b) count) vs ≤ k → (matched by_substitution b below env path v m vs).opened ≤ k
     matched_opens path v m k no_variants h j = h
     matched_opens path v m k (variant key p d vs) h j =
         elim (goes_to b v key) as (λ y. OpensUpTo k (elim y [ true ↦ elements by_substitution b below env (inner path p) (has_one p) p | false ↦ matched by_substitution b below env path v m vs ])) [
@@ -77,12 +76,12 @@ module _ {C : Type 0} (b : Bundle C) (below : Environment C → List Pattern →
           | false ↦ matched_opens path v m k vs h (omega arith)
         ]
 
-    default_opens : (path : List Pattern) (vs : Variants) → (default_of by_substitution b below env path vs).opened ≤ in_largest (at_place (names_of b) count) vs
+    default_opens : (path : List Pattern) (vs : Variants) → (default_of by_substitution b below env path vs).opened ≤ most_in_variants (at_place (names_of b) count) vs
     default_opens path no_variants = omega arith
     default_opens path (variant k p true vs) = omega (arith, elements_open (inner path p) (has_one p) p)
     default_opens path (variant k p false vs) = omega (arith, default_opens path vs)
 
-    written_opens : (path : List Pattern) (x : Inline) → (written by_substitution b below env path x).opened ≤ in_inline (at_place (names_of b) count) x
+    written_opens : (path : List Pattern) (x : Inline) → (written by_substitution b below env path x).opened ≤ most_in_inline (at_place (names_of b) count) x
     written_opens path (string t) = omega arith
     written_opens path (number t) = omega arith
     written_opens path (function f a) =
@@ -95,7 +94,7 @@ module _ {C : Type 0} (b : Bundle C) (below : Environment C → List Pattern →
     written_opens path (variable v) = variable_text_opens (variable v) (get v (variables env))
     written_opens path (nested e) = expression_opens path e
 
-    resolved_opens : (path : List Pattern) (x : Inline) → (resolved by_substitution b below env path x).opened ≤ in_inline (at_place (names_of b) count) x
+    resolved_opens : (path : List Pattern) (x : Inline) → (resolved by_substitution b below env path x).opened ≤ most_in_inline (at_place (names_of b) count) x
     resolved_opens path (string t) = omega arith
     resolved_opens path (number t) = omega arith
     resolved_opens path (function f a) = omega (arith, called_opens path a)
@@ -106,18 +105,18 @@ module _ {C : Type 0} (b : Bundle C) (below : Environment C → List Pattern →
     resolved_opens path (variable v) = variable_value_opens (variable v) (get v (variables env))
     resolved_opens path (nested e) = omega (arith, expression_opens path e)
 
-    local_opens : (path : List Pattern) (c : Call) → (local_of by_substitution b below env path c).opened ≤ in_call (at_place (names_of b) count) c
+    local_opens : (path : List Pattern) (c : Call) → (local_of by_substitution b below env path c).opened ≤ most_in_call (at_place (names_of b) count) c
     local_opens path no_call = omega arith
     local_opens path (call a) = omega (arith, called_opens path a)
 
-    called_opens : (path : List Pattern) (a : Arguments) → (called by_substitution b below env path a).opened ≤ in_arguments (at_place (names_of b) count) a
+    called_opens : (path : List Pattern) (a : Arguments) → (called by_substitution b below env path a).opened ≤ most_in_arguments (at_place (names_of b) count) a
     called_opens path (arguments xs ns) = omega (arith, positional_opens path xs, named_opens path ns)
 
-    positional_opens : (path : List Pattern) (xs : Inlines) → (positional by_substitution b below env path xs).opened ≤ in_positional (at_place (names_of b) count) xs
+    positional_opens : (path : List Pattern) (xs : Inlines) → (positional by_substitution b below env path xs).opened ≤ most_in_positional (at_place (names_of b) count) xs
     positional_opens path no_inlines = omega arith
     positional_opens path (argument x xs) = omega (arith, resolved_opens path x, positional_opens path xs)
 
-    named_opens : (path : List Pattern) (ns : Nameds) → (named by_substitution b below env path ns).opened ≤ in_named (at_place (names_of b) count) ns
+    named_opens : (path : List Pattern) (ns : Nameds) → (named by_substitution b below env path ns).opened ≤ most_in_named (at_place (names_of b) count) ns
     named_opens path no_nameds = omega arith
     named_opens path (named_argument name x ns) = omega (arith, resolved_opens path x, named_opens path ns)
 

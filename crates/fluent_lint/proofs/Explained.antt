@@ -3,10 +3,8 @@ use Rattle.std.proofs.Common.{◌≡◌, ◌+◌, ◌<◌, ℕ, List, [], ◌∷
 use Rattle.std.specs.List.{AllByRecursion}
 use Rattle.fluent_ast.specs.Tree.{Text, Attribute, Pattern}
 use Rattle.fluent_semantics.specs.Bundle.{Target, unknown, without_value, found}
-use Rattle.fluent_lint.specs.Places.{Place, of_message, of_term, Names, place_target}
-use Rattle.fluent_lint.specs.Needs.{Need, a_message, a_term, needs}
-use Rattle.fluent_lint.specs.Clean.{IsAmong, LeadsOn}
-use Rattle.fluent_lint.specs.PlaceView.{pattern_in, place_view}
+use Rattle.fluent_lint.specs.Clean.{Place, of_message, of_term, place_view, Names, place_target, Need, a_message, a_term, needs, IsAmong, LeadsOn}
+use Rattle.fluent_lint.specs.PlaceView.{pattern_in}
 use Rattle.fluent_lint.specs.NeedsView.{need_view}
 use Rattle.fluent_lint.specs.Inside.Table.{Known, IsWell}
 use Rattle.fluent_lint.specs.Inside.Steps.{Answers, AnswersAt, Explains, Explained, ExplainedAt, IsAnswered, IsOf}

@@ -12,11 +12,9 @@ use Rattle.indexmap.specs.IndexSet.{insert_key}
 use Rattle.std.proofs.lemmas.List.{append_assoc, append-nil, map-append}
 use Rattle.fluent_ast.specs.Tree.{Text, Attribute, Pattern, is_yes}
 use Rattle.fluent_semantics.specs.Bundle.{Target, unknown, without_value, found}
-use Rattle.fluent_lint.specs.Places.{Place, of_message, Names, place_target, place_same}
-use Rattle.fluent_lint.specs.Needs.{Need, a_message, a_term, a_function, a_variable, a_default, needs}
-use Rattle.fluent_lint.specs.Clean.{IsAmong, AsksFor, itself, by_message}
+use Rattle.fluent_lint.specs.Clean.{Place, of_message, place_same, place_view, views, Names, place_target, Need, a_message, a_term, a_function, a_variable, a_default, needs, IsAmong, AsksFor, itself, by_message}
 use Rattle.fluent_lint.specs.Asked.{AsksForAt, AreAsked, AreDistinct, texts}
-use Rattle.fluent_lint.specs.PlaceView.{pattern_in, place_view, views}
+use Rattle.fluent_lint.specs.PlaceView.{pattern_in}
 use Rattle.fluent_lint.specs.Inside.Reached.{Adds, AddsNames, IsReference, NotesOf, TellsAll, needs_there, needs_at, IsThrough, Gathered}
 use Rattle.fluent_lint.proofs.Growing.{all_map, among_at, prefix, last_of, wider, at_last}
 use Rattle.fluent_lint.specs.NeedsView.{need_view}

@@ -2,10 +2,8 @@
 use Rattle.std.proofs.Common.{◌⊎◌, inl, inr, List, [], ◌∷◌, sym, subst}
 use Rattle.std.specs.List.{AllByRecursion}
 use Rattle.fluent_ast.specs.Tree.{Pattern}
-use Rattle.fluent_lint.specs.Needs.{needs}
-use Rattle.fluent_lint.specs.Places.{Names}
-use Rattle.fluent_lint.specs.Clean.{IsAmong, IsThere, RefersTo, IsClean, clean}
-use Rattle.fluent_lint.specs.Unclean.{Lacks, RefersAmong, AreStuck}
+use Rattle.fluent_lint.specs.Clean.{Names, needs, IsAmong, RefersTo, IsThere, IsClean, clean}
+use Rattle.fluent_lint.specs.Laws.{Lacks, RefersAmong, AreStuck}
 
 pub all_at : {A : Type 0} (P : A → Type 0) (xs : List A) → AllByRecursion P xs → (x : A) → IsAmong x xs → P x
 all_at P [] h x among = absurd among

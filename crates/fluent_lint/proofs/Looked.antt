@@ -4,14 +4,10 @@ use Rattle.std.specs.List.{AllByRecursion}
 use Rattle.std.proofs.lemmas.List.{append-nil}
 use Rattle.fluent_ast.specs.Tree.{Text, Pattern, is_yes}
 use Rattle.fluent_semantics.specs.Bundle.{found}
-use Rattle.fluent_lint.specs.Places.{Place, Names, place_same, place_target}
-use Rattle.fluent_lint.specs.Needs.{Need, needs}
-use Rattle.fluent_lint.specs.Clean.{IsAmong, IsClean, clean, IsThere, IsMet, LeadsOn}
-use Rattle.fluent_lint.specs.Placeables.{IsRight}
-use Rattle.fluent_lint.specs.PlaceView.{place_view}
-use Rattle.fluent_lint.specs.Findings.{AsksAt, Finds, IsFine, IsTold, IsTrueFinding, IsUncleanBy, IsWhole, SaysOf, named_by}
+use Rattle.fluent_lint.specs.Clean.{Place, place_same, place_view, Names, place_target, Need, needs, IsAmong, LeadsOn, IsThere, IsClean, clean, IsMet, IsFine}
+use Rattle.fluent_lint.specs.Findings.{named_by, NeedsAt, IsRight, IsUncleanBy, SaysOf, IsTrueFinding, IsNamedOrFine, IsWhole, AreFindingsOf}
 use Rattle.fluent_lint.specs.Inside.Table.{Known, known_of}
-use Rattle.fluent_lint.specs.Inside.Steps.{AddsTrue, AreAll, ExplainedAt, IsListing, IsOfAsked, IsToldAs, IsTrueBy, IsWholeBy, Looked, keys_in}
+use Rattle.fluent_lint.specs.Inside.Steps.{AddsTrue, AreAll, ExplainedAt, IsListing, IsOfNeeds, IsToldAs, IsTrueBy, IsWholeBy, Looked, keys_in}
 use Rattle.fluent_lint.specs.declared.place.Place as code
 use Rattle.fluent_lint.specs.declared.finding.Finding.{Finding}
 use Rattle.fluent_lint.specs.declared.finding.Kind.TheVariants as kind
@@ -88,12 +84,12 @@ pub looked_unclean : (named : Names Text) (limit : ℕ) (known : Known) (fs more
 looked_unclean named limit known fs more gs i q at grown some explained h =
     let x = place_view q in
     let one = some_of more some in
-    let of = one_of (IsOfAsked named known x) more one.0 one.1 explained.each in
+    let of = one_of (IsOfNeeds named known x) more one.0 one.1 explained.each in
     let here = added named limit known fs more gs i (q, None) at grown h in
     looked_grown named limit known fs more gs i (q, None) at grown h
-    (all_map _ _ more (λ f k. inl (k.1.0, subst (λ y. AsksAt named y k.1.0) (sym k.0) k.1.1, k.1.2)) explained.each)
+    (all_map _ _ more (λ f k. inl (k.1.0, subst (λ y. NeedsAt named y k.1.0) (sym k.0) k.1.1, k.1.2)) explained.each)
     (inl (one.0, here one.0 one.1, of.0, of.1.2.0))
-    (λ n asks. elim (explained.every n asks) [ inl well ↦ inl well.0 | inr k ↦ inr (k.0, here k.0 k.1, (one_of (IsOfAsked named known x) more k.0 k.1 explained.each).0, k.2) ])
+    (λ n asks. elim (explained.every n asks) [ inl well ↦ inl well.0 | inr k ↦ inr (k.0, here k.0 k.1, (one_of (IsOfNeeds named known x) more k.0 k.1 explained.each).0, k.2) ])
 
 -- what stands in an entry of which nothing is known
 pub entry_at : (known : Known) (i : ℕ) (q : code.Place) (o a : Option ℕ) → Some (q, o) ≡ slice_get known i → o ≡ a → slice_get known i ≡ Some (q, a)
@@ -131,12 +127,12 @@ unclean_told : (named : Names Text) (limit : ℕ) (fs : List Finding) (es : Know
 unclean_told named limit fs [] h x l e = absurd cc
 unclean_told named limit fs (f ∷ es) h x l e = unclean_head named limit fs f es x (place_same x (place_view f.0)) h.0 (unclean_told named limit fs es h.1 x l) l e
 
-told_as : (named : Names Text) (limit : ℕ) (fs : List Finding) (x : Place) (o : Option ℕ) → IsToldAs named limit fs x o → IsTold named limit fs x
+told_as : (named : Names Text) (limit : ℕ) (fs : List Finding) (x : Place) (o : Option ℕ) → IsToldAs named limit fs x o → IsNamedOrFine named limit fs x
 told_as named limit fs x None (inl u) = inl (subst (λ y. IsAmong y (named_by fs)) u.2 (mapped (λ f. place_view f.place) fs u.0 u.1))
 told_as named limit fs x None (inr nothing) = inr (λ p e. absurd (nothing (p, e)))
 told_as named limit fs x (Some k) h = h
 
-still_is_told : (named : Names Text) (limit : ℕ) (fs gs : List Finding) (x : Place) → Keeps fs gs → IsTold named limit fs x → IsTold named limit gs x
+still_is_told : (named : Names Text) (limit : ℕ) (fs gs : List Finding) (x : Place) → Keeps fs gs → IsNamedOrFine named limit fs x → IsNamedOrFine named limit gs x
 still_is_told named limit fs gs x keeps (inl h) = inl (still_named fs gs x keeps h)
 still_is_told named limit fs gs x _ (inr fine) = inr fine
 
@@ -154,9 +150,9 @@ module _ (named : Names Text) (limit : ℕ) (seen : List Place) (known : Known) 
     listed = λ y among none. none_known known y none (listing.listed y among);
   }
 
-  told_at : (x : Place) → IsAmong x seen → IsTold named limit gs x
+  told_at : (x : Place) → IsAmong x seen → IsNamedOrFine named limit gs x
   told_at x among = still_is_told named limit fs gs x adds.kept
-      (at_key (IsTold named limit fs) known (all_map _ _ known (λ e h. told_as named limit fs (place_view e.0) e.1 h) looked.told) x (listing.listed x among))
+      (at_key (IsNamedOrFine named limit fs) known (all_map _ _ known (λ e h. told_as named limit fs (place_view e.0) e.1 h) looked.told) x (listing.listed x among))
 
   true_by : (f : Finding) → IsTrueBy named limit known f → IsTrueFinding named limit seen gs f
   true_by f (inl k) = inl (k.0, k.1, k.2.1 seen gs are_all)
@@ -171,9 +167,9 @@ module _ (named : Names Text) (limit : ℕ) (seen : List Place) (known : Known) 
     | inr k ↦ inr (k.0, adds.kept k.0 k.1, k.2, k.3.1 seen gs are_all)
   ]
 
-  pub finds : Finds named limit seen gs
+  pub finds : AreFindingsOf named limit seen gs
   finds = record {
-    told = all_of (IsTold named limit gs) seen told_at;
+    told = all_of (IsNamedOrFine named limit gs) seen told_at;
     holds = all_of (IsTrueFinding named limit seen gs) gs holds_at;
     whole = all_of (IsWhole named seen gs) seen whole_at;
   }

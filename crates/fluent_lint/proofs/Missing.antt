@@ -3,11 +3,8 @@ use Rattle.std.proofs.Common.{◌≡◌, List, [], ◌∷◌, Bool, true, false,
 use Rattle.fluent_ast.specs.Tree.{Text, Attribute, no_attribute, attribute, Attributes, Pattern}
 use Rattle.fluent_semantics.specs.Number.{is_text}
 use Rattle.fluent_semantics.specs.Bundle.{Entry, a_message, a_term, a_function, number_builtin, Target, unknown, without_value, found, first_of, value_target, message_target, term_target, is_message, is_term}
-use Rattle.fluent_lint.specs.Places.{of_message, of_term, Names}
-use Rattle.fluent_lint.specs.Needs as need
-use Rattle.fluent_lint.specs.Needs.{Need}
-use Rattle.fluent_lint.specs.Clean.{LeadsOn}
-use Rattle.fluent_lint.specs.References.{place_of}
+use Rattle.fluent_lint.specs.Clean.{of_message, of_term, Names, Need, place_of, LeadsOn}
+use Rattle.fluent_lint.specs.Clean as need
 use Rattle.fluent_bundle_entries.specs.EntryView.{TermContent, message_content, term_content}
 use Rattle.fluent_bundle_entries.specs.MessageView.{Content}
 use Rattle.fluent_lint.specs.Inside.Steps.{Misses, MissesMessage, MissesTerm, SaysAnyhow}

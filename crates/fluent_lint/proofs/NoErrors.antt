@@ -9,8 +9,7 @@ use Rattle.fluent_semantics.specs.Arguments.{Map, get}
 use Rattle.fluent_semantics.specs.Bundle.{Bundle, Function, Target, found, message_target, term_target, function_found, goes_to}
 use Rattle.fluent_semantics.specs.Walk.{Environment, application, local, variables, is_on, has_one, go, follow, variable_text, variable_value, answer_text, function_text, elements, part, expression, matched, default_of, written, resolved, local_of, called, positional, named, deep}
 use Rattle.fluent_semantics.specs.Meaning.{Outcome, by_substitution, substituted, meaning, settling}
-use Rattle.fluent_lint.specs.Needs.{Need, a_message, a_term, a_function, a_variable, a_default, has_default, unless, needs, in_element, in_expression, in_variants, in_inline, in_call, in_arguments, in_positional, in_named}
-use Rattle.fluent_lint.specs.Clean.{names_of, IsAmong, RefersTo, IsThere, IsClean, clean, itself, by_message, IsGiven, AreGiven}
+use Rattle.fluent_lint.specs.Clean.{names_of, Need, a_message, a_term, a_function, a_variable, a_default, has_default, unless, needs, in_element, in_expression, in_variants, in_inline, in_call, in_arguments, in_positional, in_named, IsAmong, RefersTo, IsThere, IsClean, clean, itself, by_message, IsGiven, AreGiven}
 use Rattle.fluent_lint.proofs.Acyclic.{IsAbove, off_path, goes_on, path_on}
 
 abbrev pub HasNone : {A : Type 0} → Outcome A → Type 0

@@ -7,10 +7,8 @@ use Rattle.fluent_ast.specs.Tree.{Attribute, attribute}
 use Rattle.fluent_ast.specs.View.{attribute_view, entry_view}
 use Rattle.fluent_ast.specs.declared.ast.Attribute as of_attribute
 use Rattle.fluent_ast.specs.declared.ast.Entry as of_entry
-use Rattle.fluent_lint.specs.Places.{Place}
-use Rattle.fluent_lint.specs.PlaceView.{place_view, views}
+use Rattle.fluent_lint.specs.Clean.{Place, place_view, views, attribute_places, places_of, places_in}
 use Rattle.fluent_lint.specs.Inside.Listing.{AddsPlaces}
-use Rattle.fluent_lint.specs.EntryPlaces.{attribute_places, places_in, places_of}
 use Rattle.fluent_lint.specs.declared.place.Place as code
 
 -- a list to which one is pushed

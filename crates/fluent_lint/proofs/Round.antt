@@ -3,12 +3,11 @@ use Rattle.std.proofs.Common.{◌≡◌, ℕ, ◌+◌, ◌-◌, ◌<◌, ◌≤�
 use Rattle.std.proofs.lemmas.List.{take_all, take_more, map-append}
 use Rattle.fluent_ast.specs.Tree.{Text, Pattern}
 use Rattle.fluent_semantics.specs.Bundle.{Target, unknown, without_value, found}
-use Rattle.fluent_lint.specs.Needs.{needs}
-use Rattle.fluent_lint.specs.Places.{Place, Names, place_target}
-use Rattle.fluent_lint.specs.PlaceView.{pattern_in, place_view, views}
-use Rattle.fluent_lint.specs.References.{RefersIn}
+use Rattle.fluent_lint.specs.Clean.{Place, place_view, views, Names, place_target, needs}
+use Rattle.fluent_lint.specs.PlaceView.{pattern_in}
+use Rattle.fluent_lint.specs.NeedsView.{RefersIn}
 use Rattle.fluent_lint.specs.declared.place.Place as code
-use Rattle.fluent_lint.specs.Findings.{RefersAt, Leads, end, BeginsWith, GoRound}
+use Rattle.fluent_lint.specs.Findings.{RefersAt, Leads, end, GoRound, BeginsWith}
 
 some_there : (t : Target) (p : Pattern) → Some p ≡ pattern_in t → t ≡ found p
 some_there unknown p h = absurd cc

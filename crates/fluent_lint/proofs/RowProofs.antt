@@ -3,8 +3,7 @@ use Rattle.std.proofs.Common.{◌≡◌, [], ◌∷◌, inl, inr, refl, ap, subs
 use Rattle.fluent_ast.specs.Tree.{Pattern, attribute, no_attribute, pattern_of}
 use Rattle.fluent_semantics.specs.Bundle.{Target, unknown, without_value, found}
 use Rattle.fluent_semantics.specs.Examples.{say, put, var, msg, own, own_with, named, fun, case, choose}
-use Rattle.fluent_lint.specs.Needs.{a_message}
-use Rattle.fluent_lint.specs.Clean.{IsClean, clean, IsCleanAt, AsksFor, itself, by_message}
+use Rattle.fluent_lint.specs.Clean.{a_message, IsClean, clean, IsCleanAt, AsksFor, itself, by_message}
 use Rattle.fluent_lint.specs.Rows.{ids, one, Cleanness, Asked}
 use Rattle.fluent_lint.proofs.Cleaned.{met_is_clean}
 use Rattle.fluent_lint.proofs.Grounded.{unclean}

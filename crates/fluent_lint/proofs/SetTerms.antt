@@ -9,8 +9,7 @@ use Rattle.fluent_semantics.specs.Arguments.{Map, get, set_all}
 use Rattle.fluent_semantics.specs.Bundle.{Bundle, Function, Target, unknown, without_value, found, message_target, term_target, function_found, goes_to}
 use Rattle.fluent_semantics.specs.Walk.{Environment, application, local, is_on, inner, has_one, is_marked, Steps, go, follow, variable_text, variable_value, answer_text, function_text, function_value, elements, part, expression, matched, default_of, written, resolved, local_of, called, positional, named, deep}
 use Rattle.fluent_semantics.specs.Meaning.{Budget, by_substitution, substituted, meaning, settling, within_budget, ran, run, depth_of}
-use Rattle.fluent_lint.specs.Needs.{Need, a_message, a_term, a_function, a_variable, a_default, has_default, unless, needs, in_element, in_expression, in_variants, in_inline, in_call, in_arguments, in_positional, in_named}
-use Rattle.fluent_lint.specs.Clean.{names_of, IsAmong, itself, by_message, IsGiven, AreGiven}
+use Rattle.fluent_lint.specs.Clean.{names_of, Need, a_message, a_term, a_function, a_variable, a_default, has_default, unless, needs, in_element, in_expression, in_variants, in_inline, in_call, in_arguments, in_positional, in_named, IsAmong, itself, by_message, IsGiven, AreGiven}
 use Rattle.fluent_lint.proofs.NoErrors.{all_left, all_right}
 
 module _ {C : Type 0} (S : Steps) (b : Bundle C) (f : Environment C → List Pattern → Pattern → S.M Text) (m : Map (Value C)) where

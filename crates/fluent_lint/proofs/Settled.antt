@@ -3,15 +3,10 @@ use Rattle.std.proofs.Common.{◌≡◌, ℕ, zero, suc, ◌+◌, ◌<◌, ◌�
 use Rattle.std.specs.List.{AllByRecursion}
 use Rattle.fluent_ast.specs.Tree.{Text, Pattern, nothing, more, Element, text, placeable, Expression, inline, select, Variants, no_variants, variant, Inline, string, number, function, message, term, variable, nested, Call, no_call, call, Arguments, arguments, Inlines, no_inlines, argument, Nameds, no_nameds, named_argument}
 use Rattle.fluent_semantics.specs.Bundle.{Target, found}
-use Rattle.fluent_lint.specs.Places.{Place, Names, place_target}
-use Rattle.fluent_lint.specs.Needs.{Need, a_message, a_term, a_function, a_variable, a_default, has_default, unless, needs, in_element, in_expression, in_variants, in_inline, in_call, in_arguments, in_positional, in_named}
-use Rattle.fluent_lint.specs.Clean.{IsClean, IsMet, IsCleanAt}
-use Rattle.fluent_lint.specs.Laws.{MetIsClean, DeeperCountsMore}
-use Rattle.fluent_lint.specs.Placeables as p
-use Rattle.fluent_lint.specs.Placeables.{at_place, at_target, in_pattern, placeables_deep, capped, IsRight}
+use Rattle.fluent_lint.specs.Clean.{Place, Names, place_target, Need, a_message, a_term, a_function, a_variable, a_default, has_default, unless, needs, in_element, in_expression, in_variants, in_inline, in_call, in_arguments, in_positional, in_named, place_of, IsClean, IsCleanAt, IsMet, at_target, at_place, most_in_pattern, most_in_element, most_in_expression, most_in_variants, most_in_inline, most_in_call, most_in_arguments, most_in_positional, most_in_named, placeables_deep, IsFine}
+use Rattle.fluent_lint.specs.Laws.{DeeperCountsMore, MetIsClean}
+use Rattle.fluent_lint.specs.Findings.{capped, IsRight}
 use Rattle.fluent_lint.specs.Inside.Table.{Known, count_of, IsCounted, IsWell}
-use Rattle.fluent_lint.specs.References.{place_of}
-use Rattle.fluent_lint.specs.Findings.{IsFine}
 
 all_left : {A : Type 0} (P : A → Type 0) (xs ys : List A) → AllByRecursion P (xs ++ ys) → AllByRecursion P xs
 all_left P [] ys h = tt
@@ -35,25 +30,25 @@ module _ (f g : Place → ℕ) where
   IsAlike n = IfSome (place_of n) (λ x. capped (f x) ≡ capped (g x))
 
   mutual
-    pub pattern_alike : (p : Pattern) → AllByRecursion IsAlike (needs p) → capped (in_pattern f p) ≡ capped (in_pattern g p)
+    pub pattern_alike : (p : Pattern) → AllByRecursion IsAlike (needs p) → capped (most_in_pattern f p) ≡ capped (most_in_pattern g p)
     pattern_alike nothing h = refl
     pattern_alike (more e p) h = capped_sum _ _ _ _ (element_alike e (all_left IsAlike (in_element e) (needs p) h)) (pattern_alike p (all_right IsAlike (in_element e) (needs p) h))
 
-    element_alike : (e : Element) → AllByRecursion IsAlike (in_element e) → capped (p.in_element f e) ≡ capped (p.in_element g e)
+    element_alike : (e : Element) → AllByRecursion IsAlike (in_element e) → capped (most_in_element f e) ≡ capped (most_in_element g e)
     element_alike (text t) h = refl
     element_alike (placeable e) h = capped_sum _ 1 _ 1 (expression_alike e h) refl
 
-    expression_alike : (e : Expression) → AllByRecursion IsAlike (in_expression e) → capped (p.in_expression f e) ≡ capped (p.in_expression g e)
+    expression_alike : (e : Expression) → AllByRecursion IsAlike (in_expression e) → capped (most_in_expression f e) ≡ capped (most_in_expression g e)
     expression_alike (inline x) h = inline_alike x h
     expression_alike (select x vs) h =
         let later = all_right IsAlike (in_inline x) (in_variants vs ++ unless (has_default vs) a_default) h in
         capped_sum _ _ _ _ (inline_alike x (all_left IsAlike (in_inline x) _ h)) (variants_alike vs (all_left IsAlike (in_variants vs) (unless (has_default vs) a_default) later))
 
-    variants_alike : (vs : Variants) → AllByRecursion IsAlike (in_variants vs) → capped (p.in_largest f vs) ≡ capped (p.in_largest g vs)
+    variants_alike : (vs : Variants) → AllByRecursion IsAlike (in_variants vs) → capped (most_in_variants f vs) ≡ capped (most_in_variants g vs)
     variants_alike no_variants h = refl
     variants_alike (variant k q d vs) h = capped_max _ _ _ _ (pattern_alike q (all_left IsAlike (needs q) (in_variants vs) h)) (variants_alike vs (all_right IsAlike (needs q) (in_variants vs) h))
 
-    inline_alike : (x : Inline) → AllByRecursion IsAlike (in_inline x) → capped (p.in_inline f x) ≡ capped (p.in_inline g x)
+    inline_alike : (x : Inline) → AllByRecursion IsAlike (in_inline x) → capped (most_in_inline f x) ≡ capped (most_in_inline g x)
     inline_alike (string t) h = refl
     inline_alike (number t) h = refl
     inline_alike (function n a) h = arguments_alike a h.1
@@ -62,18 +57,18 @@ module _ (f g : Place → ℕ) where
     inline_alike (variable v) h = refl
     inline_alike (nested e) h = expression_alike e h
 
-    call_alike : (c : Call) → AllByRecursion IsAlike (in_call c) → capped (p.in_call f c) ≡ capped (p.in_call g c)
+    call_alike : (c : Call) → AllByRecursion IsAlike (in_call c) → capped (most_in_call f c) ≡ capped (most_in_call g c)
     call_alike no_call h = refl
     call_alike (call a) h = arguments_alike a h
 
-    arguments_alike : (a : Arguments) → AllByRecursion IsAlike (in_arguments a) → capped (p.in_arguments f a) ≡ capped (p.in_arguments g a)
+    arguments_alike : (a : Arguments) → AllByRecursion IsAlike (in_arguments a) → capped (most_in_arguments f a) ≡ capped (most_in_arguments g a)
     arguments_alike (arguments xs ns) h = capped_sum _ _ _ _ (positional_alike xs (all_left IsAlike (in_positional xs) (in_named ns) h)) (named_alike ns (all_right IsAlike (in_positional xs) (in_named ns) h))
 
-    positional_alike : (xs : Inlines) → AllByRecursion IsAlike (in_positional xs) → capped (p.in_positional f xs) ≡ capped (p.in_positional g xs)
+    positional_alike : (xs : Inlines) → AllByRecursion IsAlike (in_positional xs) → capped (most_in_positional f xs) ≡ capped (most_in_positional g xs)
     positional_alike no_inlines h = refl
     positional_alike (argument x xs) h = capped_sum _ _ _ _ (inline_alike x (all_left IsAlike (in_inline x) (in_positional xs) h)) (positional_alike xs (all_right IsAlike (in_inline x) (in_positional xs) h))
 
-    named_alike : (ns : Nameds) → AllByRecursion IsAlike (in_named ns) → capped (p.in_named f ns) ≡ capped (p.in_named g ns)
+    named_alike : (ns : Nameds) → AllByRecursion IsAlike (in_named ns) → capped (most_in_named f ns) ≡ capped (most_in_named g ns)
     named_alike no_nameds h = refl
     named_alike (named_argument name x ns) h = capped_sum _ _ _ _ (inline_alike x (all_left IsAlike (in_inline x) (in_named ns) h)) (named_alike ns (all_right IsAlike (in_inline x) (in_named ns) h))
 
@@ -107,16 +102,16 @@ module _ (named : Names Text) (known : Known) where
   all_met [] h = tt
   all_met (n ∷ ns) h = (h.0.0, all_met ns h.1)
 
-  deep_counts : (p : Pattern) (deep : ℕ) → AlikeFrom deep (needs p) → (t : Target) → t ≡ found p → (n : ℕ) → deep + 1 ≤ n → capped (in_pattern (count_of known) p) ≡ capped (at_target (placeables_deep named n) t)
+  deep_counts : (p : Pattern) (deep : ℕ) → AlikeFrom deep (needs p) → (t : Target) → t ≡ found p → (n : ℕ) → deep + 1 ≤ n → capped (most_in_pattern (count_of known) p) ≡ capped (at_target (placeables_deep named n) t)
   unfolding placeables_deep
   deep_counts p deep h t e zero le = absurd (omega (arith, le))
-  deep_counts p deep h t e (suc n) le = subst (λ u. capped (in_pattern (count_of known) p) ≡ capped (at_target (placeables_deep named (suc n)) u)) (sym e) (pattern_alike (count_of known) (at_place named (placeables_deep named n)) p (h n (omega (arith, le))))
+  deep_counts p deep h t e (suc n) le = subst (λ u. capped (most_in_pattern (count_of known) p) ≡ capped (at_target (placeables_deep named (suc n)) u)) (sym e) (pattern_alike (count_of known) (at_place named (placeables_deep named n)) p (h n (omega (arith, le))))
 
   same_pattern : (p : Pattern) (t : Target) → t ≡ found p → IsClean named p → IsCleanAt named t
   same_pattern p t e c q f = let same : p ≡ q = cc in subst (λ z. IsClean named z) same c
 
   -- where all needs of what stands at a place are well, it is clean, and is counted by what is known
-  pub right : MetIsClean Text → (x : Place) (p : Pattern) (k : ℕ) → place_target named x ≡ found p → AllByRecursion (IsWell named known) (needs p) → k ≡ capped (in_pattern (count_of known) p) → IsRight named x k
+  pub right : MetIsClean Text → (x : Place) (p : Pattern) (k : ℕ) → place_target named x ≡ found p → AllByRecursion (IsWell named known) (needs p) → k ≡ capped (most_in_pattern (count_of known) p) → IsRight named x k
   right met x p k e h counted =
       let a = all_alike (needs p) h in
       (same_pattern p (place_target named x) e (met named p (all_met (needs p) h)), (a.0 + 1, λ n le. counted ∙ deep_counts p a.0 a.1 (place_target named x) e n le))

@@ -7,12 +7,9 @@ use Rattle.std.specs.Option.{option_map}
 use Rattle.std.specs.Prelude.{Result, Ok, Err}
 use Rattle.std.specs.Result.{OnOk}
 use Rattle.fluent_ast.specs.Tree.{Text, is_yes}
-use Rattle.fluent_lint.specs.Places.{Place, Names, place_same}
-use Rattle.fluent_lint.specs.Needs.{Need}
-use Rattle.fluent_lint.specs.Clean.{IsAmong}
+use Rattle.fluent_lint.specs.Clean.{Place, place_same, place_view, views, Names, Need, IsAmong}
 use Rattle.fluent_lint.specs.Asked.{AreAsked, AreDistinct, texts, index_of, list_at, list_of, AreAskedIn}
-use Rattle.fluent_lint.specs.PlaceView.{views, place_view}
-use Rattle.fluent_lint.specs.Inside.Sharing.{IsSetTo, Takes, IsList, AreListed, IsGathered, Covers, IsOfList, LeadsToList, IsKnown, KeepsKnown, Joins, Settles}
+use Rattle.fluent_lint.specs.Inside.Sharing.{IsSetTo, AddsList, IsList, AreListed, IsGathered, Covers, IsOfList, LeadsToList, IsKnown, KeepsKnown, Joins, Settles}
 use Rattle.fluent_lint.specs.Inside.Reached.{IsReference, needs_at}
 use Rattle.fluent_lint.specs.declared.asked.Asked.{Asked}
 use Rattle.fluent_lint.specs.declared.place.Place as code
@@ -54,7 +51,7 @@ listed_of named a q l listed h = listed_at named a (place_view q) (index_of a (p
 
 -- ---- one that is added
 
-pub listed_taken : (named : Names Text) (old new : Asked) (x : code.Place) (names : List (Bor Text)) (k : ℕ) → AreListed named old → Takes old new x names k → AreAsked named (place_view x) (texts names) → AreDistinct (texts names) → AreListed named new
+pub listed_taken : (named : Names Text) (old new : Asked) (x : code.Place) (names : List (Bor Text)) (k : ℕ) → AreListed named old → AddsList old new x names k → AreAsked named (place_view x) (texts names) → AreDistinct (texts names) → AreListed named new
 listed_taken named old new x names k listed takes asked distinct q j h = at (place_same (place_view x) (place_view q)) (sym (takes.2 q) ∙ h)
   where
     at : (d : Dec (place_view x ≡ place_view q)) → cond (is_yes d) (Some k) (index_of old (place_view q)) ≡ Some j → IsList named new (place_view q) j
@@ -80,7 +77,7 @@ known_set old new x k set = at (place_same (place_view x) (place_view x)) (set x
 
 -- ---- places that share one
 
-pub covers_taken : (named : Names Text) (old new : Asked) (x : code.Place) (g : Gathered) (k : ℕ) → IsGathered named (place_view x) g → Takes old new x g.names.keys k → Covers named (views g.reached.keys) new k
+pub covers_taken : (named : Names Text) (old new : Asked) (x : code.Place) (g : Gathered) (k : ℕ) → IsGathered named (place_view x) g → AddsList old new x g.names.keys k → Covers named (views g.reached.keys) new k
 covers_taken named old new x g k is takes = record {
   list = g.names.keys;
   there = takes.1;
@@ -121,7 +118,7 @@ joined_not named a listed = record { lists = refl; listed = listed; kept = λ q 
 pub joined_on : (named : Names Text) (old mid new : Asked) → Joins named old mid → Joins named mid new → Joins named old new
 joined_on named old mid new h j = record { lists = j.lists ∙ h.lists; listed = j.listed; kept = λ q known. j.kept q (h.kept q known) }
 
-pub settled : (named : Names Text) (old mid new : Asked) (x : code.Place) (names : List (Bor Text)) (k : ℕ) → Takes old mid x names k → Joins named mid new → Settles named old new (place_view x)
+pub settled : (named : Names Text) (old mid new : Asked) (x : code.Place) (names : List (Bor Text)) (k : ℕ) → AddsList old mid x names k → Joins named mid new → Settles named old new (place_view x)
 settled named old mid new x names k takes joins = record {
   listed = joins.listed;
   kept = λ q known. joins.kept q (kept_set old mid x k takes.2 q known);

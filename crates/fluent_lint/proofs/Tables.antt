@@ -3,11 +3,9 @@ use Rattle.std.proofs.Common.{◌≡◌, ◌⊎◌, ℕ, ◌+◌, ◌<◌, lengt
 use Rattle.std.proofs.lemmas.Bool.{false≢true}
 use Rattle.indexmap.specs.IndexMap.{insert_entry}
 use Rattle.fluent_ast.specs.Tree.{Text, is_yes}
-use Rattle.fluent_lint.specs.Places.{Place, Names, place_same}
-use Rattle.fluent_lint.specs.Clean.{IsAmong}
-use Rattle.fluent_lint.specs.PlaceView.{place_view, views}
+use Rattle.fluent_lint.specs.Clean.{Place, place_same, place_view, views, Names, IsAmong}
 use Rattle.fluent_lint.specs.Inside.Table.{Known, known_of, count_in, count_of, AreRight}
-use Rattle.fluent_lint.specs.Placeables.{IsRight}
+use Rattle.fluent_lint.specs.Findings.{IsRight}
 use Rattle.fluent_lint.proofs.Growing.{so_far, further, this_one}
 use Rattle.fluent_lint.specs.Inside.Steps.{keys_in, IsListing, AreUnknown, one_if_none, untaken}
 use Rattle.fluent_lint.specs.declared.place.Place as code

@@ -9,20 +9,18 @@ use Rattle.std.proofs.Common.{Global}
 use Rattle.indexmap.specs.IndexSet.{IndexSet}
 use Rattle.fluent_ast.specs.Tree.{Text, Pattern, is_yes}
 use Rattle.fluent_semantics.specs.Bundle.{found}
-use Rattle.fluent_lint.specs.Places.{Place, Names, place_same, place_target}
-use Rattle.fluent_lint.specs.Clean.{AsksFor, IsAmong}
-use Rattle.fluent_lint.specs.PlaceView.{place_view}
+use Rattle.fluent_lint.specs.Clean.{Place, place_same, place_view, Names, place_target, IsAmong, AsksFor}
 use Rattle.fluent_lint.specs.declared.asked.Asked.{Asked}
 use Rattle.fluent_lint.specs.declared.place.Place as code
 
 abbrev pub texts : List (Bor Text) → List Text
 texts xs = map (λ x. x.now) xs
 
--- what stands there asks for the variable
+-- a pattern stands there, and asks for the variable
 abbrev pub AsksForAt : Names Text → Place → Text → Type 0
 AsksForAt named x v = (p : Pattern) × (place_target named x ≡ found p) × AsksFor named v p
 
--- these are all that it asks for
+-- these are all that it asks for, and no other
 abbrev pub AreAsked : Names Text → Place → List Text → Type 0
 AreAsked named x vs = (v : Text) → IsAmong v vs ↔ AsksForAt named x v
 
@@ -49,9 +47,10 @@ list_at lists (Some k) = option_map (λ l. l.keys) (slice_get lists k)
 abbrev pub list_of : Asked → Place → Option (List (Bor Text))
 list_of a x = list_at a.lists.items (index_of a x)
 
--- its list is there, and has all that the place asks for, each once
+-- its list is there, and has all that the place asks for and no other, each once
 abbrev pub IsAskedIn : Names Text → Asked → Place → Type 0
 IsAskedIn named a x = (l : List (Bor Text)) × (list_of a x ≡ Some l) × AreAsked named x (texts l) × AreDistinct (texts l)
 
+-- so it is of each of these places
 abbrev pub AreAskedIn : Names Text → List Place → Asked → Type 0
 AreAskedIn named xs a = AllByRecursion (IsAskedIn named a) xs

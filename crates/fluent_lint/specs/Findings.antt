@@ -1,35 +1,49 @@
--- What findings say.
-use Rattle.std.specs.Prelude.{◌≡◌, ◌⊎◌, ℕ, ◌≤◌, ◌<◌, List, [], ◌∷◌, map, Bool, true, false, Some}
+-- What linting finds: of places, of resources, and when each finding is true.
+use Rattle.std.specs.Prelude.{◌≡◌, ◌⊎◌, ℕ, ◌-◌, ◌^◌, ◌≤◌, ◌<◌, min, List, [], ◌∷◌, ◌++◌, map, Bool, true, false, Some}
 use Rattle.std.specs.List.{AllByRecursion}
+use Rattle.std.specs.declared.vec.Vec.{Vec}
+use Rattle.std.proofs.Common.{Global}
 use Rattle.fluent_ast.specs.Tree.{Text, Attribute, no_attribute, attribute, Pattern}
-use Rattle.fluent_semantics.specs.Bundle.{unknown, without_value, found, message_target, term_target, is_message, is_term, is_function}
-use Rattle.fluent_lint.specs.Places.{Place, Names, place_target}
-use Rattle.fluent_lint.specs.Needs.{Need, a_message, a_term, a_function, a_default, needs}
-use Rattle.fluent_lint.specs.Clean.{IsAmong, IsClean, IsMet, LeadsOn}
-use Rattle.fluent_lint.specs.Placeables.{IsRight, placeables_deep}
-use Rattle.fluent_lint.specs.PlaceView.{place_view, views}
-use Rattle.fluent_lint.specs.References.{place_of}
+use Rattle.fluent_semantics.specs.Bundle.{Bundle, unknown, without_value, found, message_target, term_target, is_message, is_term, is_function}
+use Rattle.fluent_bundle.specs.BundleView.{entries_of}
+use Rattle.fluent_bundle.specs.declared.resource.FluentResource.{FluentResource}
+use Rattle.fluent_lint.specs.Clean.{Place, place_view, views, Names, names_of, place_target, places_in, Need, a_message, a_term, a_function, a_default, needs, place_of, IsAmong, LeadsOn, IsCleanAt, IsMet, at_place, placeables_deep, IsFine, NeverFails}
 use Rattle.fluent_lint.specs.declared.finding.Finding.{Finding}
 use Rattle.fluent_lint.specs.declared.finding.Kind.{Kind}
 use Rattle.fluent_lint.specs.declared.finding.Kind.TheVariants as kind
 
--- the places that findings name
+-- the places of resources, in order
+abbrev pub places_in_resources : List FluentResource → List Place
+places_in_resources [] = []
+places_in_resources (r ∷ rs) = places_in (entries_of r) ++ places_in_resources rs
+
+-- the places at which there is a finding
 abbrev pub named_by : List Finding → List Place
 named_by fs = map (λ f. place_view f.place) fs
 
--- What stands there, if a pattern does, is clean, and opens no more placeables than the limit, however deep references are followed.
-abbrev pub IsFine : Names Text → ℕ → Place → Type 0
-IsFine named limit x = (p : Pattern) → place_target named x ≡ found p → IsClean named p × ((n : ℕ) → placeables_deep named n p ≤ limit)
+-- what stands at a place needs that
+abbrev pub NeedsAt : Names Text → Place → Need → Type 0
+NeedsAt named x n = (p : Pattern) × (place_target named x ≡ found p) × IsAmong n (needs p)
 
--- what stands at a place asks for that
-abbrev pub AsksAt : Names Text → Place → Need → Type 0
-AsksAt named x n = (p : Pattern) × (place_target named x ≡ found p) × IsAmong n (needs p)
+-- ---- counts of placeables
+
+-- a count stops at the largest number that a `u64` holds
+abbrev pub capped : ℕ → ℕ
+capped n = min n (2 ^ 64 - 1)
+
+-- What stands at a place opens so many placeables at most: k is the count from some depth of references on.
+abbrev pub CountsAs : {C : Type 0} → Names C → Place → ℕ → Type 0
+CountsAs named x k = (deep : ℕ) × ((n : ℕ) → deep ≤ n → k ≡ capped (at_place named (placeables_deep named n) x))
+
+-- A count of a place is right: what stands there, if a pattern does, is clean, and opens so many at most.
+abbrev pub IsRight : {C : Type 0} → Names C → Place → ℕ → Type 0
+IsRight named x k = IsCleanAt named (place_target named x) × CountsAs named x k
 
 -- ---- cycles
 
 -- what stands at a place refers to another
 abbrev pub RefersAt : Names Text → Place → Place → Type 0
-RefersAt named x y = (n : Need) × AsksAt named x n × (place_of n ≡ Some y)
+RefersAt named x y = (n : Need) × NeedsAt named x n × (place_of n ≡ Some y)
 
 -- a place refers to the first of these, and each to the next
 abbrev pub Leads : Names Text → Place → List Place → Type 0
@@ -40,7 +54,7 @@ abbrev pub end : Place → List Place → Place
 end x [] = x
 end x (y ∷ ys) = end y ys
 
--- they refer each to the next, and the last to the first
+-- there are some; each refers to the next, and the last to the first
 abbrev pub GoRound : Names Text → List Place → Type 0
 GoRound named [] = ⊥
 GoRound named (x ∷ xs) = Leads named (end x xs) (x ∷ xs)
@@ -49,9 +63,9 @@ abbrev pub BeginsWith : Place → List Place → Type 0
 BeginsWith x [] = ⊥
 BeginsWith x (y ∷ ys) = x ≡ y
 
--- ---- kinds
+-- ---- what a finding says, by its kind
 
--- of a pattern that is clean
+-- a kind of finding that clean patterns have
 abbrev pub is_large : Kind → Bool
 is_large (kind.TooManyPlaceables count limit) = true
 is_large k = false
@@ -60,7 +74,7 @@ is_large k = false
 abbrev pub IsUncleanBy : List Finding → Place → Type 0
 IsUncleanBy fs x = (f : Finding) × IsAmong f fs × (place_view f.place ≡ x) × (is_large f.kind ≡ false)
 
--- What a kind says of something that a pattern asks for, where these places were looked at, and these are all findings.
+-- What a kind says of something that a pattern needs (n), where the places `seen` were looked at, and `fs` are all findings. The kinds of the last line say nothing of a need: see SaysOf.
 abbrev pub Says : Names Text → List Place → List Finding → Need → Kind → Type 0
 Says named seen fs n (kind.UnknownMessage id) = (a : Attribute) × (n ≡ a_message id.now a) × (is_message (named id.now) ≡ false)
 Says named seen fs n (kind.UnknownAttribute id a) = (n ≡ a_message id.now (attribute a.now)) × (is_message (named id.now) ≡ true) × (message_target (named id.now) (attribute a.now) ≡ unknown)
@@ -73,30 +87,37 @@ Says named seen fs n (kind.LeadsTo y) = (place_of n ≡ Some (place_view y)) × 
 Says named seen fs n (kind.Elsewhere y) = (place_of n ≡ Some (place_view y)) × LeadsOn (place_target named (place_view y)) × (IsAmong (place_view y) seen → ⊥)
 Says named seen fs n k = ⊥
 
--- What a kind says of a place, whatever its pattern asks for.
+-- What a kind says of a place (x) as a whole; the kinds of the last line say nothing of it.
 abbrev pub SaysOf : Names Text → ℕ → Place → Kind → Type 0
 SaysOf named limit x (kind.Cycle ys) = BeginsWith x (views ys.items) × GoRound named (views ys.items)
 SaysOf named limit x (kind.TooManyPlaceables count most) = (most ≡ limit) × (limit < count) × IsRight named x count
 SaysOf named limit x k = ⊥
 
--- what stands at a place asks for something of which the kind says so
+-- what stands at a place needs something of which the kind says so
 abbrev pub SaysAt : Names Text → List Place → List Finding → Place → Kind → Type 0
-SaysAt named seen fs x k = (n : Need) × AsksAt named x n × Says named seen fs n k
+SaysAt named seen fs x k = (n : Need) × NeedsAt named x n × Says named seen fs n k
 
--- It is true of something that its pattern asks for, or of its place.
+-- ---- what is found
+
+-- A finding is true: its kind says so of something that its pattern needs, or of its place.
 abbrev pub IsTrueFinding : Names Text → ℕ → List Place → List Finding → Finding → Type 0
 IsTrueFinding named limit seen fs f = SaysAt named seen fs (place_view f.place) f.kind ⊎ SaysOf named limit (place_view f.place) f.kind
 
--- a place is named, or what stands there is clean and opens no more placeables than the limit
-abbrev pub IsTold : Names Text → ℕ → List Finding → Place → Type 0
-IsTold named limit fs x = IsAmong x (named_by fs) ⊎ IsFine named limit x
+-- a finding names a place, or what stands there is clean and opens no more placeables than the limit
+abbrev pub IsNamedOrFine : Names Text → ℕ → List Finding → Place → Type 0
+IsNamedOrFine named limit fs x = IsAmong x (named_by fs) ⊎ IsFine named limit x
 
--- Of what stands there, all that is asked for is met, or a finding of the place says why not.
+-- All that what stands there needs is met, or a finding of the place says why not.
 abbrev pub IsWhole : Names Text → List Place → List Finding → Place → Type 0
-IsWhole named seen fs x = (n : Need) → AsksAt named x n → IsMet named n ⊎ ((f : Finding) × IsAmong f fs × (place_view f.place ≡ x) × Says named seen fs n f.kind)
+IsWhole named seen fs x = (n : Need) → NeedsAt named x n → IsMet named n ⊎ ((f : Finding) × IsAmong f fs × (place_view f.place ≡ x) × Says named seen fs n f.kind)
 
--- Of these places each is told of, each finding is true, and none is left out.
-pub record Finds (named : Names Text) (limit : ℕ) (seen : List Place) (fs : List Finding) : Type 0 where
-  pub told : AllByRecursion (IsTold named limit fs) seen
+-- These are the findings of the places `seen`: of each place there is one, or it is fine (`told`); each is true (`holds`); and for all that a place needs and that isn't met there is one (`whole`).
+pub record AreFindingsOf (named : Names Text) (limit : ℕ) (seen : List Place) (fs : List Finding) : Type 0 where
+  pub told : AllByRecursion (IsNamedOrFine named limit fs) seen
   pub holds : AllByRecursion (IsTrueFinding named limit seen fs) fs
   pub whole : AllByRecursion (IsWhole named seen fs) seen
+
+-- What linting says of a bundle and these resources: these are the findings of their places, by the bundle's limit; and what is fine never shows an error.
+pub record Lints (b : Bundle Text) (rs : List FluentResource) (fs : Vec Finding Global) : Type 0 where
+  pub finds : AreFindingsOf (names_of b) b.limit (places_in_resources rs) fs.items
+  pub written : (x : Place) → IsFine (names_of b) b.limit x → NeverFails b x

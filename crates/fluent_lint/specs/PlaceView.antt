@@ -1,24 +1,16 @@
--- The content of the code's places, and what stands there.
+-- What stands at a place of the code, and how two places are told apart.
 use Rattle.std.specs.Borrow.{Bor}
 use Rattle.std.specs.Option.{option_map}
-use Rattle.std.specs.Prelude.{◌≡◌, ℕ, List, [], ◌++◌, map, Option, Some, None, IsTrue}
+use Rattle.std.specs.Prelude.{◌≡◌, ℕ, List, [], ◌++◌, Option, Some, None, IsTrue}
 use Rattle.std.proofs.Common.{ap, sym}
 use Rattle.std.specs.Hash as fed
 use mathlib.Core.Bool.{true≢false}
 use Rattle.fluent_ast.specs.Tree.{Attribute, no_attribute, attribute, Pattern, is_yes}
-use Rattle.fluent_ast.specs.View.{attribute_of, pattern_view}
+use Rattle.fluent_ast.specs.View.{pattern_view}
 use Rattle.fluent_ast.specs.declared.ast.Pattern as tree
 use Rattle.fluent_semantics.specs.Bundle.{Target, unknown, without_value, found}
-use Rattle.fluent_lint.specs.Places.{Place, of_message, of_term, Names, place_same, place_target}
+use Rattle.fluent_lint.specs.Clean.{Place, of_message, of_term, place_same, place_view, Names, place_target}
 use Rattle.fluent_lint.specs.declared.place.Place as code
-use Rattle.fluent_lint.specs.declared.place.Place.TheVariants as place
-
-abbrev pub place_view : code.Place → Place
-place_view (place.Message id a) = of_message id.name.now (attribute_of a)
-place_view (place.Term id a) = of_term id.name.now (attribute_of a)
-
-abbrev pub views : List code.Place → List Place
-views xs = map place_view xs
 
 abbrev pub pattern_in : Target → Option Pattern
 pattern_in unknown = None

@@ -1,12 +1,9 @@
--- Worked rows: what patterns ask for, which of them are clean, and how many placeables they open.
+-- Worked rows: what patterns need, which of them are clean, and how many placeables they open.
 use Rattle.std.specs.Prelude.{◌≡◌, [], ◌∷◌, None, codes}
 use Rattle.fluent_ast.specs.Tree.{no_attribute, attribute, Pattern, Element, pattern_of, message_entry}
 use Rattle.fluent_semantics.specs.Bundle.{Bundle}
 use Rattle.fluent_semantics.specs.Examples.{NoCustom, say, put, var, str, msg, msg_attribute, own, own_with, named, fun, case, default, choose, entry, private, source}
-use Rattle.fluent_lint.specs.Needs.{a_message, a_term, a_function, a_variable, a_default, needs}
-use Rattle.fluent_lint.specs.Places.{Names}
-use Rattle.fluent_lint.specs.Clean.{names_of, IsClean, AsksFor}
-use Rattle.fluent_lint.specs.Placeables.{placeables}
+use Rattle.fluent_lint.specs.Clean.{Names, names_of, a_message, a_term, a_function, a_variable, a_default, needs, IsClean, AsksFor, placeables}
 
 -- greeting = Hi { $user }
 -- only =

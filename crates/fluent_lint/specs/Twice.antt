@@ -1,4 +1,4 @@
--- What is told of sources: ids that are defined again, and parts that can't be read.
+-- What is told of sources, without a bundle: ids that are defined again, and parts that can't be read.
 use Rattle.std.specs.Prelude.{◌≡◌, ℕ, suc, List, [], ◌∷◌, ◌++◌, map, Option, Some, None, bytes_eq}
 use Rattle.std.specs.Map.{lookup}
 use Rattle.std.specs.declared.vec.Vec.{Vec}
@@ -44,8 +44,9 @@ defined_in r (x ∷ xs) = defined_from r 0 (entries_of x) ++ defined_in (suc r) 
 abbrev pub Again : Type 0
 Again = Text × (Definition × Definition)
 
-abbrev pub first_of : Text → List Defined → Option Definition
-first_of id ds = lookup (bytes_eq id) ds
+-- the first of these definitions of an id
+abbrev pub first_defined : Text → List Defined → Option Definition
+first_defined id ds = lookup (bytes_eq id) ds
 
 abbrev pub again_if : Option Definition → Defined → List Again
 again_if None d = []
@@ -54,7 +55,7 @@ again_if (Some first) d = (d.0, (first, d.1)) ∷ []
 -- Of some definitions, each whose id was defined before it, with the first one of that id; before them stand others.
 abbrev pub again_after : List Defined → List Defined → List Again
 again_after before [] = []
-again_after before (d ∷ ds) = again_if (first_of d.0 before) d ++ again_after (before ++ d ∷ []) ds
+again_after before (d ∷ ds) = again_if (first_defined d.0 before) d ++ again_after (before ++ d ∷ []) ds
 
 abbrev pub again_view : Twice → Again
 again_view t = (t.id.now, (t.first, t.again))
@@ -65,6 +66,6 @@ AreTwice rs list = map again_view list.items ≡ again_after [] (defined_in 0 rs
 
 -- ---- what can't be read
 
--- these are the byte ranges of what can't be read
+-- The errors are one for each Junk of a source, in order: `junk_ranges` (fluent_syntax/specs/Chunks) has its byte range, and `error_range` is that of an error, from its `start` to its `end`.
 abbrev pub AreUnreadable : Text → Vec ParserError Global → Type 0
 AreUnreadable source errors = map error_range errors.items ≡ junk_ranges source

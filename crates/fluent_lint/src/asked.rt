@@ -2,9 +2,9 @@
 
 ghost use Rattle.std.specs.Prelude.{◌≡◌, [], IfOk, OnOk};
 ghost use Rattle.std.specs.Option.{option_map};
-ghost use Rattle.fluent_lint.specs.Inside.Sharing.{IsSetTo, Takes};
+ghost use Rattle.fluent_lint.specs.Inside.Sharing.{AddsList, IsSetTo};
 ghost use Rattle.fluent_lint.specs.Asked.{index_of, list_of};
-ghost use Rattle.fluent_lint.specs.PlaceView.{place_view};
+ghost use Rattle.fluent_lint.specs.Clean.{place_view};
 
 use crate::place::Place;
 use indexmap::{IndexMap, IndexSet};
@@ -29,7 +29,7 @@ impl<'s> Asked<'s> {
         }
     }
 
-    /// The variables that a place asks for, each once, if they were gathered.
+    /// The list of a place, if it has one: of what [`crate::variables_at`] was handed, the variables that it asks for.
     pub fn of(&self, place: &Place<'s>) -> Option<&IndexSet<&'s str>>
         ensures { option_map (λ l. l.now.keys) result ≡ list_of self.now (place_view place.now) }
     {
@@ -53,7 +53,7 @@ impl<'s> Asked<'s> {
         place: Place<'s>,
         names: IndexSet<&'s str>,
     ) -> Result<usize, AllocError>
-        ensures { IfOk result (Takes self.old self.new place.entry names.entry.keys) }
+        ensures { IfOk result (AddsList self.old self.new place.entry names.entry.keys) }
     {
         let index = self.lists.len();
         self.lists.push(names)?;

@@ -5,7 +5,7 @@ ghost use Rattle.fluent_lint.specs.Asked.{AreAskedAt, AreDistinct, texts};
 ghost use Rattle.fluent_lint.specs.Inside.Reached.{AddsAll, AddsName, AddsPlace, NotedAt, Notes, NotesPattern};
 ghost use Rattle.fluent_lint.specs.Inside.Sharing.{AreListed, IsGathered};
 ghost use Rattle.fluent_lint.specs.NeedsView.{need_view};
-ghost use Rattle.fluent_lint.specs.PlaceView.{place_view};
+ghost use Rattle.fluent_lint.specs.Clean.{place_view};
 
 use crate::asked::Asked;
 use crate::listing::{Need, needs};
@@ -21,9 +21,9 @@ pub(crate) struct Gathered<'s> {
     pub names: IndexSet<&'s str>,
 }
 
-/// The variables that what stands at a place asks the arguments for, by name and each once: its own, and those of
-/// the messages that it refers to. Variables of a term are set by the reference to it, and not asked for. Where no
-/// pattern stands there, none.
+/// The variables that what stands at a place asks the arguments for, all of them and no other, by name and each once:
+/// its own, and those of the messages that it refers to. Those of a term are set by the reference to it, and not asked
+/// for. Where no pattern stands there, none.
 ///
 /// # Errors
 ///

@@ -3,7 +3,7 @@
 ghost use Rattle.std.specs.Prelude.{IfOk};
 ghost use Rattle.fluent_ast.specs.View.{attribute_of};
 ghost use Rattle.fluent_lint.specs.NeedsView.{need_view};
-ghost use Rattle.fluent_lint.specs.PlaceView.{place_view};
+ghost use Rattle.fluent_lint.specs.Clean.{place_view};
 ghost use Rattle.fluent_lint.specs.Inside.Table.{AreRight};
 ghost use Rattle.fluent_lint.specs.Inside.Steps.{Answers, AnswersAt, IsExplainedBy, IsLook, Misses, MissesMessage, MissesTerm};
 

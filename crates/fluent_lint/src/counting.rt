@@ -3,8 +3,8 @@
 ghost use Rattle.std.specs.Prelude.{◌≡◌};
 ghost use Rattle.fluent_ast.specs.References.{inlines_view, nameds_view, variants_view};
 ghost use Rattle.fluent_ast.specs.View.{arguments_view, element_view, expression_view, inline_view, pattern_view};
-ghost use Rattle.fluent_lint.specs.Placeables.{in_arguments, in_element, in_expression, in_inline, in_largest, in_named, in_pattern, in_positional, capped};
-ghost use Rattle.fluent_lint.specs.PlaceView.{place_view};
+ghost use Rattle.fluent_lint.specs.Clean.{place_view, most_in_pattern, most_in_element, most_in_expression, most_in_variants, most_in_inline, most_in_arguments, most_in_positional, most_in_named};
+ghost use Rattle.fluent_lint.specs.Findings.{capped};
 ghost use Rattle.fluent_lint.specs.Inside.Table.{counts};
 
 use crate::place::Place;
@@ -20,7 +20,7 @@ pub(crate) type Table<'s> = IndexMap<Place<'s>, Option<u64>>;
 /// known. Takes no memory.
 #[cycle(counting)]
 pub(crate) fn most_opened<'s>(pattern: &Pattern<'s>, table: &Table<'s>) -> u64
-    ensures { result ≡ capped (in_pattern (counts table.now) (pattern_view pattern.now)) }
+    ensures { result ≡ capped (most_in_pattern (counts table.now) (pattern_view pattern.now)) }
 {
     let mut total: u64 = 0;
     for element in &pattern.elements {
@@ -32,7 +32,7 @@ pub(crate) fn most_opened<'s>(pattern: &Pattern<'s>, table: &Table<'s>) -> u64
 
 #[cycle(counting)]
 fn in_element<'s>(element: &PatternElement<'s>, table: &Table<'s>) -> u64
-    ensures { result ≡ capped (in_element (counts table.now) (element_view element.now)) }
+    ensures { result ≡ capped (most_in_element (counts table.now) (element_view element.now)) }
 {
     match element {
         PatternElement::TextElement { .. } => 0,
@@ -45,7 +45,7 @@ fn in_element<'s>(element: &PatternElement<'s>, table: &Table<'s>) -> u64
 #[cycle(counting)]
 fn in_expression<'s>(expression: &Expression<'s>, table: &Table<'s>) -> u64
     ensures { result
-        ≡ capped (in_expression (counts table.now) (expression_view expression.now)) }
+        ≡ capped (most_in_expression (counts table.now) (expression_view expression.now)) }
 {
     match expression {
         Expression::Inline(inline) => in_inline(inline, table),
@@ -61,7 +61,7 @@ fn in_expression<'s>(expression: &Expression<'s>, table: &Table<'s>) -> u64
 #[cycle(counting)]
 fn in_largest<'s>(variants: &[Variant<'s>], table: &Table<'s>) -> u64
     ensures { result
-        ≡ capped (in_largest (counts table.now) (variants_view variants.now)) }
+        ≡ capped (most_in_variants (counts table.now) (variants_view variants.now)) }
 {
     let mut largest: u64 = 0;
     for variant in variants {
@@ -75,7 +75,7 @@ fn in_largest<'s>(variants: &[Variant<'s>], table: &Table<'s>) -> u64
 
 #[cycle(counting)]
 fn in_inline<'s>(inline: &InlineExpression<'s>, table: &Table<'s>) -> u64
-    ensures { result ≡ capped (in_inline (counts table.now) (inline_view inline.now)) }
+    ensures { result ≡ capped (most_in_inline (counts table.now) (inline_view inline.now)) }
 {
     match inline {
         InlineExpression::StringLiteral { .. }
@@ -103,7 +103,7 @@ fn in_inline<'s>(inline: &InlineExpression<'s>, table: &Table<'s>) -> u64
 #[cycle(counting)]
 fn in_arguments<'s>(arguments: &CallArguments<'s>, table: &Table<'s>) -> u64
     ensures { result
-        ≡ capped (in_arguments (counts table.now) (arguments_view arguments.now)) }
+        ≡ capped (most_in_arguments (counts table.now) (arguments_view arguments.now)) }
 {
     let positional = in_positional(&arguments.positional, table);
     let named = in_named(&arguments.named, table);
@@ -113,7 +113,7 @@ fn in_arguments<'s>(arguments: &CallArguments<'s>, table: &Table<'s>) -> u64
 #[cycle(counting)]
 fn in_positional<'s>(positional: &[InlineExpression<'s>], table: &Table<'s>) -> u64
     ensures { result
-        ≡ capped (in_positional (counts table.now) (inlines_view positional.now)) }
+        ≡ capped (most_in_positional (counts table.now) (inlines_view positional.now)) }
 {
     let mut total: u64 = 0;
     for argument in positional {
@@ -125,7 +125,7 @@ fn in_positional<'s>(positional: &[InlineExpression<'s>], table: &Table<'s>) -> 
 
 #[cycle(counting)]
 fn in_named<'s>(named: &[NamedArgument<'s>], table: &Table<'s>) -> u64
-    ensures { result ≡ capped (in_named (counts table.now) (nameds_view named.now)) }
+    ensures { result ≡ capped (most_in_named (counts table.now) (nameds_view named.now)) }
 {
     let mut total: u64 = 0;
     for argument in named {

@@ -3,7 +3,7 @@
 //! What is found is looked at once more before it is told, so no contract speaks of the search.
 
 ghost use Rattle.std.specs.Prelude.{IfOk, OnOk, IsTrue};
-ghost use Rattle.fluent_lint.specs.PlaceView.{views};
+ghost use Rattle.fluent_lint.specs.Clean.{views};
 ghost use Rattle.fluent_lint.specs.Findings.{GoRound};
 ghost use Rattle.fluent_lint.specs.Inside.Steps.{AddsCycles};
 

@@ -3,14 +3,14 @@
 ghost use Rattle.std.specs.Prelude.{◌≡◌, IfOk, OnOk, map};
 ghost use Rattle.fluent_ast.specs.View.{entry_view};
 ghost use Rattle.fluent_lint.specs.Inside.Listing.{AddsOfMessage, AddsOfTerm, AddsPlaces};
-ghost use Rattle.fluent_lint.specs.EntryPlaces.{places_in, places_of};
-ghost use Rattle.fluent_lint.specs.PlaceView.{views};
+ghost use Rattle.fluent_lint.specs.Clean.{views, places_of, places_in};
 
 use crate::place::Place;
 use fluent_ast::ast::{Attribute, Entry, Identifier};
 use std::alloc::{AllocError, Global};
 
-/// The places of entries, in order: each value, then the attributes. What can't be read has none.
+/// The places of entries, in order: of each message or term its value, then its attributes. A message that has no value
+/// has the place of it all the same. What can't be read has none.
 ///
 /// # Errors
 ///

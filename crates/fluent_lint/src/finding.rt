@@ -11,7 +11,8 @@ pub struct Finding<'s> {
     pub kind: Kind<'s>,
 }
 
-/// What is wrong with a pattern: each would be an error of a formatting call.
+/// What is wrong with a pattern: each would be an error of a formatting call. `Says` and `SaysOf` (specs/Findings) say when
+/// each is true.
 #[derive(Drop)]
 pub enum Kind<'s> {
     /// It refers to a message that isn't there.

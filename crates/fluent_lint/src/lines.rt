@@ -19,8 +19,8 @@ impl fmt::Display for LineColumn {
     }
 }
 
-/// The line and the column of the byte at an offset, as the one of what can't be read: the line feeds before it plus
-/// one, and the characters since the last of them plus one. After the end it is those of the end.
+/// The line and the column of the byte at an offset, as the first one of what can't be read: the line feeds before it
+/// plus one, and the characters since the last of them plus one. Past the end they are those of the end.
 pub fn position(source: &str, offset: usize) -> LineColumn
     ensures line { result.line ≡ line_after (take offset source.now) }
     ensures column { result.column ≡ column_after (take offset source.now) }

@@ -3,7 +3,7 @@
 ghost use Rattle.std.specs.Prelude.{IfOk};
 ghost use Rattle.fluent_lint.specs.Asked.{AreAskedAt, AreDistinct, texts};
 ghost use Rattle.fluent_lint.specs.Clean.{names_of};
-ghost use Rattle.fluent_lint.specs.Lints.{Lints};
+ghost use Rattle.fluent_lint.specs.Findings.{Lints};
 
 use crate::asking::variables_of;
 use crate::finding::Finding;
@@ -17,10 +17,14 @@ use fluent_bundle::{
 };
 use std::alloc::{AllocError, Global};
 
-/// What is wrong with the messages and terms of a bundle. Of the values and attributes of these resources, each has a
-/// finding, or it never shows an error: for all arguments that give each variable that it asks for ([`variables`]),
-/// what is formatted is its text with no error. What no resource here has isn't looked at, so hand in all that were
-/// added.
+/// What is wrong with the messages and terms of a bundle, in the values and attributes of these resources.
+///
+/// Each of them has a finding, or is clean and opens no more placeables than the bundle's limit. Each finding is true,
+/// as its [`crate::Kind`] says. Whatever one of them needs that isn't there, or isn't clean, has a finding of its own.
+/// And what is clean and within the limit never shows an error: for all arguments that give each variable that it asks
+/// for ([`variables`]), its text by substitution is what is written, with no error.
+///
+/// What no resource here has isn't looked at, so hand in all that were added.
 ///
 /// # Errors
 ///
@@ -47,8 +51,9 @@ pub fn lint<
     lint_places(alloc, bundle, &places, limit)
 }
 
-/// The variables that a value or an attribute asks the arguments for, by name and each once: its own, and those of
-/// the messages that it refers to.
+/// The variables that a value or an attribute asks the arguments for, all of them and no other, by name and each once:
+/// its own, and those of the messages that it refers to. Those of a term are set by the reference to it, and not asked
+/// for. Where no pattern stands there, none.
 ///
 /// # Errors
 ///

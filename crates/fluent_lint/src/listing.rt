@@ -1,13 +1,11 @@
-//! What a pattern asks for, listed.
+//! What a pattern needs, listed.
 
 ghost use Rattle.std.specs.Prelude.{◌≡◌, ◌↔◌, IfOk, OnOk, IsTrue};
 ghost use Rattle.fluent_ast.specs.View.{arguments_view, expression_view, inline_view, pattern_view};
 ghost use Rattle.fluent_ast.specs.References.{inlines_view, nameds_view, variants_view};
-ghost use Rattle.fluent_lint.specs.Needs.{has_default, needs, in_arguments, in_expression, in_inline, in_named, in_positional, in_variants};
+ghost use Rattle.fluent_lint.specs.Clean.{place_view, has_default, needs, in_expression, in_variants, in_inline, in_arguments, in_positional, in_named};
 ghost use Rattle.fluent_lint.specs.Inside.Listing.{Appends, missing_default};
-ghost use Rattle.fluent_lint.specs.NeedsView.{need_view, needs_view};
-ghost use Rattle.fluent_lint.specs.PlaceView.{place_view};
-ghost use Rattle.fluent_lint.specs.References.{IsOfPlace, Refers};
+ghost use Rattle.fluent_lint.specs.NeedsView.{need_view, needs_view, IsOfPlace, Refers};
 
 use crate::place::{Place, same_place};
 use fluent_ast::ast::{
@@ -16,7 +14,7 @@ use fluent_ast::ast::{
 };
 use std::alloc::{AllocError, Global};
 
-/// What a pattern asks of its bundle, or of its arguments.
+/// What a pattern needs of its bundle, or of the arguments.
 #[derive(Clone, Copy, Drop)]
 pub enum Need<'t, 's> {
     /// A message's value, or an attribute of it.
@@ -29,7 +27,9 @@ pub enum Need<'t, 's> {
     Default,
 }
 
-/// Lists what a pattern asks for, in the order of the tree and as often as it stands there.
+/// Lists what a pattern needs: each message, term and function that it refers to, each variable, and a default for each
+/// select that has none. They stand in the order of the tree, those of all variants and arguments, each as often as it
+/// stands there.
 ///
 /// # Errors
 ///
@@ -45,7 +45,8 @@ pub fn needs<'t, 's>(
     Ok(list)
 }
 
-/// Whether a pattern refers to a place.
+/// Whether a pattern refers to a place: whether a reference to it stands in the pattern itself, in any variant,
+/// selector or argument.
 ///
 /// # Errors
 ///

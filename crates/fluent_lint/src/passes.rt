@@ -1,8 +1,8 @@
 //! What is found at some places, pass by pass: each place is looked at again until no more are found clean.
 
 ghost use Rattle.std.specs.Prelude.{◌≡◌, IfOk, OnOk};
-ghost use Rattle.fluent_lint.specs.Findings.{Finds};
-ghost use Rattle.fluent_lint.specs.PlaceView.{views};
+ghost use Rattle.fluent_lint.specs.Findings.{AreFindingsOf};
+ghost use Rattle.fluent_lint.specs.Clean.{views};
 ghost use Rattle.fluent_lint.specs.declared.finding.Kind.TheVariants as kind;
 ghost use Rattle.fluent_lint.specs.Inside.Table.{AreRight};
 ghost use Rattle.fluent_lint.specs.Inside.Steps.{AreTold, AreUnknown, IsListing, IsStep, Takes};
@@ -28,8 +28,11 @@ pub(crate) enum Step<'s> {
     Clean(Place<'s>, u64),
 }
 
-/// What is wrong with the patterns at these places: each has a finding, or is clean and opens at most as many
-/// placeables as the limit. The findings stand in the order of the places, those of cycles after all others.
+/// What is wrong with the patterns at these places. Each place has a finding, or what stands there is clean and opens no
+/// more placeables than the limit. Each finding is true, as its [`Kind`] says. Whatever one of the places needs that
+/// isn't there, or isn't clean, has a finding of its own.
+///
+/// The findings stand in the order of the places, those of cycles after all others.
 ///
 /// # Errors
 ///
@@ -40,7 +43,7 @@ pub fn lint_places<'s, F, B: GetEntry<'s, F>>(
     places: &[Place<'s>],
     limit: u32,
 ) -> Result<Vec<Finding<'s>>, AllocError>
-    ensures { IfOk result (λ found. Finds (B.named bundle.now) limit (views places.now) found.items) }
+    ensures { IfOk result (λ found. AreFindingsOf (B.named bundle.now) limit (views places.now) found.items) }
 {
     let mut findings = found_at(alloc, bundle, places, limit)?;
     add_cycles(alloc, bundle, &mut findings)?;

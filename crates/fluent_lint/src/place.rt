@@ -3,7 +3,8 @@
 ghost use Rattle.std.specs.Prelude.{◌≡◌, ◌↔◌, IsTrue, map};
 ghost use Rattle.fluent_ast.specs.View.{attribute_of, attribute_view};
 ghost use Rattle.fluent_semantics.specs.Bundle.{first_of};
-ghost use Rattle.fluent_lint.specs.PlaceView.{pattern_at, pattern_in, pattern_seen, place_view};
+ghost use Rattle.fluent_lint.specs.PlaceView.{pattern_in, pattern_at, pattern_seen};
+ghost use Rattle.fluent_lint.specs.Clean.{place_view};
 
 use fluent_ast::ast::{Attribute, Identifier, Pattern};
 use fluent_bundle_entries::GetEntry;
@@ -22,7 +23,7 @@ impl<'s> PartialEq for Place<'s> {
     ghost use Rattle.std.specs.Cmp.{partial_equiv_from_equiv};
     ghost use Rattle.fluent_ast.specs.Tree.{is_yes};
     ghost use Rattle.fluent_ast.specs.Same.{equivalent};
-    ghost use Rattle.fluent_lint.specs.Places.{place_same};
+    ghost use Rattle.fluent_lint.specs.Clean.{place_same};
 
     ghost eq = { λ a b. is_yes (place_same (place_view a) (place_view b)) };
 
@@ -36,7 +37,7 @@ impl<'s> PartialEq for Place<'s> {
 
 impl<'s> Eq for Place<'s> {
     ghost use Rattle.fluent_ast.specs.Same.{equivalent};
-    ghost use Rattle.fluent_lint.specs.Places.{place_same};
+    ghost use Rattle.fluent_lint.specs.Clean.{place_same};
 
     ghost laws = { equivalent place_view place_same };
 }
@@ -97,7 +98,8 @@ fn same_attribute(a: &Option<Identifier<'_>>, b: &Option<Identifier<'_>>) -> boo
     }
 }
 
-/// The pattern that stands there, or `None`. Takes no memory.
+/// The pattern that stands there: a message's value, if it has one, a term's value, or the first attribute of the name.
+/// `None` where there is none. Takes no memory.
 pub fn pattern_at<'b, 's, F, B: GetEntry<'s, F>>(
     bundle: &'b B,
     place: &Place<'s>,

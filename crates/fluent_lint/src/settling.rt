@@ -1,7 +1,7 @@
 //! Which variables each of some places asks for.
 
 ghost use Rattle.std.specs.Prelude.{◌≡◌, IfOk, IsTrue, OnOk};
-ghost use Rattle.fluent_lint.specs.PlaceView.{views, place_view};
+ghost use Rattle.fluent_lint.specs.Clean.{place_view, views};
 ghost use Rattle.fluent_lint.specs.Asked.{AreAskedIn, index_of};
 ghost use Rattle.fluent_lint.specs.Inside.Sharing.{AreListed, Covers, IsOfList, Joins, Settles, TellsLeading};
 ghost use Rattle.fluent_lint.specs.NeedsView.{need_view};
@@ -15,8 +15,9 @@ use fluent_bundle_entries::GetEntry;
 use indexmap::IndexSet;
 use std::alloc::{AllocError, Global};
 
-/// The variables that each of these places asks the arguments for, as [`crate::variables_of`] says them of one: each
-/// place is gone through once, and so is each that they lead to.
+/// The variables that each of these places asks the arguments for: [`Asked::of`] gives those of each place, all of them
+/// and no other, each once, as [`crate::variables_of`] does. Each place is gone through once, and so is each that they
+/// lead to.
 ///
 /// # Errors
 ///

@@ -5,8 +5,8 @@ ghost use Rattle.std.specs.Option.{option_map};
 ghost use Rattle.fluent_ast.specs.View.{entry_view};
 ghost use Rattle.fluent_lint.specs.Twice.{AreTwice, AreUnreadable, defined_from, defined_if, id_of};
 ghost use Rattle.fluent_lint.specs.Inside.Seen.{GoesOver, noted_first};
-ghost use Rattle.fluent_lint.specs.PlaceView.{views};
-ghost use Rattle.fluent_lint.specs.Lints.{places_in};
+ghost use Rattle.fluent_lint.specs.Clean.{views};
+ghost use Rattle.fluent_lint.specs.Findings.{places_in_resources};
 ghost use Rattle.fluent_bundle.specs.BundleView.{source_in};
 
 use crate::entries::places_of;
@@ -43,7 +43,7 @@ pub(crate) fn places_in<'s>(
     alloc: Global,
     resources: &[FluentResource<'s>],
 ) -> Result<Vec<Place<'s>>, AllocError>
-    ensures { IfOk result (λ places. views places.items ≡ places_in resources.now) }
+    ensures { IfOk result (λ places. views places.items ≡ places_in_resources resources.now) }
 {
     let mut places = Vec::new(alloc);
     for resource in resources {
@@ -53,7 +53,8 @@ pub(crate) fn places_in<'s>(
     Ok(places)
 }
 
-/// The byte ranges of what can't be read, in order.
+/// The byte ranges of what can't be read of a resource's source, one for each Junk, in order. Where all can be read,
+/// there is none.
 ///
 /// # Errors
 ///
@@ -72,7 +73,8 @@ pub fn unreadable(
 }
 
 /// The ids that are defined again, in order: of each entry whose id an earlier one has, in the same resource or in one
-/// before it, where it stands, and where the first entry with that id does.
+/// before it, where it stands, and where the first entry with that id does. Resources, and the entries of each, are
+/// numbered from 0; Junk is an entry without an id.
 ///
 /// # Errors
 ///

@@ -2,9 +2,7 @@
 use Rattle.std.specs.Prelude.{◌&&◌, ◌||◌, not, Bool, true, false, List, [], ◌∷◌, codes}
 use Rattle.fluent_ast.specs.Tree.{Text, is_yes, Pattern, nothing, more, Element, text, placeable, Expression, inline, select, Variants, no_variants, variant, Inline, string, number, function, message, term, variable, nested, Call, Arguments, arguments, Inlines, no_inlines, argument}
 use Rattle.fluent_semantics.specs.Number.{is_text}
-use Rattle.fluent_lint.specs.Needs.{names_set}
-use Rattle.fluent_lint.specs.Places.{Place, of_term, place_same}
-use Rattle.fluent_lint.specs.PlaceView.{place_view}
+use Rattle.fluent_lint.specs.Clean.{Place, of_term, place_same, place_view, names_set}
 use Rattle.fluent_cli.specs.declared.parts.Sought as code
 use Rattle.fluent_cli.specs.declared.parts.Sought.TheVariants as sought
 

@@ -6,9 +6,7 @@ use Rattle.fluent_ast.specs.Tree.{Text, Pattern}
 use Rattle.fluent_ast.specs.View.{pattern_view}
 use Rattle.fluent_ast.specs.declared.ast.Pattern as ast
 use Rattle.fluent_semantics.specs.Bundle.{Bundle, found}
-use Rattle.fluent_lint.specs.Clean.{names_of}
-use Rattle.fluent_lint.specs.Places.{Place, place_target}
-use Rattle.fluent_lint.specs.PlaceView.{place_view}
+use Rattle.fluent_lint.specs.Clean.{Place, place_view, names_of, place_target}
 use Rattle.fluent_lint.specs.declared.place.Place as code
 use Rattle.fluent_cli.specs.Inside.Parts.{a_variable, a_reference, no_number, has_pattern}
 use Rattle.fluent_cli.specs.declared.finding.Kind.{Kind}

@@ -6,11 +6,8 @@ use denote.Triple.Both.{Both}
 use Rattle.indexmap.specs.IndexSet.{IndexSet}
 use Rattle.fluent_ast.specs.Tree.{Text, Attribute}
 use Rattle.fluent_semantics.specs.Bundle.{Target, unknown, without_value, found}
-use Rattle.fluent_lint.specs.Places.{Place, of_message, Names, place_target}
-use Rattle.fluent_lint.specs.Needs.{Need, a_message, a_variable, needs}
-use Rattle.fluent_lint.specs.Clean.{IsAmong}
+use Rattle.fluent_lint.specs.Clean.{Place, of_message, place_view, views, Names, place_target, Need, a_message, a_variable, needs, IsAmong}
 use Rattle.fluent_lint.specs.Asked.{AsksForAt, AreAsked, AreDistinct, texts}
-use Rattle.fluent_lint.specs.PlaceView.{views, place_view}
 use Rattle.fluent_lint.specs.declared.place.Place as code
 
 abbrev Change : Type 0 → Type 0
@@ -34,7 +31,7 @@ pub record NotesOf (ns : List Need) (xs xs' : List Place) (vs vs' : List Text) :
   pub variables : (v : Text) → IsAmong (a_variable v) ns → IsAmong v vs'
   pub distinct : AreDistinct vs → AreDistinct vs'
 
--- what a pattern asks for, if one stands there
+-- what a pattern needs, if one stands there
 abbrev pub needs_there : Target → List Need
 needs_there unknown = []
 needs_there without_value = []

@@ -3,7 +3,7 @@ use Rattle.std.specs.Prelude.{◌≡◌, List, [], ◌++◌, map, Option, bytes_
 use Rattle.std.specs.Borrow.{Bor}
 use Rattle.std.specs.Map.{lookup}
 use Rattle.fluent_ast.specs.Tree.{Text}
-use Rattle.fluent_lint.specs.Twice.{Defined, again_after, again_view, first_of}
+use Rattle.fluent_lint.specs.Twice.{Defined, again_after, again_view, first_defined}
 use Rattle.fluent_lint.specs.declared.sources.Definition.{Definition}
 use Rattle.fluent_lint.specs.declared.sources.Seen.{Seen}
 
@@ -13,7 +13,7 @@ Firsts = List (Bor Text × Definition)
 
 -- it has the first of each id among these definitions
 abbrev pub AreFirsts : Firsts → List Defined → Type 0
-AreFirsts firsts ds = (q : Bor Text) → lookup (λ k. bytes_eq q.now k.now) firsts ≡ first_of q.now ds
+AreFirsts firsts ds = (q : Bor Text) → lookup (λ k. bytes_eq q.now k.now) firsts ≡ first_defined q.now ds
 
 -- where an id is defined first, by the table
 abbrev pub noted_first : Text → Seen → Option Definition

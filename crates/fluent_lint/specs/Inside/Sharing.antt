@@ -2,11 +2,8 @@
 use Rattle.std.specs.Prelude.{◌≡◌, ℕ, Bool, List, [], ◌∷◌, Some, IsTrue, cond}
 use Rattle.std.specs.Borrow.{Bor}
 use Rattle.fluent_ast.specs.Tree.{Text, is_yes}
-use Rattle.fluent_lint.specs.Places.{Place, Names, place_same}
-use Rattle.fluent_lint.specs.Needs.{Need}
-use Rattle.fluent_lint.specs.Clean.{IsAmong}
+use Rattle.fluent_lint.specs.Clean.{Place, place_same, place_view, views, Names, Need, IsAmong}
 use Rattle.fluent_lint.specs.Asked.{AsksForAt, AreAsked, AreDistinct, texts, index_of, list_at}
-use Rattle.fluent_lint.specs.PlaceView.{views, place_view}
 use Rattle.fluent_lint.specs.Inside.Reached.{IsReference, needs_at}
 use Rattle.fluent_lint.specs.declared.asked.Asked.{Asked}
 use Rattle.fluent_lint.specs.declared.place.Place as code
@@ -17,8 +14,8 @@ abbrev pub IsSetTo : Asked → Asked → code.Place → ℕ → Type 0
 IsSetTo old new x k = (q : code.Place) → index_of new (place_view q) ≡ cond (is_yes (place_same (place_view x) (place_view q))) (Some k) (index_of old (place_view q))
 
 -- a list is added, as that of a place, and the others stay
-abbrev pub Takes : Asked → Asked → code.Place → List (Bor Text) → ℕ → Type 0
-Takes old new x names k =
+abbrev pub AddsList : Asked → Asked → code.Place → List (Bor Text) → ℕ → Type 0
+AddsList old new x names k =
     ((j : ℕ) (l : List (Bor Text)) → list_at old.lists.items (Some j) ≡ Some l → list_at new.lists.items (Some j) ≡ Some l)
     × (list_at new.lists.items (Some k) ≡ Some names)
     × IsSetTo old new x k

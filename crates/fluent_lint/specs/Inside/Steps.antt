@@ -7,13 +7,8 @@ use Rattle.fluent_ast.specs.Tree.{Text, Attribute}
 use Rattle.fluent_ast.specs.View.{pattern_view}
 use Rattle.fluent_ast.specs.declared.ast.Pattern as tree
 use Rattle.fluent_semantics.specs.Bundle.{message_target, term_target}
-use Rattle.fluent_lint.specs.Places.{Place, Names, place_target}
-use Rattle.fluent_lint.specs.Needs.{Need, a_message, a_term, needs}
-use Rattle.fluent_lint.specs.Clean.{IsAmong, IsMet, LeadsOn}
-use Rattle.fluent_lint.specs.Placeables.{IsRight}
-use Rattle.fluent_lint.specs.PlaceView.{place_view}
-use Rattle.fluent_lint.specs.References.{place_of}
-use Rattle.fluent_lint.specs.Findings.{AsksAt, IsFine, IsUncleanBy, Says, SaysOf, is_large, named_by}
+use Rattle.fluent_lint.specs.Clean.{Place, place_view, Names, place_target, Need, a_message, a_term, needs, place_of, IsAmong, LeadsOn, IsMet, IsFine}
+use Rattle.fluent_lint.specs.Findings.{named_by, NeedsAt, IsRight, is_large, IsUncleanBy, Says, SaysOf}
 use Rattle.fluent_lint.specs.Inside.Table.{Known, known_of, count_of, AreRight, IsWell}
 use Rattle.fluent_lint.specs.declared.place.Place as code
 use Rattle.fluent_lint.specs.declared.finding.Finding.{Finding}
@@ -81,14 +76,14 @@ pub record Explained (named : Names Text) (known : Known) (x : Place) (all some 
 abbrev pub IsExplainedBy : Names Text → Known → code.Place → tree.Pattern → Vec Finding Global → Type 0
 IsExplainedBy named known x p fs = Explained named known (place_view x) (needs (pattern_view p)) (needs (pattern_view p)) fs.items
 
--- a finding is of a place, and of something that its pattern asks for
-abbrev pub IsOfAsked : Names Text → Known → Place → Finding → Type 0
-IsOfAsked named known x f = (place_view f.place ≡ x) × ((n : Need) × AsksAt named x n × Explains named known n f.kind)
+-- a finding is of a place, and of something that its pattern needs
+abbrev pub IsOfNeeds : Names Text → Known → Place → Finding → Type 0
+IsOfNeeds named known x f = (place_view f.place ≡ x) × ((n : Need) × NeedsAt named x n × Explains named known n f.kind)
 
 -- the same of what stands at a place
 pub record ExplainedAt (named : Names Text) (known : Known) (x : Place) (fs : List Finding) : Type 0 where
-  pub each : AllByRecursion (IsOfAsked named known x) fs
-  pub every : (n : Need) → AsksAt named x n → IsAnswered named known fs n
+  pub each : AllByRecursion (IsOfNeeds named known x) fs
+  pub every : (n : Need) → NeedsAt named x n → IsAnswered named known fs n
 
 abbrev pub IsLook : Names Text → Known → Place → Look → Type 0
 IsLook named known x look.Nothing = LeadsOn (place_target named x) → ⊥
@@ -102,13 +97,13 @@ abbrev pub IsToldAs : Names Text → ℕ → List Finding → Place → Option �
 IsToldAs named limit fs x (Some k) = IsAmong x (named_by fs) ⊎ IsFine named limit x
 IsToldAs named limit fs x None = IsUncleanBy fs x ⊎ (LeadsOn (place_target named x) → ⊥)
 
--- all that stands at a place asks for is met, or explained by a finding of it
+-- all that what stands at a place needs is met, or explained by a finding of it
 abbrev pub IsWholeBy : Names Text → Known → List Finding → Place → Type 0
-IsWholeBy named known fs x = (n : Need) → AsksAt named x n → IsMet named n ⊎ ((f : Finding) × IsAmong f fs × (place_view f.place ≡ x) × Explains named known n f.kind)
+IsWholeBy named known fs x = (n : Need) → NeedsAt named x n → IsMet named n ⊎ ((f : Finding) × IsAmong f fs × (place_view f.place ≡ x) × Explains named known n f.kind)
 
--- a finding is of something that its pattern asks for, or true of its place
+-- a finding is of something that its pattern needs, or true of its place
 abbrev pub IsTrueBy : Names Text → ℕ → Known → Finding → Type 0
-IsTrueBy named limit known f = ((n : Need) × AsksAt named (place_view f.place) n × Explains named known n f.kind) ⊎ SaysOf named limit (place_view f.place) f.kind
+IsTrueBy named limit known f = ((n : Need) × NeedsAt named (place_view f.place) n × Explains named known n f.kind) ⊎ SaysOf named limit (place_view f.place) f.kind
 
 -- these entries were looked at
 pub record Looked (named : Names Text) (limit : ℕ) (known es : Known) (fs : List Finding) : Type 0 where

@@ -3,12 +3,8 @@ use Rattle.std.specs.Prelude.{◌≡◌, ℕ, List, Option, Some, IfSome}
 use Rattle.std.specs.Map.{lookup}
 use Rattle.indexmap.specs.IndexMap.{IndexMap}
 use Rattle.fluent_ast.specs.Tree.{is_yes}
-use Rattle.fluent_lint.specs.Places.{Place, Names, place_same}
-use Rattle.fluent_lint.specs.Needs.{Need}
-use Rattle.fluent_lint.specs.Clean.{IsMet}
-use Rattle.fluent_lint.specs.Placeables.{CountsAs, IsRight}
-use Rattle.fluent_lint.specs.PlaceView.{place_view}
-use Rattle.fluent_lint.specs.References.{place_of}
+use Rattle.fluent_lint.specs.Clean.{Place, place_same, place_view, Names, Need, place_of, IsMet}
+use Rattle.fluent_lint.specs.Findings.{CountsAs, IsRight}
 use Rattle.fluent_lint.specs.declared.place.Place as code
 
 -- each place once; how many placeables its pattern opens, if it was found clean

@@ -1,6 +1,6 @@
 use Rattle.std.proofs.Common.{◌≡◌, drop}
 use Rattle.fluent_ast.specs.References.{nameds_view}
-use Rattle.fluent_lint.specs.Needs.{names_in}
+use Rattle.fluent_lint.specs.Clean.{names_in}
 use Rattle.fluent_cli.specs.Inside.Parts.{gives}
 use Rattle.fluent_cli.proofs.parts.gives.Given as goal
 

@@ -1,6 +1,5 @@
 use Rattle.fluent_ast.specs.Tree.{is_yes}
-use Rattle.fluent_lint.specs.Places.{place_same}
-use Rattle.fluent_lint.specs.PlaceView.{place_view}
+use Rattle.fluent_lint.specs.Clean.{place_same, place_view}
 use Rattle.fluent_lint.proofs.Gathering.{adds_inserted, place_test}
 use Rattle.fluent_lint.proofs.asking.add_place.Goals as goal
 

@@ -1,7 +1,7 @@
 use Rattle.std.proofs.Common.{◌≡◌, ◌≤◌, ◌<◌, get_or, length, sym, arith}
 use Rattle.std.proofs.lemmas.Option.{get_or_from_slice_get}
 use Rattle.fluent_lint.specs.Asked.{texts}
-use Rattle.fluent_lint.specs.PlaceView.{place_view}
+use Rattle.fluent_lint.specs.Clean.{place_view}
 use Rattle.fluent_lint.proofs.Gathering.{gathered_all, gathered_on}
 use Rattle.fluent_lint.proofs.asking.gather.Goals as goal
 

@@ -1,6 +1,6 @@
 use Rattle.std.proofs.Common.{◌-◌, ◌^◌}
 use Rattle.fluent_lint.specs.Asked.{texts}
-use Rattle.fluent_lint.specs.PlaceView.{views, place_view}
+use Rattle.fluent_lint.specs.Clean.{place_view, views}
 use Rattle.fluent_lint.specs.Inside.Reached.{Gathered}
 use Rattle.fluent_lint.proofs.asking.gather.Given as goal
 

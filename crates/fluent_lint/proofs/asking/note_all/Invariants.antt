@@ -1,6 +1,6 @@
 use Rattle.std.proofs.Common.{map, take}
 use Rattle.fluent_lint.specs.Asked.{texts}
-use Rattle.fluent_lint.specs.PlaceView.{views}
+use Rattle.fluent_lint.specs.Clean.{views}
 use Rattle.fluent_lint.specs.NeedsView.{need_view}
 use Rattle.fluent_lint.specs.Inside.Reached.{NotesOf}
 use Rattle.fluent_lint.proofs.asking.note_all.Given as goal

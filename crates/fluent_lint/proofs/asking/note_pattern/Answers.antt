@@ -1,8 +1,7 @@
 use Rattle.std.proofs.Common.{ap, map, sym, subst, ◌∙◌}
 use Rattle.fluent_semantics.specs.Bundle.{Target}
-use Rattle.fluent_lint.specs.Places.{place_target}
+use Rattle.fluent_lint.specs.Clean.{place_view, views, place_target}
 use Rattle.fluent_lint.specs.Asked.{texts}
-use Rattle.fluent_lint.specs.PlaceView.{views, place_view}
 use Rattle.fluent_lint.specs.NeedsView.{need_view}
 use Rattle.fluent_lint.specs.Inside.Reached.{NotesOf}
 use Rattle.fluent_lint.proofs.Gathering.{notes_none, none_there, all_noted}

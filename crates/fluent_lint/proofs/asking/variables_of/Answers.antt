@@ -1,6 +1,6 @@
 use Rattle.std.proofs.Common.{◌≡◌, rules, sym, subst}
 use Rattle.fluent_lint.specs.Asked.{AreAsked, texts}
-use Rattle.fluent_lint.specs.PlaceView.{place_view}
+use Rattle.fluent_lint.specs.Clean.{place_view}
 use Rattle.fluent_lint.proofs.asking.variables_of.Goals as goal
 
 pub returns-clause-asked : goal.returns-clause-asked

@@ -1,5 +1,5 @@
 use Rattle.std.proofs.Common.{refl, ap, ◌∙◌}
-use Rattle.fluent_lint.specs.PlaceView.{place_view}
+use Rattle.fluent_lint.specs.Clean.{place_view}
 use Rattle.fluent_lint.proofs.Explained.{explains_of, well_of, explained_pushed, explained_well}
 use Rattle.fluent_lint.proofs.checking.findings_of.Goals as goal
 use Rattle.fluent_lint.proofs.checking.findings_of.Goals.{in-Some+in_ok-push-in-Some, in-None}

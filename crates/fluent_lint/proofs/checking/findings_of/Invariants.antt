@@ -1,6 +1,6 @@
 use Rattle.std.proofs.Common.{map, take}
 use Rattle.fluent_lint.specs.NeedsView.{need_view}
-use Rattle.fluent_lint.specs.PlaceView.{place_view}
+use Rattle.fluent_lint.specs.Clean.{place_view}
 use Rattle.fluent_lint.specs.Inside.Steps.{Explained}
 use Rattle.fluent_lint.proofs.checking.findings_of.Given as goal
 

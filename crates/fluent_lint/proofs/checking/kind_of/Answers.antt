@@ -1,6 +1,6 @@
 use Rattle.std.proofs.Common.{sym, subst}
 use Rattle.fluent_ast.specs.View.{attribute_of, call_view}
-use Rattle.fluent_lint.specs.Needs.{names_set}
+use Rattle.fluent_lint.specs.Clean.{names_set}
 use Rattle.fluent_lint.specs.NeedsView.{need_view}
 use Rattle.fluent_lint.specs.Inside.Steps.{Answers}
 use Rattle.fluent_lint.proofs.Explained.{answers_message, answers_term}

@@ -1,6 +1,6 @@
 use Rattle.std.proofs.Common.{◌≡◌, ◌==◌, [], true, sym, ◌∙◌, rules, arith}
 use Rattle.fluent_ast.specs.View.{pattern_view}
-use Rattle.fluent_lint.specs.PlaceView.{place_view}
+use Rattle.fluent_lint.specs.Clean.{place_view}
 use Rattle.fluent_lint.proofs.Growing.{no_items}
 use Rattle.fluent_lint.proofs.Explained.{some_there, explained_at, all_well}
 use Rattle.fluent_lint.proofs.Settled.{right}

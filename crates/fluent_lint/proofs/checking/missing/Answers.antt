@@ -1,6 +1,6 @@
 use Rattle.std.proofs.Common.{sym, subst}
 use Rattle.fluent_lint.specs.Inside.Steps.{Misses}
-use Rattle.fluent_lint.specs.PlaceView.{place_view}
+use Rattle.fluent_lint.specs.Clean.{place_view}
 use Rattle.fluent_lint.proofs.Missing.{misses_message, misses_term}
 use Rattle.fluent_lint.proofs.checking.missing.Goals as goal
 

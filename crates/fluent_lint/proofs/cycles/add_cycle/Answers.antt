@@ -1,6 +1,6 @@
 use Rattle.std.proofs.Common.{ap, subst, ◌∙◌}
 use Rattle.std.specs.List.{slice_get}
-use Rattle.fluent_lint.specs.PlaceView.{views}
+use Rattle.fluent_lint.specs.Clean.{views}
 use Rattle.fluent_lint.specs.Findings.{GoRound}
 use Rattle.fluent_lint.proofs.Round.{begins}
 use Rattle.fluent_lint.proofs.Looked.{true_one}

@@ -1,5 +1,5 @@
 use Rattle.std.proofs.Common.{IsTrue, rules, arith}
-use Rattle.fluent_lint.specs.PlaceView.{place_view}
+use Rattle.fluent_lint.specs.Clean.{place_view}
 use Rattle.fluent_lint.proofs.Among.{got_self}
 use Rattle.fluent_lint.proofs.Round.{led_all, led_more, round}
 use Rattle.fluent_lint.proofs.cycles.is_cycle.Goals as goal

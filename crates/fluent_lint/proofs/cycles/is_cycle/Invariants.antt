@@ -1,5 +1,5 @@
 use Rattle.std.proofs.Common.{take}
-use Rattle.fluent_lint.specs.PlaceView.{views, place_view}
+use Rattle.fluent_lint.specs.Clean.{place_view, views}
 use Rattle.fluent_lint.proofs.Round.{Led}
 use Rattle.fluent_lint.proofs.cycles.is_cycle.Given as goal
 

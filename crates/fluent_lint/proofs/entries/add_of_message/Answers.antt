@@ -1,5 +1,5 @@
 use Rattle.std.proofs.Common.{refl}
-use Rattle.fluent_lint.specs.Places.{of_message}
+use Rattle.fluent_lint.specs.Clean.{of_message}
 use Rattle.fluent_lint.proofs.PlaceLists.{attribute_more, attributes_end}
 use Rattle.fluent_lint.proofs.entries.add_of_message.Goals as goal
 

@@ -1,8 +1,6 @@
 use Rattle.std.proofs.Common.{◌≡◌, ◌++◌, drop, map}
 use Rattle.fluent_ast.specs.View.{attribute_view}
-use Rattle.fluent_lint.specs.Places.{of_message}
-use Rattle.fluent_lint.specs.PlaceView.{views}
-use Rattle.fluent_lint.specs.EntryPlaces.{attribute_places}
+use Rattle.fluent_lint.specs.Clean.{of_message, views, attribute_places}
 use Rattle.fluent_lint.proofs.entries.add_of_message.Given as goal
 
 abbrev pub invariant-loop-attribute : goal.invariant-loop-attribute

@@ -1,5 +1,5 @@
 use Rattle.std.proofs.Common.{refl}
-use Rattle.fluent_lint.specs.Places.{of_term}
+use Rattle.fluent_lint.specs.Clean.{of_term}
 use Rattle.fluent_lint.proofs.PlaceLists.{attribute_more, attributes_end}
 use Rattle.fluent_lint.proofs.entries.add_of_term.Goals as goal
 

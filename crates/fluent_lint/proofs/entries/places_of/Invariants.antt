@@ -1,7 +1,6 @@
 use Rattle.std.proofs.Common.{◌≡◌, ◌++◌, drop, map}
 use Rattle.fluent_ast.specs.View.{entry_view}
-use Rattle.fluent_lint.specs.PlaceView.{views}
-use Rattle.fluent_lint.specs.EntryPlaces.{places_in}
+use Rattle.fluent_lint.specs.Clean.{views, places_in}
 use Rattle.fluent_lint.proofs.entries.places_of.Given as goal
 
 abbrev pub invariant-loop-entry : goal.invariant-loop-entry

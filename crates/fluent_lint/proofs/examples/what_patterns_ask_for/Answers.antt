@@ -1,5 +1,5 @@
 use Rattle.std.proofs.Common.{refl}
-use Rattle.fluent_lint.specs.Placeables.{placeables_deep}
+use Rattle.fluent_lint.specs.Clean.{placeables_deep}
 use Rattle.fluent_lint.proofs.RowProofs.{cleanness, asked}
 use Rattle.fluent_lint.proofs.examples.what_patterns_ask_for.Goals as goal
 

@@ -2,11 +2,8 @@ use mathlib.Core.Bool.{true≢false}
 use Rattle.std.proofs.Common.{◌≡◌, map, inl, inr, refl, sym, ap, subst, ◌∙◌, arith}
 use Rattle.std.proofs.lemmas.List.{take_all}
 use Rattle.fluent_ast.specs.View.{pattern_view}
-use Rattle.fluent_lint.specs.Clean.{IsAmong}
-use Rattle.fluent_lint.specs.Needs.{needs}
-use Rattle.fluent_lint.specs.NeedsView.{need_view}
-use Rattle.fluent_lint.specs.PlaceView.{place_view}
-use Rattle.fluent_lint.specs.References.{IsOfPlace, RefersIn}
+use Rattle.fluent_lint.specs.Clean.{place_view, needs, IsAmong}
+use Rattle.fluent_lint.specs.NeedsView.{need_view, IsOfPlace, RefersIn}
 use Rattle.fluent_lint.proofs.Growing.{among_at, so_far}
 use Rattle.fluent_lint.proofs.listing.refers_to.Goals as goal
 

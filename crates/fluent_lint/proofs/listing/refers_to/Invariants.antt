@@ -1,7 +1,6 @@
 use Rattle.std.proofs.Common.{map, take}
-use Rattle.fluent_lint.specs.NeedsView.{need_view}
-use Rattle.fluent_lint.specs.PlaceView.{place_view}
-use Rattle.fluent_lint.specs.References.{RefersIn}
+use Rattle.fluent_lint.specs.NeedsView.{need_view, RefersIn}
+use Rattle.fluent_lint.specs.Clean.{place_view}
 use Rattle.fluent_lint.proofs.listing.refers_to.Given as goal
 
 abbrev pub invariant-loop-need : goal.invariant-loop-need

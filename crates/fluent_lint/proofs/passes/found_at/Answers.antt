@@ -1,6 +1,6 @@
 use Rattle.std.proofs.Common.{◌≡◌, Some, None, ap, rules, arith}
-use Rattle.fluent_lint.specs.PlaceView.{place_view}
-use Rattle.fluent_lint.specs.Placeables.{IsRight}
+use Rattle.fluent_lint.specs.Clean.{place_view}
+use Rattle.fluent_lint.specs.Findings.{IsRight}
 use Rattle.fluent_lint.specs.Inside.Table.{known_of}
 use Rattle.fluent_lint.specs.Inside.Steps.{Looked, untaken}
 use Rattle.fluent_lint.proofs.Tables.{less_unknown, right_updated, listing_same}

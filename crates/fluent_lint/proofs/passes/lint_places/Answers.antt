@@ -1,4 +1,4 @@
-use Rattle.fluent_lint.specs.PlaceView.{views}
+use Rattle.fluent_lint.specs.Clean.{views}
 use Rattle.fluent_lint.proofs.Looked.{finds}
 use Rattle.fluent_lint.proofs.passes.lint_places.Goals as goal
 

@@ -1,5 +1,5 @@
 use Rattle.std.proofs.Common.{take}
-use Rattle.fluent_lint.specs.PlaceView.{views}
+use Rattle.fluent_lint.specs.Clean.{views}
 use Rattle.fluent_lint.specs.Inside.Steps.{AreUnknown, IsListing}
 use Rattle.fluent_lint.proofs.passes.listed.Given as goal
 

@@ -1,6 +1,6 @@
 use Rattle.std.proofs.Common.{Some, None, ap, subst, ◌∙◌, arith}
-use Rattle.fluent_lint.specs.PlaceView.{place_view}
-use Rattle.fluent_lint.specs.Placeables.{IsRight}
+use Rattle.fluent_lint.specs.Clean.{place_view}
+use Rattle.fluent_lint.specs.Findings.{IsRight}
 use Rattle.fluent_lint.specs.Inside.Steps.{IsLook}
 use Rattle.fluent_lint.proofs.Looked.{entry_at, looked_fine, looked_large, looked_nothing, looked_unclean}
 use Rattle.fluent_lint.proofs.Settled.{fine}

@@ -1,4 +1,4 @@
-use Rattle.fluent_lint.specs.PlaceView.{views}
+use Rattle.fluent_lint.specs.Clean.{views}
 use Rattle.fluent_lint.specs.Inside.Table.{AreRight}
 use Rattle.fluent_lint.specs.Inside.Steps.{IsListing}
 use Rattle.fluent_lint.proofs.passes.prepared.Given as goal

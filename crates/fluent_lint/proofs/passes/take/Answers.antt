@@ -1,5 +1,5 @@
 use Rattle.std.proofs.Common.{Some, ap, subst, ◌∙◌}
-use Rattle.fluent_lint.specs.PlaceView.{place_view}
+use Rattle.fluent_lint.specs.Clean.{place_view}
 use Rattle.fluent_lint.specs.Inside.Steps.{IsLook, keys_in}
 use Rattle.fluent_lint.proofs.Tables.{keys_same, right_updated}
 use Rattle.fluent_lint.proofs.passes.take.Goals as goal

@@ -1,8 +1,6 @@
 use Rattle.std.proofs.Common.{sym, ap, ◌∙◌}
 use Rattle.fluent_ast.specs.Tree.{is_yes}
-use Rattle.fluent_lint.specs.Clean.{IsAmong}
-use Rattle.fluent_lint.specs.Places.{place_same}
-use Rattle.fluent_lint.specs.PlaceView.{views, place_view}
+use Rattle.fluent_lint.specs.Clean.{place_same, place_view, views, IsAmong}
 use Rattle.fluent_lint.proofs.Gathering.{found_among, place_test}
 use Rattle.fluent_lint.proofs.Shared.{joined}
 use Rattle.fluent_lint.proofs.settling.join.Goals as goal

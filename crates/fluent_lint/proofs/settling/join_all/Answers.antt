@@ -1,5 +1,5 @@
 use Rattle.std.proofs.Common.{refl}
-use Rattle.fluent_lint.specs.PlaceView.{views}
+use Rattle.fluent_lint.specs.Clean.{views}
 use Rattle.fluent_lint.proofs.Shared.{covers_kept, joined_not, joined_on}
 use Rattle.fluent_lint.proofs.settling.join_all.Goals as goal
 

@@ -1,8 +1,7 @@
 use Rattle.std.proofs.Common.{◌≡◌, map, sym, ap, ◌∙◌}
-use Rattle.fluent_lint.specs.Places.{place_target}
+use Rattle.fluent_lint.specs.Clean.{place_view, place_target}
 use Rattle.fluent_lint.specs.Inside.Reached.{needs_at, needs_there}
 use Rattle.fluent_lint.specs.NeedsView.{need_view}
-use Rattle.fluent_lint.specs.PlaceView.{place_view}
 use Rattle.fluent_lint.proofs.Growing.{among_at}
 use Rattle.fluent_lint.proofs.Explained.{some_there}
 use Rattle.fluent_lint.proofs.Shared.{leads_by}

@@ -2,7 +2,7 @@ use Rattle.std.proofs.Common.{rules, refl, subst}
 use Rattle.std.specs.List.{AllByRecursion}
 use Rattle.std.proofs.lemmas.List.{take_all}
 use Rattle.fluent_lint.specs.Inside.Sharing.{IsKnown}
-use Rattle.fluent_lint.specs.PlaceView.{place_view}
+use Rattle.fluent_lint.specs.Clean.{place_view}
 use Rattle.fluent_lint.proofs.Shared.{all_asked, all_known, known_more, listed_none}
 use Rattle.fluent_lint.proofs.settling.variables_at.Goals as goal
 

@@ -1,7 +1,7 @@
 use Rattle.std.proofs.Common.{take}
 use Rattle.std.specs.List.{AllByRecursion}
 use Rattle.fluent_lint.specs.Inside.Sharing.{AreListed, IsKnown}
-use Rattle.fluent_lint.specs.PlaceView.{place_view}
+use Rattle.fluent_lint.specs.Clean.{place_view}
 use Rattle.fluent_lint.proofs.settling.variables_at.Given as goal
 
 abbrev pub invariant-loop-place : goal.invariant-loop-place

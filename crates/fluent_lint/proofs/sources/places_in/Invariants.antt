@@ -1,7 +1,7 @@
 use Rattle.std.proofs.Common.{◌≡◌, take}
-use Rattle.fluent_lint.specs.PlaceView.{views}
-use Rattle.fluent_lint.specs.Lints.{places_in}
+use Rattle.fluent_lint.specs.Clean.{views}
+use Rattle.fluent_lint.specs.Findings.{places_in_resources}
 use Rattle.fluent_lint.proofs.sources.places_in.Given as goal
 
 abbrev pub invariant-loop-resource : goal.invariant-loop-resource
-invariant-loop-resource l = views l.places.items ≡ places_in (take l.resource-index l.resources)
+invariant-loop-resource l = views l.places.items ≡ places_in_resources (take l.resource-index l.resources)
