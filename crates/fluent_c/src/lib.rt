@@ -1,10 +1,11 @@
 //! What C calls: `c/fluent.h` says how.
 #![tactic(auto)]
 
-ghost use Rattle.fluent_c_handles.specs.Calls.{Adds, Finds, Formats, Has, ListsIds, Opens, OpensByRules, Overrides, Reports, SetsLimit, WhenOpen};
-ghost use Rattle.fluent_c_handles.specs.First.{FormatsFirst};
-ghost use Rattle.fluent_c_handles.specs.Kept.{Does, GivesText, GivesTexts, IsClosed, MeanTheSame};
-ghost use Rattle.fluent_c_handles.specs.Sources.{FormatsSource};
+ghost use Rattle.fluent_c_handles.specs.Calls.Adding.{AddsOverriding, AddsSource, TellsReport};
+ghost use Rattle.fluent_c_handles.specs.Calls.Finding.{HasMessage, HasPattern, ListsIds};
+ghost use Rattle.fluent_c_handles.specs.Calls.Formatting.{Formats, FormatsFirst, FormatsSource};
+ghost use Rattle.fluent_c_handles.specs.Calls.Opening.{OpensByRules, OpensByTag, SetsLimit};
+ghost use Rattle.fluent_c_handles.specs.Answers.{SlotDoes, SlotGivesText, SlotGivesTexts, SlotIsClosed, SlotsStay, WhenOpen};
 
 use fluent_c_handles::{Lengths, Slot};
 use std::alloc::Global;
@@ -31,7 +32,7 @@ pub extern "C" fn fluent_format_source(
 /// Opens a bundle.
 #[unsafe(no_mangle)]
 pub extern "C" fn fluent_open(alloc: Global, slot: &mut Slot, tag: &[u8], isolate: bool) -> u8
-    ensures { Does (Opens tag.now isolate) slot result }
+    ensures { SlotDoes (OpensByTag tag.now isolate) slot result }
 {
     slot.open(alloc, tag, isolate)
 }
@@ -45,7 +46,7 @@ pub extern "C" fn fluent_open_rules(
     ordinal: &[u8],
     isolate: bool,
 ) -> u8
-    ensures { Does (OpensByRules cardinal.now ordinal.now isolate) slot result }
+    ensures { SlotDoes (OpensByRules cardinal.now ordinal.now isolate) slot result }
 {
     slot.open_rules(alloc, cardinal, ordinal, isolate)
 }
@@ -53,7 +54,7 @@ pub extern "C" fn fluent_open_rules(
 /// Sets how many placeables one call opens.
 #[unsafe(no_mangle)]
 pub extern "C" fn fluent_set_limit(alloc: Global, slot: &mut Slot, limit: usize) -> u8
-    ensures { Does (WhenOpen (SetsLimit limit)) slot result }
+    ensures { SlotDoes (WhenOpen (SetsLimit limit)) slot result }
 {
     slot.set_limit(alloc, limit)
 }
@@ -61,7 +62,7 @@ pub extern "C" fn fluent_set_limit(alloc: Global, slot: &mut Slot, limit: usize)
 /// Adds a source.
 #[unsafe(no_mangle)]
 pub extern "C" fn fluent_add(alloc: Global, slot: &mut Slot, source: &[u8]) -> u8
-    ensures { Does (WhenOpen (Adds source.now)) slot result }
+    ensures { SlotDoes (WhenOpen (AddsSource source.now)) slot result }
 {
     slot.add(alloc, source)
 }
@@ -69,7 +70,7 @@ pub extern "C" fn fluent_add(alloc: Global, slot: &mut Slot, source: &[u8]) -> u
 /// Adds a source whose entries take the place of what has their ids.
 #[unsafe(no_mangle)]
 pub extern "C" fn fluent_add_overriding(alloc: Global, slot: &mut Slot, source: &[u8]) -> u8
-    ensures { Does (WhenOpen (Overrides source.now)) slot result }
+    ensures { SlotDoes (WhenOpen (AddsOverriding source.now)) slot result }
 {
     slot.add_overriding(alloc, source)
 }
@@ -82,7 +83,7 @@ pub extern "C" fn fluent_report(
     out: &mut [u8],
     length: &mut usize,
 ) -> u8
-    ensures { GivesText (WhenOpen Reports) slot out length result }
+    ensures { SlotGivesText (WhenOpen TellsReport) slot out length result }
 {
     slot.report(alloc, out, length)
 }
@@ -95,7 +96,7 @@ pub extern "C" fn fluent_ids(
     out: &mut [u8],
     length: &mut usize,
 ) -> u8
-    ensures { GivesText (WhenOpen ListsIds) slot out length result }
+    ensures { SlotGivesText (WhenOpen ListsIds) slot out length result }
 {
     slot.ids(alloc, out, length)
 }
@@ -103,7 +104,7 @@ pub extern "C" fn fluent_ids(
 /// Whether there is a message.
 #[unsafe(no_mangle)]
 pub extern "C" fn fluent_has(alloc: Global, slot: &mut Slot, id: &[u8]) -> u8
-    ensures { Does (WhenOpen (Has id.now)) slot result }
+    ensures { SlotDoes (WhenOpen (HasMessage id.now)) slot result }
 {
     slot.has(alloc, id)
 }
@@ -111,7 +112,7 @@ pub extern "C" fn fluent_has(alloc: Global, slot: &mut Slot, id: &[u8]) -> u8
 /// Whether there is a message with a value, or with an attribute.
 #[unsafe(no_mangle)]
 pub extern "C" fn fluent_find(alloc: Global, slot: &mut Slot, id: &[u8], name: &[u8]) -> u8
-    ensures { Does (WhenOpen (Finds id.now name.now)) slot result }
+    ensures { SlotDoes (WhenOpen (HasPattern id.now name.now)) slot result }
 {
     slot.find(alloc, id, name)
 }
@@ -128,7 +129,7 @@ pub extern "C" fn fluent_format(
     err: &mut [u8],
     sizes: &mut Lengths,
 ) -> u8
-    ensures { GivesTexts (WhenOpen (Formats id.now name.now args.now)) slot out err sizes result }
+    ensures { SlotGivesTexts (WhenOpen (Formats id.now name.now args.now)) slot out err sizes result }
 {
     slot.format(alloc, id, name, args, out, err, sizes)
 }
@@ -145,7 +146,7 @@ pub extern "C" fn fluent_format_chain(
     err: &mut [u8],
     sizes: &mut Lengths,
 ) -> u8
-    ensures left { MeanTheSame slots.old slots.new }
+    ensures left { SlotsStay slots.old slots.new }
     ensures text { FormatsFirst id.now name.now args.now slots out err sizes result }
 {
     fluent_c_handles::format_first(alloc, slots, id, name, args, out, err, sizes)
@@ -154,7 +155,7 @@ pub extern "C" fn fluent_format_chain(
 /// Closes a bundle.
 #[unsafe(no_mangle)]
 pub extern "C" fn fluent_close(alloc: Global, slot: &mut Slot)
-    ensures { IsClosed slot.new }
+    ensures { SlotIsClosed slot.new }
 {
     slot.close(alloc)
 }

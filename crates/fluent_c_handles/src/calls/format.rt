@@ -1,6 +1,6 @@
 //! Formats messages.
-ghost use Rattle.fluent_c_handles.specs.Calls.{Formats, WhenOpen};
-ghost use Rattle.fluent_c_handles.specs.Kept.{GivesTexts};
+ghost use Rattle.fluent_c_handles.specs.Calls.Formatting.{Formats};
+ghost use Rattle.fluent_c_handles.specs.Answers.{SlotGivesTexts, WhenOpen};
 
 use crate::answer::Answer;
 use crate::slot::Slot;
@@ -30,7 +30,7 @@ impl Slot {
         err: &mut [u8],
         sizes: &mut Lengths,
     ) -> u8
-        ensures { GivesTexts (WhenOpen (Formats id.now name.now args.now)) self out err sizes result }
+        ensures { SlotGivesTexts (WhenOpen (Formats id.now name.now args.now)) self out err sizes result }
     {
         let answer = self.ask(alloc, &Format { id, name, args });
         answer.give(out, err, sizes)
