@@ -26,23 +26,26 @@ struct Override<'w> {
 struct Report {}
 
 impl Slot {
-    /// Adds a source. What can't be read in it, and messages whose id is there, are passed over. That it is no UTF-8 is told
-    /// before any memory is taken.
+    /// Adds a source (0): of its entries those whose id is free. Its report, of what can't be read and of entries whose id was
+    /// there, takes the place of the one before. Else all stays: 2, an allocation failed; 3, the source is not UTF-8, which is
+    /// told before any memory is taken; 11, no bundle is open.
     pub fn add(&mut self, alloc: Global, source: &[u8]) -> u8
         ensures { SlotDoes (WhenOpen (AddsSource source.now)) self result }
     {
         self.ask(alloc, &Add { source }).status()
     }
 
-    /// Adds a source whose entries take the place of what has their ids.
+    /// Adds a source (0) whose entries take the place of what has their ids. Its report, of what can't be read, takes the place
+    /// of the one before. Else all stays: 2, an allocation failed; 3, the source is not UTF-8; 11, no bundle is open.
     pub fn add_overriding(&mut self, alloc: Global, source: &[u8]) -> u8
         ensures { SlotDoes (WhenOpen (AddsOverriding source.now)) self result }
     {
         self.ask(alloc, &Override { source }).status()
     }
 
-    /// Gives what was passed over in the source that was added last: a line for each part that can't be read, and for each
-    /// entry whose id was there.
+    /// Gives the report on the source that was added last: a line for each part that can't be read, and for each entry that was
+    /// passed over since its id was there. The bundle stays. 0: `out` begins with the text. 1: it has no room, and stays. Else
+    /// nothing is given: 2, an allocation failed; 11, no bundle is open.
     pub fn report(&mut self, alloc: Global, out: &mut [u8], length: &mut usize) -> u8
         ensures { SlotGivesText (WhenOpen TellsReport) self out length result }
     {

@@ -31,21 +31,24 @@ struct Part<'w> {
 }
 
 impl Slot {
-    /// Gives the ids of all messages, a line each.
+    /// Gives the ids of all messages, a line each, in the order of their bytes. The bundle stays. 0: `out` begins with the text.
+    /// 1: it has no room, and stays. Else nothing is given: 2, an allocation failed; 11, no bundle is open.
     pub fn ids(&mut self, alloc: Global, out: &mut [u8], length: &mut usize) -> u8
         ensures { SlotGivesText (WhenOpen ListsIds) self out length result }
     {
         self.ask(alloc, &Ids {}).give_one(out, length)
     }
 
-    /// Whether there is a message.
+    /// Whether there is a message: 0 where there is, 8 where there is none; 7, the id is not UTF-8; 11, no bundle is open. The
+    /// bundle stays.
     pub fn has(&mut self, alloc: Global, id: &[u8]) -> u8
         ensures { SlotDoes (WhenOpen (HasMessage id.now)) self result }
     {
         self.ask(alloc, &Message { id }).status()
     }
 
-    /// Whether there is a message with a value, or with an attribute of a name that is not empty.
+    /// Whether there is a message with a value, or with an attribute of a name that is not empty: 0 where there is, 8 where
+    /// there is none; 7, the id or the name is not UTF-8; 11, no bundle is open. The bundle stays.
     pub fn find(&mut self, alloc: Global, id: &[u8], name: &[u8]) -> u8
         ensures { SlotDoes (WhenOpen (HasPattern id.now name.now)) self result }
     {

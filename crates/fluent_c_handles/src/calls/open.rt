@@ -35,14 +35,16 @@ struct Limit {
 }
 
 impl Slot {
-    /// Opens a bundle, by the tag of its language.
+    /// Opens a bundle (0), by the tag of its language, with an empty report. One that is open stays (12). Else none is open: 2, an
+    /// allocation failed; 4, the tag is not UTF-8; 5 or 6, there are no rules for it, or they can't be read.
     pub fn open(&mut self, alloc: Global, tag: &[u8], isolate: bool) -> u8
         ensures { SlotDoes (OpensByTag tag.now isolate) self result }
     {
         self.turn(alloc, &ByTag { tag, isolate }).status()
     }
 
-    /// Opens a bundle, by the texts of its plural rules.
+    /// Opens a bundle (0), by the texts of its plural rules, with an empty report. One that is open stays (12). Else none is
+    /// open: 2, an allocation failed; 4, a text is not UTF-8; 6, the rules can't be read.
     pub fn open_rules(
         &mut self,
         alloc: Global,
@@ -60,7 +62,8 @@ impl Slot {
         self.turn(alloc, &rules).status()
     }
 
-    /// Sets how many placeables one call opens, from 1 to 10,000.
+    /// Sets how many placeables one call opens (0), from 1 to 10,000. Else all stays: 13, it is none of these; 11, no bundle is
+    /// open.
     pub fn set_limit(&mut self, alloc: Global, limit: usize) -> u8
         ensures { SlotDoes (WhenOpen (SetsLimit limit)) self result }
     {
