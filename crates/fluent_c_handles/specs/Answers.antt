@@ -74,8 +74,8 @@ abbrev pub no_custom : Custom Text
 no_custom = record { text = λ t. []; same = λ s t. true }
 
 -- a bundle with the built-in function alone
-abbrev pub start : Plurals → Bool → Bundle Text
-start plurals on =
+abbrev pub new_bundle : Plurals → Bool → Bundle Text
+new_bundle plurals on =
     after_all (set_use_isolating on ∷ add_builtins ∷ []) (empty_bundle plurals no_custom)
 
 -- The same with the rules that the Unicode CLDR has for the tag of a language.
@@ -83,7 +83,7 @@ pub record OpenedByTag (tag : Text) (on : Bool) (bundle : Bundle Text) : Type 0 
   pub text : IsUtf8 tag
   pub rules : Rules
   pub has : HasPlurals (rules_of cldr_plurals tag) (Ok rules)
-  pub is : bundle ≡ start (category_of rules) on
+  pub is : bundle ≡ new_bundle (category_of rules) on
 
 -- the Unicode CLDR has rules for the tag
 abbrev pub IsLanguage : Text → Type 0

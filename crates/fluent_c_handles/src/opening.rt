@@ -1,7 +1,7 @@
 //! A bundle by the tag of a language, or by the texts of its rules.
 ghost use Rattle.std.specs.Prelude.{◌≡◌, IfOk, IfErr};
 ghost use Rattle.fluent_plural_rules.specs.RuleTexts.{category_of};
-ghost use Rattle.fluent_c_handles.specs.Answers.{NotOpenedByTag, OpenedByTag, bundle_view, start};
+ghost use Rattle.fluent_c_handles.specs.Answers.{NotOpenedByTag, OpenedByTag, bundle_view, new_bundle};
 ghost use Rattle.fluent_c_handles.specs.Calls.Opening.{NotOpenedByRules, OpenedByRules};
 
 use fluent_bundle::{FluentBundle, NoCustom, NoFormatter, NoFunction, NoTransform};
@@ -89,7 +89,7 @@ fn with_plurals<'r, 's>(
     plurals: RuleTexts,
     isolate: bool,
 ) -> Result<Plain<'r, 's>, AllocError>
-    ensures { IfOk result (λ bundle. bundle_view bundle ≡ start (category_of plurals) isolate) }
+    ensures { IfOk result (λ bundle. bundle_view bundle ≡ new_bundle (category_of plurals) isolate) }
 {
     let mut bundle = FluentBundle::new(alloc, Vec::new(alloc), plurals);
     bundle.set_use_isolating(isolate);

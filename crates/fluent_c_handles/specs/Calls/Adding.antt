@@ -25,7 +25,7 @@ told_line source at text = decimal (line_at source at) ++ (codes ": " ++ (text +
 
 -- ---- what can't be read
 
--- a line for each of these byte ranges
+-- a line for each of these byte ranges, such as `3: unreadable entry at bytes 7..13`
 abbrev pub unreadable_lines : Text → List (ℕ × ℕ) → Text
 unreadable_lines source ranges = flat_map (λ r. told_line source r.0 (unreadable_text r.0 r.1)) ranges
 
@@ -45,7 +45,7 @@ passed_over [] es ids = []
 passed_over (at ∷ ats) [] ids = []
 passed_over (at ∷ ats) (e ∷ es) ids = placed at (not_added (e ∷ []) ids) ++ passed_over ats es (added (e ∷ []) ids)
 
--- a line for each of them
+-- a line for each of them, such as `4: Attempt to override an existing term: "a".`
 abbrev pub passed_over_lines : Text → List PassedOver → Text
 passed_over_lines source all = flat_map (λ l. told_line source l.0 (error_text l.1)) all
 
@@ -61,17 +61,17 @@ told_by source ids =
 abbrev pub told_of : {C : Type 0} → Text → Bundle C → Text
 told_of source bundle = told_by source bundle.ids
 
--- Of a source whose entries override what is there: only what can't be read, since no entry is passed over.
+-- of a source whose entries override what is there: only what can't be read, since no entry is passed over
 abbrev pub told_overriding_of : Text → Text
 told_overriding_of source = unreadable_lines source (junk_ranges source)
 
 -- ---- the calls
 
--- with a source that was added, of which is told what was passed over
+-- a source was added, of which is told what was passed over
 abbrev pub added_to : Text → Meant → Meant
 added_to source m = record { bundle = with_source source m.bundle; told = told_of source m.bundle }
 
--- with a source whose entries took the place of what had their ids, of which is told what can't be read
+-- the entries of a source took the place of what had their ids, and what can't be read in it is told
 abbrev pub overridden_by : Text → Meant → Meant
 overridden_by source m =
     record { bundle = after (add_resource_overriding (entries source)) m.bundle; told = told_overriding_of source }
@@ -88,7 +88,7 @@ AddsSource text m new answer.Done = new ≡ added_to text m
 AddsSource text m new (answer.Fault f) = (new ≡ m) × NotAdded text f
 AddsSource text m new a = ⊥
 
--- its entries take the place of what has their ids, or the bundle stays
+-- the same, and its entries take the place of what has their ids
 abbrev pub AddsOverriding : Text → BundleCall
 AddsOverriding text m new answer.Done = new ≡ overridden_by text m
 AddsOverriding text m new (answer.Fault f) = (new ≡ m) × NotAdded text f

@@ -6,7 +6,7 @@ use Rattle.fluent_plural_rules.specs.RuleTexts.{IsParse, category_of}
 use Rattle.fluent_plural_rules.specs.RuleTree.{Rules}
 use Rattle.fluent_semantics.specs.Bundle.{Bundle}
 use Rattle.fluent_catalog.specs.declared.language.LanguageFault.TheVariants as language
-use Rattle.fluent_c_handles.specs.Answers.{BundleCall, KeptCall, Meant, NotOpenedByTag, OpenedByTag, start}
+use Rattle.fluent_c_handles.specs.Answers.{BundleCall, KeptCall, Meant, NotOpenedByTag, OpenedByTag, new_bundle}
 use Rattle.fluent_c_handles.specs.declared.answer.Answer.TheVariants as answer
 use Rattle.fluent_c_handles.specs.declared.opening.OpenFault.{OpenFault}
 use Rattle.fluent_c_handles.specs.declared.opening.OpenFault.TheVariants as fault
@@ -32,7 +32,7 @@ pub record OpenedByRules (cardinal ordinal : Text) (on : Bool) (bundle : Bundle 
   pub texts : IsUtf8 cardinal × IsUtf8 ordinal
   pub rules : Rules
   pub read : IsParse cardinal ordinal (Ok rules)
-  pub is : bundle ≡ start (category_of rules) on
+  pub is : bundle ≡ new_bundle (category_of rules) on
 
 -- rules can be read
 abbrev pub CanBeRead : Text → Text → Type 0

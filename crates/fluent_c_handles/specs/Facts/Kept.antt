@@ -10,7 +10,7 @@ use Rattle.fluent_semantics.specs.Value.{Plurals}
 use Rattle.fluent_semantics.specs.Bundle.{Bundle, number_builtin, after, add_resource, add_resource_overriding}
 use Rattle.fluent_semantics.specs.Bundle as m
 use Rattle.fluent_bundle_entries.specs.EntryView.{message_content}
-use Rattle.fluent_c_handles.specs.Answers.{start, with_source}
+use Rattle.fluent_c_handles.specs.Answers.{new_bundle, with_source}
 use Rattle.fluent_syntax.specs.Chunks.{entries}
 use Rattle.fluent_bundle.specs.BundleView.{entries_of}
 use Rattle.fluent_c_handles.specs.declared.message_ids.Added.{Added}
@@ -19,7 +19,7 @@ use Rattle.fluent_c_handles.specs.Calls.Finding.{names_message}
 use Rattle.fluent_c_handles.specs.Facts.Added.{added_there, overridden_there, or_left, or_right}
 
 -- a bundle that was just opened has none
-pub all_from_none : (plurals : Plurals) (on : Bool) → AllFrom [] (start plurals on).ids
+pub all_from_none : (plurals : Plurals) (on : Bool) → AllFrom [] (new_bundle plurals on).ids
 all_from_none plurals on id h = by (eq_by_cmp (slice_cmp nat_cmp) id (codes "NUMBER")) h
   where
     by : (b : Bool) → is_some (message_content (cond {A = Option (m.Entry Text)} b (Some number_builtin) None)) ≡ true → false ≡ true
