@@ -7,7 +7,7 @@ use Rattle.fluent_ast.specs.Tree.{Text, Entry}
 use Rattle.fluent_ast.specs.ParserError.{unreadable_text}
 use Rattle.fluent_syntax.specs.Chunks.{entries, entry_starts, junk_ranges}
 use Rattle.fluent_semantics.specs.Arguments.{Map}
-use Rattle.fluent_semantics.specs.Bundle as m
+use Rattle.fluent_semantics.specs.Bundle as bundles
 use Rattle.fluent_semantics.specs.Bundle.{Bundle, add_resource_overriding, added, after, not_added}
 use Rattle.fluent_semantics.specs.Errors.{Error, error_text}
 use Rattle.fluent_c_handles.specs.Answers.{BundleCall, IsOneText, Meant, with_source}
@@ -40,7 +40,7 @@ abbrev pub placed : ℕ → List Error → List PassedOver
 placed at errors = map (λ error. (at, error)) errors
 
 -- The errors of adding entries, in order, each with where its entry begins: the first list has where each entry does.
-abbrev pub passed_over : {C : Type 0} → List ℕ → List Entry → Map (m.Entry C) → List PassedOver
+abbrev pub passed_over : {C : Type 0} → List ℕ → List Entry → Map (bundles.Entry C) → List PassedOver
 passed_over [] es ids = []
 passed_over (at ∷ ats) [] ids = []
 passed_over (at ∷ ats) (e ∷ es) ids = placed at (not_added (e ∷ []) ids) ++ passed_over ats es (added (e ∷ []) ids)
@@ -52,7 +52,7 @@ passed_over_lines source all = flat_map (λ l. told_line source l.0 (error_text 
 -- ---- what is told
 
 -- of a source, by what ids name before it is added
-abbrev pub told_by : {C : Type 0} → Text → Map (m.Entry C) → Text
+abbrev pub told_by : {C : Type 0} → Text → Map (bundles.Entry C) → Text
 told_by source ids =
     unreadable_lines source (junk_ranges source)
     ++ passed_over_lines source (passed_over (entry_starts source) (entries source) ids)
