@@ -18,7 +18,8 @@ use std::alloc::Global;
 /// buffer that is too small for its text is as it was. From 2 on both buffers are as they were, both lengths are 0, and the
 /// number's cause holds. 2: an allocation failed. 3: the source is not UTF-8, which is told before all else. 4: the tag is
 /// not UTF-8. 5: the CLDR has no rules for it. 6: its rules can't be read. 7: the id or the name is not UTF-8. 9: the
-/// arguments are cut short. 10: one of them is not UTF-8. 8: there is no such message with a value, or with the attribute.
+/// arguments are cut short, or one begins with no kind of value. 10: the name or the value of one is not UTF-8. 8: there is no
+/// such message with a value, or with the attribute.
 #[unsafe(no_mangle)]
 pub extern "C" fn fluent_format_source(
     alloc: Global,
@@ -157,8 +158,9 @@ pub extern "C" fn fluent_find(alloc: Global, slot: &mut Slot, id: &[u8], name: &
 ///
 /// 0: `out` begins with the text, `err` with a line for each of its errors, and `sizes` has both lengths. 1: so too, but a
 /// buffer that is too small for its text is as it was. From 2 on both buffers are as they were, both lengths are 0, and the
-/// number's cause holds. 2: an allocation failed. 7: the id or the name is not UTF-8. 9: the arguments are cut short. 10: one
-/// of them is not UTF-8. 8: there is no such message with a value, or with the attribute. 11: no bundle is open.
+/// number's cause holds. 2: an allocation failed. 7: the id or the name is not UTF-8. 9: the arguments are cut short, or one
+/// begins with no kind of value. 10: the name or the value of one is not UTF-8. 8: there is no such message with a value, or
+/// with the attribute. 11: no bundle is open.
 #[unsafe(no_mangle)]
 pub extern "C" fn fluent_format(
     alloc: Global,
