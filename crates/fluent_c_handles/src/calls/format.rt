@@ -21,9 +21,9 @@ struct Format<'w> {
 impl Slot {
     /// Formats the value of a message, or its attribute of a name that is not empty. The bundle stays. 0: `out` begins with the
     /// text, and `err` with a line for each of its errors. 1: a buffer that has no room stays. Else nothing is given, and both
-    /// lengths are 0: 11, no bundle is open; or the first of these that holds: 7, the id or the name is not UTF-8; 9, the
-    /// arguments are cut short, or one begins with no kind of value; 10, one is not UTF-8; 8, there is no such message; 2, an
-    /// allocation failed.
+    /// lengths are 0: 11, no bundle is open; 2, an allocation failed; or the first of these that holds: 7, the id or the name is
+    /// not UTF-8; 9, the arguments are cut short, or one begins with no kind of value; 10, one is not UTF-8; 8, there is no such
+    /// message.
     pub fn format(
         &mut self,
         alloc: Global,
