@@ -36,7 +36,7 @@ enum fluent_status {
     FLUENT_BAD_RULES = 6,             /* the plural rules can't be read */
     FLUENT_ID_NOT_UTF8 = 7,           /* the id, or the name of the attribute */
     FLUENT_NO_MESSAGE = 8,            /* no such message with a value, or with that attribute */
-    FLUENT_ARGUMENTS_CUT = 9,         /* the arguments are cut short, or begin with no kind of value */
+    FLUENT_ARGUMENTS_CUT = 9,         /* the arguments are cut short, or one begins with no kind of value */
     FLUENT_ARGUMENTS_NOT_UTF8 = 10,   /* the name or the value of one of them */
     FLUENT_CLOSED_BUNDLE = 11,        /* the bundle is not open */
     FLUENT_OPEN_BUNDLE = 12,          /* the bundle is open, and stays as it was */
@@ -53,7 +53,7 @@ struct fluent_lengths {
 
    language    a tag such as "en" or "pt-PT", whose plural rules choose
    isolate     whether placeables stand between U+2068 and U+2069
-   source      FTL; what can't be read in it is passed over, and so is a message whose id stands in it before
+   source      FTL; what can't be read in it is passed over, and so is a message or a term whose id stands in it before
    arguments   one after the other, as fluent_put_argument writes them; the last of a repeated name stands
    out         the text
    err         a line for each error in it
@@ -85,7 +85,7 @@ uint8_t fluent_open_rules(struct fluent_bundle *bundle, const uint8_t *cardinal,
 uint8_t fluent_set_limit(struct fluent_bundle *bundle, size_t limit);
 
 /* Adds a source, of which the bundle takes a copy: FLUENT_OK, or nothing was added. What can't be read in it is passed over,
-   and so is a message whose id is there; fluent_report tells what was passed over. */
+   and so is a message or a term whose id is there; fluent_report tells what was passed over. */
 uint8_t fluent_add(struct fluent_bundle *bundle, const uint8_t *source, size_t source_length);
 
 /* The same, but that its messages and terms take the place of what has their ids. */

@@ -1,15 +1,25 @@
 //! What C calls: `c/fluent.h` says how.
 #![tactic(auto)]
 
-ghost use Rattle.fluent_c_handles.specs.Calls.{Adds, Finds, Formats, Has, ListsIds, Opens, OpensByRules, Overrides, Reports, SetsLimit, WhenOpen};
-ghost use Rattle.fluent_c_handles.specs.First.{FormatsFirst};
-ghost use Rattle.fluent_c_handles.specs.Kept.{Does, GivesText, GivesTexts, IsClosed, MeanTheSame};
-ghost use Rattle.fluent_c_handles.specs.Sources.{FormatsSource};
+ghost use Rattle.fluent_c_handles.specs.Calls.Adding.{AddsOverriding, AddsSource, TellsReport};
+ghost use Rattle.fluent_c_handles.specs.Calls.Finding.{HasMessage, HasPattern, ListsIds};
+ghost use Rattle.fluent_c_handles.specs.Calls.Formatting.{Formats, FormatsFirst, FormatsSource};
+ghost use Rattle.fluent_c_handles.specs.Calls.Opening.{OpensByRules, OpensByTag, SetsLimit};
+ghost use Rattle.fluent_c_handles.specs.Answers.{SlotDoes, SlotGivesText, SlotGivesTexts, SlotIsClosed, SlotsStay, WhenOpen};
 
 use fluent_c_handles::{Lengths, Slot};
 use std::alloc::Global;
 
-/// Formats a message of a source.
+/// Formats a message of one source, in a bundle with the plural rules of a language and the function `NUMBER`, isolated as
+/// asked: the message's value, or the attribute of the name where that isn't empty. What can't be read in the source is passed
+/// over, and so is an entry whose id stands in it before.
+///
+/// 0: `out` begins with the text, `err` with a line for each of its errors, and `sizes` has both lengths. 1: so too, but a
+/// buffer that is too small for its text is as it was. From 2 on both buffers are as they were, both lengths are 0, and the
+/// number's cause holds. 2: an allocation failed. 3: the source is not UTF-8, which is told before all else. 4: the tag is
+/// not UTF-8. 5: the CLDR has no rules for it. 6: its rules can't be read. 7: the id or the name is not UTF-8. 9: the
+/// arguments are cut short, or one begins with no kind of value. 10: the name or the value of one is not UTF-8. 8: there is no
+/// such message with a value, or with the attribute.
 #[unsafe(no_mangle)]
 pub extern "C" fn fluent_format_source(
     alloc: Global,
@@ -28,15 +38,22 @@ pub extern "C" fn fluent_format_source(
     fluent_c_handles::format_source(alloc, tag, isolate, source, id, name, args, out, err, sizes)
 }
 
-/// Opens a bundle.
+/// Opens a bundle for the tag of a language: it has the rules that the CLDR has for the tag, the function `NUMBER` and nothing
+/// else, isolates as asked, has a limit of 100 placeables, and its report is empty.
+///
+/// 0: it is open. 12: one was open, and stays as it was. Else none is open: 2, an allocation failed; 4, the tag is not
+/// UTF-8; 5, the CLDR has no rules for it; 6, its rules can't be read.
 #[unsafe(no_mangle)]
 pub extern "C" fn fluent_open(alloc: Global, slot: &mut Slot, tag: &[u8], isolate: bool) -> u8
-    ensures { Does (Opens tag.now isolate) slot result }
+    ensures { SlotDoes (OpensByTag tag.now isolate) slot result }
 {
     slot.open(alloc, tag, isolate)
 }
 
-/// Opens a bundle by the texts of its plural rules.
+/// Opens a bundle for the plural rules of two texts, as `fluent_open` does by a tag.
+///
+/// 0: it is open. 12: one was open, and stays as it was. Else none is open: 2, an allocation failed; 4, a text is not UTF-8;
+/// 6, the rules can't be read.
 #[unsafe(no_mangle)]
 pub extern "C" fn fluent_open_rules(
     alloc: Global,
@@ -45,36 +62,49 @@ pub extern "C" fn fluent_open_rules(
     ordinal: &[u8],
     isolate: bool,
 ) -> u8
-    ensures { Does (OpensByRules cardinal.now ordinal.now isolate) slot result }
+    ensures { SlotDoes (OpensByRules cardinal.now ordinal.now isolate) slot result }
 {
     slot.open_rules(alloc, cardinal, ordinal, isolate)
 }
 
-/// Sets how many placeables one call opens.
+/// Sets how many placeables one call opens, and nothing else.
+///
+/// 0: it is set, and from 1 to 10,000. 13: it is none of these, and the bundle stays as it was. 11: no bundle is open.
 #[unsafe(no_mangle)]
 pub extern "C" fn fluent_set_limit(alloc: Global, slot: &mut Slot, limit: usize) -> u8
-    ensures { Does (WhenOpen (SetsLimit limit)) slot result }
+    ensures { SlotDoes (WhenOpen (SetsLimit limit)) slot result }
 {
     slot.set_limit(alloc, limit)
 }
 
-/// Adds a source.
+/// Adds a source: of its entries those whose id is free, and of each id the first. Its report takes the place of the one
+/// before: a line for each part that can't be read, and for each entry that was passed over since its id was there.
+///
+/// 0: it was added. Else the bundle and its report stay as they were: 2, an allocation failed; 3, the source is not UTF-8; 11,
+/// no bundle is open.
 #[unsafe(no_mangle)]
 pub extern "C" fn fluent_add(alloc: Global, slot: &mut Slot, source: &[u8]) -> u8
-    ensures { Does (WhenOpen (Adds source.now)) slot result }
+    ensures { SlotDoes (WhenOpen (AddsSource source.now)) slot result }
 {
     slot.add(alloc, source)
 }
 
-/// Adds a source whose entries take the place of what has their ids.
+/// Adds a source whose entries take the place of what has their ids. Its report takes the place of the one before: a line for
+/// each part that can't be read.
+///
+/// 0: it was added. Else the bundle and its report stay as they were: 2, an allocation failed; 3, the source is not UTF-8; 11,
+/// no bundle is open.
 #[unsafe(no_mangle)]
 pub extern "C" fn fluent_add_overriding(alloc: Global, slot: &mut Slot, source: &[u8]) -> u8
-    ensures { Does (WhenOpen (Overrides source.now)) slot result }
+    ensures { SlotDoes (WhenOpen (AddsOverriding source.now)) slot result }
 {
     slot.add_overriding(alloc, source)
 }
 
-/// What was passed over in the source that was added last.
+/// Gives the report on the source that was added last, and an empty text before one was. The bundle stays as it was.
+///
+/// 0: `out` begins with the text, and `length` has its length. 1: the length is there, but `out` is too small, and as it was.
+/// Else `out` is as it was, and the length is 0: 2, an allocation failed; 11, no bundle is open.
 #[unsafe(no_mangle)]
 pub extern "C" fn fluent_report(
     alloc: Global,
@@ -82,12 +112,15 @@ pub extern "C" fn fluent_report(
     out: &mut [u8],
     length: &mut usize,
 ) -> u8
-    ensures { GivesText (WhenOpen Reports) slot out length result }
+    ensures { SlotGivesText (WhenOpen TellsReport) slot out length result }
 {
     slot.report(alloc, out, length)
 }
 
-/// The ids of all messages.
+/// Gives the ids of all messages, each once and in the order of its bytes, with a line feed after each. The bundle stays as it
+/// was.
+///
+/// The status, `out` and `length` are as those of `fluent_report`.
 #[unsafe(no_mangle)]
 pub extern "C" fn fluent_ids(
     alloc: Global,
@@ -95,28 +128,39 @@ pub extern "C" fn fluent_ids(
     out: &mut [u8],
     length: &mut usize,
 ) -> u8
-    ensures { GivesText (WhenOpen ListsIds) slot out length result }
+    ensures { SlotGivesText (WhenOpen ListsIds) slot out length result }
 {
     slot.ids(alloc, out, length)
 }
 
-/// Whether there is a message.
+/// Says whether there is a message of an id. The bundle stays as it was.
+///
+/// 0: there is. 8: there is none. 7: the id is not UTF-8. 11: no bundle is open.
 #[unsafe(no_mangle)]
 pub extern "C" fn fluent_has(alloc: Global, slot: &mut Slot, id: &[u8]) -> u8
-    ensures { Does (WhenOpen (Has id.now)) slot result }
+    ensures { SlotDoes (WhenOpen (HasMessage id.now)) slot result }
 {
     slot.has(alloc, id)
 }
 
-/// Whether there is a message with a value, or with an attribute.
+/// Says whether there is a message with a value, or, where the name isn't empty, with an attribute of the name. The bundle stays
+/// as it was.
+///
+/// 0: there is. 8: there is none. 7: the id or the name is not UTF-8. 11: no bundle is open.
 #[unsafe(no_mangle)]
 pub extern "C" fn fluent_find(alloc: Global, slot: &mut Slot, id: &[u8], name: &[u8]) -> u8
-    ensures { Does (WhenOpen (Finds id.now name.now)) slot result }
+    ensures { SlotDoes (WhenOpen (HasPattern id.now name.now)) slot result }
 {
     slot.find(alloc, id, name)
 }
 
-/// Formats a message.
+/// Formats the value of a message, or the attribute of the name where that isn't empty. The bundle stays as it was.
+///
+/// 0: `out` begins with the text, `err` with a line for each of its errors, and `sizes` has both lengths. 1: so too, but a
+/// buffer that is too small for its text is as it was. From 2 on both buffers are as they were, both lengths are 0, and the
+/// number's cause holds. 2: an allocation failed. 7: the id or the name is not UTF-8. 9: the arguments are cut short, or one
+/// begins with no kind of value. 10: the name or the value of one is not UTF-8. 8: there is no such message with a value, or
+/// with the attribute. 11: no bundle is open.
 #[unsafe(no_mangle)]
 pub extern "C" fn fluent_format(
     alloc: Global,
@@ -128,12 +172,16 @@ pub extern "C" fn fluent_format(
     err: &mut [u8],
     sizes: &mut Lengths,
 ) -> u8
-    ensures { GivesTexts (WhenOpen (Formats id.now name.now args.now)) slot out err sizes result }
+    ensures { SlotGivesTexts (WhenOpen (Formats id.now name.now args.now)) slot out err sizes result }
 {
     slot.format(alloc, id, name, args, out, err, sizes)
 }
 
-/// Formats a message by the first of some bundles that has it.
+/// Formats a message by the first of some bundles that has the value, or the attribute of the name where that isn't empty, or
+/// that isn't open: status, buffers and lengths are as those of `fluent_format` for this one. All bundles stay as they were.
+///
+/// Where the id or the name is not UTF-8 (7), or all bundles are open and none has it (8), both buffers are as they were, and
+/// both lengths are 0.
 #[unsafe(no_mangle)]
 pub extern "C" fn fluent_format_chain(
     alloc: Global,
@@ -145,16 +193,16 @@ pub extern "C" fn fluent_format_chain(
     err: &mut [u8],
     sizes: &mut Lengths,
 ) -> u8
-    ensures left { MeanTheSame slots.old slots.new }
+    ensures left { SlotsStay slots.old slots.new }
     ensures text { FormatsFirst id.now name.now args.now slots out err sizes result }
 {
     fluent_c_handles::format_first(alloc, slots, id, name, args, out, err, sizes)
 }
 
-/// Closes a bundle.
+/// Closes a bundle: none is open then.
 #[unsafe(no_mangle)]
 pub extern "C" fn fluent_close(alloc: Global, slot: &mut Slot)
-    ensures { IsClosed slot.new }
+    ensures { SlotIsClosed slot.new }
 {
     slot.close(alloc)
 }

@@ -4,7 +4,7 @@ use Rattle.std.specs.List.{slice_range}
 use Rattle.std.proofs.lemmas.List.{take_min}
 use Rattle.std.proofs.lemmas.List.Sums.{sum_by-append}
 use Rattle.fluent_ast.specs.Tree.{Text}
-use Rattle.fluent_c_handles.specs.Told.{line_at}
+use Rattle.fluent_c_handles.specs.Calls.Adding.{line_at}
 
 none_taken : (m : ℕ) → take {A = ℕ} m [] ≡ []
 none_taken zero = refl

@@ -2,9 +2,8 @@
 use Rattle.std.proofs.Common.{◌≡◌, sym, ap, subst, refl, ℕ, List, Option, Some, None}
 use Rattle.std.specs.Str.{IsUtf8}
 use Rattle.fluent_ast.specs.Tree.{Text}
-use Rattle.fluent_c_handles.specs.Calls.{Formats, WhenOpen}
-use Rattle.fluent_c_handles.specs.First.{AnswersFirst, FirstGives, first_to_answer}
-use Rattle.fluent_c_handles.specs.Kept.{Kept, TextsGiven, all_kept}
+use Rattle.fluent_c_handles.specs.Calls.Formatting.{AnswersFirst, FirstGives, Formats, first_to_answer}
+use Rattle.fluent_c_handles.specs.Answers.{Meant, TextsGiven, WhenOpen, all_kept}
 use Rattle.fluent_c_handles.specs.declared.answer.Answer.{Answer}
 use Rattle.fluent_c_handles.specs.declared.answer.Answer.TheVariants as answer
 use Rattle.fluent_c_handles.specs.declared.slot.Slot.{Slot}
@@ -12,7 +11,7 @@ use Rattle.fluent_c_handles.specs.declared.sources.SourceFault.TheVariants as so
 use Rattle.fluent_c_handles.specs.declared.texts.Lengths.{Lengths}
 
 module _ (id name : Text) (args : List ℕ) where
-  by_answer : (old new : Kept) (a : Answer) → WhenOpen (Formats id name args) old new a → new ≡ old
+  by_answer : (old new : Option Meant) (a : Answer) → WhenOpen (Formats id name args) old new a → new ≡ old
   by_answer None (Some y) a t = absurd t
   by_answer None None a t = refl
   by_answer (Some x) None a t = absurd t
@@ -26,7 +25,7 @@ module _ (id name : Text) (args : List ℕ) where
   by_answer (Some x) (Some y) (answer.Fault source.NotText) t = absurd t
   by_answer (Some x) (Some y) (answer.Fault (source.Open f)) t = absurd t
 
-  module _ (old new : Kept) (out out' err err' : List ℕ) (lengths : Lengths) (status : ℕ) (formats : TextsGiven (WhenOpen (Formats id name args)) old new out out' err err' lengths status) where
+  module _ (old new : Option Meant) (out out' err err' : List ℕ) (lengths : Lengths) (status : ℕ) (formats : TextsGiven (WhenOpen (Formats id name args)) old new out out' err err' lengths status) where
     pub stays : new ≡ old
     stays = by_answer old new formats.answer formats.done
 
@@ -38,13 +37,13 @@ module _ (id name : Text) (args : List ℕ) where
     }
 
 module _ (id name : Text) (args : List ℕ) (i n : Text) (is_id : i ≡ id) (is_name : n ≡ name) (valid : IsUtf8 id × IsUtf8 name) (slots : List Slot) where
-  first_of : (found : Option Kept) → first_to_answer i n (all_kept slots) ≡ found → first_to_answer id name (all_kept slots) ≡ found
+  first_of : (found : Option (Option Meant)) → first_to_answer i n (all_kept slots) ≡ found → first_to_answer id name (all_kept slots) ≡ found
   first_of found is =
       subst (λ j. first_to_answer j name (all_kept slots) ≡ found) is_id
       (subst (λ m. first_to_answer i m (all_kept slots) ≡ found) is_name is)
 
   -- the one that was found
-  pub formats_by : (kept : Kept) → first_to_answer i n (all_kept slots) ≡ Some kept → (out out' err err' : List ℕ) (lengths : Lengths) (status : ℕ)
+  pub formats_by : (kept : Option Meant) → first_to_answer i n (all_kept slots) ≡ Some kept → (out out' err err' : List ℕ) (lengths : Lengths) (status : ℕ)
       → TextsGiven (WhenOpen (Formats id name args)) kept kept out out' err err' lengths status → FirstGives id name args slots out out' err err' lengths status
   formats_by kept is out out' err err' lengths status as' = record {
     texts = λ v. subst (λ found. AnswersFirst found (WhenOpen (Formats id name args)) out out' err err' lengths status) (sym (first_of (Some kept) is)) as';

@@ -2,21 +2,20 @@
 use Rattle.std.proofs.Common.{subst, sym, ◌≡◌, refl, ap, ℕ, true, false, Some, None}
 use Rattle.std.specs.Str.{IsUtf8}
 use Rattle.fluent_ast.specs.Tree.{Text}
-use Rattle.fluent_c_handles.specs.Calls.{Finds, WhenOpen}
-use Rattle.fluent_c_handles.specs.First.{answers}
-use Rattle.fluent_c_handles.specs.Kept.{Done, Kept}
-use Rattle.fluent_c_handles.specs.Statuses.{status_by}
+use Rattle.fluent_c_handles.specs.Calls.Finding.{HasPattern}
+use Rattle.fluent_c_handles.specs.Answers.{Done, Meant, WhenOpen, answer_status}
+use Rattle.fluent_c_handles.specs.Calls.Formatting.{answers}
 use Rattle.fluent_c_handles.specs.declared.answer.Answer.{Answer}
 use Rattle.fluent_c_handles.specs.declared.answer.Answer.TheVariants as answer
 use Rattle.fluent_c_handles.specs.declared.sources.SourceFault.TheVariants as source
 use Rattle.fluent_c_handles.specs.declared.texts.FormatFault.TheVariants as format
 
-pub record Found (id name : Text) (old new : Kept) (status : ℕ) : Type 0 where
+pub record Found (id name : Text) (old new : Option Meant) (status : ℕ) : Type 0 where
   pub same : new ≡ old
   pub passed : status ≡ 8 → answers id name old ≡ false
   pub stopped : IsUtf8 id → IsUtf8 name → ¬ (status ≡ 8) → answers id name old ≡ true
 
-by_answer : (id name : Text) (old new : Kept) (a : Answer) → WhenOpen (Finds id name) old new a → Found id name old new (status_by a)
+by_answer : (id name : Text) (old new : Option Meant) (a : Answer) → WhenOpen (HasPattern id name) old new a → Found id name old new (answer_status a)
 by_answer id name None (Some y) a t = absurd t
 by_answer id name None None answer.Closed t = record { same = refl; passed = λ h. cc; stopped = λ i n h. refl }
 by_answer id name None None answer.Done t = absurd t
@@ -40,9 +39,9 @@ by_answer id name (Some x) (Some y) (answer.Fault source.Memory) t = absurd t
 by_answer id name (Some x) (Some y) (answer.Fault source.NotText) t = absurd t
 by_answer id name (Some x) (Some y) (answer.Fault (source.Open f)) t = absurd t
 
-pub by_status : (i n id name : Text) → id ≡ i → name ≡ n → (old new : Kept) (status : ℕ) → Done (WhenOpen (Finds id name)) old new status → Found i n old new status
+pub by_status : (i n id name : Text) → id ≡ i → name ≡ n → (old new : Option Meant) (status : ℕ) → Done (WhenOpen (HasPattern id name)) old new status → Found i n old new status
 by_status i n id name is_id is_name old new status done =
     subst (λ s. Found i n old new s) (sym done.is)
-    (subst (λ j. Found j n old new (status_by done.answer)) is_id
-    (subst (λ m. Found id m old new (status_by done.answer)) is_name
+    (subst (λ j. Found j n old new (answer_status done.answer)) is_id
+    (subst (λ m. Found id m old new (answer_status done.answer)) is_name
     (by_answer id name old new done.answer done.done)))

@@ -10,8 +10,9 @@ use Rattle.fluent_semantics.specs.Arguments.{Map, get, set}
 use Rattle.fluent_semantics.specs.Bundle.{Bundle}
 use Rattle.fluent_semantics.specs.Number.{is_text}
 use Rattle.fluent_bundle_entries.specs.EntryView.{message_content}
-use Rattle.fluent_c_handles.specs.Listed.{AllFrom, is_message_of, is_among, message_ids, names_message}
-use Rattle.fluent_c_handles.specs.Inside.Gathered.{Ids, with_id, with_entries, with_resources}
+use Rattle.fluent_c_handles.specs.Inside.Resources.{AllFrom, is_among, is_message_of}
+use Rattle.fluent_c_handles.specs.Calls.Finding.{message_ids, names_message}
+use Rattle.fluent_c_handles.specs.Inside.Gathered.{Ids, with_entries, with_id, with_resources}
 use Rattle.fluent_c_handles.specs.Facts.Added.{key_is_text, text_is_key}
 
 abbrev has : {A : Type 0} → Text → Map A → Bool
@@ -142,7 +143,7 @@ module _ (b : Bundle Text) where
       by true h = some_at q h
       by false h = refl
 
-  gathered_has : (resources : List (List Entry)) → AllFrom resources b → (q : Text) → has q (with_resources (names_message b) resources []) ≡ names_message b q
+  gathered_has : (resources : List (List Entry)) → AllFrom resources b.ids → (q : Text) → has q (with_resources (names_message b) resources []) ≡ names_message b q
   gathered_has resources from q = with_resources_has (names_message b) q resources [] ∙ by (names_message b q) refl
     where
       by : (t : Bool) → names_message b q ≡ t → (is_among q resources && t) ≡ t
@@ -154,7 +155,7 @@ module _ (b : Bundle Text) where
           and_false false = refl
 
   -- The ids that were gathered are all that name a message, in order.
-  pub all_gathered : T (is_sorted (slice_cmp nat_cmp) b.ids) → (resources : List (List Entry)) → AllFrom resources b → map (λ e. e.0) (with_resources (names_message b) resources []) ≡ message_ids b
+  pub all_gathered : T (is_sorted (slice_cmp nat_cmp) b.ids) → (resources : List (List Entry)) → AllFrom resources b.ids → map (λ e. e.0) (with_resources (names_message b) resources []) ≡ message_ids b
   all_gathered sorted resources from = ap (map (λ e. e.0)) same ∙ keyed_keys (names_message b) b.ids
     where
       same : with_resources (names_message b) resources [] ≡ keyed (where_key (slice_cmp nat_cmp) (names_message b) b.ids)

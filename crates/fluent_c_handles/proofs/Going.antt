@@ -22,7 +22,7 @@ use Rattle.fluent_bundle_entries.specs.EntryView.{ids}
 use Rattle.fluent_bundle_entries.specs.declared.ids.Ids.{Ids}
 use Rattle.fluent_c_handles.specs.declared.left.Left.{Left}
 use Rattle.fluent_c_handles.specs.declared.left.Seen.{Seen}
-use Rattle.fluent_c_handles.specs.Told.{placed}
+use Rattle.fluent_c_handles.specs.Calls.Adding.{placed}
 use Rattle.fluent_c_handles.specs.Inside.Seen.{AreKnown, AreLeft, Earlier, GoesOver, GoesOverId, IsSeen, left_from, left_view}
 
 abbrev Named : Type 0

@@ -2,8 +2,7 @@
 use Rattle.std.proofs.Common.{◌≡◌, ◌↔◌, ◌&&◌, ℕ, Bool, true, false, IsTrue, ◌∙◌, ap, arith, nat_le, refl, if◌then◌else◌}
 use Rattle.fluent_ast.specs.Tree.{Text}
 use Rattle.fluent_semantics.specs.Bundle.{Bundle, after, set_placeable_limit}
-use Rattle.fluent_c_handles.specs.Calls.{IsLimit}
-use Rattle.fluent_c_handles.specs.Held.{with_limit}
+use Rattle.fluent_c_handles.specs.Calls.Opening.{IsLimit, with_limit}
 use Rattle.fluent_c_handles.specs.Inside.Limits.{Limits}
 
 -- both bounds hold, or not both

@@ -2,7 +2,7 @@
 use Rattle.std.proofs.Common.{◌≡◌, List, [], ◌∷◌, ◌++◌, map, refl, ap, sym, ◌∙◌, append_assoc}
 use Rattle.std.specs.Borrow.{Bor}
 use Rattle.fluent_ast.specs.Tree.{Text}
-use Rattle.fluent_c_handles.specs.Listed.{id_lines}
+use Rattle.fluent_c_handles.specs.Calls.Finding.{id_lines}
 
 -- one more line
 pub lines_more : (ids : List (Bor Text)) (id : Bor Text) → id_lines (map (λ x. x.now) (ids ++ id ∷ [])) ≡ (id_lines (map (λ x. x.now) ids) ++ id.now) ++ 10 ∷ []

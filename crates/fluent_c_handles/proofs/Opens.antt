@@ -2,8 +2,7 @@
 use Rattle.std.proofs.Common.{◌≡◌, refl, sym, subst, Bool, true, Option, Some, None, Result, Ok, Err, IfOk, IfErr, [], string_bytes, is_some}
 use Rattle.fluent_ast.specs.Tree.{Text}
 use Rattle.fluent_semantics.specs.Bundle.{Bundle}
-use Rattle.fluent_c_handles.specs.PlainView.{bundle_view}
-use Rattle.fluent_c_handles.specs.Opened.{Opened, NotOpened}
+use Rattle.fluent_c_handles.specs.Answers.{Meant, NotOpenedByTag, OpenedByTag, bundle_view}
 use Rattle.fluent_c_handles.specs.declared.opening.OpenFault.{OpenFault}
 use Rattle.fluent_c_handles.specs.declared.opening.OpenFault.TheVariants as fault
 use Rattle.fluent_plural_rules.specs.LanguageTable.{cldr_plurals}
@@ -11,8 +10,7 @@ use Rattle.fluent_plural_rules.specs.Languages.{Texts, rules_of}
 use Rattle.fluent_plural_rules.specs.RuleTree.{Rules}
 use Rattle.fluent_catalog.specs.Language.{HasPlurals}
 use Rattle.fluent_c_handles.specs.declared.sources.SourceFault.TheVariants as source
-use Rattle.fluent_c_handles.specs.Held.{Meant}
-use Rattle.fluent_c_handles.specs.Calls.{OpensTo}
+use Rattle.fluent_c_handles.specs.Calls.Opening.{OpensTo}
 use Rattle.fluent_c_handles.specs.Inside.Boxed.{Boxed}
 use Rattle.fluent_c_handles.specs.declared.answer.Answer.{Answer}
 use Rattle.fluent_c_handles.specs.declared.answer.Answer.TheVariants as answer
@@ -23,7 +21,7 @@ known : (texts : Option Texts) (rules : Rules) → HasPlurals texts (Ok rules) �
 known None rules h = absurd h
 known (Some texts) rules h = refl
 
-pub opened_known : (tag : Text) (on : Bool) (b : Bundle Text) → Opened tag on b → NotOpened tag fault.Memory
+pub opened_known : (tag : Text) (on : Bool) (b : Bundle Text) → OpenedByTag tag on b → NotOpenedByTag tag fault.Memory
 opened_known tag on b o = (o.text, known (rules_of cldr_plurals tag) o.rules o.has)
 
 pub opens : (is : Bundle Text → Type 0) (why : OpenFault → Type 0) (opened : Result Stock OpenFault) (new : Option Meant) (a : Answer)

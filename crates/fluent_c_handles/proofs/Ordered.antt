@@ -11,7 +11,7 @@ use Rattle.fluent_values.specs.declared.formatter.NoFormatter.{NoFormatter}
 use Rattle.fluent_values.specs.declared.function.NoFunction.{NoFunction}
 use Rattle.fluent_values.specs.declared.transform.NoTransform.{NoTransform}
 use Rattle.fluent_values.specs.declared.types.custom.NoCustom.{NoCustom}
-use Rattle.fluent_c_handles.specs.PlainView.{bundle_view}
+use Rattle.fluent_c_handles.specs.Answers.{bundle_view}
 
 pub ids_rise : (bundle : FluentBundle Rules NoCustom NoFunction NoFormatter NoTransform) → T (is_sorted (slice_cmp nat_cmp) (bundle_view bundle).ids)
 unfolding ids

@@ -9,7 +9,7 @@ use Rattle.std.proofs.lemmas.Option.{slice_get-get_or, slice_get_past}
 use Rattle.std.proofs.lemmas.List.Folds.{find_at}
 use Rattle.std.proofs.lemmas.List.Sums.{position_or_len_is}
 use Rattle.std.proofs.lemmas.List.Quantifiers.{position-Some}
-use Rattle.fluent_c_handles.specs.Kept.{Kept, kept_in, all_kept}
+use Rattle.fluent_c_handles.specs.Answers.{Meant, all_kept, kept_in}
 use Rattle.fluent_c_handles.specs.declared.slot.Slot.{Slot}
 
 module _ {X : Type 0} (test : X → Bool) (xs : List X) where
@@ -38,7 +38,7 @@ module _ {X : Type 0} (test : X → Bool) (xs : List X) where
       let n : length xs ≤ position_or_len test xs = grind (arith, common_steps) in
       find_at test xs ∙ slice_get_past xs _ n
 
-module _ (slots : List Slot) (old : List Kept) (same : all_kept slots ≡ old) (i : ℕ) (lt : i < length slots) (d : Slot) where
+module _ (slots : List Slot) (old : List (Option Meant)) (same : all_kept slots ≡ old) (i : ℕ) (lt : i < length slots) (d : Slot) where
   pub stands_at : get_or old i None ≡ kept_in (get_or slots i d)
   stands_at = ap (λ ks. get_or ks i None) (sym same) ∙ get_or-map kept_in slots i d None lt
 

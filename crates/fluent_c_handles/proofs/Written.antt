@@ -8,7 +8,7 @@ use Rattle.std.proofs.lemmas.List.{length-append}
 use Rattle.std.proofs.lemmas.List.Elements.{All-head, All-tail}
 use Rattle.std.proofs.lemmas.Nat.{from_le_bytes-to_le_bytes_4}
 use Rattle.fluent_text.specs.Parser.{Text, Parser, and_then, ◌>>=◌, pure}
-use Rattle.fluent_c_handles.specs.Arguments.{Argument, argument, kind, sized, exactly}
+use Rattle.fluent_c_handles.specs.Calls.Formatting.{Argument, argument, exactly, kind, sized}
 use Rattle.fluent_c_handles.specs.Encoded.{ReadsWritten, Fits, encoded, all_encoded, sized_bytes, kind_byte}
 
 shorter : (t more : List ℕ) → length t ≤ length (t ++ more)

@@ -3,7 +3,7 @@ use Rattle.std.specs.Prelude.{◌<◌, ◌^◌, ℕ, Bool, List, [], ◌∷◌, 
 use Rattle.std.specs.List.{All}
 use Rattle.std.specs.Int.{w32, to_le_bytes}
 use Rattle.fluent_text.specs.Parser.{Text}
-use Rattle.fluent_c_handles.specs.Arguments.{Argument, StandBefore}
+use Rattle.fluent_c_handles.specs.Calls.Formatting.{Argument, StandBefore}
 
 abbrev pub sized_bytes : Text → List ℕ
 sized_bytes t = to_le_bytes w32 (length t) ++ t

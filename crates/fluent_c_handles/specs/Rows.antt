@@ -3,7 +3,7 @@ use Rattle.std.specs.Prelude.{◌≡◌, [], ◌∷◌, codes}
 use Rattle.fluent_ast.specs.Tree.{Text}
 use Rattle.fluent_semantics.specs.Bundle.{Bundle, add_builtins}
 use Rattle.fluent_semantics.specs.Examples.{NoCustom, bundle}
-use Rattle.fluent_c_handles.specs.Told.{line_at, told_of, told_overriding_of}
+use Rattle.fluent_c_handles.specs.Calls.Adding.{line_at, told_of, told_overriding_of}
 
 -- its first line is empty
 abbrev source : Text

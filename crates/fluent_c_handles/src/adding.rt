@@ -1,8 +1,8 @@
 //! Resources that are added to a bundle.
 ghost use Rattle.std.specs.Prelude.{◌≡◌, ◌≢◌, [], OnOk, OnErr};
 ghost use Rattle.fluent_bundle.specs.BundleView.{entries_of};
-ghost use Rattle.fluent_c_handles.specs.PlainView.{bundle_view};
-ghost use Rattle.fluent_c_handles.specs.Held.{with_all, with_free};
+ghost use Rattle.fluent_c_handles.specs.Answers.{bundle_view};
+ghost use Rattle.fluent_c_handles.specs.Inside.Resources.{with_all, with_free};
 
 use crate::opening::Plain;
 use fluent_bundle::{AddFault, FluentResource};

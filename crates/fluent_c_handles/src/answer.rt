@@ -1,6 +1,6 @@
 //! What a call on a kept bundle answers, and how C gets it.
 ghost use Rattle.std.specs.Prelude.{◌≡◌, ◌<◌};
-ghost use Rattle.fluent_c_handles.specs.Statuses.{GivenBy, GivenOneBy, status_by, status_of};
+ghost use Rattle.fluent_c_handles.specs.Answers.{GivenBy, GivenOneBy, answer_status, fault_status};
 
 use crate::buffers::put_text;
 use crate::encoded::Fault;
@@ -30,7 +30,7 @@ pub enum Answer {
 impl Answer {
     /// The status of an answer that is no text.
     pub(crate) fn status(&self) -> u8
-        ensures { result ≡ status_by self.now }
+        ensures { result ≡ answer_status self.now }
     {
         match self {
             Answer::Done => 0,
@@ -80,7 +80,7 @@ impl Answer {
 
 /// The status of a fault, from 2 on.
 pub(crate) fn status(fault: SourceFault) -> u8
-    ensures status { result ≡ status_of fault }
+    ensures status { result ≡ fault_status fault }
     ensures above { 1 < result }
 {
     match fault {
@@ -92,7 +92,7 @@ pub(crate) fn status(fault: SourceFault) -> u8
 }
 
 fn open_status(fault: OpenFault) -> u8
-    ensures status { result ≡ status_of (SourceFault.Open fault) }
+    ensures status { result ≡ fault_status (SourceFault.Open fault) }
     ensures above { 1 < result }
 {
     match fault {
@@ -105,7 +105,7 @@ fn open_status(fault: OpenFault) -> u8
 }
 
 fn format_status(fault: FormatFault) -> u8
-    ensures status { result ≡ status_of (SourceFault.Format fault) }
+    ensures status { result ≡ fault_status (SourceFault.Format fault) }
     ensures above { 1 < result }
 {
     match fault {

@@ -1,5 +1,5 @@
 //! Texts in buffers of the caller.
-ghost use Rattle.fluent_c_handles.specs.Buffers.{Given};
+ghost use Rattle.fluent_c_handles.specs.Answers.{Given};
 
 /// Copies a text to the start of a buffer, and gives how many bytes it has. A buffer that is too small for it is left
 /// as it was: the answer is the room that is needed.

@@ -1,6 +1,6 @@
 //! The number of a line, by an offset in a source.
 ghost use Rattle.std.specs.Prelude.{◌≡◌, ◌==◌, count_by};
-ghost use Rattle.fluent_c_handles.specs.Told.{line_at};
+ghost use Rattle.fluent_c_handles.specs.Calls.Adding.{line_at};
 ghost use Rattle.fluent_c_handles.specs.Inside.Counted.{IsCounted};
 
 /// How far the lines of a source are counted: to an offset, with the number of its line.

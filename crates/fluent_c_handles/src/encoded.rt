@@ -1,8 +1,8 @@
 //! Arguments in a run of bytes.
 ghost use Rattle.std.specs.Prelude.{◌≡◌, map, IfOk, IfErr};
 ghost use Rattle.fluent_text.specs.Reading.{found};
-ghost use Rattle.fluent_c_handles.specs.Arguments as prefix;
-ghost use Rattle.fluent_c_handles.specs.Arguments.{Stops, Are, kind_of};
+ghost use Rattle.fluent_c_handles.specs.Calls.Formatting as prefix;
+ghost use Rattle.fluent_c_handles.specs.Calls.Formatting.{Are, NotRead, kind_of};
 ghost use Rattle.fluent_c_handles.specs.Inside.ArgumentView.{argument_view};
 ghost use Rattle.fluent_c_handles.specs.Inside.Raw.{bytes_view, raw_view, TextOf};
 
@@ -43,7 +43,7 @@ struct Raw<'b> {
 /// The first [`Fault`] from the start. No bytes take no memory.
 pub(crate) fn arguments(alloc: Global, bytes: &[u8]) -> Result<Vec<Argument<'_>>, Fault>
     ensures ok { IfOk result (λ list. Are (map argument_view list.items) bytes.now) }
-    ensures err { IfErr result (Stops bytes.now) }
+    ensures err { IfErr result (NotRead bytes.now) }
 {
     let mut list = Vec::new(alloc);
     let mut rest = bytes;

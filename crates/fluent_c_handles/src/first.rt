@@ -1,8 +1,8 @@
 //! The first of several kept bundles that has a message.
 ghost use Rattle.std.specs.Prelude.{◌≡◌};
 ghost use Rattle.std.specs.List.{position};
-ghost use Rattle.fluent_c_handles.specs.First.{FormatsFirst, answers};
-ghost use Rattle.fluent_c_handles.specs.Kept.{MeanTheSame, all_kept};
+ghost use Rattle.fluent_c_handles.specs.Calls.Formatting.{FormatsFirst, answers};
+ghost use Rattle.fluent_c_handles.specs.Answers.{SlotsStay, all_kept};
 
 use crate::slot::Slot;
 use crate::texts::Lengths;
@@ -31,7 +31,7 @@ pub fn format_first(
     err: &mut [u8],
     sizes: &mut Lengths,
 ) -> u8
-    ensures left { MeanTheSame slots.old slots.new }
+    ensures left { SlotsStay slots.old slots.new }
     ensures text { FormatsFirst id.now name.now args.now slots out err sizes result }
 {
     let (Ok(message), Ok(attribute)) = (str::from_utf8(id), str::from_utf8(name)) else {
@@ -45,7 +45,7 @@ pub fn format_first(
 
 /// The index of the first bundle that has the value or the attribute, or that is not open.
 fn first_to_answer(alloc: Global, slots: &mut [Slot], id: &str, name: &str) -> Option<usize>
-    ensures left { MeanTheSame slots.old slots.new }
+    ensures left { SlotsStay slots.old slots.new }
     ensures first { result ≡ position (answers id.now name.now) (all_kept slots.old) }
 {
     for index in 0..slots.len() {

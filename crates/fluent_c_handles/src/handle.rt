@@ -2,8 +2,7 @@
 ghost use Rattle.std.specs.Prelude.{◌≡◌, None, Some, Option, is_some};
 ghost use Rattle.self_borrow.specs.Owned.{IsHeld};
 ghost use Rattle.fluent_c_handles.specs.Handles.{handle_owns, held_coded};
-ghost use Rattle.fluent_c_handles.specs.Held.{meant_by};
-ghost use Rattle.fluent_c_handles.specs.declared.stock.Stock.{Stock as Held};
+ghost use Rattle.fluent_c_handles.specs.declared.stock.Stock.{Stock as Kept};
 
 use crate::answer::Answer;
 use crate::closing::{drop_bundle, free_resources, free_sources};
@@ -20,7 +19,7 @@ use std::ptr::null_mut;
 pub struct Handle {
     ptr: *mut u8,
     alloc: Global,
-    pub ghost held: { Option Held } by { held_coded },
+    pub ghost held: { Option Kept } by { held_coded },
 }
 
 impl Model for Handle {
@@ -28,6 +27,8 @@ impl Model for Handle {
 }
 
 impl Handle {
+    ghost use Rattle.fluent_c_handles.specs.Answers.{held_content};
+
     /// Holds nothing.
     pub(crate) fn none(alloc: Global) -> Handle
         ensures { result.held ≡ None }
@@ -46,7 +47,7 @@ impl Handle {
         what: &T,
     ) -> (Handle, bool, Answer)
         requires { is_open ≡ is_some self.held }
-        ensures { T.does what.now (meant_by self.held) (meant_by result.0.held) result.2 × (result.1 ≡ is_some result.0.held) }
+        ensures { T.does what.now (held_content self.held) (held_content result.0.held) result.2 × (result.1 ≡ is_some result.0.held) }
     {
         let Handle { ptr, alloc: own } = self;
         let stock = RawBox {

@@ -1,9 +1,9 @@
 //! Whether a bundle has a message, and the values of arguments.
 ghost use Rattle.std.specs.Prelude.{◌≡◌, [], is_some, map, IfOk};
 ghost use Rattle.fluent_values.specs.View.{value_view};
-ghost use Rattle.fluent_c_handles.specs.Inside.ArgumentView.{argument_view};
-ghost use Rattle.fluent_c_handles.specs.Lookup.{arguments_of, found_at, value_of};
-ghost use Rattle.fluent_c_handles.specs.PlainView.{args_view, bundle_view};
+ghost use Rattle.fluent_c_handles.specs.Calls.Formatting.{argument_value, argument_values};
+ghost use Rattle.fluent_c_handles.specs.Answers.{bundle_view, found_at};
+ghost use Rattle.fluent_c_handles.specs.Inside.ArgumentView.{args_view, argument_view};
 
 use crate::encoded::Argument;
 use crate::opening::Plain;
@@ -27,7 +27,7 @@ pub(crate) fn is_there<'r, 's: 'r>(bundle: &Plain<'r, 's>, id: &str, name: &str)
 
 /// The value of an argument.
 fn value<'w>(argument: &Argument<'w>) -> FluentValue<'w, NoCustom>
-    ensures { value_view (λ c. []) result ≡ value_of (argument_view argument.now) }
+    ensures { value_view (λ c. []) result ≡ argument_value (argument_view argument.now) }
 {
     if argument.is_number {
         FluentValue::try_number(argument.value)
@@ -41,7 +41,7 @@ pub(crate) fn values<'w>(
     alloc: Global,
     list: &[Argument<'w>],
 ) -> Result<FluentArgs<'w, NoCustom>, AllocError>
-    ensures { IfOk result (λ args. args_view args ≡ arguments_of (map argument_view list.now)) }
+    ensures { IfOk result (λ args. args_view args ≡ argument_values (map argument_view list.now)) }
 {
     let mut args = FluentArgs::new(alloc);
     for argument in list {

@@ -1,10 +1,10 @@
 //! The ids of the messages of a bundle, a line each.
 ghost use Rattle.std.specs.Prelude.{◌≡◌, IfOk, OnOk, string_bytes};
 ghost use Rattle.fluent_bundle.specs.BundleView.{entries_of};
-ghost use Rattle.fluent_c_handles.specs.PlainView.{bundle_view};
-ghost use Rattle.fluent_c_handles.specs.Inside.Gathered.{Puts, PutsAll, texts_of};
-ghost use Rattle.fluent_c_handles.specs.Inside.Given.{given};
-ghost use Rattle.fluent_c_handles.specs.Listed.{AllFrom, id_lines, message_ids};
+ghost use Rattle.fluent_c_handles.specs.Answers.{bundle_view};
+ghost use Rattle.fluent_c_handles.specs.Inside.Gathered.{PutsId, PutsIds, texts_of};
+ghost use Rattle.fluent_c_handles.specs.Inside.Resources.{ComeFrom};
+ghost use Rattle.fluent_c_handles.specs.Calls.Finding.{id_lines, message_ids};
 
 use crate::opening::Plain;
 use fluent_bundle::FluentResource;
@@ -29,7 +29,7 @@ pub fn listed(
     bundle: &Plain<'_, '_>,
     resources: &[Added<'_, '_>],
 ) -> Result<String, AllocError>
-    requires { AllFrom (given resources.now) (bundle_view bundle.now) }
+    requires { ComeFrom resources.now bundle.now }
     ensures { IfOk result (λ t. string_bytes t ≡ id_lines (message_ids (bundle_view bundle.now))) }
 {
     let mut ids = BTreeSet::new(alloc);
@@ -45,7 +45,7 @@ fn put_entries<'s>(
     resource: &FluentResource<'s>,
     ids: &mut BTreeSet<&'s str>,
 ) -> Result<(), AllocError>
-    ensures { OnOk result (PutsAll (bundle_view bundle.now) (entries_of resource.now) ids.old ids.new) }
+    ensures { OnOk result (PutsIds (bundle_view bundle.now) (entries_of resource.now) ids.old ids.new) }
 {
     for entry in resource.entries() {
         if let ast::Entry::Message(message) = entry {
@@ -61,7 +61,7 @@ fn put<'s>(
     id: &'s str,
     ids: &mut BTreeSet<&'s str>,
 ) -> Result<(), AllocError>
-    ensures { OnOk result (Puts (bundle_view bundle.now) id.now ids.old ids.new) }
+    ensures { OnOk result (PutsId (bundle_view bundle.now) id.now ids.old ids.new) }
 {
     if bundle.has_message(id) {
         ids.insert(id)?;

@@ -1,8 +1,8 @@
 //! A bundle by the tag of a language, or by the texts of its rules.
 ghost use Rattle.std.specs.Prelude.{◌≡◌, IfOk, IfErr};
 ghost use Rattle.fluent_plural_rules.specs.RuleTexts.{category_of};
-ghost use Rattle.fluent_c_handles.specs.Opened.{Opened, OpenedBy, NotOpened, NotOpenedBy, start};
-ghost use Rattle.fluent_c_handles.specs.PlainView.{bundle_view};
+ghost use Rattle.fluent_c_handles.specs.Answers.{NotOpenedByTag, OpenedByTag, bundle_view, new_bundle};
+ghost use Rattle.fluent_c_handles.specs.Calls.Opening.{NotOpenedByRules, OpenedByRules};
 
 use fluent_bundle::{FluentBundle, NoCustom, NoFormatter, NoFunction, NoTransform};
 use fluent_catalog::{LanguageFault, plurals_for};
@@ -42,8 +42,8 @@ pub(crate) fn open<'r, 's>(
     tag: &[u8],
     isolate: bool,
 ) -> Result<Plain<'r, 's>, OpenFault>
-    ensures ok { IfOk result (λ bundle. Opened tag.now isolate (bundle_view bundle)) }
-    ensures err { IfErr result (NotOpened tag.now) }
+    ensures ok { IfOk result (λ bundle. OpenedByTag tag.now isolate (bundle_view bundle)) }
+    ensures err { IfErr result (NotOpenedByTag tag.now) }
 {
     let Ok(tag) = str::from_utf8(tag) else {
         return Err(OpenFault::NotText);
@@ -68,8 +68,8 @@ pub(crate) fn open_by_rules<'r, 's>(
     ordinal: &[u8],
     isolate: bool,
 ) -> Result<Plain<'r, 's>, OpenFault>
-    ensures ok { IfOk result (λ b. OpenedBy cardinal.now ordinal.now isolate (bundle_view b)) }
-    ensures err { IfErr result (NotOpenedBy cardinal.now ordinal.now) }
+    ensures ok { IfOk result (λ b. OpenedByRules cardinal.now ordinal.now isolate (bundle_view b)) }
+    ensures err { IfErr result (NotOpenedByRules cardinal.now ordinal.now) }
 {
     let (Ok(cardinal), Ok(ordinal)) = (str::from_utf8(cardinal), str::from_utf8(ordinal)) else {
         return Err(OpenFault::NotText);
@@ -89,7 +89,7 @@ fn with_plurals<'r, 's>(
     plurals: RuleTexts,
     isolate: bool,
 ) -> Result<Plain<'r, 's>, AllocError>
-    ensures { IfOk result (λ bundle. bundle_view bundle ≡ start (category_of plurals) isolate) }
+    ensures { IfOk result (λ bundle. bundle_view bundle ≡ new_bundle (category_of plurals) isolate) }
 {
     let mut bundle = FluentBundle::new(alloc, Vec::new(alloc), plurals);
     bundle.set_use_isolating(isolate);

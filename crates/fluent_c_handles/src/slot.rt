@@ -17,8 +17,7 @@ pub struct Slot {
 }
 
 impl Slot {
-    ghost use Rattle.fluent_c_handles.specs.Calls.{WhenOpen};
-    ghost use Rattle.fluent_c_handles.specs.Kept.{IsClosed, kept_in};
+    ghost use Rattle.fluent_c_handles.specs.Answers.{SlotIsClosed, WhenOpen, kept_in};
 
     /// Holds nothing.
     fn closed(alloc: Global) -> Slot
@@ -49,7 +48,7 @@ impl Slot {
 
     /// Drops the bundle and frees its resources and sources.
     pub fn close(&mut self, alloc: Global)
-        ensures { IsClosed self.new }
+        ensures { SlotIsClosed self.new }
     {
         let Slot { handle, is_open } = mem::replace(self, Slot::closed(alloc));
         if is_open {

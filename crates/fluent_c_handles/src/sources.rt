@@ -3,7 +3,7 @@ ghost use Rattle.std.specs.Prelude.{◌≡◌, ◌≢◌, [], IfOk, IfErr, OnErr
 ghost use Rattle.std.specs.Str.{IsUtf8};
 ghost use Rattle.fluent_syntax.specs.Chunks.{entries};
 ghost use Rattle.fluent_bundle.specs.BundleView.{entries_of};
-ghost use Rattle.fluent_c_handles.specs.Sources.{FormatsSource, GivesOf, RefusesOf};
+ghost use Rattle.fluent_c_handles.specs.Calls.Formatting.{FormatsSource, GivesOf, RefusesOf};
 
 use crate::adding::add_free;
 use crate::answer::status;

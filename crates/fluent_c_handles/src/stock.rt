@@ -4,10 +4,7 @@ ghost use Rattle.std.specs.Str.{IsUtf8};
 ghost use Rattle.fluent_syntax.specs.Chunks.{entries, junk_ranges};
 ghost use Rattle.fluent_syntax.specs.Parsed.{error_range};
 ghost use Rattle.fluent_bundle.specs.BundleView.{entries_of, source_in};
-ghost use Rattle.fluent_c_handles.specs.PlainView.{bundle_view};
-ghost use Rattle.fluent_c_handles.specs.Opened.{Opened, OpenedBy, NotOpened, NotOpenedBy};
-ghost use Rattle.fluent_c_handles.specs.Inside.Given.{given};
-ghost use Rattle.fluent_c_handles.specs.Listed.{AllFrom};
+ghost use Rattle.fluent_c_handles.specs.Inside.Resources.{ComeFrom};
 ghost use Rattle.self_borrow.specs.Loans.{AreFor};
 
 use crate::adding::{add_free, override_with};
@@ -29,12 +26,13 @@ pub struct Stock<'r, 's> {
     pub told: String,
     pub(crate) added: Vec<Added<'r, 's>>,
     shelves: Shelves<'r, 's>,
-    ghost from: { AllFrom (given added.items) (bundle_view bundle) },
+    ghost from: { ComeFrom added.items bundle },
 }
 
 impl<'r, 's: 'r> Stock<'r, 's> {
-    ghost use Rattle.fluent_c_handles.specs.Calls.{NotAdded};
-    ghost use Rattle.fluent_c_handles.specs.Held.{added_to, meant, overridden};
+    ghost use Rattle.fluent_c_handles.specs.Answers.{NotOpenedByTag, OpenedByTag, bundle_view, stock_content};
+    ghost use Rattle.fluent_c_handles.specs.Calls.Adding.{NotAdded, added_to, overridden_by};
+    ghost use Rattle.fluent_c_handles.specs.Calls.Opening.{NotOpenedByRules, OpenedByRules};
     ghost use Rattle.fluent_bundle.specs.BundleView.{IsReadWith};
 
     /// A bundle by the tag of its language, without sources.
@@ -43,9 +41,9 @@ impl<'r, 's: 'r> Stock<'r, 's> {
     ///
     /// As [`OpenFault`] says.
     pub(crate) fn open(alloc: Global, tag: &[u8], isolate: bool) -> Result<Stock<'r, 's>, OpenFault>
-        ensures ok { IfOk result (λ stock. Opened tag.now isolate (bundle_view stock.bundle)) }
+        ensures ok { IfOk result (λ stock. OpenedByTag tag.now isolate (bundle_view stock.bundle)) }
         ensures told { IfOk result (λ stock. string_bytes stock.told ≡ []) }
-        ensures err { IfErr result (NotOpened tag.now) }
+        ensures err { IfErr result (NotOpenedByTag tag.now) }
     {
         match open(alloc, tag, isolate) {
             Ok(bundle) => Ok(Stock::of(alloc, bundle)),
@@ -64,9 +62,9 @@ impl<'r, 's: 'r> Stock<'r, 's> {
         ordinal: &[u8],
         isolate: bool,
     ) -> Result<Stock<'r, 's>, OpenFault>
-        ensures ok { IfOk result (λ s. OpenedBy cardinal.now ordinal.now isolate (bundle_view s.bundle)) }
+        ensures ok { IfOk result (λ s. OpenedByRules cardinal.now ordinal.now isolate (bundle_view s.bundle)) }
         ensures told { IfOk result (λ stock. string_bytes stock.told ≡ []) }
-        ensures err { IfErr result (NotOpenedBy cardinal.now ordinal.now) }
+        ensures err { IfErr result (NotOpenedByRules cardinal.now ordinal.now) }
     {
         match open_by_rules(alloc, cardinal, ordinal, isolate) {
             Ok(bundle) => Ok(Stock::of(alloc, bundle)),
@@ -76,7 +74,7 @@ impl<'r, 's: 'r> Stock<'r, 's> {
 
     /// A bundle without sources.
     fn of(alloc: Global, bundle: Plain<'r, 's>) -> Stock<'r, 's>
-        requires { AllFrom [] (bundle_view bundle) }
+        requires { ComeFrom [] bundle }
         ensures { (result.bundle ≡ bundle.entry) × (string_bytes result.told ≡ []) }
     {
         Stock {
@@ -97,7 +95,7 @@ impl<'r, 's: 'r> Stock<'r, 's> {
         ensures ok { IfOk result (λ read. IsReadWith source.now read.0.now read.1) }
         ensures text { OnOk result (IsUtf8 source.now) }
         ensures err { IfErr result (NotAdded source.now) }
-        ensures left { meant self.new ≡ meant self.old }
+        ensures left { stock_content self.new ≡ stock_content self.old }
     {
         let Ok(text) = str::from_utf8(source) else {
             return Err(SourceFault::NotText);
@@ -117,8 +115,8 @@ impl<'r, 's: 'r> Stock<'r, 's> {
     ) -> Result<(), AllocError>
         requires read { entries_of resource.now ≡ entries (source_in resource.now) }
         requires unreadable { map error_range unreadable.now ≡ junk_ranges (source_in resource.now) }
-        ensures ok { OnOk result (meant self.new ≡ added_to (source_in resource.now) (meant self.old)) }
-        ensures left { OnErr result (meant self.new ≡ meant self.old) }
+        ensures ok { OnOk result (stock_content self.new ≡ added_to (source_in resource.now) (stock_content self.old)) }
+        ensures left { OnErr result (stock_content self.new ≡ stock_content self.old) }
     {
         let told = told(alloc, &self.bundle, resource, unreadable)?;
         self.added.reserve(1)?;
@@ -137,8 +135,8 @@ impl<'r, 's: 'r> Stock<'r, 's> {
     ) -> Result<(), AllocError>
         requires read { entries_of resource.now ≡ entries (source_in resource.now) }
         requires unreadable { map error_range unreadable.now ≡ junk_ranges (source_in resource.now) }
-        ensures ok { OnOk result (meant self.new ≡ overridden (source_in resource.now) (meant self.old)) }
-        ensures left { OnErr result (meant self.new ≡ meant self.old) }
+        ensures ok { OnOk result (stock_content self.new ≡ overridden_by (source_in resource.now) (stock_content self.old)) }
+        ensures left { OnErr result (stock_content self.new ≡ stock_content self.old) }
     {
         let told = told_overriding(alloc, resource, unreadable)?;
         self.added.reserve(1)?;

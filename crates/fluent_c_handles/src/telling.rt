@@ -5,9 +5,9 @@ ghost use Rattle.fluent_syntax.specs.Chunks as chunks;
 ghost use Rattle.fluent_syntax.specs.Chunks.{junk_ranges};
 ghost use Rattle.fluent_syntax.specs.Parsed.{error_range};
 ghost use Rattle.fluent_bundle.specs.BundleView.{entries_of, source_in};
-ghost use Rattle.fluent_c_handles.specs.PlainView.{bundle_view};
-ghost use Rattle.fluent_c_handles.specs.Told.{IsTold, told_overriding_of};
-ghost use Rattle.fluent_c_handles.specs.Inside.Telling.{AddsLeft, AddsLeftBy, AreUnreadable, HaveStarts, Tells, left_at};
+ghost use Rattle.fluent_c_handles.specs.Answers.{bundle_view};
+ghost use Rattle.fluent_c_handles.specs.Calls.Adding.{told_overriding_of};
+ghost use Rattle.fluent_c_handles.specs.Inside.Telling.{IsReport, AddsLeft, AddsLeftBy, AreUnreadable, HaveStarts, Tells, left_at};
 
 use crate::left::{Left, left_of};
 use crate::lines::Lines;
@@ -32,7 +32,7 @@ pub fn told(
 ) -> Result<String, AllocError>
     requires read { entries_of resource.now ≡ chunks.entries (source_in resource.now) }
     requires unreadable { map error_range unreadable.now ≡ junk_ranges (source_in resource.now) }
-    ensures { IfOk result (IsTold (source_in resource.now) (bundle_view bundle.now)) }
+    ensures { IfOk result (IsReport (source_in resource.now) (bundle_view bundle.now)) }
 {
     let entries = resource.entries();
     lines_of(

@@ -2,10 +2,9 @@
 ghost use Rattle.std.specs.Prelude.{◌≡◌, ◌≢◌, None, IfOk, IfErr, OnErr, string_bytes};
 ghost use Rattle.std.specs.Cow.{cow_str_bytes};
 ghost use Rattle.fluent_resolver_state.specs.Status.{reported};
-ghost use Rattle.fluent_c_handles.specs.Texts.{FormatsIn, NotFormattedIn, TextsIn, error_line, error_lines};
+ghost use Rattle.fluent_c_handles.specs.Calls.Formatting.{FormatsIn, NotFormattedIn, TextsIn, error_line, error_lines};
 ghost use Rattle.fluent_bundle_entries.specs.ErrorView.{error_view};
-ghost use Rattle.fluent_c_handles.specs.Lookup.{found_at};
-ghost use Rattle.fluent_c_handles.specs.PlainView.{bundle_view};
+ghost use Rattle.fluent_c_handles.specs.Answers.{bundle_view, found_at};
 ghost use Rattle.fluent_c_handles.specs.Inside.Shown.{Shows};
 
 use crate::buffers::put_text;

@@ -1,7 +1,6 @@
 //! What is done of a bundle that may be open.
 ghost use Rattle.std.specs.Prelude.{◌≡◌, is_some};
-ghost use Rattle.fluent_c_handles.specs.Calls.{WhenOpen};
-ghost use Rattle.fluent_c_handles.specs.Held.{BundleCall, KeptCall, meant, meant_by};
+ghost use Rattle.fluent_c_handles.specs.Answers.{BundleCall, KeptCall, WhenOpen, held_content, stock_content};
 
 use crate::answer::Answer;
 use crate::stock::Stock;
@@ -20,7 +19,7 @@ pub(crate) trait Turn {
         is_open: bool,
     ) -> (RawBox<Stock<'r, 's>, Global>, bool, Answer)
         requires { is_open ≡ is_some stock.held }
-        ensures does { does self.now (meant_by stock.entry.held) (meant_by result.0.held) result.2 }
+        ensures does { does self.now (held_content stock.entry.held) (held_content result.0.held) result.2 }
         ensures open { result.1 ≡ is_some result.0.held };
 }
 
@@ -32,7 +31,7 @@ pub(crate) fn take_turn<'r, 's: 'r, T: Turn>(
     what: &T,
 ) -> (RawBox<Stock<'r, 's>, Global>, bool, Answer)
     requires { is_open ≡ is_some stock.held }
-    ensures { T.does what.now (meant_by stock.entry.held) (meant_by result.0.held) result.2 × (result.1 ≡ is_some result.0.held) }
+    ensures { T.does what.now (held_content stock.entry.held) (held_content result.0.held) result.2 × (result.1 ≡ is_some result.0.held) }
 {
     what.done(alloc, stock, is_open)
 }
@@ -43,7 +42,7 @@ pub(crate) trait Call {
 
     /// Does it.
     fn done<'r, 's: 'r>(&self, alloc: Global, stock: &mut Stock<'r, 's>) -> Answer
-        ensures { does self.now (meant stock.old) (meant stock.new) result };
+        ensures { does self.now (stock_content stock.old) (stock_content stock.new) result };
 }
 
 /// The call where a bundle is open, and else nothing.

@@ -12,7 +12,7 @@ use Rattle.fluent_semantics.specs.Bundle.{a_message, a_term, add_free, added, ov
 use Rattle.fluent_semantics.specs.Bundle as m
 use Rattle.fluent_semantics.specs.Number.{is_text}
 use Rattle.fluent_bundle_entries.specs.EntryView.{message_content}
-use Rattle.fluent_c_handles.specs.Listed.{is_message_of}
+use Rattle.fluent_c_handles.specs.Inside.Resources.{is_message_of}
 
 is_equal : (o : Ordering) → is_eq o ≡ true → o ≡ Equal
 is_equal Less h = absurd cc

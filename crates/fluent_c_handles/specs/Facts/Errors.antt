@@ -1,4 +1,4 @@
--- The errors that are told of entries that are left are those of adding. No contract cites them.
+-- The errors that are told of entries that are passed over are those of adding. No contract cites them.
 use Rattle.std.proofs.Common.{◌≡◌, ℕ, ◌+◌, List, [], ◌∷◌, ◌++◌, length, map, refl, sym, ap, ◌∙◌, arith}
 use Rattle.std.proofs.lemmas.List.{append-nil, map-append, length-append}
 use Rattle.fluent_ast.specs.Tree.{Text, Entry, message_entry, term_entry, junk_entry}
@@ -7,7 +7,7 @@ use Rattle.fluent_semantics.specs.Arguments.{Map}
 use Rattle.fluent_semantics.specs.Bundle as m
 use Rattle.fluent_semantics.specs.Bundle.{a_message, a_term, add_free, added, error_if_taken, not_added}
 use Rattle.fluent_semantics.specs.Errors.{Error, message_kind, term_kind}
-use Rattle.fluent_c_handles.specs.Told.{left, placed}
+use Rattle.fluent_c_handles.specs.Calls.Adding.{passed_over, placed}
 
 -- ---- as many places as entries
 
@@ -40,17 +40,17 @@ module _ {C : Type 0} where
   then_not_added (term_entry id p as') es ids = ap (λ l. l ++ not_added es (add_free id (a_term p as') ids)) (sym (append-nil (error_if_taken term_kind id ids)))
   then_not_added (junk_entry source) es ids = refl
 
-  left_errors : (starts : List ℕ) (es : List Entry) (ids : Map (m.Entry C)) → length starts ≡ length es → map (λ l. l.1) (left starts es ids) ≡ not_added es ids
+  left_errors : (starts : List ℕ) (es : List Entry) (ids : Map (m.Entry C)) → length starts ≡ length es → map (λ l. l.1) (passed_over starts es ids) ≡ not_added es ids
   left_errors [] [] ids same = refl
   left_errors [] (e ∷ es) ids same = absurd (omega (arith, same))
   left_errors (at ∷ ats) [] ids same = absurd (omega (arith, same))
   left_errors (at ∷ ats) (e ∷ es) ids same =
       let here = not_added (e ∷ []) ids in
       let on = added (e ∷ []) ids in
-      map-append (λ l. l.1) (placed at here) (left ats es on)
-      ∙ (ap (λ l. l ++ map (λ l. l.1) (left ats es on)) (placed_errors at here)
+      map-append (λ l. l.1) (placed at here) (passed_over ats es on)
+      ∙ (ap (λ l. l ++ map (λ l. l.1) (passed_over ats es on)) (placed_errors at here)
       ∙ (ap (λ l. here ++ l) (left_errors ats es on (omega (arith, same))) ∙ sym (then_not_added e es ids)))
 
-  -- of a source, what is left has the errors of adding its entries
-  pub left_of_source : (source : Text) (ids : Map (m.Entry C)) → map (λ l. l.1) (left (entry_starts source) (entries source) ids) ≡ not_added (entries source) ids
+  -- of a source, what is passed over has the errors of adding its entries
+  pub left_of_source : (source : Text) (ids : Map (m.Entry C)) → map (λ l. l.1) (passed_over (entry_starts source) (entries source) ids) ≡ not_added (entries source) ids
   left_of_source source ids = left_errors (entry_starts source) (entries source) ids (as_many source)

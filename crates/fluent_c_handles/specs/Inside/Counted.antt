@@ -1,7 +1,7 @@
 -- How far the lines of a source are counted.
 use Rattle.std.specs.Prelude.{◌≡◌}
 use Rattle.fluent_ast.specs.Tree.{Text}
-use Rattle.fluent_c_handles.specs.Told.{line_at}
+use Rattle.fluent_c_handles.specs.Calls.Adding.{line_at}
 use Rattle.fluent_c_handles.specs.declared.counted.Counted.{Counted}
 
 -- what is counted is the line of this offset

@@ -2,8 +2,7 @@
 use Rattle.std.specs.Prelude.{◌≡◌, ℕ, Bool, true, false}
 use Rattle.fluent_ast.specs.Tree.{Text}
 use Rattle.fluent_semantics.specs.Bundle.{Bundle}
-use Rattle.fluent_c_handles.specs.Calls.{IsLimit}
-use Rattle.fluent_c_handles.specs.Held.{with_limit}
+use Rattle.fluent_c_handles.specs.Calls.Opening.{IsLimit, with_limit}
 
 -- and what stands then
 abbrev pub Limits : Bundle Text → ℕ → Bundle Text → Bool → Type 0

@@ -1,7 +1,7 @@
 -- Lines that tell of a source.
 use Rattle.std.specs.Prelude.{◌≡◌, ℕ, ◌++◌, string_bytes}
 use Rattle.fluent_ast.specs.Tree.{Text}
-use Rattle.fluent_c_handles.specs.Told.{told_line}
+use Rattle.fluent_c_handles.specs.Calls.Adding.{told_line}
 use Rattle.fluent_c_handles.specs.declared.lines.Lines.{Lines}
 
 -- the lines so far

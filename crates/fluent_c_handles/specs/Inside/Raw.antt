@@ -2,7 +2,7 @@
 use Rattle.std.specs.Prelude.{◌≡◌, ℕ, List, Option, Some, None}
 use Rattle.std.specs.Borrow.{Bor}
 use Rattle.fluent_text.specs.Parser.{Text}
-use Rattle.fluent_c_handles.specs.Arguments.{Argument, AreTexts}
+use Rattle.fluent_c_handles.specs.Calls.Formatting.{Argument, HasTexts}
 use Rattle.fluent_c_handles.specs.Inside.ArgumentView.{argument_view}
 use Rattle.fluent_c_handles.specs.declared.encoded.Argument as code
 use Rattle.fluent_c_handles.specs.declared.encoded.Raw.{Raw}
@@ -15,5 +15,5 @@ bytes_view b = b.now
 
 -- the same argument, where its name and its value are UTF-8
 abbrev pub TextOf : Argument → Option code.Argument → Type 0
-TextOf a None = ¬ (AreTexts a)
-TextOf a (Some t) = (argument_view t ≡ a) × AreTexts a
+TextOf a None = ¬ (HasTexts a)
+TextOf a (Some t) = (argument_view t ≡ a) × HasTexts a

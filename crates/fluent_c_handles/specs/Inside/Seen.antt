@@ -10,7 +10,7 @@ use Rattle.fluent_semantics.specs.Errors.{Error, Kind}
 use Rattle.fluent_bundle_entries.specs.EntryView.{ids}
 use Rattle.fluent_bundle_entries.specs.ErrorView.{error_view}
 use Rattle.fluent_bundle_entries.specs.declared.ids.Ids.{Ids}
-use Rattle.fluent_c_handles.specs.Told.{placed}
+use Rattle.fluent_c_handles.specs.Calls.Adding.{placed}
 use Rattle.fluent_c_handles.specs.declared.left.Left.{Left}
 use Rattle.fluent_c_handles.specs.declared.left.Seen.{Seen}
 

@@ -8,9 +8,9 @@ use Rattle.fluent_semantics.specs.Bundle.{Bundle}
 use Rattle.fluent_semantics.specs.Result.{formatted, written_pattern}
 use Rattle.fluent_values.specs.declared.args.FluentArgs.{FluentArgs}
 use Rattle.fluent_values.specs.declared.types.custom.NoCustom.{NoCustom}
-use Rattle.fluent_c_handles.specs.Texts.{error_lines}
-use Rattle.fluent_c_handles.specs.Lookup.{found_at}
-use Rattle.fluent_c_handles.specs.PlainView.{args_view}
+use Rattle.fluent_c_handles.specs.Calls.Formatting.{error_lines}
+use Rattle.fluent_c_handles.specs.Answers.{found_at}
+use Rattle.fluent_c_handles.specs.Inside.ArgumentView.{args_view}
 
 -- what a pattern that was found means, or nothing
 abbrev pub ShowsFound : Bundle Text → FluentArgs NoCustom → Option Pattern → Option (CowStr Global × String Global) → Type 0

@@ -1,6 +1,6 @@
 //! Says which messages there are.
-ghost use Rattle.fluent_c_handles.specs.Calls.{Finds, Has, ListsIds, WhenOpen};
-ghost use Rattle.fluent_c_handles.specs.Kept.{Does, GivesText};
+ghost use Rattle.fluent_c_handles.specs.Calls.Finding.{HasMessage, HasPattern, ListsIds};
+ghost use Rattle.fluent_c_handles.specs.Answers.{SlotDoes, SlotGivesText, WhenOpen};
 
 use crate::answer::Answer;
 use crate::lookup::is_there;
@@ -31,23 +31,26 @@ struct Part<'w> {
 }
 
 impl Slot {
-    /// Gives the ids of all messages, a line each.
+    /// Gives the ids of all messages, a line each, in the order of their bytes. The bundle stays. 0: `out` begins with the text.
+    /// 1: it has no room, and stays. Else nothing is given: 2, an allocation failed; 11, no bundle is open.
     pub fn ids(&mut self, alloc: Global, out: &mut [u8], length: &mut usize) -> u8
-        ensures { GivesText (WhenOpen ListsIds) self out length result }
+        ensures { SlotGivesText (WhenOpen ListsIds) self out length result }
     {
         self.ask(alloc, &Ids {}).give_one(out, length)
     }
 
-    /// Whether there is a message.
+    /// Whether there is a message: 0 where there is, 8 where there is none; 7, the id is not UTF-8; 11, no bundle is open. The
+    /// bundle stays.
     pub fn has(&mut self, alloc: Global, id: &[u8]) -> u8
-        ensures { Does (WhenOpen (Has id.now)) self result }
+        ensures { SlotDoes (WhenOpen (HasMessage id.now)) self result }
     {
         self.ask(alloc, &Message { id }).status()
     }
 
-    /// Whether there is a message with a value, or with an attribute of a name that is not empty.
+    /// Whether there is a message with a value, or with an attribute of a name that is not empty: 0 where there is, 8 where
+    /// there is none; 7, the id or the name is not UTF-8; 11, no bundle is open. The bundle stays.
     pub fn find(&mut self, alloc: Global, id: &[u8], name: &[u8]) -> u8
-        ensures { Does (WhenOpen (Finds id.now name.now)) self result }
+        ensures { SlotDoes (WhenOpen (HasPattern id.now name.now)) self result }
     {
         self.ask(alloc, &Part { id, name }).status()
     }
@@ -68,7 +71,7 @@ impl Call for Ids {
 }
 
 impl Call for Message<'_> {
-    ghost does = { λ it. Has it.id.now };
+    ghost does = { λ it. HasMessage it.id.now };
 
     fn done<'r, 's: 'r>(&self, _: Global, stock: &mut Stock<'r, 's>) -> Answer {
         let Ok(id) = str::from_utf8(self.id) else {
@@ -83,7 +86,7 @@ impl Call for Message<'_> {
 }
 
 impl Call for Part<'_> {
-    ghost does = { λ it. Finds it.id.now it.name.now };
+    ghost does = { λ it. HasPattern it.id.now it.name.now };
 
     fn done<'r, 's: 'r>(&self, _: Global, stock: &mut Stock<'r, 's>) -> Answer {
         let (Ok(id), Ok(name)) = (str::from_utf8(self.id), str::from_utf8(self.name)) else {

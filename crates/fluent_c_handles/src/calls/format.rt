@@ -1,6 +1,6 @@
 //! Formats messages.
-ghost use Rattle.fluent_c_handles.specs.Calls.{Formats, WhenOpen};
-ghost use Rattle.fluent_c_handles.specs.Kept.{GivesTexts};
+ghost use Rattle.fluent_c_handles.specs.Calls.Formatting.{Formats};
+ghost use Rattle.fluent_c_handles.specs.Answers.{SlotGivesTexts, WhenOpen};
 
 use crate::answer::Answer;
 use crate::slot::Slot;
@@ -19,7 +19,11 @@ struct Format<'w> {
 }
 
 impl Slot {
-    /// Formats the value of a message, or its attribute of a name that is not empty.
+    /// Formats the value of a message, or its attribute of a name that is not empty. The bundle stays. 0: `out` begins with the
+    /// text, and `err` with a line for each of its errors. 1: a buffer that has no room stays. Else nothing is given, and both
+    /// lengths are 0: 11, no bundle is open; 2, an allocation failed; or the first of these that holds: 7, the id or the name is
+    /// not UTF-8; 9, the arguments are cut short, or one begins with no kind of value; 10, one is not UTF-8; 8, there is no such
+    /// message.
     pub fn format(
         &mut self,
         alloc: Global,
@@ -30,7 +34,7 @@ impl Slot {
         err: &mut [u8],
         sizes: &mut Lengths,
     ) -> u8
-        ensures { GivesTexts (WhenOpen (Formats id.now name.now args.now)) self out err sizes result }
+        ensures { SlotGivesTexts (WhenOpen (Formats id.now name.now args.now)) self out err sizes result }
     {
         let answer = self.ask(alloc, &Format { id, name, args });
         answer.give(out, err, sizes)

@@ -1,9 +1,8 @@
 //! Opens a bundle, and sets it up.
 ghost use Rattle.std.specs.Prelude.{◌≡◌, None, is_some};
-ghost use Rattle.fluent_c_handles.specs.Calls.{Opens, OpensByRules, SetsLimit, WhenOpen};
-ghost use Rattle.fluent_c_handles.specs.Held.{meant_by};
+ghost use Rattle.fluent_c_handles.specs.Calls.Opening.{OpensByRules, OpensByTag, SetsLimit};
+ghost use Rattle.fluent_c_handles.specs.Answers.{SlotDoes, WhenOpen, held_content};
 ghost use Rattle.fluent_c_handles.specs.Inside.Boxed.{Boxed};
-ghost use Rattle.fluent_c_handles.specs.Kept.{Does};
 
 use crate::answer::Answer;
 use crate::opening::OpenFault;
@@ -36,14 +35,16 @@ struct Limit {
 }
 
 impl Slot {
-    /// Opens a bundle, by the tag of its language.
+    /// Opens a bundle (0), by the tag of its language, with an empty report. One that is open stays (12). Else none is open: 2, an
+    /// allocation failed; 4, the tag is not UTF-8; 5 or 6, there are no rules for it, or they can't be read.
     pub fn open(&mut self, alloc: Global, tag: &[u8], isolate: bool) -> u8
-        ensures { Does (Opens tag.now isolate) self result }
+        ensures { SlotDoes (OpensByTag tag.now isolate) self result }
     {
         self.turn(alloc, &ByTag { tag, isolate }).status()
     }
 
-    /// Opens a bundle, by the texts of its plural rules.
+    /// Opens a bundle (0), by the texts of its plural rules, with an empty report. One that is open stays (12). Else none is
+    /// open: 2, an allocation failed; 4, a text is not UTF-8; 6, the rules can't be read.
     pub fn open_rules(
         &mut self,
         alloc: Global,
@@ -51,7 +52,7 @@ impl Slot {
         ordinal: &[u8],
         isolate: bool,
     ) -> u8
-        ensures { Does (OpensByRules cardinal.now ordinal.now isolate) self result }
+        ensures { SlotDoes (OpensByRules cardinal.now ordinal.now isolate) self result }
     {
         let rules = ByRules {
             cardinal,
@@ -61,16 +62,17 @@ impl Slot {
         self.turn(alloc, &rules).status()
     }
 
-    /// Sets how many placeables one call opens, from 1 to 10,000.
+    /// Sets how many placeables one call opens (0), from 1 to 10,000. Else all stays: 13, it is none of these; 11, no bundle is
+    /// open.
     pub fn set_limit(&mut self, alloc: Global, limit: usize) -> u8
-        ensures { Does (WhenOpen (SetsLimit limit)) self result }
+        ensures { SlotDoes (WhenOpen (SetsLimit limit)) self result }
     {
         self.ask(alloc, &Limit { limit }).status()
     }
 }
 
 impl Turn for ByTag<'_> {
-    ghost does = { λ by. Opens by.tag.now by.isolate };
+    ghost does = { λ by. OpensByTag by.tag.now by.isolate };
 
     fn done<'r, 's: 'r>(
         &self,
@@ -122,7 +124,7 @@ fn open_by_tag<'r, 's: 'r>(
     isolate: bool,
 ) -> (RawBox<Stock<'r, 's>, Global>, bool, Answer)
     requires { none.held ≡ None }
-    ensures opens { Opens tag.now isolate None (meant_by result.0.held) result.2 }
+    ensures opens { OpensByTag tag.now isolate None (held_content result.0.held) result.2 }
     ensures open { result.1 ≡ is_some result.0.held }
 {
     let opened = Stock::open(alloc, tag, isolate);
@@ -136,7 +138,7 @@ fn open_by_rules<'r, 's: 'r>(
     by: &ByRules<'_>,
 ) -> (RawBox<Stock<'r, 's>, Global>, bool, Answer)
     requires { none.held ≡ None }
-    ensures opens { OpensByRules by.now.cardinal.now by.now.ordinal.now by.now.isolate None (meant_by result.0.held) result.2 }
+    ensures opens { OpensByRules by.now.cardinal.now by.now.ordinal.now by.now.isolate None (held_content result.0.held) result.2 }
     ensures open { result.1 ≡ is_some result.0.held }
 {
     let opened = Stock::open_by_rules(alloc, by.cardinal, by.ordinal, by.isolate);
@@ -150,7 +152,7 @@ fn boxed<'r, 's: 'r>(
     opened: Result<Stock<'r, 's>, OpenFault>,
 ) -> (RawBox<Stock<'r, 's>, Global>, bool, Answer)
     requires { none.held ≡ None }
-    ensures boxed { Boxed opened.entry (meant_by result.0.held) result.2 }
+    ensures boxed { Boxed opened.entry (held_content result.0.held) result.2 }
     ensures open { result.1 ≡ is_some result.0.held }
 {
     match opened {

@@ -1,6 +1,6 @@
 use Rattle.std.proofs.Common.{◌==◌, ◌≤◌, count_by, length, min, refl, ap, sym, subst, ◌∙◌, arith}
 use Rattle.std.specs.List.{slice_range}
-use Rattle.fluent_c_handles.specs.Told.{line_at}
+use Rattle.fluent_c_handles.specs.Calls.Adding.{line_at}
 use Rattle.fluent_c_handles.specs.Inside.Counted.{IsCounted}
 use Rattle.fluent_c_handles.proofs.Counting.{line_on, line_within}
 use Rattle.fluent_c_handles.proofs.counted.counted_to.Goals as goal

@@ -1,6 +1,6 @@
 use Rattle.std.proofs.Common.{length, map}
 use Rattle.std.specs.List.{All}
-use Rattle.fluent_c_handles.specs.Arguments.{AreTexts, StandBefore}
+use Rattle.fluent_c_handles.specs.Calls.Formatting.{HasTexts, StandBefore}
 use Rattle.fluent_c_handles.specs.Inside.ArgumentView.{argument_view}
 use Rattle.fluent_c_handles.proofs.encoded.arguments.Given as goal
 
@@ -8,7 +8,7 @@ use Rattle.fluent_c_handles.proofs.encoded.arguments.Given as goal
 abbrev pub invariant-loop-rest : goal.invariant-loop-rest
 invariant-loop-rest l =
     StandBefore (map argument_view l.list.items) l.bytes l.rest
-    × All AreTexts (map argument_view l.list.items)
+    × All HasTexts (map argument_view l.list.items)
 
 abbrev pub decreases-loop-rest : goal.decreases-loop-rest
 decreases-loop-rest l = length l.rest

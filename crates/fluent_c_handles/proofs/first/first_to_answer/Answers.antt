@@ -1,7 +1,7 @@
 use Rattle.std.proofs.Common.{arith, ◌≡◌, ◌∙◌, ap, below_more, length, None, refl}
 use Rattle.std.proofs.lemmas.List.{length-map}
-use Rattle.fluent_c_handles.specs.First.{answers}
-use Rattle.fluent_c_handles.specs.Kept.{kept_in, all_kept}
+use Rattle.fluent_c_handles.specs.Calls.Formatting.{answers}
+use Rattle.fluent_c_handles.specs.Answers.{all_kept, kept_in}
 use Rattle.fluent_c_handles.proofs.Found.{by_status}
 use Rattle.fluent_c_handles.proofs.Places.{index_of, left_by, no_index, stands_at}
 use Rattle.fluent_c_handles.proofs.first.first_to_answer.Goals as goal

@@ -1,6 +1,6 @@
 use Rattle.std.proofs.Common.{◌≡◌, ℕ, ◌<◌, false, get_or, None}
-use Rattle.fluent_c_handles.specs.First.{answers}
-use Rattle.fluent_c_handles.specs.Kept.{all_kept}
+use Rattle.fluent_c_handles.specs.Calls.Formatting.{answers}
+use Rattle.fluent_c_handles.specs.Answers.{all_kept}
 use Rattle.fluent_c_handles.proofs.first.first_to_answer.Given as goal
 
 -- all mean the same still, and those that were passed over are not asked

@@ -1,8 +1,8 @@
 use Rattle.std.proofs.Common.{arith, ◌≡◌, ◌∙◌, ◌<◌, sym, ap, length, Some, None}
 use Rattle.std.proofs.lemmas.List.{length-map}
 use Rattle.std.specs.List.{position}
-use Rattle.fluent_c_handles.specs.First.{answers}
-use Rattle.fluent_c_handles.specs.Kept.{kept_in, all_kept}
+use Rattle.fluent_c_handles.specs.Calls.Formatting.{answers}
+use Rattle.fluent_c_handles.specs.Answers.{all_kept, kept_in}
 use Rattle.fluent_c_handles.proofs.FirstGiven.{answers_as, formats_by, formats_none, stays}
 use Rattle.fluent_c_handles.proofs.Places.{found_at, found_none, left_by, stands_at, within}
 use Rattle.fluent_c_handles.proofs.first.format_first.Goals as goal

@@ -1,5 +1,5 @@
 use Rattle.std.proofs.Common.{◌≡◌, map, string_bytes}
-use Rattle.fluent_c_handles.specs.Listed.{id_lines}
+use Rattle.fluent_c_handles.specs.Calls.Finding.{id_lines}
 use Rattle.fluent_c_handles.proofs.message_ids.lines.Given as goal
 
 -- the lines of those so far

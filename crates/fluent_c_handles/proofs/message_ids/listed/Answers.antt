@@ -2,11 +2,11 @@ use Rattle.std.proofs.Common.{◌≡◌, List, [], ◌∷◌, map, IfOk, string_
 use Rattle.std.proofs.lemmas.List.{at_drop_all}
 use Rattle.std.specs.Borrow.{Bor}
 use Rattle.fluent_ast.specs.Tree.{Text}
-use Rattle.fluent_c_handles.specs.PlainView.{bundle_view}
-use Rattle.fluent_c_handles.specs.Inside.Given.{given}
+use Rattle.fluent_c_handles.specs.Answers.{bundle_view}
+use Rattle.fluent_c_handles.specs.Inside.Resources.{given}
 use Rattle.fluent_c_handles.specs.declared.message_ids.Added.{Added}
 use Rattle.fluent_c_handles.specs.Inside.Gathered.{gathered, seen, texts_of, with_resources}
-use Rattle.fluent_c_handles.specs.Listed.{id_lines, names_message}
+use Rattle.fluent_c_handles.specs.Calls.Finding.{id_lines, names_message}
 use Rattle.fluent_c_handles.proofs.Gathered.{all_gathered}
 use Rattle.fluent_c_handles.proofs.Ordered.{ids_rise}
 use Rattle.fluent_c_handles.proofs.message_ids.listed.Goals as goal

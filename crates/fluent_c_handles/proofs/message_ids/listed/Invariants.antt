@@ -1,8 +1,8 @@
 use Rattle.std.proofs.Common.{◌≡◌, [], drop}
-use Rattle.fluent_c_handles.specs.PlainView.{bundle_view}
-use Rattle.fluent_c_handles.specs.Inside.Given.{given}
+use Rattle.fluent_c_handles.specs.Answers.{bundle_view}
+use Rattle.fluent_c_handles.specs.Inside.Resources.{given}
 use Rattle.fluent_c_handles.specs.Inside.Gathered.{gathered, with_resources}
-use Rattle.fluent_c_handles.specs.Listed.{names_message}
+use Rattle.fluent_c_handles.specs.Calls.Finding.{names_message}
 use Rattle.fluent_c_handles.proofs.message_ids.listed.Given as goal
 
 -- those of the rest put beside those so far

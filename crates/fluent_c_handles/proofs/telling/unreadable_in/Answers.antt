@@ -2,7 +2,7 @@ use Rattle.std.proofs.Common.{◌++◌, get_or, ap, ◌∙◌}
 use Rattle.fluent_ast.specs.ParserError.{unreadable_text}
 use Rattle.fluent_ast.specs.declared.errors.ParserError.{ParserError}
 use Rattle.fluent_syntax.specs.Parsed.{error_range}
-use Rattle.fluent_c_handles.specs.Told.{told_line}
+use Rattle.fluent_c_handles.specs.Calls.Adding.{told_line}
 use Rattle.fluent_c_handles.specs.Inside.Lines.{lines_in}
 use Rattle.fluent_c_handles.proofs.Writing.{line_more}
 use Rattle.fluent_c_handles.proofs.telling.unreadable_in.Goals as goal

@@ -1,6 +1,6 @@
 use Rattle.std.proofs.Common.{◌≡◌, ◌++◌, drop, map}
 use Rattle.fluent_syntax.specs.Parsed.{error_range}
-use Rattle.fluent_c_handles.specs.Told.{unreadable_lines}
+use Rattle.fluent_c_handles.specs.Calls.Adding.{unreadable_lines}
 use Rattle.fluent_c_handles.specs.Inside.Lines.{lines_in}
 use Rattle.fluent_c_handles.proofs.telling.unreadable_in.Given as goal
 

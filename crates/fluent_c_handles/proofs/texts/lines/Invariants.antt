@@ -1,6 +1,6 @@
 use Rattle.std.proofs.Common.{◌≡◌, ◌++◌, drop, string_bytes}
 use Rattle.fluent_resolver_state.specs.Status.{reported}
-use Rattle.fluent_c_handles.specs.Texts.{error_lines}
+use Rattle.fluent_c_handles.specs.Calls.Formatting.{error_lines}
 use Rattle.fluent_c_handles.proofs.texts.lines.Given as goal
 
 -- the lines so far, and those of the rest

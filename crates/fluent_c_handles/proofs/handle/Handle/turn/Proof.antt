@@ -13,7 +13,7 @@ use Rattle.std.proofs.alloc.Calls.{Goes-blank, handle_tells}
 use Rattle.self_borrow.specs.Owned.{maybe_owns}
 use Rattle.self_borrow.specs.contracts.raw_box.RawBox as RB
 use Rattle.fluent_c_handles.specs.Handles.{stock_row, handle_owns}
-use Rattle.fluent_c_handles.specs.Held.{meant_by}
+use Rattle.fluent_c_handles.specs.Answers.{held_content}
 use Rattle.fluent_c_handles.proofs.Global.{Y, Hn, An, Ya, frees}
 use Rattle.fluent_c_handles.proofs.Handles.{opens, shuts}
 use Rattle.self_borrow.specs.Facts.Words.{P, word, word_in, word_out, word_typed, ptr_typed, three, three_in}
@@ -70,7 +70,7 @@ turn_spec 𝓤 𝓛 𝓜 𝓡 wired X LX g d met =
     move ! (2 ∷ 0 ∷ []) $ use0 𝓛 (raw (fact 𝓤 InX)) (fact_i 𝓤 InX (emp 𝓤) in_x) $ join ! $ move ! (1 ∷ 0 ∷ []) $ join ! $ use1 𝓛 (raw (G.pre y)) (id⊢ 𝓤 _) $
     calls_at ! (framed 𝓤 𝓛.H 𝓜 𝓣) G known y (and_then ! (get ! refl) (and_then ! (get ! refl) (and_then ! (get ! refl) (and_then ! (get ! refl) (no_more !))))) (λ u.
     let Given : RattleType = Tuple (Rb n.0 n.1 ∷ bool ∷ An ∷ []) in
-    let Gives : Given.Denot → Type 0 = λ r. g.does q.now (meant_by h.held) (meant_by r.0.held) r.2 × (r.1 ≡ is_some r.0.held) in
+    let Gives : Given.Denot → Type 0 = λ r. g.does q.now (held_content h.held) (held_content r.0.held) r.2 × (r.1 ≡ is_some r.0.held) in
     use1 𝓛 (later (some (λ (r : Given.Denot). ((‵ (flft ρ L) ⊛ ‵ (flft β R) ⊛ toks) ⊛ ‵ (Given.own_val r (u ∷ []))) ⊛ some (λ (ws : Lasts Ce y.0.0 y.0.3).
     ‵ (lasts Ce y.0.0 y.0.3 ws) ⊛ raw (fact 𝓤 (Gives r)))))) (id⊢ 𝓤 _) $
     await ! tt $ pick ! (λ r. split ! $ move ! (1 ∷ []) $ pick ! (λ ws. split ! $ drop ! $ heard ! (Gives r) (λ gives. split ! $ move ! (1 ∷ []) $

@@ -1,7 +1,6 @@
 use Rattle.std.proofs.Common.{sym, subst}
-use Rattle.fluent_c_handles.specs.PlainView.{bundle_view}
-use Rattle.fluent_c_handles.specs.Inside.Given.{given}
-use Rattle.fluent_c_handles.specs.Listed.{AllFrom}
+use Rattle.fluent_c_handles.specs.Answers.{bundle_view}
+use Rattle.fluent_c_handles.specs.Inside.Resources.{AllFrom, given}
 use Rattle.fluent_c_handles.proofs.From.{added_from}
 use Rattle.fluent_c_handles.proofs.stock.Stock.put.Goals as goal
 
@@ -10,5 +9,5 @@ pub invariant_of-self-2 : goal.invariant_of-self-2
 invariant_of-self-2 c =
     let b = bundle_view c.args.self.now.bundle in
     let b' = bundle_view c.add_free.new.bundle in
-    let before = subst (λ all. AllFrom (given all) b) (sym c.reserve.ensures.items) c.args.self.now.from in
-    record { from = subst (λ all. AllFrom (given all) b') (sym c.push_reserved.ensures.items) (added_from c.reserve.new.self.items (record { resource = c.args.resource }) b b' c.in_ok-add_free.ensures.ok before) }
+    let before = subst (λ all. AllFrom (given all) b.ids) (sym c.reserve.ensures.items) c.args.self.now.from in
+    record { from = subst (λ all. AllFrom (given all) b'.ids) (sym c.push_reserved.ensures.items) (added_from c.reserve.new.self.items (record { resource = c.args.resource }) b b' c.in_ok-add_free.ensures.ok before) }

@@ -1,0 +1,61 @@
+-- Which messages a bundle has.
+use Rattle.std.specs.Prelude.{◌≡◌, Bool, true, false, List, [], ◌∷◌, ◌++◌, map, is_some}
+use Rattle.std.specs.List.{filter}
+use Rattle.std.specs.Str.{IsUtf8}
+use Rattle.fluent_ast.specs.Tree.{Text}
+use Rattle.fluent_semantics.specs.Bundle.{Bundle}
+use Rattle.fluent_bundle.specs.BundleView.{message_at}
+use Rattle.fluent_c_handles.specs.Answers.{BundleCall, IsOneText, found_at}
+use Rattle.fluent_c_handles.specs.declared.answer.Answer.TheVariants as answer
+use Rattle.fluent_c_handles.specs.declared.sources.SourceFault.TheVariants as source_fault
+use Rattle.fluent_c_handles.specs.declared.texts.FormatFault.{FormatFault}
+use Rattle.fluent_c_handles.specs.declared.texts.FormatFault.TheVariants as format
+
+-- ---- the ids of all
+
+-- whether an id names a message
+abbrev pub names_message : Bundle Text → Text → Bool
+names_message b id = is_some (message_at id b)
+
+-- The ids that name a message: each once, in the order of its bytes.
+abbrev pub message_ids : Bundle Text → List Text
+message_ids b = filter (names_message b) (map (λ e. e.0) b.ids)
+
+-- a line for each
+abbrev pub id_lines : List Text → Text
+id_lines [] = []
+id_lines (id ∷ ids) = id ++ 10 ∷ id_lines ids
+
+-- these lines; or there was no memory
+abbrev pub ListsIds : BundleCall
+ListsIds m new (answer.Texts text lines) = (new ≡ m) × IsOneText (id_lines (message_ids m.bundle)) text lines
+ListsIds m new (answer.Fault source_fault.Memory) = new ≡ m
+ListsIds m new a = ⊥
+
+-- ---- by an id
+
+-- why there is none of the id
+abbrev pub HasNoMessage : Bundle Text → Text → FormatFault → Type 0
+HasNoMessage bundle id format.NotText = ¬ (IsUtf8 id)
+HasNoMessage bundle id format.NoMessage = IsUtf8 id × (is_some (message_at id bundle) ≡ false)
+HasNoMessage bundle id f = ⊥
+
+-- whether there is one of the id
+abbrev pub HasMessage : Text → BundleCall
+HasMessage id m new answer.Done = (new ≡ m) × (IsUtf8 id × (is_some (message_at id m.bundle) ≡ true))
+HasMessage id m new (answer.Fault (source_fault.Format f)) = (new ≡ m) × HasNoMessage m.bundle id f
+HasMessage id m new a = ⊥
+
+-- ---- by an id and the name of an attribute, which may be empty
+
+-- why there is none with the value or the attribute
+abbrev pub HasNoPattern : Bundle Text → Text → Text → FormatFault → Type 0
+HasNoPattern bundle id name format.NotText = ¬ (IsUtf8 id × IsUtf8 name)
+HasNoPattern bundle id name format.NoMessage = IsUtf8 id × IsUtf8 name × (is_some (found_at id name bundle) ≡ false)
+HasNoPattern bundle id name f = ⊥
+
+-- whether there is one with the value or the attribute
+abbrev pub HasPattern : Text → Text → BundleCall
+HasPattern id name m new answer.Done = (new ≡ m) × (IsUtf8 id × IsUtf8 name × (is_some (found_at id name m.bundle) ≡ true))
+HasPattern id name m new (answer.Fault (source_fault.Format f)) = (new ≡ m) × HasNoPattern m.bundle id name f
+HasPattern id name m new a = ⊥
