@@ -6,7 +6,7 @@ use Rattle.fluent_ast.specs.Tree.{Text, Entry, Pattern}
 use Rattle.fluent_semantics.specs.Value.{Value, text_value, try_number}
 use Rattle.fluent_semantics.specs.Arguments.{Map, set_all}
 use Rattle.fluent_semantics.specs.Bundle.{Bundle}
-use Rattle.fluent_fallback.specs.Chain.{Shown, pattern_at, first_with, shown_of}
+use Rattle.fluent_fallback.specs.Chain.{Shown, pattern_asked, first_with, shown_of}
 use Rattle.fluent_cli.specs.Answers.{status_shown}
 use Rattle.fluent_cli.specs.Language.{bundle_of}
 use Rattle.fluent_cli.specs.declared.answer.Answer.{Answer}

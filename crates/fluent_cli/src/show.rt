@@ -1,7 +1,7 @@
 //! A message as an application shows it.
 
 ghost use Rattle.std.specs.Prelude.{◌≡◌, [], IfOk, map, string_bytes};
-ghost use Rattle.fluent_fallback.specs.ChainView.{bundles_of};
+ghost use Rattle.fluent_fallback.specs.Chain.{bundles_of};
 ghost use Rattle.fluent_values.specs.View.{named, value_view};
 ghost use Rattle.fluent_cli.specs.Answers.{status_shown};
 ghost use Rattle.fluent_cli.specs.Files.{entries_read};

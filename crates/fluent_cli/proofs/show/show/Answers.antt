@@ -1,5 +1,5 @@
 use Rattle.std.proofs.Common.{◌≡◌, ◌∙◌, ap, map, rules, string_bytes}
-use Rattle.fluent_fallback.specs.ChainView.{bundles_of}
+use Rattle.fluent_fallback.specs.Chain.{bundles_of}
 use Rattle.fluent_cli.specs.Files.{entries_read}
 use Rattle.fluent_cli.specs.Language.{alone, bundle_view}
 use Rattle.fluent_cli.specs.Shown.{bundles_for, shown_by, printed}
