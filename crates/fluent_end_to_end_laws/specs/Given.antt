@@ -8,7 +8,7 @@ use Rattle.std.proofs.Common.{Global}
 use Rattle.fluent_text.specs.Changes.{Change, new, old}
 use Rattle.fluent_text.specs.declared.counting.Counting.{Counting}
 use Rattle.fluent_text.specs.declared.counting.WriteFault.{WriteFault}
-use Rattle.fluent_ast.specs.Tree.{Text, Pattern}
+use Rattle.fluent_ast.specs.Tree.{Text}
 use Rattle.fluent_ast.specs.declared.ast.Pattern as code
 use Rattle.fluent_semantics.specs.Bundle.{Bundle}
 use Rattle.fluent_values.specs.declared.args.FluentArgs.{FluentArgs}
