@@ -1,9 +1,7 @@
 //! The bundles of several languages, the best first.
 ghost use Rattle.std.specs.Prelude.{◌≡◌, [], ◌∷◌, ◌++◌, map, OnOk, OnErr};
 ghost use Rattle.fluent_bundle.specs.BundleView.{attribute_at, value_at};
-ghost use Rattle.fluent_fallback.specs.Chain.{index_with};
-ghost use Rattle.fluent_fallback.specs.ChainCalls.{BorrowsFirst, GivesFirst};
-ghost use Rattle.fluent_fallback.specs.ChainView.{bundles_of};
+ghost use Rattle.fluent_fallback.specs.Chain.{index_with, BorrowsFirst, GivesFirst, bundles_of};
 ghost use Rattle.fluent_catalog.specs.CatalogView.{IsUnchanged, bundles_in, tag_in, tag_seen, tags_in};
 
 use fluent_bundle::{

@@ -1,8 +1,7 @@
 -- What the linter says where it finds nothing.
-use Rattle.std.proofs.Common.{◌≡◌, List, [], ◌∷◌, ◌++◌, inl, inr, refl, sym, ap, subst}
+use Rattle.std.proofs.Common.{◌≡◌, List, [], ◌∷◌, ◌++◌, inl, inr, refl, sym, ap, subst, Global}
 use Rattle.std.specs.List.{AllByRecursion}
 use Rattle.std.specs.declared.vec.Vec.{Vec}
-use Rattle.std.proofs.Common.{Global}
 use Rattle.fluent_ast.specs.Tree.{Text}
 use Rattle.fluent_semantics.specs.Bundle.{Bundle}
 use Rattle.fluent_lint.specs.Clean.{Place, names_of, IsFine, NeverFails}
@@ -11,8 +10,8 @@ use Rattle.fluent_lint.specs.Findings.{places_in_resources as places_in, IsNamed
 use Rattle.fluent_bundle.specs.BundleView.{entries_of}
 use Rattle.fluent_bundle.specs.declared.resource.FluentResource.{FluentResource}
 use Rattle.fluent_lint.specs.declared.finding.Finding.{Finding}
-use Rattle.fluent_cli.specs.Checked.{NoneFails, places_of}
-use Rattle.fluent_cli.specs.Language.{entries_of_all}
+use Rattle.fluent_cli.specs.Runs.{NoneFails, places_of}
+use Rattle.fluent_cli.specs.Inside.Bundles.{entries_of_all}
 
 same_places : (rs : List FluentResource) → places_in rs ≡ places_of (entries_of_all rs)
 same_places [] = refl

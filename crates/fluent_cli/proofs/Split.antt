@@ -2,7 +2,7 @@
 use Rattle.std.proofs.Common.{◌≡◌, ◌∙◌, ℕ, zero, suc, Bool, true, false, List, [], ◌∷◌, ◌++◌, map, take, drop, Option, Some, None, refl, ap, subst, append_assoc, if◌then◌else◌}
 use Rattle.fluent_ast.specs.Tree.{Text}
 use Rattle.fluent_syntax.specs.Chunks.{entries}
-use Rattle.fluent_cli.specs.Files.{Read, file_entries, is_text, mark_line, mark_lines, no_text_in, read_of}
+use Rattle.fluent_cli.specs.Runs.{Read, file_entries, is_text, mark_line, mark_lines, no_text_in, read_of}
 use Rattle.fluent_cli.specs.declared.source.File.{File}
 
 -- the first that is no text is among the first ones

@@ -1,7 +1,7 @@
 //! What a run leaves: its status, what it prints, and what it says on standard error.
 
 ghost use Rattle.std.specs.Prelude.{◌≡◌, IfOk, string_bytes};
-ghost use Rattle.fluent_cli.specs.Answers.{IsFault, IsUnreadable, code_of};
+ghost use Rattle.fluent_cli.specs.Runs.{SaysOnly, IsUnreadable, code_of};
 
 use std::alloc::{AllocError, Global};
 
@@ -10,8 +10,8 @@ use std::alloc::{AllocError, Global};
 pub enum Status {
     /// No error was found. There may be warnings.
     Fine,
-    /// Something was found: an error, also one in a text that is shown strictly.
-    Found,
+    /// Something is wrong: there is a finding, a message is missing, or a text that is shown strictly has an error.
+    Wrong,
     /// The words are not of the form that the program takes.
     Usage,
     /// A file can't be read, or an allocation failed.
@@ -25,7 +25,7 @@ impl Status {
     {
         match self {
             Status::Fine => 0,
-            Status::Found => 1,
+            Status::Wrong => 1,
             Status::Usage => 2,
             Status::Fault => 3,
         }
@@ -45,7 +45,7 @@ pub struct Answer {
 impl Answer {
     /// A fault of the words, or of a file, with its line on standard error.
     pub(crate) fn fault(alloc: Global, status: Status, errors: String) -> Answer
-        ensures { IsFault status (string_bytes errors) result }
+        ensures { SaysOnly status (string_bytes errors) result }
     {
         Answer {
             status,

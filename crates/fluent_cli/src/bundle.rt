@@ -1,6 +1,7 @@
 //! Bundles of sources.
 ghost use Rattle.std.specs.Prelude.{◌≡◌, IfOk, OnOk, map};
-ghost use Rattle.fluent_cli.specs.Language.{adding, all_of, alone, bundle_view, entries_of_all, language_rules, start_of};
+ghost use Rattle.fluent_cli.specs.Inside.Bundles.{adding, alone, bundle_view, entries_of_all};
+ghost use Rattle.fluent_cli.specs.Runs.{all_of, language_rules, start_of};
 
 use fluent_bundle::{
     AddFault, FluentBundle, FluentResource, NoCustom, NoFormatter, NoFunction, NoTransform,

@@ -1,10 +1,10 @@
 //! What is wrong with the files of a language.
 
 ghost use Rattle.std.specs.Prelude.{◌≡◌, IfOk};
-ghost use Rattle.fluent_cli.specs.Answers.{EndsWith, counts_line, status_over};
-ghost use Rattle.fluent_cli.specs.Checked.{IsChecked, Tells, TellsAll, tag_of};
-ghost use Rattle.fluent_cli.specs.Files.{entries_read};
-ghost use Rattle.fluent_cli.specs.Language.{bundle_view};
+ghost use Rattle.fluent_cli.specs.Runs.{EndsWith, counts_line, IsChecked, tag_of};
+ghost use Rattle.fluent_cli.specs.Inside.Reports.{status_over, Tells, TellsAll};
+ghost use Rattle.fluent_cli.specs.Inside.Reading.{entries_read};
+ghost use Rattle.fluent_cli.specs.Inside.Bundles.{bundle_view};
 
 use crate::answer::{Answer, Status};
 use crate::asking::{asking_in, parts_of};
@@ -25,7 +25,7 @@ use std::alloc::{AllocError, Global};
 
 /// What is found, and whether the linter found nothing.
 #[derive(Drop)]
-struct Found<'s> {
+struct Checked<'s> {
     findings: Vec<Finding<'s>>,
     is_clean: bool,
 }
@@ -141,7 +141,7 @@ fn findings_of<'s>(
     language: Option<&str>,
     sources: &Sources<'s>,
     references: &Sources<'s>,
-) -> Result<Found<'s>, AllocError>
+) -> Result<Checked<'s>, AllocError>
     ensures { IfOk result (TellsAll language.entry sources.now) }
 {
     let mut findings = Vec::new(alloc);
@@ -155,7 +155,7 @@ fn findings_of<'s>(
     };
     let is_clean = add_of_patterns(alloc, language, sources, references, &side, &mut findings)?;
     sort(alloc, &mut findings)?;
-    Ok(Found { findings, is_clean })
+    Ok(Checked { findings, is_clean })
 }
 
 /// The texts of both.
@@ -177,7 +177,7 @@ fn status_of(is_clean: bool, counts: Counts) -> Status
     if is_clean && counts.errors == 0 && counts.warnings == 0 {
         Status::Fine
     } else {
-        Status::Found
+        Status::Wrong
     }
 }
 

@@ -1,8 +1,8 @@
 //! What the linter finds.
 
 ghost use Rattle.std.specs.Prelude.{◌≡◌, [], IsTrue};
-ghost use Rattle.fluent_cli.specs.Checked.{Tells};
-ghost use Rattle.fluent_cli.specs.Language.{bundle_view, entries_of_all};
+ghost use Rattle.fluent_cli.specs.Inside.Reports.{Tells};
+ghost use Rattle.fluent_cli.specs.Inside.Bundles.{bundle_view, entries_of_all};
 
 use crate::bundle::Bundle;
 use crate::finding::Kind;

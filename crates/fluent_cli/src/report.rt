@@ -1,7 +1,8 @@
 //! Findings with their places, and how they are printed.
 
 ghost use Rattle.std.specs.Prelude.{OnOk};
-ghost use Rattle.fluent_cli.specs.Answers.{Adds, counted, counts_line};
+ghost use Rattle.fluent_cli.specs.Inside.Reports.{Adds};
+ghost use Rattle.fluent_cli.specs.Runs.{counted, counts_line};
 
 use crate::finding::{Kind, Weight};
 use crate::source::Source;

@@ -1,9 +1,8 @@
 //! A run of the program, over the contents of its files.
 
 ghost use Rattle.std.specs.Prelude.{◌≡◌, IfOk};
-ghost use Rattle.fluent_cli.specs.Answers.{IsFault};
-ghost use Rattle.fluent_cli.specs.Files.{entries_read};
-ghost use Rattle.fluent_cli.specs.Runs.{Gives, Runs, no_text_line, own_count};
+ghost use Rattle.fluent_cli.specs.Runs.{SaysOnly, Gives, Runs, no_text_line, own_count};
+ghost use Rattle.fluent_cli.specs.Inside.Reading.{entries_read};
 
 use crate::answer::{Answer, Status};
 use crate::check::check;
@@ -16,7 +15,7 @@ use std::alloc::{AllocError, Global};
 
 /// What is left where a file is no text.
 fn no_text(alloc: Global, name: &str) -> Result<Answer, AllocError>
-    ensures { IfOk result (IsFault Status.Fault (no_text_line name.now)) }
+    ensures { IfOk result (SaysOnly Status.Fault (no_text_line name.now)) }
 {
     let errors = format!(in alloc; "fluent: {name}: not UTF-8\n")?;
     Ok(Answer::fault(alloc, Status::Fault, errors))

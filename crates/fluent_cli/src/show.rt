@@ -1,12 +1,12 @@
 //! A message as an application shows it.
 
 ghost use Rattle.std.specs.Prelude.{◌≡◌, [], IfOk, map, string_bytes};
-ghost use Rattle.fluent_fallback.specs.ChainView.{bundles_of};
+ghost use Rattle.fluent_fallback.specs.Chain.{bundles_of};
 ghost use Rattle.fluent_values.specs.View.{named, value_view};
-ghost use Rattle.fluent_cli.specs.Answers.{status_shown};
-ghost use Rattle.fluent_cli.specs.Files.{entries_read};
-ghost use Rattle.fluent_cli.specs.Language.{bundle_view};
-ghost use Rattle.fluent_cli.specs.Shown.{IsShown, arguments_of, is_there, shown_by, value_of};
+ghost use Rattle.fluent_cli.specs.Runs.{status_shown, IsShown, arguments_of, is_there, value_of};
+ghost use Rattle.fluent_cli.specs.Inside.Reading.{entries_read};
+ghost use Rattle.fluent_cli.specs.Inside.Bundles.{bundle_view};
+ghost use Rattle.fluent_cli.specs.Inside.Reports.{shown_by};
 
 use crate::answer::{Answer, Status};
 use crate::bundle::bundles_of;
@@ -110,7 +110,7 @@ fn status_of(is_there: bool, is_strict: bool, is_wrong: bool) -> Status
     if is_there && !(is_strict && is_wrong) {
         Status::Fine
     } else {
-        Status::Found
+        Status::Wrong
     }
 }
 

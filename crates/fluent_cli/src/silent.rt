@@ -1,7 +1,7 @@
 //! What makes a text wrong without an error.
 
 ghost use Rattle.std.specs.Prelude.{IfOk, OnOk};
-ghost use Rattle.fluent_cli.specs.Language.{bundle_view};
+ghost use Rattle.fluent_cli.specs.Inside.Bundles.{bundle_view};
 ghost use Rattle.fluent_cli.specs.Inside.Silent.{AddsAsking, AddsNoNumber, AddsUngiven, AreAsking};
 
 use crate::bundle::Bundle;

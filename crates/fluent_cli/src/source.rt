@@ -1,8 +1,9 @@
 //! Files, and the texts and entries in them.
 
 ghost use Rattle.std.specs.Prelude.{◌≡◌, ◌≤◌, [], IfOk, IsTrue, OnOk, length, map};
-ghost use Rattle.fluent_cli.specs.Answers.{Adds};
-ghost use Rattle.fluent_cli.specs.Files.{AreRead, IsTextOf, ReadsAll, ReadsFile, ReadsMore, has_mark, mark_line, mark_lines, read_view, without_mark};
+ghost use Rattle.fluent_cli.specs.Inside.Reports.{Adds};
+ghost use Rattle.fluent_cli.specs.Inside.Reading.{AreRead, IsTextOf, ReadsAll, ReadsFile, ReadsMore, read_view};
+ghost use Rattle.fluent_cli.specs.Runs.{has_mark, mark_line, mark_lines, without_mark};
 
 use fluent_bundle::{FluentResource, ParserError};
 use std::alloc::{AllocError, Global};

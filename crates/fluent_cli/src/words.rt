@@ -1,7 +1,7 @@
 //! What the words of a call ask for.
 
 ghost use Rattle.std.specs.Prelude.{◌≡◌, IfOk};
-ghost use Rattle.fluent_cli.specs.Runs.{IsAsked, file_names};
+ghost use Rattle.fluent_cli.specs.Runs.{AsksOrHelps, file_names};
 
 use crate::answer::{Answer, Status};
 use clap::error::ErrorKind;
@@ -185,7 +185,7 @@ fn command<'a>(alloc: Global) -> Result<Command<'a>, AllocError> {
 
 /// A fault of the words, in the form in which `clap` says its own.
 fn refused<'w>(alloc: Global, text: &str) -> Result<Asked<'w>, AllocError>
-    ensures { IfOk result IsAsked }
+    ensures { IfOk result AsksOrHelps }
 {
     let errors = format!(in alloc; "error: {text}\n\nFor more information, try '--help'.\n")?;
     Ok(Asked::Answer(Answer::fault(alloc, Status::Usage, errors)))
@@ -193,7 +193,7 @@ fn refused<'w>(alloc: Global, text: &str) -> Result<Asked<'w>, AllocError>
 
 /// What is said where the words ask for help, or are not of the form.
 fn said<'w>(alloc: Global, error: Error) -> Result<Asked<'w>, AllocError>
-    ensures { IfOk result IsAsked }
+    ensures { IfOk result AsksOrHelps }
 {
     if error.kind() == ErrorKind::OutOfMemory {
         return Err(AllocError);
@@ -265,7 +265,7 @@ fn id_and_attribute(word: &str) -> (&str, Option<&str>) {
 }
 
 fn asked_to_show<'w>(alloc: Global, matches: &ArgMatches<'w>) -> Result<Asked<'w>, AllocError>
-    ensures { IfOk result IsAsked }
+    ensures { IfOk result AsksOrHelps }
 {
     let mut arguments = Vec::new(alloc);
     let plain = values(alloc, matches, "argument")?;
@@ -298,7 +298,7 @@ fn asked_to_show<'w>(alloc: Global, matches: &ArgMatches<'w>) -> Result<Asked<'w
 ///
 /// An allocation failed.
 pub fn ask<'w>(alloc: Global, words: &'w [String]) -> Result<Asked<'w>, AllocError>
-    ensures { IfOk result IsAsked }
+    ensures { IfOk result AsksOrHelps }
 {
     let matches = match command(alloc)?.try_get_matches_from(words) {
         Ok(matches) => matches,

@@ -1,5 +1,5 @@
 -- What is given and written in a bundle that a call makes first. Where an allocation fails before the bundle is there, nothing is.
-use Rattle.std.specs.Prelude.{◌≡◌, ◌⊎◌, Bool, Option, Some, None, Result}
+use Rattle.std.specs.Prelude.{◌≡◌, ◌⊎◌, Bool, Option, Result}
 use Rattle.std.specs.Result.{IsErr}
 use Rattle.std.specs.Borrow.{Bor}
 use Rattle.std.specs.declared.alloc.AllocError.{AllocError}
@@ -8,12 +8,12 @@ use Rattle.std.proofs.Common.{Global}
 use Rattle.fluent_text.specs.Changes.{Change, new, old}
 use Rattle.fluent_text.specs.declared.counting.Counting.{Counting}
 use Rattle.fluent_text.specs.declared.counting.WriteFault.{WriteFault}
-use Rattle.fluent_ast.specs.Tree.{Text, Pattern}
+use Rattle.fluent_ast.specs.Tree.{Text}
 use Rattle.fluent_ast.specs.declared.ast.Pattern as code
 use Rattle.fluent_semantics.specs.Bundle.{Bundle}
 use Rattle.fluent_values.specs.declared.args.FluentArgs.{FluentArgs}
-use Rattle.fluent_bundle.specs.BundleView.{attribute_at, value_at}
 use Rattle.fluent_bundle.specs.Formatted.{AddsSome, Errors, GivesFound, GivesWhole, GivesWithin, WritesBeginning, WritesFound, WritesWhole, WritesWithin, written}
+use Rattle.fluent_fallback.specs.Chain.{pattern_asked}
 
 -- ---- of a pattern: what a bundle gives and writes of it, by what an application's values show, with arguments
 
@@ -28,10 +28,6 @@ pub record WritesAfter {C W : Type 0} (b : Bundle Text) (content : C → Text) (
   pub prefix : WritesBeginning b content args p contents w errors
 
 -- ---- of the value of the message that an id names, or its first attribute where a name is given
-
-abbrev pub pattern_asked : Text → Option (Bor Text) → Bundle Text → Option Pattern
-pattern_asked id None b = value_at id b
-pattern_asked id (Some name) b = attribute_at id name.now b
 
 module _ {C : Type 0} (b : Bundle Text) (content : C → Text) (args : Option (Bor (FluentArgs C))) (id : Text) (name : Option (Bor Text)) where
   -- it is found as in the bundle, or nothing was begun

@@ -6,7 +6,8 @@ ghost use Rattle.fluent_syntax.specs.Chunks.{entries};
 ghost use Rattle.fluent_text.specs.Writer.{CountsFault};
 ghost use Rattle.fluent_bundle.specs.BundleView.{entries_of};
 ghost use Rattle.fluent_bundle.specs.Formatted.{GivesFound, WritesFound};
-ghost use Rattle.fluent_end_to_end_laws.specs.Given.{FindsAfter, GivesAfter, WritesAfter, WritesFoundAfter, pattern_asked};
+ghost use Rattle.fluent_end_to_end_laws.specs.Given.{FindsAfter, GivesAfter, WritesAfter, WritesFoundAfter};
+ghost use Rattle.fluent_fallback.specs.Chain.{pattern_asked};
 ghost use Rattle.fluent_end_to_end_laws.specs.Made.{made};
 ghost use Rattle.fluent_end_to_end_laws.specs.Inside.OnTheWay.{source_of, AreReadFor, AsksOver, AskAll};
 

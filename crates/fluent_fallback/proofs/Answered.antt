@@ -18,10 +18,9 @@ use Rattle.fluent_semantics.specs.Arguments.{Map}
 use Rattle.fluent_semantics.specs.Bundle.{Bundle}
 use Rattle.fluent_semantics.specs.Errors.{Error}
 use Rattle.fluent_semantics.specs.Value.{Value}
-use Rattle.fluent_bundle.specs.Formatted.{BorrowsAsked, BorrowsSome, GivesAsked, GivesSome, GivesText, TakesNoMemory, WritesAsked}
+use Rattle.fluent_bundle.specs.Formatted.{BorrowsAsked, BorrowsSome, GivesAsked, GivesSome, GivesText, TakesNoMemory, WritesAsked, Errors}
 use Rattle.fluent_bundle.specs.declared.bundle.FluentBundle.{FluentBundle}
-use Rattle.fluent_fallback.specs.Chain.{first_with}
-use Rattle.fluent_fallback.specs.ChainCalls.{Errors, GivesOrId, BorrowsOrId, NeedsNoMemory, WritesOrId}
+use Rattle.fluent_fallback.specs.Chain.{first_with, GivesOrId, BorrowsOrId, NeedsNoMemory, WritesOrId}
 use Rattle.fluent_fallback.proofs.First.{adds_none, answers, prefix_alone, gives_alone, gives_of, puts_alone, writes_of}
 
 -- ---- a text that was given

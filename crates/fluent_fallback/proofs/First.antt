@@ -15,14 +15,13 @@ use Rattle.fluent_bundle_entries.specs.declared.errors.FluentError.{FluentError}
 use Rattle.fluent_semantics.specs.Events.{writes}
 use Rattle.fluent_resolver_state.specs.Status.{reported}
 use Rattle.fluent_bundle.specs.Facts.Events.{errors_of, text_of, writes_on}
-use Rattle.fluent_bundle.specs.Formatted.{AddsPrefix, GivesText, WritesAll, WritesPrefix}
+use Rattle.fluent_bundle.specs.Formatted.{AddsPrefix, GivesText, WritesAll, WritesPrefix, Errors}
 use Rattle.fluent_text.specs.declared.counting.WriteFault.{WriteFault}
 use Rattle.std.specs.declared.alloc.AllocError.{AllocError}
 use Rattle.fluent_semantics.specs.Arguments.{Map}
 use Rattle.fluent_semantics.specs.Bundle.{Bundle}
 use Rattle.fluent_semantics.specs.Value.{Value}
-use Rattle.fluent_fallback.specs.Chain.{index_with, or_others, first_with}
-use Rattle.fluent_fallback.specs.ChainCalls.{Errors, GivesOrId, GivesOwned, WritesOrId}
+use Rattle.fluent_fallback.specs.Chain.{index_with, or_others, first_with, GivesOrId, GivesOwned, WritesOrId}
 
 -- a bundle that has none is passed over
 pub first_with-none : {B : Type 0} (has : B → Option Pattern) (b : B) (bs : List B) → has b ≡ None → first_with has (b ∷ bs) ≡ first_with has bs

@@ -4,10 +4,8 @@ ghost use Rattle.std.specs.Option.{option_map};
 ghost use Rattle.fluent_text.specs.Writer.{CountsFault};
 ghost use Rattle.fluent_bundle.specs.BundleView.{attribute_at, value_at};
 ghost use Rattle.fluent_bundle.specs.Formatted.{BorrowsAsked, GivesFound, TakesNoMemory, WritesFound};
-ghost use Rattle.fluent_fallback.specs.Chain.{index_with};
-ghost use Rattle.fluent_fallback.specs.ChainCalls.{BorrowsFirst, FirstTakesNoMemory, GivesFirst, OwnsFirst, WritesFirst};
-ghost use Rattle.fluent_fallback.specs.ChainView.{bundles_of, has, pattern_of, referred};
-ghost use Rattle.fluent_fallback.specs.Inside.Found.{index, pattern_asked, pattern_seen};
+ghost use Rattle.fluent_fallback.specs.Chain.{index_with, BorrowsFirst, FirstTakesNoMemory, GivesFirst, OwnsFirst, WritesFirst, bundles_of, has, pattern_of, referred, pattern_asked};
+ghost use Rattle.fluent_fallback.specs.Inside.Found.{index, pattern_seen};
 
 use fluent_bundle::{
     Counting, FluentArgs, FluentBundle, FluentError, FluentFormatter, FluentFunction, FluentType,

@@ -3,8 +3,8 @@
 
 ghost use Rattle.std.specs.Prelude.{◌≡◌, ◌≢◌};
 ghost use Rattle.std.specs.IoError.{error_kind};
-ghost use Rattle.fluent_show_cli.specs.Ending.{bad_usage, out_of_memory};
-ghost use Rattle.fluent_show_cli.specs.EndingView.{ending_view};
+ghost use Rattle.fluent_show_cli.specs.Program.{bad_usage, out_of_memory};
+ghost use Rattle.fluent_show_cli.specs.Runs.{ending_view};
 
 use fluent_bundle::Counting;
 use fluent_show_cli::input::Reads;

@@ -7,11 +7,8 @@ use Rattle.fluent_text.specs.Writer.{Faulted}
 use Rattle.fluent_text.specs.declared.counting.WriteFault.{WriteFault}
 use Rattle.fluent_text.specs.declared.counting.WriteFault.TheVariants.{Memory, Writer, Zero}
 use Rattle.fluent_semantics.specs.Errors.{Error}
-use Rattle.fluent_show_cli.specs.Ending.{Ending, exit_status, out_of_memory, ending_line, error_lines, said}
-use Rattle.fluent_show_cli.specs.Outcome.{as_defined, by_reading, by_writing, by_memory, by_memory_read, by_memory_shown, ReportsRun, whole, short, whole_begun, short_begun, RanTo, IsStopped, unread, unwritten, unsaid, refused}
-use Rattle.fluent_show_cli.specs.Input.{Inlet, ReadFor}
-use Rattle.fluent_show_cli.specs.Outlet.{Outlet, Precedes, Rose, TakesAll}
-use Rattle.fluent_show_cli.specs.Program.{Run, First}
+use Rattle.fluent_show_cli.specs.Program.{Ending, exit_status, out_of_memory, ending_line, error_lines, said, Run, First}
+use Rattle.fluent_show_cli.specs.Runs.{as_defined, by_reading, by_writing, by_memory, by_memory_read, by_memory_shown, ReportsRun, whole, short, whole_begun, short_begun, RanTo, IsStopped, unread, unwritten, unsaid, refused, Inlet, ReadFor, Outlet, Precedes, Rose, TakesAll}
 use Rattle.fluent_show_cli.specs.Inside.Said.{Says, BeganToSay, TookErrors}
 use Rattle.fluent_show_cli.proofs.Taking.{prefix_short, prefix_then}
 

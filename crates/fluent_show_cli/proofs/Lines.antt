@@ -6,8 +6,8 @@ use Rattle.fluent_semantics.specs.Errors.{Error, error_text}
 use Rattle.fluent_resolver_state.specs.Status.{reported}
 use Rattle.fluent_bundle_entries.specs.ErrorView.{error_view}
 use Rattle.fluent_bundle_entries.specs.declared.errors.FluentError.{FluentError}
-use Rattle.fluent_show_cli.specs.Ending.{line, error_lines}
-use Rattle.fluent_show_cli.specs.Outlet.{Precedes}
+use Rattle.fluent_show_cli.specs.Program.{line, error_lines}
+use Rattle.fluent_show_cli.specs.Runs.{Precedes}
 
 error_lines-append : (xs ys : List Error) → error_lines (xs ++ ys) ≡ error_lines xs ++ error_lines ys
 error_lines-append [] ys = refl

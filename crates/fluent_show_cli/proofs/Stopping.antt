@@ -14,9 +14,8 @@ use Rattle.fluent_semantics.specs.Value.{Value}
 use Rattle.fluent_resolver_state.specs.Status.{reported}
 use Rattle.fluent_bundle_entries.specs.declared.errors.FluentError.{FluentError}
 use Rattle.fluent_bundle.specs.Formatted.{AddsAll, EventsAreRun, WritesPrefix, written_events}
-use Rattle.fluent_show_cli.specs.Ending.{Ending, shown}
-use Rattle.fluent_show_cli.specs.Outlet.{Precedes}
-use Rattle.fluent_show_cli.specs.Program.{Run, First, all_first, in_pieces}
+use Rattle.fluent_show_cli.specs.Program.{Ending, shown, Run, First, all_first, in_pieces}
+use Rattle.fluent_show_cli.specs.Runs.{Precedes}
 use Rattle.fluent_show_cli.specs.Inside.OutputProgress.{Added, Stops, before, after, TookPart}
 use Rattle.fluent_show_cli.proofs.Adding.{added_to_none, adds_then}
 

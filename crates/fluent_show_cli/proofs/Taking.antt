@@ -15,7 +15,7 @@ use Rattle.fluent_semantics.specs.Result.{written_pattern}
 use Rattle.fluent_semantics.specs.Value.{Value}
 use Rattle.fluent_bundle.specs.Formatted.{EventsAreRun, WritesAll, WritesPrefix, written_events}
 use Rattle.fluent_bundle_entries.specs.declared.errors.FluentError.{FluentError}
-use Rattle.fluent_show_cli.specs.Ending.{line}
+use Rattle.fluent_show_cli.specs.Program.{line}
 use Rattle.fluent_show_cli.specs.Inside.OutputProgress.{Added, Took}
 use Rattle.fluent_show_cli.proofs.Adding.{always, ok_alike}
 

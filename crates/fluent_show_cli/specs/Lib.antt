@@ -1,11 +1,3 @@
-pub mod Words
-pub mod Limits
-pub mod Input
-pub mod Outlet
-pub mod Plurals
-pub mod Ending
-pub mod EndingView
 pub mod Program
-pub mod Outcome
-pub mod RunView
+pub mod Runs
 pub mod Inside

@@ -1,12 +1,11 @@
 //! The bytes of an input, by a bounded number of single reads.
-#![tactic(auto, unfolding(crate::specs::Input::reader_in, crate::specs::Input::room_in, crate::specs::Input::made_in, crate::specs::Input::state_in))]
+#![tactic(auto, unfolding(crate::specs::Runs::reader_in, crate::specs::Runs::room_in, crate::specs::Runs::made_in, crate::specs::Runs::state_in))]
 
 ghost use Rattle.std.specs.Prelude.{◌≡◌, ◌+◌, ◌≤◌, ◌<◌, IfOk, IfErr, OnOk};
 ghost use Rattle.std.specs.Io.KnownBytes.{IsAtEnd};
-ghost use Rattle.fluent_show_cli.specs.Input.{ReadsAreBounded, reader_in, made_in, state_in};
+ghost use Rattle.fluent_show_cli.specs.Runs.{ReadsAreBounded, reader_in, made_in, state_in, most_reads};
 ghost use Rattle.fluent_show_cli.specs.Inside.OneRead.{ReadsInto, state_after};
 ghost use Rattle.fluent_show_cli.specs.Inside.WholeRead.{Gave, StaysOpen, StaysUnread};
-ghost use Rattle.fluent_show_cli.specs.Limits.{most_reads};
 
 use std::alloc::{AllocError, Global};
 use std::io;

@@ -1,7 +1,7 @@
 //! The options before the id of a message.
 
 ghost use Rattle.std.specs.Prelude.{◌≡◌};
-ghost use Rattle.fluent_show_cli.specs.Words.{no_options, once, with_text, without_isolation, word_of};
+ghost use Rattle.fluent_show_cli.specs.Program.{no_options, once, with_text, without_isolation, word_of};
 ghost use Rattle.fluent_show_cli.specs.Inside.WordsView.{options_seen, options_view, text_view};
 
 /// How a message is shown, and from which sources.

@@ -4,10 +4,9 @@ ghost use Rattle.std.specs.Prelude.{◌≡◌, ◌≢◌, Err, IfOk, string_byte
 ghost use Rattle.fluent_text.specs.Writer.{CountsFault};
 ghost use Rattle.fluent_semantics.specs.Errors.{error_text};
 ghost use Rattle.fluent_bundle_entries.specs.ErrorView.{error_view};
-ghost use Rattle.fluent_show_cli.specs.Ending.{exit_status, line, no_message, ending_line};
+ghost use Rattle.fluent_show_cli.specs.Program.{exit_status, line, no_message, ending_line};
 ghost use Rattle.fluent_resolver_state.specs.Status.{reported};
-ghost use Rattle.fluent_show_cli.specs.EndingView.{ending_view};
-ghost use Rattle.fluent_show_cli.specs.RunView.{SaysAlone};
+ghost use Rattle.fluent_show_cli.specs.Runs.{ending_view, SaysAlone};
 ghost use Rattle.fluent_show_cli.specs.Inside.OutputProgress.{Took};
 ghost use Rattle.fluent_show_cli.specs.Inside.Said.{At, SaysAll, SaysPrefix, TookErrors, line_of};
 
@@ -53,7 +52,7 @@ impl<'w> Ending<'w> {
 }
 
 impl<'w> From<WriteFault> for Ending<'w> {
-    ghost use Rattle.fluent_show_cli.specs.EndingView.{ending_view, ending_of};
+    ghost use Rattle.fluent_show_cli.specs.Runs.{ending_view, ending_of};
 
     ghost from_gives = { λ fault ending. ending_view ending ≡ ending_of fault };
 
@@ -66,7 +65,7 @@ impl<'w> From<WriteFault> for Ending<'w> {
 }
 
 impl<'w> From<RuleFault> for Ending<'w> {
-    ghost use Rattle.fluent_show_cli.specs.EndingView.{ending_view, ending_of_rules};
+    ghost use Rattle.fluent_show_cli.specs.Runs.{ending_view, ending_of_rules};
 
     ghost from_gives = { λ fault ending. ending_view ending ≡ ending_of_rules fault };
 

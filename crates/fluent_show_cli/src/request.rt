@@ -2,7 +2,7 @@
 
 ghost use Rattle.std.specs.Prelude.{◌≡◌, string_bytes, nat_eq, codes};
 ghost use Rattle.std.specs.List.{list_all, starts_with};
-ghost use Rattle.fluent_show_cli.specs.Words.{name_and_value, is_argument, asked_from, asked_after, asked_by};
+ghost use Rattle.fluent_show_cli.specs.Program.{name_and_value, is_argument, asked_from, asked_after, asked_by};
 ghost use Rattle.fluent_show_cli.specs.Inside.WordsView.{asked_seen, options_view, texts_of};
 
 use crate::options::{Named, Options, Word, word_of};

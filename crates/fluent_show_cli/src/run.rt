@@ -2,11 +2,8 @@
 
 ghost use Rattle.std.specs.Prelude.{◌≡◌, ◌≢◌, ◌≤◌, [], None};
 ghost use Rattle.fluent_resolver_state.specs.Status.{reported};
-ghost use Rattle.fluent_show_cli.specs.Plurals.{HasBadRule};
-ghost use Rattle.fluent_show_cli.specs.Ending.{bad_usage, reading_failed};
-ghost use Rattle.fluent_show_cli.specs.EndingView.{ending_view};
-ghost use Rattle.fluent_show_cli.specs.Input.{ReadsAreBounded};
-ghost use Rattle.fluent_show_cli.specs.RunView.{IsUntouched, Ran, Stopped, Works, asked_of};
+ghost use Rattle.fluent_show_cli.specs.Program.{HasBadRule, bad_usage, reading_failed};
+ghost use Rattle.fluent_show_cli.specs.Runs.{ending_view, ReadsAreBounded, IsUntouched, CameTo, Stopped, Works, asked_of};
 ghost use Rattle.fluent_show_cli.specs.Inside.Ends.{EndsAsked, EndsOnRule, EndsOver, EndsReading, ReadAs};
 ghost use Rattle.fluent_show_cli.specs.Inside.RunWith.{RanWith};
 
@@ -142,7 +139,7 @@ pub fn run<R: Read, W: Write, E: Write>(
         out.old out.new err.old err.new result }
     ensures stopped { Stopped R.remaining W.contents E.contents input.old input.new
         out.old out.new err.old err.new result }
-    ensures ran { Ran R.remaining W.contents E.contents words.now input.old input.new
+    ensures ran { CameTo R.remaining W.contents E.contents words.now input.old input.new
         out.old out.new err.old err.new result }
     ensures unread { asked_of words.now ≡ None → input.new ≡ input.old }
     ensures untouched { HasBadRule (asked_of words.now) → IsUntouched input.old input.new }

@@ -4,14 +4,13 @@ ghost use Rattle.std.specs.Prelude.{◌≡◌, ◌≢◌, [], Err, IfOk};
 ghost use Rattle.fluent_syntax.specs.Chunks as grammar;
 ghost use Rattle.fluent_text.specs.Writer.{CountsFault};
 ghost use Rattle.fluent_bundle.specs.BundleView.{entries_of};
-ghost use Rattle.fluent_show_cli.specs.Ending.{line};
+ghost use Rattle.fluent_show_cli.specs.Program.{line, junk_errors, start};
 ghost use Rattle.fluent_show_cli.specs.Inside.PluralsView.{plurals_view};
 ghost use Rattle.fluent_show_cli.specs.Inside.BundleView.{args_view, bundle_view};
 ghost use Rattle.fluent_show_cli.specs.Inside.Comes as of;
 ghost use Rattle.fluent_show_cli.specs.Inside.Comes.{words_arguments, AddsAs, AddsErrors, EndsAs, GivesAs, Puts, PutsPart, StopsAs};
 ghost use Rattle.fluent_show_cli.specs.Inside.OutputProgress.{Took};
 ghost use Rattle.fluent_show_cli.specs.Inside.Said.{At};
-ghost use Rattle.fluent_show_cli.specs.Program.{junk_errors, start};
 
 use crate::plurals::Plurals;
 use crate::report::Ending;

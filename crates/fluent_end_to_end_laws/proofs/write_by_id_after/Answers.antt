@@ -1,5 +1,5 @@
 use Rattle.std.proofs.Common.{rules, ◌≡◌, false, inr, is_ok, refl}
-use Rattle.fluent_end_to_end_laws.specs.Given.{pattern_asked}
+use Rattle.fluent_fallback.specs.Chain.{pattern_asked}
 use Rattle.fluent_end_to_end_laws.proofs.Nothing.{is_err, of_ok, writes_found_in}
 use Rattle.fluent_end_to_end_laws.proofs.write_by_id_after.Goals as goal
 

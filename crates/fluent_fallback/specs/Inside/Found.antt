@@ -7,13 +7,8 @@ use Rattle.fluent_ast.specs.View.{pattern_view}
 use Rattle.fluent_ast.specs.declared.ast.Pattern as tree
 use Rattle.fluent_semantics.specs.Bundle.{Bundle}
 use Rattle.fluent_bundle.specs.declared.bundle.FluentBundle.{FluentBundle}
-use Rattle.fluent_fallback.specs.Chain.{pattern_at, index_with}
-use Rattle.fluent_fallback.specs.ChainView.{bundles_of, pattern_of}
+use Rattle.fluent_fallback.specs.Chain.{bundles_of, index_with, pattern_of}
 use Rattle.fluent_fallback.specs.declared.chain.Chain.{Chain}
-
--- the value of the message that an id names, or its attribute where a name is given
-abbrev pub pattern_asked : Text → Option (Bor Text) → Bundle Text → Option Pattern
-pattern_asked id name = pattern_at id (option_map (λ n. n.now) name)
 
 -- a pattern, if there is one
 abbrev pub pattern_seen : Option (Bor tree.Pattern) → Option Pattern

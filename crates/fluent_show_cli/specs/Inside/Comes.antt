@@ -25,10 +25,8 @@ use Rattle.fluent_values.specs.declared.function.NoFunction.{NoFunction}
 use Rattle.fluent_values.specs.declared.transform.NoTransform.{NoTransform}
 use Rattle.fluent_values.specs.declared.types.custom.NoCustom.{NoCustom}
 use Rattle.fluent_fallback.specs.Chain.{chain_value}
-use Rattle.fluent_show_cli.specs.Ending.{line}
-use Rattle.fluent_show_cli.specs.EndingView.{ending_view}
-use Rattle.fluent_show_cli.specs.Program.{Run, First, adding_errors, all_first, arguments_of, bundle_of, error_at, first_alone, first_of_source, in_pieces, run_alone, run_both, run_chain, run_fallback, run_source, run_value}
-use Rattle.fluent_show_cli.specs.Words.{name_and_value}
+use Rattle.fluent_show_cli.specs.Program.{line, Run, First, adding_errors, all_first, arguments_of, bundle_of, error_at, first_alone, first_of_source, in_pieces, run_alone, run_both, run_chain, run_fallback, run_source, run_value, name_and_value}
+use Rattle.fluent_show_cli.specs.Runs.{ending_view}
 use Rattle.fluent_show_cli.specs.Inside.BundleView.{bundle_view}
 use Rattle.fluent_show_cli.specs.Inside.OutputProgress.{Added, Stops, Took, TookPart}
 use Rattle.fluent_show_cli.specs.Inside.PluralsView.{plurals_view}

@@ -6,12 +6,8 @@ use Rattle.fluent_text.specs.declared.counting.Counting.{Counting}
 use Rattle.fluent_ast.specs.Tree.{Text}
 use Rattle.fluent_resolver_state.specs.Status.{reported}
 use Rattle.fluent_bundle_entries.specs.declared.errors.FluentError.{FluentError}
-use Rattle.fluent_show_cli.specs.Ending.{bad_rule, out_of_memory}
-use Rattle.fluent_show_cli.specs.EndingView.{ending_view}
-use Rattle.fluent_show_cli.specs.Input.{ReadFor, inlet, reader_in, state_in}
-use Rattle.fluent_show_cli.specs.Outcome.{AreLeft, EndsRun}
-use Rattle.fluent_show_cli.specs.Outlet.{outlet}
-use Rattle.fluent_show_cli.specs.Program.{first_of, first_of_source, run_input, run_of}
+use Rattle.fluent_show_cli.specs.Program.{bad_rule, out_of_memory, first_of, first_of_source, run_input, run_of}
+use Rattle.fluent_show_cli.specs.Runs.{ending_view, ReadFor, inlet, reader_in, state_in, AreLeft, EndsRun, outlet}
 use Rattle.fluent_show_cli.specs.Inside.PluralsView.{plurals_view}
 use Rattle.fluent_show_cli.specs.Inside.WordsView.{asked_view}
 use Rattle.fluent_show_cli.specs.declared.input.InputState.{InputState}

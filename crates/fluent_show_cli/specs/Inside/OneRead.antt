@@ -1,7 +1,7 @@
 -- What a single read of the input shows.
 use Rattle.std.specs.Prelude.{ℕ, zero, suc, List, Option, Result, Ok, Err}
 use Rattle.std.specs.Io.KnownBytes.{ReadConsumes}
-use Rattle.fluent_show_cli.specs.Input.{reader_in, room_in}
+use Rattle.fluent_show_cli.specs.Runs.{reader_in, room_in}
 use Rattle.fluent_show_cli.specs.declared.input.InputState.{InputState}
 use Rattle.fluent_show_cli.specs.declared.input.InputState.TheVariants.{Open, AtEnd, Failed}
 use Rattle.fluent_show_cli.specs.declared.input.Reads.{Reads}

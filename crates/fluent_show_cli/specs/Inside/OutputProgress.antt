@@ -10,9 +10,8 @@ use Rattle.fluent_semantics.specs.Errors.{Error}
 use Rattle.fluent_semantics.specs.Laws.{Begins}
 use Rattle.fluent_bundle_entries.specs.declared.errors.FluentError.{FluentError}
 use Rattle.fluent_bundle.specs.Formatted.{AddsAll, AddsPrefix}
-use Rattle.fluent_show_cli.specs.Ending.{Ending, shown}
-use Rattle.fluent_show_cli.specs.Outlet.{Precedes}
-use Rattle.fluent_show_cli.specs.Program.{First}
+use Rattle.fluent_show_cli.specs.Program.{Ending, shown, First}
+use Rattle.fluent_show_cli.specs.Runs.{Precedes}
 
 -- A beginning of the errors was added, and all of them where the answer is Ok.
 pub record Added {T E : Type 0} (result : Result T E) (errors : List Error)

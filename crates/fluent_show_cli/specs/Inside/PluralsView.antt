@@ -6,7 +6,7 @@ use Rattle.fluent_plural_rules.specs.declared.rule_texts.RuleTexts.{RuleTexts}
 use Rattle.fluent_plural_rules.specs.declared.rule_texts.fault.RuleFault.{RuleFault}
 use Rattle.fluent_plural_rules.specs.declared.rule_texts.fault.RuleFault.TheVariants.{Memory}
 use Rattle.fluent_semantics.specs.Value as m
-use Rattle.fluent_show_cli.specs.Plurals.{plurals_asked}
+use Rattle.fluent_show_cli.specs.Program.{plurals_asked}
 use Rattle.fluent_show_cli.specs.Inside.WordsView.{options_view}
 use Rattle.fluent_show_cli.specs.declared.options.Options.{Options}
 use Rattle.fluent_show_cli.specs.declared.plurals.Plurals.{Plurals}

@@ -4,9 +4,7 @@ use Rattle.std.proofs.Common.{Global}
 use Rattle.fluent_text.specs.declared.counting.Counting.{Counting}
 use Rattle.fluent_ast.specs.Tree.{Text}
 use Rattle.fluent_semantics.specs.Errors.{Error}
-use Rattle.fluent_show_cli.specs.Input.{inlet, reader_in}
-use Rattle.fluent_show_cli.specs.Outcome.{AreLeft, RanTo}
-use Rattle.fluent_show_cli.specs.Outlet.{outlet}
+use Rattle.fluent_show_cli.specs.Runs.{inlet, reader_in, AreLeft, RanTo, outlet}
 use Rattle.fluent_show_cli.specs.Program.{first_of, run_of}
 use Rattle.fluent_show_cli.specs.declared.input.Reads.{Reads}
 

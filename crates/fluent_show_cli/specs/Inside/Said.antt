@@ -10,9 +10,8 @@ use Rattle.fluent_text.specs.declared.counting.Counting.{Counting}
 use Rattle.fluent_semantics.specs.Errors.{Error}
 use Rattle.fluent_resolver_state.specs.Status.{reported}
 use Rattle.fluent_bundle_entries.specs.declared.errors.FluentError.{FluentError}
-use Rattle.fluent_show_cli.specs.Ending.{Ending, out_of_memory, ending_line, error_lines, said}
-use Rattle.fluent_show_cli.specs.EndingView.{ending_view}
-use Rattle.fluent_show_cli.specs.Outlet.{Precedes}
+use Rattle.fluent_show_cli.specs.Program.{Ending, out_of_memory, ending_line, error_lines, said}
+use Rattle.fluent_show_cli.specs.Runs.{ending_view, Precedes}
 use Rattle.fluent_show_cli.specs.declared.report.Ending as code
 
 -- The lines of all errors were taken; where an allocation failed for the line of one, those before it;

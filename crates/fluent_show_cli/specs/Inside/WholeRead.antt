@@ -3,7 +3,7 @@ use Rattle.std.specs.Prelude.{◌≡◌, ℕ, List, Option}
 use Rattle.std.specs.Io.KnownBytes.{Consumes}
 use Rattle.std.specs.declared.vec.Vec.{Vec}
 use Rattle.std.proofs.Common.{Global}
-use Rattle.fluent_show_cli.specs.Input.{IsUnread, inlet, reader_in, state_in}
+use Rattle.fluent_show_cli.specs.Runs.{IsUnread, inlet, reader_in, state_in}
 use Rattle.fluent_show_cli.specs.declared.input.InputState.TheVariants.{Open}
 use Rattle.fluent_show_cli.specs.declared.input.ReadFault.{ReadFault}
 use Rattle.fluent_show_cli.specs.declared.input.ReadFault.TheVariants.{Memory, Reading}

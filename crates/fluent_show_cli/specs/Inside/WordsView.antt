@@ -4,8 +4,8 @@ use Rattle.std.specs.Option.{option_map}
 use Rattle.std.specs.Borrow.{Bor}
 use Rattle.std.proofs.Common.{Global}
 use Rattle.fluent_ast.specs.Tree.{Text}
-use Rattle.fluent_show_cli.specs.Words as w
-use Rattle.fluent_show_cli.specs.Words.{Asked, name_and_value}
+use Rattle.fluent_show_cli.specs.Program as w
+use Rattle.fluent_show_cli.specs.Program.{Asked, name_and_value}
 use Rattle.fluent_show_cli.specs.declared.options.Options.{Options}
 use Rattle.fluent_show_cli.specs.declared.request.Request.{Request}
 

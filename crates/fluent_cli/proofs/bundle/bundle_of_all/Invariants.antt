@@ -1,6 +1,7 @@
 use Rattle.std.proofs.Common.{◌≡◌, drop, map}
 use Rattle.fluent_semantics.specs.Bundle.{add_resource, after_all}
-use Rattle.fluent_cli.specs.Language.{all_of, bundle_view, entries_of_all}
+use Rattle.fluent_cli.specs.Runs.{all_of}
+use Rattle.fluent_cli.specs.Inside.Bundles.{bundle_view, entries_of_all}
 use Rattle.fluent_cli.proofs.bundle.bundle_of_all.Given as goal
 
 abbrev pub invariant-loop-resource : goal.invariant-loop-resource

@@ -1,5 +1,5 @@
 use Rattle.std.proofs.Common.{◌≡◌, map, take}
-use Rattle.fluent_cli.specs.Language.{alone, bundle_view}
+use Rattle.fluent_cli.specs.Inside.Bundles.{alone, bundle_view}
 use Rattle.fluent_cli.proofs.bundle.bundles_of.Given as goal
 
 abbrev pub invariant-loop-resource : goal.invariant-loop-resource

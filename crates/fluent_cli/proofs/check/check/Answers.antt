@@ -1,7 +1,7 @@
 use Rattle.std.proofs.Common.{◌≡◌, ◌⊎◌, ◌∙◌, sym, subst}
-use Rattle.fluent_cli.specs.Answers.{EndsWith, counts_line}
-use Rattle.fluent_cli.specs.declared.answer.Status.TheVariants.{Fine, Found}
-use Rattle.fluent_cli.proofs.Statuses.{fine_has_no_error, fine_has_no_warning, fine_is_clean, fine_or_found}
+use Rattle.fluent_cli.specs.Runs.{EndsWith, counts_line}
+use Rattle.fluent_cli.specs.declared.answer.Status.TheVariants.{Fine, Wrong}
+use Rattle.fluent_cli.proofs.Statuses.{fine_has_no_error, fine_has_no_warning, fine_is_clean, fine_or_wrong}
 use Rattle.fluent_cli.proofs.check.check.Goals as goal
 
 pub returns : goal.returns
@@ -11,7 +11,7 @@ returns c =
     let printed = c.put_report.new.output in
     let said = sym c.status_of.ensures in
     record {
-      status = subst (λ s. (s ≡ Fine) ⊎ (s ≡ Found)) said (fine_or_found is_clean counts.errors counts.warnings);
+      status = subst (λ s. (s ≡ Fine) ⊎ (s ≡ Wrong)) said (fine_or_wrong is_clean counts.errors counts.warnings);
       clean = λ fine. c.in_ok-found.ensures (fine_is_clean is_clean counts.errors counts.warnings (said ∙ fine));
       counts = λ fine.
           subst (λ n. EndsWith (counts_line 0 n) printed) (fine_has_no_warning is_clean counts.errors counts.warnings (said ∙ fine))

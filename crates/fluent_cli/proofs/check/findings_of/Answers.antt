@@ -1,7 +1,7 @@
 use Rattle.std.proofs.Common.{◌≡◌, rules, subst}
-use Rattle.fluent_cli.specs.Checked.{NoneFails, tag_of}
-use Rattle.fluent_cli.specs.Files.{entries_read}
-use Rattle.fluent_cli.specs.Language.{all_of, bundle_view}
+use Rattle.fluent_cli.specs.Runs.{NoneFails, tag_of, all_of}
+use Rattle.fluent_cli.specs.Inside.Reading.{entries_read}
+use Rattle.fluent_cli.specs.Inside.Bundles.{bundle_view}
 use Rattle.fluent_cli.proofs.check.findings_of.Goals as goal
 
 pub returns : goal.returns

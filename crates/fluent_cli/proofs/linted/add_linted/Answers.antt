@@ -1,5 +1,5 @@
 use Rattle.std.proofs.Common.{◌≡◌, []}
-use Rattle.fluent_cli.specs.Language.{bundle_view}
+use Rattle.fluent_cli.specs.Inside.Bundles.{bundle_view}
 use Rattle.fluent_cli.proofs.Found.{none_fails}
 use Rattle.fluent_cli.proofs.linted.add_linted.Goals as goal
 

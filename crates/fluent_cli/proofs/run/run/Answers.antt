@@ -1,6 +1,6 @@
 use Rattle.std.proofs.Common.{◌≡◌, ◌∙◌, Some, None, Ok, Err, IfOk, map, take, drop, length, string_bytes, refl, sym, ap, subst, rules}
-use Rattle.fluent_cli.specs.Files.{AreOf, ReadsAll, file_entries, no_text_in, read_of, read_view}
-use Rattle.fluent_cli.specs.Runs.{Gives, RunsBy, own_count}
+use Rattle.fluent_cli.specs.Inside.Reading.{AreOf, ReadsAll, read_view}
+use Rattle.fluent_cli.specs.Runs.{file_entries, no_text_in, read_of, Gives, RunsBy, own_count}
 use Rattle.fluent_cli.proofs.Split.{entries_of_files, marks_told, named_first, named_later}
 use Rattle.fluent_cli.proofs.run.run.Goals as goal
 

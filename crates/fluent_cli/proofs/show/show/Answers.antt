@@ -1,9 +1,12 @@
-use Rattle.std.proofs.Common.{◌≡◌, ◌∙◌, ap, map, rules, string_bytes}
-use Rattle.fluent_fallback.specs.ChainView.{bundles_of}
-use Rattle.fluent_cli.specs.Files.{entries_read}
-use Rattle.fluent_cli.specs.Language.{alone, bundle_view}
-use Rattle.fluent_cli.specs.Shown.{bundles_for, shown_by, printed}
+use Rattle.std.proofs.Common.{◌≡◌, ◌∙◌, [], ◌∷◌, ◌++◌, ap, map, rules, string_bytes}
+use Rattle.std.specs.Prelude.{filter_map, get_or}
+use Rattle.fluent_fallback.specs.Chain.{bundles_of}
+use Rattle.fluent_cli.specs.Inside.Reading.{entries_read}
+use Rattle.fluent_cli.specs.Inside.Bundles.{alone, bundle_view}
+use Rattle.fluent_cli.specs.Runs.{bundles_for, text_asked}
+use Rattle.fluent_cli.specs.Inside.Reports.{shown_by}
 use Rattle.fluent_cli.proofs.Alone.{each_alone}
+use Rattle.fluent_cli.proofs.Shown.{first_shown}
 use Rattle.fluent_cli.proofs.show.show.Goals as goal
 
 pub returns : goal.returns
@@ -16,8 +19,9 @@ returns c =
     let means : map bundle_view (bundles_of c.of-texts.result) ≡ bundles_for request (entries_read c.args.sources.now) =
     each ∙ each_alone request.language.now resources in
     let text : string_bytes c.push_str.new.self
-    ≡ printed (shown_by request (map bundle_view (bundles_of c.of-texts.result))) = search rules in
+    ≡ (shown_by request (map bundle_view (bundles_of c.of-texts.result))).text ++ 10 ∷ [] = search rules in
     record {
-      output = text ∙ ap (λ bundles. printed (shown_by request bundles)) means;
+      output = text ∙ ap (λ t. t ++ 10 ∷ [])
+          (first_shown request (map bundle_view (bundles_of c.of-texts.result)) ∙ ap (λ bundles. get_or (filter_map (text_asked request) bundles) 0 request.id.now) means);
       status = rw (← means) (search rules);
     }

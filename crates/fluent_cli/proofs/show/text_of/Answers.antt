@@ -1,6 +1,6 @@
 use Rattle.std.proofs.Common.{◌≡◌, [], rules}
 use Rattle.fluent_values.specs.View.{named}
-use Rattle.fluent_cli.specs.Shown.{arguments_of}
+use Rattle.fluent_cli.specs.Runs.{arguments_of}
 use Rattle.fluent_cli.proofs.show.text_of.Goals as goal
 
 pub returns-in-Some : goal.returns-in-Some

@@ -1,4 +1,4 @@
-use Rattle.fluent_cli.specs.Language.{bundle_view}
+use Rattle.fluent_cli.specs.Inside.Bundles.{bundle_view}
 use Rattle.fluent_cli.specs.Inside.Silent.{AddsAsking}
 use Rattle.fluent_cli.proofs.silent.add_asking.Given as goal
 

@@ -1,4 +1,4 @@
-use Rattle.fluent_cli.specs.Language.{bundle_view}
+use Rattle.fluent_cli.specs.Inside.Bundles.{bundle_view}
 use Rattle.fluent_cli.specs.Inside.Silent.{AreAsking}
 use Rattle.fluent_cli.proofs.silent.asking_of.Given as goal
 

@@ -1,5 +1,6 @@
 use Rattle.std.proofs.Common.{◌≡◌, drop, map, take}
-use Rattle.fluent_cli.specs.Files.{AreRead, no_text_in, read_of}
+use Rattle.fluent_cli.specs.Inside.Reading.{AreRead}
+use Rattle.fluent_cli.specs.Runs.{no_text_in, read_of}
 use Rattle.fluent_cli.proofs.source.read_sources.Given as goal
 
 abbrev pub invariant-loop-file : goal.invariant-loop-file

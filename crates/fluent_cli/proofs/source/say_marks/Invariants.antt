@@ -1,5 +1,6 @@
 use Rattle.std.proofs.Common.{◌≡◌, ◌++◌, map, string_bytes, take}
-use Rattle.fluent_cli.specs.Files.{mark_lines, read_view}
+use Rattle.fluent_cli.specs.Runs.{mark_lines}
+use Rattle.fluent_cli.specs.Inside.Reading.{read_view}
 use Rattle.fluent_cli.proofs.source.say_marks.Given as goal
 
 abbrev pub invariant-loop-source : goal.invariant-loop-source

@@ -1,7 +1,6 @@
 use Rattle.std.proofs.Common.{◌≡◌, ◌-◌, ◌≤◌, length}
 use Rattle.std.specs.Io.KnownBytes.{Consumes}
-use Rattle.fluent_show_cli.specs.Input.{ReadsAreBounded, reader_in, made_in, state_in}
-use Rattle.fluent_show_cli.specs.Limits.{most_reads}
+use Rattle.fluent_show_cli.specs.Runs.{ReadsAreBounded, reader_in, made_in, state_in, most_reads}
 use Rattle.fluent_show_cli.specs.declared.input.InputState.TheVariants.{Open}
 use Rattle.fluent_show_cli.proofs.input.read_all.Given as goal
 

@@ -3,7 +3,7 @@ use Rattle.std.proofs.KnownBytes.{Appends-trans}
 use Rattle.fluent_text.specs.Writer.{writer_in}
 use Rattle.fluent_text.specs.declared.counting.WriteFault.TheVariants.{Memory}
 use Rattle.fluent_text.specs.Taken.{TookPrefix}
-use Rattle.fluent_show_cli.specs.Ending.{error_lines}
+use Rattle.fluent_show_cli.specs.Program.{error_lines}
 use Rattle.fluent_resolver_state.specs.Status.{reported}
 use Rattle.fluent_show_cli.proofs.Began.{took_fault}
 use Rattle.fluent_show_cli.proofs.Lines.{one_more, first_precede, lines_on}

@@ -1,7 +1,7 @@
 use Rattle.std.proofs.Common.{◌≡◌, take}
 use Rattle.std.specs.Io.KnownBytes.{Appends}
 use Rattle.fluent_text.specs.Writer.{writer_in, failed_in, empty_in}
-use Rattle.fluent_show_cli.specs.Ending.{error_lines}
+use Rattle.fluent_show_cli.specs.Program.{error_lines}
 use Rattle.fluent_resolver_state.specs.Status.{reported}
 use Rattle.fluent_show_cli.proofs.report.put_errors.Given as goal
 

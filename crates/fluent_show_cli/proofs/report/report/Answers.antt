@@ -5,9 +5,9 @@ use Rattle.fluent_text.specs.Writer.{writer_in}
 use Rattle.fluent_text.specs.Taken.{TookPrefix}
 use Rattle.fluent_text.specs.declared.counting.WriteFault.{WriteFault}
 use Rattle.fluent_text.specs.declared.counting.WriteFault.TheVariants.{Memory}
-use Rattle.fluent_show_cli.specs.Ending.{ending_line}
+use Rattle.fluent_show_cli.specs.Program.{ending_line}
 use Rattle.fluent_resolver_state.specs.Status.{reported}
-use Rattle.fluent_show_cli.specs.EndingView.{ending_view}
+use Rattle.fluent_show_cli.specs.Runs.{ending_view}
 use Rattle.fluent_show_cli.specs.declared.report.Ending.{Ending}
 use Rattle.fluent_show_cli.specs.Inside.Said.{TookErrors}
 use Rattle.fluent_show_cli.proofs.Began.{began_all, began_errors, began_some}

@@ -1,9 +1,7 @@
 use Rattle.std.proofs.Common.{rules, ◌≡◌, map, string_bytes, subst}
 use Rattle.fluent_text.specs.declared.counting.WriteFault.TheVariants.{Memory}
 use Rattle.fluent_resolver_state.specs.Status.{reported}
-use Rattle.fluent_show_cli.specs.EndingView.{ending_view}
-use Rattle.fluent_show_cli.specs.Outcome.{ReportsRun}
-use Rattle.fluent_show_cli.specs.Outlet.{outlet}
+use Rattle.fluent_show_cli.specs.Runs.{ending_view, ReportsRun, outlet}
 use Rattle.fluent_show_cli.proofs.Began.{reports_said, reports_begun}
 use Rattle.fluent_show_cli.proofs.Coming.{none_asked, rule_asked}
 use Rattle.fluent_show_cli.proofs.run.run_with.Goals as goal

@@ -1,5 +1,5 @@
 use Rattle.std.proofs.Common.{rules}
-use Rattle.fluent_show_cli.specs.Input.{reader_in}
+use Rattle.fluent_show_cli.specs.Runs.{reader_in}
 use Rattle.fluent_show_cli.proofs.Coming.{ends_unread, ends_no_memory, some_left}
 use Rattle.fluent_show_cli.proofs.run.show_input.Goals as goal
 

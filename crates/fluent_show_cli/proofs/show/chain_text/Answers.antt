@@ -4,9 +4,7 @@ use Rattle.std.specs.declared.borrow.CowStr.{CowStr}
 use Rattle.fluent_ast.specs.Tree.{Text}
 use Rattle.fluent_semantics.specs.Arguments.{Map}
 use Rattle.fluent_semantics.specs.Value.{Value}
-use Rattle.fluent_fallback.specs.Chain.{first_with, pattern_at}
-use Rattle.fluent_fallback.specs.ChainCalls.{GivesOrId}
-use Rattle.fluent_fallback.specs.ChainView.{bundles_of}
+use Rattle.fluent_fallback.specs.Chain.{first_with, pattern_asked, GivesOrId, bundles_of}
 use Rattle.fluent_show_cli.specs.Inside.BundleView.{args_view, bundle_view}
 use Rattle.fluent_show_cli.specs.Inside.Comes.{Bundle, Errors}
 use Rattle.fluent_show_cli.proofs.Taking.{given_line}

@@ -5,11 +5,9 @@ use Rattle.fluent_ast.specs.Tree.{Text, Entry}
 use Rattle.fluent_syntax.specs.Chunks.{entries}
 use Rattle.fluent_semantics.specs.Value.{Plurals}
 use Rattle.fluent_bundle.specs.BundleView.{entries_of}
-use Rattle.fluent_show_cli.specs.Ending.{line}
-use Rattle.fluent_show_cli.specs.Words.{Asked}
+use Rattle.fluent_show_cli.specs.Program.{line, Asked, Run, after_errors, both_junk_errors, run_both, run_fallback}
 use Rattle.fluent_show_cli.specs.Inside.WordsView.{asked_view}
 use Rattle.fluent_show_cli.specs.Inside.PluralsView.{plurals_view}
-use Rattle.fluent_show_cli.specs.Program.{Run, after_errors, both_junk_errors, run_both, run_fallback}
 use Rattle.fluent_show_cli.specs.Inside.OutputProgress.{Added}
 use Rattle.fluent_show_cli.proofs.Adding.{added_short, added_then}
 use Rattle.fluent_show_cli.proofs.show.fallback_text.Goals as goal

@@ -2,8 +2,7 @@ use Rattle.std.proofs.Common.{◌≡◌, ◌∙◌, ap, map}
 use Rattle.std.specs.List.{slice_get}
 use Rattle.std.specs.Option.{option_and_then}
 use Rattle.fluent_bundle.specs.BundleView.{attribute_at, meant}
-use Rattle.fluent_fallback.specs.Chain.{index_with}
-use Rattle.fluent_fallback.specs.ChainView.{bundles_of}
+use Rattle.fluent_fallback.specs.Chain.{index_with, bundles_of}
 use Rattle.fluent_catalog.specs.CatalogView.{bundles_in, tags_in}
 use Rattle.fluent_catalog.proofs.catalog.Catalog.find_attribute.Goals as goal
 

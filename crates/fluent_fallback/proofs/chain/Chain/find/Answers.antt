@@ -1,7 +1,7 @@
 use Rattle.std.proofs.Common.{rules, ◌≡◌, ◌∙◌, sym, ap, is_some, true, false}
 use Rattle.fluent_ast.specs.View.{pattern_view}
 use Rattle.fluent_bundle.specs.BundleView.{meant}
-use Rattle.fluent_fallback.specs.ChainView.{bundles_of, pattern_of}
+use Rattle.fluent_fallback.specs.Chain.{bundles_of, pattern_of}
 use Rattle.fluent_fallback.proofs.First.{is_some-map, index_after, index_here, index_past}
 use Rattle.fluent_fallback.proofs.chain.Chain.find.Goals as goal
 use Rattle.fluent_fallback.proofs.chain.Chain.find.Goals.{in-Some+else-is_some, in_default}

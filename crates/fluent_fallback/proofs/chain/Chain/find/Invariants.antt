@@ -2,8 +2,7 @@ use Rattle.std.proofs.Common.{◌≡◌, drop}
 use Rattle.std.specs.Prelude.{is_some}
 use Rattle.std.specs.List.{position_from}
 use Rattle.fluent_bundle.specs.BundleView.{meant}
-use Rattle.fluent_fallback.specs.Chain.{index_with}
-use Rattle.fluent_fallback.specs.ChainView.{bundles_of, pattern_of}
+use Rattle.fluent_fallback.specs.Chain.{index_with, bundles_of, pattern_of}
 use Rattle.fluent_fallback.proofs.chain.Chain.find.Given as goal
 
 -- the first of those that are left is the first of all

@@ -1,6 +1,6 @@
 use Rattle.std.proofs.Common.{◌∙◌}
 use Rattle.fluent_bundle.specs.BundleView.{value_at, meant}
-use Rattle.fluent_fallback.specs.ChainView.{bundles_of}
+use Rattle.fluent_fallback.specs.Chain.{bundles_of}
 use Rattle.fluent_fallback.proofs.First.{index-map}
 use Rattle.fluent_fallback.proofs.chain.Chain.find_value.Goals as goal
 

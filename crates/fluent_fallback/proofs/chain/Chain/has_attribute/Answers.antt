@@ -1,6 +1,6 @@
 use Rattle.std.proofs.Common.{rules, ◌≡◌, ◌∙◌, sym, ap, is_some, Some}
 use Rattle.fluent_bundle.specs.BundleView.{attribute_at, meant}
-use Rattle.fluent_fallback.specs.ChainView.{bundles_of, pattern_of}
+use Rattle.fluent_fallback.specs.Chain.{bundles_of, pattern_of}
 use Rattle.fluent_fallback.proofs.First.{index-map, is_some-position}
 use Rattle.fluent_fallback.proofs.chain.Chain.has_attribute.Goals as goal
 

@@ -1,8 +1,6 @@
 use Rattle.std.proofs.Common.{rules, arith, ◌≡◌, ◌∙◌, sym, refl, Ok, false, true}
-use Rattle.std.specs.Option.{option_map}
 use Rattle.fluent_bundle.specs.BundleView.{meant}
-use Rattle.fluent_fallback.specs.Chain.{pattern_at}
-use Rattle.fluent_fallback.specs.ChainView.{bundles_of}
+use Rattle.fluent_fallback.specs.Chain.{pattern_asked, bundles_of}
 use Rattle.fluent_fallback.proofs.First.{none_left, passes, passes_end}
 use Rattle.fluent_fallback.proofs.Answered.{owes_here, writes_fault, writes_here, writes_id, writes_nothing}
 use Rattle.fluent_fallback.proofs.chain.Chain.write.Goals as goal
@@ -11,21 +9,21 @@ use Rattle.fluent_fallback.proofs.chain.Chain.write.Goals.{in-Some+in_ok-write_i
 pub returns-in_err-write_in-clause-text : goal.returns-in_err-write_in-clause-text
 returns-in_err-write_in-clause-text g c =
     let of = meant g.M.MemoizerKind.category g.C.FluentType.shown g.C.FluentType.alike g.F.FluentFunction.answer g.G.FluentFormatter.formatted g.T.Transform.changed in
-    let has = pattern_at c.args.id.now (option_map (λ n. n.now) c.args.attribute) in
+    let has = pattern_asked c.args.id.now c.args.attribute in
     writes_fault of has _ _ (bundles_of c.args.self.now) c.loop-index.index c.in-Some.bundle.now (sym c.in-Some.ensures) c.loop-index.invariant.first
     c.args.id.now _ refl c.write_in.result c.from_residual.result c.in_err-write_in.field-0.0 _ _ _ _ _ _ c.loop-index.invariant.writer c.loop-index.invariant.errors c.in_err-write_in.was (search rules) c.write_in.ensures.text
 
 pub returns-in_err-write_in-clause-memory : goal.returns-in_err-write_in-clause-memory
 returns-in_err-write_in-clause-memory g c =
     let of = meant g.M.MemoizerKind.category g.C.FluentType.shown g.C.FluentType.alike g.F.FluentFunction.answer g.G.FluentFormatter.formatted g.T.Transform.changed in
-    let has = pattern_at c.args.id.now (option_map (λ n. n.now) c.args.attribute) in
+    let has = pattern_asked c.args.id.now c.args.attribute in
     owes_here of has _ _ (bundles_of c.args.self.now) c.loop-index.index c.in-Some.bundle.now (sym c.in-Some.ensures) c.loop-index.invariant.first
     _ refl c.write_in.result c.from_residual.result c.in_err-write_in.field-0.0 _ _ _ _ c.in_err-write_in.was (search rules) c.write_in.ensures.text c.write_in.ensures.memory
 
 pub returns-then-branch-clause-text : goal.returns-then-branch-clause-text
 returns-then-branch-clause-text g c =
     let of = meant g.M.MemoizerKind.category g.C.FluentType.shown g.C.FluentType.alike g.F.FluentFunction.answer g.G.FluentFormatter.formatted g.T.Transform.changed in
-    let has = pattern_at c.args.id.now (option_map (λ n. n.now) c.args.attribute) in
+    let has = pattern_asked c.args.id.now c.args.attribute in
     let is : c.write_in.result ≡ Ok true = search rules in
     writes_here of has _ _ (bundles_of c.args.self.now) c.loop-index.index c.in-Some.bundle.now (sym c.in-Some.ensures) c.loop-index.invariant.first
     c.args.id.now _ refl c.write_in.result _ _ _ _ _ _ _ c.loop-index.invariant.writer c.loop-index.invariant.errors is c.write_in.ensures.text
@@ -33,7 +31,7 @@ returns-then-branch-clause-text g c =
 pub loop-index-preserved : goal.loop-index-preserved
 loop-index-preserved g c =
     let of = meant g.M.MemoizerKind.category g.C.FluentType.shown g.C.FluentType.alike g.F.FluentFunction.answer g.G.FluentFormatter.formatted g.T.Transform.changed in
-    let has = pattern_at c.args.id.now (option_map (λ n. n.now) c.args.attribute) in
+    let has = pattern_asked c.args.id.now c.args.attribute in
     let first = c.loop-index.invariant.first in
     elim c.match-bundle_at.branch [
       | in-Some+in_ok-write_in+else-branch w ↦
@@ -54,7 +52,7 @@ loop-index-preserved g c =
 pub returns-clause-text : goal.returns-clause-text
 returns-clause-text g c =
     let of = meant g.M.MemoizerKind.category g.C.FluentType.shown g.C.FluentType.alike g.F.FluentFunction.answer g.G.FluentFormatter.formatted g.T.Transform.changed in
-    let has = pattern_at c.args.id.now (option_map (λ n. n.now) c.args.attribute) in
+    let has = pattern_asked c.args.id.now c.args.attribute in
     let same : c.as_bytes.result.now ≡ c.args.id.now = search rules in
     writes_id of has _ g.W.Write.contents (bundles_of c.args.self.now)
     (none_left (λ b. has (of b)) (bundles_of c.args.self.now) c.loop-index.index c.loop-index.invariant.first (omega (arith, c.loop-index-test.false, c.len-index-end.ensures)))

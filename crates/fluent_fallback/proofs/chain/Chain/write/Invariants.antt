@@ -1,7 +1,6 @@
 use Rattle.std.proofs.Common.{◌≡◌, drop}
 use Rattle.fluent_bundle.specs.BundleView.{meant}
-use Rattle.fluent_fallback.specs.Chain.{first_with}
-use Rattle.fluent_fallback.specs.ChainView.{bundles_of, pattern_of}
+use Rattle.fluent_fallback.specs.Chain.{first_with, bundles_of, pattern_of}
 use Rattle.fluent_fallback.proofs.chain.Chain.write.Given as goal
 
 -- the first of those that are left is the first of all; nothing was written, and nothing was added

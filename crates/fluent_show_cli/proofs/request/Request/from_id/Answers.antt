@@ -2,7 +2,7 @@ use Rattle.std.proofs.Common.{rules, ◌≡◌, ◌∙◌, sym, Bool, true, fals
 use Rattle.std.specs.List.{list_all, starts_with}
 use Rattle.std.proofs.lemmas.List.Folds.{list_all-map}
 use Rattle.fluent_ast.specs.Tree.{Text}
-use Rattle.fluent_show_cli.specs.Words.{Options, name_and_value, is_argument, asked_from}
+use Rattle.fluent_show_cli.specs.Program.{Options, name_and_value, is_argument, asked_from}
 use Rattle.fluent_show_cli.specs.Inside.WordsView.{options_view}
 use Rattle.fluent_show_cli.proofs.request.Request.from_id.Goals as goal
 

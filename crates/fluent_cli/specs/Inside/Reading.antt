@@ -1,65 +1,15 @@
--- Files, and what is read from them.
-use Rattle.std.specs.Prelude.{◌≡◌, ℕ, Bool, true, false, List, [], ◌∷◌, ◌++◌, map, flat_map, drop, Option, Some, None, Result, Ok, Err, nat_eq, codes, if◌then◌else◌}
+-- What the code reads, by the contents of files.
+use Rattle.std.specs.Prelude.{◌≡◌, ℕ, true, false, List, [], ◌∷◌, ◌++◌, map, Option, Some, None, Result, Ok, Err}
 use Rattle.std.specs.Borrow.{Bor}
-use Rattle.std.specs.List.{starts_with}
 use Rattle.std.specs.Str.{is_utf8}
 use Rattle.fluent_ast.specs.Tree.{Text, Entry}
 use Rattle.fluent_syntax.specs.Chunks.{entries, junk_ranges}
 use Rattle.fluent_syntax.specs.Parsed.{error_range}
-use Rattle.fluent_cli.specs.Language.{entries_of_all}
+use Rattle.fluent_cli.specs.Runs.{Read, is_text, no_text_in, read_of}
+use Rattle.fluent_cli.specs.Inside.Bundles.{entries_of_all}
 use Rattle.fluent_cli.specs.declared.source.File.{File}
 use Rattle.fluent_cli.specs.declared.source.Source.{Source}
 use Rattle.fluent_cli.specs.declared.source.Sources.{Sources}
-
--- ---- byte order marks
-
-abbrev pub mark : List ℕ
-mark = 239 ∷ 187 ∷ 191 ∷ []
-
-abbrev pub has_mark : List ℕ → Bool
-has_mark bytes = starts_with nat_eq bytes mark
-
-abbrev pub without_mark : List ℕ → List ℕ
-without_mark bytes = if has_mark bytes then drop 3 bytes else bytes
-
--- ---- a file
-
--- its bytes, without a mark
-abbrev pub file_text : File → Text
-file_text file = without_mark file.bytes.now
-
-abbrev pub file_entries : File → List Entry
-file_entries file = entries (file_text file)
-
-abbrev pub is_text : File → Bool
-is_text file = is_utf8 (file_text file)
-
--- the name of the first that is no text
-abbrev pub no_text_in : List File → Option Text
-no_text_in [] = None
-no_text_in (file ∷ files) = if is_text file then no_text_in files else Some file.name.now
-
--- What is read: the name of a file, its text, and whether that stood after a mark.
-pub record Read : Type 0 where
-  pub name : Text
-  pub text : Text
-  pub had_mark : Bool
-
-abbrev pub read_of : File → Read
-read_of file = record { name = file.name.now; text = file_text file; had_mark = has_mark file.bytes.now }
-
--- ---- what is said of marks
-
-abbrev pub mark_line : Read → Text
-mark_line read =
-    if read.had_mark
-    then (codes "fluent: warning: " ++ read.name) ++ (codes ": a byte order mark was taken off" ++ 10 ∷ [])
-    else []
-
-abbrev pub mark_lines : List Read → Text
-mark_lines reads = flat_map mark_line reads
-
--- ---- the same of what the code reads
 
 abbrev pub read_view : Source → Read
 read_view source = record { name = source.name.now; text = source.text.now; had_mark = source.had_mark }
