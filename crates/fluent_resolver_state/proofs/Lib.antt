@@ -1,7 +1,9 @@
 pub mod Choice
 pub mod Classed
+pub mod Fallbacks
 pub mod InTurn
 pub mod Kept
+pub mod LeafArguments
 pub mod LocalArguments
 pub mod Soles
 pub mod TextElements

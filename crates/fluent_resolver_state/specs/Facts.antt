@@ -3,4 +3,5 @@ pub mod Views
 pub mod Lists
 pub mod Trails
 pub mod Happening
+pub mod Reporting
 pub mod Naming

@@ -1,9 +1,9 @@
 -- What a reference leads to, by content.
-use Rattle.std.specs.Prelude.{◌≡◌, ℕ, List, slice_get, Option, None, Some}
+use Rattle.std.specs.Prelude.{◌≡◌, ℕ, List, false, slice_get, Option, None, Some}
 use Rattle.std.specs.Borrow.{Bor}
 use Rattle.std.specs.Option.{option_map}
 use Rattle.fluent_ast.specs.References.{references}
-use Rattle.fluent_ast.specs.Tree.{Pattern, Text}
+use Rattle.fluent_ast.specs.Tree.{Pattern, Text, more, nothing, text}
 use Rattle.fluent_ast.specs.View.{attribute_of, pattern_view}
 use Rattle.fluent_ast.specs.declared.ast.Identifier.{Identifier}
 use Rattle.fluent_references.specs.Linked.{IsClassOf, IsOf}
@@ -12,6 +12,7 @@ use Rattle.fluent_references.specs.Cursors.{seen}
 use Rattle.fluent_references.specs.declared.linked.Linked.{Linked}
 use Rattle.fluent_semantics.specs.Arguments.{get}
 use Rattle.fluent_semantics.specs.Bundle.{Function, Target, unknown, without_value, found, message_target, term_target}
+use Rattle.fluent_semantics.specs.Walk.{is_on}
 use Rattle.fluent_bundle_entries.specs.EntryView.{entry_of, ids as ids_of}
 use Rattle.fluent_bundle_entries.specs.IdNumbers.{numbers, table}
 use Rattle.fluent_bundle_entries.specs.KeptLinks.{RefersToNothing}
@@ -45,6 +46,11 @@ IsLedBy number table _ = Unit {0}
 
 abbrev pub IsLed : {F : Type 0} → Ids F → Found → Type 0
 IsLed ids f = IsLedBy (numbers ids) (table ids) f
+
+-- a pattern of one text, which isn't on this path
+abbrev pub IsFreeText : List Pattern → Found → Text → Type 0
+IsFreeText path (leads.Pattern t) x = (content_at t ≡ more (text x) nothing) × (is_on path (content_at t) ≡ false)
+IsFreeText path _ x = ⊥
 
 -- ---- what is kept
 

@@ -1,4 +1,5 @@
 pub mod Gathered
+pub mod Leaves
 pub mod Locals
 pub mod FoundView
 pub mod PathContents

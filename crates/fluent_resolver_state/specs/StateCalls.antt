@@ -1,5 +1,5 @@
 -- What the calls of this crate do: to a state, and where they write. Parts of a tree stand as the code has them.
-use Rattle.std.specs.Prelude.{◌≡◌, List, map, Bool, Option, Result, IfOk}
+use Rattle.std.specs.Prelude.{◌≡◌, [], List, map, Bool, Option, Result, IfOk}
 use Rattle.std.specs.Option.{option_map, unwrap_or}
 use Rattle.std.specs.Borrow.{Bor}
 use Rattle.std.specs.declared.alloc.AllocError.{AllocError}
@@ -9,11 +9,12 @@ use Rattle.fluent_ast.specs.View.{inline_view, pattern_view}
 use Rattle.fluent_ast.specs.declared.ast.InlineExpression.{InlineExpression}
 use Rattle.fluent_ast.specs.declared.ast.Pattern.{Pattern}
 use Rattle.fluent_ast.specs.declared.ast.Variant.{Variant}
-use Rattle.fluent_semantics.specs.Arguments.{Map, get}
+use Rattle.fluent_semantics.specs.Arguments.{get}
 use Rattle.fluent_semantics.specs.Bundle.{Bundle, Function, function_found, goes_to}
 use Rattle.fluent_semantics.specs.Errors.{Error}
 use Rattle.fluent_semantics.specs.Events.{Event}
-use Rattle.fluent_semantics.specs.Value.{Value, error_value}
+use Rattle.fluent_semantics.specs.Meaning.{Budget, left, limit_reached}
+use Rattle.fluent_semantics.specs.Value.{Value, error_value, text_value}
 use Rattle.fluent_semantics.specs.Walk.{variables}
 use Rattle.fluent_bundle_entries.specs.EntryView.{ids as ids_of}
 use Rattle.fluent_bundle_entries.specs.declared.ids.Ids.{Ids}
@@ -56,6 +57,14 @@ abbrev pub events_of_answer : {B C : Type 0} → (C → Text) → InlineExpressi
 events_of_answer content x id vs args s =
     answer_events s.bundle (inline_view x) (option_map (λ f. f (map (value_view content) vs) (named content args)) (function_found (get id s.bundle.ids)))
 
+-- what a text gives: what the transform makes of it, or nothing past the limit
+abbrev pub text_left : Budget → Text → Text
+text_left (left n) x = x
+text_left limit_reached x = []
+
+abbrev pub text_given : {B : Type 0} → Text → Status B → Text
+text_given x s = text_left s.budget (s.bundle.transform x)
+
 -- ---- what calls do: a `&mut` parameter stands by its name alone, as what it was before and is after
 
 -- of this text a beginning was taken, and all of it where the answer is `Ok`
@@ -80,6 +89,10 @@ module _ {C F B : Type 0} (meant : B → Bundle Text) (is_plain : B → Bool) (a
   -- these errors were added, or none where the answer is no `Ok`
   abbrev pub Reports : {T : Type 0} → List Error → Result T AllocError → Change (State C F B) → Type 0
   Reports errors result s = ReportsIfOk result errors (status (old s)) (status (new s))
+
+  -- a beginning of these errors was added, and all where the answer is `Ok`
+  abbrev pub ReportsSome : {T : Type 0} → List Error → Result T AllocError → Change (State C F B) → Type 0
+  ReportsSome errors result s = steps.ReportsSome result errors (status (old s)) (status (new s))
 
   -- the value of a variable of this name, with its error where it has none
   abbrev pub GivesVariable : InlineExpression → Text → Result (FluentValue C) AllocError → Change (State C F B) → Type 0
@@ -112,6 +125,10 @@ module _ {C F B : Type 0} (meant : B → Bundle Text) (is_plain : B → Bool) (a
   -- it is entered, and left at once
   abbrev pub Visits : Change (State C F B) → Type 0
   Visits s = steps.Visits (status (old s)) (status (new s))
+
+  -- it is entered, and left at once, and its one text is a value
+  abbrev pub GivesText : Text → Result (FluentValue C) AllocError → Change (State C F B) → Type 0
+  GivesText x result s = Visits s × IfOk result (λ v. value_view content v ≡ text_value (text_given x (status (old s))))
 
   -- it is left
   abbrev pub Leaves : Bool → Change (State C F B) → Type 0

@@ -33,6 +33,19 @@ pub record ReportsIfOk {T E B : Type 0} (result : Result T E) (errors : List Err
   pub path : s'.path ≡ s.path
   pub stays : Stays s s'
 
+-- A beginning of these errors was added, and all of them where the answer is Ok.
+pub record ReportsSome {T E B : Type 0} (result : Result T E) (errors : List Error) (s s' : Status B) : Type 0 where
+  pub done : List Error
+  pub rest : List Error
+  pub whole : done ++ rest ≡ errors
+  pub finished : OnOk result (rest ≡ [])
+  pub added : Reports s s' done
+  pub budget : s'.budget ≡ s.budget
+  pub tally : s'.tally ≡ s.tally
+  pub environment : s'.environment ≡ s.environment
+  pub path : s'.path ≡ s.path
+  pub stays : Stays s s'
+
 -- the state in which a call begins, of this bundle and with these arguments of the application
 pub record IsAtStart {B : Type 0} (s : Status B) (b : Bundle Text) (args : Map (Value Text)) : Type 0 where
   pub bundle : s.bundle ≡ b

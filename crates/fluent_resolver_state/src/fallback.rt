@@ -1,13 +1,13 @@
 //! Fallbacks: how an expression shows where it can't be resolved.
 
-ghost use Rattle.std.specs.Prelude.{◌≢◌, Err};
+ghost use Rattle.std.specs.Prelude.{◌≢◌, ◌++◌, Err};
 ghost use Rattle.fluent_values.specs.Sinks.{GoesThrough};
 ghost use Rattle.fluent_ast.specs.Fallback.{fallback, dotted, in_braces};
 ghost use Rattle.fluent_ast.specs.View.{inline_view, attribute_of};
 ghost use Rattle.fluent_resolver_state.specs.StateCalls.{Puts};
 
 use fluent_ast::ast::{Expression, Identifier, InlineExpression};
-use fluent_values::output::{Halt, Output, put_text};
+use fluent_values::output::{Halt, Output, put_text, put_three};
 use std::io::Write;
 
 /// Writes a message's id in braces.
@@ -16,9 +16,7 @@ use std::io::Write;
 pub fn put_id_in_braces<W: Write>(out: &mut Output<W>, id: &str) -> Result<(), Halt>
     ensures { Puts W.contents (in_braces id.now) result out }
 {
-    put_text(out, "{")?;
-    put_text(out, id)?;
-    put_text(out, "}")
+    put_three(out, "{", id, "}")
 }
 
 /// Writes an expression's fallback in braces.
@@ -31,9 +29,21 @@ pub fn put_in_braces<W: Write>(
     ensures took { Puts W.contents (in_braces (fallback (inline_view expression.now))) result out }
     ensures memory { GoesThrough out.old → result ≢ Err Halt.Memory }
 {
-    put_text(out, "{")?;
-    put_fallback(out, expression)?;
-    put_text(out, "}")
+    match expression {
+        InlineExpression::FunctionReference { id, .. } => put_three(out, "{", id.name, "()}"),
+        InlineExpression::MessageReference { id, attribute } => {
+            put_dotted_in(out, "{", id, attribute, "}")
+        }
+        InlineExpression::TermReference { id, attribute, .. } => {
+            put_dotted_in(out, "{-", id, attribute, "}")
+        }
+        InlineExpression::VariableReference { id } => put_three(out, "{$", id.name, "}"),
+        _ => {
+            put_text(out, "{")?;
+            put_fallback(out, expression)?;
+            put_text(out, "}")
+        }
+    }
 }
 
 /// Writes an expression's fallback, without braces.
@@ -51,19 +61,14 @@ pub(crate) fn put_fallback<W: Write>(
             put_text(out, "\"")
         }
         InlineExpression::NumberLiteral { value } => put_text(out, value),
-        InlineExpression::FunctionReference { id, .. } => {
-            put_text(out, id.name)?;
-            put_text(out, "()")
+        InlineExpression::FunctionReference { id, .. } => put_three(out, "", id.name, "()"),
+        InlineExpression::MessageReference { id, attribute } => {
+            put_dotted_in(out, "", id, attribute, "")
         }
-        InlineExpression::MessageReference { id, attribute } => put_dotted(out, id, attribute),
         InlineExpression::TermReference { id, attribute, .. } => {
-            put_text(out, "-")?;
-            put_dotted(out, id, attribute)
+            put_dotted_in(out, "-", id, attribute, "")
         }
-        InlineExpression::VariableReference { id } => {
-            put_text(out, "$")?;
-            put_text(out, id.name)
-        }
+        InlineExpression::VariableReference { id } => put_three(out, "$", id.name, ""),
         InlineExpression::Placeable { expression } => match &**expression {
             Expression::Inline(shown)
             | Expression::Select {
@@ -74,19 +79,23 @@ pub(crate) fn put_fallback<W: Write>(
     }
 }
 
-/// Writes a name, and after a point that of an attribute.
-fn put_dotted<W: Write>(
+/// Writes a name, and after a point that of an attribute, between two texts.
+fn put_dotted_in<W: Write>(
     out: &mut Output<W>,
+    before: &str,
     id: &Identifier,
     attribute: &Option<Identifier>,
+    after: &str,
 ) -> Result<(), Halt>
-    ensures took { Puts W.contents (dotted id.now.name.now (attribute_of attribute.now)) result out }
+    ensures took { Puts W.contents
+        (before.now ++ (dotted id.now.name.now (attribute_of attribute.now) ++ after.now)) result out }
     ensures memory { GoesThrough out.old → result ≢ Err Halt.Memory }
 {
-    put_text(out, id.name)?;
-    if let Some(attribute) = attribute {
-        put_text(out, ".")?;
-        put_text(out, attribute.name)?;
+    match attribute {
+        Some(attribute) => {
+            put_three(out, before, id.name, ".")?;
+            put_three(out, attribute.name, after, "")
+        }
+        None => put_three(out, before, id.name, after),
     }
-    Ok(())
 }

@@ -11,7 +11,7 @@ use std::collections::BTreeMap;
 
 /// So many arguments are put in order one by one. A further one could move each before it, so more than these are
 /// ordered by a tree: the time of a call doesn't grow with the square of their number.
-const FEW: usize = 16;
+pub(crate) const FEW: usize = 16;
 
 /// Named arguments that are gathered one after another.
 #[derive(Drop)]

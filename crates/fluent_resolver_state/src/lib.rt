@@ -8,6 +8,7 @@ pub mod fallback;
 pub mod found;
 pub mod gathered;
 pub mod laws;
+pub mod leaves;
 pub mod locals;
 pub mod lost;
 pub mod output;

@@ -130,6 +130,7 @@ impl<'errors, 'p, 'r, 's, 'args, C: FluentType, F: FluentFunction<C>, B: Context
     /// # Errors
     ///
     /// An allocation failed, which only a list can meet: it is as before.
+    #[inline(always)]
     pub fn add_error(&mut self, error: ResolverError) -> Result<(), AllocError>
         ensures added { Reports B.meant B.is_plain F.answer C.content (resolver_error (resolver_error_view error) ∷ []) result
             self }

@@ -1,18 +1,22 @@
 //! Texts: as they stand, which needs no scope, and as a bundle changes them.
 #![tactic(auto, unfolding(crate::specs::Status::state_parts))]
 
-ghost use Rattle.std.specs.Prelude.{◌≡◌, ◌≢◌, Err, IsTrue};
+ghost use Rattle.std.specs.Prelude.{◌≡◌, ◌≢◌, Err, IfSome, IsTrue};
 ghost use Rattle.std.specs.Option.{option_map};
 ghost use Rattle.fluent_values.specs.Sinks.{GoesThrough};
 ghost use Rattle.fluent_ast.specs.View.{pattern_view};
 ghost use Rattle.fluent_bundle_entries.specs.Texts.{sole_text, texts_of};
-ghost use Rattle.fluent_resolver_state.specs.StateCalls.{Puts};
+ghost use Rattle.fluent_resolver_state.specs.FoundView.{IsFreeText, IsLed};
+ghost use Rattle.fluent_resolver_state.specs.StateCalls.{GivesText, Puts, status};
 
+use crate::found::Found;
 use crate::state::State;
 use fluent_ast::ast::{Pattern, PatternElement};
 pub use fluent_bundle_entries::is_text;
 use fluent_values::output::{Halt, Output, put_text};
-use fluent_values::{Context, FluentFunction, FluentType};
+use fluent_values::{Context, FluentFunction, FluentType, FluentValue};
+use std::alloc::AllocError;
+use std::borrow::CowStr;
 use std::io::Write;
 
 /// The text of a pattern that is one text.
@@ -55,4 +59,43 @@ pub fn put_changed<W: Write, C: FluentType, F: FluentFunction<C>, B: Context<C>>
 {
     let changed = scope.bundle.change(text)?;
     put_text(out, &changed)
+}
+
+/// The text of a pattern that a reference leads to, where it is one text that isn't being written.
+#[inline(always)]
+pub fn free_text<'p, 's, C: FluentType, F: FluentFunction<C>, B: Context<C>>(
+    scope: &State<'_, 'p, '_, 's, '_, C, F, B>,
+    found: Found<'p, 's>,
+) -> Option<&'s str>
+    requires { IsLed scope.now.ids.now found }
+    ensures { IfSome result (λ text. IsFreeText
+        (status B.meant B.is_plain F.answer C.content scope.now).path found.entry text.now) }
+{
+    match found {
+        Found::Pattern(target) => {
+            let text = only_text(target.pattern)?;
+            if scope.is_on(target.pattern, target.class) {
+                return None;
+            }
+            Some(text)
+        }
+        Found::Unknown => None,
+        Found::WithoutValue => None,
+    }
+}
+
+/// The text of such a pattern as a value: it is entered and left at once, as nothing stands on it.
+#[inline(always)]
+pub fn visit_text<'p, 's: 'p, C: FluentType, F: FluentFunction<C>, B: Context<C>>(
+    scope: &mut State<'_, 'p, '_, 's, '_, C, F, B>,
+    text: &'s str,
+) -> Result<FluentValue<'p, C>, AllocError>
+    ensures { GivesText B.meant B.is_plain F.answer C.content text.now result scope }
+{
+    scope.visit();
+    if scope.dirty() {
+        return Ok(FluentValue::String(CowStr::Borrowed("")));
+    }
+    let bundle: &'p B = scope.bundle;
+    Ok(FluentValue::String(bundle.change(text)?))
 }

@@ -1,5 +1,5 @@
 -- The content of the types of the code.
-use Rattle.std.specs.Prelude.{List, map}
+use Rattle.std.specs.Prelude.{map}
 use Rattle.std.specs.Cow.{cow_str_bytes}
 use Rattle.fluent_ast.specs.Tree.{Text}
 use Rattle.fluent_intl.specs.Number.{number_of}

@@ -90,7 +90,7 @@ impl<'v, C: FluentType> FluentValue<'v, C> {
         let bundle = scope.bundle();
         let mut unused = String::new(bundle.allocator());
         let mut kept = String::new(bundle.allocator());
-        let mut out = Output {
+        let out = &mut Output {
             writer: w,
             buffer: &mut unused,
             is_buffered: false,
@@ -98,8 +98,8 @@ impl<'v, C: FluentType> FluentValue<'v, C> {
             kept: &mut kept,
             is_kept: false,
         };
-        let written = put_value(bundle, &mut out, self);
-        with_error(written, out.error)
+        let written = put_value(bundle, out, self);
+        with_error(written, &mut out.error)
     }
 
     /// What the value is shown as: the formatter's answer, where there is one, else its own text.

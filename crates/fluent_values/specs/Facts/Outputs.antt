@@ -1,5 +1,5 @@
 -- Texts that go to a writer, or to a buffer beside it.
-use Rattle.std.proofs.Common.{◌≡◌, refl, sym, ap, subst, ◌∙◌, ℕ, List, [], ◌∷◌, ◌++◌, Bool, true, false, Option, Some, None, Result, Ok, OnOk, OnErr, Global, String, string_bytes}
+use Rattle.std.proofs.Common.{◌≡◌, refl, sym, ap, subst, ◌∙◌, ℕ, List, [], ◌∷◌, ◌++◌, Bool, true, false, Option, Some, Result, Ok, OnOk, OnErr, Global, String, string_bytes}
 use Rattle.std.specs.Io.KnownBytes.{Appends}
 use Rattle.fluent_ast.specs.Tree.{Text}
 use Rattle.fluent_text.specs.Taken.{TookPrefix}
