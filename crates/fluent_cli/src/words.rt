@@ -172,10 +172,9 @@ fn with_show_options<'a>(alloc: Global, command: Command<'a>) -> Result<Command<
 }
 
 fn show_command<'a>(alloc: Global) -> Result<Command<'a>, AllocError> {
-    let command = Command::new(alloc, "show")
-        .about(
-            "Shows a message as an application would, and what goes wrong in it on standard error",
-        );
+    let command = Command::new(alloc, "show").about(
+        "Shows a message as an application would, and what goes wrong in it on standard error",
+    );
     with_show_options(alloc, command)?
         .arg(one_argument(alloc, "file", "FILE", "The file of the message"))?
         .arg(one_argument(
@@ -320,10 +319,7 @@ fn arguments_of<'w>(
 }
 
 /// The file of a message, and after it its fallbacks.
-fn files_to_show<'w>(
-    alloc: Global,
-    matches: &ArgMatches<'w>,
-) -> Result<Vec<&'w str>, AllocError> {
+fn files_to_show<'w>(alloc: Global, matches: &ArgMatches<'w>) -> Result<Vec<&'w str>, AllocError> {
     let mut files = list_of(alloc, values(matches, "file"))?;
     files.extend_from_slice(values(matches, "fallback"))?;
     Ok(files)
