@@ -1,5 +1,5 @@
 -- Files of which some are references.
-use Rattle.std.proofs.Common.{◌≡◌, ◌∙◌, ℕ, zero, suc, Bool, true, false, List, [], ◌∷◌, ◌++◌, map, take, drop, Option, Some, None, refl, ap, subst, append_assoc, if◌then◌else◌}
+use Rattle.std.proofs.Common.{◌≡◌, ◌∙◌, ℕ, zero, suc, Bool, true, false, List, [], ◌∷◌, ◌++◌, map, take, drop, Option, Some, None, Result, Ok, Err, IfOk, refl, ap, subst, append_assoc, if◌then◌else◌}
 use Rattle.fluent_ast.specs.Tree.{Text}
 use Rattle.fluent_syntax.specs.Chunks.{entries}
 use Rattle.fluent_cli.specs.Runs.{Read, file_entries, is_text, mark_line, mark_lines, no_text_in, read_of}
@@ -34,12 +34,22 @@ marks_split (suc n) (file ∷ files) =
     ∙ ap (λ lines. mark_line (read_of file) ++ lines) (marks_split n files)
 
 -- so all is said of the marks of all files
-pub marks_told : (n : ℕ) (files : List File) (own others : List Read) (e0 e1 e2 e3 given : Text) → own ≡ map read_of (take n files) → others ≡ map read_of (drop n files)
-    → e0 ≡ [] → e1 ≡ e0 ++ mark_lines own → e2 ≡ e1 ++ mark_lines others → e3 ≡ e2 ++ given → e3 ≡ mark_lines (map read_of files) ++ given
-marks_told n files own others e0 e1 e2 e3 given is are h0 h1 h2 h3 =
-    let first : e1 ≡ mark_lines own = subst (λ e. e1 ≡ e ++ mark_lines own) h0 h1 in
-    let both : e2 ≡ mark_lines (map read_of files) = cc (marks_split n files) in
+pub marks_of_all : (n : ℕ) (files : List File) (own others : List Read) → own ≡ map read_of (take n files) → others ≡ map read_of (drop n files)
+    → mark_lines own ++ mark_lines others ≡ mark_lines (map read_of files)
+marks_of_all n files own others is are =
+    ap (λ reads. mark_lines reads ++ mark_lines others) is ∙ (ap (λ reads. mark_lines (map read_of (take n files)) ++ mark_lines reads) are ∙ marks_split n files)
+
+-- what is said of marks, and after it what is said of a request
+pub marks_told : (own others read next : List Read) (e0 e1 e2 e3 given : Text) → read ≡ own → next ≡ others
+    → e0 ≡ [] → e1 ≡ e0 ++ mark_lines read → e2 ≡ e1 ++ mark_lines next → e3 ≡ e2 ++ given → e3 ≡ (mark_lines own ++ mark_lines others) ++ given
+marks_told own others read next e0 e1 e2 e3 given is are h0 h1 h2 h3 =
+    let first : e1 ≡ mark_lines read = subst (λ e. e1 ≡ e ++ mark_lines read) h0 h1 in
     cc
+
+-- what holds of an answer holds so of it
+pub if_ok : {T E : Type 0} (P Q : T → Type 0) (r : Result T E) → ((x : T) → P x → Q x) → IfOk r P → IfOk r Q
+if_ok P Q (Ok x) f h = f x h
+if_ok P Q (Err e) f h = tt
 
 -- the entries of what is read of files are those of the files
 pub entries_of_files : (files : List File) → map (λ read. entries read.text) (map read_of files) ≡ map file_entries files

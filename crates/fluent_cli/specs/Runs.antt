@@ -1,4 +1,8 @@
 -- What a run leaves, by what is asked for and the contents of its files.
+-- Words of other crates: `entries`, what the grammar reads in a text; `rules_of cldr_plurals tag`, the texts of the CLDR's plural rules for a tag;
+-- `rules`, the plural rules that a text has, and `category_of`, the category that they give a number; `places_in`, the values and attributes of entries;
+-- `pattern_asked id name`, the value of the message that an id names, or its first attribute where a name is given.
+-- What gives what a value or an attribute asks for, so that it never fails (`NeverFails`), stands in fluent_lint.
 use Rattle.std.specs.Prelude.{◌≡◌, ◌⊎◌, ◌==◌, ℕ, Bool, true, false, not, IsTrue, List, [], ◌∷◌, ◌++◌, map, flat_map, filter_map, take, drop, length, get_or, min, Option, Some, None, is_some, option_map, Result, Ok, Err, nat_eq, codes, String, string_bytes, string_len, if◌then◌else◌}
 use Rattle.std.specs.Borrow.{Bor}
 use Rattle.std.specs.Fmt.{decimal}

@@ -1,7 +1,7 @@
 //! What is wrong with the files of a language.
 
 ghost use Rattle.std.specs.Prelude.{◌≡◌, IfOk};
-ghost use Rattle.fluent_cli.specs.Runs.{EndsWith, counts_line, IsChecked, tag_of};
+ghost use Rattle.fluent_cli.specs.Runs.{EndsWith, IsChecked, all_of, counts_line, tag_of};
 ghost use Rattle.fluent_cli.specs.Inside.Reports.{status_over, Tells, TellsAll};
 ghost use Rattle.fluent_cli.specs.Inside.Reading.{entries_read};
 ghost use Rattle.fluent_cli.specs.Inside.Bundles.{bundle_view};
@@ -10,15 +10,18 @@ use crate::answer::{Answer, Status};
 use crate::asking::{asking_in, parts_of};
 use crate::bundle::{Bundle, bundle_of_all};
 use crate::faults::{add_builtin, add_repeated, add_taken, add_unreadable, say_faults, spots_in};
+use crate::finding::Kind;
 use crate::linted::add_linted;
-use crate::places::{Places, places_of};
+use crate::places::{Places, Spotted, places_of};
 use crate::plurals::add_pattern;
 use crate::reference::{Side, add_differences};
 use crate::report::{Counts, Finding, put_counts, put_findings, sort};
-use crate::silent::{add_no_number, add_ungiven, asking_of};
+use crate::silent::{Asking, add_no_number, add_ungiven, asking_of};
 use crate::source::{Source, Sources};
 use crate::spots::Spots;
 use crate::words::CheckRequest;
+use fluent_bundle::ast::Pattern;
+use fluent_lint::Place;
 use fluent_lint::place::pattern_at;
 use fluent_plural_rules::{LanguageRules, cldr_plurals, rules_for};
 use std::alloc::{AllocError, Global};
@@ -30,7 +33,40 @@ struct Checked<'s> {
     is_clean: bool,
 }
 
-/// Adds what gives no error in a pattern, and what is wrong with its selects on numbers, where a language has rules.
+/// What gives no error in a pattern, and what is wrong with its selects on numbers, where a language has rules.
+fn silent_in<'s>(
+    alloc: Global,
+    rules: &Option<LanguageRules<'static>>,
+    asked: &[Asking<'s>],
+    place: &Place<'s>,
+    pattern: &Pattern<'s>,
+) -> Result<Vec<Kind<'s>>, AllocError> {
+    let mut kinds = Vec::new(alloc);
+    add_ungiven(asked, place, pattern, &mut kinds)?;
+    add_no_number(place, pattern, &mut kinds)?;
+    if let Some(rules) = rules {
+        add_pattern(rules, place, pattern, &mut kinds)?;
+    }
+    Ok(kinds)
+}
+
+/// Adds a finding of each kind, all at one spot.
+fn add_at<'s>(
+    kinds: Vec<Kind<'s>>,
+    spot: &Spotted,
+    findings: &mut Vec<Finding<'s>>,
+) -> Result<(), AllocError> {
+    for kind in kinds {
+        findings.push(Finding {
+            file: spot.file,
+            at: spot.at,
+            kind,
+        })?;
+    }
+    Ok(())
+}
+
+/// Adds what is wrong with patterns without an error, where a language has rules with their selects on numbers.
 fn add_silent<'s>(
     alloc: Global,
     rules: Option<LanguageRules<'static>>,
@@ -41,22 +77,10 @@ fn add_silent<'s>(
     let asking = asking_of(alloc, bundle, places)?;
     let parts = parts_of(alloc, asking.as_slice())?;
     for (place, spot) in places {
-        let Some(pattern) = pattern_at(bundle, place) else {
-            continue;
-        };
-        let mut kinds = Vec::new(alloc);
-        let asked = asking_in(alloc, asking.as_slice(), &parts, pattern)?;
-        add_ungiven(asked.as_slice(), place, pattern, &mut kinds)?;
-        add_no_number(place, pattern, &mut kinds)?;
-        if let Some(rules) = &rules {
-            add_pattern(rules, place, pattern, &mut kinds)?;
-        }
-        for kind in kinds {
-            findings.push(Finding {
-                file: spot.file,
-                at: spot.at,
-                kind,
-            })?;
+        if let Some(pattern) = pattern_at(bundle, place) {
+            let asked = asking_in(alloc, asking.as_slice(), &parts, pattern)?;
+            let kinds = silent_in(alloc, &rules, asked.as_slice(), place, pattern)?;
+            add_at(kinds, spot, findings)?;
         }
     }
     Ok(())
@@ -135,6 +159,27 @@ fn tag_of<'w>(language: Option<&'w str>) -> &'w str
     }
 }
 
+/// Adds all that is found in these sources, and says whether the linter finds nothing.
+fn add_findings<'s>(
+    alloc: Global,
+    language: Option<&str>,
+    sources: &Sources<'s>,
+    references: &Sources<'s>,
+    findings: &mut Vec<Finding<'s>>,
+) -> Result<bool, AllocError>
+    ensures { Tells (all_of (tag_of language.entry) (entries_read sources.now)) (entries_read sources.now) result }
+{
+    let spots = spots_in(alloc, sources)?;
+    add_faults(alloc, sources, spots.as_slice(), findings)?;
+    let bundle = bundle_of_all(alloc, tag_of(language), sources.resources.as_slice())?;
+    let places = places_of(alloc, &bundle, spots.as_slice(), 0)?;
+    let side = Side {
+        bundle: &bundle,
+        places: &places,
+    };
+    add_of_patterns(alloc, language, sources, references, &side, findings)
+}
+
 /// All that is found in these sources, in order.
 fn findings_of<'s>(
     alloc: Global,
@@ -145,15 +190,7 @@ fn findings_of<'s>(
     ensures { IfOk result (TellsAll language.entry sources.now) }
 {
     let mut findings = Vec::new(alloc);
-    let spots = spots_in(alloc, sources)?;
-    add_faults(alloc, sources, spots.as_slice(), &mut findings)?;
-    let bundle = bundle_of_all(alloc, tag_of(language), sources.resources.as_slice())?;
-    let places = places_of(alloc, &bundle, spots.as_slice(), 0)?;
-    let side = Side {
-        bundle: &bundle,
-        places: &places,
-    };
-    let is_clean = add_of_patterns(alloc, language, sources, references, &side, &mut findings)?;
+    let is_clean = add_findings(alloc, language, sources, references, &mut findings)?;
     sort(alloc, &mut findings)?;
     Ok(Checked { findings, is_clean })
 }
@@ -182,15 +219,17 @@ fn status_of(is_clean: bool, counts: Counts) -> Status
 }
 
 /// Writes a line for each finding, and after these a line with their counts, which it gives.
-fn put_report(
+fn put_report<'s>(
     alloc: Global,
-    texts: &[Source<'_>],
-    findings: &[Finding<'_>],
+    sources: &Sources<'s>,
+    references: &Sources<'s>,
+    findings: &[Finding<'s>],
     output: &mut String,
 ) -> Result<Counts, AllocError>
     ensures { IfOk result (λ counts. EndsWith (counts_line counts.errors counts.warnings) output.new) }
 {
-    let counts = put_findings(alloc, texts, findings, output)?;
+    let texts = texts_of(alloc, sources, references)?;
+    let counts = put_findings(alloc, texts.as_slice(), findings, output)?;
     put_counts(counts, output)?;
     Ok(counts)
 }
@@ -206,11 +245,11 @@ pub(crate) fn check<'s>(
     ensures { IfOk result (IsChecked (tag_of request.now.language) (entries_read sources.now)) }
 {
     let found = findings_of(alloc, request.language, sources, references)?;
-    let texts = texts_of(alloc, sources, references)?;
     let mut output = String::new(alloc);
     let counts = put_report(
         alloc,
-        texts.as_slice(),
+        sources,
+        references,
         found.findings.as_slice(),
         &mut output,
     )?;

@@ -184,6 +184,23 @@ fn attribute_of<'s>(place: &Place<'s>) -> Option<&'s str> {
     }
 }
 
+/// What can't be read in sources, and which ids come again in the same source, in order.
+fn faults_of<'s>(
+    alloc: Global,
+    sources: &Sources<'s>,
+    spots: &[Spots<'s>],
+) -> Result<Vec<Finding<'s>>, AllocError> {
+    let mut findings = Vec::new(alloc);
+    add_unreadable(sources, &mut findings)?;
+    for (file, resource) in sources.resources.iter().enumerate() {
+        let one = slice::from_ref(resource);
+        add_taken(alloc, sources, spots, file, one, &mut findings)?;
+    }
+    add_builtin(spots, &mut findings)?;
+    sort(alloc, &mut findings)?;
+    Ok(findings)
+}
+
 /// Says what can't be read in sources, and which ids come again in the same source.
 pub(crate) fn say_faults(
     alloc: Global,
@@ -191,14 +208,7 @@ pub(crate) fn say_faults(
     errors: &mut String,
 ) -> Result<(), AllocError> {
     let spots = spots_in(alloc, sources)?;
-    let mut findings = Vec::new(alloc);
-    add_unreadable(sources, &mut findings)?;
-    for (file, resource) in sources.resources.iter().enumerate() {
-        let one = slice::from_ref(resource);
-        add_taken(alloc, sources, spots.as_slice(), file, one, &mut findings)?;
-    }
-    add_builtin(spots.as_slice(), &mut findings)?;
-    sort(alloc, &mut findings)?;
+    let findings = faults_of(alloc, sources, spots.as_slice())?;
     put_findings(alloc, sources.texts.as_slice(), findings.as_slice(), errors)?;
     Ok(())
 }

@@ -25,18 +25,24 @@ fn put_place<'s>(
     text.push_str("\n")
 }
 
+/// Writes a line for each value and attribute of these sources, with the variables that it asks for.
+fn put_places(alloc: Global, sources: &Sources<'_>, output: &mut String) -> Result<(), AllocError> {
+    let bundle = bundle_of_all(alloc, "en", sources.resources.as_slice())?;
+    let spots = spots_in(alloc, sources)?;
+    let places = places_of(alloc, &bundle, spots.as_slice(), 0)?;
+    let asked = asked_at(alloc, &bundle, &places)?;
+    for (place, _) in &places {
+        put_place(&asked, place, output)?;
+    }
+    Ok(())
+}
+
 /// Lists the values and attributes of these sources, each on a line with the variables that it asks for.
 pub(crate) fn list(alloc: Global, sources: &Sources<'_>) -> Result<Answer, AllocError>
     ensures { IfOk result (λ answer. answer.status ≡ Status.Fine) }
 {
-    let bundle = bundle_of_all(alloc, "en", sources.resources.as_slice())?;
-    let spots = spots_in(alloc, sources)?;
     let mut output = String::new(alloc);
-    let places = places_of(alloc, &bundle, spots.as_slice(), 0)?;
-    let asked = asked_at(alloc, &bundle, &places)?;
-    for (place, _) in &places {
-        put_place(&asked, place, &mut output)?;
-    }
+    put_places(alloc, sources, &mut output)?;
     let mut errors = String::new(alloc);
     say_faults(alloc, sources, &mut errors)?;
     Ok(Answer {

@@ -101,6 +101,24 @@ fn add_positional<'s>(
     Ok(())
 }
 
+/// Adds that a select on a number lacks a category, or that the language does.
+fn add_category<'s>(
+    rules: &str,
+    place: &Place<'s>,
+    category: PluralCategory,
+    variants: &[Variant<'s>],
+    kinds: &mut Vec<Kind<'s>>,
+) -> Result<(), AllocError> {
+    let has_variant = has_key(variants, category_word(category));
+    match rule_of(rules, category_word(category)) {
+        Some(rule) if !has_variant && !is_met(rule, variants) => {
+            kinds.push(Kind::Lacks(category, *place))
+        }
+        None if has_variant => kinds.push(Kind::NeverComes(category, *place)),
+        _ => Ok(()),
+    }
+}
+
 /// Adds the categories that a select on a number lacks, and those that the language lacks.
 fn add_select<'s>(
     rules: &LanguageRules<'_>,
@@ -118,19 +136,7 @@ fn add_select<'s>(
         rules.cardinal
     };
     for category in CATEGORIES {
-        let has_variant = has_key(variants, category_word(category));
-        match rule_of(text, category_word(category)) {
-            Some(rule) => {
-                if !has_variant && !is_met(rule, variants) {
-                    kinds.push(Kind::Lacks(category, *place))?;
-                }
-            }
-            None => {
-                if has_variant {
-                    kinds.push(Kind::NeverComes(category, *place))?;
-                }
-            }
-        }
+        add_category(text, place, category, variants, kinds)?;
     }
     Ok(())
 }

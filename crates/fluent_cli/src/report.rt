@@ -59,6 +59,22 @@ fn line_of(
     format!(in alloc; "{name}:{at}: {weight}: {kind}\n")
 }
 
+/// Writes a line, and counts it, if it isn't among those that were written.
+fn put_line(
+    line: String,
+    weight: Weight,
+    lines: &mut IndexSet<String>,
+    counts: &mut Counts,
+    text: &mut String,
+) -> Result<(), AllocError> {
+    if !lines.contains(line.as_str()) {
+        text.push_str(line.as_str())?;
+        lines.insert(line)?;
+        counts.add(weight);
+    }
+    Ok(())
+}
+
 /// Writes a line for each finding, and no line twice, as for two references to what isn't there: how many these are.
 pub(crate) fn put_findings(
     alloc: Global,
@@ -73,11 +89,7 @@ pub(crate) fn put_findings(
     };
     for finding in findings {
         let line = line_of(alloc, sources, finding)?;
-        if !lines.contains(line.as_str()) {
-            text.push_str(line.as_str())?;
-            lines.insert(line)?;
-            counts.add(finding.kind.weight());
-        }
+        put_line(line, finding.kind.weight(), &mut lines, &mut counts, text)?;
     }
     Ok(counts)
 }

@@ -3,6 +3,7 @@
 ghost use Rattle.std.specs.Prelude.{◌≡◌, IfOk};
 ghost use Rattle.fluent_cli.specs.Runs.{SaysOnly, Gives, Runs, no_text_line, own_count};
 ghost use Rattle.fluent_cli.specs.Inside.Reading.{entries_read};
+ghost use Rattle.fluent_cli.specs.Inside.Reports.{GivesRead};
 
 use crate::answer::{Answer, Status};
 use crate::check::check;
@@ -35,6 +36,27 @@ fn answer<'s>(
         Request::Show(request) => show(alloc, request, sources),
         Request::List(_) => list(alloc, sources),
     }
+}
+
+/// The same, after a line for each byte order mark that was taken off.
+fn answer_with_marks<'s>(
+    alloc: Global,
+    request: &Request<'_>,
+    sources: &Sources<'s>,
+    references: &Sources<'s>,
+) -> Result<Answer, AllocError>
+    ensures { IfOk result (GivesRead request.now sources.now references.now) }
+{
+    let mut errors = String::new(alloc);
+    say_marks(sources.texts.as_slice(), &mut errors)?;
+    say_marks(references.texts.as_slice(), &mut errors)?;
+    let given = answer(alloc, request, sources, references)?;
+    errors.push_str(given.errors.as_str())?;
+    Ok(Answer {
+        status: given.status,
+        output: given.output,
+        errors,
+    })
 }
 
 /// How many of a request's files are no references.
@@ -72,14 +94,5 @@ pub fn run<'f>(
         Ok(sources) => sources,
         Err(name) => return no_text(alloc, name),
     };
-    let mut errors = String::new(alloc);
-    say_marks(sources.texts.as_slice(), &mut errors)?;
-    say_marks(references.texts.as_slice(), &mut errors)?;
-    let given = answer(alloc, request, &sources, &references)?;
-    errors.push_str(given.errors.as_str())?;
-    Ok(Answer {
-        status: given.status,
-        output: given.output,
-        errors,
-    })
+    answer_with_marks(alloc, request, &sources, &references)
 }

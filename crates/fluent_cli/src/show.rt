@@ -103,6 +103,23 @@ fn say_errors(errors: &[FluentError], text: &mut String) -> Result<(), AllocErro
     Ok(())
 }
 
+/// What is said on standard error: what is wrong with the sources, then with the text.
+fn said_of(
+    alloc: Global,
+    request: &ShowRequest<'_>,
+    sources: &Sources<'_>,
+    errors: &[FluentError],
+    is_there: bool,
+) -> Result<String, AllocError> {
+    let mut said = String::new(alloc);
+    say_faults(alloc, sources, &mut said)?;
+    say_errors(errors, &mut said)?;
+    if !is_there {
+        say_missing(request, &mut said)?;
+    }
+    Ok(said)
+}
+
 /// The status of a run that showed a text.
 fn status_of(is_there: bool, is_strict: bool, is_wrong: bool) -> Status
     ensures { result ≡ status_shown is_there is_strict is_wrong }
@@ -127,13 +144,8 @@ pub(crate) fn show(
     let mut errors = Vec::new(alloc);
     let mut output = text_of(alloc, &texts, request, &mut errors)?;
     output.push_str("\n")?;
-    let mut said = String::new(alloc);
-    say_faults(alloc, sources, &mut said)?;
-    say_errors(errors.as_slice(), &mut said)?;
     let is_there = has(&texts, request);
-    if !is_there {
-        say_missing(request, &mut said)?;
-    }
+    let said = said_of(alloc, request, sources, errors.as_slice(), is_there)?;
     Ok(Answer {
         status: status_of(is_there, request.is_strict, !said.is_empty()),
         output,

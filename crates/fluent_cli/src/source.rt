@@ -27,12 +27,22 @@ pub(crate) struct Source<'f> {
 }
 
 /// Sources with what was read from them, each at the same place of its list.
-#[derive(Drop)]
 pub(crate) struct Sources<'f> {
     pub texts: Vec<Source<'f>>,
     pub resources: Vec<FluentResource<'f>>,
     /// What can't be read.
     pub unreadable: Vec<Vec<ParserError>>,
+}
+
+// Written out, so that it is one step where sources go out of scope, and not one for each part.
+impl<'f> Drop for Sources<'f> {
+    fn drop(self) {
+        let Sources {
+            texts: _,
+            resources: _,
+            unreadable: _,
+        } = self;
+    }
 }
 
 /// A byte order mark.

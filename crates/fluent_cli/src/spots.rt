@@ -14,10 +14,19 @@ pub(crate) struct Spot<'s> {
 }
 
 /// The spots of a source, and where each of its entries begins.
-#[derive(Drop)]
 pub(crate) struct Spots<'s> {
     pub list: Vec<Spot<'s>>,
     pub entries: Vec<LineColumn>,
+}
+
+// Written out, so that it is one step where spots go out of scope, and not one for each part.
+impl<'s> Drop for Spots<'s> {
+    fn drop(self) {
+        let Spots {
+            list: _,
+            entries: _,
+        } = self;
+    }
 }
 
 /// Goes over the lines of a source once.

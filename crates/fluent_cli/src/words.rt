@@ -97,12 +97,16 @@ fn files_argument<'a>(alloc: Global, help: &'a str) -> Arg<'a> {
         .help(help)
 }
 
-fn check_command<'a>(alloc: Global) -> Result<Command<'a>, AllocError> {
-    let reference = Arg::new(alloc, "reference")
-        .long("reference")
-        .value_name("FILE")
+/// An option that may be given again.
+fn repeated_option<'a>(alloc: Global, name: &'a str, value: &'a str, help: &'a str) -> Arg<'a> {
+    Arg::new(alloc, name)
+        .long(name)
+        .value_name(value)
         .action(ArgAction::Append)
-        .help("A file of the language that the files were translated from (may be given again)");
+        .help(help)
+}
+
+fn check_command<'a>(alloc: Global) -> Result<Command<'a>, AllocError> {
     Command::new(alloc, "check")
         .about(
             "Finds what is wrong with files, which count as one source: status 1 if there is anything",
@@ -111,55 +115,75 @@ fn check_command<'a>(alloc: Global) -> Result<Command<'a>, AllocError> {
             alloc,
             "The language of the files, as 'pl': selects on numbers are held against its plural categories",
         ))?
-        .arg(reference)?
+        .arg(repeated_option(
+            alloc,
+            "reference",
+            "FILE",
+            "A file of the language that the files were translated from (may be given again)",
+        ))?
         .arg(files_argument(
             alloc,
             "Files of one language, in the order in which they are read",
         ))
 }
 
-fn show_command<'a>(alloc: Global) -> Result<Command<'a>, AllocError> {
-    let fallback = Arg::new(alloc, "fallback")
-        .long("fallback")
-        .value_name("FILE")
-        .action(ArgAction::Append)
-        .help("A file that is asked where those before it lack the message (may be given again)");
-    let text = Arg::new(alloc, "text")
-        .long("text")
-        .value_name("NAME=VALUE")
-        .action(ArgAction::Append)
-        .help("An argument that is a text, also where it reads as a number (may be given again)");
-    let strict = Arg::new(alloc, "strict")
+fn strict_option<'a>(alloc: Global) -> Arg<'a> {
+    Arg::new(alloc, "strict")
         .long("strict")
         .action(ArgAction::SetTrue)
-        .help("Ends with status 1 where there was an error");
-    let file = Arg::new(alloc, "file")
-        .value_name("FILE")
+        .help("Ends with status 1 where there was an error")
+}
+
+fn one_argument<'a>(alloc: Global, name: &'a str, value: &'a str, help: &'a str) -> Arg<'a> {
+    Arg::new(alloc, name)
+        .value_name(value)
         .required(true)
-        .help("The file of the message");
-    let id = Arg::new(alloc, "id")
-        .value_name("ID[.ATTRIBUTE]")
-        .required(true)
-        .help("The message, or an attribute of it");
-    let arguments = Arg::new(alloc, "argument")
+        .help(help)
+}
+
+fn arguments_argument<'a>(alloc: Global) -> Arg<'a> {
+    Arg::new(alloc, "argument")
         .value_name("NAME=VALUE")
         .num_args(0..)
         .action(ArgAction::Append)
-        .help("Arguments: each a number where its value reads as one, and else a text");
-    Command::new(alloc, "show")
-        .about(
-            "Shows a message as an application would, and what goes wrong in it on standard error",
-        )
+        .help("Arguments: each a number where its value reads as one, and else a text")
+}
+
+/// Adds the options of `show`.
+fn with_show_options<'a>(alloc: Global, command: Command<'a>) -> Result<Command<'a>, AllocError> {
+    command
         .arg(language_option(
             alloc,
             "The language whose plural rules are used [default: en]",
         ))?
-        .arg(fallback)?
-        .arg(text)?
-        .arg(strict)?
-        .arg(file)?
-        .arg(id)?
-        .arg(arguments)
+        .arg(repeated_option(
+            alloc,
+            "fallback",
+            "FILE",
+            "A file that is asked where those before it lack the message (may be given again)",
+        ))?
+        .arg(repeated_option(
+            alloc,
+            "text",
+            "NAME=VALUE",
+            "An argument that is a text, also where it reads as a number (may be given again)",
+        ))?
+        .arg(strict_option(alloc))
+}
+
+fn show_command<'a>(alloc: Global) -> Result<Command<'a>, AllocError> {
+    let command = Command::new(alloc, "show").about(
+        "Shows a message as an application would, and what goes wrong in it on standard error",
+    );
+    with_show_options(alloc, command)?
+        .arg(one_argument(alloc, "file", "FILE", "The file of the message"))?
+        .arg(one_argument(
+            alloc,
+            "id",
+            "ID[.ATTRIBUTE]",
+            "The message, or an attribute of it",
+        ))?
+        .arg(arguments_argument(alloc))
 }
 
 fn list_command<'a>(alloc: Global) -> Result<Command<'a>, AllocError> {
@@ -171,16 +195,29 @@ fn list_command<'a>(alloc: Global) -> Result<Command<'a>, AllocError> {
         ))
 }
 
-fn command<'a>(alloc: Global) -> Result<Command<'a>, AllocError> {
+/// The program without its subcommands.
+fn program<'a>(alloc: Global) -> Result<Command<'a>, AllocError> {
     Command::new(alloc, "fluent")
         .about("Checks, shows and lists messages in FTL files")
-        .bin_name("fluent")?
+        .bin_name("fluent")
+}
+
+/// Adds a subcommand, if that could be made.
+fn with_subcommand<'a>(
+    command: Command<'a>,
+    subcommand: Result<Command<'a>, AllocError>,
+) -> Result<Command<'a>, AllocError> {
+    command.subcommand(subcommand?)
+}
+
+fn command<'a>(alloc: Global) -> Result<Command<'a>, AllocError> {
+    let command = program(alloc)?
         .no_binary_name(true)
         .subcommand_required(true)
-        .arg_required_else_help(true)
-        .subcommand(check_command(alloc)?)?
-        .subcommand(show_command(alloc)?)?
-        .subcommand(list_command(alloc)?)
+        .arg_required_else_help(true);
+    let command = with_subcommand(command, check_command(alloc))?;
+    let command = with_subcommand(command, show_command(alloc))?;
+    with_subcommand(command, list_command(alloc))
 }
 
 /// A fault of the words, in the form in which `clap` says its own.
@@ -211,15 +248,17 @@ fn said<'w>(alloc: Global, error: Error) -> Result<Asked<'w>, AllocError>
 }
 
 /// The values of an option.
-fn values<'w>(
-    alloc: Global,
-    matches: &ArgMatches<'w>,
-    id: &str,
-) -> Result<Vec<&'w str>, AllocError> {
-    let mut list = Vec::new(alloc);
-    if let Some(found) = matches.get_strs(id) {
-        list.extend_from_slice(found)?;
+fn values<'m, 'w: 'm>(matches: &'m ArgMatches<'w>, id: &str) -> &'m [&'w str] {
+    match matches.get_strs(id) {
+        Some(words) => words,
+        None => &[],
     }
+}
+
+/// A list of these words.
+fn list_of<'w>(alloc: Global, words: &[&'w str]) -> Result<Vec<&'w str>, AllocError> {
+    let mut list = Vec::new(alloc);
+    list.extend_from_slice(words)?;
     Ok(list)
 }
 
@@ -245,14 +284,14 @@ fn add_arguments<'w>(
 fn asked_to_check<'w>(alloc: Global, matches: &ArgMatches<'w>) -> Result<Request<'w>, AllocError> {
     Ok(Request::Check(CheckRequest {
         language: matches.get_str("language"),
-        files: values(alloc, matches, "file")?,
-        references: values(alloc, matches, "reference")?,
+        files: list_of(alloc, values(matches, "file"))?,
+        references: list_of(alloc, values(matches, "reference"))?,
     }))
 }
 
 fn asked_to_list<'w>(alloc: Global, matches: &ArgMatches<'w>) -> Result<Request<'w>, AllocError> {
     Ok(Request::List(ListRequest {
-        files: values(alloc, matches, "file")?,
+        files: list_of(alloc, values(matches, "file"))?,
     }))
 }
 
@@ -264,57 +303,55 @@ fn id_and_attribute(word: &str) -> (&str, Option<&str>) {
     }
 }
 
-fn asked_to_show<'w>(alloc: Global, matches: &ArgMatches<'w>) -> Result<Asked<'w>, AllocError>
-    ensures { IfOk result AsksOrHelps }
-{
+/// The arguments of a message, plain ones before texts; otherwise the word that is none.
+fn arguments_of<'w>(
+    alloc: Global,
+    matches: &ArgMatches<'w>,
+) -> Result<Result<Vec<Argument<'w>>, &'w str>, AllocError> {
     let mut arguments = Vec::new(alloc);
-    let plain = values(alloc, matches, "argument")?;
-    let texts = values(alloc, matches, "text")?;
-    let bad = match add_arguments(plain.as_slice(), false, &mut arguments)? {
-        Some(word) => Some(word),
-        None => add_arguments(texts.as_slice(), true, &mut arguments)?,
-    };
-    if let Some(word) = bad {
-        let text = format!(in alloc; "an argument is NAME=VALUE, and '{word}' is not")?;
-        return refused(alloc, text.as_str());
+    if let Some(word) = add_arguments(values(matches, "argument"), false, &mut arguments)? {
+        return Ok(Err(word));
     }
-    let mut files = values(alloc, matches, "file")?;
-    files.extend_from_slice(values(alloc, matches, "fallback")?.as_slice())?;
+    if let Some(word) = add_arguments(values(matches, "text"), true, &mut arguments)? {
+        return Ok(Err(word));
+    }
+    Ok(Ok(arguments))
+}
+
+/// The file of a message, and after it its fallbacks.
+fn files_to_show<'w>(alloc: Global, matches: &ArgMatches<'w>) -> Result<Vec<&'w str>, AllocError> {
+    let mut files = list_of(alloc, values(matches, "file"))?;
+    files.extend_from_slice(values(matches, "fallback"))?;
+    Ok(files)
+}
+
+/// What to show, with these arguments.
+fn to_show<'w>(
+    matches: &ArgMatches<'w>,
+    files: Vec<&'w str>,
+    arguments: Vec<Argument<'w>>,
+) -> Request<'w> {
     let (id, attribute) = id_and_attribute(matches.get_str("id").unwrap_or(""));
-    Ok(Asked::Request(Request::Show(ShowRequest {
+    Request::Show(ShowRequest {
         language: matches.get_str("language").unwrap_or("en"),
         is_strict: matches.get_flag("strict"),
         files,
         id,
         attribute,
         arguments,
-    })))
+    })
 }
 
-/// What these words ask for, of which the first is the one after the program's name. An answer in place of a request is
-/// help, with status 0, or says what is wrong with the words, with status 2.
-///
-/// # Errors
-///
-/// An allocation failed.
-pub fn ask<'w>(alloc: Global, words: &'w [String]) -> Result<Asked<'w>, AllocError>
+fn asked_to_show<'w>(alloc: Global, matches: &ArgMatches<'w>) -> Result<Asked<'w>, AllocError>
     ensures { IfOk result AsksOrHelps }
 {
-    let matches = match command(alloc)?.try_get_matches_from(words) {
-        Ok(matches) => matches,
-        Err(error) => return said(alloc, error),
-    };
-    let Some((name, matches)) = matches.subcommand() else {
-        return refused(alloc, "no subcommand");
-    };
-    if let Some(tag) = unknown_language(name, matches) {
-        let text = format!(in alloc; "no plural rules are known for the language '{tag}'")?;
-        return refused(alloc, text.as_str());
-    }
-    match name {
-        "check" => Ok(Asked::Request(asked_to_check(alloc, matches)?)),
-        "list" => Ok(Asked::Request(asked_to_list(alloc, matches)?)),
-        _ => asked_to_show(alloc, matches),
+    let files = files_to_show(alloc, matches)?;
+    match arguments_of(alloc, matches)? {
+        Ok(arguments) => Ok(Asked::Request(to_show(matches, files, arguments))),
+        Err(word) => {
+            let text = format!(in alloc; "an argument is NAME=VALUE, and '{word}' is not")?;
+            refused(alloc, text.as_str())
+        }
     }
 }
 
@@ -327,5 +364,42 @@ fn unknown_language<'w>(name: &str, matches: &ArgMatches<'w>) -> Option<&'w str>
     match rules_for(cldr_plurals(), tag) {
         Some(_) => None,
         None => Some(tag),
+    }
+}
+
+/// What the words after the name of a subcommand ask for.
+fn asked_for<'w>(
+    alloc: Global,
+    name: &str,
+    matches: &ArgMatches<'w>,
+) -> Result<Asked<'w>, AllocError>
+    ensures { IfOk result AsksOrHelps }
+{
+    if let Some(tag) = unknown_language(name, matches) {
+        let text = format!(in alloc; "no plural rules are known for the language '{tag}'")?;
+        return refused(alloc, text.as_str());
+    }
+    match name {
+        "check" => Ok(Asked::Request(asked_to_check(alloc, matches)?)),
+        "list" => Ok(Asked::Request(asked_to_list(alloc, matches)?)),
+        _ => asked_to_show(alloc, matches),
+    }
+}
+
+/// What these words ask for, of which the first is the one after the program's name. An answer in place of a request is
+/// help, with status 0, or says what is wrong with the words, with status 2.
+///
+/// # Errors
+///
+/// An allocation failed.
+pub fn ask<'w>(alloc: Global, words: &'w [String]) -> Result<Asked<'w>, AllocError>
+    ensures { IfOk result AsksOrHelps }
+{
+    match command(alloc)?.try_get_matches_from(words) {
+        Ok(matches) => match matches.subcommand() {
+            Some((name, matches)) => asked_for(alloc, name, matches),
+            None => refused(alloc, "no subcommand"),
+        },
+        Err(error) => said(alloc, error),
     }
 }

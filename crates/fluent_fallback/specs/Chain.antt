@@ -1,4 +1,8 @@
 -- Bundles that are asked in turn: the first that has a pattern answers, and where none has one the id stands for the text.
+-- Words of other files: `value_at id`, the value of the message that an id names; `attribute_at id name`, its first attribute of the name;
+-- `arguments_view`, arguments as a map by their names; `Borrows r t`, the answer r is the text t, borrowed; `IsTextAlone`, texts without a placeable;
+-- `transform_in`, the transform of a bundle, if it has one; `writer_in`, the writer that a `Counting` holds;
+-- `CountsFault`, of its two counts that of failed writes or of writes that took nothing goes up by one where the answer is such a fault, and else none.
 use Rattle.std.specs.Prelude.{◌≡◌, ◌≢◌, ℕ, ◌≤◌, Bool, List, [], ◌∷◌, map, Option, Some, None, is_some, Result, Err, OnOk, IfOk, String, string_bytes, ⊤}
 use Rattle.std.specs.Borrow.{Bor}
 use Rattle.std.specs.List.{list_any, position_from}

@@ -1,4 +1,7 @@
 -- What the program shows and says, as a function of its words and the bytes of its input.
+-- Words of other crates: `entries`, what the grammar reads in a text, and `junk_ranges`, what it can't; `rules`, the plural rules that a text has, and
+-- `category_of`, the category that they give a number; `value_at id`, the value of the message that an id names; `chain_value`, the text of that in
+-- the first of some bundles where there is one, or else the id, with what is wrong with it (`Shown`).
 use Rattle.std.specs.Prelude.{ℕ, Bool, true, false, ◌&&◌, ◌==◌, nat_eq, nat_lt, if◌then◌else◌, Option, Some, None, List, [], ◌∷◌, map, length, codes, ◌≡◌, Result, Ok, unwrap_or, ◌++◌}
 use Rattle.std.specs.List.{list_all, starts_with, before_first, after_first}
 use Rattle.std.specs.Option.{option_and_then}

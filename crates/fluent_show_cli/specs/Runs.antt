@@ -1,4 +1,7 @@
 -- What a run leaves: of its reader, of its writers, and what they took.
+-- Words of other crates: `Consumes old new bytes`, a reader gave these bytes, and `Appends old new text`, a writer took this text, where what they hold
+-- is known; `TookPrefix`, it took a beginning of it; `writer_in`, `failed_in`, `empty_in`, the writer that a `Counting` holds and its counts of writes that
+-- failed and of those that took nothing; `raised`, one more, or still 2^64 - 1; `Begins prefix all`, these begin those.
 use Rattle.std.specs.Prelude.{ℕ, ◌≡◌, ◌≢◌, ◌≤◌, ◌⊎◌, List, length, Option, [], ◌∷◌, ◌++◌, false, IfSome, map, String, string_bytes}
 use Rattle.std.specs.Io.KnownBytes.{Consumes, Appends}
 use Rattle.std.proofs.Common.{Global}

@@ -5,12 +5,14 @@ use Rattle.std.proofs.Common.{Global}
 use Rattle.fluent_ast.specs.Tree.{Text, Entry, Pattern}
 use Rattle.fluent_semantics.specs.Bundle.{Bundle}
 use Rattle.fluent_fallback.specs.Chain.{Shown, first_with, shown_of}
-use Rattle.fluent_cli.specs.Runs.{NoneFails, NothingFails, arguments_of, asked_of, tag_of}
-use Rattle.fluent_cli.specs.Inside.Reading.{entries_read}
+use Rattle.fluent_cli.specs.Runs.{Gives, NoneFails, NothingFails, arguments_of, asked_of, mark_lines, tag_of}
+use Rattle.fluent_cli.specs.Inside.Reading.{entries_read, texts_read}
+use Rattle.fluent_cli.specs.declared.answer.Answer.{Answer}
 use Rattle.fluent_cli.specs.declared.answer.Status.{Status}
 use Rattle.fluent_cli.specs.declared.answer.Status.TheVariants.{Fine, Wrong}
 use Rattle.fluent_cli.specs.declared.check.Checked.{Checked}
 use Rattle.fluent_cli.specs.declared.source.Sources.{Sources}
+use Rattle.fluent_cli.specs.declared.words.Request.{Request}
 use Rattle.fluent_cli.specs.declared.words.ShowRequest.{ShowRequest}
 
 -- a text was added to another
@@ -41,3 +43,13 @@ found_in request bundles = first_with (asked_of request) bundles
 abbrev pub shown_by : ShowRequest → List (Bundle Text) → Shown
 shown_by request bundles =
     shown_of request.id.now (arguments_of request.arguments.items) (found_in request bundles)
+
+-- ---- of a run
+
+-- What a request gives over sources and those that they refer to, of which marks are told first.
+pub record GivesRead (request : Request) (sources references : Sources) (answer : Answer) : Type 0 where
+  pub given : Answer
+  pub gives : Gives request (entries_read sources) given
+  pub status : answer.status ≡ given.status
+  pub output : string_bytes answer.output ≡ string_bytes given.output
+  pub errors : string_bytes answer.errors ≡ (mark_lines (texts_read sources) ++ mark_lines (texts_read references)) ++ string_bytes given.errors

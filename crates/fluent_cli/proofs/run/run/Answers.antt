@@ -1,7 +1,8 @@
-use Rattle.std.proofs.Common.{◌≡◌, ◌∙◌, Some, None, Ok, Err, IfOk, map, take, drop, length, string_bytes, refl, sym, ap, subst, rules}
-use Rattle.fluent_cli.specs.Inside.Reading.{AreOf, ReadsAll, read_view}
-use Rattle.fluent_cli.specs.Runs.{file_entries, no_text_in, read_of, Gives, RunsBy, own_count}
-use Rattle.fluent_cli.proofs.Split.{entries_of_files, marks_told, named_first, named_later}
+use Rattle.std.proofs.Common.{◌≡◌, ◌∙◌, ◌++◌, Some, None, Ok, Err, IfOk, map, take, drop, length, string_bytes, sym, ap, subst}
+use Rattle.fluent_cli.specs.Inside.Reading.{AreOf, ReadsAll, texts_read}
+use Rattle.fluent_cli.specs.Inside.Reports.{GivesRead}
+use Rattle.fluent_cli.specs.Runs.{file_entries, no_text_in, read_of, Gives, GivesOver, RunsBy, own_count}
+use Rattle.fluent_cli.proofs.Split.{entries_of_files, if_ok, marks_of_all, named_first, named_later}
 use Rattle.fluent_cli.proofs.run.run.Goals as goal
 
 pub returns-in-Err : goal.returns-in-Err
@@ -33,13 +34,14 @@ returns c =
     let others : AreOf (drop n files) c.in-Ok-2.sources = subst (λ fs. AreOf fs c.in-Ok-2.sources) c.split_at.ensures.back others in
     let none : no_text_in files ≡ None = named_later n files own.all ∙ others.all in
     let counted : n ≡ own_count request (length files) = c.own_files.ensures in
-    let answer = c.in_ok-given.given in
-    subst (λ o. RunsBy o request files record { status = answer.status; output = answer.output; errors = c.push_str.new.self }) (sym none) (record {
-      given = answer;
-      gives = subst (λ entries. Gives request entries answer)
-          (own.read.entries ∙ (entries_of_files (take n files) ∙ ap (λ k. map file_entries (take k files)) counted)) c.in_ok-given.ensures;
-      status = refl;
-      output = refl;
-      errors = marks_told n files (map read_view c.as_slice.result.now) (map read_view c.as_slice-2.result.now) (string_bytes c.new-errors.result) (string_bytes c.say_marks.new.errors) (string_bytes c.say_marks-2.new.errors) (string_bytes c.push_str.new.self) (string_bytes answer.errors)
-          (ap (map read_view) c.as_slice.ensures.value ∙ own.read.texts) (ap (map read_view) c.as_slice-2.ensures.value ∙ others.read.texts) (search rules) c.in_ok-say_marks.ensures c.in_ok-say_marks-2.ensures (search rules);
-    })
+    let lines = marks_of_all n files (texts_read c.in-Ok.sources) (texts_read c.in-Ok-2.sources) own.read.texts others.read.texts in
+    subst (λ o. IfOk c.answer_with_marks.result (RunsBy o request files)) (sym none)
+    (if_ok (GivesRead request c.in-Ok.sources c.in-Ok-2.sources) (GivesOver request files) c.answer_with_marks.result
+    (λ answer g. record {
+      given = g.given;
+      gives = subst (λ entries. Gives request entries g.given)
+          (own.read.entries ∙ (entries_of_files (take n files) ∙ ap (λ k. map file_entries (take k files)) counted)) g.gives;
+      status = g.status;
+      output = g.output;
+      errors = g.errors ∙ ap (λ told. told ++ string_bytes g.given.errors) lines;
+    }) c.answer_with_marks.ensures)
