@@ -40,9 +40,9 @@ abbrev pub texts_of : List (Bor Text) → List Text
 texts_of ids = map (λ id. id.now) ids
 
 -- an id was put beside these where it names a message
-abbrev pub Puts : Bundle Text → Text → BTreeSet (Bor Text) → BTreeSet (Bor Text) → Type 0
-Puts bundle id old new = gathered new ≡ with_id (names_message bundle) id (gathered old)
+abbrev pub PutsId : Bundle Text → Text → BTreeSet (Bor Text) → BTreeSet (Bor Text) → Type 0
+PutsId bundle id old new = gathered new ≡ with_id (names_message bundle) id (gathered old)
 
 -- those of all messages among entries
-abbrev pub PutsAll : Bundle Text → List Entry → BTreeSet (Bor Text) → BTreeSet (Bor Text) → Type 0
-PutsAll bundle entries old new = gathered new ≡ with_entries (names_message bundle) entries (gathered old)
+abbrev pub PutsIds : Bundle Text → List Entry → BTreeSet (Bor Text) → BTreeSet (Bor Text) → Type 0
+PutsIds bundle entries old new = gathered new ≡ with_entries (names_message bundle) entries (gathered old)
