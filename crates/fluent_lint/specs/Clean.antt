@@ -92,16 +92,20 @@ abbrev mutual
   pub needs : Pattern → List Need
   needs nothing = []
   needs (more e p) = in_element e ++ needs p
+
   pub in_element : Element → List Need
   in_element (text t) = []
   in_element (placeable e) = in_expression e
+
   -- those of all variants, whichever is chosen
   pub in_expression : Expression → List Need
   in_expression (inline x) = in_inline x
   in_expression (select x vs) = in_inline x ++ (in_variants vs ++ unless (has_default vs) a_default)
+
   pub in_variants : Variants → List Need
   in_variants no_variants = []
   in_variants (variant k p d vs) = needs p ++ in_variants vs
+
   pub in_inline : Inline → List Need
   in_inline (string t) = []
   in_inline (number t) = []
@@ -110,14 +114,18 @@ abbrev mutual
   in_inline (term t a c) = a_term t a (names_set c) ∷ in_call c
   in_inline (variable v) = a_variable v ∷ []
   in_inline (nested e) = in_expression e
+
   pub in_call : Call → List Need
   in_call no_call = []
   in_call (call a) = in_arguments a
+
   pub in_arguments : Arguments → List Need
   in_arguments (arguments xs ns) = in_positional xs ++ in_named ns
+
   pub in_positional : Inlines → List Need
   in_positional no_inlines = []
   in_positional (argument x xs) = in_inline x ++ in_positional xs
+
   pub in_named : Nameds → List Need
   in_named no_nameds = []
   in_named (named_argument name x ns) = in_inline x ++ in_named ns
@@ -205,16 +213,20 @@ module _ (at : Place → ℕ) where
     pub most_in_pattern : Pattern → ℕ
     most_in_pattern nothing = 0
     most_in_pattern (more e p) = most_in_element e + most_in_pattern p
+
     pub most_in_element : Element → ℕ
     most_in_element (text t) = 0
     most_in_element (placeable e) = most_in_expression e + 1
+
     pub most_in_expression : Expression → ℕ
     most_in_expression (inline x) = most_in_inline x
     most_in_expression (select x vs) = most_in_inline x + most_in_variants vs
+
     -- one variant is chosen
     pub most_in_variants : Variants → ℕ
     most_in_variants no_variants = 0
     most_in_variants (variant k p d vs) = max (most_in_pattern p) (most_in_variants vs)
+
     pub most_in_inline : Inline → ℕ
     most_in_inline (string t) = 0
     most_in_inline (number t) = 0
@@ -223,14 +235,18 @@ module _ (at : Place → ℕ) where
     most_in_inline (term t a c) = most_in_call c + at (of_term t a)
     most_in_inline (variable v) = 0
     most_in_inline (nested e) = most_in_expression e
+
     pub most_in_call : Call → ℕ
     most_in_call no_call = 0
     most_in_call (call a) = most_in_arguments a
+
     pub most_in_arguments : Arguments → ℕ
     most_in_arguments (arguments xs ns) = most_in_positional xs + most_in_named ns
+
     pub most_in_positional : Inlines → ℕ
     most_in_positional no_inlines = 0
     most_in_positional (argument x xs) = most_in_inline x + most_in_positional xs
+
     pub most_in_named : Nameds → ℕ
     most_in_named no_nameds = 0
     most_in_named (named_argument name x ns) = most_in_inline x + most_in_named ns
