@@ -5,7 +5,7 @@
 ghost use Rattle.std.specs.Prelude.{IfOk, OnOk, IsTrue};
 ghost use Rattle.fluent_lint.specs.Clean.{views};
 ghost use Rattle.fluent_lint.specs.Findings.{GoRound};
-ghost use Rattle.fluent_lint.specs.Inside.Steps.{AddsCycles};
+ghost use Rattle.fluent_lint.specs.Inside.Steps.{AddsCycles, PushesCycle};
 
 use crate::finding::{Finding, Kind};
 use crate::listing::refers_to;
@@ -58,9 +58,23 @@ pub(crate) fn add_cycles<'s, F, B: GetEntry<'s, F>>(
     ensures { OnOk result (AddsCycles (B.named bundle.now) findings.old findings.new) }
 {
     let graph = graph_of(alloc, findings)?;
-    for cycle in &searched(alloc, &graph.edges)?.cycles {
-        let places = places_at(alloc, &graph.places, cycle)?;
-        add_cycle(alloc, bundle, places, findings)?;
+    let search = searched(alloc, &graph.edges)?;
+    add_all(alloc, bundle, &graph.places, &search.cycles, findings)
+}
+
+/// Adds a finding for each of these, given by the indexes of its places, if it is a cycle.
+fn add_all<'s, F, B: GetEntry<'s, F>>(
+    alloc: Global,
+    bundle: &B,
+    places: &IndexSet<Place<'s>>,
+    cycles: &[Vec<usize>],
+    findings: &mut Vec<Finding<'s>>,
+) -> Result<(), AllocError>
+    ensures { OnOk result (AddsCycles (B.named bundle.now) findings.old findings.new) }
+{
+    for cycle in cycles {
+        let cycle = places_at(alloc, places, cycle)?;
+        add_cycle(alloc, bundle, cycle, findings)?;
     }
     Ok(())
 }
@@ -75,12 +89,20 @@ fn add_cycle<'s, F, B: GetEntry<'s, F>>(
     ensures { OnOk result (AddsCycles (B.named bundle.now) findings.old findings.new) }
 {
     if is_cycle(alloc, bundle, &places)? {
-        if let Some(first) = places.first() {
-            findings.push(Finding {
-                place: *first,
-                kind: Kind::Cycle { places },
-            })?;
-        }
+        push_cycle(places, findings)?;
+    }
+    Ok(())
+}
+
+/// Adds a finding for these places, which are a cycle.
+fn push_cycle<'s>(places: Vec<Place<'s>>, findings: &mut Vec<Finding<'s>>) -> Result<(), AllocError>
+    ensures { OnOk result (PushesCycle places.entry findings.old findings.new) }
+{
+    if let Some(first) = places.first() {
+        findings.push(Finding {
+            place: *first,
+            kind: Kind::Cycle { places },
+        })?;
     }
     Ok(())
 }
@@ -131,9 +153,7 @@ fn graph_of<'s>(alloc: Global, findings: &[Finding<'s>]) -> Result<Graph<'s>, Al
         edges: Vec::new(alloc),
     };
     for finding in findings {
-        if graph.places.insert(finding.place)? {
-            graph.edges.push(Vec::new(alloc))?;
-        }
+        add_place(alloc, &mut graph, finding.place)?;
     }
     for finding in findings {
         if let Kind::LeadsTo { place } = &finding.kind {
@@ -141,6 +161,14 @@ fn graph_of<'s>(alloc: Global, findings: &[Finding<'s>]) -> Result<Graph<'s>, Al
         }
     }
     Ok(graph)
+}
+
+/// Adds a place that isn't there.
+fn add_place<'s>(alloc: Global, graph: &mut Graph<'s>, place: Place<'s>) -> Result<(), AllocError> {
+    if graph.places.insert(place)? {
+        graph.edges.push(Vec::new(alloc))?;
+    }
+    Ok(())
 }
 
 /// Adds that a place leads to another.
@@ -164,21 +192,34 @@ fn searched(alloc: Global, edges: &[Vec<usize>]) -> Result<Search, AllocError> {
         path: Vec::new(alloc),
         cycles: Vec::new(alloc),
     };
-    let mut steps = edges.len();
-    for row in edges {
+    for _ in edges {
         search.states.push(State::New)?;
-        steps = steps.saturating_add(row.len());
     }
     for root in 0..edges.len() {
         enter(&mut search, root)?;
-        for _ in 0..steps {
-            if search.path.is_empty() {
-                break;
-            }
-            step(alloc, &mut search, edges)?;
-        }
+        walk(alloc, &mut search, edges)?;
     }
     Ok(search)
+}
+
+/// Walks on until all places of the path were left.
+fn walk(alloc: Global, search: &mut Search, edges: &[Vec<usize>]) -> Result<(), AllocError> {
+    for _ in 0..most_steps(edges) {
+        if search.path.is_empty() {
+            break;
+        }
+        step(alloc, search, edges)?;
+    }
+    Ok(())
+}
+
+/// How many steps a walk takes at most: one for each reference, and one for each place.
+fn most_steps(edges: &[Vec<usize>]) -> usize {
+    let mut steps = edges.len();
+    for row in edges {
+        steps = steps.saturating_add(row.len());
+    }
+    steps
 }
 
 /// Walks on to a place that wasn't met yet.
@@ -200,29 +241,44 @@ fn enter(search: &mut Search, to: usize) -> Result<(), AllocError> {
 
 /// Follows the next reference of the last place of the path, or leaves that place.
 fn step(alloc: Global, search: &mut Search, edges: &[Vec<usize>]) -> Result<(), AllocError> {
-    let Some(mut last) = search.path.pop() else {
+    let Some(last) = search.path.pop() else {
         return Ok(());
     };
-    let next = match edges.get(last.place) {
-        Some(row) => row.get(last.followed),
-        None => None,
-    };
-    let Some(to) = next else {
-        if let Some(state) = search.states.get_mut(last.place) {
-            *state = State::Done;
+    match next_of(edges, last) {
+        Some(to) => follow(alloc, search, last, to),
+        None => {
+            leave(search, last.place);
+            Ok(())
         }
-        return Ok(());
-    };
-    last.followed = last.followed.saturating_add(1);
-    search.path.push(last)?;
-    match on_path(search, *to) {
+    }
+}
+
+/// Where the next reference of a place leads.
+fn next_of(edges: &[Vec<usize>], stop: Stop) -> Option<usize> {
+    let row = edges.get(stop.place)?;
+    let to = row.get(stop.followed)?;
+    Some(*to)
+}
+
+/// Notes that all references of a place were followed.
+fn leave(search: &mut Search, place: usize) {
+    if let Some(state) = search.states.get_mut(place) {
+        *state = State::Done;
+    }
+}
+
+/// Follows a reference of a place, which goes back on the path.
+fn follow(alloc: Global, search: &mut Search, mut from: Stop, to: usize) -> Result<(), AllocError> {
+    from.followed = from.followed.saturating_add(1);
+    search.path.push(from)?;
+    match on_path(search, to) {
         Some(start) => {
-            if last.found <= start {
+            if from.found <= start {
                 note(alloc, search, start)?;
             }
             Ok(())
         }
-        None => enter(search, *to),
+        None => enter(search, to),
     }
 }
 

@@ -7,8 +7,8 @@ use Rattle.fluent_ast.specs.Tree.{Text, Attribute}
 use Rattle.fluent_ast.specs.View.{pattern_view}
 use Rattle.fluent_ast.specs.declared.ast.Pattern as tree
 use Rattle.fluent_semantics.specs.Bundle.{message_target, term_target}
-use Rattle.fluent_lint.specs.Clean.{Place, place_view, Names, place_target, Need, a_message, a_term, needs, place_of, IsAmong, LeadsOn, IsMet, IsFine}
-use Rattle.fluent_lint.specs.Findings.{named_by, NeedsAt, IsRight, is_large, IsUncleanBy, Says, SaysOf}
+use Rattle.fluent_lint.specs.Clean.{Place, place_view, views, Names, place_target, Need, a_message, a_term, needs, place_of, IsAmong, LeadsOn, IsMet, IsFine}
+use Rattle.fluent_lint.specs.Findings.{named_by, NeedsAt, IsRight, GoRound, is_large, IsUncleanBy, Says, SaysOf}
 use Rattle.fluent_lint.specs.Inside.Table.{Known, known_of, count_of, AreRight, IsWell}
 use Rattle.fluent_lint.specs.declared.place.Place as code
 use Rattle.fluent_lint.specs.declared.finding.Finding.{Finding}
@@ -155,3 +155,7 @@ pub record AddsTrue (named : Names Text) (limit : ℕ) (old new : List Finding) 
 -- the same of lists of the code, whatever the limit
 abbrev pub AddsCycles : Names Text → Vec Finding Global → Vec Finding Global → Type 0
 AddsCycles named old new = (limit : ℕ) → AddsTrue named limit old.items new.items
+
+-- the same where these places are a cycle
+abbrev pub PushesCycle : Vec code.Place Global → Vec Finding Global → Vec Finding Global → Type 0
+PushesCycle ys old new = (named : Names Text) → GoRound named (views ys.items) → AddsCycles named old new
