@@ -26,16 +26,21 @@ catch_program() {
     done
 }
 
-# Compiles the program of the crate $2 of the repository $1, as $4/program. By the words $3 it reads its standard input.
+# Compiles the program of the crate $2 of the repository $1, as $4/program. By the words $3 it reads its standard input. Where it had
+# done so before it was caught, it gets more to read.
 compile_unproved() {
-    local words
+    local words bytes
     read -ra words <<< "$3"
-    yes '# a comment' | head -c 100000 > "$4/comment" && mkdir "$4/try" || return 1
+    mkdir "$4/try" || return 1
     catch_program "$4" &
-    (cd "$1/crates/$2" && TMPDIR=$4/try exec rt try -- "${words[@]}") < "$4/comment" > /dev/null 2> "$4/errors"
+    for bytes in 200000 2000000; do
+        yes '# a comment' | head -c "$bytes" > "$4/comment"
+        (cd "$1/crates/$2" && TMPDIR=$4/try exec rt try -- "${words[@]}") < "$4/comment" > /dev/null 2> "$4/errors"
+        if [ -x "$4/program" ] || ! tail -n 1 "$4/errors" | grep -q '^run=ended '; then break; fi
+    done
     rm -rf "$4/try"
     wait
-    [ -x "$4/program" ] && tail -n 1 "$4/errors" | grep -q '^run=ended '
+    [ -x "$4/program" ] && tail -n 1 "$4/errors" | grep -Eq '^run=(ended|no-answer) '
 }
 
 # Runs the program of the crate $2 of the repository $1 with the words behind $3, by which it reads its standard input. Ends with
