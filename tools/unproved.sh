@@ -1,0 +1,72 @@
+# shellcheck shell=bash
+# How ./fluent_show and ./fluent run their program without its proof, for a shell to read after tools/proved.sh.
+# 'rt try' compiles it, with checks that stop it at a fault, and keeps nothing. So it is given a long comment to read, and
+# while it reads, the program gets a second name. Under that it is kept in out/unproved, for all runs of the same sources.
+
+# A sum of what the program of a crate is compiled from: its sources, and the toolchain.
+sum_of_unproved() {
+    { sum_of_sources "$@" && rt version; } | sha256sum
+}
+
+# Whether the program $1 is the one that was kept with the sum $2.
+is_kept() {
+    [ -x "$1" ] && [ -r "$1.sum" ] && [ "$(cat "$1.sum")" = "$2$(sha256sum < "$1")" ]
+}
+
+# Keeps the program $1 as $2, with the sum $3.
+keep() {
+    mkdir -p "${2%/*}" && cp "$1" "$2.$$" && mv "$2.$$" "$2" && printf '%s\n' "$3$(sha256sum < "$2")" > "$2.sum"
+}
+
+# Names what can be run below the folder $1/try also $1/program, until that folder is gone.
+catch_program() {
+    while [ -d "$1/try" ]; do
+        find "$1/try" -type f -perm -u+x -exec ln -f {} "$1/program" \; 2> /dev/null
+        sleep 0.1
+    done
+}
+
+# Compiles the program of the crate $2 of the repository $1, as $4/program. By the words $3 it reads its standard input. Where it had
+# done so before it was caught, it gets more to read.
+compile_unproved() {
+    local words bytes
+    read -ra words <<< "$3"
+    mkdir "$4/try" || return 1
+    catch_program "$4" &
+    for bytes in 200000 2000000; do
+        yes '# a comment' | head -c "$bytes" > "$4/comment"
+        (cd "$1/crates/$2" && TMPDIR=$4/try exec rt try -- "${words[@]}") < "$4/comment" > /dev/null 2> "$4/errors"
+        if [ -x "$4/program" ] || ! tail -n 1 "$4/errors" | grep -q '^run=ended '; then break; fi
+    done
+    rm -rf "$4/try"
+    wait
+    [ -x "$4/program" ] && tail -n 1 "$4/errors" | grep -Eq '^run=(ended|no-answer) '
+}
+
+# Runs the program of the crate $2 of the repository $1 with the words behind $3, by which it reads its standard input. Ends with
+# the program's status, or with 3 where there is none to run.
+run_unproved() {
+    local top=$1 name=$2 reads=$3 kept=$1/out/unproved/$2 sum room
+    shift 3
+    if ! command -v rt > /dev/null 2>&1; then
+        echo "$name: the Rattle toolchain is missing (no command 'rt' on the PATH)" >&2
+        exit 3
+    fi
+    sum=$(sum_of_unproved "$top" "$name")
+    if is_kept "$kept" "$sum"; then
+        echo "$name: runs without its proof; ./build builds the proved program" >&2
+        exec env -i "$kept" "$@"
+    fi
+    echo "$name: is compiled without its proof, in a minute or so; ./build builds the proved program" >&2
+    room=$(mktemp -d) || exit 3
+    # shellcheck disable=SC2064
+    trap "rm -rf '$room'" EXIT
+    if ! compile_unproved "$top" "$name" "$reads" "$room"; then
+        tail -n 20 "$room/errors" >&2
+        echo "$name: can't be run without its proof; ./build builds the proved program" >&2
+        exit 3
+    fi
+    [ "$sum" != "$(sum_of_unproved "$top" "$name")" ] || keep "$room/program" "$kept" "$sum" 2> /dev/null
+    env -i "$room/program" "$@"
+    exit
+}
