@@ -31,3 +31,5 @@ pub mod Settled
 pub mod Left
 pub mod Ranks
 pub mod Arms
+pub mod OneText
+pub mod LeafCalls

@@ -46,7 +46,7 @@ resolved_literal b env path (term t a c) next n h = cc
 resolved_literal b env path (variable x) next n h = cc
 resolved_literal b env path (nested e) next n h = cc
 
-both : (x y : Bool) → (x && y) ≡ true → (x ≡ true) × (y ≡ true)
+pub both : (x y : Bool) → (x && y) ≡ true → (x ≡ true) × (y ≡ true)
 both true y h = (refl, h)
 both false y h = cc
 
@@ -54,11 +54,11 @@ none_if : {X : Type 0} (xs : List X) → nat_eq (length xs) 0 ≡ true → xs �
 none_if [] h = refl
 none_if (x ∷ xs) h = let none : length (x ∷ xs) ≡ 0 = eqb-true (length (x ∷ xs)) 0 h in absurd (omega (arith, none))
 
-named_none : (b : Bundle Text) (env : Environment Text) (path : List Pattern) (next : Next Text (List (Text × Value Text))) (n : Budget) → walk.named (ahead Text) b (comes b) env path (nameds_of []) false next n ≡ next [] n
+pub named_none : (b : Bundle Text) (env : Environment Text) (path : List Pattern) (next : Next Text (List (Text × Value Text))) (n : Budget) → walk.named (ahead Text) b (comes b) env path (nameds_of []) false next n ≡ next [] n
 unfolding elements
 named_none b env path next n = refl
 
-named_more : (b : Bundle Text) (env : Environment Text) (path : List Pattern) (q : Text × Inline) (qs : List (Text × Inline)) (next : Next Text (List (Text × Value Text))) (n : Budget)
+pub named_more : (b : Bundle Text) (env : Environment Text) (path : List Pattern) (q : Text × Inline) (qs : List (Text × Inline)) (next : Next Text (List (Text × Value Text))) (n : Budget)
     → walk.named (ahead Text) b (comes b) env path (nameds_of (q ∷ qs)) false next n
     ≡ begins (walk.resolved (ahead Text) b (comes b) env path q.1 false (λ y c. begins (walk.named (ahead Text) b (comes b) env path (nameds_of qs) false (λ m d. next ((q.0, y) ∷ m) d) c)) n)
 unfolding elements

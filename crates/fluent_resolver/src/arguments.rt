@@ -1,16 +1,18 @@
 //! Values: of arguments and of selectors.
 #![tactic(auto, unfolding(fluent_resolver_state::specs::Status::state_parts))]
 
-ghost use Rattle.std.specs.Prelude.{◌≡◌, [], IfErr, IfOk, None, OnOk};
+ghost use Rattle.std.specs.Prelude.{◌≡◌, [], IfErr, IfOk, IfSome, None, OnOk};
 ghost use Rattle.std.specs.Option.{option_map};
 ghost use Rattle.fluent_ast.specs.References.{in_arguments, in_inline};
+ghost use Rattle.fluent_ast.specs.Tree.{function};
 ghost use Rattle.fluent_ast.specs.View.{arguments_view, inline_view};
 ghost use Rattle.fluent_semantics.specs.Ahead.{begins};
 ghost use Rattle.fluent_bundle_entries.specs.IdNumbers.{IsPlaced, numbers, table};
 ghost use Rattle.fluent_values.specs.View.{named as named_view, value_view};
 ghost use Rattle.fluent_resolver_state.specs.Gathered.{gathered, values_of};
+ghost use Rattle.fluent_resolver_state.specs.StateCalls.{status};
 ghost use Rattle.fluent_resolver.specs.Inside.Held.{StaysPlaced, held};
-ghost use Rattle.fluent_resolver.specs.Inside.Parts.{after_value, next_argument};
+ghost use Rattle.fluent_resolver.specs.Inside.Parts.{LeadsToText, after_value, next_argument};
 ghost use Rattle.fluent_resolver.specs.Inside.Parts as parts;
 ghost use Rattle.fluent_resolver.specs.Inside.Waits.{frames_in};
 ghost use Rattle.fluent_resolver.specs.Frames.{IsGivenBy, IsPlacedCall, IsPlacedPurpose, gathers, made, use_of, AreReady, Goes, GoesWithin, IsWhole};
@@ -20,13 +22,16 @@ use crate::frame::{Gathering, Purpose, Remaining};
 use crate::inline_expression::enter_with_values;
 use crate::machine::end_text;
 use crate::work::Work;
-use fluent_ast::ast::{CallArguments, InlineExpression};
+use fluent_ast::ast::{CallArguments, Identifier, InlineExpression};
 use fluent_references::Cursor;
-use fluent_resolver_state::State;
 use fluent_resolver_state::found::answer_of;
 use fluent_resolver_state::gathered::{Gathered, push_value};
+use fluent_resolver_state::laws::events_are_the_run;
+use fluent_resolver_state::leaves::{answer_to_leaves, has_leaves_alone};
 use fluent_resolver_state::shown::put_answer;
+use fluent_resolver_state::texts::{free_text, visit_text};
 use fluent_resolver_state::variable::resolve_variable;
+use fluent_resolver_state::{State, found};
 use fluent_text::unescape_unicode_to_string;
 use fluent_values::output::{Halt, Output};
 use fluent_values::{Context, FluentArgs, FluentFunction, FluentType, FluentValue};
@@ -70,14 +75,98 @@ pub(crate) fn resolve<'p, 's, 'args, W: Write, C: FluentType, F: FluentFunction<
             }
             match inline {
                 InlineExpression::FunctionReference { id, arguments } => {
-                    let purpose = Purpose::Give { id, cursor };
-                    let at = cursor.after_one();
-                    begin_call(scope, out, work, levels - 1, purpose, arguments, at)
+                    if has_leaves_alone(arguments) {
+                        return Ok(Some(answer_to_leaves(scope, id, arguments, cursor)?));
+                    }
+                    give_answer(scope, out, work, levels - 1, id, arguments, cursor)
                 }
-                _ => keep_text(scope, out, work, levels - 1, inline, cursor),
+                _ => give_text(scope, out, work, levels - 1, inline, cursor),
             }
         }
     }
+}
+
+/// The text of an inline expression, as a value: that of a reference which leads to one text as it stands, any other is
+/// kept.
+#[cycle(resolve)]
+#[inline(always)]
+fn give_text<'p, 's, 'args, W: Write, C: FluentType, F: FluentFunction<C>, B: Context<C>>(
+    scope: &mut State<'_, 'p, '_, 's, 'args, C, F, B>,
+    out: &mut Output<W>,
+    work: &mut Work<'p, 'args, 's, C>,
+    levels: usize,
+    inline: &'p InlineExpression<'s>,
+    cursor: Cursor<'p>,
+) -> Result<Option<FluentValue<'p, C>>, Halt>
+    requires placed { IsPlaced scope.old.ids.now (in_inline (inline_view inline.now)) cursor }
+    requires nothing { frames_in work.old ≡ [] }
+    ensures goes { Goes B.meant B.is_plain F.answer C.content W.contents result
+        (parts.kept (inline_view inline.now))
+        (made C.content) scope out work }
+    ensures placed { OnOk result (AreReady scope.new.ids.now work.new) }
+    ensures whole { IfOk result (λ o. IsWhole o work.new) }
+{
+    match text_led_to(scope, inline, cursor) {
+        Some(text) => {
+            // A law does nothing when it is called: its clauses go into the proof.
+            events_are_the_run();
+            Ok(Some(visit_text(scope, text)?))
+        }
+        None => keep_text(scope, out, work, levels, inline, cursor),
+    }
+}
+
+/// The text of the pattern that a reference leads to, where it is one text that isn't being written. Of a term with
+/// arguments, whose values may have to be made, nothing is said.
+#[inline(always)]
+fn text_led_to<'p, 's, C: FluentType, F: FluentFunction<C>, B: Context<C>>(
+    scope: &State<'_, 'p, '_, 's, '_, C, F, B>,
+    inline: &InlineExpression<'s>,
+    cursor: Cursor<'p>,
+) -> Option<&'s str>
+    requires { IsPlaced scope.now.ids.now (in_inline (inline_view inline.now)) cursor }
+    ensures { IfSome result (λ text. LeadsToText (status B.meant B.is_plain F.answer C.content scope.now)
+        (inline_view inline.now) text.now) }
+{
+    match inline {
+        InlineExpression::MessageReference { id, attribute } => {
+            free_text(scope, found::message(scope.ids, id.name, attribute, cursor))
+        }
+        InlineExpression::TermReference {
+            id,
+            attribute,
+            arguments,
+        } => match arguments {
+            None => free_text(scope, found::term(scope.ids, id.name, attribute, cursor)),
+            Some(_) => None,
+        },
+        _ => None,
+    }
+}
+
+/// A function's answer, as a value. It stands by itself, as what a call may hold costs at its entry.
+#[cycle(resolve)]
+#[inline(never)]
+fn give_answer<'p, 's, 'args, W: Write, C: FluentType, F: FluentFunction<C>, B: Context<C>>(
+    scope: &mut State<'_, 'p, '_, 's, 'args, C, F, B>,
+    out: &mut Output<W>,
+    work: &mut Work<'p, 'args, 's, C>,
+    levels: usize,
+    id: &'p Identifier<'s>,
+    arguments: &'p CallArguments<'s>,
+    cursor: Cursor<'p>,
+) -> Result<Option<FluentValue<'p, C>>, Halt>
+    requires placed { IsPlaced scope.old.ids.now (in_inline (function id.now.name.now (arguments_view arguments.now))) cursor }
+    requires nothing { frames_in work.old ≡ [] }
+    ensures goes { Goes B.meant B.is_plain F.answer C.content W.contents result
+        (parts.resolved (function id.now.name.now (arguments_view arguments.now)))
+        (made C.content) scope out work }
+    ensures placed { OnOk result (AreReady scope.new.ids.now work.new) }
+    ensures whole { IfOk result (λ o. IsWhole o work.new) }
+{
+    let purpose = Purpose::Give { id, cursor };
+    let at = cursor.after_one();
+    begin_call(scope, out, work, levels, purpose, arguments, at)
 }
 
 /// The text of an inline expression, which is kept.
@@ -143,7 +232,7 @@ pub(crate) fn begin_call<
     let alloc = scope.bundle.allocator();
     let gathering = Gathering {
         purpose,
-        positional: Vec::new(alloc),
+        positional: Vec::with_capacity(alloc, arguments.positional.len())?,
         named: Gathered::new(alloc, arguments.named.len()),
         remaining: Remaining {
             arguments,

@@ -3,6 +3,7 @@
 
 ghost use Rattle.std.specs.Prelude.{◌≡◌, [], false, None, OnOk};
 ghost use Rattle.fluent_ast.specs.References.{in_arguments, in_call, in_inline};
+ghost use Rattle.fluent_ast.specs.Tree.{function};
 ghost use Rattle.fluent_ast.specs.View.{arguments_view, call_view, inline_view};
 ghost use Rattle.fluent_semantics.specs.Ahead.{begins};
 ghost use Rattle.fluent_resolver_state.specs.Locals.{locals_view};
@@ -23,9 +24,10 @@ use fluent_ast::ast::{CallArguments, Identifier, InlineExpression};
 use fluent_references::Cursor;
 use fluent_resolver_state::fallback::{put_id_in_braces, put_in_braces};
 use fluent_resolver_state::laws::events_are_the_run;
+use fluent_resolver_state::leaves::{has_leaves_alone, put_answer_to_leaves};
 use fluent_resolver_state::locals::has_literals_alone;
 use fluent_resolver_state::lost::{lose, report_cycle, report_no_value};
-use fluent_resolver_state::texts::only_text;
+use fluent_resolver_state::texts::{free_text, only_text};
 use fluent_resolver_state::{Environment, Found, Locals, State, Target, found};
 use fluent_values::output::{Halt, Output};
 use fluent_values::{Context, FluentArgs, FluentFunction, FluentType};
@@ -131,6 +133,13 @@ fn write_term<'p, 's, 'args, W: Write, C: FluentType, F: FluentFunction<C>, B: C
             arguments,
         } => {
             let found = found::term(scope.ids, id.name, attribute, cursor);
+            if arguments.is_none() {
+                if let Some(text) = free_text(scope, found) {
+                    // A law does nothing when it is called: its clauses go into the proof.
+                    events_are_the_run();
+                    return write_only_text(scope, out, text);
+                }
+            }
             let at = cursor.after_one();
             write_found(scope, out, work, levels, inline, id, found, arguments, at)
         }
@@ -226,13 +235,39 @@ fn write_function<'p, 's, 'args, W: Write, C: FluentType, F: FluentFunction<C>, 
 {
     match inline {
         InlineExpression::FunctionReference { id, arguments } => {
-            let purpose = Purpose::Show { inline, id, cursor };
-            let at = cursor.after_one();
-            let _ = begin_call(scope, out, work, levels, purpose, arguments, at)?;
-            Ok(())
+            if has_leaves_alone(arguments) {
+                return put_answer_to_leaves(scope, out, inline, id, arguments, cursor);
+            }
+            write_gathered(scope, out, work, levels, inline, id, arguments, cursor)
         }
         _ => Ok(()),
     }
+}
+
+/// The same where the arguments are not literals and variables alone.
+#[cycle(resolve)]
+#[inline(never)]
+fn write_gathered<'p, 's, 'args, W: Write, C: FluentType, F: FluentFunction<C>, B: Context<C>>(
+    scope: &mut State<'_, 'p, '_, 's, 'args, C, F, B>,
+    out: &mut Output<W>,
+    work: &mut Work<'p, 'args, 's, C>,
+    levels: usize,
+    inline: &'p InlineExpression<'s>,
+    id: &'p Identifier<'s>,
+    arguments: &'p CallArguments<'s>,
+    cursor: Cursor<'p>,
+) -> Result<(), Halt>
+    requires placed { IsPlaced scope.old.ids.now (in_inline (function id.now.name.now (arguments_view arguments.now))) cursor }
+    requires nothing { frames_in work.old ≡ [] }
+    ensures goes { Goes B.meant B.is_plain F.answer C.content W.contents result
+        (parts.calls (parts.shows (inline_view inline.now) id.now.name.now) (arguments_view arguments.now))
+        (λ x. None) scope out work }
+    ensures placed { OnOk result (AreReady scope.new.ids.now work.new) }
+{
+    let purpose = Purpose::Show { inline, id, cursor };
+    let at = cursor.after_one();
+    let _ = begin_call(scope, out, work, levels, purpose, arguments, at)?;
+    Ok(())
 }
 
 /// Writes what a term reference leads to, where variables are looked up among values that were made.

@@ -71,10 +71,10 @@ impl<'p, 's, C: FluentType, F: FluentFunction<C>, B: Context<C>> Scope<
         let home = self.state.application();
         let mut unused = String::new(self.state.bundle.allocator());
         let mut kept = String::new(self.state.bundle.allocator());
-        let mut out = through(w, &mut unused, &mut kept);
-        let written = write_whole(&mut self.state, &mut out, pattern, Cursor::by_name());
+        let out = &mut through(w, &mut unused, &mut kept);
+        let written = write_whole(&mut self.state, out, pattern, Cursor::by_name());
         self.state.rest(home);
-        with_error(written, out.error)
+        with_error(written, &mut out.error)
     }
 
     /// Writes the expression of a placeable of a pattern, which stands on the path for it where that is empty, and
@@ -104,10 +104,10 @@ impl<'p, 's, C: FluentType, F: FluentFunction<C>, B: Context<C>> Scope<
         let home = self.state.application();
         let mut unused = String::new(self.state.bundle.allocator());
         let mut kept = String::new(self.state.bundle.allocator());
-        let mut out = through(w, &mut unused, &mut kept);
-        let written = write_expression_of(&mut self.state, &mut out, pattern, expression);
+        let out = &mut through(w, &mut unused, &mut kept);
+        let written = write_expression_of(&mut self.state, out, pattern, expression);
         self.state.rest(home);
-        with_error(written, out.error)
+        with_error(written, &mut out.error)
     }
 
     /// Reports an expression as a reference that can't be found, and then writes its fallback in braces. What is no
@@ -130,9 +130,9 @@ impl<'p, 's, C: FluentType, F: FluentFunction<C>, B: Context<C>> Scope<
     {
         let mut unused = String::new(self.state.bundle.allocator());
         let mut kept = String::new(self.state.bundle.allocator());
-        let mut out = through(w, &mut unused, &mut kept);
-        let written = lose(&mut self.state, &mut out, inline);
-        with_error(written, out.error)
+        let out = &mut through(w, &mut unused, &mut kept);
+        let written = lose(&mut self.state, out, inline);
+        with_error(written, &mut out.error)
     }
 
     /// The values of a call's arguments: positional ones in order, then named ones, of which the last of a name

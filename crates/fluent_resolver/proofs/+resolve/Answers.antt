@@ -1,4 +1,4 @@
-use Rattle.std.proofs.Common.{◌≡◌, rules, refl, sym, ap, subst, ◌∙◌, suc, ◌<◌, arith, map, [], Option, Some, None, Err, String, Global, string_bytes, ℕ, ◌∷◌, ◌+◌, ◌*◌, true, true≢false}
+use Rattle.std.proofs.Common.{◌≡◌, rules, refl, sym, ap, subst, ◌∙◌, suc, ◌<◌, arith, map, [], Option, Some, None, Err, String, Global, string_bytes, ℕ, ◌∷◌, ◌++◌, ◌+◌, ◌*◌, Bool, true, not, is_some, true≢false}
 use Rattle.std.specs.Borrow.{Bor}
 use Rattle.std.specs.Option.{option_map}
 use Rattle.std.specs.Prelude.{IsTrue}
@@ -26,7 +26,7 @@ use Rattle.fluent_values.specs.View.{named, value_view}
 use Rattle.fluent_values.specs.declared.output.Halt.TheVariants.{Memory}
 use Rattle.fluent_resolver.specs.Frames.{ArePlacedFrames, IsPlacedCall, IsPlacedPurpose, IsWhole, at_end, before, frame, gathers, kept_before, made, paid_within, use_of, values_view, path_left, selector_value, elements_from}
 use Rattle.fluent_resolver.specs.Inside.Held.{held, more, more_named}
-use Rattle.fluent_resolver.specs.Inside.Parts.{Following, View, next_argument, is_braced}
+use Rattle.fluent_resolver.specs.Inside.Parts.{Following, LeadsToText, View, next_argument, is_braced, target_of, text_alone}
 use Rattle.fluent_resolver.specs.declared.frame.Gathering.{Gathering}
 use Rattle.fluent_resolver.proofs.Answered.{answer_errors, answer_is, answer_text, answered_is, answered_none, answered_some}
 use Rattle.fluent_resolver.proofs.Called.{called_at}
@@ -39,7 +39,7 @@ use Rattle.fluent_resolver.proofs.Moving.{elsewhere, moves, path_is}
 use Rattle.fluent_resolver.proofs.Opening.{At, inside, opens_part, stops_part, taken_same}
 use Rattle.fluent_resolver.proofs.Placed.{placed_after, placed_as, placed_first, ok_value, placed_back, placed_prefix, placed_still}
 use Rattle.fluent_resolver.proofs.Pushing.{placed_pushed, if_on}
-use Rattle.fluent_resolver.proofs.Arms.{no_message, no_term}
+use Rattle.fluent_resolver.proofs.Arms.{no_function, no_message, no_term}
 use Rattle.fluent_resolver.proofs.Ranks.{less_level, less_rank}
 use Rattle.fluent_resolver.proofs.Resolved.{function_at, kept_at, looked_up, number_at, string_at, variable_at}
 use Rattle.fluent_resolver.proofs.Settled.{none_put, paid_least, paid_none}
@@ -64,12 +64,15 @@ use Rattle.fluent_resolver.proofs.Unbraced.{written_function, written_message, w
 use Rattle.fluent_bundle_entries.specs.Texts.{IsTextAlone}
 use Rattle.fluent_semantics.specs.Meaning.{limit_reached}
 use Rattle.fluent_values.specs.Facts.Outputs.{stays_through}
-use Rattle.fluent_resolver.proofs.Visiting.{sole_is}
+use Rattle.fluent_resolver.proofs.Visiting.{happened_visit, sole_is}
 use Rattle.fluent_resolver.proofs.Elements.{from_end, from_next, never_text, none_at_end, none_at_limit, placeable_first, text_first}
 use Rattle.fluent_resolver.specs.Inside.Parts as parts
 use Rattle.fluent_resolver.specs.declared.frame.Frame.TheVariants as put_off
 use Rattle.fluent_resolver.specs.Inside.Waits.{frames_in, values_in}
 use Rattle.fluent_ast.specs.declared.ast.CallArguments as of_call
+use Rattle.fluent_resolver.proofs.LeafCalls.{answered_after, leaf_answer_is, leaves_called, tells_all, tells_some, value_answered}
+use Rattle.fluent_resolver.proofs.OneText.{gives_text, if_some, leads_if_free, leads_to_text}
+use Rattle.fluent_resolver_state.specs.Leaves.{errors_of_call, has_leaves_alone, leaf_answer}
 use Rattle.fluent_resolver.proofs.+resolve.Goals.{pattern::write_from-in-TextElement+in_ok-put_changed-in-TextElement, pattern::write_from-in-Placeable+in_ok-write_placeable-in-Placeable+else-not-is_done}
 use Rattle.fluent_resolver.proofs.+resolve.Goals as goal
 
@@ -281,6 +284,18 @@ arguments::finish-use_values-requires g t c =
     let less = falls_to c.decreases (less_rank c.args.levels 8 9 (omega arith)) in
     λ κs h. (less, (h.0, (h.1.0, (h.1.1.0, (h.1.1.1, (c.requires.placed, c.requires.nothing))))))
 
+pub arguments::begin_call-returns-in_err-with_capacity-clause-goes : goal.arguments::begin_call-returns-in_err-with_capacity-clause-goes
+unfolding state_parts
+arguments::begin_call-returns-in_err-with_capacity-clause-goes g t c = λ k n.
+    let content = g.C.FluentType.content in
+    let contents = g.W.Write.contents in
+    let a = state g.B.Context.meant g.B.Context.is_plain g.F.FluentFunction.answer content c.args.scope.now in
+    let out = c.args.out.now in
+    let work = c.args.work.now in
+    let values = values_view content (values_in work) in
+    let v = viewed out a values in
+    lacks (search rules) (begun _ n (outside contents out) a)
+
 pub arguments::begin_call-returns-clause-goes : goal.arguments::begin_call-returns-clause-goes
 unfolding state_parts
 arguments::begin_call-returns-clause-goes g t c = λ k n.
@@ -292,7 +307,7 @@ arguments::begin_call-returns-clause-goes g t c = λ k n.
     let values = values_view content (values_in work) in
     let v = viewed out a values in
     let is = view_arguments c.args.arguments.now in
-    let here = called_at (use_of c.args.purpose) _ _ _ (values_of content c.new.result) (gathered content c.new-2.result) a.bundle (k a.bundle) v is (ap (map (value_view content)) c.new.ensures.items) c.new-2.ensures in
+    let here = called_at (use_of c.args.purpose) _ _ _ (values_of content c.in_ok-with_capacity.field-0) (gathered content c.new.result) a.bundle (k a.bundle) v is (ap (map (value_view content)) c.in_ok-with_capacity.ensures.items) c.new.ensures in
     went_on (starts (starts (turns here (begun _ n (outside contents out) a)))) (c.gather.ensures.goes k n)
 
 pub arguments::begin_call-gather-requires : goal.arguments::begin_call-gather-requires
@@ -664,9 +679,9 @@ arguments::resolve-returns-then-levels-eq0-clause-placed g t c =
     let ids = c.args.scope.now.ids.now in
     placed_pushed (numbers ids) (table ids) (frames_in c.args.work.now) (frames_in c.put_off_value.new.self) (put_off.Resolve c.args.inline c.args.cursor) c.in_ok-put_off_value-in_default.ensures.frames (subst (ArePlacedFrames (numbers ids) (table ids)) (sym c.requires.nothing) tt) c.requires.placed
 
-pub arguments::resolve-returns-in-FunctionReference-clause-goes : goal.arguments::resolve-returns-in-FunctionReference-clause-goes
+pub arguments::resolve-returns-in_err-answer_to_leaves-in-FunctionReference-clause-goes : goal.arguments::resolve-returns-in_err-answer_to_leaves-in-FunctionReference-clause-goes
 unfolding state_parts
-arguments::resolve-returns-in-FunctionReference-clause-goes g t c = λ k n.
+arguments::resolve-returns-in_err-answer_to_leaves-in-FunctionReference-clause-goes g t c = λ k n.
     let content = g.C.FluentType.content in
     let contents = g.W.Write.contents in
     let a = state g.B.Context.meant g.B.Context.is_plain g.F.FluentFunction.answer content c.args.scope.now in
@@ -675,10 +690,51 @@ arguments::resolve-returns-in-FunctionReference-clause-goes g t c = λ k n.
     let values = values_view content (values_in work) in
     let v = viewed out a values in
     let x = inline_view c.args.inline.now in
+    let id = c.in-FunctionReference.id.name.now in
+    let args = c.deref-then-has_leaves_alone.result.now in
     let way = with_fewer n (paid_least c.args.levels n) (begun _ (paid_within c.args.levels n) (outside contents out) a) in
-    let args = arguments_view c.deref.result.now in
-    let is = view_function_in c.args.inline.now c.in-FunctionReference.id c.in-FunctionReference.arguments c.in-FunctionReference.is ∙ ap (λ b. function c.in-FunctionReference.id.name.now (arguments_view b)) (sym c.deref.ensures) in
-    went_on (turns (function_at x c.in-FunctionReference.id.name.now args a.bundle (k a.bundle) v is) way) (c.begin_call.ensures.goes k n)
+    let is = view_function_in c.args.inline.now c.in-FunctionReference.id c.in-FunctionReference.arguments c.in-FunctionReference.is ∙ ap (λ b. function id (arguments_view b)) (sym c.deref-then-has_leaves_alone.ensures) in
+    let leaves = leaves_called (parts.gives id) args a.bundle (k a.bundle) v (subst (λ y. has_leaves_alone y ≡ true) (c.deref.ensures ∙ sym c.deref-then-has_leaves_alone.ensures) (c.has_leaves_alone.ensures c.if-has_leaves_alone.true)) (turns (function_at x id (arguments_view args) a.bundle (k a.bundle) v is) way) in
+    lacks (search rules) (tells_some _ c.answer_to_leaves.ensures.reports leaves)
+
+pub arguments::resolve-returns-then-has_leaves_alone-clause-goes : goal.arguments::resolve-returns-then-has_leaves_alone-clause-goes
+unfolding state_parts
+arguments::resolve-returns-then-has_leaves_alone-clause-goes g t c = λ k n.
+    let content = g.C.FluentType.content in
+    let contents = g.W.Write.contents in
+    let a = state g.B.Context.meant g.B.Context.is_plain g.F.FluentFunction.answer content c.args.scope.now in
+    let out = c.args.out.now in
+    let work = c.args.work.now in
+    let values = values_view content (values_in work) in
+    let v = viewed out a values in
+    let x = inline_view c.args.inline.now in
+    let id = c.in-FunctionReference.id.name.now in
+    let args = c.deref-then-has_leaves_alone.result.now in
+    let way = with_fewer n (paid_least c.args.levels n) (begun _ (paid_within c.args.levels n) (outside contents out) a) in
+    let is = view_function_in c.args.inline.now c.in-FunctionReference.id c.in-FunctionReference.arguments c.in-FunctionReference.is ∙ ap (λ b. function id (arguments_view b)) (sym c.deref-then-has_leaves_alone.ensures) in
+    let leaves = leaves_called (parts.gives id) args a.bundle (k a.bundle) v (subst (λ y. has_leaves_alone y ≡ true) (c.deref.ensures ∙ sym c.deref-then-has_leaves_alone.ensures) (c.has_leaves_alone.ensures c.if-has_leaves_alone.true)) (turns (function_at x id (arguments_view args) a.bundle (k a.bundle) v is) way) in
+    let reports = c.answer_to_leaves.ensures.reports in
+    let b = state g.B.Context.meant g.B.Context.is_plain g.F.FluentFunction.answer content c.answer_to_leaves.new.scope in
+    let y = value_view content c.in_ok-answer_to_leaves-in-FunctionReference.field-0 in
+    let at : At = λ m env path budget. k m (Some y) (record { kept = kept_of out; budget = budget; environment = env; path = path; values = values }) in
+    let there = ap (λ z. k a.bundle (Some z) v) (value_answered a.bundle (function_found (get id a.bundle.ids)) _ _ ∙ sym c.in_ok-answer_to_leaves-in-FunctionReference.ensures.value) ∙ moves a b at a.environment a.path reports.stays.bundle reports.environment reports.path reports.budget in
+    finishes _ _ refl refl (none_put content b.bundle (frames_in work) (k b.bundle) (Some y) (viewed out b values) c.requires.nothing (turns there (tells_all c.in_ok-answer_to_leaves-in-FunctionReference.was reports leaves)))
+
+pub arguments::resolve-returns-else-has_leaves_alone-clause-goes : goal.arguments::resolve-returns-else-has_leaves_alone-clause-goes
+unfolding state_parts
+arguments::resolve-returns-else-has_leaves_alone-clause-goes g t c = λ k n.
+    let content = g.C.FluentType.content in
+    let contents = g.W.Write.contents in
+    let a = state g.B.Context.meant g.B.Context.is_plain g.F.FluentFunction.answer content c.args.scope.now in
+    let out = c.args.out.now in
+    let work = c.args.work.now in
+    let values = values_view content (values_in work) in
+    let v = viewed out a values in
+    let x = inline_view c.args.inline.now in
+    let id = c.in-FunctionReference.id.name.now in
+    let way = with_fewer n (paid_least c.args.levels n) (begun _ (paid_within c.args.levels n) (outside contents out) a) in
+    let is = view_function_in c.args.inline.now c.in-FunctionReference.id c.in-FunctionReference.arguments c.in-FunctionReference.is ∙ ap (λ b. function id (arguments_view b)) (sym c.deref-in-FunctionReference.ensures) in
+    went_on (turns (ap (λ y. parts.resolved y a.bundle (k a.bundle) v) is) way) (c.give_answer.ensures.goes k n)
 
 pub arguments::resolve-returns-in_default-inline : goal.arguments::resolve-returns-in_default-inline
 unfolding state_parts
@@ -694,31 +750,105 @@ arguments::resolve-returns-in_default-inline g t c = record {
       let x = inline_view c.args.inline.now in
       let way = with_fewer n (paid_least c.args.levels n) (begun _ (paid_within c.args.levels n) (outside contents out) a) in
       let is = view_written c.args.inline.now (λ t. c.in_default.not-StringLiteral t) (λ t. c.in_default.not-NumberLiteral t) (λ id b. c.in_default-inline.not-FunctionReference id b) (λ id. c.in_default.not-VariableReference id) in
-      went_on (turns (kept_at x a.bundle (k a.bundle) v is) way) (c.keep_text.ensures.goes k n);
-  placed = c.keep_text.ensures.placed;
-  whole = c.keep_text.ensures.whole;
+      went_on (turns (kept_at x a.bundle (k a.bundle) v is) way) (c.give_text.ensures.goes k n);
+  placed = c.give_text.ensures.placed;
+  whole = c.give_text.ensures.whole;
 }
 
-pub arguments::resolve-begin_call-requires : goal.arguments::resolve-begin_call-requires
+pub arguments::resolve-answer_to_leaves-requires : goal.arguments::resolve-answer_to_leaves-requires
 unfolding state_parts
-arguments::resolve-begin_call-requires g t c =
+arguments::resolve-answer_to_leaves-requires g t c =
     let ids = c.args.scope.now.ids.now in
-    let some : 0 < c.args.levels = omega arith in
-    let less = falls_to c.decreases (less_level c.args.levels 11 0 some (omega arith)) in
     let r = a_function c.in-FunctionReference.id.name.now in
     let rs = in_arguments (arguments_view c.in-FunctionReference.arguments.value) in
-    let is = in_function_is c.args.inline.now c.in-FunctionReference.id c.in-FunctionReference.arguments c.in-FunctionReference.is in
-    let purpose = placed_first (numbers ids) _ r rs c.args.cursor is c.requires.placed in
-    let after = placed_after (numbers ids) _ r rs c.args.cursor c.after_one-at.result is c.after_one-at.ensures c.requires.placed in
-    let placed = subst (λ m. IsBefore (numbers ids) (in_arguments (arguments_view m)) (seen c.after_one-at.result)) (sym c.deref.ensures) after in
-    λ κs h. (less, (h.0, (h.1.0, (h.1.1.0, (h.1.1.1, (purpose, (placed, c.requires.nothing)))))))
+    placed_first (numbers ids) _ r rs c.args.cursor (in_function_is c.args.inline.now c.in-FunctionReference.id c.in-FunctionReference.arguments c.in-FunctionReference.is) c.requires.placed
 
-pub arguments::resolve-keep_text-requires : goal.arguments::resolve-keep_text-requires
+pub arguments::resolve-give_answer-requires : goal.arguments::resolve-give_answer-requires
 unfolding state_parts
-arguments::resolve-keep_text-requires g t c =
+arguments::resolve-give_answer-requires g t c =
+    let ids = c.args.scope.now.ids.now in
     let some : 0 < c.args.levels = omega arith in
-    let less = falls_to c.decreases (less_level c.args.levels 17 0 some (omega arith)) in
+    let less = falls_to c.decreases (less_level c.args.levels 12 0 some (omega arith)) in
+    let r = a_function c.in-FunctionReference.id.name.now in
+    let is = in_function_is c.args.inline.now c.in-FunctionReference.id c.in-FunctionReference.arguments c.in-FunctionReference.is ∙ ap (λ m. r ∷ in_arguments (arguments_view m)) (sym c.deref-in-FunctionReference.ensures) in
+    let placed = placed_as (numbers ids) _ _ c.args.cursor is c.requires.placed in
+    λ κs h. (less, (h.0, (h.1.0, (h.1.1.0, (h.1.1.1, (placed, c.requires.nothing))))))
+
+pub arguments::resolve-give_text-requires : goal.arguments::resolve-give_text-requires
+unfolding state_parts
+arguments::resolve-give_text-requires g t c =
+    let some : 0 < c.args.levels = omega arith in
+    let less = falls_to c.decreases (less_level c.args.levels 18 0 some (omega arith)) in
     λ κs h. (less, (h.0, (h.1.0, (h.1.1.0, (h.1.1.1, (c.requires.placed, c.requires.nothing))))))
+
+pub arguments::give_text-returns-in_err-visit_text-in-Some-clause-goes : goal.arguments::give_text-returns-in_err-visit_text-in-Some-clause-goes
+unfolding state_parts
+arguments::give_text-returns-in_err-visit_text-in-Some-clause-goes g t c = λ k n.
+    let content = g.C.FluentType.content in
+    let contents = g.W.Write.contents in
+    let a = state g.B.Context.meant g.B.Context.is_plain g.F.FluentFunction.answer content c.args.scope.now in
+    let out = c.args.out.now in
+    let work = c.args.work.now in
+    let values = values_view content (values_in work) in
+    let v = viewed out a values in
+    let x = inline_view c.args.inline.now in
+    let text = c.in-Some.text.now in
+    let leads = if_some (LeadsToText a x) c.in-Some.is c.text_led_to.ensures in
+    let on = gives_text c.events_are_the_run.ensures.by_itself x text a.bundle (k a.bundle) v leads.0 leads.1 (happened_visit (text_alone text) (outside contents out) c.visit_text.ensures.0) (begun _ n (outside contents out) a) in
+    lacks (search rules) on
+
+pub arguments::give_text-returns-in_ok-visit_text-in-Some-clause-goes : goal.arguments::give_text-returns-in_ok-visit_text-in-Some-clause-goes
+unfolding state_parts
+arguments::give_text-returns-in_ok-visit_text-in-Some-clause-goes g t c = λ k n.
+    let content = g.C.FluentType.content in
+    let contents = g.W.Write.contents in
+    let a = state g.B.Context.meant g.B.Context.is_plain g.F.FluentFunction.answer content c.args.scope.now in
+    let out = c.args.out.now in
+    let work = c.args.work.now in
+    let values = values_view content (values_in work) in
+    let v = viewed out a values in
+    let x = inline_view c.args.inline.now in
+    let text = c.in-Some.text.now in
+    let leads = if_some (LeadsToText a x) c.in-Some.is c.text_led_to.ensures in
+    let visits = c.visit_text.ensures.0 in
+    let same = visits.elsewhere in
+    let y = value_view content c.in_ok-visit_text-in-Some.field-0 in
+    let d = state g.B.Context.meant g.B.Context.is_plain g.F.FluentFunction.answer content c.visit_text.new.scope in
+    let on = gives_text c.events_are_the_run.ensures.by_itself x text a.bundle (k a.bundle) v leads.0 leads.1 (happened_visit (text_alone text) (outside contents out) visits) (begun _ n (outside contents out) a) in
+    let at : At = λ m env path budget. k m (Some y) (record { kept = kept_of out; budget = budget; environment = env; path = path; values = values }) in
+    let there = ap (λ z. k a.bundle (Some z) v) (sym c.in_ok-visit_text-in-Some.ensures.1) ∙ moves a d at a.environment a.path same.stays.bundle same.environment visits.path same.budget in
+    finishes _ _ refl refl (none_put content d.bundle (frames_in work) (k d.bundle) (Some y) (viewed out d values) c.requires.nothing (turns there on))
+
+pub arguments::give_text-keep_text-requires : goal.arguments::give_text-keep_text-requires
+unfolding state_parts
+arguments::give_text-keep_text-requires g t c =
+    let less = falls_to c.decreases (less_rank c.args.levels 17 18 (omega arith)) in
+    λ κs h. (less, (h.0, (h.1.0, (h.1.1.0, (h.1.1.1, (c.requires.placed, c.requires.nothing))))))
+
+pub arguments::give_answer-returns-clause-goes : goal.arguments::give_answer-returns-clause-goes
+unfolding state_parts
+arguments::give_answer-returns-clause-goes g t c = λ k n.
+    let content = g.C.FluentType.content in
+    let contents = g.W.Write.contents in
+    let a = state g.B.Context.meant g.B.Context.is_plain g.F.FluentFunction.answer content c.args.scope.now in
+    let out = c.args.out.now in
+    let work = c.args.work.now in
+    let values = values_view content (values_in work) in
+    let v = viewed out a values in
+    let f = c.args.id.now.name.now in
+    let args = arguments_view c.args.arguments.now in
+    went_on (turns (function_at (function f args) f args a.bundle (k a.bundle) v refl) (begun _ n (outside contents out) a)) (c.begin_call.ensures.goes k n)
+
+pub arguments::give_answer-begin_call-requires : goal.arguments::give_answer-begin_call-requires
+unfolding state_parts
+arguments::give_answer-begin_call-requires g t c =
+    let ids = c.args.scope.now.ids.now in
+    let less = falls_to c.decreases (less_rank c.args.levels 11 12 (omega arith)) in
+    let r = a_function c.args.id.now.name.now in
+    let rs = in_arguments (arguments_view c.args.arguments.now) in
+    let purpose = placed_first (numbers ids) (r ∷ rs) r rs c.args.cursor refl c.requires.placed in
+    let after = placed_after (numbers ids) (r ∷ rs) r rs c.args.cursor c.after_one-at.result refl c.after_one-at.ensures c.requires.placed in
+    λ κs h. (less, (h.0, (h.1.0, (h.1.1.0, (h.1.1.1, (purpose, (after, c.requires.nothing)))))))
 
 pub arguments::resolve-returns-in_err-text-in-StringLiteral-clause-goes : goal.arguments::resolve-returns-in_err-text-in-StringLiteral-clause-goes
 unfolding state_parts
@@ -1575,9 +1705,36 @@ inline_expression::write_message-returns-in-MessageReference-clause-goes g t c =
 pub inline_expression::write_term-returns-in_default : goal.inline_expression::write_term-returns-in_default
 inline_expression::write_term-returns-in_default g t c = absurd (no_term c.args.inline.now (λ id a call. c.in_default.not-TermReference id a call) c.requires.term)
 
-pub inline_expression::write_term-returns-in-TermReference-clause-goes : goal.inline_expression::write_term-returns-in-TermReference-clause-goes
+-- it has none
+no_arguments : {A : Type 0} (o : Option A) (r : Bool) → is_some o ≡ not r → r ≡ true → o ≡ None
+no_arguments None r h is = refl
+no_arguments (Some x) r h is = absurd (true≢false (h ∙ ap not is))
+
+pub inline_expression::write_term-returns-in-Some-clause-goes : goal.inline_expression::write_term-returns-in-Some-clause-goes
 unfolding state_parts
-inline_expression::write_term-returns-in-TermReference-clause-goes g t c = λ k n.
+inline_expression::write_term-returns-in-Some-clause-goes g t c = λ k n.
+    let content = g.C.FluentType.content in
+    let contents = g.W.Write.contents in
+    let a = state g.B.Context.meant g.B.Context.is_plain g.F.FluentFunction.answer content c.args.scope.now in
+    let out = c.args.out.now in
+    let work = c.args.work.now in
+    let values = values_view content (values_in work) in
+    let v = viewed out a values in
+    let x = inline_view c.args.inline.now in
+    let m = c.in-TermReference.id.name.now in
+    let at = attribute_of c.in-TermReference.attribute in
+    let none : c.in-TermReference.arguments ≡ None = no_arguments c.in-TermReference.arguments c.is_none.result c.is_none.ensures c.if-is_none.true in
+    let is = view_term_in c.args.inline.now c.in-TermReference.id c.in-TermReference.attribute c.in-TermReference.arguments c.in-TermReference.is ∙ ap (λ o. term m at (call_view o)) none in
+    let found = c.term-found.ensures.content g.F.FluentFunction.answer in
+    let text = c.in-Some.text.now in
+    let leads = if_some (LeadsToText a x) c.in-Some.is (leads_if_free a x c.term-found.result c.free_text.result (ap (target_of a.bundle) is ∙ sym found) c.free_text.ensures) in
+    let d = state g.B.Context.meant g.B.Context.is_plain g.F.FluentFunction.answer content c.write_only_text.new.scope in
+    let way = leads_to_text c.events_are_the_run.ensures.by_itself text a.bundle (k a.bundle) v x leads.0 leads.1 (begun _ n (outside contents out) a) in
+    none_waits content d.bundle (frames_in work) (k d.bundle) (λ u. None) (viewed c.write_only_text.new.out d values) c.requires.nothing (went_on way (c.write_only_text.ensures.goes k values n))
+
+pub inline_expression::write_term-returns-after-is_none-clause-goes : goal.inline_expression::write_term-returns-after-is_none-clause-goes
+unfolding state_parts
+inline_expression::write_term-returns-after-is_none-clause-goes g t c = λ k n.
     let content = g.C.FluentType.content in
     let contents = g.W.Write.contents in
     let a = state g.B.Context.meant g.B.Context.is_plain g.F.FluentFunction.answer content c.args.scope.now in
@@ -1648,28 +1805,12 @@ unfolding state_parts
 inline_expression::write_unbraced-returns-in-Placeable-clause-goes g t c = λ k n.
     absurd (true≢false (sym (ap is_braced (view_nested_in c.args.inline.now c.in-Placeable.expression c.in-Placeable.is)) ∙ c.requires.unbraced))
 
-pub inline_expression::write_function-returns-in_err-begin_call-in-FunctionReference-clause-goes : goal.inline_expression::write_function-returns-in_err-begin_call-in-FunctionReference-clause-goes
-unfolding state_parts
-inline_expression::write_function-returns-in_err-begin_call-in-FunctionReference-clause-goes g t c = λ k n.
-    let content = g.C.FluentType.content in
-    let contents = g.W.Write.contents in
-    let a = state g.B.Context.meant g.B.Context.is_plain g.F.FluentFunction.answer content c.args.scope.now in
-    let out = c.args.out.now in
-    let work = c.args.work.now in
-    let values = values_view content (values_in work) in
-    let v = viewed out a values in
-    let x = inline_view c.args.inline.now in
-    let way = begun _ n (outside contents out) a in
-    let f = c.in-FunctionReference.id.name.now in
-    let is = view_function_in c.args.inline.now c.in-FunctionReference.id c.in-FunctionReference.arguments c.in-FunctionReference.is in
-    let args = arguments_view c.in-FunctionReference.arguments.value in
-    let same = ap (λ y. parts.written y a.bundle (k a.bundle) v) is ∙ written_function f args a.bundle (k a.bundle) v ∙ ap (λ y. parts.calls (parts.shows y f) args a.bundle (k a.bundle) v) (sym is) ∙ ap (λ y. parts.calls (parts.shows x f) (arguments_view y) a.bundle (k a.bundle) v) (sym c.deref.ensures) in
-    let here = turns same way in
-    halts c.in_err-begin_call-in-FunctionReference.was (search rules) here (c.begin_call.ensures.goes k n)
+pub inline_expression::write_function-returns-in_default : goal.inline_expression::write_function-returns-in_default
+inline_expression::write_function-returns-in_default g t c = absurd (no_function c.args.inline.now (λ id b. c.in_default.not-FunctionReference id b) c.requires.function)
 
-pub inline_expression::write_function-returns-in_ok-begin_call-in-FunctionReference-clause-goes : goal.inline_expression::write_function-returns-in_ok-begin_call-in-FunctionReference-clause-goes
+pub inline_expression::write_function-returns-then-has_leaves_alone-clause-goes : goal.inline_expression::write_function-returns-then-has_leaves_alone-clause-goes
 unfolding state_parts
-inline_expression::write_function-returns-in_ok-begin_call-in-FunctionReference-clause-goes g t c = λ k n.
+inline_expression::write_function-returns-then-has_leaves_alone-clause-goes g t c = λ k n.
     let content = g.C.FluentType.content in
     let contents = g.W.Write.contents in
     let a = state g.B.Context.meant g.B.Context.is_plain g.F.FluentFunction.answer content c.args.scope.now in
@@ -1680,29 +1821,96 @@ inline_expression::write_function-returns-in_ok-begin_call-in-FunctionReference-
     let x = inline_view c.args.inline.now in
     let way = begun _ n (outside contents out) a in
     let f = c.in-FunctionReference.id.name.now in
-    let is = view_function_in c.args.inline.now c.in-FunctionReference.id c.in-FunctionReference.arguments c.in-FunctionReference.is in
-    let args = arguments_view c.in-FunctionReference.arguments.value in
-    let same = ap (λ y. parts.written y a.bundle (k a.bundle) v) is ∙ written_function f args a.bundle (k a.bundle) v ∙ ap (λ y. parts.calls (parts.shows y f) args a.bundle (k a.bundle) v) (sym is) ∙ ap (λ y. parts.calls (parts.shows x f) (arguments_view y) a.bundle (k a.bundle) v) (sym c.deref.ensures) in
-    let here = turns same way in
+    let args = c.deref-then-has_leaves_alone.result.now in
+    let is = view_function_in c.args.inline.now c.in-FunctionReference.id c.in-FunctionReference.arguments c.in-FunctionReference.is ∙ ap (λ b. function f (arguments_view b)) (sym c.deref-then-has_leaves_alone.ensures) in
+    let calls = ap (λ y. parts.written y a.bundle (k a.bundle) v) is ∙ written_function f (arguments_view args) a.bundle (k a.bundle) v ∙ ap (λ y. parts.calls (parts.shows y f) (arguments_view args) a.bundle (k a.bundle) v) (sym is) in
+    let leaves = leaves_called (parts.shows x f) args a.bundle (k a.bundle) v (subst (λ y. has_leaves_alone y ≡ true) (c.deref.ensures ∙ sym c.deref-then-has_leaves_alone.ensures) (c.has_leaves_alone.ensures c.if-has_leaves_alone.true)) (turns calls way) in
+    let es = errors_of_call args a.environment in
+    let o = leaf_answer f args a in
+    let b = state g.B.Context.meant g.B.Context.is_plain g.F.FluentFunction.answer content c.put_answer_to_leaves.new.scope in
+    let last = c.put_answer_to_leaves.new.out in
+    let here = turns (answered_after es x (function_found (get f a.bundle.ids)) _ _ a.bundle (k a.bundle) v) leaves in
+    let wrote = c.put_answer_to_leaves.ensures in
+    none_waits content b.bundle (frames_in work) (k b.bundle) (λ u. None) (viewed last b values) c.requires.nothing
+    (laid_last _ (λ u. ap (λ m. k m None (viewed last b values)) (sym wrote.happened.stays.bundle))
+    (laid contents out last a b values a.bundle (k a.bundle) (es ++ answer_errors x o) (answer_text a.bundle x o) (did_as (leaf_answer_is es x a.bundle o) wrote) here))
+
+pub inline_expression::write_function-returns-else-has_leaves_alone-clause-goes : goal.inline_expression::write_function-returns-else-has_leaves_alone-clause-goes
+unfolding state_parts
+inline_expression::write_function-returns-else-has_leaves_alone-clause-goes g t c = λ k n.
+    let content = g.C.FluentType.content in
+    let contents = g.W.Write.contents in
+    let a = state g.B.Context.meant g.B.Context.is_plain g.F.FluentFunction.answer content c.args.scope.now in
+    let out = c.args.out.now in
+    let work = c.args.work.now in
+    let values = values_view content (values_in work) in
+    let v = viewed out a values in
+    let x = inline_view c.args.inline.now in
+    let way = begun _ n (outside contents out) a in
+    let f = c.in-FunctionReference.id.name.now in
+    let args = arguments_view c.deref-in-FunctionReference.result.now in
+    let is = view_function_in c.args.inline.now c.in-FunctionReference.id c.in-FunctionReference.arguments c.in-FunctionReference.is ∙ ap (λ b. function f (arguments_view b)) (sym c.deref-in-FunctionReference.ensures) in
+    let same = ap (λ y. parts.written y a.bundle (k a.bundle) v) is ∙ written_function f args a.bundle (k a.bundle) v ∙ ap (λ y. parts.calls (parts.shows y f) args a.bundle (k a.bundle) v) (sym is) in
+    went_on (turns same way) (c.write_gathered.ensures.goes k n)
+
+pub inline_expression::write_function-put_answer_to_leaves-requires : goal.inline_expression::write_function-put_answer_to_leaves-requires
+unfolding state_parts
+inline_expression::write_function-put_answer_to_leaves-requires g t c =
+    let ids = c.args.scope.now.ids.now in
+    let r = a_function c.in-FunctionReference.id.name.now in
+    let rs = in_arguments (arguments_view c.in-FunctionReference.arguments.value) in
+    placed_first (numbers ids) _ r rs c.args.cursor (in_function_is c.args.inline.now c.in-FunctionReference.id c.in-FunctionReference.arguments c.in-FunctionReference.is) c.requires.placed
+
+pub inline_expression::write_function-write_gathered-requires : goal.inline_expression::write_function-write_gathered-requires
+unfolding state_parts
+inline_expression::write_function-write_gathered-requires g t c =
+    let ids = c.args.scope.now.ids.now in
+    let less = falls_to c.decreases (less_rank c.args.levels 12 13 (omega arith)) in
+    let r = a_function c.in-FunctionReference.id.name.now in
+    let is = in_function_is c.args.inline.now c.in-FunctionReference.id c.in-FunctionReference.arguments c.in-FunctionReference.is ∙ ap (λ m. r ∷ in_arguments (arguments_view m)) (sym c.deref-in-FunctionReference.ensures) in
+    let placed = placed_as (numbers ids) _ _ c.args.cursor is c.requires.placed in
+    λ κs h. (less, (h.0, (h.1.0, (h.1.1.0, (h.1.1.1, (placed, c.requires.nothing))))))
+
+pub inline_expression::write_gathered-returns-in_err-begin_call-clause-goes : goal.inline_expression::write_gathered-returns-in_err-begin_call-clause-goes
+unfolding state_parts
+inline_expression::write_gathered-returns-in_err-begin_call-clause-goes g t c = λ k n.
+    let content = g.C.FluentType.content in
+    let contents = g.W.Write.contents in
+    let a = state g.B.Context.meant g.B.Context.is_plain g.F.FluentFunction.answer content c.args.scope.now in
+    let out = c.args.out.now in
+    let work = c.args.work.now in
+    let values = values_view content (values_in work) in
+    let v = viewed out a values in
+    halts c.in_err-begin_call.was (search rules) (begun _ n (outside contents out) a) (c.begin_call.ensures.goes k n)
+
+pub inline_expression::write_gathered-returns-clause-goes : goal.inline_expression::write_gathered-returns-clause-goes
+unfolding state_parts
+inline_expression::write_gathered-returns-clause-goes g t c = λ k n.
+    let content = g.C.FluentType.content in
+    let contents = g.W.Write.contents in
+    let a = state g.B.Context.meant g.B.Context.is_plain g.F.FluentFunction.answer content c.args.scope.now in
+    let out = c.args.out.now in
+    let work = c.args.work.now in
+    let values = values_view content (values_in work) in
+    let v = viewed out a values in
     let d = state g.B.Context.meant g.B.Context.is_plain g.F.FluentFunction.answer content c.begin_call.new.scope in
     let last = c.begin_call.new.out in
     let work1 = c.begin_call.new.work in
     let values1 = values_view content (values_in work1) in
-    let given = c.in_ok-begin_call-in-FunctionReference.field-0 in
-    let none : given ≡ None = ok_value c.begin_call.result given _ c.in_ok-begin_call-in-FunctionReference.was c.begin_call.ensures.given in
-    finishes tt _ refl refl (turns (ap (λ o. before content d.bundle (frames_in work1) (k d.bundle) (made content o) (viewed last d values1)) none) (goes c.in_ok-begin_call-in-FunctionReference.was here (c.begin_call.ensures.goes k n)))
+    let given = c.in_ok-begin_call.field-0 in
+    let none : given ≡ None = ok_value c.begin_call.result given _ c.in_ok-begin_call.was c.begin_call.ensures.given in
+    finishes tt _ refl refl (turns (ap (λ o. before content d.bundle (frames_in work1) (k d.bundle) (made content o) (viewed last d values1)) none) (goes c.in_ok-begin_call.was (begun _ n (outside contents out) a) (c.begin_call.ensures.goes k n)))
 
-pub inline_expression::write_function-begin_call-requires : goal.inline_expression::write_function-begin_call-requires
+pub inline_expression::write_gathered-begin_call-requires : goal.inline_expression::write_gathered-begin_call-requires
 unfolding state_parts
-inline_expression::write_function-begin_call-requires g t c κs within =
-    let f = c.in-FunctionReference in
-    let number = numbers c.args.scope.now.ids.now in
-    let x = inline_view c.args.inline.now in
-    let r = a_function f.id.name.now in
-    let less = subst (λ m. 18 * c.args.levels + 11 < m) c.decreases (omega arith) in
-    let is = ap in_inline (view_function_in c.args.inline.now f.id f.arguments f.is) ∙ ap (λ y. r ∷ in_arguments (arguments_view y)) (sym c.deref.ensures) in
-    let rest = in_arguments (arguments_view c.deref.result.now) in
-    (less, (within.0, (within.1.0, (within.1.1.0, (within.1.1.1, (placed_first number (in_inline x) r rest c.args.cursor is c.requires.placed, (placed_after number (in_inline x) r rest c.args.cursor c.after_one-at.result is c.after_one-at.ensures c.requires.placed, c.requires.nothing)))))))
+inline_expression::write_gathered-begin_call-requires g t c =
+    let ids = c.args.scope.now.ids.now in
+    let less = falls_to c.decreases (less_rank c.args.levels 11 12 (omega arith)) in
+    let r = a_function c.args.id.now.name.now in
+    let rs = in_arguments (arguments_view c.args.arguments.now) in
+    let purpose = placed_first (numbers ids) (r ∷ rs) r rs c.args.cursor refl c.requires.placed in
+    let after = placed_after (numbers ids) (r ∷ rs) r rs c.args.cursor c.after_one-at.result refl c.after_one-at.ensures c.requires.placed in
+    λ κs h. (less, (h.0, (h.1.0, (h.1.1.0, (h.1.1.1, (purpose, (after, c.requires.nothing)))))))
 
 pub pattern::write_placeable-returns-in_err-report_limit-clause-goes : goal.pattern::write_placeable-returns-in_err-report_limit-clause-goes
 unfolding state_parts

@@ -19,79 +19,88 @@ use Rattle.fluent_resolver.proofs.Left.{left}
 use Rattle.fluent_resolver.proofs.+resolve.Given as goal
 
 abbrev pub decreases-expression::write_expression : goal.decreases-expression::write_expression
-decreases-expression::write_expression g l = 18 * l.levels + 0
+decreases-expression::write_expression g l = 19 * l.levels + 0
 
 abbrev pub decreases-arguments::resolve : goal.decreases-arguments::resolve
-decreases-arguments::resolve g l = 18 * l.levels + 0
+decreases-arguments::resolve g l = 19 * l.levels + 0
 
 abbrev pub decreases-pattern::write_placeable : goal.decreases-pattern::write_placeable
-decreases-pattern::write_placeable g l = 18 * l.levels + 1
+decreases-pattern::write_placeable g l = 19 * l.levels + 1
 
 abbrev pub decreases-pattern::write_from : goal.decreases-pattern::write_from
-decreases-pattern::write_from g l = 18 * l.levels + 2
+decreases-pattern::write_from g l = 19 * l.levels + 2
 
 abbrev pub decreases-pattern::write_elements : goal.decreases-pattern::write_elements
-decreases-pattern::write_elements g l = 18 * l.levels + 3
+decreases-pattern::write_elements g l = 19 * l.levels + 3
 
 abbrev pub decreases-inline_expression::go : goal.decreases-inline_expression::go
-decreases-inline_expression::go g l = 18 * l.levels + 4
+decreases-inline_expression::go g l = 19 * l.levels + 4
 
 abbrev pub decreases-expression::write_chosen : goal.decreases-expression::write_chosen
-decreases-expression::write_chosen g l = 18 * l.levels + 4
+decreases-expression::write_chosen g l = 19 * l.levels + 4
 
 abbrev pub decreases-inline_expression::follow : goal.decreases-inline_expression::follow
-decreases-inline_expression::follow g l = 18 * l.levels + 5
+decreases-inline_expression::follow g l = 19 * l.levels + 5
 
 abbrev pub decreases-expression::choose_variant : goal.decreases-expression::choose_variant
-decreases-expression::choose_variant g l = 18 * l.levels + 5
+decreases-expression::choose_variant g l = 19 * l.levels + 5
 
 abbrev pub decreases-inline_expression::enter_term : goal.decreases-inline_expression::enter_term
-decreases-inline_expression::enter_term g l = 18 * l.levels + 6
+decreases-inline_expression::enter_term g l = 19 * l.levels + 6
 
 abbrev pub decreases-inline_expression::write_message : goal.decreases-inline_expression::write_message
-decreases-inline_expression::write_message g l = 18 * l.levels + 6
+decreases-inline_expression::write_message g l = 19 * l.levels + 6
 
 abbrev pub decreases-expression::write_by_value : goal.decreases-expression::write_by_value
-decreases-expression::write_by_value g l = 18 * l.levels + 6
+decreases-expression::write_by_value g l = 19 * l.levels + 6
 
 abbrev pub decreases-expression::write_select : goal.decreases-expression::write_select
-decreases-expression::write_select g l = 18 * l.levels + 7
+decreases-expression::write_select g l = 19 * l.levels + 7
 
 abbrev pub decreases-inline_expression::enter_with_values : goal.decreases-inline_expression::enter_with_values
-decreases-inline_expression::enter_with_values g l = 18 * l.levels + 7
+decreases-inline_expression::enter_with_values g l = 19 * l.levels + 7
 
 abbrev pub decreases-arguments::use_values : goal.decreases-arguments::use_values
-decreases-arguments::use_values g l = 18 * l.levels + 8
+decreases-arguments::use_values g l = 19 * l.levels + 8
 
 abbrev pub decreases-arguments::finish : goal.decreases-arguments::finish
-decreases-arguments::finish g l = 18 * l.levels + 9
+decreases-arguments::finish g l = 19 * l.levels + 9
 
 abbrev pub decreases-arguments::gather : goal.decreases-arguments::gather
-decreases-arguments::gather g l = 18 * l.levels + 10
+decreases-arguments::gather g l = 19 * l.levels + 10
 
 abbrev pub decreases-arguments::begin_call : goal.decreases-arguments::begin_call
-decreases-arguments::begin_call g l = 18 * l.levels + 11
+decreases-arguments::begin_call g l = 19 * l.levels + 11
+
+abbrev pub decreases-arguments::give_answer : goal.decreases-arguments::give_answer
+decreases-arguments::give_answer g l = 19 * l.levels + 12
+
+abbrev pub decreases-inline_expression::write_gathered : goal.decreases-inline_expression::write_gathered
+decreases-inline_expression::write_gathered g l = 19 * l.levels + 12
 
 abbrev pub decreases-inline_expression::write_function : goal.decreases-inline_expression::write_function
-decreases-inline_expression::write_function g l = 18 * l.levels + 12
+decreases-inline_expression::write_function g l = 19 * l.levels + 13
 
 abbrev pub decreases-inline_expression::write_with_values : goal.decreases-inline_expression::write_with_values
-decreases-inline_expression::write_with_values g l = 18 * l.levels + 12
+decreases-inline_expression::write_with_values g l = 19 * l.levels + 12
 
 abbrev pub decreases-inline_expression::write_found : goal.decreases-inline_expression::write_found
-decreases-inline_expression::write_found g l = 18 * l.levels + 13
+decreases-inline_expression::write_found g l = 19 * l.levels + 13
 
 abbrev pub decreases-inline_expression::write_term : goal.decreases-inline_expression::write_term
-decreases-inline_expression::write_term g l = 18 * l.levels + 14
+decreases-inline_expression::write_term g l = 19 * l.levels + 14
 
 abbrev pub decreases-inline_expression::write_unbraced : goal.decreases-inline_expression::write_unbraced
-decreases-inline_expression::write_unbraced g l = 18 * l.levels + 15
+decreases-inline_expression::write_unbraced g l = 19 * l.levels + 15
 
 abbrev pub decreases-expression::write_inline : goal.decreases-expression::write_inline
-decreases-expression::write_inline g l = 18 * l.levels + 16
+decreases-expression::write_inline g l = 19 * l.levels + 16
 
 abbrev pub decreases-arguments::keep_text : goal.decreases-arguments::keep_text
-decreases-arguments::keep_text g l = 18 * l.levels + 17
+decreases-arguments::keep_text g l = 19 * l.levels + 17
+
+abbrev pub decreases-arguments::give_text : goal.decreases-arguments::give_text
+decreases-arguments::give_text g l = 19 * l.levels + 18
 
 abbrev pub invariant-pattern::write_from-loop-element : goal.invariant-pattern::write_from-loop-element
 invariant-pattern::write_from-loop-element g l =

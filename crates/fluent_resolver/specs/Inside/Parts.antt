@@ -1,15 +1,16 @@
 -- What is ahead of a part of a pattern and of what follows it.
-use Rattle.std.specs.Prelude.{List, [], ◌∷◌, ◌++◌, length, Bool, true, false, is_none, Option, None, Some}
+use Rattle.std.specs.Prelude.{◌≡◌, List, [], ◌∷◌, ◌++◌, length, Bool, true, false, is_none, Option, None, Some}
 use Rattle.fluent_ast.specs.Tree as t
 use Rattle.fluent_ast.specs.Tree.{Text, Pattern, Expression, Inline, Variants, Inlines, Nameds, argument, no_inlines, named_argument, no_nameds, Arguments}
 use Rattle.fluent_ast.specs.Fallback.{fallback_of}
 use Rattle.fluent_semantics.specs.Ahead.{Rest, Next, Values, after, begins, ahead, comes}
 use Rattle.fluent_semantics.specs.Arguments.{Map, get, set, set_all}
-use Rattle.fluent_semantics.specs.Bundle.{Bundle, Function, Target, function_found}
+use Rattle.fluent_semantics.specs.Bundle.{Bundle, Function, Target, found, function_found, message_target, term_target, unknown}
 use Rattle.fluent_semantics.specs.Errors.{Error, resolver_error, missing_default}
 use Rattle.fluent_semantics.specs.Events.{entered, tells, writes}
 use Rattle.fluent_semantics.specs.Meaning.{Budget, ending, last_mark}
 use Rattle.fluent_semantics.specs.Value.{Value, text_value}
+use Rattle.fluent_resolver_state.specs.Status.{Status}
 use Rattle.fluent_semantics.specs.Walk as walk
 use Rattle.fluent_semantics.specs.Walk.{Environment, local, has_one, inner, is_on}
 
@@ -114,6 +115,16 @@ chosen (Some p) b k v = whole p b k v
 -- a function's answer, written
 abbrev pub answered : Inline → Option (Function Text) → List (Value Text) → Map (Value Text) → Part
 answered x f vs m b k v = walk.function_text (ahead Text) b (comes b) v.environment x f vs m (writes_now v) (text_then k v) v.budget
+
+-- what a reference that has no arguments leads to
+abbrev pub target_of : Bundle Text → Inline → Target
+target_of b (t.message m a) = message_target (get m b.ids) a
+target_of b (t.term x a t.no_call) = term_target (get x b.ids) a
+target_of b _ = unknown
+
+-- a reference without arguments to a pattern of one text, which isn't being written
+abbrev pub LeadsToText : {B : Type 0} → Status B → Inline → Text → Type 0
+LeadsToText s x y = (target_of s.bundle x ≡ found (text_alone y)) × (is_on s.path (text_alone y) ≡ false)
 
 -- whether an inline expression stands in braces
 abbrev pub is_braced : Inline → Bool

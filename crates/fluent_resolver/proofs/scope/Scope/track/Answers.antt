@@ -13,9 +13,9 @@ returns-clause-did g c =
     let contents = g.W.Write.contents in
     let a = status g.B.Context.meant g.B.Context.is_plain g.F.FluentFunction.answer g.C.FluentType.content c.args.self.now in
     let old = c.args.self.now.state in
-    let out = c.through-out.result in
+    let out = c.through.result in
     let out1 = c.write_whole-written.new.out in
-    let e = c.through-out.ensures in
+    let e = c.through.ensures in
     let home = ap (environment_view g.C.FluentType.content) (c.application-home.ensures c.args.self.now.outside) in
     let idle = idle_path old.path (table old.ids.now) c.args.self.now.idle in
     did_by_writer contents c.with_error.result c.args.w.now _ out out1 c.with_error.ensures e.writer e.through (search rules)

@@ -22,9 +22,9 @@ pub returns-clause-did : goal.returns-clause-did
 unfolding scope_parts state_parts
 returns-clause-did g c =
     let contents = g.W.Write.contents in
-    let out = c.through-out.result in
+    let out = c.through.result in
     let out1 = c.lose-written.new.out in
-    let e = c.through-out.ensures in
+    let e = c.through.ensures in
     let wrote = c.lose-written.ensures.wrote in
     let through = stays_through contents out out1 wrote.happened.beside (e.kept, e.through) in
     did_by_writer contents c.with_error.result c.args.w.now _ out out1 c.with_error.ensures e.writer e.through (search rules)
