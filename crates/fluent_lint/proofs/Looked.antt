@@ -1,9 +1,8 @@
 -- What was found while all places were looked at is what findings say.
-use Rattle.std.proofs.Common.{◌≡◌, ℕ, cond, ◌⊎◌, ◌+◌, ◌<◌, List, [], ◌∷◌, ◌++◌, slice_get, take, Option, Some, None, inl, inr, refl, sym, ap, subst, ◌∙◌}
+use Rattle.std.proofs.Common.{◌≡◌, ℕ, cond, ◌+◌, ◌<◌, List, [], ◌∷◌, ◌++◌, slice_get, take, Option, Some, None, inl, inr, refl, sym, ap, subst, ◌∙◌}
 use Rattle.std.specs.List.{AllByRecursion}
 use Rattle.std.proofs.lemmas.List.{append-nil}
 use Rattle.fluent_ast.specs.Tree.{Text, Pattern, is_yes}
-use Rattle.fluent_semantics.specs.Bundle.{found}
 use Rattle.fluent_lint.specs.Clean.{Place, place_same, place_view, Names, place_target, Need, needs, IsAmong, LeadsOn, IsThere, IsClean, clean, IsMet, IsFine}
 use Rattle.fluent_lint.specs.Findings.{named_by, NeedsAt, IsRight, IsUncleanBy, SaysOf, IsTrueFinding, IsNamedOrFine, IsWhole, AreFindingsOf}
 use Rattle.fluent_lint.specs.Inside.Table.{Known, known_of}

@@ -1,5 +1,4 @@
 use Rattle.std.proofs.Common.{◌≡◌, Some, rules}
-use Rattle.fluent_lint.specs.Clean.{place_view}
 use Rattle.fluent_lint.proofs.Explained.{none_there, some_there}
 use Rattle.fluent_lint.proofs.Tables.{right_known}
 use Rattle.fluent_lint.proofs.checking.kind_at.Goals as goal

@@ -1,4 +1,4 @@
-use Rattle.std.proofs.Common.{Some, None, ap, subst, ◌∙◌, arith}
+use Rattle.std.proofs.Common.{Some, ap, subst, ◌∙◌, arith}
 use Rattle.fluent_lint.specs.Clean.{place_view}
 use Rattle.fluent_lint.specs.Findings.{IsRight}
 use Rattle.fluent_lint.specs.Inside.Steps.{IsLook}
