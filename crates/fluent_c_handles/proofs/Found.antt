@@ -1,5 +1,5 @@
 -- What a bundle that was asked for a message has, by the status.
-use Rattle.std.proofs.Common.{subst, sym, ◌≡◌, refl, ap, ℕ, true, false, Some, None}
+use Rattle.std.proofs.Common.{subst, sym, ◌≡◌, refl, ap, ℕ, true, false, Option, Some, None}
 use Rattle.std.specs.Str.{IsUtf8}
 use Rattle.fluent_ast.specs.Tree.{Text}
 use Rattle.fluent_c_handles.specs.Calls.Finding.{HasPattern}
