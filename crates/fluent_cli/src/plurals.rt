@@ -111,12 +111,18 @@ fn add_category<'s>(
 ) -> Result<(), AllocError> {
     let has_variant = has_key(variants, category_word(category));
     match rule_of(rules, category_word(category)) {
-        Some(rule) if !has_variant && !is_met(rule, variants) => {
-            kinds.push(Kind::Lacks(category, *place))
+        Some(rule) => {
+            if !has_variant && !is_met(rule, variants) {
+                kinds.push(Kind::Lacks(category, *place))?;
+            }
         }
-        None if has_variant => kinds.push(Kind::NeverComes(category, *place)),
-        _ => Ok(()),
+        None => {
+            if has_variant {
+                kinds.push(Kind::NeverComes(category, *place))?;
+            }
+        }
     }
+    Ok(())
 }
 
 /// Adds the categories that a select on a number lacks, and those that the language lacks.

@@ -247,27 +247,39 @@ fn said<'w>(alloc: Global, error: Error) -> Result<Asked<'w>, AllocError>
     }))
 }
 
-/// The values of an option.
-fn values<'m, 'w: 'm>(matches: &'m ArgMatches<'w>, id: &str) -> &'m [&'w str] {
-    match matches.get_strs(id) {
-        Some(words) => words,
-        None => &[],
+/// Adds the values of an option.
+fn add_values<'w>(
+    matches: &ArgMatches<'w>,
+    id: &str,
+    list: &mut Vec<&'w str>,
+) -> Result<(), AllocError> {
+    if let Some(found) = matches.get_strs(id) {
+        list.extend_from_slice(found)?;
     }
+    Ok(())
 }
 
-/// A list of these words.
-fn list_of<'w>(alloc: Global, words: &[&'w str]) -> Result<Vec<&'w str>, AllocError> {
+/// The values of an option.
+fn values<'w>(
+    alloc: Global,
+    matches: &ArgMatches<'w>,
+    id: &str,
+) -> Result<Vec<&'w str>, AllocError> {
     let mut list = Vec::new(alloc);
-    list.extend_from_slice(words)?;
+    add_values(matches, id, &mut list)?;
     Ok(list)
 }
 
-/// Adds the arguments that these words give; otherwise the word that has no name before a `=`.
+/// Adds the arguments that an option gives; otherwise the word that has no name before a `=`.
 fn add_arguments<'w>(
-    words: &[&'w str],
+    matches: &ArgMatches<'w>,
+    id: &str,
     is_text: bool,
     arguments: &mut Vec<Argument<'w>>,
 ) -> Result<Option<&'w str>, AllocError> {
+    let Some(words) = matches.get_strs(id) else {
+        return Ok(None);
+    };
     for word in words {
         match word.split_once('=') {
             Some((name, value)) if !name.is_empty() => arguments.push(Argument {
@@ -284,14 +296,14 @@ fn add_arguments<'w>(
 fn asked_to_check<'w>(alloc: Global, matches: &ArgMatches<'w>) -> Result<Request<'w>, AllocError> {
     Ok(Request::Check(CheckRequest {
         language: matches.get_str("language"),
-        files: list_of(alloc, values(matches, "file"))?,
-        references: list_of(alloc, values(matches, "reference"))?,
+        files: values(alloc, matches, "file")?,
+        references: values(alloc, matches, "reference")?,
     }))
 }
 
 fn asked_to_list<'w>(alloc: Global, matches: &ArgMatches<'w>) -> Result<Request<'w>, AllocError> {
     Ok(Request::List(ListRequest {
-        files: list_of(alloc, values(matches, "file"))?,
+        files: values(alloc, matches, "file")?,
     }))
 }
 
@@ -309,10 +321,10 @@ fn arguments_of<'w>(
     matches: &ArgMatches<'w>,
 ) -> Result<Result<Vec<Argument<'w>>, &'w str>, AllocError> {
     let mut arguments = Vec::new(alloc);
-    if let Some(word) = add_arguments(values(matches, "argument"), false, &mut arguments)? {
+    if let Some(word) = add_arguments(matches, "argument", false, &mut arguments)? {
         return Ok(Err(word));
     }
-    if let Some(word) = add_arguments(values(matches, "text"), true, &mut arguments)? {
+    if let Some(word) = add_arguments(matches, "text", true, &mut arguments)? {
         return Ok(Err(word));
     }
     Ok(Ok(arguments))
@@ -320,8 +332,8 @@ fn arguments_of<'w>(
 
 /// The file of a message, and after it its fallbacks.
 fn files_to_show<'w>(alloc: Global, matches: &ArgMatches<'w>) -> Result<Vec<&'w str>, AllocError> {
-    let mut files = list_of(alloc, values(matches, "file"))?;
-    files.extend_from_slice(values(matches, "fallback"))?;
+    let mut files = values(alloc, matches, "file")?;
+    add_values(matches, "fallback", &mut files)?;
     Ok(files)
 }
 

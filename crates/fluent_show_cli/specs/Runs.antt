@@ -125,7 +125,7 @@ pub record Faults (text : Text) (old new : Outlet) : Type 0 where
 
 -- ---- endings of the code
 
-abbrev pub ending_view : codEnding → Ending
+abbrev pub ending_view : code.Ending → Ending
 ending_view Shown = shown
 ending_view (NoMessage id) = no_message id.now
 ending_view Usage = bad_usage

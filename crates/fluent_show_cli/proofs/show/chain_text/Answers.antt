@@ -12,7 +12,7 @@ use Rattle.fluent_show_cli.proofs.show.chain_text.Goals as goal
 
 -- what is given by a chain of these bundles
 abbrev GivesOf : Text → Map (Value Text) → Result (CowStr Global) AllocError → Errors → Errors → List Bundle → Type 0
-GivesOf id args result errors errors' bundles = GivesOrId id args (first_with (pattern_at id None) (map bundle_view bundles)) result errors errors'
+GivesOf id args result errors errors' bundles = GivesOrId id args (first_with (pattern_asked id None) (map bundle_view bundles)) result errors errors'
 
 pub returns-clause-text : goal.returns-clause-text
 returns-clause-text c =
