@@ -135,9 +135,9 @@ impl<
         }
         let mut unused = String::new(self.alloc);
         let mut kept = String::new(self.alloc);
-        let mut out = through(w, &mut unused, &mut kept);
-        let written = self.write_out(&mut out, pattern, cursor, args, errors);
-        with_error(written, out.error)
+        let out = &mut through(w, &mut unused, &mut kept);
+        let written = self.write_out(out, pattern, cursor, args, errors);
+        with_error(written, &mut out.error)
     }
 
     /// The text of a pattern whose references go by their links, or by name where there are none.

@@ -38,7 +38,7 @@ through_output : (g : given.Over) (c : goal.After-drop-unused g) → let b = mea
     Writes c.write_out-written.result (written_events b (arguments_view g.C.FluentType.content c.args.args) (pattern_view c.args.pattern.now)) (writer g.W.Write.contents c.args.w.now) (writer g.W.Write.contents c.w-1.given.0) c.args.errors.now.items c.write_out-written.new.errors.items
 through_output g c =
     let out = c.write_out-written.new.out in
-    let made = c.through-out in
+    let made = c.through in
     written_through g.W.Write.contents made.result.writer.ghost_name out.writer.ghost_name made.result.buffer.ghost_name out.buffer.ghost_name c.args.w.now made.result.writer.now out.writer.now c.w-1.given.0 made.result.buffer.now out.buffer.now made.result.is_buffered out.is_buffered (search rules) made.ensures.writer made.ensures.through c.write_out-written.ensures.writes
 
 pub returns-clause-whole : goal.returns-clause-whole
@@ -51,4 +51,4 @@ pub returns-clause-fault : goal.returns-clause-fault
 returns-clause-fault g c = faulted_as _ _ _ _ c.with_error.result c.with_error.ensures (through_output g c).fault
 
 pub returns-clause-memory : goal.returns-clause-memory
-returns-clause-memory g c = λ texts bare is. c.write_out-written.ensures.memory texts bare c.through-out.ensures.through (sym c.with_error.ensures ∙ ap without_error is)
+returns-clause-memory g c = λ texts bare is. c.write_out-written.ensures.memory texts bare c.through.ensures.through (sym c.with_error.ensures ∙ ap without_error is)
