@@ -1,6 +1,6 @@
 -- A source is added, and what was passed over in it is told: a line for each part that can't be read, and one for each
 -- entry whose id was there.
-use Rattle.std.specs.Prelude.{◌≡◌, string_bytes, ℕ, ◌+◌, ◌==◌, List, [], ◌∷◌, ◌++◌, map, take, count_by, flat_map, codes}
+use Rattle.std.specs.Prelude.{◌≡◌, ℕ, ◌+◌, ◌==◌, List, [], ◌∷◌, ◌++◌, map, take, count_by, flat_map, codes}
 use Rattle.std.specs.Fmt.{decimal}
 use Rattle.std.specs.Str.{IsUtf8}
 use Rattle.fluent_ast.specs.Tree.{Text, Entry}
