@@ -8,7 +8,7 @@ use std::alloc::{AllocError, Global};
 /// How a run ends.
 #[derive(Clone, Copy, Debug, PartialEq, Eq)]
 pub enum Status {
-    /// No error was found. There may be warnings.
+    /// Nothing is wrong.
     Fine,
     /// Something is wrong: there is a finding, a message is missing, or a text that is shown strictly has an error.
     Wrong,

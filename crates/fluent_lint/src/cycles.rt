@@ -195,16 +195,22 @@ fn searched(alloc: Global, edges: &[Vec<usize>]) -> Result<Search, AllocError> {
     for _ in edges {
         search.states.push(State::New)?;
     }
+    let most = most_steps(edges);
     for root in 0..edges.len() {
         enter(&mut search, root)?;
-        walk(alloc, &mut search, edges)?;
+        walk(alloc, &mut search, edges, most)?;
     }
     Ok(search)
 }
 
-/// Walks on until all places of the path were left.
-fn walk(alloc: Global, search: &mut Search, edges: &[Vec<usize>]) -> Result<(), AllocError> {
-    for _ in 0..most_steps(edges) {
+/// Walks on until all places of the path were left, in so many steps at most.
+fn walk(
+    alloc: Global,
+    search: &mut Search,
+    edges: &[Vec<usize>],
+    most: usize,
+) -> Result<(), AllocError> {
+    for _ in 0..most {
         if search.path.is_empty() {
             break;
         }
@@ -213,7 +219,7 @@ fn walk(alloc: Global, search: &mut Search, edges: &[Vec<usize>]) -> Result<(), 
     Ok(())
 }
 
-/// How many steps a walk takes at most: one for each reference, and one for each place.
+/// How many steps all walks take at most: one for each reference, and one for each place.
 fn most_steps(edges: &[Vec<usize>]) -> usize {
     let mut steps = edges.len();
     for row in edges {

@@ -82,15 +82,15 @@ NotAdded text source_fault.NotText = ¬ (IsUtf8 text)
 NotAdded text source_fault.Memory = IsUtf8 text
 NotAdded text f = ⊥
 
--- a source is added, or the bundle stays
+-- a source that is UTF-8 is added, or the bundle stays
 abbrev pub AddsSource : Text → BundleCall
-AddsSource text m new answer.Done = new ≡ added_to text m
+AddsSource text m new answer.Done = IsUtf8 text × (new ≡ added_to text m)
 AddsSource text m new (answer.Fault f) = (new ≡ m) × NotAdded text f
 AddsSource text m new a = ⊥
 
 -- the same, and its entries take the place of what has their ids
 abbrev pub AddsOverriding : Text → BundleCall
-AddsOverriding text m new answer.Done = new ≡ overridden_by text m
+AddsOverriding text m new answer.Done = IsUtf8 text × (new ≡ overridden_by text m)
 AddsOverriding text m new (answer.Fault f) = (new ≡ m) × NotAdded text f
 AddsOverriding text m new a = ⊥
 
