@@ -23,15 +23,13 @@ pub(crate) fn spots_in<'s>(
     Ok(list)
 }
 
-/// The last byte of what can't be read that is no blank.
+/// The last byte of what can't be read that is no blank; where all are blanks, the first.
 fn last_of(text: &str, error: &ParserError) -> usize {
-    match text.get(error.start..error.end) {
-        Some(part) => error
-            .start
-            .saturating_add(part.trim_end().len())
-            .saturating_sub(1),
-        None => error.start,
-    }
+    let kept = match text.get(error.start..error.end) {
+        Some(part) => part.trim_end().len(),
+        None => 0,
+    };
+    error.start.saturating_add(kept.saturating_sub(1))
 }
 
 /// Adds what can't be read in a source.
