@@ -1,0 +1,14 @@
+pub mod AllTaken
+pub mod AloneSides
+pub mod CallsNumbered
+pub mod EntrySites
+pub mod Inserted
+pub mod Kept
+pub mod LinesOn
+pub mod Naming
+pub mod NoneFails
+pub mod PlaceTests
+pub mod Stepped
+pub mod Steps
+pub mod Told
+pub mod Walked

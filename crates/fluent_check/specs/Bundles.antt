@@ -1,0 +1,30 @@
+-- Bundles of the code, by the entries of its resources.
+use Rattle.std.specs.Prelude.{true, List, [], map, None}
+use Rattle.fluent_ast.specs.Tree.{Text, Entry}
+use Rattle.fluent_plural_rules.specs.RuleTexts.{category_of}
+use Rattle.fluent_plural_rules.specs.declared.rule_texts.RuleTexts.{RuleTexts}
+use Rattle.fluent_semantics.specs.Value.{error_value}
+use Rattle.fluent_semantics.specs.Bundle.{Bundle, after, add_resource}
+use Rattle.fluent_values.specs.declared.formatter.NoFormatter.{NoFormatter}
+use Rattle.fluent_values.specs.declared.function.NoFunction.{NoFunction}
+use Rattle.fluent_values.specs.declared.transform.NoTransform.{NoTransform}
+use Rattle.fluent_values.specs.declared.types.custom.NoCustom.{NoCustom}
+use Rattle.fluent_bundle.specs.BundleView.{meant, entries_of}
+use Rattle.fluent_bundle.specs.declared.bundle.FluentBundle.{FluentBundle}
+use Rattle.fluent_bundle.specs.declared.resource.FluentResource.{FluentResource}
+use Rattle.fluent_check.specs.Languages.{bundle_of}
+
+abbrev pub bundle_view : FluentBundle RuleTexts NoCustom NoFunction NoFormatter NoTransform → Bundle Text
+bundle_view =
+    meant category_of (λ t. []) (λ s t. true) (λ f vs as'. error_value) (λ g v m. None) (λ x t. t)
+
+-- the entries of each resource
+abbrev pub entries_of_all : List FluentResource → List (List Entry)
+entries_of_all resources = map entries_of resources
+
+-- the entries of a resource are added
+abbrev pub adding : FluentResource → Bundle Text → Bundle Text
+adding resource b = after (add_resource (entries_of resource)) b
+
+abbrev pub alone : Text → FluentResource → Bundle Text
+alone tag resource = bundle_of tag (entries_of resource)

@@ -1,0 +1,45 @@
+-- References to what isn't there.
+use Rattle.std.specs.Prelude.{◌||◌, List, [], ◌∷◌, Bool, true, false, Option, Some, None}
+use Rattle.fluent_ast.specs.Tree.{Text, Attribute, no_attribute, attribute, Pattern}
+use Rattle.fluent_semantics.specs.Bundle.{Target, unknown, without_value, found, message_target, term_target, is_message, is_term, is_function}
+use Rattle.fluent_lint.specs.Clean.{Names, Need, a_message, a_term, a_function, a_variable, a_default}
+use Rattle.fluent_check.specs.Found.{Problem, missing_message, missing_attribute, missing_value, missing_term, missing_term_attribute, missing_function, Flaw}
+use Rattle.fluent_check.specs.Names.{is_one_of}
+use Rattle.fluent_check.specs.Numbered.{flaws_of, if_any}
+
+-- where no pattern stands
+abbrev pub unless_found : Target → Problem → Option Problem
+unless_found (found p) problem = None
+unless_found unknown problem = Some problem
+unless_found without_value problem = Some problem
+
+abbrev pub unless_there : Bool → Problem → Option Problem
+unless_there true problem = None
+unless_there false problem = Some problem
+
+-- what a reference to a message lacks, by whether the message is there
+abbrev pub lacking_message : Bool → Text → Attribute → Problem
+lacking_message false id a = missing_message id
+lacking_message true id no_attribute = missing_value id
+lacking_message true id (attribute name) = missing_attribute id name
+
+-- the same of a term, which has a value where it is there
+abbrev pub lacking_term : Bool → Text → Attribute → Problem
+lacking_term false id a = missing_term id
+lacking_term true id no_attribute = missing_term id
+lacking_term true id (attribute name) = missing_term_attribute id name
+
+-- what is missing of a need, where an application has these functions too
+abbrev pub problem_of : Names Text → List Text → Need → Option Problem
+problem_of named functions (a_message m a) = unless_found (message_target (named m) a) (lacking_message (is_message (named m)) m a)
+problem_of named functions (a_term t a names) = unless_found (term_target (named t) a) (lacking_term (is_term (named t)) t a)
+problem_of named functions (a_function f) = unless_there (is_function (named f) || is_one_of functions f) (missing_function f)
+problem_of named functions (a_variable v) = None
+problem_of named functions a_default = None
+
+abbrev pub problems_of : Names Text → List Text → Need → List Problem
+problems_of named functions n = if_any (problem_of named functions n)
+
+-- what is missing of the references of a pattern
+abbrev pub missing : Names Text → List Text → Pattern → List Flaw
+missing named functions p = flaws_of (problems_of named functions) p

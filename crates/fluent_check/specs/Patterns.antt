@@ -1,0 +1,59 @@
+-- What is wrong in patterns.
+use Rattle.std.specs.Prelude.{◌≡◌, Bool, List, [], ◌∷◌, ◌++◌}
+use Rattle.fluent_ast.specs.Tree.{Text, Pattern}
+use Rattle.fluent_semantics.specs.Bundle.{Target, unknown, without_value, found}
+use Rattle.fluent_lint.specs.Asked.{texts}
+use Rattle.fluent_lint.specs.Clean.{Place, Names, names_of, place_target, needs}
+use Rattle.fluent_check.specs.Bundles.{bundle_view}
+use Rattle.fluent_check.specs.Called.{functions_in}
+use Rattle.fluent_check.specs.Found.{Flaw, Found}
+use Rattle.fluent_check.specs.Missing.{missing}
+use Rattle.fluent_check.specs.Numbers.{no_numbers}
+use Rattle.fluent_check.specs.Standing.{Standing, flaws_at}
+use Rattle.fluent_check.specs.Terms.{asks_of, term_flaws}
+use Rattle.fluent_check.specs.declared.patterns.Against as code
+
+-- What patterns are held against: what ids name, functions that the application adds, and whether what stands at a place asks for a variable.
+pub record Against : Type 0 where
+  pub named : Names Text
+  pub functions : List Text
+  pub asks : Place → Text → Bool
+
+abbrev pub against_view : code.Against → Against
+against_view a = record {
+  named = names_of (bundle_view a.bundle.now);
+  functions = texts a.functions.now;
+  asks = asks_of a.terms.now;
+}
+
+-- of a pattern
+abbrev pub flaws_of : Against → Pattern → List Flaw
+flaws_of a p =
+    missing a.named a.functions p ++ (term_flaws a.named a.asks p ++ no_numbers p)
+
+abbrev pub flaws_if : Against → Target → List Flaw
+flaws_if a unknown = []
+flaws_if a without_value = []
+flaws_if a (found p) = flaws_of a p
+
+-- of what stands there
+abbrev pub found_in_pattern : Against → Standing → List Found
+found_in_pattern a s = flaws_at s (flaws_if a (place_target a.named s.1.place))
+
+abbrev pub found_in_patterns : Against → List Standing → List Found
+found_in_patterns a [] = []
+found_in_patterns a (s ∷ ss) = found_in_pattern a s ++ found_in_patterns a ss
+
+-- ---- functions that are called
+
+abbrev pub called_if : Target → List Text
+called_if unknown = []
+called_if without_value = []
+called_if (found p) = functions_in (needs p)
+
+abbrev pub called_at : Names Text → Standing → List Text
+called_at named s = called_if (place_target named s.1.place)
+
+abbrev pub called_in : Names Text → List Standing → List Text
+called_in named [] = []
+called_in named (s ∷ ss) = called_at named s ++ called_in named ss

@@ -1,0 +1,110 @@
+//! Bundles of sources.
+ghost use Rattle.std.specs.Prelude.{◌≡◌, IfOk, OnOk, map};
+ghost use Rattle.fluent_check.specs.Bundles.{adding, alone, bundle_view, entries_of_all};
+ghost use Rattle.fluent_check.specs.Languages.{all_of, language_rules, start_of};
+
+use fluent_bundle::{
+    AddFault, FluentBundle, FluentResource, NoCustom, NoFormatter, NoFunction, NoTransform,
+};
+use fluent_plural_rules::{LanguageRules, RuleTexts, cldr_plurals, rules_for};
+use std::alloc::{AllocError, Global};
+
+/// The rules of a language that has none.
+const NO_RULES: LanguageRules<'static> = LanguageRules {
+    cardinal: "",
+    ordinal: "",
+};
+
+/// A bundle with the plural rules of a language, to which an application adds nothing of its own.
+pub type Bundle<'r, 's> = FluentBundle<
+    'r,
+    's,
+    RuleTexts,
+    NoCustom,
+    NoFunction,
+    NoFormatter,
+    NoTransform,
+>;
+
+/// The plural rules of a language by its tag; none where the Unicode CLDR has none.
+fn plurals_of(alloc: Global, tag: &str) -> Result<RuleTexts, AllocError>
+    ensures { IfOk result (λ rules. rules ≡ language_rules tag.now) }
+{
+    let texts = rules_for(cldr_plurals(), tag).unwrap_or(NO_RULES);
+    match RuleTexts::parse(alloc, texts.cardinal, texts.ordinal) {
+        Ok(rules) => Ok(rules),
+        // All of CLDR's rules can be read, so an allocation failed.
+        Err(_) => Err(AllocError),
+    }
+}
+
+/// A bundle with the built-in function alone.
+fn start<'r, 's>(alloc: Global, tag: &str) -> Result<Bundle<'r, 's>, AllocError>
+    ensures { IfOk result (λ bundle. bundle_view bundle ≡ start_of tag.now) }
+{
+    let mut bundle = FluentBundle::new(alloc, Vec::new(alloc), plurals_of(alloc, tag)?);
+    match bundle.add_builtins() {
+        Ok(()) => Ok(bundle),
+        // All ids are free, so an allocation failed.
+        Err(_) => Err(AllocError),
+    }
+}
+
+/// Adds a resource. What has the id of an entry before it is left.
+fn add<'r, 's>(
+    bundle: &mut Bundle<'r, 's>,
+    resource: &'r FluentResource<'s>,
+) -> Result<(), AllocError>
+    ensures { OnOk result
+        (bundle_view bundle.new ≡ adding resource.now (bundle_view bundle.old)) }
+{
+    match bundle.add_resource(resource) {
+        Ok(()) | Err(AddFault::Overriding(_)) => Ok(()),
+        Err(AddFault::Memory) => Err(AllocError),
+    }
+}
+
+/// A bundle of one resource.
+fn bundle_alone<'r, 's>(
+    alloc: Global,
+    tag: &str,
+    resource: &'r FluentResource<'s>,
+) -> Result<Bundle<'r, 's>, AllocError>
+    ensures { IfOk result (λ bundle. bundle_view bundle ≡ alone tag.now resource.now) }
+{
+    let mut bundle = start(alloc, tag)?;
+    add(&mut bundle, resource)?;
+    Ok(bundle)
+}
+
+/// A bundle of these resources.
+pub fn bundle_of_all<'r, 's>(
+    alloc: Global,
+    tag: &str,
+    resources: &'r [FluentResource<'s>],
+) -> Result<Bundle<'r, 's>, AllocError>
+    ensures { IfOk result
+        (λ b. bundle_view b ≡ all_of tag.now (entries_of_all resources.now)) }
+{
+    let mut bundle = start(alloc, tag)?;
+    for resource in resources {
+        add(&mut bundle, resource)?;
+    }
+    Ok(bundle)
+}
+
+/// A bundle of each of these resources.
+pub fn bundles_of<'r, 's>(
+    alloc: Global,
+    tag: &str,
+    resources: &'r [FluentResource<'s>],
+) -> Result<Vec<Bundle<'r, 's>>, AllocError>
+    ensures { IfOk result
+        (λ list. map bundle_view list.items ≡ map (alone tag.now) resources.now) }
+{
+    let mut bundles = Vec::new(alloc);
+    for resource in resources {
+        bundles.push(bundle_alone(alloc, tag, resource)?)?;
+    }
+    Ok(bundles)
+}

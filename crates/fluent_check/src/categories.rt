@@ -1,0 +1,159 @@
+//! The plural categories of a language, by its rules.
+
+use fluent_intl::{Decimal, MemoizerKind, PluralCategory, PluralOperands, PluralRuleType};
+use fluent_plural_rules::{LanguageRules, RuleTexts, cldr_plurals, rules_for};
+use std::alloc::{AllocError, Global};
+
+/// The rules of a language that has none.
+const NO_RULES: LanguageRules<'static> = LanguageRules {
+    cardinal: "",
+    ordinal: "",
+};
+
+/// The whole numbers below this are looked at.
+const NUMBERS: u64 = 1000;
+
+/// A plural category, by its word.
+#[derive(Drop)]
+pub(crate) struct Category {
+    pub key: &'static str,
+    /// The whole numbers from 0 to 999 that have it.
+    pub numbers: Vec<u64>,
+    /// Whether any number has it, as far as the rules say.
+    pub exists: bool,
+}
+
+/// The plural categories of a language: of how many there are, and of which one it is.
+#[derive(Drop)]
+pub(crate) struct Categories {
+    pub cardinal: Vec<Category>,
+    pub ordinal: Vec<Category>,
+    /// Whether a select lacks also a category that no whole number from 0 to 999 has.
+    pub all: bool,
+}
+
+/// The word of a category.
+fn category_word(category: PluralCategory) -> &'static str {
+    match category {
+        PluralCategory::ZERO => "zero",
+        PluralCategory::ONE => "one",
+        PluralCategory::TWO => "two",
+        PluralCategory::FEW => "few",
+        PluralCategory::MANY => "many",
+        PluralCategory::OTHER => "other",
+    }
+}
+
+/// What stands in the text of rules that have a category, unless it is `other`.
+fn heading(category: PluralCategory) -> &'static str {
+    match category {
+        PluralCategory::ZERO => "zero:",
+        PluralCategory::ONE => "one:",
+        PluralCategory::TWO => "two:",
+        PluralCategory::FEW => "few:",
+        PluralCategory::MANY => "many:",
+        PluralCategory::OTHER => "other:",
+    }
+}
+
+/// The word of the category of a whole number.
+fn word_at(rules: &RuleTexts, kind: PluralRuleType, n: u64) -> &'static str {
+    let operands = PluralOperands::of(&Decimal::from_u64(n), None);
+    category_word(rules.select(kind, &operands))
+}
+
+/// The whole numbers below a limit that have this category.
+fn numbers_below(
+    alloc: Global,
+    limit: u64,
+    rules: &RuleTexts,
+    kind: PluralRuleType,
+    key: &str,
+) -> Result<Vec<u64>, AllocError> {
+    let mut list = Vec::new(alloc);
+    for n in 0..limit {
+        push_if(word_at(rules, kind, n) == key, n, &mut list)?;
+    }
+    Ok(list)
+}
+
+/// Adds a number, where this holds.
+fn push_if(holds: bool, n: u64, list: &mut Vec<u64>) -> Result<(), AllocError> {
+    if holds {
+        list.push(n)?;
+    }
+    Ok(())
+}
+
+/// Whether a text stands in another.
+fn stands_in(part: &str, text: &str) -> bool {
+    let bytes = text.as_bytes();
+    for at in 0..bytes.len() {
+        if bytes[at..].starts_with(part.as_bytes()) {
+            return true;
+        }
+    }
+    false
+}
+
+/// A category by the rules of a kind, and their text.
+fn category_by(
+    alloc: Global,
+    rules: &RuleTexts,
+    kind: PluralRuleType,
+    text: &str,
+    category: PluralCategory,
+) -> Result<Category, AllocError> {
+    let key = category_word(category);
+    Ok(Category {
+        key,
+        numbers: numbers_below(alloc, NUMBERS, rules, kind, key)?,
+        exists: key == "other" || stands_in(heading(category), text),
+    })
+}
+
+/// The categories of these rules.
+fn kind_by(
+    alloc: Global,
+    rules: &RuleTexts,
+    kind: PluralRuleType,
+    text: &str,
+) -> Result<Vec<Category>, AllocError> {
+    let mut list = Vec::new(alloc);
+    list.push(category_by(alloc, rules, kind, text, PluralCategory::ZERO)?)?;
+    list.push(category_by(alloc, rules, kind, text, PluralCategory::ONE)?)?;
+    list.push(category_by(alloc, rules, kind, text, PluralCategory::TWO)?)?;
+    list.push(category_by(alloc, rules, kind, text, PluralCategory::FEW)?)?;
+    list.push(category_by(alloc, rules, kind, text, PluralCategory::MANY)?)?;
+    list.push(category_by(alloc, rules, kind, text, PluralCategory::OTHER)?)?;
+    Ok(list)
+}
+
+/// The rules of two texts.
+fn parsed(alloc: Global, texts: &LanguageRules<'_>) -> Result<RuleTexts, AllocError> {
+    match RuleTexts::parse(alloc, texts.cardinal, texts.ordinal) {
+        Ok(rules) => Ok(rules),
+        // All of CLDR's rules can be read, so an allocation failed.
+        Err(_) => Err(AllocError),
+    }
+}
+
+/// The categories of a language by its tag, by the rules of the Unicode CLDR.
+pub(crate) fn categories_of(alloc: Global, tag: &str, all: bool) -> Result<Categories, AllocError> {
+    let texts = rules_for(cldr_plurals(), tag).unwrap_or(NO_RULES);
+    let rules = parsed(alloc, &texts)?;
+    Ok(Categories {
+        cardinal: kind_by(alloc, &rules, PluralRuleType::CARDINAL, texts.cardinal)?,
+        ordinal: kind_by(alloc, &rules, PluralRuleType::ORDINAL, texts.ordinal)?,
+        all,
+    })
+}
+
+/// No categories, where no language is given.
+pub(crate) fn no_categories(alloc: Global) -> Categories {
+    Categories {
+        cardinal: Vec::new(alloc),
+        ordinal: Vec::new(alloc),
+        all: false,
+    }
+}

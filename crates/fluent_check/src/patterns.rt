@@ -1,0 +1,167 @@
+//! What is wrong in patterns.
+
+ghost use Rattle.std.specs.Prelude.{◌≡◌, IfOk, OnOk};
+ghost use Rattle.fluent_ast.specs.View.{pattern_view};
+ghost use Rattle.fluent_lint.specs.Asked.{texts};
+ghost use Rattle.fluent_lint.specs.Clean.{names_of};
+ghost use Rattle.fluent_check.specs.Bundles.{bundle_view};
+ghost use Rattle.fluent_check.specs.Called.{AddsNames};
+ghost use Rattle.fluent_check.specs.Found.{AddsFound, flaws_in};
+ghost use Rattle.fluent_check.specs.Patterns.{against_view, called_at, called_in, flaws_of, found_in_pattern, found_in_patterns};
+ghost use Rattle.fluent_check.specs.Standing.{standing_view, standings};
+ghost use Rattle.fluent_check.specs.Terms.{AreOf};
+
+use crate::bundle::Bundle;
+use crate::called::add_called;
+use crate::categories::Categories;
+use crate::finding::{Finding, Flaw};
+use crate::missing::add_missing;
+use crate::numbers::add_no_numbers;
+use crate::places::Places;
+use crate::selects::add_select_flaws;
+use crate::standing::{Standing, add_flaws};
+use crate::terms::{Terms, add_term_flaws};
+use fluent_bundle::ast::Pattern;
+use fluent_lint::pattern_at;
+use std::alloc::{AllocError, Global};
+
+/// What patterns are held against.
+#[derive(Clone, Copy)]
+pub(crate) struct Against<'b, 'r, 's> {
+    pub bundle: &'b Bundle<'r, 's>,
+    pub terms: &'b Terms<'s>,
+    /// Functions that the application adds.
+    pub functions: &'b [&'b str],
+}
+
+/// What is wrong in a pattern.
+fn flaws_of<'s>(
+    alloc: Global,
+    against: &Against<'_, '_, 's>,
+    pattern: &Pattern<'s>,
+) -> Result<Vec<Flaw<'s>>, AllocError>
+    requires { AreOf (names_of (bundle_view against.now.bundle.now)) against.now.terms.now }
+    ensures { IfOk result (λ flaws. flaws_in flaws ≡ flaws_of (against_view against.now) (pattern_view pattern.now)) }
+{
+    let mut flaws = Vec::new(alloc);
+    add_missing(
+        alloc,
+        against.bundle,
+        against.functions,
+        pattern,
+        &mut flaws,
+    )?;
+    add_term_flaws(alloc, against.bundle, against.terms, pattern, &mut flaws)?;
+    add_no_numbers(alloc, pattern, &mut flaws)?;
+    Ok(flaws)
+}
+
+/// Adds what is wrong in the pattern that stands there.
+fn add_at<'s>(
+    alloc: Global,
+    against: &Against<'_, '_, 's>,
+    standing: &Standing<'_, 's>,
+    findings: &mut Vec<Finding<'s>>,
+) -> Result<(), AllocError>
+    requires { AreOf (names_of (bundle_view against.now.bundle.now)) against.now.terms.now }
+    ensures { OnOk result
+        (AddsFound (found_in_pattern (against_view against.now) (standing_view standing.now)) findings.old findings.new) }
+{
+    let Some(pattern) = pattern_at(against.bundle, &standing.site.place) else {
+        return Ok(());
+    };
+    let flaws = flaws_of(alloc, against, pattern)?;
+    add_flaws(standing, flaws.as_slice(), findings)
+}
+
+/// Adds what is wrong in the patterns of these places.
+pub(crate) fn add_patterns<'s>(
+    alloc: Global,
+    against: &Against<'_, '_, 's>,
+    places: &Places<'_, 's>,
+    findings: &mut Vec<Finding<'s>>,
+) -> Result<(), AllocError>
+    requires { AreOf (names_of (bundle_view against.now.bundle.now)) against.now.terms.now }
+    ensures { OnOk result
+        (AddsFound (found_in_patterns (against_view against.now) (standings places.now.list)) findings.old findings.new) }
+{
+    for standing in places.list.as_slice() {
+        add_at(alloc, against, standing, findings)?;
+    }
+    Ok(())
+}
+
+/// Adds the functions that the pattern which stands there calls.
+fn add_called_at<'s>(
+    alloc: Global,
+    bundle: &Bundle<'_, 's>,
+    standing: &Standing<'_, 's>,
+    ids: &mut Vec<&'s str>,
+) -> Result<(), AllocError>
+    ensures { OnOk result
+        (AddsNames (called_at (names_of (bundle_view bundle.now)) (standing_view standing.now)) ids.old ids.new) }
+{
+    match pattern_at(bundle, &standing.site.place) {
+        Some(pattern) => add_called(alloc, pattern, ids),
+        None => Ok(()),
+    }
+}
+
+/// Adds the functions that the patterns of these places call.
+fn add_called_in<'s>(
+    alloc: Global,
+    bundle: &Bundle<'_, 's>,
+    places: &Places<'_, 's>,
+    ids: &mut Vec<&'s str>,
+) -> Result<(), AllocError>
+    ensures { OnOk result
+        (AddsNames (called_in (names_of (bundle_view bundle.now)) (standings places.now.list)) ids.old ids.new) }
+{
+    for standing in places.list.as_slice() {
+        add_called_at(alloc, bundle, standing, ids)?;
+    }
+    Ok(())
+}
+
+/// The functions that the patterns of these places call.
+pub(crate) fn called_in<'s>(
+    alloc: Global,
+    bundle: &Bundle<'_, 's>,
+    places: &Places<'_, 's>,
+) -> Result<Vec<&'s str>, AllocError>
+    ensures { IfOk result (λ ids. texts ids.items ≡ called_in (names_of (bundle_view bundle.now)) (standings places.now.list)) }
+{
+    let mut ids = Vec::new(alloc);
+    add_called_in(alloc, bundle, places, &mut ids)?;
+    Ok(ids)
+}
+
+/// Adds what is wrong with the selects of the pattern that stands there.
+fn add_selects_at<'s>(
+    alloc: Global,
+    bundle: &Bundle<'_, 's>,
+    categories: &Categories,
+    standing: &Standing<'_, 's>,
+    findings: &mut Vec<Finding<'s>>,
+) -> Result<(), AllocError> {
+    let Some(pattern) = pattern_at(bundle, &standing.site.place) else {
+        return Ok(());
+    };
+    let mut flaws = Vec::new(alloc);
+    add_select_flaws(alloc, categories, pattern, &mut flaws)?;
+    add_flaws(standing, flaws.as_slice(), findings)
+}
+
+/// Adds what is wrong with the selects of the patterns of these places.
+pub(crate) fn add_selects<'s>(
+    alloc: Global,
+    bundle: &Bundle<'_, 's>,
+    categories: &Categories,
+    places: &Places<'_, 's>,
+    findings: &mut Vec<Finding<'s>>,
+) -> Result<(), AllocError> {
+    for standing in places.list.as_slice() {
+        add_selects_at(alloc, bundle, categories, standing, findings)?;
+    }
+    Ok(())
+}

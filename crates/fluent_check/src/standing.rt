@@ -1,0 +1,112 @@
+//! Values and attributes of files, with the files in which they stand.
+
+ghost use Rattle.std.specs.Prelude.{◌≡◌, IfOk, OnOk, get_or, map};
+ghost use Rattle.fluent_check.specs.Found.{AddsFound, flaw_view, found_view, part_view, problem_view, spot_view};
+ghost use Rattle.fluent_check.specs.SiteView.{site_view, site_views};
+ghost use Rattle.fluent_check.specs.Standing.{AddsStanding, all_sites, byte_of, flaws_at, found_at, spot_of, standing_view, standings, standings_in, standings_of};
+
+use crate::finding::{Finding, Flaw, Part, Problem, Spot};
+use crate::sites::Site;
+use std::alloc::{AllocError, Global};
+
+/// A value or an attribute, and the number of the file in which it stands.
+#[derive(Clone, Copy, Drop)]
+pub(crate) struct Standing<'a, 's> {
+    pub file: usize,
+    pub site: &'a Site<'s>,
+}
+
+impl<'s> Standing<'_, 's> {
+    /// Where it stands.
+    pub(crate) fn spot(&self) -> Spot
+        ensures { spot_view result ≡ spot_of (standing_view self.now) }
+    {
+        Spot {
+            file: self.file,
+            at: self.site.at,
+        }
+    }
+
+    /// What is wrong with a part of it.
+    pub(crate) fn found(&self, part: Part, problem: Problem<'s>) -> Finding<'s>
+        ensures { found_view result ≡ found_at (standing_view self.now) (part_view part) (problem_view problem.entry) }
+    {
+        Finding {
+            spot: Spot {
+                file: self.file,
+                at: byte_of(self.site, part),
+            },
+            place: Some(self.site.place),
+            problem,
+        }
+    }
+}
+
+/// The byte where a part stands; where that isn't known, the byte of its value or attribute.
+fn byte_of(site: &Site<'_>, part: Part) -> usize
+    ensures { result ≡ byte_of (site_view site.now) (part_view part) }
+{
+    match part {
+        Part::Whole => site.at,
+        Part::Reference(n) => nth_or(&site.offsets.references, n, site.at),
+        Part::Select(n) => nth_or(&site.offsets.selects, n, site.at),
+        Part::Variant(n) => nth_or(&site.offsets.variants, n, site.at),
+    }
+}
+
+/// The offset with this index, if there is one, or else another.
+fn nth_or(offsets: &[usize], index: usize, otherwise: usize) -> usize
+    ensures { result ≡ get_or offsets.now index otherwise }
+{
+    match offsets.get(index) {
+        Some(offset) => *offset,
+        None => otherwise,
+    }
+}
+
+/// Adds a finding for each flaw of a value or an attribute.
+pub(crate) fn add_flaws<'s>(
+    standing: &Standing<'_, 's>,
+    flaws: &[Flaw<'s>],
+    findings: &mut Vec<Finding<'s>>,
+) -> Result<(), AllocError>
+    ensures { OnOk result
+        (AddsFound (flaws_at (standing_view standing.now) (map flaw_view flaws.now)) findings.old findings.new) }
+{
+    for flaw in flaws {
+        findings.push(standing.found(flaw.part, flaw.problem))?;
+    }
+    Ok(())
+}
+
+/// Adds those of a file.
+fn add_file<'a, 's>(
+    file: usize,
+    sites: &'a [Site<'s>],
+    list: &mut Vec<Standing<'a, 's>>,
+) -> Result<(), AllocError>
+    ensures { OnOk result (AddsStanding (standings_of file (site_views sites.now)) list.old list.new) }
+{
+    for site in sites {
+        list.push(Standing { file, site })?;
+    }
+    Ok(())
+}
+
+/// The values and attributes of the files with the numbers from one on, and below another, by the sites of all files.
+pub(crate) fn standings_in<'a, 's>(
+    alloc: Global,
+    sites: &'a [Vec<Site<'s>>],
+    from: usize,
+    to: usize,
+) -> Result<Vec<Standing<'a, 's>>, AllocError>
+    ensures { IfOk result (λ list. standings list ≡ standings_in from to 0 (all_sites sites.now)) }
+{
+    let mut list = Vec::new(alloc);
+    for (file, of_file) in sites.iter().enumerate() {
+        if from <= file && file < to {
+            add_file(file, of_file.as_slice(), &mut list)?;
+        }
+    }
+    Ok(list)
+}

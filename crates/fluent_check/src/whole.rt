@@ -1,0 +1,95 @@
+//! What the linter finds of whole values and attributes.
+
+ghost use Rattle.std.specs.Prelude.{◌≡◌, IfOk};
+ghost use Rattle.std.specs.Option.{option_map};
+ghost use Rattle.fluent_lint.specs.Clean.{place_view, views};
+ghost use Rattle.fluent_check.specs.Found.{problem_view};
+ghost use Rattle.fluent_check.specs.Whole.{all_lead_on, leads_on, second_or, whole_problem, whole_problems, wholes};
+
+use crate::finding::Problem;
+use fluent_lint::{Finding as Linted, Kind, Place};
+use std::alloc::{AllocError, Global};
+
+/// A problem of a whole value or attribute.
+#[derive(Clone, Copy, Debug, Drop)]
+pub(crate) struct Whole<'s> {
+    pub place: Place<'s>,
+    pub problem: Problem<'s>,
+}
+
+/// The problems of whole values and attributes, in order. That one leads to another that isn't clean is told only where
+/// nothing else is found, since it is well again as soon as that other one is.
+pub(crate) fn whole_problems<'s>(
+    alloc: Global,
+    list: &[Linted<'s>],
+) -> Result<Vec<Whole<'s>>, AllocError>
+    ensures { IfOk result (λ found. wholes found.items ≡ whole_problems list.now) }
+{
+    let alone = all_lead_on(list);
+    let mut found = Vec::new(alloc);
+    for linted in list {
+        if let Some(problem) = whole_problem(alone, linted) {
+            found.push(Whole {
+                place: linted.place,
+                problem,
+            })?;
+        }
+    }
+    Ok(found)
+}
+
+/// Whether each of these is that a pattern leads on to another.
+fn all_lead_on(list: &[Linted<'_>]) -> bool
+    ensures { result ≡ all_lead_on list.now }
+{
+    for linted in list {
+        if !leads_on(&linted.kind) {
+            return false;
+        }
+    }
+    true
+}
+
+/// Whether it is that a pattern leads to one that isn't clean, or that stands elsewhere.
+fn leads_on(kind: &Kind<'_>) -> bool
+    ensures { result ≡ leads_on kind.now }
+{
+    match kind {
+        Kind::LeadsTo { .. } | Kind::Elsewhere { .. } => true,
+        _ => false,
+    }
+}
+
+/// What a finding says of a whole place, by whether all findings lead on.
+fn whole_problem<'s>(alone: bool, linted: &Linted<'s>) -> Option<Problem<'s>>
+    ensures { option_map problem_view result
+        ≡ whole_problem alone (place_view linted.now.place) linted.now.kind }
+{
+    match &linted.kind {
+        Kind::Cycle { places } => Some(Problem::Cycle {
+            next: second_or(linted.place, places),
+        }),
+        Kind::TooManyPlaceables { count, limit } => Some(Problem::TooManyPlaceables {
+            count: *count,
+            limit: *limit,
+        }),
+        Kind::LeadsTo { place } | Kind::Elsewhere { place } => {
+            if alone {
+                Some(Problem::LeadsTo { place: *place })
+            } else {
+                None
+            }
+        }
+        _ => None,
+    }
+}
+
+/// The second of these places, or else this one.
+fn second_or<'s>(place: Place<'s>, places: &[Place<'s>]) -> Place<'s>
+    ensures { place_view result ≡ second_or (place_view place.entry) (views places.now) }
+{
+    match places.get(1) {
+        Some(next) => *next,
+        None => place,
+    }
+}
