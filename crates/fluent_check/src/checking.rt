@@ -327,7 +327,7 @@ fn add_all<'s>(
 /// All that is found in these files. They are numbered from 0: the sources, then the references.
 ///
 /// Where the linter finds nothing, no value and no attribute of the files ever shows an error, for all arguments that give
-/// what it asks for, in a bundle that has them and each function that they call.
+/// what it asks for, in a bundle that has them and some functions: here those that they call.
 ///
 /// # Errors
 ///
