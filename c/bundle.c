@@ -14,6 +14,32 @@ static uint8_t format(const char *id, const char *text) {
     return status;
 }
 
+/* Formats a message with records for its errors, and writes these as "letter id.attribute " each. */
+static uint8_t records(const char *id, const char *told) {
+    uint8_t out[64], err[128];
+    char all[128] = "";
+    struct fluent_lengths lengths;
+    struct fluent_error error;
+    uint8_t status = fluent_format_records(&bundle, (const uint8_t *)id, strlen(id), TEXT(""), TEXT(""), out, sizeof out, err,
+                                           sizeof err, &lengths);
+    const uint8_t *at = err, *end = err + lengths.errors;
+    for (size_t n = 0; status == FLUENT_OK && fluent_next_error(&at, end, &error); n = strlen(all))
+        snprintf(all + n, sizeof all - n, "%c %s.%s ", (char)error.kind, error.id, error.attribute);
+    if (status == FLUENT_OK)
+        check(!strcmp(all, told), all);
+    return status;
+}
+
+/* Compares the names of a message's attributes. */
+static uint8_t attributes(const char *id, const char *names) {
+    uint8_t out[16];
+    size_t length;
+    uint8_t status = fluent_attributes(&bundle, (const uint8_t *)id, strlen(id), out, sizeof out, &length);
+    if (status == FLUENT_OK)
+        check(length == strlen(names) && !memcmp(out, names, length), names);
+    return status;
+}
+
 /* Compares a text that a call gives by itself. */
 static uint8_t gives(uint8_t (*call)(struct fluent_bundle *, uint8_t *, size_t, size_t *), const char *text) {
     uint8_t out[64];
@@ -25,7 +51,7 @@ static uint8_t gives(uint8_t (*call)(struct fluent_bundle *, uint8_t *, size_t, 
 }
 
 #define FIRST TEXT("a = { 1 }{ b }\nb = B\n")
-#define SECOND TEXT("b = again\nc = { b } and { b }\n")
+#define SECOND TEXT("b = again\nc = { b } and { b }\nd = { e }\n    .f = F\n")
 #define RULES TEXT("one: i = 1 and v = 0; other:"), TEXT("few: n % 10 = 3; other:")
 
 /* All calls of a bundle's life; the first status from 1 on ends it. */
@@ -42,7 +68,11 @@ static uint8_t live(bool by_rules) {
     if (!status)
         status = gives(fluent_report, "1: Attempt to override an existing message: \"b\".\n");
     if (!status)
-        status = gives(fluent_ids, "a\nb\nc\n");
+        status = gives(fluent_ids, "a\nb\nc\nd\n");
+    if (!status)
+        status = attributes("d", "f\n");
+    if (!status)
+        status = records("d", "m e. ");
     if (!status)
         status = fluent_has(&bundle, TEXT("c"));
     if (!status)
@@ -105,6 +135,79 @@ static void looked_for(void) {
     check(fluent_find(&bundle, TEXT("t"), TEXT("")) == FLUENT_NO_MESSAGE, "a term");
     check(fluent_find(&bundle, TEXT("t"), TEXT("c")) == FLUENT_NO_MESSAGE, "an attribute of a term");
     fluent_close(&bundle);
+}
+
+static void attributes_are_listed(void) {
+    check(attributes("a", "") == FLUENT_CLOSED_BUNDLE, "of nothing");
+    check(fluent_open(&bundle, TEXT("en"), false) == FLUENT_OK, "does not open");
+    check(fluent_add(&bundle, TEXT("a = A\nb =\n    .c = C\n    .a = A\n    .c = D\n-t = T\n    .c = C\nl = L\n"
+                                   "    .a-name-of-its-own = A\n")) == FLUENT_OK, "does not add");
+    check(attributes("a", "") == FLUENT_OK, "none");
+    check(attributes("b", "c\na\nc\n") == FLUENT_OK, "in order, and twice");
+    check(attributes("t", "") == FLUENT_NO_MESSAGE && attributes("gone", "") == FLUENT_NO_MESSAGE, "no message");
+    check(attributes("\xff", "") == FLUENT_ID_NOT_UTF8, "an id that is not UTF-8");
+    check(attributes("l", "") == FLUENT_TOO_SMALL, "a buffer that is too small");
+    fluent_close(&bundle);
+}
+
+static void errors_are_recorded(void) {
+    check(records("a", "") == FLUENT_CLOSED_BUNDLE, "of nothing");
+    check(fluent_open(&bundle, TEXT("en"), false) == FLUENT_OK, "does not open");
+    check(fluent_set_limit(&bundle, 9) == FLUENT_OK, "a limit");
+    check(fluent_add(&bundle, TEXT("a = { $v }{ m }{ m.x }{ -t }{ -u.x ->\n   *[x] x\n }{ F() }\n"
+                                   "n = { o }{ o.y }\no =\n    .x = X\nc = { c }\n"
+                                   "l = { 1 }{ 2 }{ 3 }{ 4 }{ 5 }{ 6 }{ 7 }{ 8 }{ 9 }{ 10 }\ng = G\n")) == FLUENT_OK,
+          "does not add");
+    check(records("a", "v v. m m. a m.x t t. b u.x f F. ") == FLUENT_OK, "what is not there");
+    check(records("n", "n o. a o.y ") == FLUENT_OK, "no value");
+    check(records("c", "c . ") == FLUENT_OK, "a cycle");
+    check(records("l", "p . ") == FLUENT_OK, "too many placeables");
+    check(records("g", "") == FLUENT_OK, "no error");
+    check(records("gone", "") == FLUENT_NO_MESSAGE, "no message");
+    fluent_close(&bundle);
+}
+
+/* The status of a message with an argument that is cut. */
+static uint8_t with_cut(const char *id, const char *name) {
+    uint8_t out[1], err[1];
+    struct fluent_lengths lengths;
+    return fluent_format(&bundle, (const uint8_t *)id, strlen(id), (const uint8_t *)name, strlen(name), TEXT("t"), out,
+                         sizeof out, err, sizeof err, &lengths);
+}
+
+/* A message that is not there is told before its arguments are read. */
+static void causes_in_order(void) {
+    check(fluent_open(&bundle, TEXT("en"), false) == FLUENT_OK, "does not open");
+    check(fluent_add(&bundle, TEXT("a = A\n")) == FLUENT_OK, "does not add");
+    check(with_cut("b", "") == FLUENT_NO_MESSAGE && with_cut("a", "b") == FLUENT_NO_MESSAGE, "what is not there");
+    check(with_cut("a", "") == FLUENT_ARGUMENTS_CUT, "cut arguments");
+    check(with_cut("b", "\xff") == FLUENT_ID_NOT_UTF8, "no text");
+    fluent_close(&bundle);
+}
+
+/* So many arguments, from the last name to the first, each of them twice: the last of a name stands. */
+#define MANY 64000
+
+static void many_arguments(void) {
+    uint8_t *all = malloc(2 * MANY * fluent_argument_length(8, 6)), *at = all, out[32], err[64];
+    struct fluent_lengths lengths;
+    char name[16], value[16];
+    for (int i = 2 * MANY; i-- > 0;) {
+        snprintf(name, sizeof name, "n%07d", i % MANY);
+        snprintf(value, sizeof value, "%06d", i);
+        at = fluent_put_argument(at, FLUENT_TEXT, name, 8, value, 6);
+    }
+    check(fluent_open(&bundle, TEXT("en"), false) == FLUENT_OK, "does not open");
+    check(fluent_add(&bundle, TEXT("a = { $n0000007 }{ $n0063999 }\n")) == FLUENT_OK, "does not add");
+    uint8_t status = fluent_format(&bundle, TEXT("a"), TEXT(""), all, (size_t)(at - all), out, sizeof out, err,
+                                   sizeof err, &lengths);
+    check(status == FLUENT_OK && lengths.text == 12 && !memcmp(out, "000007063999", 12), "the last of a name");
+    fluent_close(&bundle);
+    free(all);
+}
+
+static void versions(void) {
+    check(!strcmp(fluent_version(), FLUENT_VERSION), "another version");
 }
 
 static void with_limits(void) {
@@ -172,6 +275,11 @@ int main(void) {
     run("a bundle is opened", opened);
     run("a bundle is asked", asked);
     run("values and attributes are looked for", looked_for);
+    run("attributes are listed", attributes_are_listed);
+    run("errors are recorded", errors_are_recorded);
+    run("causes come in order", causes_in_order);
+    run("many arguments", many_arguments);
+    run("the library's version", versions);
     run("limits of placeables", with_limits);
     run("plural rules as texts", by_rules);
     run("a bundle's life", lived);

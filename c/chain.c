@@ -23,6 +23,13 @@ static uint8_t format(size_t count, const char *id, const char *name, const char
     return status;
 }
 
+/* Which bundle answers, and where. */
+static bool finds(size_t count, const char *id, const char *name, uint8_t status, size_t index) {
+    size_t at = 99;
+    return fluent_find_chain(bundles, count, (const uint8_t *)id, strlen(id), (const uint8_t *)name, strlen(name), &at) ==
+               status && at == index;
+}
+
 static const char *const languages[LINKS] = {"pl", "en", "cy"};
 
 static const char *const sources[LINKS] = {
@@ -62,6 +69,21 @@ static void in_turn(void) {
     close_all();
 }
 
+static void which_one(void) {
+    open_all();
+    check(finds(LINKS, "a", "", FLUENT_OK, 0) && finds(LINKS, "b", "", FLUENT_OK, 1), "a value");
+    check(finds(LINKS, "c", "", FLUENT_OK, 2), "a value of the last");
+    check(finds(LINKS, "h", "", FLUENT_OK, 1) && finds(LINKS, "h", "t", FLUENT_OK, 0), "a value that the first has not");
+    check(finds(2, "c", "", FLUENT_NO_MESSAGE, 2) && finds(0, "a", "", FLUENT_NO_MESSAGE, 0), "what none has");
+    check(finds(LINKS, "\xff", "", FLUENT_ID_NOT_UTF8, LINKS), "an id that is not UTF-8");
+    check(finds(LINKS, "a", "\xff", FLUENT_ID_NOT_UTF8, LINKS), "an attribute that is not UTF-8");
+    fluent_close(&bundles[1]);
+    check(finds(LINKS, "a", "", FLUENT_OK, 0), "before the one that is closed");
+    check(finds(LINKS, "c", "", FLUENT_CLOSED_BUNDLE, 1), "behind it");
+    check(finds(LINKS, "gone", "", FLUENT_CLOSED_BUNDLE, 1), "where none has it");
+    close_all();
+}
+
 /* A bundle that is closed matters where it stands before the one that answers, or where none does. */
 static void one_is_closed(void) {
     open_all();
@@ -92,6 +114,7 @@ static void refuse_in_turn(void) {
 
 int main(void) {
     run("bundles are asked in turn", in_turn);
+    run("which one answers", which_one);
     run("one of them is closed", one_is_closed);
     run("memory is refused", refuse_in_turn);
     return finish();

@@ -1,18 +1,18 @@
 /* Fluent for C: messages of one source, or of a bundle that is kept, formatted as the proved crates below say.
 
    Texts are UTF-8, each by where it begins and how many bytes it has; a zero byte is a byte like any other, and none is
-   written after a text. A pointer to a text or a buffer may be null where that has no bytes. Every other null pointer, as to a
-   bundle or to lengths, is the caller's fault, and no call looks for it. What is written lies apart from all else that is
-   handed over.
+   written after a text: print it by its length, as by "%.*s". A pointer to a text or a buffer may be null where that has no
+   bytes. Every other null pointer, as to a bundle or to lengths, is the caller's fault, and no call looks for it. What is
+   written lies apart from all else that is handed over.
 
    Memory is taken by malloc and realloc and given back by free, all of it before a call ends, but for that of a bundle. A
    call keeps none of the memory that it was given: a bundle has copies of its sources. Each copy, with what was read in it,
    is kept until fluent_close, also where later entries took the place of its own, and perhaps where there was no memory to
-   add it.
+   add it: a bundle that is overridden again and again grows, and is better opened anew.
 
    Calls in several threads at once have nothing in common. A bundle may go from thread to thread, and is asked by one of them
-   at a time: the program sees to it that a call has ended before the next one begins (tried, and not proved). No call belongs
-   into a signal handler.
+   at a time: the program sees to it that a call has ended before the next one begins (tried, and not proved). After fork each
+   process has bundles of its own. No call belongs into a signal handler.
 
    No call takes more than a megabyte of stack, whatever it is given (tried, and not proved). */
 #ifndef FLUENT_H
@@ -25,10 +25,14 @@
 extern "C" {
 #endif
 
+/* The version of this header, and of the library that is called. */
+#define FLUENT_VERSION "0.1.0"
+const char *fluent_version(void);
+
 /* What a call answers. From FLUENT_NO_MEMORY on no buffer is written, and each length is 0. */
 enum fluent_status {
     FLUENT_OK = 0,                    /* the text and the lines of its errors are in their buffers */
-    FLUENT_TOO_SMALL = 1,             /* the lengths are written; a buffer that is too small for its text is as it was */
+    FLUENT_TOO_SMALL = 1,             /* the lengths are written; where there is less room, a buffer stays */
     FLUENT_NO_MEMORY = 2,             /* malloc or realloc answered null */
     FLUENT_SOURCE_NOT_UTF8 = 3,       /* told before any memory is taken */
     FLUENT_LANGUAGE_NOT_UTF8 = 4,     /* the tag, or a text of plural rules */
@@ -102,6 +106,11 @@ uint8_t fluent_report(struct fluent_bundle *bundle, uint8_t *out, size_t out_roo
 /* Gives the ids of all messages of the bundle in the order of their bytes, a line each, as fluent_report gives its text. */
 uint8_t fluent_ids(struct fluent_bundle *bundle, uint8_t *out, size_t out_room, size_t *length);
 
+/* Gives the names of the attributes of a message in the order of the source, a line each, as fluent_report gives its text. A
+   name that stands twice is there twice; fluent_format takes the first. FLUENT_NO_MESSAGE where there is none of the id. */
+uint8_t fluent_attributes(struct fluent_bundle *bundle, const uint8_t *id, size_t id_length, uint8_t *out,
+                          size_t out_room, size_t *length);
+
 /* Whether there is a message of the id: FLUENT_OK or FLUENT_NO_MESSAGE. */
 uint8_t fluent_has(struct fluent_bundle *bundle, const uint8_t *id, size_t id_length);
 
@@ -110,10 +119,18 @@ uint8_t fluent_has(struct fluent_bundle *bundle, const uint8_t *id, size_t id_le
 uint8_t fluent_find(struct fluent_bundle *bundle, const uint8_t *id, size_t id_length, const uint8_t *attribute,
                     size_t attribute_length);
 
-/* Formats the value of a message of the bundle, or its attribute, as fluent_format_source does. The bundle stays as it was. */
+/* Formats the value of a message of the bundle, or its attribute, as fluent_format_source does. The bundle stays as it was.
+   Of several causes the first is told: FLUENT_CLOSED_BUNDLE, FLUENT_ID_NOT_UTF8, FLUENT_NO_MESSAGE, and then the first fault of
+   the arguments. */
 uint8_t fluent_format(struct fluent_bundle *bundle, const uint8_t *id, size_t id_length, const uint8_t *attribute,
                       size_t attribute_length, const uint8_t *arguments, size_t arguments_length, uint8_t *out,
                       size_t out_room, uint8_t *err, size_t err_room, struct fluent_lengths *lengths);
+
+/* The same with a record in err for each error in place of a line: fluent_next_error reads them. */
+uint8_t fluent_format_records(struct fluent_bundle *bundle, const uint8_t *id, size_t id_length,
+                              const uint8_t *attribute, size_t attribute_length, const uint8_t *arguments,
+                              size_t arguments_length, uint8_t *out, size_t out_room, uint8_t *err, size_t err_room,
+                              struct fluent_lengths *lengths);
 
 /* Formats the value of a message, or its attribute, by the first of some bundles that has it, as fluent_format of that one
    does. All bundles stay as they were.
@@ -127,6 +144,11 @@ uint8_t fluent_format_chain(struct fluent_bundle *bundles, size_t count, const u
                             const uint8_t *attribute, size_t attribute_length, const uint8_t *arguments,
                             size_t arguments_length, uint8_t *out, size_t out_room, uint8_t *err, size_t err_room,
                             struct fluent_lengths *lengths);
+
+/* Says which of some bundles answers fluent_format_chain: FLUENT_OK or FLUENT_CLOSED_BUNDLE of bundles[*index]. At
+   FLUENT_ID_NOT_UTF8 and FLUENT_NO_MESSAGE the index is count. */
+uint8_t fluent_find_chain(struct fluent_bundle *bundles, size_t count, const uint8_t *id, size_t id_length,
+                          const uint8_t *attribute, size_t attribute_length, size_t *index);
 
 /* Gives back all memory of the bundle, which is closed then. Nothing happens where it is closed. */
 void fluent_close(struct fluent_bundle *bundle);
@@ -155,6 +177,42 @@ static inline uint8_t *fluent_put_argument(uint8_t *at, enum fluent_kind kind, c
                                            const void *value, size_t value_length) {
     *at = (uint8_t)kind;
     return fluent_put_sized(fluent_put_sized(at + 1, name, name_length), value, value_length);
+}
+
+/* The kinds of errors in a text. */
+enum fluent_error_kind {
+    FLUENT_UNKNOWN_FUNCTION = 'f',       /* id */
+    FLUENT_UNKNOWN_MESSAGE = 'm',        /* id */
+    FLUENT_UNKNOWN_ATTRIBUTE = 'a',      /* of the message id: attribute */
+    FLUENT_UNKNOWN_TERM = 't',           /* id, without its dash */
+    FLUENT_UNKNOWN_TERM_ATTRIBUTE = 'b', /* of the term id: attribute */
+    FLUENT_UNKNOWN_VARIABLE = 'v',       /* id, without its dollar sign */
+    FLUENT_NO_VALUE = 'n',               /* the message id */
+    FLUENT_NO_DEFAULT = 'd',
+    FLUENT_CYCLIC = 'c',
+    FLUENT_TOO_MANY_PLACEABLES = 'p'
+};
+
+/* An error. Both texts end with a zero byte, are empty where there is none, and lie in the buffer that was read. */
+struct fluent_error {
+    enum fluent_error_kind kind;
+    const char *id;
+    const char *attribute;
+};
+
+/* Reads the record at *at, unless the records end there, and moves *at behind it:
+
+       const uint8_t *at = err;
+       struct fluent_error error;
+       while (fluent_next_error(&at, err + lengths.errors, &error)) .. */
+static inline bool fluent_next_error(const uint8_t **at, const uint8_t *end, struct fluent_error *error) {
+    if (*at == end)
+        return false;
+    error->kind = (enum fluent_error_kind)**at;
+    error->id = (const char *)*at + 1;
+    error->attribute = error->id + strlen(error->id) + 1;
+    *at = (const uint8_t *)error->attribute + strlen(error->attribute) + 1;
+    return true;
 }
 
 #ifdef __cplusplus

@@ -40,6 +40,8 @@ static void not_utf8(void) {
         open_bundle();
         check(fluent_add(&bundle, at, length) == FLUENT_SOURCE_NOT_UTF8, "a source");
         check(fluent_has(&bundle, at, length) == FLUENT_ID_NOT_UTF8, "an id that is asked for");
+        check(fluent_attributes(&bundle, at, length, out, sizeof out, &lengths.text) == FLUENT_ID_NOT_UTF8,
+              "an id whose attributes are asked for");
         check(fluent_find(&bundle, at, length, TEXT("")) == FLUENT_ID_NOT_UTF8, "an id that is looked for");
         check(fluent_find(&bundle, TEXT("a"), at, length) == FLUENT_ID_NOT_UTF8, "an attribute that is looked for");
         check(format(at, length, TEXT(""), TEXT("")) == FLUENT_ID_NOT_UTF8, "an id");

@@ -12,10 +12,13 @@ PROVED(fluent_add);
 PROVED(fluent_add_overriding);
 PROVED(fluent_report);
 PROVED(fluent_ids);
+PROVED(fluent_attributes);
 PROVED(fluent_has);
 PROVED(fluent_find);
 PROVED(fluent_format);
+PROVED(fluent_format_records);
 PROVED(fluent_format_chain);
+PROVED(fluent_find_chain);
 PROVED(fluent_close);
 
 /* What is pointed at where there are no bytes, and no bundles: it is neither read nor written. */
@@ -75,6 +78,11 @@ uint8_t fluent_ids(struct fluent_bundle *bundle, uint8_t *out, size_t out_room, 
     return rattle_fluent_ids(bundle, buffer(out, out_room), out_room, length);
 }
 
+uint8_t fluent_attributes(struct fluent_bundle *bundle, const uint8_t *id, size_t id_length, uint8_t *out,
+                          size_t out_room, size_t *length) {
+    return rattle_fluent_attributes(bundle, text(id, id_length), id_length, buffer(out, out_room), out_room, length);
+}
+
 uint8_t fluent_has(struct fluent_bundle *bundle, const uint8_t *id, size_t id_length) {
     return rattle_fluent_has(bundle, text(id, id_length), id_length);
 }
@@ -93,6 +101,15 @@ uint8_t fluent_format(struct fluent_bundle *bundle, const uint8_t *id, size_t id
                                 buffer(out, out_room), out_room, buffer(err, err_room), err_room, lengths);
 }
 
+uint8_t fluent_format_records(struct fluent_bundle *bundle, const uint8_t *id, size_t id_length,
+                              const uint8_t *attribute, size_t attribute_length, const uint8_t *arguments,
+                              size_t arguments_length, uint8_t *out, size_t out_room, uint8_t *err, size_t err_room,
+                              struct fluent_lengths *lengths) {
+    return rattle_fluent_format_records(bundle, text(id, id_length), id_length, text(attribute, attribute_length),
+                                        attribute_length, text(arguments, arguments_length), arguments_length,
+                                        buffer(out, out_room), out_room, buffer(err, err_room), err_room, lengths);
+}
+
 uint8_t fluent_format_chain(struct fluent_bundle *bundles, size_t count, const uint8_t *id, size_t id_length,
                             const uint8_t *attribute, size_t attribute_length, const uint8_t *arguments,
                             size_t arguments_length, uint8_t *out, size_t out_room, uint8_t *err, size_t err_room,
@@ -101,6 +118,16 @@ uint8_t fluent_format_chain(struct fluent_bundle *bundles, size_t count, const u
                                       text(attribute, attribute_length), attribute_length,
                                       text(arguments, arguments_length), arguments_length, buffer(out, out_room),
                                       out_room, buffer(err, err_room), err_room, lengths);
+}
+
+uint8_t fluent_find_chain(struct fluent_bundle *bundles, size_t count, const uint8_t *id, size_t id_length,
+                          const uint8_t *attribute, size_t attribute_length, size_t *index) {
+    return rattle_fluent_find_chain(bundles_at(bundles, count), count, text(id, id_length), id_length,
+                                    text(attribute, attribute_length), attribute_length, index);
+}
+
+const char *fluent_version(void) {
+    return FLUENT_VERSION;
 }
 
 void fluent_close(struct fluent_bundle *bundle) {

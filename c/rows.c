@@ -119,6 +119,20 @@ static void ask_absent(const struct record *row) {
         check(fluent_has(&bundles[i], lent(0, id), id.length) == FLUENT_NO_MESSAGE, "it is there");
 }
 
+/* The names of the attributes of a message, by the first of the bundles that has it. */
+static void ask_attributes(const struct record *row) {
+    struct text id = row->texts[1], names = row->texts[2];
+    size_t at = 0, length = 99;
+    while (at < links && fluent_has(&bundles[at], lent(0, id), id.length) == FLUENT_NO_MESSAGE)
+        at++;
+    check(at < links, "no message");
+    if (!is_right)
+        return;
+    uint8_t *out = fenced_room(fences[3], names.length);
+    uint8_t status = fluent_attributes(&bundles[at], lent(0, id), id.length, out, names.length, &length);
+    check(status == FLUENT_OK && length == names.length && holds(out, names), "other attributes");
+}
+
 /* Asks a row by the bundle alone, and by the chain. */
 static void ask_each_way(const struct record *row) {
     bool is_there = row->kind == 'f';
@@ -209,6 +223,7 @@ static void try_case(const struct record *r) {
     switch (r->kind) {
     case 't': add_and_report(r); break;
     case 'h': ask_absent(r); break;
+    case 'b': ask_attributes(r); break;
     default: ask_each_way(r);
     }
     end_case();
@@ -223,7 +238,7 @@ int main(int count, char **words) {
         fences[i] = new_fence(file.length);
     while (at < file.at + file.length) {
         struct record record = read_record(&at, file.at + file.length);
-        strchr("fmht", record.kind) ? try_case(&record) : make(&record);
+        strchr("fmhtb", record.kind) ? try_case(&record) : make(&record);
     }
     free((void *)file.at);
     if (links > 0 || taken != 0)

@@ -33,7 +33,7 @@ names_behind() {
 
 # The calls that a header declares.
 declared_names() {
-    sed -nE '/^static/d; s/^[a-z].* (fluent_[a-z_]+)\(.*/\1/p' "$1" | sort -u
+    sed -nE '/^static/d; s/^[a-z].*[ *](fluent_[a-z_]+)\(.*/\1/p' "$1" | sort -u
 }
 
 # The names that a library shows to others.

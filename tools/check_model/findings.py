@@ -10,7 +10,7 @@ COUNTS = re.compile(r"([0-9]+) errors?, ([0-9]+) warnings?")
 MARK = "\ufeff"
 IN = r".* \(in '([^']+)'\)"
 TEXTS = [(kind, re.compile(text)) for kind, text in (
-    ("unreadable", r"this can't be read, to the end of line ([0-9]+)(?:\b.*)?"),
+    ("unreadable", r"(.+); what begins in line ([0-9]+) can't be read"),
     ("taken", r"the id of '([^']+)' is taken by (.+):([0-9]+):([0-9]+)"),
     ("function id", r"the id of '([^']+)' is that of a function.*"),
     ("repeated", r"'([^']+)' stands there twice.*"),
@@ -22,9 +22,12 @@ TEXTS = [(kind, re.compile(text)) for kind, text in (
     ("itself", r"'([^']+)' refers to itself.*"),
     ("cycle", r"'([^']+)' refers to '([^']+)', which leads back to it.*"),
     ("large", r"'([^']+)' can open ([0-9]+) placeables.*"),
+    ("maybe large", r"'([^']+)' may open ([0-9]+) placeables.*"),
     ("leads to", r"'([^']+)' refers to '([^']+)', where something is wrong.*"))]
 MISSING = {"no message", "no attribute", "no value", "no term", "no function"}
 TRIES = 24
+# How many keys of a place's selects are tried one by one.
+KEYS = 32
 
 
 class Finding:
@@ -150,6 +153,10 @@ class Model:
             return (f"no {kind}", name)
         return ("no attribute", name_of(kind, name, attribute))
 
+    def can_never_be_added(self, one):
+        """Whether it tells of a function whose id a message or a term has."""
+        return one.kind == "no function" and any(self.bundle.entry(kind, one.parts[0]) for kind in ("message", "term"))
+
     def missing(self, place):
         return {lack for need, _ in place.needs if (lack := self.lacks(*need))}
 
@@ -229,6 +236,36 @@ def value_of_key(key):
     return ("text", key[1]) if key[0] == "name" else meaning.value_of(key[1])
 
 
+def choices_of(pattern):
+    """Each select of a pattern that is on a variable, with each of its keys: (VARIABLE, KEY)."""
+    for element in pattern:
+        if element[0] == "place":
+            yield from choices_in(element[1])
+
+
+def choices_in(expression):
+    kind = expression[0]
+    if kind == "select":
+        selector, variants = expression[1:3]
+        yield from choices_in(selector)
+        if selector[0] == "variable":
+            yield from ((selector[1], key) for key, _, _ in variants)
+        for _, pattern, _ in variants:
+            yield from choices_of(pattern)
+    elif kind == "nested":
+        yield from choices_in(expression[1])
+    elif kind in ("function", "term") and (given := expression[{"function": 2, "term": 3}[kind]]):
+        for one in given[0] + tuple(value for _, value in given[1]):
+            yield from choices_in(one)
+
+
+def tried_of(pattern):
+    """The arguments with which a pattern is tried: none, then one variable each with the value of a key, for the first KEYS."""
+    yield {}
+    for variable, key in itertools.islice(choices_of(pattern), KEYS):
+        yield {variable: value_of_key(key)}
+
+
 def deciding(conditions):
     """Arguments that lead to a part that stands in these variants; None where that is not for arguments to say, or can't be."""
     given = {}
@@ -267,22 +304,21 @@ class Comparison:
         return self.faults
 
     def unreadable(self):
-        """Each Junk is told once, and nothing else is."""
+        """Each Junk is told once, by the line where it begins and at a place behind that, and nothing else is."""
         left = self.of("unreadable")
         for file, entries in self.model.entries.items():
             text = self.model.texts[file]
+            lines = text.split("\n")
             for junk in (one for one in entries if one.kind == "junk"):
-                part = text[junk.start:junk.end]
-                first, last = (syntax.line_of(text, at) for at in (junk.start, junk.end - part.endswith("\n")))
-                ends = {syntax.line_of(text, junk.start + max(len(part.rstrip(blanks)) - 1, 0)) for blanks in (" \r\n", None)}
-                told = [one for one in left if one.file == file and first <= one.line <= last]
+                first = syntax.line_of(text, junk.start)
+                told = [one for one in left if one.file == file and int(one.parts[1]) == first]
                 if len(told) != 1:
-                    self.fault(f"what can't be read in lines {first} to {last} of {file} is told {len(told)} times")
+                    self.fault(f"what can't be read in line {first} of {file} is told {len(told)} times")
                 for one in told:
                     left.remove(one)
-                    width = len(text.split("\n")[one.line - 1]) + 1
-                    if int(one.parts[0]) not in ends or one.weight != "error" or not 1 <= one.column <= width:
-                        self.fault(f"what can't be read from {first} to {sorted(ends)} is told wrongly: {one}")
+                    is_there = first <= one.line <= len(lines) and 1 <= one.column <= len(lines[one.line - 1]) + 1
+                    if one.weight != "error" or not is_there:
+                        self.fault(f"what can't be read in line {first} is told wrongly: {one}")
         for one in left:
             self.fault(f"this can be read: {one}")
 
@@ -321,7 +357,7 @@ class Comparison:
 
     def names(self):
         """Each finding of a pattern names one that is there."""
-        for one in self.of(*MISSING, "itself", "cycle", "large", "leads to"):
+        for one in self.of(*MISSING, "itself", "cycle", "large", "maybe large", "leads to"):
             if one.place not in self.model.places:
                 self.fault(f"there is no such value or attribute: {one}")
                 self.findings.remove(one)
@@ -391,9 +427,9 @@ class Comparison:
         return bad, bad | {name for name in self.model.places if bad & self.model.reached(name)}
 
     def large(self):
-        """Where nothing else is wrong, too many placeables are told, and their count."""
+        """Where nothing else is wrong, too many placeables are told, and their count: an error exactly where it is shown."""
         _, unclean = self.unclean()
-        known, told = {}, {one.place: one for one in self.of("large")}
+        known, told = {}, {one.place: one for one in self.of("large", "maybe large")}
         for name, place in self.model.places.items():
             if name in unclean:
                 continue
@@ -405,8 +441,14 @@ class Comparison:
                 self.stands_at(one, place, place.references)
                 if int(one.parts[1]) != count:
                     self.fault(f"'{name}' opens {count} placeables at most: {one}")
-                is_plain = all(not conditions for other in {name} | self.model.reached(name) for _, conditions in self.model.places[other].needs)
-                self.shown_by_any(one, place, {meaning.TOO_MANY}, is_plain)
+                self.weighs(one, place)
+
+    def weighs(self, one, place):
+        """It is an error where some of the arguments that are tried show it, and else a warning."""
+        is_shown = any(meaning.TOO_MANY in self.model.errors(place, arguments) for arguments in tried_of(place.pattern))
+        self.shown += is_shown
+        if (one.kind, one.weight) != (("large", "error") if is_shown else ("maybe large", "warning")):
+            self.fault(f"{'some' if is_shown else 'none'} of the arguments that are tried show it: {one}")
 
     def leads(self):
         _, unclean = self.unclean()
@@ -416,7 +458,7 @@ class Comparison:
 
     def clean(self):
         """What isn't told, and leads to nothing that is, shows no error; what is wrong is told, or leads to what is."""
-        named = {one.place for one in self.of(*MISSING, "itself", "cycle", "large", "leads to")}
+        named = {one.place for one in self.of(*MISSING, "itself", "cycle", "large", "maybe large", "leads to")}
         _, unclean = self.unclean()
         for name, place in self.model.places.items():
             if named & ({name} | self.model.reached(name)):
@@ -438,16 +480,28 @@ def text_of(content):
         return None
 
 
+def said_of(name, content):
+    """The line that says of a file that it is not UTF-8, with the line and the index of the first byte that is none."""
+    try:
+        content.decode()
+    except UnicodeDecodeError as error:
+        line = content.count(b"\n", 0, error.start) + 1
+        return [f"fluent: {name}:{line}: not UTF-8 at byte {error.start}"]
+    return []
+
+
 def compare(files, status, output, errors, has_strict, seed):
     """What is wrong with a run of `check` on these files, and how many errors were shown by arguments, and not shown."""
-    texts = {name: text_of(content) for name, content in files}
-    if None in texts.values():
-        first = next(name for name, text in texts.items() if text is None)
-        is_right = status == 3 and output == "" and f"{first}: not UTF-8" in errors
-        return [] if is_right else [f"{first} is no UTF-8: status {status}, {errors!r}"], 0, 0
-    findings, faults = findings_in(output)
-    told = [one for one in findings if one.weight == "error" or not has_strict]
-    if status != (1 if told else 0):
+    texts = {name: text for name, content in files if (text := text_of(content)) is not None}
+    said = [line for name, content in files for line in said_of(name, content)]
+    faults = [] if [line for line in errors.splitlines() if "not UTF-8" in line] == said else [f"of what is no UTF-8 is said {errors!r}, not {said}"]
+    if not texts:
+        return faults + ([] if (status, output) == (3, "") else [f"status {status} and {output!r}, where no file is read"]), 0, 0
+    findings, more = findings_in(output)
+    model = Model(texts)
+    # What may open too many placeables has no status 0 either, nor has a call of a function that can't be added: its id is taken.
+    told = [one for one in findings if one.weight == "error" or one.kind == "maybe large" or model.can_never_be_added(one) or not has_strict]
+    if status != (3 if said else 1 if told else 0):
         faults.append(f"status {status} beside {len(findings)} findings")
-    comparison = Comparison(Model(texts), [one for one in findings if one.kind], random.Random(seed))
-    return faults + comparison.compare(), comparison.shown, comparison.unshown
+    comparison = Comparison(model, [one for one in findings if one.kind], random.Random(seed))
+    return faults + more + comparison.compare(), comparison.shown, comparison.unshown

@@ -181,7 +181,8 @@ def large(rng):
         inside = "".join(f"{{ {rng.choice(names)} }}" for _ in range(rng.randrange(1, 9)))
         if rng.randrange(3) == 0:
             other = "".join(f"{{ {rng.choice(names)} }}" for _ in range(rng.randrange(1, 6)))
-            inside = f"{{ $n ->\n    [one] {inside}\n   *[other] {other}\n}}"
+            pairs = [(inside, other), (other, inside)][:rng.randrange(1, 3)]
+            inside = "".join(f"{{ $n ->\n    [one] {one}\n   *[other] {two}\n}}" for one, two in pairs)
         lines.append(f"{name} = {inside}\n")
         names.append(name)
     return "".join(lines)

@@ -5,12 +5,21 @@ from decimal import Decimal
 from typing import Iterable, List, Mapping, Optional, Tuple, Union
 
 from ._calls import Calls, fault
+from ._errors import FluentFormatError, errors_of
 from ._library import Status, load
-from ._texts import lent
+from ._messages import FluentResource, Message, Pattern
+from ._texts import arguments, lent, whole_floats
 
 Args = Mapping[str, Union[str, int, float, Decimal]]
 Languages = Union[str, Iterable[str]]
 Library = Union[str, "os.PathLike[str]", None]
+
+
+def _switch(use_isolating):
+    """Whether placeables are isolated. What is no bool, as functions in second place, is a mistake."""
+    if not isinstance(use_isolating, bool):
+        raise TypeError(f"use_isolating is a bool, not {type(use_isolating).__name__}")
+    return use_isolating
 
 
 def _no_value(message_id):
@@ -97,7 +106,7 @@ class FluentBundle(Formats):
         "one: n = 1; other:". Without rules, each number is `other`. ValueError: they can't be read."""
         made = cls._at(Calls(load(library), 1), 0)
         rules = *lent(cardinal, "a text of rules"), *lent(ordinal, "a text of rules")
-        made._calls.make("fluent_open_rules", 0, *rules, bool(use_isolating))
+        made._calls.make("fluent_open_rules", 0, *rules, _switch(use_isolating))
         made._limit(placeable_limit)
         return made
 
@@ -111,7 +120,7 @@ class FluentBundle(Formats):
     def _open(self, tags, use_isolating):
         for tag in tags:
             sent = lent(tag, "a language")
-            status = self._calls.status("fluent_open", self._index, *sent, bool(use_isolating))
+            status = self._calls.status("fluent_open", self._index, *sent, _switch(use_isolating))
             if status == Status.OK:
                 return
             if status != Status.NO_LANGUAGE:
@@ -126,11 +135,11 @@ class FluentBundle(Formats):
             raise fault(Status.OUT_OF_RANGE, None)
         self._calls.make("fluent_set_limit", self._index, limit)
 
-    def add_resource(self, source: str, allow_overrides: bool = False) -> List[str]:
+    def add_resource(self, source: Union[str, FluentResource], allow_overrides: bool = False) -> List[str]:
         """Adds the messages and terms of an FTL source. What can't be read in it is passed over, and so is an entry whose
         id is there: a line tells of each, with the number of its line in the source before it. With allow_overrides entries
         take the place of what has their ids."""
-        sent = lent(source, "a source")
+        sent = lent(source.text if isinstance(source, FluentResource) else source, "a source")
         with self._calls.lock:
             self._calls.make("fluent_add_overriding" if allow_overrides else "fluent_add", self._index, *sent)
             return self._calls.lines("fluent_report", self._index)
@@ -157,6 +166,30 @@ class FluentBundle(Formats):
         """Whether there is a message of the id that has an attribute of the name."""
         words = *lent(message_id, "an id"), *lent(name, "the name of an attribute")
         return name != "" and self._is_there("fluent_find", *words)
+
+    def attributes(self, message_id: str) -> List[str]:
+        """The names of a message's attributes, in the order of the source. LookupError: there is no such message."""
+        missing = f"no message {message_id!r}"
+        return self._calls.lines("fluent_attributes", self._index, *lent(message_id, "an id"), missing=missing)
+
+    def get_message(self, message_id: str) -> Message:
+        """A message, whose value and attributes format_pattern takes. LookupError: there is none of the id.
+
+        Of two attributes with one name the first is meant.
+        """
+        attributes = {name: Pattern(message_id, name) for name in self.attributes(message_id)}
+        return Message(message_id, Pattern(message_id) if self.has_value(message_id) else None, attributes)
+
+    def format_pattern(
+        self, pattern: Pattern, args: Optional[Args] = None
+    ) -> Tuple[str, List[FluentFormatError]]:
+        """The text of what get_message gave, and the errors in it, as fluent.runtime gives them; a float without a fraction
+        is shown without a point. Else as format_value."""
+        message_id, attribute = pattern
+        missing = _no_attribute(message_id, attribute) if attribute else _no_value(message_id)
+        sent = arguments(whole_floats(args))
+        text, records = self._calls.texts("fluent_format_records", self._index, (), message_id, attribute, sent, missing)
+        return text, errors_of(records)
 
     def _format(self, message_id, attribute, args, missing):
         return self._calls.format("fluent_format", self._index, (), message_id, attribute, args, missing)

@@ -52,29 +52,40 @@ class Calls:
         if status != Status.OK:
             raise fault(status, missing)
 
-    def lines(self, name, index):
+    def lines(self, name, index, *words, missing=None):
         """The lines that a call writes."""
         room, length = ROOM, ctypes.c_size_t()
         while True:
             text = (ctypes.c_char * room)()
-            status = self.status(name, index, text, room, length)
+            status = self.status(name, index, *words, text, room, length)
             if status == Status.OK:
                 return text[: length.value].decode("utf-8").split("\n")[:-1]
             if status != Status.TOO_SMALL:
-                raise fault(status, None)
+                raise fault(status, missing)
             room = length.value
+
+    def place(self, message_id, attribute, missing):
+        """The index of the handle that has a message."""
+        index = ctypes.c_size_t()
+        words = *lent(message_id, "an id"), *lent(attribute, "the name of an attribute")
+        self.make("fluent_find_chain", 0, len(self.handles), *words, index, missing=missing)
+        return index.value
 
     def format(self, name, index, before, message_id, attribute, args, missing):
         """The text of a message and the lines of its errors. `before` is what the call takes before the id."""
-        sent, lengths = arguments(args), Lengths()
+        text, lines = self.texts(name, index, before, message_id, attribute, arguments(args), missing)
+        return text, lines.decode("utf-8").split("\n")[:-1]
+
+    def texts(self, name, index, before, message_id, attribute, sent, missing):
+        """The text of a message, and the bytes that tell of its errors, with arguments as they are sent."""
+        lengths = Lengths()
         words = *lent(message_id, "an id"), *lent(attribute, "the name of an attribute"), sent, len(sent)
         text_room = errors_room = ROOM
         while True:
             text, errors = (ctypes.c_char * text_room)(), (ctypes.c_char * errors_room)()
             status = self.status(name, index, *before, *words, text, text_room, errors, errors_room, lengths)
             if status == Status.OK:
-                lines = errors[: lengths.errors].decode("utf-8").split("\n")[:-1]
-                return text[: lengths.text].decode("utf-8"), lines
+                return text[: lengths.text].decode("utf-8"), errors[: lengths.errors]
             if status != Status.TOO_SMALL:
                 raise fault(status, missing)
             text_room, errors_room = max(text_room, lengths.text), max(errors_room, lengths.errors)

@@ -1,7 +1,7 @@
 """A chain: bundles of several languages, of which the first that has a message answers."""
 from typing import Iterable, Optional, Tuple
 
-from ._bundle import FluentBundle, Formats, Languages, Library
+from ._bundle import FluentBundle, Formats, Languages, Library, _no_attribute, _no_value
 from ._calls import Calls
 from ._library import load
 
@@ -38,6 +38,11 @@ class FluentChain(Formats):
     def _format(self, message_id, attribute, args, missing):
         count = len(self.bundles)
         return self._calls.format("fluent_format_chain", 0, (count,), message_id, attribute, args, missing)
+
+    def bundle_of(self, message_id: str, attribute: str = "") -> FluentBundle:
+        """The bundle that answers for a message's value, or its attribute. LookupError: none has it."""
+        missing = _no_attribute(message_id, attribute) if attribute else _no_value(message_id)
+        return self.bundles[self._calls.place(message_id, attribute, missing)]
 
     def has_message(self, message_id: str) -> bool:
         """Whether one of the bundles has a message of the id, also one without a value."""

@@ -5,6 +5,10 @@ import functools
 import os
 
 
+# The version of the package, which the library has too.
+VERSION = "0.1.0"
+
+
 class Status(enum.IntEnum):
     """What a call answers."""
 
@@ -42,6 +46,7 @@ _ROOM = [ctypes.c_void_p, ctypes.c_size_t]
 _LENGTH = ctypes.POINTER(ctypes.c_size_t)
 _FORMAT = [*_TEXT, *_TEXT, *_TEXT, *_ROOM, *_ROOM, ctypes.POINTER(Lengths)]
 
+
 # What each call takes. All but fluent_close answer a status.
 SIGNATURES = {
     "fluent_open": [_BUNDLE, *_TEXT, ctypes.c_bool],
@@ -51,10 +56,13 @@ SIGNATURES = {
     "fluent_add_overriding": [_BUNDLE, *_TEXT],
     "fluent_report": [_BUNDLE, *_ROOM, _LENGTH],
     "fluent_ids": [_BUNDLE, *_ROOM, _LENGTH],
+    "fluent_attributes": [_BUNDLE, *_TEXT, *_ROOM, _LENGTH],
     "fluent_has": [_BUNDLE, *_TEXT],
     "fluent_find": [_BUNDLE, *_TEXT, *_TEXT],
     "fluent_format": [_BUNDLE, *_FORMAT],
+    "fluent_format_records": [_BUNDLE, *_FORMAT],
     "fluent_format_chain": [_BUNDLE, ctypes.c_size_t, *_FORMAT],
+    "fluent_find_chain": [_BUNDLE, ctypes.c_size_t, *_TEXT, *_TEXT, _LENGTH],
     "fluent_close": [_BUNDLE],
 }
 
@@ -72,9 +80,21 @@ def path_of(given=None):
     raise OSError(f"no libfluent.so: name it by FLUENT_LIBRARY, or put it at {places[0]}")
 
 
+def _version_of(library):
+    """The version of a library; one that has no call for it is older than all that have."""
+    call = getattr(library, "fluent_version", None)
+    if call is None:
+        return "an earlier one"
+    call.restype, call.argtypes = ctypes.c_char_p, []
+    return call().decode("utf-8")
+
+
 @functools.lru_cache(maxsize=None)
 def _loaded(path):
     library = ctypes.CDLL(path)
+    version = _version_of(library)
+    if version != VERSION:
+        raise OSError(f"{path} has version {version}, and fluent_rattle {VERSION}")
     for name, arguments in SIGNATURES.items():
         function = getattr(library, name)
         function.restype = None if name == "fluent_close" else ctypes.c_uint8

@@ -55,3 +55,13 @@ def arguments(values):
         kind, text = _value(value, f"the argument {name!r}")
         parts += kind, _sized(utf8(name, "the name of an argument")), _sized(text)
     return b"".join(parts)
+
+
+def _whole(value):
+    """A float without a fraction as an int, where it has all its digits."""
+    return int(value) if isinstance(value, float) and value.is_integer() and abs(value) < 2**53 else value
+
+
+def whole_floats(values):
+    """The same arguments with ints for floats without a fraction, which are shown without a point then."""
+    return {name: _whole(value) for name, value in (values or {}).items()}

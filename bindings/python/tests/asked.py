@@ -8,7 +8,7 @@ DATA = TOP / "crates/test_fixtures/data"
 NUMBER = re.compile(r"[+-]?(?:[0-9]+(?:\.[0-9]*)?|\.[0-9]+)")
 
 # How many rows are asked at least, and how many reports: with fewer, some would be passed over that were asked before.
-LEAST = {"rows from Python": 581, "rows from C": 582, "reports": 174}
+LEAST = {"rows from Python": 598, "rows from C": 599, "reports": 174}
 
 OBJECTS = {
     "function": "the message may call a function",
@@ -17,7 +17,7 @@ OBJECTS = {
     "transform": "a bundle has a transform",
     "builtins": "the bundle has no built-in function",
 }
-SIGNS = {"#<": "the writer fails", "#attributes": "attributes are listed"}
+SIGNS = {"#<": "the writer fails"}
 
 
 def fixtures():

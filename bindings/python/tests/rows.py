@@ -53,6 +53,8 @@ def asked(file, row):
     where, name = f"{file}:{row.line}", row.attribute or ""
     if row.sign == "#absent":
         return record(b"h", where, row.id)
+    if row.sign == "#attributes":
+        return record(b"b", where, row.id, lines(row.text.split()))
     if row.sign == "#none":
         return record(b"m", where, row.id, name, b"")
     arguments = b"".join(argument(*pair) for pair in row.arguments)

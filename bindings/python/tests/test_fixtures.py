@@ -43,6 +43,8 @@ def answer(bundle, row):
     """What the package answers, in the form of what the row wants."""
     if row.sign == "#absent":
         return bundle.has_message(row.id)
+    if row.sign == "#attributes":
+        return next(each for each in getattr(bundle, "bundles", [bundle]) if each.has_message(row.id)).attributes(row.id)
     args = {name: value(word) for name, word in row.arguments}
     try:
         if row.attribute is None:
@@ -53,6 +55,8 @@ def answer(bundle, row):
 
 
 def wanted(row):
+    if row.sign == "#attributes":
+        return row.text.split()
     return {"#absent": False, "#none": None}.get(row.sign, (row.text, row.errors))
 
 

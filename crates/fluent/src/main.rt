@@ -1,13 +1,16 @@
 //! A program for people who translate: it checks, shows and lists the messages of FTL files.
 #![tactic(auto)]
 
-use fluent_cli::answer::{Answer, Status};
+mod files;
+
+use files::{Content, Contents, read_files, read_pairs};
+use fluent_cli::answer::{Answer, Status, request_of};
 use fluent_cli::run::{File, run};
-use fluent_cli::words::{Asked, Request, ask};
+use fluent_cli_words::{Request, ask};
 use std::alloc::AllocError;
 use std::io::ErrorKind;
 use std::process::ExitCode;
-use std::{env, fs, io};
+use std::{env, io};
 
 /// The words after the program's name.
 fn words(rt: &HostRuntime) -> io::Result<Vec<String>> {
@@ -18,48 +21,72 @@ fn words(rt: &HostRuntime) -> io::Result<Vec<String>> {
     Ok(words)
 }
 
-/// The contents of files, or else what is said of the first that can't be read.
-fn read_files(
+/// The folder of translations and that of references, where files go in pairs.
+fn folders<'w>(request: &Request<'w>) -> Option<(&'w str, &'w str)> {
+    let Request::Check(check) = request else {
+        return None;
+    };
+    let translation = check.translation?;
+    let reference = check.references.as_slice().first()?;
+    Some((translation, *reference))
+}
+
+/// Reads the files of a request, and those that they were translated from. `beside` are those that are loaded with each.
+fn read(
     rt: &HostRuntime,
-    names: &[&str],
-) -> Result<Result<Vec<Vec<u8>>, Answer>, AllocError> {
-    let mut contents = Vec::new(rt.alloc());
-    for name in names {
-        match fs::read(rt, *name) {
-            Ok(bytes) => contents.push(bytes)?,
-            Err(error) => {
-                if error.kind() == ErrorKind::OutOfMemory {
-                    return Err(AllocError);
-                }
-                return Ok(Err(Answer::unreadable(rt.alloc(), *name, &error)?));
-            }
-        }
+    request: &Request<'_>,
+    beside: &[Content],
+) -> Result<Contents, AllocError> {
+    match folders(request) {
+        Some((translation, reference)) => read_pairs(rt, translation, reference, beside),
+        None => Ok(Contents {
+            files: read_files(rt, request.file_names(), beside)?,
+            references: read_files(rt, request.reference_names(), &[])?,
+        }),
     }
-    Ok(Ok(contents))
+}
+
+/// What a file has, or why it can't be read.
+fn contents_of(content: &Content) -> Result<&[u8], &str> {
+    match &content.contents {
+        Ok(bytes) => Ok(bytes.as_slice()),
+        Err(why) => Err(why.as_str()),
+    }
+}
+
+/// The same, as `run` takes them.
+fn lent<'c>(rt: &HostRuntime, contents: &'c [Content]) -> Result<Vec<File<'c>>, AllocError> {
+    let mut files = Vec::new(rt.alloc());
+    for content in contents {
+        files.push(File {
+            name: content.name.as_str(),
+            contents: contents_of(content),
+        })?;
+    }
+    Ok(files)
 }
 
 /// What a request gives, when its files are read.
 fn answer_request(rt: &HostRuntime, request: &Request<'_>) -> Result<Answer, AllocError> {
-    let names = request.file_names(rt.alloc())?;
-    let contents = match read_files(rt, names.as_slice())? {
-        Ok(contents) => contents,
-        Err(answer) => return Ok(answer),
-    };
-    let mut files = Vec::new(rt.alloc());
-    for (name, bytes) in names.iter().zip(contents.iter()) {
-        files.push(File {
-            name: *name,
-            bytes: bytes.as_slice(),
-        })?;
-    }
-    run(rt.alloc(), request, files.as_slice())
+    let beside = read_files(rt, request.beside_names(), &[])?;
+    let contents = read(rt, request, beside.as_slice())?;
+    let beside = lent(rt, beside.as_slice())?;
+    let files = lent(rt, contents.files.as_slice())?;
+    let references = lent(rt, contents.references.as_slice())?;
+    run(
+        rt.alloc(),
+        request,
+        beside.as_slice(),
+        files.as_slice(),
+        references.as_slice(),
+    )
 }
 
 /// What these words give.
 fn answer(rt: &HostRuntime, words: &[String]) -> Result<Answer, AllocError> {
-    match ask(rt.alloc(), words)? {
-        Asked::Request(request) => answer_request(rt, &request),
-        Asked::Answer(answer) => Ok(answer),
+    match request_of(rt.alloc(), ask(rt.alloc(), words)?) {
+        Ok(request) => answer_request(rt, &request),
+        Err(answer) => Ok(answer),
     }
 }
 

@@ -2,8 +2,8 @@
 #![tactic(auto)]
 
 ghost use Rattle.fluent_c_handles.specs.Calls.Adding.{AddsOverriding, AddsSource, TellsReport};
-ghost use Rattle.fluent_c_handles.specs.Calls.Finding.{HasMessage, HasPattern, ListsIds};
-ghost use Rattle.fluent_c_handles.specs.Calls.Formatting.{Formats, FormatsFirst, FormatsSource};
+ghost use Rattle.fluent_c_handles.specs.Calls.Finding.{HasMessage, HasPattern, ListsAttributes, ListsIds};
+ghost use Rattle.fluent_c_handles.specs.Calls.Formatting.{FindsFirst, Formats, FormatsFirst, FormatsRecords, FormatsSource};
 ghost use Rattle.fluent_c_handles.specs.Calls.Opening.{OpensByRules, OpensByTag, SetsLimit};
 ghost use Rattle.fluent_c_handles.specs.Answers.{SlotDoes, SlotGivesText, SlotGivesTexts, SlotIsClosed, SlotsStay, WhenOpen};
 
@@ -17,9 +17,9 @@ use std::alloc::Global;
 /// 0: `out` begins with the text, `err` with a line for each of its errors, and `sizes` has both lengths. 1: so too, but a
 /// buffer that is too small for its text is as it was. From 2 on both buffers are as they were, both lengths are 0, and the
 /// number's cause holds. 2: an allocation failed. 3: the source is not UTF-8, which is told before all else. 4: the tag is
-/// not UTF-8. 5: the CLDR has no rules for it. 6: its rules can't be read. 7: the id or the name is not UTF-8. 9: the
-/// arguments are cut short, or one begins with no kind of value. 10: the name or the value of one is not UTF-8. 8: there is no
-/// such message with a value, or with the attribute.
+/// not UTF-8. 5: the CLDR has no rules for it. 6: its rules can't be read. 7: the id or the name is not UTF-8. 8: there is no
+/// such message with a value, or with the attribute, which is told before the arguments are read. 9: these are cut short, or one
+/// begins with no kind of value. 10: the name or the value of one is not UTF-8.
 #[unsafe(no_mangle)]
 pub extern "C" fn fluent_format_source(
     alloc: Global,
@@ -133,6 +133,24 @@ pub extern "C" fn fluent_ids(
     slot.ids(alloc, out, length)
 }
 
+/// Gives the names of the attributes of a message, in the order of the source, with a line feed after each. The bundle stays as
+/// it was.
+///
+/// The status, `out` and `length` are as those of `fluent_report`, and beside them: 7, the id is not UTF-8; 8, there is no such
+/// message.
+#[unsafe(no_mangle)]
+pub extern "C" fn fluent_attributes(
+    alloc: Global,
+    slot: &mut Slot,
+    id: &[u8],
+    out: &mut [u8],
+    length: &mut usize,
+) -> u8
+    ensures { SlotGivesText (WhenOpen (ListsAttributes id.now)) slot out length result }
+{
+    slot.attributes(alloc, id, out, length)
+}
+
 /// Says whether there is a message of an id. The bundle stays as it was.
 ///
 /// 0: there is. 8: there is none. 7: the id is not UTF-8. 11: no bundle is open.
@@ -158,9 +176,9 @@ pub extern "C" fn fluent_find(alloc: Global, slot: &mut Slot, id: &[u8], name: &
 ///
 /// 0: `out` begins with the text, `err` with a line for each of its errors, and `sizes` has both lengths. 1: so too, but a
 /// buffer that is too small for its text is as it was. From 2 on both buffers are as they were, both lengths are 0, and the
-/// number's cause holds. 2: an allocation failed. 7: the id or the name is not UTF-8. 9: the arguments are cut short, or one
-/// begins with no kind of value. 10: the name or the value of one is not UTF-8. 8: there is no such message with a value, or
-/// with the attribute. 11: no bundle is open.
+/// number's cause holds. 2: an allocation failed. 7: the id or the name is not UTF-8. 8: there is no such message with a value, or
+/// with the attribute, which is told before the arguments are read. 9: these are cut short, or one begins with no kind of value.
+/// 10: the name or the value of one is not UTF-8. 11: no bundle is open.
 #[unsafe(no_mangle)]
 pub extern "C" fn fluent_format(
     alloc: Global,
@@ -175,6 +193,24 @@ pub extern "C" fn fluent_format(
     ensures { SlotGivesTexts (WhenOpen (Formats id.now name.now args.now)) slot out err sizes result }
 {
     slot.format(alloc, id, name, args, out, err, sizes)
+}
+
+/// Formats as `fluent_format` does, with a record for each error in place of a line: the letter of its kind, an id and the name of
+/// an attribute, each of which may be empty and is followed by a zero byte.
+#[unsafe(no_mangle)]
+pub extern "C" fn fluent_format_records(
+    alloc: Global,
+    slot: &mut Slot,
+    id: &[u8],
+    name: &[u8],
+    args: &[u8],
+    out: &mut [u8],
+    err: &mut [u8],
+    sizes: &mut Lengths,
+) -> u8
+    ensures { SlotGivesTexts (WhenOpen (FormatsRecords id.now name.now args.now)) slot out err sizes result }
+{
+    slot.format_records(alloc, id, name, args, out, err, sizes)
 }
 
 /// Formats a message by the first of some bundles that has the value, or the attribute of the name where that isn't empty, or
@@ -197,6 +233,24 @@ pub extern "C" fn fluent_format_chain(
     ensures text { FormatsFirst id.now name.now args.now slots out err sizes result }
 {
     fluent_c_handles::format_first(alloc, slots, id, name, args, out, err, sizes)
+}
+
+/// Says which of some bundles `fluent_format_chain` asks: the first that has the value, or the attribute of the name where that
+/// isn't empty (0), or that isn't open (11); `index` is its place. All bundles stay as they were.
+///
+/// Where the id or the name is not UTF-8 (7), or all bundles are open and none has it (8), `index` is how many there are.
+#[unsafe(no_mangle)]
+pub extern "C" fn fluent_find_chain(
+    alloc: Global,
+    slots: &mut [Slot],
+    id: &[u8],
+    name: &[u8],
+    index: &mut usize,
+) -> u8
+    ensures left { SlotsStay slots.old slots.new }
+    ensures first { FindsFirst id.now name.now slots index result }
+{
+    fluent_c_handles::find_first(alloc, slots, id, name, index)
 }
 
 /// Closes a bundle: none is open then.

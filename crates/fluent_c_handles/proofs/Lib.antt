@@ -2,8 +2,11 @@ mod Stands
 mod Written
 mod Gathered
 mod Inserted
+mod InOrder
+mod NoArguments
 mod Line
 mod Ordered
+mod RecordRows
 mod ToldRows
 pub mod Counting
 pub mod Going

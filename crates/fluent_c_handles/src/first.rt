@@ -1,13 +1,19 @@
 //! The first of several kept bundles that has a message.
 ghost use Rattle.std.specs.Prelude.{◌≡◌};
 ghost use Rattle.std.specs.List.{position};
-ghost use Rattle.fluent_c_handles.specs.Calls.Formatting.{FormatsFirst, answers};
+ghost use Rattle.fluent_c_handles.specs.Calls.Formatting.{FindsFirst, FormatsFirst, answers};
 ghost use Rattle.fluent_c_handles.specs.Answers.{SlotsStay, all_kept};
 
 use crate::slot::Slot;
 use crate::texts::Lengths;
 use std::alloc::Global;
 use std::str;
+
+/// The status where there is such a message.
+const FOUND: u8 = 0;
+
+/// The status where no bundle is open.
+const CLOSED: u8 = 11;
 
 /// The status where the id, or the name of the attribute, is not UTF-8.
 const NOT_TEXT: u8 = 7;
@@ -40,6 +46,32 @@ pub fn format_first(
     match first_to_answer(alloc, slots, message, attribute) {
         Some(index) => slots[index].format(alloc, id, name, args, out, err, sizes),
         None => refuse(sizes, NO_MESSAGE),
+    }
+}
+
+/// Says which of several bundles answers [`format_first`]: the index of the first that has the value, or the attribute of a name
+/// that is not empty (0), or that is not open (11). Else the index is how many there are: 7, the id or the name is not UTF-8; 8,
+/// none has it. All bundles stay as they are. No memory is taken.
+pub fn find_first(
+    alloc: Global,
+    slots: &mut [Slot],
+    id: &[u8],
+    name: &[u8],
+    index: &mut usize,
+) -> u8
+    ensures left { SlotsStay slots.old slots.new }
+    ensures first { FindsFirst id.now name.now slots index result }
+{
+    *index = slots.len();
+    let (Ok(id), Ok(name)) = (str::from_utf8(id), str::from_utf8(name)) else {
+        return NOT_TEXT;
+    };
+    match first_to_answer(alloc, slots, id, name) {
+        Some(at) => {
+            *index = at;
+            if slots[at].is_open { FOUND } else { CLOSED }
+        }
+        None => NO_MESSAGE,
     }
 }
 

@@ -4,6 +4,7 @@
 
 mod adding;
 mod answer;
+mod attributes;
 mod buffers;
 mod calls;
 mod closing;
@@ -17,6 +18,7 @@ mod lines;
 mod lookup;
 mod message_ids;
 mod opening;
+mod records;
 mod shelves;
 mod slot;
 mod sources;
@@ -25,7 +27,7 @@ mod telling;
 mod texts;
 mod turns;
 
-pub use first::format_first;
+pub use first::{find_first, format_first};
 pub use handle::Handle;
 pub use slot::Slot;
 pub use sources::format_source;

@@ -1,5 +1,5 @@
 //! Whether a bundle has a message, and the values of arguments.
-ghost use Rattle.std.specs.Prelude.{◌≡◌, [], is_some, map, IfOk};
+ghost use Rattle.std.specs.Prelude.{◌≡◌, [], is_some, map, IfOk, OnOk};
 ghost use Rattle.fluent_values.specs.View.{value_view};
 ghost use Rattle.fluent_c_handles.specs.Calls.Formatting.{argument_value, argument_values};
 ghost use Rattle.fluent_c_handles.specs.Answers.{bundle_view, found_at};
@@ -10,6 +10,9 @@ use crate::opening::Plain;
 use fluent_bundle::{FluentArgs, FluentValue, NoCustom};
 use std::alloc::{AllocError, Global};
 use std::borrow::CowStr;
+
+/// So many arguments are set in the order in which they came; more would move one another too often.
+const FEW: usize = 16;
 
 /// Whether there is a message of the id with a value, or with an attribute of a name that is not empty. Takes no memory.
 pub(crate) fn is_there<'r, 's: 'r>(bundle: &Plain<'r, 's>, id: &str, name: &str) -> bool
@@ -39,8 +42,27 @@ fn value<'w>(argument: &Argument<'w>) -> FluentValue<'w, NoCustom>
 /// The arguments of a call. The last of a repeated name stands.
 pub(crate) fn values<'w>(
     alloc: Global,
-    list: &[Argument<'w>],
+    list: Vec<Argument<'w>>,
 ) -> Result<FluentArgs<'w, NoCustom>, AllocError>
+    ensures { IfOk result (λ args. args_view args ≡ argument_values (map argument_view list.entry.items)) }
+{
+    let mut list = list;
+    if list.len() > FEW {
+        put_in_order(&mut list)?;
+    }
+    set_all(alloc, list.as_slice())
+}
+
+/// Puts arguments in the order of their names, those of one name in the order in which they came.
+fn put_in_order(list: &mut Vec<Argument<'_>>) -> Result<(), AllocError>
+    ensures { OnOk result (argument_values (map argument_view list.new.items) ≡ argument_values (map argument_view list.old.items)) }
+{
+    list.sort_by_key(|argument| argument.name)?;
+    Ok(())
+}
+
+/// Sets arguments one after the other. One that stands behind all others by its name moves none.
+fn set_all<'w>(alloc: Global, list: &[Argument<'w>]) -> Result<FluentArgs<'w, NoCustom>, AllocError>
     ensures { IfOk result (λ args. args_view args ≡ argument_values (map argument_view list.now)) }
 {
     let mut args = FluentArgs::new(alloc);

@@ -1,16 +1,17 @@
 //! The texts that a bundle gives, in memory of their own or in buffers of the caller.
-ghost use Rattle.std.specs.Prelude.{◌≡◌, ◌≢◌, None, IfOk, IfErr, OnErr, string_bytes};
+ghost use Rattle.std.specs.Prelude.{◌≡◌, ◌≢◌, None, Some, IfOk, IfErr, OnErr, string_bytes};
 ghost use Rattle.std.specs.Cow.{cow_str_bytes};
 ghost use Rattle.fluent_resolver_state.specs.Status.{reported};
-ghost use Rattle.fluent_c_handles.specs.Calls.Formatting.{FormatsIn, NotFormattedIn, TextsIn, error_line, error_lines};
+ghost use Rattle.fluent_c_handles.specs.Calls.Formatting.{FormatsIn, NotFormattedIn, TextsIn, error_line, error_lines, told_in};
 ghost use Rattle.fluent_bundle_entries.specs.ErrorView.{error_view};
 ghost use Rattle.fluent_c_handles.specs.Answers.{bundle_view, found_at};
-ghost use Rattle.fluent_c_handles.specs.Inside.Shown.{Shows};
+ghost use Rattle.fluent_c_handles.specs.Inside.Shown.{NotShown, Shows};
 
 use crate::buffers::put_text;
 use crate::encoded::{Fault, arguments};
 use crate::lookup::{is_there, values};
 use crate::opening::Plain;
+use crate::records::records;
 use fluent_bundle::{FluentArgs, FluentError, NoCustom};
 use std::alloc::{AllocError, Global};
 use std::borrow::CowStr;
@@ -37,6 +38,15 @@ pub enum FormatFault {
     Memory,
 }
 
+/// How the errors of a text are told.
+#[derive(Clone, Copy, Debug, Drop, PartialEq, Eq)]
+pub enum Form {
+    /// A line for each.
+    Lines,
+    /// A record for each, as [`records`](crate::records) writes it.
+    Records,
+}
+
 /// Formats the value of a message, or its attribute of a name that is not empty, with arguments that
 /// [`arguments`] reads. Each buffer that is too small is left as it was: the lengths say which room is needed. Of what
 /// went wrong in the text each error has a line.
@@ -57,7 +67,7 @@ pub(crate) fn format(
     ensures err { IfErr result (NotFormattedIn (bundle_view bundle.now) id.now name.now args.now) }
     ensures left { OnErr result ((out.new ≡ out.old) × (err.new ≡ err.old)) }
 {
-    match texts(alloc, bundle, id, name, args) {
+    match texts(alloc, bundle, Form::Lines, id, name, args) {
         Ok((text, lines)) => Ok(Lengths {
             text: put_text(text.as_str(), out),
             errors: put_text(lines.as_str(), err),
@@ -67,7 +77,8 @@ pub(crate) fn format(
 }
 
 /// The text of the value of a message, or of its attribute of a name that is not empty, with arguments that
-/// [`arguments`] reads, and a line for each error in the text.
+/// [`arguments`] reads, and what is told of the errors in the text. A message that is not there is told before the
+/// arguments are read.
 ///
 /// # Errors
 ///
@@ -75,43 +86,63 @@ pub(crate) fn format(
 pub(crate) fn texts<'r, 's: 'r>(
     alloc: Global,
     bundle: &Plain<'r, 's>,
+    form: Form,
     id: &[u8],
     name: &[u8],
     args: &[u8],
 ) -> Result<(CowStr<'s>, String), FormatFault>
-    ensures ok { IfOk result (λ t. TextsIn (bundle_view bundle.now) id.now name.now args.now (cow_str_bytes t.0) (string_bytes t.1)) }
+    ensures ok { IfOk result (λ t. TextsIn (told_in form) (bundle_view bundle.now) id.now name.now args.now (cow_str_bytes t.0) (string_bytes t.1)) }
     ensures err { IfErr result (NotFormattedIn (bundle_view bundle.now) id.now name.now args.now) }
 {
     let (Ok(id), Ok(name)) = (str::from_utf8(id), str::from_utf8(name)) else {
         return Err(FormatFault::NotText);
     };
+    // Without arguments there is nothing to read, and the message is looked up once.
+    if args.is_empty() {
+        return texts_with(alloc, bundle, form, id, name, &FluentArgs::new(alloc));
+    }
+    if !is_there(bundle, id, name) {
+        return Err(FormatFault::NoMessage);
+    }
     let list = match arguments(alloc, args) {
         Ok(list) => list,
         Err(fault) => return Err(FormatFault::Arguments(fault)),
     };
-    let Ok(args) = values(alloc, list.as_slice()) else {
-        return Err(if is_there(bundle, id, name) {
-            FormatFault::Memory
-        } else {
-            FormatFault::NoMessage
-        });
+    let Ok(args) = values(alloc, list) else {
+        return Err(FormatFault::Memory);
     };
-    match shown(alloc, bundle, id, name, &args) {
+    texts_with(alloc, bundle, form, id, name, &args)
+}
+
+/// The same of a value or an attribute, with arguments that were read.
+fn texts_with<'r, 's: 'r>(
+    alloc: Global,
+    bundle: &Plain<'r, 's>,
+    form: Form,
+    id: &str,
+    attribute: &str,
+    args: &FluentArgs<'_, NoCustom>,
+) -> Result<(CowStr<'s>, String), FormatFault>
+    ensures ok { IfOk result (λ t. Shows form (bundle_view bundle.now) id.now attribute.now args.now (Some t)) }
+    ensures err { IfErr result (NotShown (bundle_view bundle.now) id.now attribute.now) }
+{
+    match shown(alloc, bundle, form, id, attribute, args) {
         Ok(Some(texts)) => Ok(texts),
         Ok(None) => Err(FormatFault::NoMessage),
         Err(AllocError) => Err(FormatFault::Memory),
     }
 }
 
-/// The text of a value or an attribute, and the lines of its errors.
+/// The text of a value or an attribute, and what is told of its errors.
 fn shown<'r, 's: 'r>(
     alloc: Global,
     bundle: &Plain<'r, 's>,
+    form: Form,
     id: &str,
     attribute: &str,
     args: &FluentArgs<'_, NoCustom>,
 ) -> Result<Option<(CowStr<'s>, String)>, AllocError>
-    ensures shows { IfOk result (Shows (bundle_view bundle.now) id.now attribute.now args.now) }
+    ensures shows { IfOk result (Shows form (bundle_view bundle.now) id.now attribute.now args.now) }
     ensures there { OnErr result (found_at id.now attribute.now (bundle_view bundle.now) ≢ None) }
 {
     let mut errors = Vec::new(alloc);
@@ -121,8 +152,18 @@ fn shown<'r, 's: 'r>(
         bundle.format_attribute(id, attribute, Some(args), &mut errors)?
     };
     match text {
-        Some(text) => Ok(Some((text, lines(alloc, errors.as_slice())?))),
+        Some(text) => Ok(Some((text, told(alloc, form, errors.as_slice())?))),
         None => Ok(None),
+    }
+}
+
+/// What is told of errors.
+fn told(alloc: Global, form: Form, errors: &[FluentError]) -> Result<String, AllocError>
+    ensures { IfOk result (λ text. string_bytes text ≡ told_in form (reported errors.now)) }
+{
+    match form {
+        Form::Lines => lines(alloc, errors),
+        Form::Records => records(alloc, errors),
     }
 }
 

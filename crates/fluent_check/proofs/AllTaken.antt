@@ -7,7 +7,7 @@ all_and : {B : Type 0} (P : B → Type 0) (ys : List B) (y : B) → AllByRecursi
 all_and P [] y h p = (p, tt)
 all_and P (z ∷ zs) y h p = (h.0, all_and P zs y h.1 p)
 
-taken : {A B : Type 0} (f : A → B) (xs : List A) (i : ℕ) (x : A) → i < length xs → x ≡ get_or xs i x → map f (take (i + 1) xs) ≡ map f (take i xs) ++ f x ∷ []
+pub taken : {A B : Type 0} (f : A → B) (xs : List A) (i : ℕ) (x : A) → i < length xs → x ≡ get_or xs i x → map f (take (i + 1) xs) ≡ map f (take i xs) ++ f x ∷ []
 taken f xs i x h is = ap (map f) (take_more xs i x h) ∙ (map-append f (take i xs) (get_or xs i x ∷ []) ∙ ap (λ u. map f (take i xs) ++ f u ∷ []) (sym is))
 
 -- of one more

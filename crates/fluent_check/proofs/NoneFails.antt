@@ -1,27 +1,29 @@
 -- What the linter says where it finds nothing.
-use Rattle.std.proofs.Common.{◌≡◌, List, [], ◌∷◌, ◌++◌, inl, inr, refl, sym, ap, subst, Global}
+use mathlib.Core.Bool.{true≢false}
+use Rattle.std.proofs.Common.{◌≡◌, ◌∙◌, ℕ, Bool, true, false, IsTrue, List, [], ◌∷◌, inl, inr, refl, sym, subst}
 use Rattle.std.specs.List.{AllByRecursion}
-use Rattle.std.specs.declared.vec.Vec.{Vec}
-use Rattle.fluent_ast.specs.Tree.{Text}
+use Rattle.fluent_ast.specs.Tree.{Text, Entry}
 use Rattle.fluent_semantics.specs.Bundle.{Bundle}
-use Rattle.fluent_lint.specs.Clean.{Place, names_of, IsFine, NeverFails}
-use Rattle.fluent_lint.specs.Clean as entries
-use Rattle.fluent_lint.specs.Findings.{places_in_resources as places_in, IsNamedOrFine as IsTold, Lints}
-use Rattle.fluent_bundle.specs.BundleView.{entries_of}
-use Rattle.fluent_bundle.specs.declared.resource.FluentResource.{FluentResource}
+use Rattle.fluent_lint.specs.Clean.{Place, names_of, NeverFails}
+use Rattle.fluent_lint.specs.Findings.{AreFindingsOf, IsNamedOrFine}
+use Rattle.fluent_lint.specs.Laws.{FineIsWritten}
 use Rattle.fluent_lint.specs.declared.finding.Finding.{Finding}
-use Rattle.fluent_check.specs.Linted.{NoneFails, places_of}
-use Rattle.fluent_check.specs.Bundles.{entries_of_all}
+use Rattle.fluent_check.specs.Linted.{AreLinted, NoneFails, is_none, places_of}
 
-same_places : (rs : List FluentResource) → places_in rs ≡ places_of (entries_of_all rs)
-same_places [] = refl
-same_places (r ∷ rs) = ap (λ ps. entries.places_in (entries_of r) ++ ps) (same_places rs)
+-- these are the findings of the bundle's files
+pub are_linted : (b : Bundle Text) (files : List (List Entry)) (seen : List Place) (limit : ℕ) (found : List Finding) → limit ≡ b.limit → seen ≡ places_of files
+    → AreFindingsOf (names_of b) limit seen found → AreLinted b files found
+are_linted b files seen limit found same_limit same_places are =
+    subst (λ l. AreFindingsOf (names_of b) l (places_of files) found) same_limit (subst (λ xs. AreFindingsOf (names_of b) limit xs found) same_places are)
 
-never : (b : Bundle Text) (xs : List Place) → ((x : Place) → IsFine (names_of b) b.limit x → NeverFails b x) → AllByRecursion (IsTold (names_of b) b.limit []) xs → AllByRecursion (NeverFails b) xs
+never : (b : Bundle Text) (xs : List Place) → FineIsWritten → AllByRecursion (IsNamedOrFine (names_of b) b.limit []) xs → AllByRecursion (NeverFails b) xs
 never b [] written all = tt
-never b (x ∷ xs) written all = (elim all.0 [ inl named ↦ absurd named | inr fine ↦ written x fine ], never b xs written all.1)
+never b (x ∷ xs) written all = (elim all.0 [ inl named ↦ absurd named | inr fine ↦ written b x fine ], never b xs written all.1)
 
-pub none_fails : (b : Bundle Text) (rs : List FluentResource) (fs : Vec Finding Global) → fs.items ≡ [] → Lints b rs fs → NoneFails b (entries_of_all rs)
-none_fails b rs fs none says =
-    let all : AllByRecursion (IsTold (names_of b) b.limit []) (places_in rs) = subst (λ gs. AllByRecursion (IsTold (names_of b) b.limit gs) (places_in rs)) none says.finds.told in
-    subst (λ xs. AllByRecursion (NeverFails b) xs) (same_places rs) (never b (places_in rs) says.written all)
+nothing : (found : List Finding) → is_none found ≡ true → found ≡ []
+nothing [] h = refl
+nothing (f ∷ fs) h = absurd (true≢false (sym h))
+
+pub none_fails : (b : Bundle Text) (files : List (List Entry)) (found : List Finding) (is_clean : Bool) → FineIsWritten → is_clean ≡ is_none found → IsTrue is_clean → AreLinted b files found → NoneFails b files
+none_fails b files found is_clean written says is are =
+    never b (places_of files) written (subst (λ fs. AllByRecursion (IsNamedOrFine (names_of b) b.limit fs) (places_of files)) (nothing found (sym says ∙ is)) are.told)

@@ -43,7 +43,7 @@ not_same : (x y : Place) (b : Bool) → same_place x y ≡ b → (x ≡ y → �
 not_same x y true e other = absurd (other (place_is x y e))
 not_same x y false e other = e
 
-same_test : (x y : Place) → is_yes (place_same x y) ≡ same_place x y
+pub same_test : (x y : Place) → is_yes (place_same x y) ≡ same_place x y
 same_test x y = by (place_same x y)
   where
     by : (d : Dec (x ≡ y)) → is_yes d ≡ same_place x y

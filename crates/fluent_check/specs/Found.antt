@@ -4,6 +4,7 @@ use Rattle.std.specs.declared.vec.Vec.{Vec}
 use Rattle.std.proofs.Common.{Global}
 use Rattle.fluent_ast.specs.Tree.{Text}
 use Rattle.fluent_lint.specs.Clean.{Place, place_view}
+use Rattle.fluent_reasons.specs.declared.expected.Expected.{Expected}
 use Rattle.fluent_check.specs.declared.finding.Finding.{Finding}
 use Rattle.fluent_check.specs.declared.finding.Flaw as code_flaw
 use Rattle.fluent_check.specs.declared.finding.Part as code_part
@@ -22,8 +23,8 @@ spot_view s = record { file = s.file; at = s.at }
 
 -- what is wrong; `Problem` of the code says of each what it means
 pub data Problem : Type 0 where
-  -- up to the last byte that is no blank
-  unreadable : ℕ → Problem
+  -- what begins at this byte, and what was expected where reading stopped
+  unreadable : ℕ → Expected → Problem
   taken_id : Spot → Problem
   function_id : Problem
   repeated_attribute : Problem
@@ -35,6 +36,7 @@ pub data Problem : Type 0 where
   missing_function : Text → Problem
   cycle : Place → Problem
   too_many_placeables : ℕ → ℕ → Problem
+  may_open_too_many : ℕ → ℕ → Problem
   leads_to : Place → Problem
   not_given : Text → Place → Problem
   unused_argument : Text → Place → Problem
@@ -52,7 +54,7 @@ pub data Problem : Type 0 where
   function_left_out : Text → Problem
 
 abbrev pub problem_view : code.Problem → Problem
-problem_view (problem.Unreadable last) = unreadable last
+problem_view (problem.Unreadable start expected) = unreadable start expected
 problem_view (problem.TakenId first) = taken_id (spot_view first)
 problem_view problem.FunctionId = function_id
 problem_view problem.RepeatedAttribute = repeated_attribute
@@ -64,6 +66,7 @@ problem_view (problem.MissingTermAttribute id a) = missing_term_attribute id.now
 problem_view (problem.MissingFunction id) = missing_function id.now
 problem_view (problem.Cycle next) = cycle (place_view next)
 problem_view (problem.TooManyPlaceables count limit) = too_many_placeables count limit
+problem_view (problem.MayOpenTooMany count limit) = may_open_too_many count limit
 problem_view (problem.LeadsTo x) = leads_to (place_view x)
 problem_view (problem.NotGiven v x) = not_given v.now (place_view x)
 problem_view (problem.UnusedArgument v x) = unused_argument v.now (place_view x)

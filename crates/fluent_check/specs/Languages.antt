@@ -48,6 +48,10 @@ start_of tag = after add_builtins (empty_bundle (category_of (language_rules tag
 abbrev pub bundle_of : Text → List Entry → Bundle Text
 bundle_of tag entries = after (add_resource entries) (start_of tag)
 
+-- the entries of files are added, in order
+abbrev pub adding_all : List (List Entry) → Bundle Text → Bundle Text
+adding_all files b = after_all (map (λ entries. add_resource entries) files) b
+
 -- the same with all of these files, in order
 abbrev pub all_of : Text → List (List Entry) → Bundle Text
-all_of tag files = after_all (map (λ entries. add_resource entries) files) (start_of tag)
+all_of tag files = adding_all files (start_of tag)

@@ -6,9 +6,11 @@ use Rattle.fluent_lint.specs.Asked.{texts}
 use Rattle.fluent_lint.specs.Clean.{Place, Names, names_of, place_target, needs}
 use Rattle.fluent_check.specs.Bundles.{bundle_view}
 use Rattle.fluent_check.specs.Called.{functions_in}
+use Rattle.fluent_check.specs.Categories.{Categories}
 use Rattle.fluent_check.specs.Found.{Flaw, Found}
 use Rattle.fluent_check.specs.Missing.{missing}
 use Rattle.fluent_check.specs.Numbers.{no_numbers}
+use Rattle.fluent_check.specs.Selects.{select_flaws}
 use Rattle.fluent_check.specs.Standing.{Standing, flaws_at}
 use Rattle.fluent_check.specs.Terms.{asks_of, term_flaws}
 use Rattle.fluent_check.specs.declared.patterns.Against as code
@@ -57,3 +59,18 @@ called_at named s = called_if (place_target named s.1.place)
 abbrev pub called_in : Names Text → List Standing → List Text
 called_in named [] = []
 called_in named (s ∷ ss) = called_at named s ++ called_in named ss
+
+-- ---- selects
+
+abbrev pub select_flaws_if : Categories → Target → List Flaw
+select_flaws_if c unknown = []
+select_flaws_if c without_value = []
+select_flaws_if c (found p) = select_flaws c p
+
+-- what is wrong with the selects of what stands there, by the categories of a language
+abbrev pub found_selects_at : Names Text → Categories → Standing → List Found
+found_selects_at named c s = flaws_at s (select_flaws_if c (place_target named s.1.place))
+
+abbrev pub found_selects : Names Text → Categories → List Standing → List Found
+found_selects named c [] = []
+found_selects named c (s ∷ ss) = found_selects_at named c s ++ found_selects named c ss

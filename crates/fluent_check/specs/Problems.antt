@@ -1,10 +1,10 @@
 -- The name of a problem, and whether it is an error.
 use Rattle.std.specs.Prelude.{Bool, true, false, codes}
 use Rattle.fluent_ast.specs.Tree.{Text}
-use Rattle.fluent_check.specs.Found.{Problem, unreadable, taken_id, function_id, repeated_attribute, missing_message, missing_attribute, missing_value, missing_term, missing_term_attribute, missing_function, cycle, too_many_placeables, leads_to, not_given, unused_argument, no_number, no_category, never_comes, repeated_variant, not_translated, value_not_translated, value_not_in_reference, not_in_reference, unknown_variable, variable_left_out, term_left_out, function_left_out}
+use Rattle.fluent_check.specs.Found.{Problem, unreadable, taken_id, function_id, repeated_attribute, missing_message, missing_attribute, missing_value, missing_term, missing_term_attribute, missing_function, cycle, too_many_placeables, may_open_too_many, leads_to, not_given, unused_argument, no_number, no_category, never_comes, repeated_variant, not_translated, value_not_translated, value_not_in_reference, not_in_reference, unknown_variable, variable_left_out, term_left_out, function_left_out}
 
 abbrev pub name_of : Problem → Text
-name_of (unreadable last) = codes "unreadable"
+name_of (unreadable start expected) = codes "unreadable"
 name_of (taken_id first) = codes "id-taken"
 name_of function_id = codes "function-id"
 name_of repeated_attribute = codes "repeated-attribute"
@@ -16,6 +16,7 @@ name_of (missing_term_attribute id a) = codes "missing-term-attribute"
 name_of (missing_function id) = codes "missing-function"
 name_of (cycle next) = codes "cycle"
 name_of (too_many_placeables count limit) = codes "too-many-placeables"
+name_of (may_open_too_many count limit) = codes "may-open-too-many"
 name_of (leads_to place) = codes "refers-to-unclean"
 name_of (not_given v term) = codes "variable-not-given"
 name_of (unused_argument v term) = codes "unused-argument"
@@ -34,7 +35,7 @@ name_of (function_left_out id) = codes "function-left-out"
 
 -- the others are warnings
 abbrev pub is_error : Problem → Bool
-is_error (unreadable last) = true
+is_error (unreadable start expected) = true
 is_error (taken_id first) = true
 is_error function_id = true
 is_error repeated_attribute = false
@@ -46,6 +47,7 @@ is_error (missing_term_attribute id a) = true
 is_error (missing_function id) = false
 is_error (cycle next) = true
 is_error (too_many_placeables count limit) = true
+is_error (may_open_too_many count limit) = false
 is_error (leads_to place) = true
 is_error (not_given v term) = false
 is_error (unused_argument v term) = false

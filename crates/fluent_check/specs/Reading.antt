@@ -1,6 +1,7 @@
 -- What the code reads, by the contents of files.
 use Rattle.std.specs.Prelude.{◌≡◌, ℕ, List, [], ◌∷◌, ◌++◌, map}
-use Rattle.fluent_ast.specs.Tree.{Entry}
+use Rattle.fluent_ast.specs.Tree.{Text, Entry}
+use Rattle.fluent_bundle.specs.BundleView.{source_in}
 use Rattle.fluent_syntax.specs.Chunks.{entries, junk_ranges}
 use Rattle.fluent_syntax.specs.Parsed.{error_range}
 use Rattle.fluent_check.specs.Files.{Read}
@@ -21,9 +22,14 @@ entries_read sources = entries_of_all sources.resources.items
 abbrev pub junk_read : Sources → List (List (ℕ × ℕ))
 junk_read sources = map (λ errors. map error_range errors.items) sources.unreadable.items
 
+-- the texts that were read
+abbrev pub sources_read : Sources → List Text
+sources_read sources = map source_in sources.resources.items
+
 -- These were read, each with its entries and what can't be read in it.
 pub record AreRead (reads : List Read) (sources : Sources) : Type 0 where
   pub texts : texts_read sources ≡ reads
+  pub sources_are : sources_read sources ≡ map (λ read. read.text) reads
   pub entries : entries_read sources ≡ map (λ read. entries read.text) reads
   pub junk : junk_read sources ≡ map (λ read. junk_ranges read.text) reads
 

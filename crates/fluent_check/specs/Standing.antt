@@ -1,11 +1,11 @@
 -- Values and attributes of files, with the files in which they stand; and findings at them.
-use Rattle.std.specs.Prelude.{◌≡◌, ◌&&◌, ℕ, suc, nat_le, nat_lt, Bool, List, [], ◌∷◌, ◌++◌, map, get_or, Some, if◌then◌else◌}
+use Rattle.std.specs.Prelude.{◌≡◌, ℕ, List, [], ◌∷◌, ◌++◌, map, get_or, Some}
 use Rattle.std.specs.declared.vec.Vec.{Vec}
 use Rattle.std.proofs.Common.{Global}
 use Rattle.fluent_check.specs.Found.{Spot, Found, Flaw, Part, whole, the_reference, the_select, the_variant, Problem}
+use Rattle.fluent_check.specs.ReadFiles.{ReadFile}
 use Rattle.fluent_check.specs.Sites.{Site}
-use Rattle.fluent_check.specs.SiteView.{site_view, site_views}
-use Rattle.fluent_check.specs.declared.sites.Site as code
+use Rattle.fluent_check.specs.SiteView.{site_view}
 use Rattle.fluent_check.specs.declared.standing.Standing as of_file
 
 -- the number of a file, and a value or an attribute in it
@@ -18,21 +18,17 @@ standing_view s = (s.file, site_view s.site.now)
 abbrev pub standings : Vec of_file.Standing Global → List Standing
 standings list = map standing_view list.items
 
-abbrev pub all_sites : List (Vec code.Site Global) → List (List Site)
-all_sites lists = map (λ list. site_views list.items) lists
-
 -- those of a file
-abbrev pub standings_of : ℕ → List Site → List Standing
-standings_of file sites = map (λ site. (file, site)) sites
+abbrev pub standings_of : ReadFile → List Standing
+standings_of file = map (λ site. (file.number, site)) file.sites
+
+-- those of files, in order
+abbrev pub standings_in : List ReadFile → List Standing
+standings_in [] = []
+standings_in (file ∷ files) = standings_of file ++ standings_in files
 
 abbrev pub AddsStanding : List Standing → Vec of_file.Standing Global → Vec of_file.Standing Global → Type 0
 AddsStanding more old new = standings new ≡ standings old ++ more
-
--- those of the files with the numbers from one on, and below another; the first of these files has the number `file`
-abbrev pub standings_in : ℕ → ℕ → ℕ → List (List Site) → List Standing
-standings_in from to file [] = []
-standings_in from to file (sites ∷ files) =
-    (if nat_le from file && nat_lt file to then standings_of file sites else []) ++ standings_in from to (suc file) files
 
 -- ---- findings
 

@@ -4,7 +4,8 @@ use Rattle.std.specs.Fmt.{decimal}
 use Rattle.std.specs.Str.{bytes_eq}
 use Rattle.fluent_ast.specs.Tree.{Text, Attribute, no_attribute, attribute}
 use Rattle.fluent_lint.specs.Clean.{Place, of_message, of_term}
-use Rattle.fluent_check.specs.Found.{Spot, Problem, unreadable, taken_id, function_id, repeated_attribute, missing_message, missing_attribute, missing_value, missing_term, missing_term_attribute, missing_function, cycle, too_many_placeables, leads_to, not_given, unused_argument, no_number, no_category, never_comes, repeated_variant, not_translated, value_not_translated, value_not_in_reference, not_in_reference, unknown_variable, variable_left_out, term_left_out, function_left_out}
+use Rattle.fluent_reasons.specs.ExpectedText.{expected_text}
+use Rattle.fluent_check.specs.Found.{Spot, Problem, unreadable, taken_id, function_id, repeated_attribute, missing_message, missing_attribute, missing_value, missing_term, missing_term_attribute, missing_function, cycle, too_many_placeables, may_open_too_many, leads_to, not_given, unused_argument, no_number, no_category, never_comes, repeated_variant, not_translated, value_not_translated, value_not_in_reference, not_in_reference, unknown_variable, variable_left_out, term_left_out, function_left_out}
 
 -- ---- places, as they are written in a reference
 
@@ -38,9 +39,10 @@ said_given own term before name = codes "'" ++ (term ++ said_in own before name 
 abbrev pub taken_text : Text → Text → Text
 taken_text own first = codes "the id of " ++ said_of own (codes " is taken by ") first []
 
-abbrev pub too_many_text : Text → ℕ → ℕ → Text
-too_many_text own count limit =
-    said_of own (codes " can open ") (decimal count) (codes " placeables, and no more than " ++ (decimal limit ++ codes " are opened"))
+-- opens: " can open " or " may open "
+abbrev pub too_many_text : Text → Text → ℕ → ℕ → Text
+too_many_text own opens count limit =
+    said_of own opens (decimal count) (codes " placeables, and no more than " ++ (decimal limit ++ codes " are opened"))
 
 -- of an entry that refers to itself, or to one that leads back to it
 abbrev pub round_text : Bool → Text → Text → Text
@@ -50,12 +52,13 @@ round_text false own next = said_of own (codes " refers to '") next (codes "', w
 abbrev pub cycle_text : Text → Text → Text
 cycle_text own next = round_text (bytes_eq own next) own next
 
-abbrev pub unread_text : ℕ → Text
-unread_text line = codes "this can't be read, to the end of line " ++ decimal line
+-- of what begins in a line and can't be read, by what was expected
+abbrev pub unread_text : Text → ℕ → Text
+unread_text what line = what ++ (codes "; what begins in line " ++ (decimal line ++ codes " can't be read"))
 
--- by the text of its entry, the line of its last byte where it can't be read, and how another spot is shown
+-- by the text of its entry, the line where it begins if it can't be read, and how another spot is shown
 abbrev pub text_of : (ℕ → ℕ) → (Spot → Text) → Text → Problem → Text
-text_of line shown own (unreadable last) = unread_text (line last)
+text_of line shown own (unreadable start expected) = unread_text (expected_text expected) (line start)
 text_of line shown own (taken_id first) = taken_text own (shown first)
 text_of line shown own function_id = codes "the id of " ++ said_of own (codes " is that of a function") [] []
 text_of line shown own repeated_attribute = said_of own (codes " stands there twice, and the first counts") [] []
@@ -66,7 +69,8 @@ text_of line shown own (missing_term id) = said_in own (codes "no term '-") id (
 text_of line shown own (missing_term_attribute id a) = said_in own (codes "no attribute '-") (id ++ (codes "." ++ a)) (codes "'")
 text_of line shown own (missing_function id) = said_in own (codes "no function '") id (codes "', unless the application adds it")
 text_of line shown own (cycle next) = cycle_text own (place_text next)
-text_of line shown own (too_many_placeables count limit) = too_many_text own count limit
+text_of line shown own (too_many_placeables count limit) = too_many_text own (codes " can open ") count limit
+text_of line shown own (may_open_too_many count limit) = too_many_text own (codes " may open ") count limit
 text_of line shown own (leads_to place) = said_of own (codes " refers to '") (place_text place) (codes "', where something is wrong")
 text_of line shown own (not_given v term) = said_given own (place_text term) (codes "' is not given $") v
 text_of line shown own (unused_argument v term) = said_given own (place_text term) (codes "' doesn't use $") v

@@ -1,8 +1,12 @@
 //! Bundles of sources.
 ghost use Rattle.std.specs.Prelude.{◌≡◌, IfOk, OnOk, map};
-ghost use Rattle.fluent_check.specs.Bundles.{adding, alone, bundle_view, entries_of_all};
-ghost use Rattle.fluent_check.specs.Languages.{all_of, language_rules, start_of};
+ghost use Rattle.fluent_check.specs.Bundles.{adding, alone, bundle_view};
+ghost use Rattle.fluent_check.specs.Groups.{entries_loaded, group_view};
+ghost use Rattle.fluent_check.specs.Languages.{adding_all, all_of, language_rules, start_of};
+ghost use Rattle.fluent_check.specs.ReadFiles.{entries_in, file_view};
 
+use crate::files::Read;
+use crate::groups::Group;
 use fluent_bundle::{
     AddFault, FluentBundle, FluentResource, NoCustom, NoFormatter, NoFunction, NoTransform,
 };
@@ -77,19 +81,29 @@ fn bundle_alone<'r, 's>(
     Ok(bundle)
 }
 
-/// A bundle of these resources.
-pub fn bundle_of_all<'r, 's>(
+/// Adds files in order.
+fn add_files<'r, 's>(bundle: &mut Bundle<'r, 's>, files: &[Read<'r, 's>]) -> Result<(), AllocError>
+    ensures { OnOk result
+        (bundle_view bundle.new ≡ adding_all (entries_in (map file_view files.now)) (bundle_view bundle.old)) }
+{
+    for file in files {
+        add(bundle, file.resource)?;
+    }
+    Ok(())
+}
+
+/// A bundle of the files of a group.
+#[tactic(auto, using(crate::proofs::Added::added_both))]
+pub(crate) fn bundle_of_group<'r, 's>(
     alloc: Global,
     tag: &str,
-    resources: &'r [FluentResource<'s>],
+    group: &Group<'_, 'r, 's>,
 ) -> Result<Bundle<'r, 's>, AllocError>
-    ensures { IfOk result
-        (λ b. bundle_view b ≡ all_of tag.now (entries_of_all resources.now)) }
+    ensures { IfOk result (λ b. bundle_view b ≡ all_of tag.now (entries_loaded (group_view group.now))) }
 {
     let mut bundle = start(alloc, tag)?;
-    for resource in resources {
-        add(&mut bundle, resource)?;
-    }
+    add_files(&mut bundle, group.beside)?;
+    add_files(&mut bundle, group.own)?;
     Ok(bundle)
 }
 

@@ -1,5 +1,12 @@
 //! The plural categories of a language, by its rules.
 
+ghost use Rattle.std.specs.Prelude.{◌≡◌, ◌++◌, ◌∷◌, [], IfOk, OnOk, cond, map};
+ghost use Rattle.fluent_semantics.specs.Number as number;
+ghost use Rattle.fluent_check.specs.Categories as spec;
+ghost use Rattle.fluent_check.specs.CategoryView.{categories_view, category_view};
+ghost use Rattle.fluent_check.specs.Languages.{rules_by};
+ghost use Rattle.fluent_plural_rules.specs.Languages.{content};
+
 use fluent_intl::{Decimal, MemoizerKind, PluralCategory, PluralOperands, PluralRuleType};
 use fluent_plural_rules::{LanguageRules, RuleTexts, cldr_plurals, rules_for};
 use std::alloc::{AllocError, Global};
@@ -33,7 +40,9 @@ pub(crate) struct Categories {
 }
 
 /// The word of a category.
-fn category_word(category: PluralCategory) -> &'static str {
+fn category_word(category: PluralCategory) -> &'static str
+    ensures { result.now ≡ number.category_word category }
+{
     match category {
         PluralCategory::ZERO => "zero",
         PluralCategory::ONE => "one",
@@ -45,7 +54,9 @@ fn category_word(category: PluralCategory) -> &'static str {
 }
 
 /// What stands in the text of rules that have a category, unless it is `other`.
-fn heading(category: PluralCategory) -> &'static str {
+fn heading(category: PluralCategory) -> &'static str
+    ensures { result.now ≡ number.category_word category ++ 58 ∷ [] }
+{
     match category {
         PluralCategory::ZERO => "zero:",
         PluralCategory::ONE => "one:",
@@ -57,19 +68,25 @@ fn heading(category: PluralCategory) -> &'static str {
 }
 
 /// The word of the category of a whole number.
-fn word_at(rules: &RuleTexts, kind: PluralRuleType, n: u64) -> &'static str {
+fn word_at(rules: &RuleTexts, kind: PluralRuleType, n: u64) -> &'static str
+    ensures { result.now ≡ spec.word_at rules.now kind n }
+{
     let operands = PluralOperands::of(&Decimal::from_u64(n), None);
     category_word(rules.select(kind, &operands))
 }
 
 /// The whole numbers below a limit that have this category.
+#[tactic(auto, using(crate::proofs::CategoryNumbers::numbers_more))]
 fn numbers_below(
     alloc: Global,
     limit: u64,
     rules: &RuleTexts,
     kind: PluralRuleType,
     key: &str,
-) -> Result<Vec<u64>, AllocError> {
+) -> Result<Vec<u64>, AllocError>
+    ensures { IfOk result
+        (λ list. list.items ≡ spec.numbers_below limit rules.now kind key.now) }
+{
     let mut list = Vec::new(alloc);
     for n in 0..limit {
         push_if(word_at(rules, kind, n) == key, n, &mut list)?;
@@ -78,7 +95,9 @@ fn numbers_below(
 }
 
 /// Adds a number, where this holds.
-fn push_if(holds: bool, n: u64, list: &mut Vec<u64>) -> Result<(), AllocError> {
+fn push_if(holds: bool, n: u64, list: &mut Vec<u64>) -> Result<(), AllocError>
+    ensures { OnOk result (list.new.items ≡ list.old.items ++ cond holds (n ∷ []) []) }
+{
     if holds {
         list.push(n)?;
     }
@@ -86,7 +105,10 @@ fn push_if(holds: bool, n: u64, list: &mut Vec<u64>) -> Result<(), AllocError> {
 }
 
 /// Whether a text stands in another.
-fn stands_in(part: &str, text: &str) -> bool {
+#[tactic(auto, using(crate::proofs::CategoryNumbers::stands_in_next))]
+fn stands_in(part: &str, text: &str) -> bool
+    ensures { result ≡ spec.stands_in part.now text.now }
+{
     let bytes = text.as_bytes();
     for at in 0..bytes.len() {
         if bytes[at..].starts_with(part.as_bytes()) {
@@ -96,6 +118,26 @@ fn stands_in(part: &str, text: &str) -> bool {
     false
 }
 
+/// The whole numbers from 0 to 999 that have this category.
+#[tactic(auto, unfolding(crate::specs::Categories::numbers_of))]
+fn numbers_of(
+    alloc: Global,
+    rules: &RuleTexts,
+    kind: PluralRuleType,
+    key: &str,
+) -> Result<Vec<u64>, AllocError>
+    ensures { IfOk result (λ list. list.items ≡ spec.numbers_of rules.now kind key.now) }
+{
+    numbers_below(alloc, NUMBERS, rules, kind, key)
+}
+
+/// Whether the rules of this text have a category.
+fn has_category(text: &str, category: PluralCategory) -> bool
+    ensures { result ≡ spec.has_category text.now (number.category_word category) }
+{
+    category_word(category) == "other" || stands_in(heading(category), text)
+}
+
 /// A category by the rules of a kind, and their text.
 fn category_by(
     alloc: Global,
@@ -103,12 +145,15 @@ fn category_by(
     kind: PluralRuleType,
     text: &str,
     category: PluralCategory,
-) -> Result<Category, AllocError> {
+) -> Result<Category, AllocError>
+    ensures { IfOk result
+        (λ c. category_view c ≡ spec.category_by rules.now kind text.now category) }
+{
     let key = category_word(category);
     Ok(Category {
         key,
-        numbers: numbers_below(alloc, NUMBERS, rules, kind, key)?,
-        exists: key == "other" || stands_in(heading(category), text),
+        numbers: numbers_of(alloc, rules, kind, key)?,
+        exists: has_category(text, category),
     })
 }
 
@@ -118,7 +163,10 @@ fn kind_by(
     rules: &RuleTexts,
     kind: PluralRuleType,
     text: &str,
-) -> Result<Vec<Category>, AllocError> {
+) -> Result<Vec<Category>, AllocError>
+    ensures { IfOk result
+        (λ list. map category_view list.items ≡ spec.kind_by rules.now kind text.now) }
+{
     let mut list = Vec::new(alloc);
     list.push(category_by(alloc, rules, kind, text, PluralCategory::ZERO)?)?;
     list.push(category_by(alloc, rules, kind, text, PluralCategory::ONE)?)?;
@@ -130,7 +178,9 @@ fn kind_by(
 }
 
 /// The rules of two texts.
-fn parsed(alloc: Global, texts: &LanguageRules<'_>) -> Result<RuleTexts, AllocError> {
+fn parsed(alloc: Global, texts: &LanguageRules<'_>) -> Result<RuleTexts, AllocError>
+    ensures { IfOk result (λ rules. rules ≡ rules_by (content texts.now)) }
+{
     match RuleTexts::parse(alloc, texts.cardinal, texts.ordinal) {
         Ok(rules) => Ok(rules),
         // All of CLDR's rules can be read, so an allocation failed.
@@ -139,7 +189,9 @@ fn parsed(alloc: Global, texts: &LanguageRules<'_>) -> Result<RuleTexts, AllocEr
 }
 
 /// The categories of a language by its tag, by the rules of the Unicode CLDR.
-pub(crate) fn categories_of(alloc: Global, tag: &str, all: bool) -> Result<Categories, AllocError> {
+pub(crate) fn categories_of(alloc: Global, tag: &str, all: bool) -> Result<Categories, AllocError>
+    ensures { IfOk result (λ c. categories_view c ≡ spec.categories_of tag.now all) }
+{
     let texts = rules_for(cldr_plurals(), tag).unwrap_or(NO_RULES);
     let rules = parsed(alloc, &texts)?;
     Ok(Categories {
@@ -150,7 +202,9 @@ pub(crate) fn categories_of(alloc: Global, tag: &str, all: bool) -> Result<Categ
 }
 
 /// No categories, where no language is given.
-pub(crate) fn no_categories(alloc: Global) -> Categories {
+pub(crate) fn no_categories(alloc: Global) -> Categories
+    ensures { categories_view result ≡ spec.no_categories }
+{
     Categories {
         cardinal: Vec::new(alloc),
         ordinal: Vec::new(alloc),

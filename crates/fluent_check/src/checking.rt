@@ -1,29 +1,40 @@
 //! All that is found in files.
 
-ghost use Rattle.std.specs.Prelude.{◌≡◌, [], ◌∷◌, IfOk, IsTrue};
-ghost use Rattle.fluent_check.specs.Bundles.{bundle_view, entries_of_all};
-ghost use Rattle.fluent_check.specs.Faultless.{AreFaultless, AreFaultlessBy, IsFaultless, NoneFailsIn, tag_of};
+ghost use Rattle.std.specs.Prelude.{◌≡◌, [], ◌∷◌, IfOk, IsTrue, OnOk, map};
+ghost use Rattle.fluent_lint.specs.Asked.{texts};
+ghost use Rattle.fluent_lint.specs.Clean.{names_of};
+ghost use Rattle.fluent_check.specs.Bundles.{bundle_view};
+ghost use Rattle.fluent_check.specs.CategoryView.{categories_view};
+ghost use Rattle.fluent_check.specs.Faultless.{AreFaultlessBy, tag_of};
+ghost use Rattle.fluent_check.specs.Found.{AddsFound};
+ghost use Rattle.fluent_check.specs.Groups.{entries_loaded, group_view, groups_from, groups_of, loaded, read_group};
+ghost use Rattle.fluent_check.specs.Inside.Faultless.{AreEachFaultless, AreFaultlessFiles, IsFaultlessBy, calling};
+ghost use Rattle.fluent_check.specs.Inside.Looks.{AddsAllDifferences, AddsDifferences, AddsLinted, AddsLooks, AddsPatterns};
+ghost use Rattle.fluent_check.specs.Inside.Places.{place_found};
+ghost use Rattle.fluent_check.specs.Linted.{NoneFails};
+ghost use Rattle.fluent_check.specs.Looks.{IsFound, categories_if, found_ids};
+ghost use Rattle.fluent_check.specs.Places.{keys_of, place_of};
 ghost use Rattle.fluent_check.specs.Reading.{entries_read};
-ghost use Rattle.std.specs.List.{AllByRecursion};
+ghost use Rattle.fluent_check.specs.Standing.{standing_view, standings};
+ghost use Rattle.fluent_check.specs.Whole.{found_whole, found_wholes, whole_view, wholes};
 
-use crate::bundle::{Bundle, bundle_of_all};
+use crate::bundle::{Bundle, bundle_of_group};
 use crate::called::add_functions;
 use crate::categories::{Categories, categories_of, no_categories};
-use crate::files::{Read, all_files};
+use crate::files::{add_sources, all_files};
 use crate::finding::{Finding, Part};
+use crate::groups::Group;
 use crate::linted::lint_all;
 use crate::patterns::{Against, add_patterns, add_selects, called_in};
 use crate::places::{Places, places_of};
-use crate::referred::{Whole, add_referred};
+use crate::referred::{Edition, add_referred};
 use crate::repeated::{add_function_ids, add_repeated};
-use crate::sites::{Site, sites_of};
 use crate::source::Sources;
 use crate::standing::{Standing, standings_in};
 use crate::taken::add_taken;
 use crate::terms::terms_at;
 use crate::unreadable::add_unreadable;
-use crate::whole::Whole as WholeProblem;
-use fluent_bundle::FluentResource;
+use crate::whole::Whole;
 use fluent_lint::Place;
 use std::alloc::{AllocError, Global};
 use std::slice;
@@ -59,33 +70,11 @@ pub struct Found<'s> {
     pub is_clean: bool,
 }
 
-/// Files by their resources, and by the numbers of the first and of the first behind them.
-#[derive(Clone, Copy)]
-struct Files<'a, 's> {
-    resources: &'a [FluentResource<'s>],
-    from: usize,
-    to: usize,
-}
-
-/// What was read of all files, and what comes in their language.
-#[derive(Clone, Copy)]
-struct All<'a, 's> {
-    /// Of the files, then of the references.
-    sites: &'a [Vec<Site<'s>>],
-    categories: &'a Categories,
-}
-
-/// The sites of all files.
-fn sites_in<'s>(alloc: Global, files: &[Read<'_, 's>]) -> Result<Vec<Vec<Site<'s>>>, AllocError> {
-    let mut list = Vec::new(alloc);
-    for file in files {
-        list.push(sites_of(alloc, file.resource)?)?;
-    }
-    Ok(list)
-}
-
 /// The categories of the language that is given, if one is.
-fn categories_for(alloc: Global, settings: &Settings<'_>) -> Result<Categories, AllocError> {
+fn categories_for(alloc: Global, settings: &Settings<'_>) -> Result<Categories, AllocError>
+    ensures { IfOk result
+        (λ c. categories_view c ≡ categories_if settings.now.language settings.now.has_all_categories) }
+{
     match settings.language {
         Some(tag) => categories_of(alloc, tag, settings.has_all_categories),
         None => Ok(no_categories(alloc)),
@@ -97,19 +86,12 @@ fn add_names<'s>(
     alloc: Global,
     standings: &[Standing<'_, 's>],
     findings: &mut Vec<Finding<'s>>,
-) -> Result<(), AllocError> {
+) -> Result<(), AllocError>
+    ensures { OnOk result (AddsFound (found_ids (map standing_view standings.now)) findings.old findings.new) }
+{
     add_taken(alloc, standings, findings)?;
     add_function_ids(standings, findings)?;
     add_repeated(alloc, standings, findings)
-}
-
-/// The places, in order.
-fn keys<'s>(alloc: Global, places: &Places<'_, 's>) -> Result<Vec<Place<'s>>, AllocError> {
-    let mut list = Vec::new(alloc);
-    for standing in places.list.as_slice() {
-        list.push(standing.site.place)?;
-    }
-    Ok(list)
 }
 
 /// Adds what is wrong in the patterns of a bundle's places.
@@ -120,9 +102,12 @@ fn add_of_patterns<'r, 's>(
     bundle: &Bundle<'r, 's>,
     places: &Places<'_, 's>,
     findings: &mut Vec<Finding<'s>>,
-) -> Result<(), AllocError> {
-    let keys = keys(alloc, places)?;
-    let terms = terms_at(alloc, bundle, keys.as_slice())?;
+) -> Result<(), AllocError>
+    requires { keys_of places.now ≡ map place_of (standings places.now.list) }
+    ensures { OnOk result (AddsPatterns (names_of (bundle_view bundle.now)) (texts settings.now.functions.now)
+        (categories_view categories.now) (standings places.now.list) findings.old findings.new) }
+{
+    let terms = terms_at(alloc, bundle, places.keys.as_slice())?;
     let against = Against {
         bundle,
         terms: &terms,
@@ -132,16 +117,33 @@ fn add_of_patterns<'r, 's>(
     add_selects(alloc, bundle, categories, places, findings)
 }
 
+/// Adds what is wrong with a whole value or attribute, where it stands.
+fn add_whole<'s>(
+    places: &Places<'_, 's>,
+    whole: &Whole<'s>,
+    findings: &mut Vec<Finding<'s>>,
+) -> Result<(), AllocError>
+    ensures { OnOk result
+        (AddsFound (found_whole (place_found places.now) (whole_view whole.now)) findings.old findings.new) }
+{
+    let Some(standing) = places.get(&whole.place) else {
+        return Ok(());
+    };
+    findings.push(standing.found(Part::Whole, whole.problem))?;
+    Ok(())
+}
+
 /// Adds what is wrong with whole values and attributes, where each stands.
 fn add_wholes<'s>(
     places: &Places<'_, 's>,
-    wholes: &[WholeProblem<'s>],
+    list: &[Whole<'s>],
     findings: &mut Vec<Finding<'s>>,
-) -> Result<(), AllocError> {
-    for whole in wholes {
-        if let Some(standing) = places.get(&whole.place) {
-            findings.push(standing.found(Part::Whole, whole.problem))?;
-        }
+) -> Result<(), AllocError>
+    ensures { OnOk result
+        (AddsFound (found_wholes (place_found places.now) (wholes list.now)) findings.old findings.new) }
+{
+    for whole in list {
+        add_whole(places, whole, findings)?;
     }
     Ok(())
 }
@@ -151,58 +153,83 @@ fn add_wholes<'s>(
 fn add_linted<'r, 's: 'r>(
     alloc: Global,
     bundle: &mut Bundle<'r, 's>,
-    resources: &[FluentResource<'s>],
+    group: &Group<'_, '_, 's>,
     places: &Places<'_, 's>,
     findings: &mut Vec<Finding<'s>>,
 ) -> Result<bool, AllocError>
-    ensures { IfOk result (λ yes. IsTrue yes → NoneFailsIn (bundle_view bundle.old) (entries_of_all resources.now)) }
+    requires { keys_of places.now ≡ map place_of (standings places.now.list) }
+    ensures linted { IfOk result (AddsLinted (bundle_view bundle.old) (names_of (bundle_view bundle.old))
+        (standings places.now.list) (group_view group.now) findings.old findings.new) }
+    ensures clean { IfOk result (λ yes. IsTrue yes
+        → NoneFails (calling (bundle_view bundle.old) (standings places.now.list)) (entries_loaded (group_view group.now))) }
 {
     let called = called_in(alloc, bundle, places)?;
     add_functions(bundle, called.as_slice())?;
-    let linted = lint_all(alloc, bundle, resources)?;
+    let linted = lint_all(alloc, bundle, group)?;
     add_wholes(places, linted.problems.as_slice(), findings)?;
     Ok(linted.is_clean)
 }
 
-/// Adds what is found in files that count as one source, and says whether the linter finds nothing in them.
+/// Adds what is found in the files of a group, and says whether the linter finds nothing in them.
 fn add_files<'s>(
     alloc: Global,
     settings: &Settings<'_>,
-    all: &All<'_, 's>,
-    files: &Files<'_, 's>,
-    references: &Files<'_, 's>,
+    categories: &Categories,
+    group: &Group<'_, '_, 's>,
     findings: &mut Vec<Finding<'s>>,
 ) -> Result<bool, AllocError>
-    ensures { IfOk result
-        (λ yes. IsTrue yes → AreFaultless (tag_of settings.now.language) (entries_of_all files.now.resources.now)) }
+    requires { categories_view categories.now ≡ categories_if settings.now.language settings.now.has_all_categories }
+    ensures looks { IfOk result (AddsLooks settings.now (group_view group.now ∷ []) findings.old findings.new) }
+    ensures clean { IfOk result (λ yes. IsTrue yes
+        → AreFaultlessFiles (tag_of settings.now.language) (loaded (group_view group.now))) }
 {
-    let standings = standings_in(alloc, all.sites, files.from, files.to)?;
+    let standings = standings_in(alloc, group)?;
     add_names(alloc, standings.as_slice(), findings)?;
-    let mut bundle = bundle_of_all(alloc, tag_of(settings.language), files.resources)?;
+    let mut bundle = bundle_of_group(alloc, tag_of(settings.language), group)?;
     let places = places_of(alloc, &bundle, standings.as_slice())?;
-    add_of_patterns(alloc, settings, all.categories, &bundle, &places, findings)?;
-    add_compared(alloc, all, references, &bundle, &places, findings)?;
-    add_linted(alloc, &mut bundle, files.resources, &places, findings)
+    add_of_patterns(alloc, settings, categories, &bundle, &places, findings)?;
+    add_compared(alloc, group, &bundle, &places, findings)?;
+    add_linted(alloc, &mut bundle, group, &places, findings)
 }
 
-/// Adds how files differ from those that they were translated from, if there are any.
-fn add_compared<'s>(
+/// Adds how the own files of a group differ from those that they were translated from.
+fn add_differences<'s>(
     alloc: Global,
-    all: &All<'_, 's>,
-    references: &Files<'_, 's>,
+    group: &Group<'_, '_, 's>,
     bundle: &Bundle<'_, 's>,
     places: &Places<'_, 's>,
     findings: &mut Vec<Finding<'s>>,
-) -> Result<(), AllocError> {
-    if references.resources.is_empty() {
+) -> Result<(), AllocError>
+    requires { keys_of places.now ≡ map place_of (standings places.now.list) }
+    ensures { OnOk result (AddsAllDifferences (group_view group.now) (names_of (bundle_view bundle.now))
+        (standings places.now.list) findings.old findings.new) }
+{
+    let references = Group::alone(group.references);
+    let standings = standings_in(alloc, &references)?;
+    let english = bundle_of_group(alloc, "en", &references)?;
+    let there = places_of(alloc, &english, standings.as_slice())?;
+    let reference = Edition::new(alloc, &english, &there)?;
+    let translation = Edition::new(alloc, bundle, places)?;
+    let first = group.beside.len();
+    add_referred(alloc, &reference, &translation, first, findings)
+}
+
+/// The same, if there are any such files.
+fn add_compared<'s>(
+    alloc: Global,
+    group: &Group<'_, '_, 's>,
+    bundle: &Bundle<'_, 's>,
+    places: &Places<'_, 's>,
+    findings: &mut Vec<Finding<'s>>,
+) -> Result<(), AllocError>
+    requires { keys_of places.now ≡ map place_of (standings places.now.list) }
+    ensures { OnOk result (AddsDifferences (group_view group.now) (names_of (bundle_view bundle.now))
+        (standings places.now.list) findings.old findings.new) }
+{
+    let Some(_) = group.references.first() else {
         return Ok(());
-    }
-    let standings = standings_in(alloc, all.sites, references.from, references.to)?;
-    let reference = bundle_of_all(alloc, "en", references.resources)?;
-    let there = places_of(alloc, &reference, standings.as_slice())?;
-    let reference = Whole::new(alloc, &reference, &there)?;
-    let translation = Whole::new(alloc, bundle, places)?;
-    add_referred(alloc, &reference, &translation, findings)
+    };
+    add_differences(alloc, group, bundle, places, findings)
 }
 
 /// The language of the files, or English.
@@ -215,119 +242,55 @@ fn tag_of<'w>(language: Option<&'w str>) -> &'w str
     }
 }
 
-/// None of these files.
-fn no_files<'a, 's>(resources: &'a [FluentResource<'s>]) -> Files<'a, 's> {
-    Files {
-        resources: &resources[..0],
-        from: 0,
-        to: 0,
-    }
-}
-
-/// The reference of this number, where files go in pairs.
-fn reference_at<'a, 's>(
-    settings: &Settings<'_>,
-    own: usize,
-    references: &'a [FluentResource<'s>],
-    index: usize,
-) -> Files<'a, 's> {
-    let to = match settings.grouping {
-        Grouping::Pairs => index.saturating_add(1),
-        Grouping::Together | Grouping::Each => index,
-    };
-    let Some(resources) = references.get(index..to) else {
-        return no_files(references);
-    };
-    Files {
-        resources,
-        from: own.saturating_add(index),
-        to: own.saturating_add(to),
-    }
-}
-
-/// Adds what is found in each file for itself, and says whether the linter finds nothing in any of them.
-#[tactic(auto, using(crate::proofs::AllTaken::all_more))]
+/// Adds what is found in each of a group's own files for itself, and says whether the linter finds nothing in any of them.
 fn add_each<'s>(
     alloc: Global,
     settings: &Settings<'_>,
-    all: &All<'_, 's>,
-    sources: &Sources<'s>,
-    references: &Sources<'s>,
+    categories: &Categories,
+    all: &Group<'_, '_, 's>,
     findings: &mut Vec<Finding<'s>>,
 ) -> Result<bool, AllocError>
-    ensures { IfOk result
-        (λ yes. IsTrue yes → AllByRecursion (IsFaultless (tag_of settings.now.language)) (entries_read sources.now)) }
+    requires { categories_view categories.now ≡ categories_if settings.now.language settings.now.has_all_categories }
+    ensures looks { IfOk result (AddsLooks settings.now
+        (groups_from settings.now.grouping (group_view all.now) 0 (group_view all.now).own) findings.old findings.new) }
+    ensures clean { IfOk result (λ yes. IsTrue yes → AreEachFaultless (tag_of settings.now.language) (group_view all.now)) }
 {
     let mut is_clean = true;
-    for (index, resource) in sources.resources.iter().enumerate() {
-        let files = Files {
-            resources: slice::from_ref(resource),
-            from: index,
-            to: index.saturating_add(1),
-        };
-        let reference = reference_at(
-            settings,
-            sources.resources.len(),
-            references.resources.as_slice(),
-            index,
-        );
-        if !add_files(alloc, settings, all, &files, &reference, findings)? {
+    for (index, file) in all.own.iter().enumerate() {
+        let group = all.of_file(settings.grouping, index, file);
+        if !add_files(alloc, settings, categories, &group, findings)? {
             is_clean = false;
         }
     }
     Ok(is_clean)
 }
 
-/// Adds what is found in files that all count as one source, and says whether the linter finds nothing in them.
-fn add_together<'s>(
+/// Adds what is found in the files of all groups, and says whether the linter finds nothing in any of them.
+fn add_groups<'s>(
     alloc: Global,
     settings: &Settings<'_>,
-    all: &All<'_, 's>,
-    sources: &Sources<'s>,
-    references: &Sources<'s>,
+    categories: &Categories,
+    all: &Group<'_, '_, 's>,
     findings: &mut Vec<Finding<'s>>,
 ) -> Result<bool, AllocError>
-    ensures { IfOk result
-        (λ yes. IsTrue yes → AreFaultless (tag_of settings.now.language) (entries_read sources.now)) }
-{
-    let own = sources.resources.len();
-    let files = Files {
-        resources: sources.resources.as_slice(),
-        from: 0,
-        to: own,
-    };
-    let reference = Files {
-        resources: references.resources.as_slice(),
-        from: own,
-        to: all.sites.len(),
-    };
-    add_files(alloc, settings, all, &files, &reference, findings)
-}
-
-/// Adds what is found in these files, and says whether the linter finds nothing in them.
-fn add_all<'s>(
-    alloc: Global,
-    settings: &Settings<'_>,
-    all: &All<'_, 's>,
-    sources: &Sources<'s>,
-    references: &Sources<'s>,
-    findings: &mut Vec<Finding<'s>>,
-) -> Result<bool, AllocError>
-    ensures { IfOk result
-        (λ yes. IsTrue yes
-        → AreFaultlessBy settings.now.grouping (tag_of settings.now.language) (entries_read sources.now)) }
+    requires { categories_view categories.now ≡ categories_if settings.now.language settings.now.has_all_categories }
+    ensures looks { IfOk result
+        (AddsLooks settings.now (groups_of settings.now.grouping (group_view all.now)) findings.old findings.new) }
+    ensures clean { IfOk result
+        (λ yes. IsTrue yes → IsFaultlessBy settings.now.grouping (tag_of settings.now.language) (group_view all.now)) }
 {
     match settings.grouping {
-        Grouping::Together => add_together(alloc, settings, all, sources, references, findings),
-        Grouping::Each => add_each(alloc, settings, all, sources, references, findings),
-        Grouping::Pairs => add_each(alloc, settings, all, sources, references, findings),
+        Grouping::Together => add_files(alloc, settings, categories, all, findings),
+        Grouping::Each => add_each(alloc, settings, categories, all, findings),
+        Grouping::Pairs => add_each(alloc, settings, categories, all, findings),
     }
 }
 
-/// All that is found in these files. They are numbered from 0: the sources, then the references.
+/// All that is found in these files, where those beside are loaded with each of the others. They are numbered from 0: those
+/// beside, then the sources, then the references.
 ///
 /// Where the linter finds nothing, no value and no attribute of the files ever shows an error, for all arguments that give
-/// what it asks for, in a bundle that has them and some functions: here those that they call.
+/// what it asks for, in a bundle that has them and each function that they call.
 ///
 /// # Errors
 ///
@@ -335,23 +298,20 @@ fn add_all<'s>(
 pub fn findings<'s>(
     alloc: Global,
     settings: &Settings<'_>,
+    beside: &Sources<'s>,
     sources: &Sources<'s>,
     references: &Sources<'s>,
 ) -> Result<Found<'s>, AllocError>
-    ensures { IfOk result
-        (λ found. IsTrue found.is_clean
-        → AreFaultlessBy settings.now.grouping (tag_of settings.now.language) (entries_read sources.now)) }
+    ensures found { IfOk result (IsFound settings.now (read_group beside.now sources.now references.now)) }
+    ensures clean { IfOk result (λ found. IsTrue found.is_clean
+        → AreFaultlessBy settings.now.grouping (tag_of settings.now.language) (entries_read beside.now) (entries_read sources.now)) }
 {
+    let files = all_files(alloc, beside, sources, references)?;
     let mut findings = Vec::new(alloc);
-    let files = all_files(alloc, sources, references)?;
-    add_unreadable(files.as_slice(), &mut findings)?;
-    let sites = sites_in(alloc, files.as_slice())?;
+    add_unreadable(alloc, files.list.as_slice(), &mut findings)?;
     let categories = categories_for(alloc, settings)?;
-    let all = All {
-        sites: sites.as_slice(),
-        categories: &categories,
-    };
-    let is_clean = add_all(alloc, settings, &all, sources, references, &mut findings)?;
+    let all = Group::of_all(&files);
+    let is_clean = add_groups(alloc, settings, &categories, &all, &mut findings)?;
     Ok(Found { findings, is_clean })
 }
 
@@ -362,28 +322,13 @@ pub fn findings<'s>(
 /// An allocation failed.
 pub fn faults<'s>(alloc: Global, sources: &Sources<'s>) -> Result<Vec<Finding<'s>>, AllocError> {
     let mut findings = Vec::new(alloc);
-    let none = Sources::new(alloc);
-    let files = all_files(alloc, sources, &none)?;
-    add_unreadable(files.as_slice(), &mut findings)?;
-    let sites = sites_in(alloc, files.as_slice())?;
-    for file in 0..files.len() {
-        let standings = standings_in(alloc, sites.as_slice(), file, file.saturating_add(1))?;
+    let mut files = Vec::new(alloc);
+    add_sources(alloc, sources, &mut files)?;
+    add_unreadable(alloc, files.as_slice(), &mut findings)?;
+    for file in files.as_slice() {
+        let standings = standings_in(alloc, &Group::alone(slice::from_ref(file)))?;
         add_taken(alloc, standings.as_slice(), &mut findings)?;
         add_function_ids(standings.as_slice(), &mut findings)?;
     }
     Ok(findings)
-}
-
-/// The values and attributes of these files that stand in a bundle, in order.
-pub(crate) fn places_in<'s>(
-    alloc: Global,
-    bundle: &Bundle<'_, 's>,
-    sources: &Sources<'s>,
-) -> Result<Vec<Place<'s>>, AllocError> {
-    let none = Sources::new(alloc);
-    let files = all_files(alloc, sources, &none)?;
-    let sites = sites_in(alloc, files.as_slice())?;
-    let standings = standings_in(alloc, sites.as_slice(), 0, sites.len())?;
-    let places = places_of(alloc, bundle, standings.as_slice())?;
-    keys(alloc, &places)
 }

@@ -1,42 +1,62 @@
 //! Files that were read.
 
+ghost use Rattle.std.specs.Prelude.{IfOk, OnOk};
+ghost use Rattle.fluent_check.specs.Inside.Parts.{AreAll};
+ghost use Rattle.fluent_check.specs.ReadFiles.{AddsFiles};
+
+use crate::all::AllFiles;
+use crate::sites::{Site, sites_of};
 use crate::source::Sources;
 use fluent_bundle::{FluentResource, ParserError};
 use std::alloc::{AllocError, Global};
 
-/// A file that was read: its text, its entries, and what can't be read in it.
-#[derive(Clone, Copy, Drop)]
+/// A file that was read: its number, its entries, what can't be read in it, and where its values and attributes stand.
+#[derive(Drop)]
 pub(crate) struct Read<'a, 's> {
-    pub text: &'s str,
+    pub number: usize,
     pub resource: &'a FluentResource<'s>,
-    pub unreadable: &'a [ParserError],
+    pub unreadable: Option<&'a Vec<ParserError>>,
+    pub sites: Vec<Site<'s>>,
 }
 
-/// Adds those of some sources.
-fn add<'a, 's>(sources: &'a Sources<'s>, files: &mut Vec<Read<'a, 's>>) -> Result<(), AllocError> {
-    for (i, source) in sources.texts.iter().enumerate() {
-        if let (Some(resource), Some(unreadable)) = (
-            sources.resources.get(i),
-            sources.unreadable.get(i),
-        ) {
-            files.push(Read {
-                text: source.text,
-                resource,
-                unreadable: unreadable.as_slice(),
-            })?;
-        }
+/// Adds the files of some sources. The number of each is how many stand before it.
+pub(crate) fn add_sources<'a, 's>(
+    alloc: Global,
+    sources: &'a Sources<'s>,
+    files: &mut Vec<Read<'a, 's>>,
+) -> Result<(), AllocError>
+    ensures { OnOk result (AddsFiles sources.now files.old files.new) }
+{
+    for (index, resource) in sources.resources.iter().enumerate() {
+        let number = files.len();
+        files.push(Read {
+            number,
+            resource,
+            unreadable: sources.unreadable.get(index),
+            sites: sites_of(alloc, resource)?,
+        })?;
     }
     Ok(())
 }
 
-/// The files of a language, and after them those that they were translated from.
+/// The files of these sources.
 pub(crate) fn all_files<'a, 's>(
     alloc: Global,
+    beside: &'a Sources<'s>,
     sources: &'a Sources<'s>,
     references: &'a Sources<'s>,
-) -> Result<Vec<Read<'a, 's>>, AllocError> {
-    let mut files = Vec::new(alloc);
-    add(sources, &mut files)?;
-    add(references, &mut files)?;
-    Ok(files)
+) -> Result<AllFiles<'a, 's>, AllocError>
+    ensures { IfOk result (AreAll beside.now sources.now references.now) }
+{
+    let mut list = Vec::new(alloc);
+    add_sources(alloc, beside, &mut list)?;
+    let first = list.len();
+    add_sources(alloc, sources, &mut list)?;
+    let behind = list.len();
+    add_sources(alloc, references, &mut list)?;
+    Ok(AllFiles {
+        list,
+        first,
+        behind,
+    })
 }

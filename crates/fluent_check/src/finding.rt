@@ -1,8 +1,9 @@
 //! What is found in files.
 
 use fluent_lint::Place;
+use fluent_reasons::Expected;
 
-/// A byte of a file's text. Files are numbered from 0: those of the language first, then their references.
+/// A byte of a file's text. Files are numbered from 0: those that are loaded beside the others, the others, their references.
 #[derive(Clone, Copy, Debug, Drop)]
 pub struct Spot {
     pub file: usize,
@@ -21,8 +22,8 @@ pub struct Finding<'s> {
 /// What is wrong. An *error* is a text that is wrong or missing, for some arguments at least; the others are warnings.
 #[derive(Clone, Copy, Debug, Drop)]
 pub enum Problem<'s> {
-    /// Error: this can't be read as an entry, up to its last byte that is no blank.
-    Unreadable { last: usize },
+    /// Error: what begins at this byte can't be read as an entry. It stands where reading stopped, and that was expected there.
+    Unreadable { start: usize, expected: Expected },
     /// Error: an entry has the id of one before it, which stands there.
     TakenId { first: Spot },
     /// Error: an entry has the id of the built-in function.
@@ -43,8 +44,11 @@ pub enum Problem<'s> {
     MissingFunction { id: &'s str },
     /// Error: a pattern refers to this one, which leads back to it.
     Cycle { next: Place<'s> },
-    /// Error: a pattern opens so many placeables, or 2^64 - 1 where there are more, and no more than the limit are opened.
+    /// Error: a pattern can open so many placeables, or 2^64 - 1 where there are more, and no more than the limit are opened.
+    /// Arguments that were tried show it.
     TooManyPlaceables { count: u64, limit: u32 },
+    /// A pattern has so many, counted over all variants. No arguments that were tried show more than the limit.
+    MayOpenTooMany { count: u64, limit: u32 },
     /// Error: a pattern refers to this one, which isn't clean.
     LeadsTo { place: Place<'s> },
     /// A reference to a term doesn't give it a variable that it shows.

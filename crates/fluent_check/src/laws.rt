@@ -1,10 +1,16 @@
 //! Laws of what is found.
 ghost use Rattle.std.specs.Prelude.{◌≡◌, length};
 ghost use Rattle.fluent_ast.specs.Tree.{Pattern};
+ghost use Rattle.fluent_check.specs.Linted.{LargeErrorsAreShown};
 ghost use Rattle.fluent_check.specs.Numbered.{references};
 ghost use Rattle.fluent_check.specs.Numbers.{calls};
 
 /// Of each reference of a pattern it is told whether it is a call of `NUMBER` with what is no number.
 pub fn calls_are_told_of_references()
     ensures { (p : Pattern) → length (calls p) ≡ length (references p) }
+{}
+
+/// Each error of too many placeables has arguments that show it.
+pub fn large_errors_are_shown()
+    ensures { LargeErrorsAreShown }
 {}

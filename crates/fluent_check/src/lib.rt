@@ -1,16 +1,19 @@
 //! What is wrong in the FTL files of a language, and where.
 #![tactic(auto)]
 
+mod all;
 mod alone;
 mod among;
 pub mod bundle;
 mod called;
 mod categories;
 pub mod checking;
+mod choices;
 mod compared;
 pub mod examples;
 mod files;
 pub mod finding;
+mod groups;
 pub mod laws;
 pub mod lines;
 mod linted;
@@ -35,6 +38,7 @@ pub mod source;
 mod standing;
 mod taken;
 mod terms;
+mod tried;
 mod unreadable;
 mod whole;
 pub mod wording;

@@ -1,8 +1,11 @@
 //! The values and attributes of files, with what each asks for.
 
-use crate::bundle::bundle_of_all;
-use crate::checking::places_in;
+use crate::bundle::bundle_of_group;
+use crate::files::add_sources;
+use crate::groups::Group;
+use crate::places::places_of;
 use crate::source::Sources;
+use crate::standing::standings_in;
 use fluent_lint::{Asked, Place, variables_at};
 use std::alloc::{AllocError, Global};
 
@@ -19,8 +22,13 @@ pub struct Listing<'s> {
 ///
 /// An allocation failed.
 pub fn list_places<'s>(alloc: Global, sources: &Sources<'s>) -> Result<Listing<'s>, AllocError> {
-    let bundle = bundle_of_all(alloc, "en", sources.resources.as_slice())?;
-    let places = places_in(alloc, &bundle, sources)?;
+    let mut files = Vec::new(alloc);
+    add_sources(alloc, sources, &mut files)?;
+    let group = Group::alone(files.as_slice());
+    let standings = standings_in(alloc, &group)?;
+    let bundle = bundle_of_group(alloc, "en", &group)?;
+    let places = places_of(alloc, &bundle, standings.as_slice())?;
+    let places = places.keys.as_slice().to_vec(alloc)?;
     let asked = variables_at(alloc, &bundle, places.as_slice())?;
     Ok(Listing { places, asked })
 }

@@ -6,8 +6,9 @@ ghost use Rattle.fluent_lint.specs.Asked.{texts};
 ghost use Rattle.fluent_lint.specs.Clean.{names_of};
 ghost use Rattle.fluent_check.specs.Bundles.{bundle_view};
 ghost use Rattle.fluent_check.specs.Called.{AddsNames};
+ghost use Rattle.fluent_check.specs.CategoryView.{categories_view};
 ghost use Rattle.fluent_check.specs.Found.{AddsFound, flaws_in};
-ghost use Rattle.fluent_check.specs.Patterns.{against_view, called_at, called_in, flaws_of, found_in_pattern, found_in_patterns};
+ghost use Rattle.fluent_check.specs.Patterns.{against_view, called_at, called_in, flaws_of, found_in_pattern, found_in_patterns, found_selects, found_selects_at};
 ghost use Rattle.fluent_check.specs.Standing.{standing_view, standings};
 ghost use Rattle.fluent_check.specs.Terms.{AreOf};
 
@@ -143,7 +144,13 @@ fn add_selects_at<'s>(
     categories: &Categories,
     standing: &Standing<'_, 's>,
     findings: &mut Vec<Finding<'s>>,
-) -> Result<(), AllocError> {
+) -> Result<(), AllocError>
+    ensures { OnOk result
+        (AddsFound
+        (found_selects_at (names_of (bundle_view bundle.now)) (categories_view categories.now)
+        (standing_view standing.now))
+        findings.old findings.new) }
+{
     let Some(pattern) = pattern_at(bundle, &standing.site.place) else {
         return Ok(());
     };
@@ -159,7 +166,13 @@ pub(crate) fn add_selects<'s>(
     categories: &Categories,
     places: &Places<'_, 's>,
     findings: &mut Vec<Finding<'s>>,
-) -> Result<(), AllocError> {
+) -> Result<(), AllocError>
+    ensures { OnOk result
+        (AddsFound
+        (found_selects (names_of (bundle_view bundle.now)) (categories_view categories.now)
+        (standings places.now.list))
+        findings.old findings.new) }
+{
     for standing in places.list.as_slice() {
         add_selects_at(alloc, bundle, categories, standing, findings)?;
     }

@@ -24,6 +24,7 @@ impl Problem<'_> {
             Problem::MissingFunction { .. } => "missing-function",
             Problem::Cycle { .. } => "cycle",
             Problem::TooManyPlaceables { .. } => "too-many-placeables",
+            Problem::MayOpenTooMany { .. } => "may-open-too-many",
             Problem::LeadsTo { .. } => "refers-to-unclean",
             Problem::NotGiven { .. } => "variable-not-given",
             Problem::UnusedArgument { .. } => "unused-argument",
@@ -49,6 +50,7 @@ impl Problem<'_> {
         match self {
             Problem::RepeatedAttribute
             | Problem::MissingFunction { .. }
+            | Problem::MayOpenTooMany { .. }
             | Problem::NotGiven { .. }
             | Problem::UnusedArgument { .. }
             | Problem::NoNumber

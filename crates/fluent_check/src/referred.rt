@@ -1,5 +1,15 @@
 //! A translation beside the files that it was translated from.
 
+ghost use Rattle.std.specs.Prelude.{◌≡◌, IfOk, OnOk};
+ghost use Rattle.std.specs.Option.{option_map};
+ghost use Rattle.fluent_lint.specs.Clean.{place_view};
+ghost use Rattle.fluent_check.specs.Alone.{side_view};
+ghost use Rattle.fluent_check.specs.Compared.{wording_view};
+ghost use Rattle.fluent_check.specs.Differences.{all_differences, all_here, all_there, compared, edition_view, is_of_message, side_of, told_here, told_there, wording_at};
+ghost use Rattle.fluent_check.specs.Found.{AddsFlaws, AddsFound};
+ghost use Rattle.fluent_check.specs.Inside.Editions.{IsEdition};
+ghost use Rattle.fluent_check.specs.Standing.{standing_view, standings};
+
 use crate::alone::{Side, add_unreferenced, add_untranslated};
 use crate::bundle::Bundle;
 use crate::compared::{Wording, add_differences};
@@ -7,55 +17,59 @@ use crate::finding::{Finding, Flaw};
 use crate::places::Places;
 use crate::standing::{Standing, add_flaws};
 use fluent_lint::{Asked, Place, pattern_at, variables_at};
-use indexmap::IndexSet;
 use std::alloc::{AllocError, Global};
 
 /// A translation, or its reference: its bundle, where its values and attributes stand, and what each asks for.
 #[derive(Drop)]
-pub(crate) struct Whole<'b, 'a, 'r, 's> {
+pub(crate) struct Edition<'b, 'a, 'r, 's> {
     pub bundle: &'b Bundle<'r, 's>,
     pub places: &'b Places<'a, 's>,
-    keys: IndexSet<Place<'s>>,
-    asked: Asked<'s>,
+    pub asked: Asked<'s>,
 }
 
-impl<'b, 'a, 'r, 's> Whole<'b, 'a, 'r, 's> {
+impl<'b, 'a, 'r, 's> Edition<'b, 'a, 'r, 's> {
     pub(crate) fn new(
         alloc: Global,
         bundle: &'b Bundle<'r, 's>,
         places: &'b Places<'a, 's>,
-    ) -> Result<Whole<'b, 'a, 'r, 's>, AllocError> {
-        let mut keys = IndexSet::new(alloc);
-        for standing in places.list.as_slice() {
-            keys.insert(standing.site.place)?;
-        }
-        let asked = variables_at(alloc, bundle, keys.as_slice())?;
-        Ok(Whole {
+    ) -> Result<Edition<'b, 'a, 'r, 's>, AllocError>
+        ensures { IfOk result (IsEdition bundle.now places.now) }
+    {
+        let asked = variables_at(alloc, bundle, places.keys.as_slice())?;
+        Ok(Edition {
             bundle,
             places,
-            keys,
             asked,
         })
     }
 
-    fn side(&self) -> Side<'_, 'r, 's> {
+    fn side(&self) -> Side<'_, 'r, 's>
+        ensures { side_view result ≡ side_of (edition_view self.now) }
+    {
         Side {
             bundle: self.bundle,
-            places: &self.keys,
+            places: &self.places.keys,
         }
     }
 
     /// The pattern that stands at a place, and the variables for which it asks.
-    fn wording(&self, place: &Place<'s>) -> Option<Wording<'_, 's>> {
-        Some(Wording {
-            pattern: pattern_at(self.bundle, place)?,
-            asked: self.asked.of(place)?,
-        })
+    fn wording(&self, place: &Place<'s>) -> Option<Wording<'_, 's>>
+        ensures { option_map wording_view result ≡ wording_at (edition_view self.now) (place_view place.now) }
+    {
+        let Some(pattern) = pattern_at(self.bundle, place) else {
+            return None;
+        };
+        let Some(asked) = self.asked.of(place) else {
+            return None;
+        };
+        Some(Wording { pattern, asked })
     }
 }
 
 /// Whether a place is one of a message.
-fn is_of_message(place: &Place<'_>) -> bool {
+fn is_of_message(place: &Place<'_>) -> bool
+    ensures { result ≡ is_of_message (place_view place.now) }
+{
     match place {
         Place::Message(..) => true,
         Place::Term(..) => false,
@@ -65,28 +79,39 @@ fn is_of_message(place: &Place<'_>) -> bool {
 /// Adds how a value or an attribute of a message differs from that of the reference, where both have it.
 fn add_if_both<'s>(
     alloc: Global,
-    reference: &Whole<'_, '_, '_, 's>,
-    translation: &Whole<'_, '_, '_, 's>,
+    reference: &Edition<'_, '_, '_, 's>,
+    translation: &Edition<'_, '_, '_, 's>,
     place: &Place<'s>,
     flaws: &mut Vec<Flaw<'s>>,
-) -> Result<(), AllocError> {
+) -> Result<(), AllocError>
+    ensures { OnOk result (AddsFlaws
+        (compared (edition_view reference.now) (edition_view translation.now) (place_view place.now))
+        flaws.old flaws.new) }
+{
     if !is_of_message(place) {
         return Ok(());
     }
-    if let (Some(there), Some(here)) = (reference.wording(place), translation.wording(place)) {
-        add_differences(alloc, &translation.keys, &there, &here, flaws)?;
-    }
-    Ok(())
+    let Some(there) = reference.wording(place) else {
+        return Ok(());
+    };
+    let Some(here) = translation.wording(place) else {
+        return Ok(());
+    };
+    add_differences(alloc, &translation.places.keys, &there, &here, flaws)
 }
 
 /// Adds what is told of a value or an attribute of the translation.
 fn add_here<'s>(
     alloc: Global,
-    reference: &Whole<'_, '_, '_, 's>,
-    translation: &Whole<'_, '_, '_, 's>,
+    reference: &Edition<'_, '_, '_, 's>,
+    translation: &Edition<'_, '_, '_, 's>,
     standing: &Standing<'_, 's>,
     findings: &mut Vec<Finding<'s>>,
-) -> Result<(), AllocError> {
+) -> Result<(), AllocError>
+    ensures { OnOk result (AddsFound
+        (told_here (edition_view reference.now) (edition_view translation.now) (standing_view standing.now))
+        findings.old findings.new) }
+{
     let place = &standing.site.place;
     let mut flaws = Vec::new(alloc);
     add_if_both(alloc, reference, translation, place, &mut flaws)?;
@@ -97,11 +122,15 @@ fn add_here<'s>(
 /// Adds what is told of a value or an attribute of the reference.
 fn add_there<'s>(
     alloc: Global,
-    reference: &Whole<'_, '_, '_, 's>,
-    translation: &Whole<'_, '_, '_, 's>,
+    reference: &Edition<'_, '_, '_, 's>,
+    translation: &Edition<'_, '_, '_, 's>,
     standing: &Standing<'_, 's>,
     findings: &mut Vec<Finding<'s>>,
-) -> Result<(), AllocError> {
+) -> Result<(), AllocError>
+    ensures { OnOk result (AddsFound
+        (told_there (edition_view reference.now) (edition_view translation.now) (standing_view standing.now))
+        findings.old findings.new) }
+{
     let mut flaws = Vec::new(alloc);
     add_untranslated(
         &reference.side(),
@@ -112,18 +141,58 @@ fn add_there<'s>(
     add_flaws(standing, flaws.as_slice(), findings)
 }
 
-/// Adds how a translation differs from its reference.
-pub(crate) fn add_referred<'s>(
+/// Adds what is told of the translation. Files with numbers below this one stand beside it, and aren't compared.
+fn add_all_here<'s>(
     alloc: Global,
-    reference: &Whole<'_, '_, '_, 's>,
-    translation: &Whole<'_, '_, '_, 's>,
+    reference: &Edition<'_, '_, '_, 's>,
+    translation: &Edition<'_, '_, '_, 's>,
+    first: usize,
     findings: &mut Vec<Finding<'s>>,
-) -> Result<(), AllocError> {
+) -> Result<(), AllocError>
+    ensures { OnOk result (AddsFound
+        (all_here first (edition_view reference.now) (edition_view translation.now)
+        (standings translation.now.places.now.list))
+        findings.old findings.new) }
+{
     for standing in translation.places.list.as_slice() {
-        add_here(alloc, reference, translation, standing, findings)?;
+        if first <= standing.file {
+            add_here(alloc, reference, translation, standing, findings)?;
+        }
     }
+    Ok(())
+}
+
+/// Adds what is told of the reference.
+fn add_all_there<'s>(
+    alloc: Global,
+    reference: &Edition<'_, '_, '_, 's>,
+    translation: &Edition<'_, '_, '_, 's>,
+    findings: &mut Vec<Finding<'s>>,
+) -> Result<(), AllocError>
+    ensures { OnOk result (AddsFound
+        (all_there (edition_view reference.now) (edition_view translation.now)
+        (standings reference.now.places.now.list))
+        findings.old findings.new) }
+{
     for standing in reference.places.list.as_slice() {
         add_there(alloc, reference, translation, standing, findings)?;
     }
     Ok(())
+}
+
+/// Adds how a translation differs from its reference. Files with numbers below this one stand beside the translation, and
+/// are no part of it.
+pub(crate) fn add_referred<'s>(
+    alloc: Global,
+    reference: &Edition<'_, '_, '_, 's>,
+    translation: &Edition<'_, '_, '_, 's>,
+    first: usize,
+    findings: &mut Vec<Finding<'s>>,
+) -> Result<(), AllocError>
+    ensures { OnOk result (AddsFound
+        (all_differences first (edition_view reference.now) (edition_view translation.now))
+        findings.old findings.new) }
+{
+    add_all_here(alloc, reference, translation, first, findings)?;
+    add_all_there(alloc, reference, translation, findings)
 }

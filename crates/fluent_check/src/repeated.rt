@@ -1,9 +1,10 @@
 //! Ids and names of attributes that can't be had where they stand.
 
-ghost use Rattle.std.specs.Prelude.{◌≡◌, [], OnOk, map};
+ghost use Rattle.std.specs.Prelude.{◌≡◌, [], IfOk, OnOk, map};
 ghost use Rattle.std.specs.Option.{option_map};
 ghost use Rattle.fluent_lint.specs.Clean.{place_view};
 ghost use Rattle.fluent_check.specs.Found.{AddsFound};
+ghost use Rattle.fluent_check.specs.Inside.Ids.{Repeats};
 ghost use Rattle.fluent_check.specs.Repeated.{attribute_in, function_ids, is_function_id, repeated_attributes};
 ghost use Rattle.fluent_check.specs.Standing.{standing_view};
 
@@ -53,22 +54,38 @@ fn attribute_in<'s>(place: &Place<'s>) -> Option<&'s str>
     }
 }
 
+/// Adds that an attribute's entry has one of its name before, or notes the name. A value begins an entry anew.
+fn add_at<'s>(
+    alloc: Global,
+    standing: &Standing<'_, 's>,
+    mut names: IndexSet<&'s str>,
+    findings: &mut Vec<Finding<'s>>,
+) -> Result<IndexSet<&'s str>, AllocError>
+    ensures { IfOk result
+        (λ kept. Repeats (standing_view standing.now) names.entry kept findings.old findings.new) }
+{
+    let Some(name) = attribute_in(&standing.site.place) else {
+        return Ok(IndexSet::new(alloc));
+    };
+    if names.insert(name)? {
+        return Ok(names);
+    }
+    findings.push(standing.found(Part::Whole, Problem::RepeatedAttribute))?;
+    Ok(names)
+}
+
 /// Adds the attributes whose entry has one of their name before.
 pub(crate) fn add_repeated<'s>(
     alloc: Global,
     standings: &[Standing<'_, 's>],
     findings: &mut Vec<Finding<'s>>,
-) -> Result<(), AllocError> {
+) -> Result<(), AllocError>
+    ensures { OnOk result
+        (AddsFound (repeated_attributes [] (map standing_view standings.now)) findings.old findings.new) }
+{
     let mut names: IndexSet<&'s str> = IndexSet::new(alloc);
     for standing in standings {
-        match attribute_in(&standing.site.place) {
-            None => names = IndexSet::new(alloc),
-            Some(name) => {
-                if !names.insert(name)? {
-                    findings.push(standing.found(Part::Whole, Problem::RepeatedAttribute))?;
-                }
-            }
-        }
+        names = add_at(alloc, standing, names, findings)?;
     }
     Ok(())
 }

@@ -1,5 +1,15 @@
 //! What is wrong with the selects of a pattern.
 
+ghost use Rattle.std.specs.Prelude.{◌≡◌, ◌+◌, [], IfOk, OnOk, codes, filter, map};
+ghost use Rattle.std.specs.List.{list_any};
+ghost use Rattle.fluent_ast.specs.References.{inlines_view, nameds_view, variants_view};
+ghost use Rattle.fluent_ast.specs.View.{arguments_view, expression_view, inline_view, key_view, pattern_view};
+ghost use Rattle.fluent_check.specs.CategoryView.{categories_view, category_view};
+ghost use Rattle.fluent_check.specs.Categories.{comes};
+ghost use Rattle.fluent_check.specs.Found.{AddsFlaws, flaw_view};
+ghost use Rattle.fluent_check.specs.Selects as spec;
+ghost use Rattle.fluent_check.specs.SelectView.{passed_view, senses_view};
+
 use crate::categories::{Categories, Category};
 use crate::finding::{Flaw, Part, Problem};
 use crate::sense::{Sense, add_sense, is_among, sense_of, senses_of, whole_number};
@@ -25,7 +35,11 @@ pub(crate) fn add_select_flaws<'s>(
     categories: &Categories,
     pattern: &Pattern<'s>,
     flaws: &mut Vec<Flaw<'s>>,
-) -> Result<(), AllocError> {
+) -> Result<(), AllocError>
+    ensures { OnOk result
+        (AddsFlaws (spec.select_flaws (categories_view categories.now) (pattern_view pattern.now))
+        flaws.old flaws.new) }
+{
     let mut passed = Passed {
         selects: 0,
         variants: 0,
@@ -41,7 +55,11 @@ fn pass_pattern<'s>(
     categories: &Categories,
     pattern: &Pattern<'s>,
     passed: &mut Passed<'s>,
-) -> Result<(), AllocError> {
+) -> Result<(), AllocError>
+    ensures { OnOk result
+        (passed_view passed.new ≡ spec.after_pattern (categories_view categories.now)
+        (pattern_view pattern.now) (passed_view passed.old)) }
+{
     for element in &pattern.elements {
         if let PatternElement::Placeable { expression } = element {
             pass_expression(alloc, categories, expression, passed)?;
@@ -56,7 +74,11 @@ fn pass_expression<'s>(
     categories: &Categories,
     expression: &Expression<'s>,
     passed: &mut Passed<'s>,
-) -> Result<(), AllocError> {
+) -> Result<(), AllocError>
+    ensures { OnOk result
+        (passed_view passed.new ≡ spec.after_expression (categories_view categories.now)
+        (expression_view expression.now) (passed_view passed.old)) }
+{
     match expression {
         Expression::Inline(inline) => pass_inline(alloc, categories, inline, passed),
         Expression::Select { selector, variants } => {
@@ -75,7 +97,12 @@ fn pass_variants<'s>(
     asked: &[Category],
     variants: &[Variant<'s>],
     passed: &mut Passed<'s>,
-) -> Result<(), AllocError> {
+) -> Result<(), AllocError>
+    ensures { OnOk result
+        (passed_view passed.new ≡ spec.after_variants (categories_view categories.now)
+        (map category_view asked.now) [] (variants_view variants.now)
+        (passed_view passed.old)) }
+{
     let mut before: IndexSet<Sense<'s>> = IndexSet::new(alloc);
     for variant in variants {
         pass_key(asked, &variant.key, variant.default, &mut before, passed)?;
@@ -90,7 +117,11 @@ fn pass_inline<'s>(
     categories: &Categories,
     inline: &InlineExpression<'s>,
     passed: &mut Passed<'s>,
-) -> Result<(), AllocError> {
+) -> Result<(), AllocError>
+    ensures { OnOk result
+        (passed_view passed.new ≡ spec.after_inline (categories_view categories.now)
+        (inline_view inline.now) (passed_view passed.old)) }
+{
     match inline {
         InlineExpression::FunctionReference { arguments, .. } => {
             pass_arguments(alloc, categories, arguments, passed)
@@ -115,7 +146,11 @@ fn pass_arguments<'s>(
     categories: &Categories,
     arguments: &CallArguments<'s>,
     passed: &mut Passed<'s>,
-) -> Result<(), AllocError> {
+) -> Result<(), AllocError>
+    ensures { OnOk result
+        (passed_view passed.new ≡ spec.after_arguments (categories_view categories.now)
+        (arguments_view arguments.now) (passed_view passed.old)) }
+{
     pass_positional(alloc, categories, &arguments.positional, passed)?;
     pass_named(alloc, categories, &arguments.named, passed)
 }
@@ -126,7 +161,11 @@ fn pass_positional<'s>(
     categories: &Categories,
     positional: &[InlineExpression<'s>],
     passed: &mut Passed<'s>,
-) -> Result<(), AllocError> {
+) -> Result<(), AllocError>
+    ensures { OnOk result
+        (passed_view passed.new ≡ spec.after_positional (categories_view categories.now)
+        (inlines_view positional.now) (passed_view passed.old)) }
+{
     for argument in positional {
         pass_inline(alloc, categories, argument, passed)?;
     }
@@ -139,7 +178,11 @@ fn pass_named<'s>(
     categories: &Categories,
     named: &[NamedArgument<'s>],
     passed: &mut Passed<'s>,
-) -> Result<(), AllocError> {
+) -> Result<(), AllocError>
+    ensures { OnOk result
+        (passed_view passed.new ≡ spec.after_named (categories_view categories.now)
+        (nameds_view named.now) (passed_view passed.old)) }
+{
     for argument in named {
         pass_inline(alloc, categories, &argument.value, passed)?;
     }
@@ -153,7 +196,13 @@ fn pass_select<'s>(
     asked: &[Category],
     variants: &[Variant<'s>],
     passed: &mut Passed<'s>,
-) -> Result<(), AllocError> {
+) -> Result<(), AllocError>
+    ensures { OnOk result
+        (passed_view passed.new
+        ≡ spec.after_select
+        (spec.lacked all (map category_view asked.now) (variants_view variants.now))
+        (passed_view passed.old)) }
+{
     add_lacked(
         alloc,
         all,
@@ -174,7 +223,13 @@ fn add_lacked<'s>(
     variants: &[Variant<'s>],
     number: usize,
     flaws: &mut Vec<Flaw<'s>>,
-) -> Result<(), AllocError> {
+) -> Result<(), AllocError>
+    ensures { OnOk result
+        (AddsFlaws
+        (spec.select_flaws_at number
+        (spec.lacked all (map category_view asked.now) (variants_view variants.now)))
+        flaws.old flaws.new) }
+{
     let senses = senses_of(alloc, variants)?;
     add_those(
         all,
@@ -194,7 +249,14 @@ fn add_those<'s>(
     asked: &[Category],
     number: usize,
     flaws: &mut Vec<Flaw<'s>>,
-) -> Result<(), AllocError> {
+) -> Result<(), AllocError>
+    ensures { OnOk result
+        (AddsFlaws
+        (spec.select_flaws_at number
+        (filter (spec.is_lacked all (senses_view senses.now) otherwise)
+        (map category_view asked.now)))
+        flaws.old flaws.new) }
+{
     for category in asked {
         let flaw = Flaw {
             part: Part::Select(number),
@@ -212,7 +274,15 @@ fn pass_key<'s>(
     is_default: bool,
     before: &mut IndexSet<Sense<'s>>,
     passed: &mut Passed<'s>,
-) -> Result<(), AllocError> {
+) -> Result<(), AllocError>
+    ensures before { OnOk result
+        (senses_view before.new
+        ≡ spec.with_sense (senses_view before.old) (spec.sense_of (key_view key.now))) }
+    ensures passed { OnOk result
+        (passed_view passed.new
+        ≡ spec.after_key (map category_view asked.now) (senses_view before.old)
+        (key_view key.now) is_default (passed_view passed.old)) }
+{
     let is_new = add_sense(before, sense_of(key))?;
     let text = key_text(key);
     let never = Flaw {
@@ -234,7 +304,10 @@ fn pass_key<'s>(
 }
 
 /// Adds a flaw, where this holds.
-fn add_if<'s>(holds: bool, flaw: &Flaw<'s>, flaws: &mut Vec<Flaw<'s>>) -> Result<(), AllocError> {
+fn add_if<'s>(holds: bool, flaw: &Flaw<'s>, flaws: &mut Vec<Flaw<'s>>) -> Result<(), AllocError>
+    ensures { OnOk result
+        (AddsFlaws (spec.flaw_if holds (flaw_view flaw.now)) flaws.old flaws.new) }
+{
     if holds {
         flaws.push(*flaw)?;
     }
@@ -242,12 +315,16 @@ fn add_if<'s>(holds: bool, flaw: &Flaw<'s>, flaws: &mut Vec<Flaw<'s>>) -> Result
 }
 
 /// One more. So many that there is no number for them never fit in memory.
-fn more_by_one(count: usize) -> Result<usize, AllocError> {
+fn more_by_one(count: usize) -> Result<usize, AllocError>
+    ensures { IfOk result (λ more. more ≡ count + 1) }
+{
     count.checked_add(1).ok_or(AllocError)
 }
 
 /// The source of a key.
-fn key_text<'s>(key: &VariantKey<'s>) -> &'s str {
+fn key_text<'s>(key: &VariantKey<'s>) -> &'s str
+    ensures { result.now ≡ spec.key_text (key_view key.now) }
+{
     match key {
         VariantKey::Identifier { name } => name,
         VariantKey::NumberLiteral { value } => value,
@@ -259,7 +336,11 @@ fn asked_by<'c>(
     categories: &'c Categories,
     selector: &InlineExpression<'_>,
     variants: &[Variant<'_>],
-) -> &'c [Category] {
+) -> &'c [Category]
+    ensures { map category_view result.now
+        ≡ spec.asked_by (categories_view categories.now) (inline_view selector.now)
+        (spec.keys_of (variants_view variants.now)) }
+{
     if !is_on_number(selector, variants) {
         return &[];
     }
@@ -272,7 +353,11 @@ fn asked_by<'c>(
 
 /// Whether a select is on a number: it has plural keys, and its selector is a call of `NUMBER`, or a variable and all
 /// names are categories.
-fn is_on_number(selector: &InlineExpression<'_>, variants: &[Variant<'_>]) -> bool {
+fn is_on_number(selector: &InlineExpression<'_>, variants: &[Variant<'_>]) -> bool
+    ensures { result
+        ≡ spec.is_on_number (inline_view selector.now)
+        (spec.keys_of (variants_view variants.now)) }
+{
     match selector {
         InlineExpression::FunctionReference { id, .. } => {
             id.name == "NUMBER" && has_plural(variants)
@@ -285,7 +370,9 @@ fn is_on_number(selector: &InlineExpression<'_>, variants: &[Variant<'_>]) -> bo
 }
 
 /// Whether it asks which one it is.
-fn is_ordinal(selector: &InlineExpression<'_>) -> bool {
+fn is_ordinal(selector: &InlineExpression<'_>) -> bool
+    ensures { result ≡ spec.is_ordinal (inline_view selector.now) }
+{
     match selector {
         InlineExpression::FunctionReference { arguments, .. } => {
             asks_for_ordinal(&arguments.named)
@@ -294,35 +381,49 @@ fn is_ordinal(selector: &InlineExpression<'_>) -> bool {
     }
 }
 
-fn asks_for_ordinal(named: &[NamedArgument<'_>]) -> bool {
+fn asks_for_ordinal(named: &[NamedArgument<'_>]) -> bool
+    ensures { result
+        ≡ spec.has_literal (codes "type") (codes "ordinal") (nameds_view named.now) }
+{
     named.iter().any(|argument| {
         argument.name.name == "type" && is_literal(&argument.value, "ordinal")
     })
 }
 
-fn is_literal(inline: &InlineExpression<'_>, wanted: &str) -> bool {
+fn is_literal(inline: &InlineExpression<'_>, wanted: &str) -> bool
+    ensures { result ≡ spec.is_literal (inline_view inline.now) wanted.now }
+{
     match inline {
         InlineExpression::StringLiteral { value } => *value == wanted,
         _ => false,
     }
 }
 
-fn has_plural(variants: &[Variant<'_>]) -> bool {
+fn has_plural(variants: &[Variant<'_>]) -> bool
+    ensures { result ≡ list_any spec.is_plural (spec.keys_of (variants_view variants.now)) }
+{
     variants.iter().any(|variant| is_plural(&variant.key))
 }
 
-fn has_other_name(variants: &[Variant<'_>]) -> bool {
+fn has_other_name(variants: &[Variant<'_>]) -> bool
+    ensures { result ≡ list_any spec.is_other_name (spec.keys_of (variants_view variants.now)) }
+{
     variants.iter().any(|variant| is_other_name(&variant.key))
 }
 
 /// Whether a default has a category for its key.
-fn has_category_default(variants: &[Variant<'_>]) -> bool {
+fn has_category_default(variants: &[Variant<'_>]) -> bool
+    ensures { result
+        ≡ list_any spec.is_category (spec.default_keys (variants_view variants.now)) }
+{
     variants
         .iter()
         .any(|variant| variant.default && is_category(&variant.key))
 }
 
-fn is_category_word(word: &str) -> bool {
+fn is_category_word(word: &str) -> bool
+    ensures { result ≡ spec.is_category_word word.now }
+{
     word == "zero"
         || word == "one"
         || word == "two"
@@ -331,7 +432,9 @@ fn is_category_word(word: &str) -> bool {
         || word == "other"
 }
 
-fn is_category(key: &VariantKey<'_>) -> bool {
+fn is_category(key: &VariantKey<'_>) -> bool
+    ensures { result ≡ spec.is_category (key_view key.now) }
+{
     match key {
         VariantKey::Identifier { name } => is_category_word(name),
         VariantKey::NumberLiteral { .. } => false,
@@ -339,7 +442,9 @@ fn is_category(key: &VariantKey<'_>) -> bool {
 }
 
 /// Whether a key is a category other than `other`.
-fn is_plural(key: &VariantKey<'_>) -> bool {
+fn is_plural(key: &VariantKey<'_>) -> bool
+    ensures { result ≡ spec.is_plural (key_view key.now) }
+{
     match key {
         VariantKey::Identifier { name } => is_category_word(name) && *name != "other",
         VariantKey::NumberLiteral { .. } => false,
@@ -347,7 +452,9 @@ fn is_plural(key: &VariantKey<'_>) -> bool {
 }
 
 /// Whether a key is a name that is no category.
-fn is_other_name(key: &VariantKey<'_>) -> bool {
+fn is_other_name(key: &VariantKey<'_>) -> bool
+    ensures { result ≡ spec.is_other_name (key_view key.now) }
+{
     match key {
         VariantKey::Identifier { name } => !is_category_word(name),
         VariantKey::NumberLiteral { .. } => false,
@@ -355,15 +462,22 @@ fn is_other_name(key: &VariantKey<'_>) -> bool {
 }
 
 /// Whether a key is a category that no number has.
-fn is_strange(asked: &[Category], key: &VariantKey<'_>) -> bool {
+fn is_strange(asked: &[Category], key: &VariantKey<'_>) -> bool
+    ensures { result ≡ spec.is_strange (map category_view asked.now) (key_view key.now) }
+{
     match key {
-        VariantKey::Identifier { name } => {
-            asked
-                .iter()
-                .any(|category| *name == category.key && !category.exists)
-        }
+        VariantKey::Identifier { name } => no_number_has(asked, name),
         VariantKey::NumberLiteral { .. } => false,
     }
+}
+
+/// Whether a word is one of these categories, and no number has it.
+fn no_number_has(asked: &[Category], word: &str) -> bool
+    ensures { result ≡ spec.no_number_has (map category_view asked.now) word.now }
+{
+    asked
+        .iter()
+        .any(|category| word == category.key && !category.exists)
 }
 
 /// Whether a category comes and nothing serves for it.
@@ -372,15 +486,20 @@ fn is_lacked<'s>(
     senses: &IndexSet<Sense<'s>>,
     otherwise: bool,
     category: &Category,
-) -> bool {
+) -> bool
+    ensures { result
+        ≡ spec.is_lacked all (senses_view senses.now) otherwise (category_view category.now) }
+{
     is_wanted(all, category)
         && !is_among(&Sense::Text(category.key), senses)
         && !is_counted_out(category, senses)
-        && !(otherwise && category.key == "other")
+        && !(!all && otherwise && category.key == "other")
 }
 
 /// Whether a select needs a category, if nothing else serves.
-fn is_wanted(all: bool, category: &Category) -> bool {
+fn is_wanted(all: bool, category: &Category) -> bool
+    ensures { result ≡ spec.is_wanted all (category_view category.now) }
+{
     if all {
         category.exists
     } else {
@@ -389,15 +508,23 @@ fn is_wanted(all: bool, category: &Category) -> bool {
 }
 
 /// Whether a whole number from 0 to 999 has a category.
-fn comes(category: &Category) -> bool {
+fn comes(category: &Category) -> bool
+    ensures { result ≡ comes (category_view category.now) }
+{
     !category.numbers.is_empty()
 }
 
 /// Whether whole numbers have a category, and all of them have variants of their own.
-fn is_counted_out<'s>(category: &Category, senses: &IndexSet<Sense<'s>>) -> bool {
-    comes(category)
-        && category
-            .numbers
-            .iter()
-            .all(|n| is_among(&whole_number(*n), senses))
+fn is_counted_out<'s>(category: &Category, senses: &IndexSet<Sense<'s>>) -> bool
+    ensures { result
+        ≡ spec.is_counted_out (senses_view senses.now) (category_view category.now) }
+{
+    comes(category) && have_variants(&category.numbers, senses)
+}
+
+/// Whether each of these whole numbers has a variant of its own.
+fn have_variants<'s>(numbers: &[u64], senses: &IndexSet<Sense<'s>>) -> bool
+    ensures { result ≡ spec.have_variants (senses_view senses.now) numbers.now }
+{
+    numbers.iter().all(|n| is_among(&whole_number(*n), senses))
 }

@@ -2,10 +2,14 @@
 
 ghost use Rattle.std.specs.Prelude.{◌≡◌, IfOk, OnOk, get_or, map};
 ghost use Rattle.fluent_check.specs.Found.{AddsFound, flaw_view, found_view, part_view, problem_view, spot_view};
-ghost use Rattle.fluent_check.specs.SiteView.{site_view, site_views};
-ghost use Rattle.fluent_check.specs.Standing.{AddsStanding, all_sites, byte_of, flaws_at, found_at, spot_of, standing_view, standings, standings_in, standings_of};
+ghost use Rattle.fluent_check.specs.Groups.{group_view, loaded};
+ghost use Rattle.fluent_check.specs.ReadFiles.{file_view};
+ghost use Rattle.fluent_check.specs.SiteView.{site_view};
+ghost use Rattle.fluent_check.specs.Standing.{AddsStanding, byte_of, flaws_at, found_at, spot_of, standing_view, standings, standings_in, standings_of};
 
+use crate::files::Read;
 use crate::finding::{Finding, Flaw, Part, Problem, Spot};
+use crate::groups::Group;
 use crate::sites::Site;
 use std::alloc::{AllocError, Global};
 
@@ -80,33 +84,43 @@ pub(crate) fn add_flaws<'s>(
 }
 
 /// Adds those of a file.
-fn add_file<'a, 's>(
-    file: usize,
-    sites: &'a [Site<'s>],
-    list: &mut Vec<Standing<'a, 's>>,
+fn add_file<'f, 's>(
+    file: &'f Read<'_, 's>,
+    list: &mut Vec<Standing<'f, 's>>,
 ) -> Result<(), AllocError>
-    ensures { OnOk result (AddsStanding (standings_of file (site_views sites.now)) list.old list.new) }
+    ensures { OnOk result (AddsStanding (standings_of (file_view file.now)) list.old list.new) }
 {
-    for site in sites {
-        list.push(Standing { file, site })?;
+    for site in file.sites.as_slice() {
+        list.push(Standing {
+            file: file.number,
+            site,
+        })?;
     }
     Ok(())
 }
 
-/// The values and attributes of the files with the numbers from one on, and below another, by the sites of all files.
-pub(crate) fn standings_in<'a, 's>(
+/// Adds those of files.
+fn add_files<'f, 's>(
+    files: &'f [Read<'_, 's>],
+    list: &mut Vec<Standing<'f, 's>>,
+) -> Result<(), AllocError>
+    ensures { OnOk result (AddsStanding (standings_in (map file_view files.now)) list.old list.new) }
+{
+    for file in files {
+        add_file(file, list)?;
+    }
+    Ok(())
+}
+
+/// The values and attributes of the files of a group.
+pub(crate) fn standings_in<'g, 's>(
     alloc: Global,
-    sites: &'a [Vec<Site<'s>>],
-    from: usize,
-    to: usize,
-) -> Result<Vec<Standing<'a, 's>>, AllocError>
-    ensures { IfOk result (λ list. standings list ≡ standings_in from to 0 (all_sites sites.now)) }
+    group: &Group<'g, '_, 's>,
+) -> Result<Vec<Standing<'g, 's>>, AllocError>
+    ensures { IfOk result (λ list. standings list ≡ standings_in (loaded (group_view group.now))) }
 {
     let mut list = Vec::new(alloc);
-    for (file, of_file) in sites.iter().enumerate() {
-        if from <= file && file < to {
-            add_file(file, of_file.as_slice(), &mut list)?;
-        }
-    }
+    add_files(group.beside, &mut list)?;
+    add_files(group.own, &mut list)?;
     Ok(list)
 }

@@ -3,9 +3,10 @@
 ghost use Rattle.std.specs.Prelude.{◌≡◌, [], OnOk, map};
 ghost use Rattle.std.specs.Option.{option_map};
 ghost use Rattle.fluent_lint.specs.Clean.{place_view};
-ghost use Rattle.fluent_check.specs.Found.{AddsFound};
+ghost use Rattle.fluent_check.specs.Found.{AddsFound, spot_view};
+ghost use Rattle.fluent_check.specs.Inside.Ids.{Takes, firsts_in};
 ghost use Rattle.fluent_check.specs.Standing.{standing_view};
-ghost use Rattle.fluent_check.specs.Taken.{id_in, taken};
+ghost use Rattle.fluent_check.specs.Taken.{first_of, id_in, taken};
 
 use crate::finding::{Finding, Part, Problem, Spot};
 use crate::standing::Standing;
@@ -23,25 +24,44 @@ fn id_in<'s>(place: &Place<'s>) -> Option<&'s str>
     }
 }
 
+/// Where the first entry of an id stands.
+fn first_of(firsts: &IndexMap<&str, Spot>, id: &str) -> Option<Spot>
+    ensures { option_map spot_view result ≡ first_of id.now (firsts_in firsts.now) }
+{
+    firsts.get(&id).copied()
+}
+
+/// Adds that the id of a value is taken, or notes where it stands.
+fn add_at<'s>(
+    standing: &Standing<'_, 's>,
+    firsts: &mut IndexMap<&'s str, Spot>,
+    findings: &mut Vec<Finding<'s>>,
+) -> Result<(), AllocError>
+    ensures { OnOk result (Takes (standing_view standing.now) firsts.old firsts.new findings.old findings.new) }
+{
+    let Some(id) = id_in(&standing.site.place) else {
+        return Ok(());
+    };
+    match first_of(firsts, id) {
+        Some(first) => findings.push(standing.found(Part::Whole, Problem::TakenId { first }))?,
+        None => {
+            firsts.insert(id, standing.spot())?;
+        }
+    }
+    Ok(())
+}
+
 /// Adds the entries whose id one before them has. A message and a term may share an id, since they share one map of ids.
 pub(crate) fn add_taken<'s>(
     alloc: Global,
     standings: &[Standing<'_, 's>],
     findings: &mut Vec<Finding<'s>>,
-) -> Result<(), AllocError> {
+) -> Result<(), AllocError>
+    ensures { OnOk result (AddsFound (taken [] (map standing_view standings.now)) findings.old findings.new) }
+{
     let mut firsts: IndexMap<&'s str, Spot> = IndexMap::new(alloc);
     for standing in standings {
-        if let Some(id) = id_in(&standing.site.place) {
-            match firsts.get(&id) {
-                Some(first) => {
-                    let first = *first;
-                    findings.push(standing.found(Part::Whole, Problem::TakenId { first }))?;
-                }
-                None => {
-                    firsts.insert(id, standing.spot())?;
-                }
-            }
-        }
+        add_at(standing, &mut firsts, findings)?;
     }
     Ok(())
 }

@@ -4,9 +4,13 @@ ghost use Rattle.std.specs.Prelude.{◌≡◌, IfOk};
 ghost use Rattle.std.specs.Option.{option_map};
 ghost use Rattle.fluent_lint.specs.Clean.{place_view, views};
 ghost use Rattle.fluent_check.specs.Found.{problem_view};
-ghost use Rattle.fluent_check.specs.Whole.{all_lead_on, leads_on, second_or, whole_problem, whole_problems, wholes};
+ghost use Rattle.fluent_check.specs.Bundles.{bundle_view};
+ghost use Rattle.fluent_check.specs.Tried.{is_shown};
+ghost use Rattle.fluent_check.specs.Whole.{all_lead_on, large_problem, leads_on, second_or, whole_problem, whole_problems, wholes};
 
+use crate::bundle::Bundle;
 use crate::finding::Problem;
+use crate::tried::is_shown;
 use fluent_lint::{Finding as Linted, Kind, Place};
 use std::alloc::{AllocError, Global};
 
@@ -19,16 +23,18 @@ pub(crate) struct Whole<'s> {
 
 /// The problems of whole values and attributes, in order. That one leads to another that isn't clean is told only where
 /// nothing else is found, since it is well again as soon as that other one is.
-pub(crate) fn whole_problems<'s>(
+pub(crate) fn whole_problems<'r, 's: 'r>(
     alloc: Global,
+    bundle: &Bundle<'r, 's>,
     list: &[Linted<'s>],
 ) -> Result<Vec<Whole<'s>>, AllocError>
-    ensures { IfOk result (λ found. wholes found.items ≡ whole_problems list.now) }
+    ensures { IfOk result
+        (λ found. wholes found.items ≡ whole_problems (is_shown (bundle_view bundle.now)) list.now) }
 {
     let alone = all_lead_on(list);
     let mut found = Vec::new(alloc);
     for linted in list {
-        if let Some(problem) = whole_problem(alone, linted) {
+        if let Some(problem) = whole_problem(alloc, bundle, alone, linted)? {
             found.push(Whole {
                 place: linted.place,
                 problem,
@@ -60,27 +66,43 @@ fn leads_on(kind: &Kind<'_>) -> bool
     }
 }
 
-/// What a finding says of a whole place, by whether all findings lead on.
-fn whole_problem<'s>(alone: bool, linted: &Linted<'s>) -> Option<Problem<'s>>
-    ensures { option_map problem_view result
-        ≡ whole_problem alone (place_view linted.now.place) linted.now.kind }
+/// What a finding says of a whole place in a bundle, by whether all findings lead on.
+fn whole_problem<'r, 's: 'r>(
+    alloc: Global,
+    bundle: &Bundle<'r, 's>,
+    alone: bool,
+    linted: &Linted<'s>,
+) -> Result<Option<Problem<'s>>, AllocError>
+    ensures { IfOk result (λ found. option_map problem_view found
+        ≡ whole_problem (is_shown (bundle_view bundle.now)) alone (place_view linted.now.place) linted.now.kind) }
 {
     match &linted.kind {
-        Kind::Cycle { places } => Some(Problem::Cycle {
+        Kind::Cycle { places } => Ok(Some(Problem::Cycle {
             next: second_or(linted.place, places),
-        }),
-        Kind::TooManyPlaceables { count, limit } => Some(Problem::TooManyPlaceables {
-            count: *count,
-            limit: *limit,
-        }),
+        })),
+        Kind::TooManyPlaceables { count, limit } => {
+            let is_shown = is_shown(alloc, bundle, &linted.place)?;
+            Ok(Some(large_problem(is_shown, *count, *limit)))
+        }
         Kind::LeadsTo { place } | Kind::Elsewhere { place } => {
             if alone {
-                Some(Problem::LeadsTo { place: *place })
+                Ok(Some(Problem::LeadsTo { place: *place }))
             } else {
-                None
+                Ok(None)
             }
         }
-        _ => None,
+        _ => Ok(None),
+    }
+}
+
+/// That a place opens too many placeables, by whether arguments show it.
+fn large_problem<'s>(is_shown: bool, count: u64, limit: u32) -> Problem<'s>
+    ensures { problem_view result ≡ large_problem is_shown count limit }
+{
+    if is_shown {
+        Problem::TooManyPlaceables { count, limit }
+    } else {
+        Problem::MayOpenTooMany { count, limit }
     }
 }
 

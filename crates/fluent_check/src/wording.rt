@@ -3,6 +3,7 @@
 ghost use Rattle.std.specs.Prelude.{[], ◌++◌, codes, OnOk, IfOk, ◌≡◌, string_bytes};
 ghost use Rattle.fluent_ast.specs.View.{attribute_of};
 ghost use Rattle.fluent_lint.specs.Clean.{place_view};
+ghost use Rattle.fluent_reasons.specs.ExpectedText.{expected_text};
 ghost use Rattle.fluent_check.specs.Files.{Adds};
 ghost use Rattle.fluent_check.specs.Found.{problem_view, spot_view};
 ghost use Rattle.fluent_check.specs.Lined.{lined_views};
@@ -15,6 +16,7 @@ use crate::lines::Lined;
 use crate::positions::{name_at, position_at};
 use fluent_ast::ast::Identifier;
 use fluent_lint::Place;
+use fluent_reasons::Expected;
 use std::alloc::{AllocError, Global};
 
 /// What stands behind a function that isn't there.
@@ -158,13 +160,19 @@ fn put_cycle(
     put_round(is_itself, own, shown, text)
 }
 
-/// Writes that an entry opens too many placeables.
-fn put_too_many(own: &str, count: u64, limit: u32, text: &mut String) -> Result<(), AllocError>
-    ensures { OnOk result (Adds (too_many_text own.now count limit) text.old text.new) }
+/// Writes that an entry opens too many placeables, or may.
+fn put_too_many(
+    own: &str,
+    opens: &str,
+    count: u64,
+    limit: u32,
+    text: &mut String,
+) -> Result<(), AllocError>
+    ensures { OnOk result (Adds (too_many_text own.now opens.now count limit) text.old text.new) }
 {
     write!(
         text,
-        "'{own}' can open {count} placeables, and no more than {limit} are opened"
+        "'{own}'{opens}{count} placeables, and no more than {limit} are opened"
     )
 }
 
@@ -197,20 +205,25 @@ fn put_taken(
     put_taken_by(own, name, at.line, at.column, text)
 }
 
-/// Writes up to which line an entry can't be read.
-fn put_unread_up_to(line: usize, text: &mut String) -> Result<(), AllocError>
-    ensures { OnOk result (Adds (unread_text line) text.old text.new) }
+/// Writes what was expected where reading stopped, and in which line what can't be read begins.
+fn put_unread(what: &str, line: usize, text: &mut String) -> Result<(), AllocError>
+    ensures { OnOk result (Adds (unread_text what.now line) text.old text.new) }
 {
-    write!(text, "this can't be read, to the end of line {line}")
+    write!(text, "{what}; what begins in line {line} can't be read")
 }
 
-/// Writes up to which line the entry can't be read that ends there.
-fn put_unreadable(files: &[Lined<'_>], last: Spot, text: &mut String) -> Result<(), AllocError>
+/// Writes the same of what begins at a spot.
+fn put_unreadable(
+    files: &[Lined<'_>],
+    start: Spot,
+    expected: Expected,
+    text: &mut String,
+) -> Result<(), AllocError>
     ensures { OnOk result
-        (Adds (unread_text (line_at (lined_views files.now) (spot_view last))) text.old text.new) }
+        (Adds (unread_text (expected_text expected) (line_at (lined_views files.now) (spot_view start))) text.old text.new) }
 {
-    let line = position_at(files, last).line;
-    put_unread_up_to(line, text)
+    let line = position_at(files, start).line;
+    put_unread(expected.text(), line, text)
 }
 
 /// Writes the text of a problem, by the text of its entry.
@@ -227,12 +240,13 @@ pub fn put_problem(
         Adds (text_of (line_beside reads (spot_view spot)) (spot_text reads) own.now (problem_view problem.now)) text.old text.new) }
 {
     match *problem {
-        Problem::Unreadable { last } => put_unreadable(
+        Problem::Unreadable { start, expected } => put_unreadable(
             files,
             Spot {
                 file: spot.file,
-                at: last,
+                at: start,
             },
+            expected,
             text,
         ),
         Problem::TakenId { first } => put_taken(files, own, first, text),
@@ -263,7 +277,12 @@ pub fn put_problem(
         ),
         Problem::MissingFunction { id } => put_in(own, "no function '", id, MAYBE_ADDED, text),
         Problem::Cycle { next } => put_cycle(alloc, own, &next, text),
-        Problem::TooManyPlaceables { count, limit } => put_too_many(own, count, limit, text),
+        Problem::TooManyPlaceables { count, limit } => {
+            put_too_many(own, " can open ", count, limit, text)
+        }
+        Problem::MayOpenTooMany { count, limit } => {
+            put_too_many(own, " may open ", count, limit, text)
+        }
         Problem::LeadsTo { place } => put_of_place(
             alloc,
             own,

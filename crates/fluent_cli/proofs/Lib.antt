@@ -1,6 +1,6 @@
 pub mod Alone
 pub mod Anywhere
-pub mod Found
-pub mod Shown
-pub mod Split
-pub mod Statuses
+pub mod FineRuns
+pub mod PairsRead
+pub mod Told
+pub mod Whole

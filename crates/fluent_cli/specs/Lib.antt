@@ -1,2 +1,10 @@
+pub mod Answers
+pub mod Checked
+pub mod Clean
+pub mod Files
+pub mod Inputs
+pub mod Listed
+pub mod RunRows
 pub mod Runs
+pub mod Shown
 pub mod Inside

@@ -1,9 +1,10 @@
 //! What a run leaves: its status, what it prints, and what it says on standard error.
 
-ghost use Rattle.std.specs.Prelude.{◌≡◌, IfOk, string_bytes};
-ghost use Rattle.fluent_cli.specs.Runs.{SaysOnly, IsUnreadable, code_of};
+ghost use Rattle.std.specs.Prelude.{◌≡◌, [], string_bytes};
+ghost use Rattle.fluent_cli.specs.Answers.{AnswersWords, Leaves, code_of};
 
-use std::alloc::{AllocError, Global};
+use fluent_cli_words::{Asked, Request};
+use std::alloc::Global;
 
 /// How a run ends.
 #[derive(Clone, Copy, Debug, PartialEq, Eq)]
@@ -43,9 +44,9 @@ pub struct Answer {
 }
 
 impl Answer {
-    /// A fault of the words, or of a file, with its line on standard error.
-    pub(crate) fn fault(alloc: Global, status: Status, errors: String) -> Answer
-        ensures { SaysOnly status (string_bytes errors) result }
+    /// Nothing is printed, and this is said.
+    pub(crate) fn says(alloc: Global, status: Status, errors: String) -> Answer
+        ensures { Leaves status [] (string_bytes errors) result }
     {
         Answer {
             status,
@@ -54,21 +55,26 @@ impl Answer {
         }
     }
 
-    /// What is left where a file can't be read, for a reason that the system gives.
-    ///
-    /// # Errors
-    ///
-    /// An allocation failed.
-    pub fn unreadable(
-        alloc: Global,
-        name: &str,
-        error: &std::io::Error,
-    ) -> Result<Answer, AllocError>
-        ensures { IfOk result (IsUnreadable name.now) }
+    /// This is printed, and nothing is said.
+    pub(crate) fn prints(alloc: Global, status: Status, output: String) -> Answer
+        ensures { Leaves status (string_bytes output) [] result }
     {
-        let text = format!(in alloc; "{error}")?;
-        let reason = text.as_str();
-        let errors = format!(in alloc; "fluent: {name}: {reason}\n")?;
-        Ok(Answer::fault(alloc, Status::Fault, errors))
+        Answer {
+            status,
+            output,
+            errors: String::new(alloc),
+        }
+    }
+}
+
+/// The request that words ask for. Where they ask for none, what is answered: help is printed with status 0, and a fault of
+/// the words is said with status 2.
+pub fn request_of<'w>(alloc: Global, asked: Asked<'w>) -> Result<Request<'w>, Answer>
+    ensures { AnswersWords asked.entry result }
+{
+    match asked {
+        Asked::Request(request) => Ok(request),
+        Asked::Help(text) => Err(Answer::prints(alloc, Status::Fine, text)),
+        Asked::Fault(text) => Err(Answer::says(alloc, Status::Usage, text)),
     }
 }

@@ -1,21 +1,23 @@
 //! A message as an application shows it.
 
-ghost use Rattle.std.specs.Prelude.{◌≡◌, [], IfOk, map, string_bytes};
+ghost use Rattle.std.specs.Prelude.{◌≡◌, [], IfOk, OnOk, map, string_bytes};
+ghost use Rattle.fluent_check.specs.Bundles.{bundle_view};
+ghost use Rattle.fluent_check.specs.Files.{Adds};
+ghost use Rattle.fluent_check.specs.Reading.{texts_read};
 ghost use Rattle.fluent_fallback.specs.Chain.{bundles_of};
+ghost use Rattle.fluent_bundle.specs.Formatted.{AddsAll};
+ghost use Rattle.fluent_resolver_state.specs.Status.{reported};
 ghost use Rattle.fluent_values.specs.View.{named, value_view};
-ghost use Rattle.fluent_cli.specs.Runs.{status_shown, IsShown, arguments_of, is_there, value_of};
-ghost use Rattle.fluent_cli.specs.Inside.Reading.{entries_read};
-ghost use Rattle.fluent_cli.specs.Inside.Bundles.{bundle_view};
-ghost use Rattle.fluent_cli.specs.Inside.Reports.{shown_by};
+ghost use Rattle.fluent_cli.specs.Shown.{IsShown, Says, arguments_of, error_lines, is_there, missing_line, shown_by, status_shown, value_of};
 
 use crate::answer::{Answer, Status};
-use crate::bundle::bundles_of;
-use crate::faults::say_faults;
-use crate::source::Sources;
-use crate::words::{Argument, ShowRequest};
 use fluent_bundle::{
     FluentArgs, FluentError, FluentValue, NoCustom, NoFormatter, NoFunction, NoTransform,
 };
+use fluent_check::Sources;
+use fluent_check::bundle::bundles_of;
+use fluent_cli_report::say_faults;
+use fluent_cli_words::{Argument, ShowRequest};
 use fluent_fallback::Chain;
 use fluent_plural_rules::RuleTexts;
 use std::alloc::{AllocError, Global};
@@ -59,15 +61,18 @@ fn arguments<'w>(
     Ok(args)
 }
 
-/// The text that was asked for: that of the first bundle that has it, or else the id.
+/// The text that was asked for: that of the first bundle that has it, or else the id. What went wrong in it is added to the
+/// errors.
 fn text_of<'s>(
     alloc: Global,
     texts: &Texts<'_, '_, 's>,
     request: &ShowRequest<'_>,
     errors: &mut Vec<FluentError>,
 ) -> Result<String, AllocError>
-    ensures { IfOk result (λ text. string_bytes text
-        ≡ (shown_by request.now (map bundle_view (bundles_of texts.now))).text) }
+    ensures text { IfOk result
+        (λ text. string_bytes text ≡ (shown_by request.now (map bundle_view (bundles_of texts.now))).text) }
+    ensures errors { OnOk result (AddsAll (shown_by request.now (map bundle_view (bundles_of texts.now))).errors
+        errors.old.items errors.new.items) }
 {
     let args = arguments(alloc, request.arguments.as_slice())?;
     match request.attribute {
@@ -86,21 +91,32 @@ fn has(texts: &Texts<'_, '_, '_>, request: &ShowRequest<'_>) -> bool
     }
 }
 
-/// Says that what was asked for isn't there.
-fn say_missing(request: &ShowRequest<'_>, text: &mut String) -> Result<(), AllocError> {
-    let id = request.id;
-    match request.attribute {
-        Some(name) => write!(text, "fluent: no attribute '{id}.{name}'\n"),
-        None => write!(text, "fluent: no message '{id}' with a value\n"),
-    }
-}
-
 /// Says what went wrong in a text.
-fn say_errors(errors: &[FluentError], text: &mut String) -> Result<(), AllocError> {
+fn say_errors(errors: &[FluentError], said: &mut String) -> Result<(), AllocError>
+    ensures { OnOk result (Adds (error_lines (reported errors.now)) said.old said.new) }
+{
     for error in errors {
-        write!(text, "fluent: {error}\n")?;
+        write!(said, "fluent: {error}\n")?;
     }
     Ok(())
+}
+
+/// Says that what was asked for isn't there, where it isn't.
+fn say_missing(
+    request: &ShowRequest<'_>,
+    is_there: bool,
+    said: &mut String,
+) -> Result<(), AllocError>
+    ensures { OnOk result (Adds (missing_line request.now is_there) said.old said.new) }
+{
+    let id = request.id;
+    if is_there {
+        return Ok(());
+    }
+    match request.attribute {
+        Some(name) => write!(said, "fluent: no attribute '{id}.{name}'\n"),
+        None => write!(said, "fluent: no message '{id}' with a value\n"),
+    }
 }
 
 /// What is said on standard error: what is wrong with the sources, then with the text.
@@ -110,13 +126,13 @@ fn said_of(
     sources: &Sources<'_>,
     errors: &[FluentError],
     is_there: bool,
-) -> Result<String, AllocError> {
+) -> Result<String, AllocError>
+    ensures { IfOk result (Says request.now (texts_read sources.now) (reported errors.now) is_there) }
+{
     let mut said = String::new(alloc);
     say_faults(alloc, sources, &mut said)?;
     say_errors(errors, &mut said)?;
-    if !is_there {
-        say_missing(request, &mut said)?;
-    }
+    say_missing(request, is_there, &mut said)?;
     Ok(said)
 }
 
@@ -137,7 +153,7 @@ pub(crate) fn show(
     request: &ShowRequest<'_>,
     sources: &Sources<'_>,
 ) -> Result<Answer, AllocError>
-    ensures { IfOk result (IsShown request.now (entries_read sources.now)) }
+    ensures { IfOk result (IsShown request.now sources.now) }
 {
     let bundles = bundles_of(alloc, request.language, sources.resources.as_slice())?;
     let texts = Chain::of(bundles.as_slice());

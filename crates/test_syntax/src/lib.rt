@@ -1,4 +1,4 @@
-//! Tests of the reader: sources with their trees, escapes, equality, references, and writers that fail.
+//! Tests of the reader: sources with their trees, reasons of Junk, escapes, equality, references, and writers that fail.
 #![tactic(auto)]
 
 #[cfg(test)]
@@ -11,6 +11,8 @@ mod equality;
 mod escapes;
 #[cfg(test)]
 mod reading;
+#[cfg(test)]
+mod reasons;
 #[cfg(test)]
 mod references;
 #[cfg(test)]

@@ -1,9 +1,11 @@
--- Which messages a bundle has.
-use Rattle.std.specs.Prelude.{◌≡◌, Bool, true, false, List, [], ◌∷◌, ◌++◌, map, is_some}
+-- Which messages a bundle has, and their attributes.
+use Rattle.std.specs.Prelude.{◌≡◌, Bool, true, false, List, [], ◌∷◌, ◌++◌, map, Option, Some, None, String, is_some}
 use Rattle.std.specs.List.{filter}
 use Rattle.std.specs.Str.{IsUtf8}
+use Rattle.std.proofs.Common.{Global}
 use Rattle.fluent_ast.specs.Tree.{Text}
 use Rattle.fluent_semantics.specs.Bundle.{Bundle}
+use Rattle.fluent_bundle_entries.specs.MessageView.{Content}
 use Rattle.fluent_bundle.specs.BundleView.{message_at}
 use Rattle.fluent_c_handles.specs.Answers.{BundleCall, IsOneText, found_at}
 use Rattle.fluent_c_handles.specs.declared.answer.Answer.TheVariants as answer
@@ -45,6 +47,24 @@ abbrev pub HasMessage : Text → BundleCall
 HasMessage id m new answer.Done = (new ≡ m) × (IsUtf8 id × (is_some (message_at id m.bundle) ≡ true))
 HasMessage id m new (answer.Fault (source_fault.Format f)) = (new ≡ m) × HasNoMessage m.bundle id f
 HasMessage id m new a = ⊥
+
+-- ---- the attributes of one
+
+-- their names, in the order of the source; one that stands twice is there twice
+abbrev pub attribute_names : Content → List Text
+attribute_names message = map (λ a. a.0) message.attributes
+
+-- a line for each, where there is a message
+abbrev pub TellsNames : Option Content → String Global → String Global → Type 0
+TellsNames None text lines = ⊥
+TellsNames (Some message) text lines = IsOneText (id_lines (attribute_names message)) text lines
+
+-- the same of the message of the id; or there is none, or no memory
+abbrev pub ListsAttributes : Text → BundleCall
+ListsAttributes id m new (answer.Texts text lines) = (new ≡ m) × (IsUtf8 id × TellsNames (message_at id m.bundle) text lines)
+ListsAttributes id m new (answer.Fault source_fault.Memory) = (new ≡ m) × (IsUtf8 id × (is_some (message_at id m.bundle) ≡ true))
+ListsAttributes id m new (answer.Fault (source_fault.Format f)) = (new ≡ m) × HasNoMessage m.bundle id f
+ListsAttributes id m new a = ⊥
 
 -- ---- by an id and the name of an attribute, which may be empty
 

@@ -1,16 +1,16 @@
 -- A message is formatted: its value or an attribute, with arguments in bytes, by one bundle, by the first of several, or by
 -- the bundle of one source.
-use Rattle.std.specs.Prelude.{◌≡◌, ◌≢◌, ◌≤◌, ◌<◌, ◌==◌, ℕ, Bool, true, false, List, [], ◌∷◌, ◌++◌, length, take, drop, map, Option, Some, None, is_some, if◌then◌else◌, nat_lt, string_bytes}
-use Rattle.std.specs.List.{All, find}
+use Rattle.std.specs.Prelude.{◌≡◌, ◌≢◌, ◌≤◌, ◌<◌, ◌==◌, ℕ, Bool, true, false, List, [], ◌∷◌, ◌++◌, length, take, drop, get_or, map, Option, Some, None, is_some, if◌then◌else◌, nat_lt, string_bytes}
+use Rattle.std.specs.List.{All, find, position}
 use Rattle.std.specs.Int.{w32, from_le_bytes}
 use Rattle.std.specs.Option.{option_map}
 use Rattle.std.specs.Str.{IsUtf8}
 use Rattle.fluent_text.specs.Changes.{Change, new, old}
 use Rattle.fluent_text.specs.Parser.{Parser, ◌>>=◌, pure}
-use Rattle.fluent_ast.specs.Tree.{Text, Pattern}
+use Rattle.fluent_ast.specs.Tree.{Text, Pattern, no_attribute, attribute}
 use Rattle.fluent_semantics.specs.Arguments.{Map, set_all}
 use Rattle.fluent_semantics.specs.Bundle.{Bundle}
-use Rattle.fluent_semantics.specs.Errors.{Error, error_text}
+use Rattle.fluent_semantics.specs.Errors.{Error, Reference, to_function, to_message, to_term, to_variable, lost, no_value, missing_default, cyclic, too_many_placeables, overriding, parser_error, resolver_error, error_text}
 use Rattle.fluent_semantics.specs.Result.{formatted, written_pattern}
 use Rattle.fluent_semantics.specs.Value.{Value, text_value, try_number}
 use Rattle.fluent_c_handles.specs.Answers.{BundleCall, Given, GivesNone, KeptCall, Meant, NotOpenedByTag, OpenedByTag, TextsGiven, WhenOpen, all_kept, fault_status, found_at, with_source}
@@ -22,6 +22,8 @@ use Rattle.fluent_c_handles.specs.declared.sources.SourceFault.{SourceFault}
 use Rattle.fluent_c_handles.specs.declared.sources.SourceFault.TheVariants as source_fault
 use Rattle.fluent_c_handles.specs.declared.texts.FormatFault.{FormatFault}
 use Rattle.fluent_c_handles.specs.declared.texts.FormatFault.TheVariants as fault
+use Rattle.fluent_c_handles.specs.declared.texts.Form.{Form}
+use Rattle.fluent_c_handles.specs.declared.texts.Form.TheVariants as form
 use Rattle.fluent_c_handles.specs.declared.texts.Lengths.{Lengths}
 
 -- ---- one argument in bytes: the kind of its value, `t` for a text and `n` for a number, and then its name and its value,
@@ -126,36 +128,87 @@ abbrev pub error_lines : List Error → Text
 error_lines [] = []
 error_lines (error ∷ errors) = error_line error ++ error_lines errors
 
+-- ---- errors as records
+
+-- an id and the name of an attribute, either of which may be empty: a zero byte ends each
+abbrev pub record_after : Text → Text → Text
+record_after id name = id ++ 0 ∷ (name ++ 0 ∷ [])
+
+-- the same behind the letter of a kind
+abbrev pub record_of : ℕ → Text → Text → Text
+record_of letter id name = letter ∷ record_after id name
+
+-- what could not be found: a function `f`, a message `m` or its attribute `a`, a term `t` or its attribute `b`, a variable `v`
+abbrev pub reference_record : Reference → Text
+reference_record (to_function f) = record_of 102 f []
+reference_record (to_message m no_attribute) = record_of 109 m []
+reference_record (to_message m (attribute a)) = record_of 97 m a
+reference_record (to_term t no_attribute) = record_of 116 t []
+reference_record (to_term t (attribute a)) = record_of 98 t a
+reference_record (to_variable v) = record_of 118 v []
+
+-- A message without a value `n`, a select without a default `d`, a cycle `c`, too many placeables `p`. What is no error of a
+-- text is `?`.
+abbrev pub error_record : Error → Text
+error_record (resolver_error (lost r)) = reference_record r
+error_record (resolver_error (no_value id)) = record_of 110 id []
+error_record (resolver_error missing_default) = record_of 100 [] []
+error_record (resolver_error cyclic) = record_of 99 [] []
+error_record (resolver_error too_many_placeables) = record_of 112 [] []
+error_record (overriding _ id) = record_of 63 id []
+error_record (parser_error _ _) = record_of 63 [] []
+
+abbrev pub error_records : List Error → Text
+error_records [] = []
+error_records (error ∷ errors) = error_record error ++ error_records errors
+
+-- how errors are told
+abbrev pub told_in : Form → List Error → Text
+told_in form.Lines = error_lines
+told_in form.Records = error_records
+
 -- ---- by one bundle
 
--- The message is there and the arguments can be read: these are its text and the lines of its errors.
-pub record TextsIn (bundle : Bundle Text) (id name args shown told : List ℕ) : Type 0 where
+-- The message is there and the arguments can be read: these are its text and what is told of its errors.
+pub record TextsIn (tell : List Error → Text) (bundle : Bundle Text) (id name args shown told : List ℕ) : Type 0 where
   pub texts : IsUtf8 id × IsUtf8 name
   pub pattern : Pattern
   pub all : List Argument
   pub found : found_at id name bundle ≡ Some pattern
   pub read : Are all args
   pub text : shown ≡ formatted bundle (written_pattern bundle (argument_values all) pattern).value
-  pub lines : told ≡ error_lines (written_pattern bundle (argument_values all) pattern).errors
+  pub errors : told ≡ tell (written_pattern bundle (argument_values all) pattern).errors
 
--- The id and the name are texts, and the arguments can be read.
-pub record IsReadable (id name : Text) (args : List ℕ) : Type 0 where
+-- The id and the name are texts, and there is such a message.
+pub record IsThere (bundle : Bundle Text) (id name : Text) : Type 0 where
   pub texts : IsUtf8 id × IsUtf8 name
+  pub found : found_at id name bundle ≢ None
+
+-- The arguments can be read.
+pub record AreArguments (args : List ℕ) : Type 0 where
   pub all : List Argument
   pub read : Are all args
 
--- why nothing is formatted: the first of these that holds
+-- Why nothing is formatted. A message that is not there is told before its arguments are read.
 abbrev pub NotFormattedIn : Bundle Text → Text → Text → List ℕ → FormatFault → Type 0
 NotFormattedIn bundle id name args fault.NotText = ¬ (IsUtf8 id × IsUtf8 name)
-NotFormattedIn bundle id name args (fault.Arguments f) = (IsUtf8 id × IsUtf8 name) × NotRead args f
-NotFormattedIn bundle id name args fault.NoMessage = IsReadable id name args × (found_at id name bundle ≡ None)
-NotFormattedIn bundle id name args fault.Memory = IsReadable id name args × (found_at id name bundle ≢ None)
+NotFormattedIn bundle id name args fault.NoMessage = (IsUtf8 id × IsUtf8 name) × (found_at id name bundle ≡ None)
+NotFormattedIn bundle id name args (fault.Arguments f) = IsThere bundle id name × NotRead args f
+NotFormattedIn bundle id name args fault.Memory = IsThere bundle id name × AreArguments args
 
--- its text and the lines of its errors
+-- its text, and what is told of its errors
+abbrev pub FormatsBy : (List Error → Text) → Text → Text → List ℕ → BundleCall
+FormatsBy tell id name args m new (answer.Texts text told) = (new ≡ m) × TextsIn tell m.bundle id name args (string_bytes text) (string_bytes told)
+FormatsBy tell id name args m new (answer.Fault (source_fault.Format f)) = (new ≡ m) × NotFormattedIn m.bundle id name args f
+FormatsBy tell id name args m new a = ⊥
+
+-- a line for each error
 abbrev pub Formats : Text → Text → List ℕ → BundleCall
-Formats id name args m new (answer.Texts text lines) = (new ≡ m) × TextsIn m.bundle id name args (string_bytes text) (string_bytes lines)
-Formats id name args m new (answer.Fault (source_fault.Format f)) = (new ≡ m) × NotFormattedIn m.bundle id name args f
-Formats id name args m new a = ⊥
+Formats = FormatsBy error_lines
+
+-- a record for each error
+abbrev pub FormatsRecords : Text → Text → List ℕ → BundleCall
+FormatsRecords = FormatsBy error_records
 
 -- ---- by the first of several
 
@@ -187,6 +240,27 @@ pub record FirstGives (id name : Text) (args : List ℕ) (slots : List Slot) (ou
 abbrev pub FormatsFirst : Text → Text → List ℕ → Change (List Slot) → Change (List ℕ) → Change (List ℕ) → Change Lengths → ℕ → Type 0
 FormatsFirst id name args slots out err lengths status =
     FirstGives id name args (old slots) (old out) (new out) (old err) (new err) (new lengths) status
+
+-- ---- which one answers
+
+-- the status: it has the message, or is not open
+abbrev pub found_status : Option Meant → ℕ
+found_status None = 11
+found_status (Some m) = 0
+
+-- the index of the first that answers, and its status; or how many there are, where none does (8)
+abbrev pub IsFoundAt : List (Option Meant) → Option ℕ → ℕ → ℕ → Type 0
+IsFoundAt all None index status = (index ≡ length all) × (status ≡ 8)
+IsFoundAt all (Some at) index status = (index ≡ at) × (status ≡ found_status (get_or all at None))
+
+-- The same where the id and the attribute's name are UTF-8; else none is asked (7).
+pub record FirstFound (id name : Text) (all : List (Option Meant)) (index status : ℕ) : Type 0 where
+  pub texts : IsUtf8 id × IsUtf8 name → IsFoundAt all (position (answers id name) all) index status
+  pub no_texts : ¬ (IsUtf8 id × IsUtf8 name) → (index ≡ length all) × (status ≡ 7)
+
+-- the same of what the code is handed
+abbrev pub FindsFirst : Text → Text → Change (List Slot) → Change ℕ → ℕ → Type 0
+FindsFirst id name slots index status = FirstFound id name (all_kept (old slots)) (new index) status
 
 -- ---- by the bundle of one source
 

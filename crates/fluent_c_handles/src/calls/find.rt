@@ -1,8 +1,9 @@
 //! Says which messages there are.
-ghost use Rattle.fluent_c_handles.specs.Calls.Finding.{HasMessage, HasPattern, ListsIds};
+ghost use Rattle.fluent_c_handles.specs.Calls.Finding.{HasMessage, HasPattern, ListsAttributes, ListsIds};
 ghost use Rattle.fluent_c_handles.specs.Answers.{SlotDoes, SlotGivesText, WhenOpen};
 
 use crate::answer::Answer;
+use crate::attributes::attribute_lines;
 use crate::lookup::is_there;
 use crate::message_ids::listed;
 use crate::slot::Slot;
@@ -16,6 +17,12 @@ use std::str;
 /// The ids of all messages.
 #[derive(Drop)]
 struct Ids {}
+
+/// The names of a message's attributes.
+#[derive(Drop)]
+struct Attributes<'w> {
+    id: &'w [u8],
+}
 
 /// Whether there is a message.
 #[derive(Drop)]
@@ -37,6 +44,15 @@ impl Slot {
         ensures { SlotGivesText (WhenOpen ListsIds) self out length result }
     {
         self.ask(alloc, &Ids {}).give_one(out, length)
+    }
+
+    /// Gives the names of a message's attributes, a line each, in the order of the source. The bundle stays. 0: `out` begins with
+    /// the text. 1: it has no room, and stays. Else nothing is given: 2, an allocation failed; 7, the id is not UTF-8; 8, there
+    /// is no such message; 11, no bundle is open.
+    pub fn attributes(&mut self, alloc: Global, id: &[u8], out: &mut [u8], length: &mut usize) -> u8
+        ensures { SlotGivesText (WhenOpen (ListsAttributes id.now)) self out length result }
+    {
+        self.ask(alloc, &Attributes { id }).give_one(out, length)
     }
 
     /// Whether there is a message: 0 where there is, 8 where there is none; 7, the id is not UTF-8; 11, no bundle is open. The
@@ -61,6 +77,26 @@ impl Call for Ids {
 
     fn done<'r, 's: 'r>(&self, alloc: Global, stock: &mut Stock<'r, 's>) -> Answer {
         match listed(alloc, &stock.bundle, stock.added.as_slice()) {
+            Ok(text) => Answer::Texts {
+                text,
+                lines: String::new(alloc),
+            },
+            Err(AllocError) => Answer::Fault(SourceFault::Memory),
+        }
+    }
+}
+
+impl Call for Attributes<'_> {
+    ghost does = { λ it. ListsAttributes it.id.now };
+
+    fn done<'r, 's: 'r>(&self, alloc: Global, stock: &mut Stock<'r, 's>) -> Answer {
+        let Ok(id) = str::from_utf8(self.id) else {
+            return Answer::Fault(SourceFault::Format(FormatFault::NotText));
+        };
+        let Some(message) = stock.bundle.get_message(id) else {
+            return Answer::Fault(SourceFault::Format(FormatFault::NoMessage));
+        };
+        match attribute_lines(alloc, &message) {
             Ok(text) => Answer::Texts {
                 text,
                 lines: String::new(alloc),

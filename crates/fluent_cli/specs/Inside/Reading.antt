@@ -1,55 +1,40 @@
--- What the code reads, by the contents of files.
-use Rattle.std.specs.Prelude.{◌≡◌, ℕ, true, false, List, [], ◌∷◌, ◌++◌, map, Option, Some, None, Result, Ok, Err}
+-- What single steps read.
+use Rattle.std.specs.Prelude.{◌≡◌, ℕ, true, false, List, [], ◌∷◌, ◌++◌, map, Option, Some, None, Result, Ok, Err, is_some, unwrap_or}
 use Rattle.std.specs.Borrow.{Bor}
 use Rattle.std.specs.Str.{is_utf8}
-use Rattle.fluent_ast.specs.Tree.{Text, Entry}
-use Rattle.fluent_syntax.specs.Chunks.{entries, junk_ranges}
-use Rattle.fluent_syntax.specs.Parsed.{error_range}
-use Rattle.fluent_cli.specs.Runs.{Read, is_text, no_text_in, read_of}
-use Rattle.fluent_cli.specs.Inside.Bundles.{entries_of_all}
-use Rattle.fluent_cli.specs.declared.source.File.{File}
-use Rattle.fluent_cli.specs.declared.source.Source.{Source}
-use Rattle.fluent_cli.specs.declared.source.Sources.{Sources}
+use Rattle.fluent_ast.specs.Tree.{Text}
+use Rattle.fluent_check.specs.Reading.{AreRead, read_view}
+use Rattle.fluent_check.specs.declared.source.Source.{Source}
+use Rattle.fluent_cli.specs.Files.{bad_byte, fault_by, read_by, read_of, readable_pairs, without_mark}
+use Rattle.fluent_cli.specs.declared.reading.File.{File}
+use Rattle.fluent_cli.specs.declared.reading.Inputs.{Inputs}
 
-abbrev pub read_view : Source → Read
-read_view source = record { name = source.name.now; text = source.text.now; had_mark = source.had_mark }
+-- the text that bytes are after a mark, or where they are none
+abbrev pub IsTextOf : List ℕ → Result (Bor Text) ℕ → Type 0
+IsTextOf bytes (Ok text) = (is_utf8 (without_mark bytes) ≡ true) × (text.now ≡ without_mark bytes)
+IsTextOf bytes (Err at) = (is_utf8 (without_mark bytes) ≡ false) × (at ≡ bad_byte bytes)
 
--- the text that bytes are, or they are none
-abbrev pub IsTextOf : List ℕ → Option (Bor Text) → Type 0
-IsTextOf bytes None = is_utf8 bytes ≡ false
-IsTextOf bytes (Some text) = (is_utf8 bytes ≡ true) × (text.now ≡ bytes)
+-- by its name and what it has, a source was read from a file, or it can't be
+abbrev pub ReadsBy : Text → Result (Bor (List ℕ)) (Bor Text) → Option Source → Type 0
+ReadsBy name contents (Some source) = (fault_by name contents ≡ None) × (read_view source ≡ read_by name contents)
+ReadsBy name contents None = is_some (fault_by name contents) ≡ true
 
--- a text was read from a file, or it is none
 abbrev pub ReadsFile : File → Option Source → Type 0
-ReadsFile file None = is_text file ≡ false
-ReadsFile file (Some source) = (is_text file ≡ true) × (read_view source ≡ read_of file)
+ReadsFile file = ReadsBy file.name.now file.contents
 
-abbrev pub texts_read : Sources → List Read
-texts_read sources = map read_view sources.texts.items
+-- what is said of it
+abbrev pub says_by : Text → Result (Bor (List ℕ)) (Bor Text) → Text
+says_by name contents = unwrap_or (fault_by name contents) []
 
-abbrev pub entries_read : Sources → List (List Entry)
-entries_read sources = entries_of_all sources.resources.items
+abbrev pub says : File → Text
+says file = says_by file.name.now file.contents
 
--- the byte ranges of what can't be read in each
-abbrev pub junk_read : Sources → List (List (ℕ × ℕ))
-junk_read sources = map (λ errors. map error_range errors.items) sources.unreadable.items
+-- these were read of the first and of the second files of pairs
+abbrev pub AreReadPairs : List (File × File) → Inputs → Type 0
+AreReadPairs pairs inputs =
+    AreRead (map (λ pair. read_of pair.0) pairs) inputs.sources × AreRead (map (λ pair. read_of pair.1) pairs) inputs.references
 
--- These were read, each with its entries and what can't be read in it.
-pub record AreRead (reads : List Read) (sources : Sources) : Type 0 where
-  pub texts : texts_read sources ≡ reads
-  pub entries : entries_read sources ≡ map (λ read. entries read.text) reads
-  pub junk : junk_read sources ≡ map (λ read. junk_ranges read.text) reads
-
--- one more was read
-abbrev pub ReadsMore : Read → Sources → Sources → Type 0
-ReadsMore read old new = (reads : List Read) → AreRead reads old → AreRead (reads ++ read ∷ []) new
-
--- all files are texts, and were read
-pub record AreOf (files : List File) (sources : Sources) : Type 0 where
-  pub all : no_text_in files ≡ None
-  pub read : AreRead (map read_of files) sources
-
--- they are, or the first that is no text is named
-abbrev pub ReadsAll : List File → Result Sources (Bor Text) → Type 0
-ReadsAll files (Ok sources) = AreOf files sources
-ReadsAll files (Err name) = no_text_in files ≡ Some name.now
+-- a pair was added, if both can be read
+abbrev pub AddsPair : File → File → Inputs → Inputs → Type 0
+AddsPair file reference old new =
+    (before : List (File × File)) → AreReadPairs before old → AreReadPairs (before ++ readable_pairs ((file, reference) ∷ [])) new

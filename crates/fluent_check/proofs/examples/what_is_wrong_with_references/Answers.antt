@@ -12,12 +12,13 @@ returns-clause-numbers c = record { numbered = refl; of_each_kind = refl; of_sel
 
 pub returns-clause-wholes : goal.returns-clause-wholes
 returns-clause-wholes c = record {
-  no_finding = refl;
+  no_finding = λ shown. refl;
   itself = λ x y. refl;
   next = λ x y z w. refl;
   too_many = λ x count limit. refl;
-  alone = λ x y. refl;
-  elsewhere_alone = λ x y. refl;
-  not_alone = λ x y. refl;
-  missing = λ x. refl;
+  may_open = λ x count limit. refl;
+  alone = λ shown x y. refl;
+  elsewhere_alone = λ shown x y. refl;
+  not_alone = λ shown x y. refl;
+  missing = λ shown x. refl;
 }

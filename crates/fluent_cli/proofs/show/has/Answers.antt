@@ -1,7 +1,7 @@
 use Rattle.std.proofs.Common.{◌∙◌, None, Some}
 use Rattle.std.specs.Prelude.{is_some}
 use Rattle.fluent_fallback.specs.Chain.{pattern_asked, bundles_of}
-use Rattle.fluent_cli.specs.Inside.Bundles.{bundle_view}
+use Rattle.fluent_check.specs.Bundles.{bundle_view}
 use Rattle.fluent_cli.proofs.Anywhere.{any_mapped}
 use Rattle.fluent_cli.proofs.show.has.Goals as goal
 

@@ -1,0 +1,26 @@
+"""Sources and messages by the names of fluent.runtime."""
+from typing import Dict, NamedTuple, Optional
+
+
+class FluentResource:
+    """The text of an FTL source."""
+
+    def __init__(self, text: str) -> None:
+        if not isinstance(text, str):
+            raise TypeError(f"a source is a str, not {type(text).__name__}")
+        self.text = text
+
+
+class Pattern(NamedTuple):
+    """The value of a message, or its attribute of a name, for FluentBundle.format_pattern."""
+
+    message_id: str
+    attribute: str = ""
+
+
+class Message(NamedTuple):
+    """A message of a bundle: its value, where it has one, and its attributes by their names."""
+
+    id: str
+    value: Optional[Pattern]
+    attributes: Dict[str, Pattern]

@@ -1,0 +1,13 @@
+pub mod Json
+pub mod Kept
+pub mod Report
+pub mod ReportRows
+pub mod Reported
+pub mod Rows
+pub mod Rules
+pub mod Sarif
+pub mod Sorting
+pub mod Told
+pub mod Uri
+pub mod UriRows
+pub mod Written

@@ -1,0 +1,14 @@
+-- Each kind of problem has a rule in a log.
+use Rattle.std.specs.Prelude.{◌≡◌, Bool, true}
+use Rattle.std.specs.List.{list_any}
+use Rattle.std.specs.Str.{bytes_eq}
+use Rattle.fluent_ast.specs.Tree.{Text}
+use Rattle.fluent_check.specs.Found.{Problem}
+use Rattle.fluent_check.specs.Problems.{name_of}
+use Rattle.fluent_cli_report.specs.Sarif.{kinds}
+
+abbrev pub has_rule : Text → Bool
+has_rule name = list_any (bytes_eq name) kinds
+
+abbrev pub EachHasRule : Type 0
+EachHasRule = (p : Problem) → has_rule (name_of p) ≡ true

@@ -1,0 +1,5 @@
+mod Asking
+mod Given
+mod Reading
+mod Splits
+mod Told
