@@ -1,10 +1,11 @@
 """Fluent: messages of FTL sources as text, by the proved library for C, libfluent."""
-from ._bundle import FluentBundle
 from ._chain import FluentChain
-from ._errors import FluentCyclicReferenceError, FluentFormatError, FluentReferenceError
 from ._library import VERSION as __version__
-from ._localization import AbstractResourceLoader, FluentLocalization, FluentResourceLoader
 from ._messages import FluentResource, Message, Pattern
+from .bundle import FluentBundle
+from .errors import FluentCyclicReferenceError, FluentFormatError, FluentReferenceError
+from .fallback import AbstractResourceLoader, FluentLocalization, FluentResourceLoader
+from .types import FluentNone, FluentType, fluent_date, fluent_number
 
 __all__ = [
     "AbstractResourceLoader",
@@ -13,10 +14,14 @@ __all__ = [
     "FluentCyclicReferenceError",
     "FluentFormatError",
     "FluentLocalization",
+    "FluentNone",
     "FluentReferenceError",
     "FluentResource",
     "FluentResourceLoader",
+    "FluentType",
     "Message",
     "Pattern",
     "__version__",
+    "fluent_date",
+    "fluent_number",
 ]

@@ -1,20 +1,22 @@
 """Calls of the library for handles that are guarded by a lock: what they answer becomes Python's values and exceptions."""
+import contextlib
 import ctypes
 import threading
 import weakref
+from typing import Any, Callable, Iterator, List, Optional, Tuple
 
 from ._library import Handle, Lengths, Status
-from ._texts import arguments, lent
+from ._records import lent
 
 # How many bytes a text has room for at the first try.
 ROOM = 256
 
 
-def fault(status, missing):
+def fault(status: int, missing: Optional[str]) -> Exception:
     """The exception of a status, where `missing` says what is not there."""
     if status == Status.NO_MEMORY:
         return MemoryError("libfluent got no memory")
-    if status in (Status.NO_MESSAGE, Status.NO_LANGUAGE):
+    if status == Status.NO_MESSAGE:
         return LookupError(missing)
     if status == Status.BAD_RULES:
         return ValueError("the plural rules can't be read")
@@ -25,7 +27,7 @@ def fault(status, missing):
     return RuntimeError(f"libfluent answers status {status}")
 
 
-def _close(library, handles, lock):
+def _close(library: Any, handles: Any, lock: Any) -> None:
     with lock:
         for handle in handles:
             library.fluent_close(ctypes.byref(handle))
@@ -34,58 +36,68 @@ def _close(library, handles, lock):
 class Calls:
     """Handles in one place, of bundles that are closed at first, and are closed again once nothing refers to this."""
 
-    def __init__(self, library, count):
+    def __init__(self, library: Any, count: int) -> None:
         self.library = library
         self.handles = (Handle * count)()
         # A handler of signals may run within a call, and call again in the same thread.
         self.lock = threading.RLock()
         weakref.finalize(self, _close, library, self.handles, self.lock)
 
-    def status(self, name, index, *words):
+    @contextlib.contextmanager
+    def opening(self) -> Iterator[None]:
+        """Closes what was opened meanwhile where something fails."""
+        try:
+            yield
+        except BaseException:
+            _close(self.library, self.handles, self.lock)
+            raise
+
+    def status(self, name: str, index: int, *words: Any) -> int:
         """What a call answers for the handle of an index."""
         with self.lock:
-            return getattr(self.library, name)(ctypes.byref(self.handles[index]), *words)
+            answered: int = getattr(self.library, name)(ctypes.byref(self.handles[index]), *words)
+            return answered
 
-    def make(self, name, index, *words, missing=None):
+    def make(self, name: str, index: int, *words: Any, missing: Optional[str] = None) -> None:
         """The same where it is to be OK."""
         status = self.status(name, index, *words)
         if status != Status.OK:
             raise fault(status, missing)
 
-    def lines(self, name, index, *words, missing=None):
+    def lines(self, name: str, index: int, *words: Any, missing: Optional[str] = None) -> List[str]:
         """The lines that a call writes."""
         room, length = ROOM, ctypes.c_size_t()
         while True:
             text = (ctypes.c_char * room)()
             status = self.status(name, index, *words, text, room, length)
             if status == Status.OK:
-                return text[: length.value].decode("utf-8").split("\n")[:-1]
+                return ctypes.string_at(text, length.value).decode("utf-8").split("\n")[:-1]
             if status != Status.TOO_SMALL:
                 raise fault(status, missing)
             room = length.value
 
-    def place(self, message_id, attribute, missing):
+    def place(self, message_id: str, attribute: str, missing: str) -> int:
         """The index of the handle that has a message."""
         index = ctypes.c_size_t()
         words = *lent(message_id, "an id"), *lent(attribute, "the name of an attribute")
         self.make("fluent_find_chain", 0, len(self.handles), *words, index, missing=missing)
         return index.value
 
-    def format(self, name, index, before, message_id, attribute, args, missing):
-        """The text of a message and the lines of its errors. `before` is what the call takes before the id."""
-        text, lines = self.texts(name, index, before, message_id, attribute, arguments(args), missing)
-        return text, lines.decode("utf-8").split("\n")[:-1]
-
-    def texts(self, name, index, before, message_id, attribute, sent, missing):
-        """The text of a message, and the bytes that tell of its errors, with arguments as they are sent."""
+    def format(
+        self, index: int, words: Tuple[Any, ...], answers: bytes, answer: Callable[[bytes], bytes], missing: str
+    ) -> Tuple[str, bytes]:
+        """The text of a message, and the bytes that tell of its errors. `words` are its id, its attribute and the
+        arguments. Where the library asks, `answer` gives a record, which goes behind the answers that there are."""
         lengths = Lengths()
-        words = *lent(message_id, "an id"), *lent(attribute, "the name of an attribute"), sent, len(sent)
         text_room = errors_room = ROOM
         while True:
             text, errors = (ctypes.c_char * text_room)(), (ctypes.c_char * errors_room)()
-            status = self.status(name, index, *before, *words, text, text_room, errors, errors_room, lengths)
+            rooms = text, text_room, errors, errors_room, lengths
+            status = self.status("fluent_format_asking", index, *words, answers, len(answers), *rooms)
             if status == Status.OK:
-                return text[: lengths.text].decode("utf-8"), errors[: lengths.errors]
-            if status != Status.TOO_SMALL:
+                return ctypes.string_at(text, lengths.text).decode("utf-8"), ctypes.string_at(errors, lengths.errors)
+            if status == Status.ASKS and lengths.text <= text_room:
+                answers += answer(ctypes.string_at(text, lengths.text))
+            elif status not in (Status.TOO_SMALL, Status.ASKS):
                 raise fault(status, missing)
             text_room, errors_room = max(text_room, lengths.text), max(errors_room, lengths.errors)

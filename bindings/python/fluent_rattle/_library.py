@@ -3,10 +3,11 @@ import ctypes
 import enum
 import functools
 import os
+from typing import Any, Dict, List, Union
 
 
 # The version of the package, which the library has too.
-VERSION = "0.1.0"
+VERSION = "0.2.0"
 
 
 class Status(enum.IntEnum):
@@ -26,6 +27,9 @@ class Status(enum.IntEnum):
     CLOSED_BUNDLE = 11
     OPEN_BUNDLE = 12
     OUT_OF_RANGE = 13
+    ASKS = 14
+    ID_TAKEN = 15
+    FUNCTION_FAILED = 16
 
 
 class Lengths(ctypes.Structure):
@@ -37,18 +41,18 @@ class Lengths(ctypes.Structure):
 class Handle(ctypes.Structure):
     """A bundle of the library. As it is made, it is closed."""
 
-    _fields_ = [("at", ctypes.c_void_p), ("is_open", ctypes.c_bool)]
+    _fields_ = [("at", ctypes.c_void_p), ("is_open", ctypes.c_bool), ("asks", ctypes.c_void_p)]
 
 
 _BUNDLE = ctypes.POINTER(Handle)
 _TEXT = [ctypes.c_char_p, ctypes.c_size_t]
 _ROOM = [ctypes.c_void_p, ctypes.c_size_t]
 _LENGTH = ctypes.POINTER(ctypes.c_size_t)
-_FORMAT = [*_TEXT, *_TEXT, *_TEXT, *_ROOM, *_ROOM, ctypes.POINTER(Lengths)]
+_WRITTEN = [*_ROOM, *_ROOM, ctypes.POINTER(Lengths)]
 
 
 # What each call takes. All but fluent_close answer a status.
-SIGNATURES = {
+SIGNATURES: Dict[str, List[Any]] = {
     "fluent_open": [_BUNDLE, *_TEXT, ctypes.c_bool],
     "fluent_open_rules": [_BUNDLE, *_TEXT, *_TEXT, ctypes.c_bool],
     "fluent_set_limit": [_BUNDLE, ctypes.c_size_t],
@@ -59,15 +63,17 @@ SIGNATURES = {
     "fluent_attributes": [_BUNDLE, *_TEXT, *_ROOM, _LENGTH],
     "fluent_has": [_BUNDLE, *_TEXT],
     "fluent_find": [_BUNDLE, *_TEXT, *_TEXT],
-    "fluent_format": [_BUNDLE, *_FORMAT],
-    "fluent_format_records": [_BUNDLE, *_FORMAT],
-    "fluent_format_chain": [_BUNDLE, ctypes.c_size_t, *_FORMAT],
+    "fluent_declare_function": [_BUNDLE, *_TEXT, ctypes.c_bool],
+    "fluent_declare_formatter": [_BUNDLE, ctypes.c_bool],
+    "fluent_declare_transform": [_BUNDLE, ctypes.c_bool],
+    "fluent_format": [_BUNDLE, *_TEXT, *_TEXT, *_TEXT, *_WRITTEN],
+    "fluent_format_asking": [_BUNDLE, *_TEXT, *_TEXT, *_TEXT, *_TEXT, *_WRITTEN],
     "fluent_find_chain": [_BUNDLE, ctypes.c_size_t, *_TEXT, *_TEXT, _LENGTH],
     "fluent_close": [_BUNDLE],
 }
 
 
-def path_of(given=None):
+def path_of(given: Union[str, "os.PathLike[str]", None] = None) -> str:
     """Where the library is: as given, else by FLUENT_LIBRARY, else in the package's folder or beside that."""
     named = given or os.environ.get("FLUENT_LIBRARY")
     if named:
@@ -80,17 +86,18 @@ def path_of(given=None):
     raise OSError(f"no libfluent.so: name it by FLUENT_LIBRARY, or put it at {places[0]}")
 
 
-def _version_of(library):
+def _version_of(library: Any) -> str:
     """The version of a library; one that has no call for it is older than all that have."""
     call = getattr(library, "fluent_version", None)
     if call is None:
         return "an earlier one"
     call.restype, call.argtypes = ctypes.c_char_p, []
-    return call().decode("utf-8")
+    written: bytes = call()
+    return written.decode("utf-8")
 
 
 @functools.lru_cache(maxsize=None)
-def _loaded(path):
+def _loaded(path: str) -> Any:
     library = ctypes.CDLL(path)
     version = _version_of(library)
     if version != VERSION:
@@ -102,6 +109,6 @@ def _loaded(path):
     return library
 
 
-def load(given=None):
+def load(given: Union[str, "os.PathLike[str]", None] = None) -> Any:
     """The library at a path, or where it is found; each is loaded once."""
     return _loaded(path_of(given))

@@ -5,10 +5,10 @@ from typing import Dict, NamedTuple, Optional
 class FluentResource:
     """The text of an FTL source."""
 
-    def __init__(self, text: str) -> None:
-        if not isinstance(text, str):
-            raise TypeError(f"a source is a str, not {type(text).__name__}")
-        self.text = text
+    def __init__(self, source: str) -> None:
+        if not isinstance(source, str):
+            raise TypeError(f"a source is a str, not {type(source).__name__}")
+        self.text = source
 
 
 class Pattern(NamedTuple):

@@ -8,7 +8,7 @@ DATA = TOP / "crates/test_fixtures/data"
 NUMBER = re.compile(r"[+-]?(?:[0-9]+(?:\.[0-9]*)?|\.[0-9]+)")
 
 # How many rows are asked at least, and how many reports: with fewer, some would be passed over that were asked before.
-LEAST = {"rows from Python": 598, "rows from C": 599, "reports": 174}
+LEAST = {"rows from Python": 763, "rows from C": 599, "reports": 174}
 
 OBJECTS = {
     "function": "the message may call a function",
@@ -41,34 +41,49 @@ def words_for(message, bundle):
     return words
 
 
-def reason_of(bundle, message):
-    """Why a bundle that is asked for a message can't be made, or None. Functions that no word names don't matter."""
+def reason_of(bundle, message, kinds=tuple(OBJECTS)):
+    """Why a bundle that is asked for a message can't be made, or None, where objects of these kinds can't be had. Functions that
+    no word names don't matter."""
     for kind, name in (words.split(" ")[:2] for words in bundle.settings.objects):
         name = "NUMBER" if kind in ("builtins", "objects") else name
+        if kind not in kinds:
+            continue
         if kind not in ("function", "objects", "builtins") or name in words_for(message, bundle):
             return OBJECTS[kind]
     return None
 
 
-def reason(row):
-    """Why a row is passed over, or None."""
+def reason(row, kinds=tuple(OBJECTS), values=()):
+    """Why a row is passed over, or None. `values` are those of @ that can be had."""
     for bundle in row.bundle.links():
-        why = reason_of(bundle, row.id)
+        why = reason_of(bundle, row.id, kinds)
         if why:
             return why
     if row.sign in SIGNS:
         return SIGNS[row.sign]
     for _, word in row.arguments:
-        if word.startswith("@"):
+        if word.startswith("@") and word not in values:
             return "an argument is @" + re.match("[a-z]+", word[1:])[0]
     return None
 
 
 def reason_in_python(row):
-    """The same where values are those of Python."""
+    """The same where values, functions, formatters and transforms are those of Python."""
     if any(NUMBER.fullmatch(word) and word.endswith(".") for _, word in row.arguments):
-        return reason(row) or "no Python number ends with a point"
-    return reason(row)
+        return reason(row, ("objects", "builtins"), ("@star",)) or "no Python number ends with a point"
+    if has_formatter(row) and any(NUMBER.fullmatch(word) and not is_held(word) for _, word in row.arguments):
+        return "a formatter of Python gets a number that the library can't hold"
+    return reason(row, ("objects", "builtins"), ("@star",))
+
+
+def has_formatter(row):
+    return any(words.split(" ")[0] == "formatter" for bundle in row.bundle.links() for words in bundle.settings.objects)
+
+
+def is_held(word):
+    """Whether the library holds a number: below 2^64, with at most 18 places."""
+    whole, _, places = word.lstrip("+-").partition(".")
+    return int(whole or 0) < 2**64 and len(places) <= 18
 
 
 def line_of(text, start):

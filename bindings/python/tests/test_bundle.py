@@ -35,7 +35,7 @@ LONE = "a\ud800"
 
 
 def bundle(languages=("en",), isolating=False, source=SOURCE):
-    made = FluentBundle(languages, isolating)
+    made = FluentBundle(languages, use_isolating=isolating, formatter=None)
     made.add_resource(source)
     return made
 
@@ -88,13 +88,16 @@ class Numbers(unittest.TestCase):
         self.assertEqual(self.shown(Decimal("1.50")), "1.50")
         self.assertEqual(self.shown(Decimal("-0.000000000000000001")), "-0.000000000000000001")
         self.assertEqual(self.shown(0.1), "0.1")
-        self.assertEqual(self.shown(1.0), "1.0")
+        self.assertEqual(self.shown(True), "1")
+
+    def test_floats_without_a_fraction(self):
+        for number, text in ((1.0, "1"), (-0.0, "0"), (1e16, "10000000000000000"), (2.0**63, "9223372036854775808")):
+            self.assertEqual(self.shown(number), text)
 
     def test_exponents_are_written_out(self):
         self.assertEqual(self.shown(Decimal("1E+5")), "100000")
         self.assertEqual(self.shown(Decimal("0E-3")), "0.000")
         self.assertEqual(self.shown(1e-7), "0.0000001")
-        self.assertEqual(self.shown(1e16), "10000000000000000")
 
     def test_what_is_out_of_range_is_shown_as_typed(self):
         self.assertEqual(self.shown(2**64), "18446744073709551616")
@@ -104,7 +107,8 @@ class Numbers(unittest.TestCase):
 
     def test_forms(self):
         for number, text in ((0, "nothing"), (1, "one mail"), (2, "2 mails"), (Decimal(1), "one mail"),
-                             (Decimal("1.0"), "1.0 mails"), (1.0, "1.0 mails"), (Decimal("0.00"), "0.00 mails")):
+                             (Decimal("1.0"), "1.0 mails"), (1.0, "one mail"), (True, "one mail"),
+                             (Decimal("0.00"), "0.00 mails")):
             self.assertEqual(bundle().format_value("mails", {"n": number}), (text, []))
 
     def test_forms_of_a_language(self):
@@ -114,12 +118,12 @@ class Numbers(unittest.TestCase):
     def test_not_finite(self):
         decimals = [Decimal(text) for text in ("NaN", "sNaN", "Infinity", "-Infinity")]
         for number in [float("inf"), float("-inf"), float("nan"), *decimals]:
-            with self.assertRaises(ValueError):
-                bundle().format_value("shown", {"n": number})
+            self.assertEqual(self.shown(number), str(number))
+            self.assertEqual(bundle().format_value("mails", {"n": number})[0], f"{number} mails")
 
     def test_other_types(self):
-        for other in (True, None, b"x", 1j, ["x"], object()):
-            with self.assertRaises(TypeError):
+        for other in (None, b"x", 1j, ["x"], object()):
+            with self.assertRaisesRegex(TypeError, "the argument 'n' is a str, a number, a date or a FluentType"):
                 bundle().format_value("shown", {"n": other})
 
 
@@ -211,10 +215,14 @@ class Languages(unittest.TestCase):
         for languages, text in [(languages, "few") for languages in polish] + [(["en", "pl"], "other")]:
             self.assertEqual(bundle(languages, source=source).format_value("m", {"n": 2}), (text, []))
 
-    def test_none(self):
-        for languages in ([], ["xx"], "", ["", "xx"], "e\0n"):
-            with self.assertRaisesRegex(LookupError, "no plural rules"):
-                FluentBundle(languages)
+    def test_none_has_rules(self):
+        source = "m = { $n ->\n [one] one\n *[other] { $n } other\n }\n"
+        for languages in ([], ["xx"], "", ["", "xx"], "e\0n", "x" * 1_000):
+            self.assertEqual(bundle(languages, source=source).format_value("m", {"n": 1}), ("1 other", []))
+
+    def test_locales_are_kept(self):
+        self.assertEqual(FluentBundle(["xx", "en"]).locales, ["xx", "en"])
+        self.assertEqual(FluentBundle("en").locales, ["en"])
 
 
 class Rules(unittest.TestCase):
@@ -246,7 +254,7 @@ class Limits(unittest.TestCase):
     def test_a_limit(self):
         source = "long = { 1 }{ 2 }{ 3 }\n"
         for limit, text in ((1, "1"), (2, "12"), (3, "123"), (10_000, "123")):
-            made = FluentBundle("en", False, placeable_limit=limit)
+            made = FluentBundle("en", use_isolating=False, placeable_limit=limit)
             made.add_resource(source)
             errors = [] if text == "123" else ["Resolver error: Too many placeables"]
             self.assertEqual(made.format_value("long"), (text, errors))

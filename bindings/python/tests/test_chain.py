@@ -11,7 +11,7 @@ ENGLISH = "both = en\nenglish = only in English\nhalf = half\n    .title = Half\
 
 
 def chain(languages=("pl", "en"), **settings):
-    made = FluentChain(languages, False, **settings)
+    made = FluentChain(languages, use_isolating=False, **settings)
     for bundle, source in zip(made.bundles, (POLISH, ENGLISH)):
         bundle.add_resource(source)
     return made
@@ -56,8 +56,7 @@ class Chains(unittest.TestCase):
     def test_languages(self):
         self.assertEqual(len(FluentChain("en").bundles), 1)
         self.assertEqual(len(FluentChain([["xx", "pl"], "en"]).bundles), 2)
-        with self.assertRaisesRegex(LookupError, "no plural rules for xx"):
-            FluentChain(["en", "xx"])
+        self.assertEqual(chain(["en", "xx"]).bundles[1].format_value("half"), ("half", []))
         with self.assertRaisesRegex(ValueError, "a bundle at least"):
             FluentChain([])
 

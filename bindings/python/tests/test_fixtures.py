@@ -1,4 +1,4 @@
-"""The rows of all fixtures that need nothing of the application's, asked by way of the package."""
+"""The rows of all fixtures that a program in Python can ask."""
 import re
 import unittest
 from collections import Counter
@@ -9,10 +9,23 @@ from fluent_rattle import FluentBundle, FluentChain
 
 from .asked import DATA, LEAST, NUMBER, fixtures, reason_in_python, reports, told
 from .fixtures import unescaped
+from .objects import Star, objects
+
+
+class Bare(FluentBundle):
+    """A bundle with the library's own NUMBER."""
+
+    _builtins = {}
+
+
+class BareChain(FluentChain):
+    bundle_class = Bare
 
 
 def value(word):
     """The argument that a word of a row stands for."""
+    if word == "@star":
+        return Star()
     if word.startswith('"'):
         return unescaped(word[1:-1])
     if re.fullmatch("-?[1-9][0-9]*|0", word):
@@ -22,20 +35,23 @@ def value(word):
 
 def opened(settings):
     """A bundle with these settings."""
-    words = {"use_isolating": settings.isolating, "placeable_limit": settings.limit}
+    words = {"use_isolating": settings.isolating, "placeable_limit": settings.limit, **objects(settings)}
     if settings.cardinal is None and settings.ordinal is None:
-        return FluentBundle([settings.language], **words)
-    return FluentBundle.from_rules(settings.cardinal or "", settings.ordinal or "", **words)
+        return Bare([settings.language], **words)
+    return Bare.from_rules(settings.cardinal or "", settings.ordinal or "", **words)
 
 
 def chained(links):
-    """A chain of links that may differ by their language and limit alone."""
+    """A chain of links, each of which is opened anew by its own settings."""
     settings = [link.settings for link in links]
-    chain = FluentChain([each.language for each in settings], settings[0].isolating)
+    chain = BareChain([each.language for each in settings])
     for bundle, each in zip(chain.bundles, settings):
+        if (each.cardinal, each.ordinal) != (None, None):
+            raise ValueError("the links of a chain have no rules of their own")
+        bundle.close()
+        bundle._additions_made = Bare._additions([each.language], **objects(each))
+        bundle._open(each.isolating)
         bundle._limit(each.limit)
-        if (each.isolating, each.cardinal, each.ordinal) != (settings[0].isolating, None, None):
-            raise ValueError("a chain has one setting for all its bundles")
     return chain
 
 

@@ -1,12 +1,17 @@
-"""What fluent.runtime's documentation shows, by its names. "Not sure" marks what was written down from memory."""
+"""What fluent.runtime's documentation shows, by its names. "Not sure" marks what was written down from memory and may be
+otherwise there, and "Unlike" what is otherwise here."""
 import os
 import tempfile
+import time
 import unittest
+from concurrent.futures import ThreadPoolExecutor
 from unittest import mock
 
 import fluent_rattle
-from fluent_rattle import (FluentBundle, FluentChain, FluentCyclicReferenceError, FluentFormatError, FluentLocalization,
-                           FluentReferenceError, FluentResource, FluentResourceLoader, _library)
+from fluent_rattle import FluentBundle, FluentChain, FluentLocalization, FluentResource, FluentResourceLoader, _library
+from fluent_rattle.builtins import BUILTINS, DATETIME, NUMBER
+from fluent_rattle.errors import FluentCyclicReferenceError, FluentFormatError, FluentReferenceError
+from fluent_rattle.types import FluentNone, FluentType, fluent_date, fluent_number
 
 from . import LIBRARY, TOP
 
@@ -36,15 +41,29 @@ greet-by-name = Hello, { $name }!
         self.assertEqual(shown(made, "greet-by-name", {"name": "Jane"}), ("Hello, \u2068Jane\u2069!", []))
 
     def test_a_missing_argument(self):
-        # Not sure: the fallback's braces. The error's text is "Unknown external".
+        # Unlike: there the fallback has neither braces nor a dollar sign.
         self.assertEqual(shown(bundle(self.SOURCE), "greet-by-name"),
                          ("Hello, {$name}!", [FluentReferenceError("Unknown external: name")]))
+
+    def test_arguments_of_other_types(self):
+        # Not sure: the error's text.
+        for value in (None, ["x"], b"x"):
+            text, errors = shown(bundle(self.SOURCE), "greet-by-name", {"name": value, "unused": object()})
+            self.assertEqual((text, [str(error) for error in errors]),
+                             ("Hello, {$name}!", [f"Unsupported external type: name, {type(value)}"]))
+            self.assertIsInstance(errors[0], TypeError)
+
+    def test_arguments_without_utf8(self):
+        # Unlike: there a lone surrogate is a character like any other.
+        text, errors = shown(bundle(self.SOURCE), "greet-by-name", {"name": "a\ud800"})
+        self.assertEqual((text, [(type(each), str(each)) for each in errors]),
+                         ("Hello, {$name}!", [(ValueError, "the argument 'name' has a lone surrogate at 1")]))
 
     def test_whether_it_is_there(self):
         made = bundle(self.SOURCE)
         self.assertTrue(made.has_message("welcome"))
         self.assertFalse(made.has_message("not-a-message"))
-        with self.assertRaises(LookupError):
+        with self.assertRaises(KeyError):
             made.get_message("not-a-message")
 
     def test_attributes(self):
@@ -67,14 +86,105 @@ greet-by-name = Hello, { $name }!
         made.add_resource(FluentResource("foo = Bar\n"), allow_overrides=True)
         self.assertEqual(shown(made, "foo"), ("Bar", []))
 
-    def test_functions_are_no_switch(self):
-        for second in (None, {}, {"F": len}):
-            with self.assertRaisesRegex(TypeError, "use_isolating is a bool"):
-                FluentBundle(["en-US"], second)
+    def test_the_order_of_arguments(self):
+        made = FluentBundle(["en-US"], None, False)
+        made.add_resource(FluentResource("a = <{ $x }>\n"))
+        self.assertEqual(shown(made, "a", {"x": "y"}), ("<y>", []))
+        made = FluentBundle(locales=["en-US"], functions={"F": lambda: "f"}, use_isolating=True)
+        made.add_resource(FluentResource("a = <{ F() }>\n"))
+        self.assertEqual(shown(made, "a"), ("<\u2068f\u2069>", []))
+        self.assertEqual(made.locales, ["en-US"])
+
+    def test_a_message_without_a_value(self):
+        with self.assertRaises(TypeError):
+            bundle("foo =\n    .attr = A\n").format_pattern(None)
 
     def test_a_whole_source_alone(self):
         with self.assertRaises(TypeError):
             FluentResource(b"a = A\n")
+
+
+class Functions(unittest.TestCase):
+    def test_a_function(self):
+        source = """
+welcome = { OS() ->
+    [linux]    Welcome to Linux
+    [mac]      Welcome to Mac
+    [windows]  Welcome to Windows
+   *[other]    Welcome
+  }
+"""
+        for name, text in (("linux", "Welcome to Linux"), ("other", "Welcome"), ("beos", "Welcome")):
+            made = FluentBundle(["en-US"], functions={"OS": lambda: name})
+            made.add_resource(FluentResource(source))
+            self.assertEqual(shown(made, "welcome"), (text, []))
+
+    SOURCE = """
+cat = Cat
+    .plural = Cats
+no-value   = { ECHO() }
+text       = { ECHO("mouse") }
+number     = { ECHO(7) }
+message    = { ECHO(cat) }
+attribute  = { ECHO(cat.plural) }
+argument   = { ECHO($animal) }
+call       = { ECHO(ECHO(7)) }
+named      = { SUM(7, more: 3) }
+other-name = { SUM(7, less: 3) }
+division   = { HALVES(7) }
+type       = { SUM("mouse") }
+unknown    = { HOWL(7) }
+"""
+
+    def shown(self, message_id, args=None):
+        functions = {"ECHO": lambda x: x, "SUM": lambda x, more=0: fluent_number(x + more), "HALVES": lambda x: x / 0}
+        made = FluentBundle(["en-US"], functions, use_isolating=False)
+        made.add_resource(FluentResource(self.SOURCE))
+        return shown(made, message_id, args)
+
+    def test_values(self):
+        for message_id, text in (("text", "mouse"), ("number", "7"), ("message", "Cat"), ("attribute", "Cats"), ("call", "7"),
+                                 ("named", "10")):
+            self.assertEqual(self.shown(message_id), (text, []))
+        self.assertEqual(self.shown("argument", {"animal": "Dog"}), ("Dog", []))
+
+    def test_what_fails(self):
+        for message_id, text, error in (("no-value", "ECHO()", TypeError), ("other-name", "SUM()", TypeError),
+                                        ("division", "HALVES()", ZeroDivisionError), ("type", "SUM()", TypeError)):
+            shown_text, errors = self.shown(message_id)
+            self.assertEqual((shown_text, [type(each) for each in errors]), (text, [error]))
+
+    def test_what_is_missing(self):
+        # Unlike: there the text has no braces.
+        self.assertEqual(self.shown("unknown"), ("{HOWL()}", [FluentReferenceError("Unknown function: HOWL")]))
+
+    def test_named_arguments(self):
+        calls = []
+
+        def function(first, second=None, third="usual"):
+            calls.append((first, second, third))
+            return first
+
+        made = FluentBundle(["en-US"], {"F": function}, use_isolating=False)
+        made.add_resource('a = { F("x") }\nb = { F("x", second: 5) }\nc = { F("x", third: "y") }\n'
+                          'd = { F("x", third: "y", second: 5) }\n')
+        for message_id in "abcd":
+            self.assertEqual(shown(made, message_id), ("x", []))
+        self.assertEqual(calls, [("x", None, "usual"), ("x", 5, "usual"), ("x", None, "y"), ("x", 5, "y")])
+
+    def test_what_is_none(self):
+        # Not sure: a FluentNone is shown by its name, or else by question marks; here by the function's name.
+        for given, text in ((FluentNone("here"), "here"), (FluentNone(), "F()")):
+            made = FluentBundle(["en-US"], {"F": lambda: given}, use_isolating=False)
+            made.add_resource("a = { F() }\n")
+            self.assertEqual(shown(made, "a"), (text, []))
+
+    def test_types_of_a_program(self):
+        class Money(FluentType):
+            def format(self, locale):
+                return "five"
+
+        self.assertEqual(shown(bundle("a = { $x }!\n"), "a", {"x": Money()}), ("five!", []))
 
 
 class Errors(unittest.TestCase):
@@ -86,7 +196,7 @@ class Errors(unittest.TestCase):
         self.assertEqual(shown(bundle(source), "t")[1], [FluentReferenceError("Unknown attribute: -u.x")])
 
     def test_cycles(self):
-        # Not sure: fluent.runtime shows {???} for it.
+        # Unlike: there question marks are shown for it.
         text, errors = shown(bundle("foo = Foo { bar }\nbar = Bar { foo }\n"), "foo")
         self.assertEqual(errors, [FluentCyclicReferenceError("Cyclic reference")])
         self.assertTrue(text.startswith("Foo Bar "))
@@ -102,6 +212,10 @@ class Errors(unittest.TestCase):
         self.assertEqual(error, FluentReferenceError("x"))
         self.assertNotEqual(error, FluentCyclicReferenceError("x"))
         self.assertEqual(len({error, FluentReferenceError("x")}), 1)
+
+    def test_builtins(self):
+        self.assertEqual(BUILTINS, {"NUMBER": fluent_number, "DATETIME": fluent_date})
+        self.assertEqual((NUMBER, DATETIME), (fluent_number, fluent_date))
 
     def test_many(self):
         text, errors = shown(bundle("many = " + "{ $a-name-that-is-long }" * 99), "many")
@@ -139,7 +253,34 @@ class Localized(unittest.TestCase):
     def test_languages_are_loaded_as_they_are_asked(self):
         made = self.localization()
         made.format_value("one")
-        self.assertEqual(len(made._made), 1)
+        self.assertEqual(len(made._bundle_cache), 1)
+
+    def test_settings_are_handed_on(self):
+        class Other(FluentBundle):
+            pass
+
+        loader = FluentResourceLoader(os.path.join(self.root, "{locale}"))
+        made = FluentLocalization(["en"], ["one.ftl", "three.ftl"], loader, True, Other, {"F": lambda: "f"})
+        with open(os.path.join(self.root, "en/three.ftl"), "w", encoding="utf-8") as file:
+            file.write("f = <{ F() }>\n")
+        self.assertEqual(made.format_value("f"), "<\u2068f\u2069>")
+        self.assertIsInstance(made._bundle_cache[0], Other)
+
+    def test_each_locale_is_followed_by_the_others(self):
+        made = self.localization()
+        made.format_value("gone")
+        self.assertEqual([each.locales for each in made._bundle_cache], [["de", "fr", "en"], ["fr", "en"], ["en"]])
+
+    def test_threads(self):
+        class Slow(FluentResourceLoader):
+            def resources(self, locale, resource_ids):
+                time.sleep(0.01)
+                yield from super().resources(locale, resource_ids)
+
+        made = FluentLocalization(["de", "fr", "en"], ["one.ftl", "two.ftl"], Slow(os.path.join(self.root, "{locale}")))
+        with ThreadPoolExecutor(8) as pool:
+            texts = list(pool.map(lambda _: made.format_value("two", {"x": "so"}), range(8)))
+        self.assertEqual((texts, len(made._bundle_cache)), (["in English, so"] * 8, 3))
 
     def test_several_roots(self):
         loader = FluentResourceLoader([os.path.join(self.root, root) for root in ("nowhere/{locale}", "{locale}")])
@@ -174,7 +315,7 @@ class Versions(unittest.TestCase):
         _library._loaded.cache_clear()
         self.addCleanup(_library._loaded.cache_clear)
         with mock.patch.object(_library, "VERSION", "9.9.9"):
-            with self.assertRaisesRegex(OSError, "has version 0.1.0, and fluent_rattle 9.9.9"):
+            with self.assertRaisesRegex(OSError, "has version .*, and fluent_rattle 9.9.9"):
                 FluentBundle("en", library=LIBRARY)
 
 

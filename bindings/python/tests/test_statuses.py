@@ -7,6 +7,7 @@ import unittest
 
 from fluent_rattle import FluentBundle
 from fluent_rattle._library import Handle, Lengths, Status, load
+from fluent_rattle.bundle import NO_REPORT
 
 from . import LIBRARY, TOP
 
@@ -33,6 +34,15 @@ class Raw:
         return self.library.fluent_format(self.handle, message, len(message), name, len(name), args, len(args),
                                           self.text, room, self.errors, errors_room, self.lengths)
 
+    def declare(self, name=b"F", over=True):
+        return self.library.fluent_declare_function(self.handle, name, len(name), over)
+
+    def ask(self, answers=b"", room=64):
+        self.text, self.errors = (ctypes.create_string_buffer(b"\xa5" * 64) for _ in range(2))
+        self.lengths = Lengths(99, 99)
+        return self.library.fluent_format_asking(self.handle, b"f", 1, b"", 0, b"", 0, answers, len(answers), self.text, room,
+                                                 self.errors, 64, self.lengths)
+
     def close(self):
         self.library.fluent_close(self.handle)
 
@@ -57,7 +67,7 @@ class ByCause(unittest.TestCase):
         self.opened()
         self.assertIs(self.raw.handle.is_open, True)
         self.assertTrue(self.raw.handle.at)
-        self.assertEqual(ctypes.sizeof(Handle), 16)
+        self.assertEqual(ctypes.sizeof(Handle), 24)
         self.assertEqual(bytes(self.raw.handle)[8], 1)
         self.raw.close()
         self.assertIs(self.raw.handle.is_open, False)
@@ -106,7 +116,8 @@ class ByCause(unittest.TestCase):
     def test_no_language(self):
         for tag in (b"xx", b""):
             self.assertEqual(self.raw.open(tag), Status.NO_LANGUAGE)
-        self.assertFalse(self.raw.handle.is_open)
+            self.assertTrue(self.raw.handle.is_open)
+            self.raw.close()
 
     def test_no_message(self):
         raw = self.opened()
@@ -123,9 +134,34 @@ class ByCause(unittest.TestCase):
             self.assert_nothing()
             self.raw.close()
 
+    def test_asks(self):
+        raw = self.opened()
+        self.assertEqual(raw.add(b'f = { F("x") }\n'), Status.OK)
+        self.assertEqual(raw.declare(), Status.OK)
+        question = b"f\1\0\0\0Ft\0\0\0\0\1\0\0\0x"
+        self.assertEqual(raw.ask(), Status.ASKS)
+        self.assertEqual((raw.lengths.text, raw.lengths.errors), (len(question), 0))
+        self.assertEqual(raw.text.raw[: len(question)], question)
+        self.assertEqual(raw.ask(room=len(question) - 1), Status.ASKS)
+        self.assertEqual((raw.lengths.text, raw.lengths.errors), (len(question), 0))
+        self.assertEqual(raw.text.raw[:64], b"\xa5" * 64)
+        answer = b"t" + len(question).to_bytes(4, "little") + question + b"\2\0\0\0xx"
+        self.assertEqual(raw.ask(answer), Status.OK)
+        self.assertEqual((raw.text.raw[:3], raw.lengths.text), (b"xx\xa5", 2))
+        self.assertEqual(raw.ask(answer[:-1]), Status.ARGUMENTS_CUT)
+
+    def test_id_taken(self):
+        raw = self.opened()
+        for name, status in ((b"a", Status.ID_TAKEN), (b"NUMBER", Status.ID_TAKEN), (b"F", Status.OK), (b"F", Status.ID_TAKEN)):
+            self.assertEqual(raw.declare(name, False), status)
+        self.assertEqual(raw.declare(b"\xff"), Status.ID_NOT_UTF8)
+        self.assertEqual(raw.has(b"a"), Status.OK)
+        self.assertEqual(raw.declare(b"a"), Status.OK)
+        self.assertEqual(raw.has(b"a"), Status.NO_MESSAGE)
+
     def test_open_and_closed(self):
         raw = self.raw
-        for status in (raw.add(b""), raw.has(b"a"), raw.format()):
+        for status in (raw.add(b""), raw.has(b"a"), raw.format(), raw.declare(), raw.ask()):
             self.assertEqual(status, Status.CLOSED_BUNDLE)
         self.assert_nothing()
         self.opened()
@@ -148,15 +184,15 @@ class Stub:
 
 
 class OfThePackage(unittest.TestCase):
-    EXCEPTIONS = {Status.NO_MEMORY: MemoryError, Status.NO_LANGUAGE: LookupError, Status.CLOSED_BUNDLE: ValueError,
-                  Status.BAD_RULES: ValueError, Status.OUT_OF_RANGE: ValueError}
-    CALLS = [lambda b: b._open(["en"], True), lambda b: b._limit(1), lambda b: b.add_resource(""),
+    EXCEPTIONS = {Status.NO_MEMORY: MemoryError, Status.CLOSED_BUNDLE: ValueError, Status.BAD_RULES: ValueError,
+                  Status.OUT_OF_RANGE: ValueError}
+    CALLS = [lambda b: b._open(True), lambda b: b._limit(1), lambda b: b.add_resource(""),
              lambda b: b.message_ids(), lambda b: b.has_message("a"), lambda b: b.has_value("a"),
              lambda b: b.format_value("a")]
 
     def test_each(self):
         for status in Status:
-            if status in (Status.OK, Status.TOO_SMALL, Status.NO_MESSAGE):
+            if status in (Status.OK, Status.TOO_SMALL, Status.NO_LANGUAGE, Status.NO_MESSAGE, Status.ASKS):
                 continue
             bundle = FluentBundle("en")
             bundle._calls.library = Stub(status)
@@ -211,6 +247,38 @@ class NoMemory(unittest.TestCase):
         self.assertGreater(self.taken.value, 0)
         bundle.close()
         self.assertEqual(self.taken.value, 0)
+
+    def test_adding_never_fails_after_it_added(self):
+        told = []
+        for turn in range(10_000):
+            with FluentBundle("en", library=self.path) as bundle:
+                self.blocks.value = turn
+                try:
+                    told.append(bundle.add_resource("a = A\n?? Junk\n"))
+                except MemoryError:
+                    self.blocks.value = -1
+                    self.assertEqual((told, bundle.has_message("a")), ([], False))
+                    continue
+                self.blocks.value = -1
+                self.assertTrue(bundle.has_message("a"))
+            if told[-1] != [NO_REPORT]:
+                break
+        self.assertIn([NO_REPORT], told)
+        self.assertEqual(told[-1], ["2: unreadable entry at bytes 6..14"])
+
+    def test_a_call_of_a_function(self):
+        before = self.taken.value
+        bundle = FluentBundle("en", {"F": lambda text: text * 2}, transform=str.upper, library=self.path)
+        bundle.add_resource('m = text { F("x") }\n')
+        there = lambda: self.assertTrue(bundle.has_message("m"))
+        turns, answer = self.in_turn(lambda: bundle.format_value("m"), there)
+        self.assertGreater(turns, 0)
+        self.assertEqual(answer, ("TEXT \u2068xx\u2069", []))
+        kept = self.taken.value
+        self.in_turn(lambda: bundle.format_value("m"), there)
+        self.assertEqual(self.taken.value, kept)
+        bundle.close()
+        self.assertEqual(self.taken.value, before)
 
 
 if __name__ == "__main__":

@@ -41,14 +41,14 @@ def ask(bundle, who, turns=TURNS):
 class Threads(unittest.TestCase):
     def test_bundles_of_their_own(self):
         def work(who):
-            with FluentBundle("en", False) as bundle:
+            with FluentBundle("en", use_isolating=False, formatter=None) as bundle:
                 bundle.add_resource(SOURCE)
                 ask(bundle, who)
 
         self.assertEqual(in_threads(*(lambda who=who: work(who) for who in ("a" * 9, "b" * 99, "c" * 999, "d"))), [])
 
     def test_one_bundle(self):
-        bundle = FluentBundle("en", False)
+        bundle = FluentBundle("en", use_isolating=False, formatter=None)
         bundle.add_resource(SOURCE)
 
         def add():
@@ -62,7 +62,7 @@ class Threads(unittest.TestCase):
         self.assertEqual(bundle.format_value("x299", {"n": 1}), ("one", []))
 
     def test_a_chain(self):
-        chain = FluentChain(["pl", "en"], False)
+        chain = FluentChain(["pl", "en"], use_isolating=False, formatter=None)
         polish, english = chain.bundles
         english.add_resource(SOURCE)
 
@@ -77,7 +77,7 @@ class Threads(unittest.TestCase):
         self.assertEqual(len(polish.message_ids()), 300)
 
     def test_a_bundle_that_is_closed_meanwhile(self):
-        bundle = FluentBundle("en", False)
+        bundle = FluentBundle("en", use_isolating=False, formatter=None)
         bundle.add_resource(SOURCE)
         raised = in_threads(*[lambda: ask(bundle, "a", 10**9)] * 3, bundle.close)
         self.assertEqual([(type(error), str(error)) for error in raised], [(ValueError, "the bundle is closed")] * 3)
@@ -91,7 +91,7 @@ class Memory(unittest.TestCase):
 
         def live(how_often):
             for i in range(how_often):
-                bundle = FluentBundle("en", False)
+                bundle = FluentBundle("en", use_isolating=False, formatter=None)
                 bundle.add_resource(SOURCE)
                 ask(bundle, "x", 3)
                 # The others are closed as garbage.
@@ -105,7 +105,7 @@ class Memory(unittest.TestCase):
         self.assertLess(peak() - before, 1_000)
 
     def test_many_calls(self):
-        with FluentBundle("en", False) as bundle:
+        with FluentBundle("en", use_isolating=False, formatter=None) as bundle:
             bundle.add_resource(SOURCE)
             ask(bundle, "x" * 5_000, 200)
             before = resource.getrusage(resource.RUSAGE_SELF).ru_maxrss

@@ -1,9 +1,13 @@
 """Messages of several languages, loaded when they are asked for, by the names of fluent.runtime."""
+import itertools
 import os
-from typing import Any, Generator, Iterable, List, Optional, Type, Union
+import threading
+from typing import Generator, Iterable, List, Optional, Type, Union
 
-from ._bundle import Args, FluentBundle
+from ._asking import Functions
+from ._formats import Args
 from ._messages import FluentResource
+from .bundle import FluentBundle
 
 
 class AbstractResourceLoader:
@@ -31,7 +35,7 @@ class FluentResourceLoader(AbstractResourceLoader):
         return path.format(locale=locale)
 
     @staticmethod
-    def _read(path):
+    def _read(path: str) -> FluentResource:
         with open(path, encoding="utf-8", newline="") as file:
             return FluentResource(file.read())
 
@@ -42,6 +46,7 @@ class FluentLocalization:
     locales           tags, of which the first is asked first
     resource_ids      what the loader is asked for in each language, such as ["main.ftl"]
     resource_loader   a FluentResourceLoader, or what has its method `resources`
+    functions         what messages may call, as for FluentBundle
     """
 
     def __init__(
@@ -51,11 +56,14 @@ class FluentLocalization:
         resource_loader: AbstractResourceLoader,
         use_isolating: bool = False,
         bundle_class: Type[FluentBundle] = FluentBundle,
+        functions: Optional[Functions] = None,
     ) -> None:
         self.locales, self.resource_ids = list(locales), list(resource_ids)
         self.resource_loader, self.use_isolating, self.bundle_class = resource_loader, use_isolating, bundle_class
-        self._made: List[FluentBundle] = []
-        self._coming = self._make_bundles()
+        self.functions = functions
+        self._bundle_cache: List[FluentBundle] = []
+        self._bundle_it = self._iterate_bundles()
+        self._lock = threading.RLock()
 
     def format_value(self, msg_id: str, args: Optional[Args] = None) -> str:
         """The text of a message, and its id where no language has it."""
@@ -64,22 +72,27 @@ class FluentLocalization:
                 return bundle.format_pattern(bundle.get_message(msg_id).value, args)[0]
         return msg_id
 
-    def _bundles(self):
+    def _bundles(self) -> Generator[FluentBundle, None, None]:
         """The bundles in turn. Each is made once, and no earlier than it is asked."""
         index = 0
-        while True:
-            if index == len(self._made):
-                following = next(self._coming, None)
-                if following is None:
-                    return
-                self._made.append(following)
-            yield self._made[index]
+        while self._has_bundle(index):
+            yield self._bundle_cache[index]
             index += 1
 
-    def _make_bundles(self) -> Generator[Any, None, None]:
+    def _has_bundle(self, index: int) -> bool:
+        """Whether there is a bundle at an index, which is made if need be. Other threads wait for it."""
+        with self._lock:
+            if index == len(self._bundle_cache):
+                self._bundle_cache.extend(itertools.islice(self._bundle_it, 1))
+            return index < len(self._bundle_cache)
+
+    def _create_bundle(self, locales: List[str]) -> FluentBundle:
+        return self.bundle_class(locales, functions=self.functions, use_isolating=self.use_isolating)
+
+    def _iterate_bundles(self) -> Generator[FluentBundle, None, None]:
         for first in range(len(self.locales)):
             for resources in self.resource_loader.resources(self.locales[first], self.resource_ids):
-                bundle = self.bundle_class(self.locales[first:], use_isolating=self.use_isolating)
+                bundle = self._create_bundle(self.locales[first:])
                 for resource in resources:
                     bundle.add_resource(resource)
                 yield bundle
