@@ -6,7 +6,9 @@ import re
 from . import meaning, syntax
 
 LINE = re.compile(r"(.+?):([0-9]+):([0-9]+): (error|warning): (.*)")
-COUNTS = re.compile(r"([0-9]+) errors?, ([0-9]+) warnings?")
+COUNTS = re.compile(r"([0-9]+) errors?, ([0-9]+) warnings?(.*)")
+UNREAD = " (status 3: a file can't be read)"
+MAYBE = " (status 1: a text may open too many placeables)"
 MARK = "\ufeff"
 IN = r".* \(in '([^']+)'\)"
 TEXTS = [(kind, re.compile(text)) for kind, text in (
@@ -18,13 +20,14 @@ TEXTS = [(kind, re.compile(text)) for kind, text in (
     ("no attribute", r"no attribute '([^']+)'" + IN),
     ("no value", r"no value of message '([^']+)'" + IN),
     ("no term", r"no term '-([^']+)'" + IN),
+    ("not a function", r"no function '([^']+)': a message or a term has that id" + IN),
     ("no function", r"no function '([^']+)'" + IN),
     ("itself", r"'([^']+)' refers to itself.*"),
     ("cycle", r"'([^']+)' refers to '([^']+)', which leads back to it.*"),
     ("large", r"'([^']+)' can open ([0-9]+) placeables.*"),
     ("maybe large", r"'([^']+)' may open ([0-9]+) placeables.*"),
     ("leads to", r"'([^']+)' refers to '([^']+)', where something is wrong.*"))]
-MISSING = {"no message", "no attribute", "no value", "no term", "no function"}
+MISSING = {"no message", "no attribute", "no value", "no term", "no function", "not a function"}
 TRIES = 24
 # How many keys of a place's selects are tried one by one.
 KEYS = 32
@@ -46,16 +49,18 @@ class Finding:
         return f"{self.file}:{self.line}:{self.column}: {self.weight}: {self.text}"
 
 
-def findings_in(output):
-    """The findings of a report, and what is wrong with its lines."""
+def findings_in(output, status):
+    """The findings of a report of a run with this status, and what is wrong with its lines."""
     *lines, last = output.split("\n")[:-1] or [""]
     found = [LINE.fullmatch(line) for line in lines]
     faults = [f"this line is no finding: {line!r}" for line, match in zip(lines, found) if not match]
     findings = [Finding(*match.groups()) for match in found if match]
     faults += [f"nothing is known of this error: {one}" for one in findings if one.kind is None and one.weight == "error"]
-    counts, weights = COUNTS.match(last), [one.weight for one in findings]
-    if not counts or [int(count) for count in counts.groups()] != [weights.count("error"), weights.count("warning")]:
+    counts, weights = COUNTS.fullmatch(last), [one.weight for one in findings]
+    if not counts or [int(count) for count in counts.groups()[:2]] != [weights.count("error"), weights.count("warning")]:
         faults.append(f"the last line doesn't count the findings: {last!r}")
+    elif counts[3] != (UNREAD if status == 3 else MAYBE if status == 1 and "error" not in weights else ""):
+        faults.append(f"the last line doesn't say why the status is {status}: {last!r}")
     return findings, faults
 
 
@@ -90,6 +95,24 @@ def needs_in(expression, conditions):
         if given and expression[given]:
             for one in expression[given][0] + tuple(value for _, value in expression[given][1]):
                 yield from needs_in(one, conditions)
+
+
+def calls_placed(pattern, conditions=()):
+    """The calls that stand in placeables themselves: elsewhere a function that isn't there is an error value, and no error."""
+    for element in pattern:
+        if element[0] == "place":
+            yield from calls_in(element[1], conditions)
+
+
+def calls_in(expression, conditions):
+    kind = expression[0]
+    if kind == "select":
+        for index, (_, pattern, _) in enumerate(expression[2]):
+            yield from calls_placed(pattern, conditions + ((expression[1], expression[2], index),))
+    elif kind == "nested":
+        yield from calls_in(expression[1], conditions)
+    elif kind == "function":
+        yield (kind, expression[1], None), conditions
 
 
 def name_of(kind, name, attribute):
@@ -141,7 +164,7 @@ class Model:
     def lacks(self, kind, name, attribute):
         """The kind of finding and its name, where what is referred to isn't there; else None."""
         if kind == "function":
-            return None if self.bundle.function(name) else ("no function", name)
+            return None if self.bundle.function(name) else ("not a function" if self.is_taken(name) else "no function", name)
         if kind == "variable":
             return None
         target = self.bundle.target(kind, name, attribute)
@@ -153,9 +176,9 @@ class Model:
             return (f"no {kind}", name)
         return ("no attribute", name_of(kind, name, attribute))
 
-    def can_never_be_added(self, one):
-        """Whether it tells of a function whose id a message or a term has."""
-        return one.kind == "no function" and any(self.bundle.entry(kind, one.parts[0]) for kind in ("message", "term"))
+    def is_taken(self, name):
+        """Whether a message or a term has this id, so that no function can be added."""
+        return any(self.bundle.entry(kind, name) for kind in ("message", "term"))
 
     def missing(self, place):
         return {lack for need, _ in place.needs if (lack := self.lacks(*need))}
@@ -378,8 +401,10 @@ class Comparison:
             if lack not in self.model.missing(place):
                 self.fault(f"the model has nothing of it: {one}")
             self.stands_at(one, place, [reference for reference in place.references if self.model.lacks(*reference[:3]) == lack])
-            if one.kind != "no function" and one.weight == "error":
-                self.shows(one, place, [(need, conditions) for need, conditions in place.needs if self.model.lacks(*need) == lack])
+            needs = calls_placed(place.pattern) if one.kind == "not a function" else place.needs
+            needs = [(need, conditions) for need, conditions in needs if self.model.lacks(*need) == lack]
+            if one.kind != "no function" and one.weight == "error" and needs:
+                self.shows(one, place, needs)
         for name, place in self.model.places.items():
             for lack in self.model.missing(place) - told[name]:
                 self.fault(f"this isn't told of '{name}': {' '.join(lack)}")
@@ -496,11 +521,12 @@ def compare(files, status, output, errors, has_strict, seed):
     said = [line for name, content in files for line in said_of(name, content)]
     faults = [] if [line for line in errors.splitlines() if "not UTF-8" in line] == said else [f"of what is no UTF-8 is said {errors!r}, not {said}"]
     if not texts:
-        return faults + ([] if (status, output) == (3, "") else [f"status {status} and {output!r}, where no file is read"]), 0, 0
-    findings, more = findings_in(output)
+        nothing = f"0 errors, 0 warnings{UNREAD}\n"
+        return faults + ([] if (status, output) == (3, nothing) else [f"status {status} and {output!r}, where no file is read"]), 0, 0
+    findings, more = findings_in(output, status)
     model = Model(texts)
-    # What may open too many placeables has no status 0 either, nor has a call of a function that can't be added: its id is taken.
-    told = [one for one in findings if one.weight == "error" or one.kind == "maybe large" or model.can_never_be_added(one) or not has_strict]
+    # What may open too many placeables has no status 0 either.
+    told = [one for one in findings if one.weight == "error" or one.kind == "maybe large" or not has_strict]
     if status != (3 if said else 1 if told else 0):
         faults.append(f"status {status} beside {len(findings)} findings")
     comparison = Comparison(model, [one for one in findings if one.kind], random.Random(seed))

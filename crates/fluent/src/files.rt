@@ -2,6 +2,7 @@
 
 use std::alloc::AllocError;
 use std::cmp::Ordering;
+use std::collections::BTreeSet;
 use std::io::{ErrorKind, Read};
 use std::path::Path;
 use std::{fs, io};
@@ -14,6 +15,30 @@ const MOST_FOLDERS: usize = 40;
 pub struct Content {
     pub name: String,
     pub contents: Result<Vec<u8>, String>,
+}
+
+/// A file that is to be read.
+#[derive(Drop)]
+pub struct Listed {
+    name: String,
+    /// What is the same for two names of one file.
+    key: String,
+    /// Whether the words name it, and not a folder that it stands in.
+    is_named: bool,
+    way: Way,
+}
+
+/// How the contents of a file are had.
+#[derive(Drop)]
+enum Way {
+    /// It is read.
+    Read,
+    /// It is read, and is empty where it isn't there.
+    ReadIfThere,
+    /// It is taken to be empty.
+    Empty,
+    /// It is known why it can't be read.
+    Fault(String),
 }
 
 /// What stands at a path below a folder: a file, or what can't be looked into.
@@ -34,24 +59,6 @@ fn reason(rt: &HostRuntime, error: &io::Error) -> Result<String, AllocError> {
         return Err(AllocError);
     }
     format!(in rt.alloc(); "{error}")
-}
-
-/// What a file has; `-` is standard input.
-fn bytes_of(rt: &HostRuntime, name: &str) -> io::Result<Vec<u8>> {
-    if name != "-" {
-        return fs::read(rt, name);
-    }
-    let mut bytes = Vec::new(rt.alloc());
-    rt.stdin().read_to_end(&mut bytes)?;
-    Ok(bytes)
-}
-
-/// What a file has, or why it can't be read.
-fn contents_of(rt: &HostRuntime, name: &str) -> Result<Result<Vec<u8>, String>, AllocError> {
-    Ok(match bytes_of(rt, name) {
-        Ok(bytes) => Ok(bytes),
-        Err(error) => Err(reason(rt, &error)?),
-    })
 }
 
 /// A path in a folder.
@@ -141,91 +148,158 @@ fn order(a: &Found<'_>, b: &Found<'_>) -> Ordering {
     }
 }
 
-/// Says that a folder has no file.
-fn without_files(rt: &HostRuntime, folder: &str) -> Result<Content, AllocError> {
-    Ok(Content {
-        name: String::from_str(rt.alloc(), folder)?,
-        contents: Err(String::from_str(rt.alloc(), "no .ftl file in it")?),
+/// What is the same for two names of one file: its path without links, or where there is none, the name.
+fn key_of(rt: &HostRuntime, name: &str) -> Result<String, AllocError> {
+    match fs::canonicalize(rt, name) {
+        Ok(path) => String::from_str(rt.alloc(), path.as_str()),
+        Err(error) if error.kind() == ErrorKind::OutOfMemory => Err(AllocError),
+        Err(_) => String::from_str(rt.alloc(), name),
+    }
+}
+
+/// A file that the words name; `-` is standard input.
+fn named(rt: &HostRuntime, name: &str) -> Result<Listed, AllocError> {
+    Ok(Listed {
+        name: String::from_str(rt.alloc(), name)?,
+        key: key_of(rt, name)?,
+        is_named: true,
+        way: Way::Read,
     })
 }
 
-/// Reads a file that was found.
-fn read_found(rt: &HostRuntime, found: Found<'_>) -> Result<Content, AllocError> {
-    let Found {
-        folder,
-        path,
-        fault,
-    } = found;
-    let name = joined(rt, folder, path.as_str())?;
-    let contents = match fault {
-        Some(fault) => Err(fault),
-        None => contents_of(rt, name.as_str())?,
-    };
-    Ok(Content { name, contents })
+/// A folder without files.
+fn without_files(rt: &HostRuntime, folder: &str) -> Result<Listed, AllocError> {
+    let mut listed = named(rt, folder)?;
+    listed.way = Way::Fault(String::from_str(rt.alloc(), "no .ftl file in it")?);
+    Ok(listed)
 }
 
-/// Whether one of these files has a name.
-fn is_named(files: &[Content], name: &str) -> bool {
-    files.iter().any(|file| file.name.as_str() == name)
+/// A file of a path below a folder.
+fn below(rt: &HostRuntime, folder: &str, path: &str, way: Way) -> Result<Listed, AllocError> {
+    let name = joined(rt, folder, path)?;
+    let key = key_of(rt, name.as_str())?;
+    Ok(Listed {
+        name,
+        key,
+        is_named: false,
+        way,
+    })
 }
 
-/// Reads the files in a folder, without those that are loaded beside them.
-fn add_folder(
-    rt: &HostRuntime,
-    folder: &str,
-    beside: &[Content],
-    files: &mut Vec<Content>,
-) -> Result<(), AllocError> {
+/// How what was found is read.
+fn way_of(fault: Option<String>) -> Way {
+    match fault {
+        Some(fault) => Way::Fault(fault),
+        None => Way::Read,
+    }
+}
+
+/// Adds the files in a folder.
+fn add_folder(rt: &HostRuntime, folder: &str, files: &mut Vec<Listed>) -> Result<(), AllocError> {
     let all = found_in(rt, folder)?;
     if all.is_empty() {
         files.push(without_files(rt, folder)?)?;
     }
     for found in all {
-        let name = joined(rt, folder, found.path.as_str())?;
-        if !is_named(beside, name.as_str()) {
-            files.push(read_found(rt, found)?)?;
-        }
+        let Found {
+            folder,
+            path,
+            fault,
+        } = found;
+        files.push(below(rt, folder, path.as_str(), way_of(fault))?)?;
     }
     Ok(())
 }
 
-/// Reads the files that names stand for: a folder for those in it, without those that are loaded beside them.
-pub fn read_files(
-    rt: &HostRuntime,
-    names: &[&str],
-    beside: &[Content],
-) -> Result<Vec<Content>, AllocError> {
+/// The files that names stand for, each once: a folder for those in it.
+fn files_named(rt: &HostRuntime, names: &[&str]) -> Result<Vec<Listed>, AllocError> {
     let mut files = Vec::new(rt.alloc());
     for name in names {
         if Path::new(*name).is_dir(rt) {
-            add_folder(rt, *name, beside, &mut files)?;
+            add_folder(rt, *name, &mut files)?;
         } else {
-            files.push(Content {
-                name: String::from_str(rt.alloc(), *name)?,
-                contents: contents_of(rt, *name)?,
-            })?;
+            files.push(named(rt, *name)?)?;
         }
     }
-    Ok(files)
+    once(rt, files)
 }
 
-/// What a file of a path below a folder has: nothing, where it isn't there.
-fn read_if_there(rt: &HostRuntime, folder: &str, path: &str) -> Result<Content, AllocError> {
-    let name = joined(rt, folder, path)?;
-    let contents = match fs::read(rt, name.as_str()) {
+/// Files without those that stand there before.
+fn once(rt: &HostRuntime, files: Vec<Listed>) -> Result<Vec<Listed>, AllocError> {
+    let mut keys = BTreeSet::new(rt.alloc());
+    let mut kept = Vec::new(rt.alloc());
+    for file in files {
+        if keys.insert(file.key.clone()?)? {
+            kept.push(file)?;
+        }
+    }
+    Ok(kept)
+}
+
+/// The keys of files, or of those alone that the words name.
+fn keys_of(
+    rt: &HostRuntime,
+    files: &[Listed],
+    are_named: bool,
+) -> Result<BTreeSet<String>, AllocError> {
+    let mut keys = BTreeSet::new(rt.alloc());
+    for file in files {
+        if file.is_named || !are_named {
+            let _ = keys.insert(file.key.clone()?)?;
+        }
+    }
+    Ok(keys)
+}
+
+/// What a file has; `-` is standard input.
+fn bytes_of(rt: &HostRuntime, name: &str) -> io::Result<Vec<u8>> {
+    if name != "-" {
+        return fs::read(rt, name);
+    }
+    let mut bytes = Vec::new(rt.alloc());
+    rt.stdin().read_to_end(&mut bytes)?;
+    Ok(bytes)
+}
+
+/// What a file has, or why it can't be read.
+fn contents_of(
+    rt: &HostRuntime,
+    name: &str,
+    is_optional: bool,
+) -> Result<Result<Vec<u8>, String>, AllocError> {
+    Ok(match bytes_of(rt, name) {
         Ok(bytes) => Ok(bytes),
-        Err(error) if error.kind() == ErrorKind::NotFound => Ok(Vec::new(rt.alloc())),
+        Err(error) if is_optional && error.kind() == ErrorKind::NotFound => {
+            Ok(Vec::new(rt.alloc()))
+        }
         Err(error) => Err(reason(rt, &error)?),
+    })
+}
+
+/// Reads a file.
+fn read_file(rt: &HostRuntime, file: Listed) -> Result<Content, AllocError> {
+    let Listed {
+        name,
+        key: _,
+        is_named: _,
+        way,
+    } = file;
+    let contents = match way {
+        Way::Read => contents_of(rt, name.as_str(), false)?,
+        Way::ReadIfThere => contents_of(rt, name.as_str(), true)?,
+        Way::Empty => Ok(Vec::new(rt.alloc())),
+        Way::Fault(fault) => Err(fault),
     };
     Ok(Content { name, contents })
 }
 
-/// An empty file of a path below a folder.
-fn empty(rt: &HostRuntime, folder: &str, path: &str) -> Result<Content, AllocError> {
-    Ok(Content {
-        name: joined(rt, folder, path)?,
-        contents: Ok(Vec::new(rt.alloc())),
-    })
+/// Reads files.
+fn read_files(rt: &HostRuntime, files: Vec<Listed>) -> Result<Vec<Content>, AllocError> {
+    let mut contents = Vec::new(rt.alloc());
+    for file in files {
+        contents.push(read_file(rt, file)?)?;
+    }
+    Ok(contents)
 }
 
 /// The paths of files that stand below the one folder or the other. Where one can't be looked into, that alone.
@@ -247,56 +321,109 @@ fn found_in_either<'n>(
     Ok(all)
 }
 
-/// Files, and those that they were translated from.
+/// The files of a request.
+#[derive(Drop)]
+pub struct Files {
+    beside: Vec<Listed>,
+    files: Vec<Listed>,
+    references: Vec<Listed>,
+}
+
+/// What they have.
 #[derive(Drop)]
 pub struct Contents {
+    pub beside: Vec<Content>,
     pub files: Vec<Content>,
     pub references: Vec<Content>,
 }
 
-impl Contents {
-    /// Reads the files of a path below both folders.
+impl Files {
+    /// The files that these names stand for. A file that the one side names is none of a folder of the other; else one on
+    /// both sides is not among those beside.
+    pub fn together(
+        rt: &HostRuntime,
+        beside: &[&str],
+        files: &[&str],
+        references: &[&str],
+    ) -> Result<Files, AllocError> {
+        let beside = files_named(rt, beside)?;
+        let keys = keys_of(rt, beside.as_slice(), true)?;
+        let mut files = files_named(rt, files)?;
+        files.retain(|file| file.is_named || !keys.contains(file.key.as_str()));
+        Ok(Files {
+            beside,
+            files,
+            references: files_named(rt, references)?,
+        })
+    }
+
+    /// The files below two folders, each with that of its path below the other. What stands below one alone has an empty
+    /// file at its side. A pair is left out where its translation is named beside the others.
+    pub fn pairs(
+        rt: &HostRuntime,
+        beside: &[&str],
+        translation: &str,
+        reference: &str,
+    ) -> Result<Files, AllocError> {
+        let mut all = Files {
+            beside: files_named(rt, beside)?,
+            files: Vec::new(rt.alloc()),
+            references: Vec::new(rt.alloc()),
+        };
+        let keys = keys_of(rt, all.beside.as_slice(), true)?;
+        let found = found_in_either(rt, translation, reference)?;
+        if found.is_empty() {
+            all.files.push(without_files(rt, translation)?)?;
+            all.references.push(without_files(rt, reference)?)?;
+        }
+        for one in found {
+            all.add_pair(rt, translation, reference, one, &keys)?;
+        }
+        Ok(all)
+    }
+
+    /// Adds the files of a path below both folders, but for a translation with one of these keys.
     fn add_pair(
         &mut self,
         rt: &HostRuntime,
         translation: &str,
         reference: &str,
         found: Found<'_>,
+        keys: &BTreeSet<String>,
     ) -> Result<(), AllocError> {
-        let path = found.path.as_str();
-        if found.fault.is_some() {
-            self.references.push(empty(rt, reference, path)?)?;
-            self.files.push(read_found(rt, found)?)?;
-        } else {
-            self.references.push(read_if_there(rt, reference, path)?)?;
-            self.files.push(read_if_there(rt, translation, path)?)?;
+        let Found {
+            folder,
+            path,
+            fault,
+        } = found;
+        let path = path.as_str();
+        let (file, other) = match fault {
+            Some(fault) => (below(rt, folder, path, Way::Fault(fault))?, Way::Empty),
+            None => (
+                below(rt, translation, path, Way::ReadIfThere)?,
+                Way::ReadIfThere,
+            ),
+        };
+        if !keys.contains(file.key.as_str()) {
+            self.files.push(file)?;
+            self.references.push(below(rt, reference, path, other)?)?;
         }
         Ok(())
     }
-}
 
-/// Reads the files below two folders, each with that of its path below the other. What stands below one alone has an empty
-/// file at its side. A pair is left out where its translation is loaded beside the others.
-pub fn read_pairs(
-    rt: &HostRuntime,
-    translation: &str,
-    reference: &str,
-    beside: &[Content],
-) -> Result<Contents, AllocError> {
-    let mut pairs = Contents {
-        files: Vec::new(rt.alloc()),
-        references: Vec::new(rt.alloc()),
-    };
-    let all = found_in_either(rt, translation, reference)?;
-    if all.is_empty() {
-        pairs.files.push(without_files(rt, translation)?)?;
-        pairs.references.push(without_files(rt, reference)?)?;
+    /// Reads them.
+    pub fn read(self, rt: &HostRuntime) -> Result<Contents, AllocError> {
+        let Files {
+            mut beside,
+            files,
+            references,
+        } = self;
+        let keys = keys_of(rt, files.as_slice(), false)?;
+        beside.retain(|file| !keys.contains(file.key.as_str()));
+        Ok(Contents {
+            beside: read_files(rt, beside)?,
+            files: read_files(rt, files)?,
+            references: read_files(rt, references)?,
+        })
     }
-    for found in all {
-        let name = joined(rt, translation, found.path.as_str())?;
-        if !is_named(beside, name.as_str()) {
-            pairs.add_pair(rt, translation, reference, found)?;
-        }
-    }
-    Ok(pairs)
 }

@@ -3,7 +3,7 @@
 
 mod files;
 
-use files::{Content, Contents, read_files, read_pairs};
+use files::{Content, Contents, Files};
 use fluent_cli::answer::{Answer, Status, request_of};
 use fluent_cli::run::{File, run};
 use fluent_cli_words::{Request, ask};
@@ -31,19 +31,14 @@ fn folders<'w>(request: &Request<'w>) -> Option<(&'w str, &'w str)> {
     Some((translation, *reference))
 }
 
-/// Reads the files of a request, and those that they were translated from. `beside` are those that are loaded with each.
-fn read(
-    rt: &HostRuntime,
-    request: &Request<'_>,
-    beside: &[Content],
-) -> Result<Contents, AllocError> {
-    match folders(request) {
-        Some((translation, reference)) => read_pairs(rt, translation, reference, beside),
-        None => Ok(Contents {
-            files: read_files(rt, request.file_names(), beside)?,
-            references: read_files(rt, request.reference_names(), &[])?,
-        }),
-    }
+/// Reads the files of a request.
+fn read(rt: &HostRuntime, request: &Request<'_>) -> Result<Contents, AllocError> {
+    let beside = request.beside_names();
+    let files = match folders(request) {
+        Some((translation, reference)) => Files::pairs(rt, beside, translation, reference)?,
+        None => Files::together(rt, beside, request.file_names(), request.reference_names())?,
+    };
+    files.read(rt)
 }
 
 /// What a file has, or why it can't be read.
@@ -68,9 +63,8 @@ fn lent<'c>(rt: &HostRuntime, contents: &'c [Content]) -> Result<Vec<File<'c>>, 
 
 /// What a request gives, when its files are read.
 fn answer_request(rt: &HostRuntime, request: &Request<'_>) -> Result<Answer, AllocError> {
-    let beside = read_files(rt, request.beside_names(), &[])?;
-    let contents = read(rt, request, beside.as_slice())?;
-    let beside = lent(rt, beside.as_slice())?;
+    let contents = read(rt, request)?;
+    let beside = lent(rt, contents.beside.as_slice())?;
     let files = lent(rt, contents.files.as_slice())?;
     let references = lent(rt, contents.references.as_slice())?;
     run(

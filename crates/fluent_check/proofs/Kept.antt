@@ -16,6 +16,7 @@ use Rattle.fluent_lint.specs.declared.place.Place as code
 use Rattle.fluent_check.specs.Found.{Problem, unused_argument}
 use Rattle.fluent_check.specs.Names.{is_one_of, once}
 use Rattle.fluent_check.specs.Shown.{shown}
+use Rattle.fluent_check.specs.declared.shown.Wanted.TheVariants.{Variables}
 use Rattle.fluent_check.specs.Terms.{against, asks_by, at_target, is_asked, not_givens, unuseds, AreShown, AreShownAt}
 
 found_by : (t : Target) (p : Pattern) → Some p ≡ pattern_in t → t ≡ found p
@@ -25,7 +26,7 @@ found_by (found q) p h = let same : q ≡ p = cc in ap found same
 
 -- ---- one more
 
-pub shown_by : (named : Names Text) (x : Place) (p : Pattern) (names : List Text) → Some p ≡ pattern_in (place_target named x) → names ≡ once (shown p) → AreShownAt named x names
+pub shown_by : (named : Names Text) (x : Place) (p : Pattern) (names : List Text) → Some p ≡ pattern_in (place_target named x) → names ≡ once (shown Variables p) → AreShownAt named x names
 shown_by named x p names there is = (p, found_by (place_target named x) p there, is)
 
 kept_head : {S : Type 0} (named : Names Text) (x y : Place) (d : Dec (x ≡ y)) (set : IndexSet (Bor Text) S) (old : Option (IndexSet (Bor Text) S)) (names : List Text) → AreShownAt named x (texts set.keys)
@@ -49,10 +50,10 @@ none_at unknown x given asks h = refl
 none_at without_value x given asks h = refl
 none_at (found p) x given asks h = absurd cc
 
-pub some_at : (t : Target) (x : Place) (given names : List Text) (asks : Text → Bool) (p : Pattern) → t ≡ found p → names ≡ once (shown p) → against x given names asks ≡ at_target t x given asks
+pub some_at : (t : Target) (x : Place) (given names : List Text) (asks : Text → Bool) (p : Pattern) → t ≡ found p → names ≡ once (shown Variables p) → against x given names asks ≡ at_target t x given asks
 some_at t x given names asks p there is = ap (λ ns. against x given ns asks) is ∙ sym (ap (λ u. at_target u x given asks) there)
 
-pub found_at : (t : Target) (x : Place) (given names : List Text) (asks : Text → Bool) (p : Pattern) → Some p ≡ pattern_in t → names ≡ once (shown p) → against x given names asks ≡ at_target t x given asks
+pub found_at : (t : Target) (x : Place) (given names : List Text) (asks : Text → Bool) (p : Pattern) → Some p ≡ pattern_in t → names ≡ once (shown Variables p) → against x given names asks ≡ at_target t x given asks
 found_at t x given names asks p there is = some_at t x given names asks p (found_by t p there) is
 
 none_left_over : (given : List Text) → filter (λ v. not true) given ≡ []

@@ -8,6 +8,7 @@ pub mod Chained
 pub mod Editions
 pub mod EntrySites
 pub mod FaultlessGroups
+pub mod Folding
 pub mod Inserted
 pub mod Kept
 pub mod KeyTests
@@ -20,6 +21,7 @@ pub mod Naming
 pub mod NoneFails
 pub mod PlaceTests
 pub mod PlacesOf
+pub mod ReadTexts
 pub mod RepeatedNames
 pub mod Selecting
 pub mod Senses

@@ -7,6 +7,7 @@ use Rattle.fluent_semantics.specs.Bundle.{Bundle}
 use Rattle.fluent_lint.specs.Asked.{texts}
 use Rattle.fluent_lint.specs.Clean.{Place, Names, names_of}
 use Rattle.fluent_check.specs.Categories.{Categories}
+use Rattle.fluent_check.specs.Differences.{reference_names}
 use Rattle.fluent_check.specs.Found.{Found, found_in}
 use Rattle.fluent_check.specs.Groups.{Group, groups_from, of_file}
 use Rattle.fluent_check.specs.Inside.Looks.{AddsDifferences, AddsLinted, AddsLooks, AddsPatterns}
@@ -27,14 +28,14 @@ use Rattle.fluent_check.proofs.Chained.{two}
 
 -- ---- patterns
 
-pub patterns_ok : {R : Type 0} (r : Result (Unit {0}) R) (named : Names Text) (functions : List Text) (c : Categories) (ss : List Standing) (asks : Place → Text → Bool) (old mid new : Vec Finding Global)
+pub patterns_ok : {R : Type 0} (r : Result (Unit {0}) R) (named there : Names Text) (functions : List Text) (c : Categories) (ss : List Standing) (asks : Place → Text → Bool) (old mid new : Vec Finding Global)
     → AllByRecursion (TellsAskedAt named asks) (map place_of ss) → found_in mid ≡ found_in old ++ found_in_patterns (record { named = named; functions = functions; asks = asks }) ss
-    → OnOk r (found_in new ≡ found_in mid ++ found_selects named c ss) → OnOk r (AddsPatterns named functions c ss old new)
-patterns_ok (Err e) named functions c ss asks old mid new right first second = second
-patterns_ok (Ok u) named functions c ss asks old mid new right first second = record {
+    → OnOk r (found_in new ≡ found_in mid ++ found_selects named there c ss) → OnOk r (AddsPatterns named there functions c ss old new)
+patterns_ok (Err e) named there functions c ss asks old mid new right first second = second
+patterns_ok (Ok u) named there functions c ss asks old mid new right first second = record {
   asks = asks;
   right = right;
-  found_is = two (found_in old) (found_in mid) (found_in new) (found_in_patterns (record { named = named; functions = functions; asks = asks }) ss) (found_selects named c ss) first second;
+  found_is = two (found_in old) (found_in mid) (found_in new) (found_in_patterns (record { named = named; functions = functions; asks = asks }) ss) (found_selects named there c ss) first second;
 }
 
 -- ---- whole places
@@ -63,7 +64,7 @@ and_true false = refl
 
 module _ (settings : Settings) (g : Group) (old f1 f2 f3 new : Vec Finding Global) where
   one_by : (clean : Bool) → found_in f1 ≡ found_in old ++ found_ids (standings_loaded g)
-      → AddsPatterns (named_in settings g) (texts settings.functions.now) (categories_if settings.language settings.has_all_categories) (places_in settings g) f1 f2
+      → AddsPatterns (named_in settings g) (reference_names g) (texts settings.functions.now) (categories_if settings.language settings.has_all_categories) (places_in settings g) f1 f2
       → AddsDifferences g (named_in settings g) (places_in settings g) f2 f3
       → AddsLinted (bundle_in settings g) (named_in settings g) (places_in settings g) g f3 new clean
       → AddsLooks settings (g ∷ []) old new clean
@@ -81,7 +82,7 @@ module _ (settings : Settings) (g : Group) (old f1 f2 f3 new : Vec Finding Globa
       }
 
   one_ok : {R : Type 0} (r : Result Bool R) → found_in f1 ≡ found_in old ++ found_ids (standings_loaded g)
-      → AddsPatterns (named_in settings g) (texts settings.functions.now) (categories_if settings.language settings.has_all_categories) (places_in settings g) f1 f2
+      → AddsPatterns (named_in settings g) (reference_names g) (texts settings.functions.now) (categories_if settings.language settings.has_all_categories) (places_in settings g) f1 f2
       → AddsDifferences g (named_in settings g) (places_in settings g) f2 f3
       → IfOk r (AddsLinted (bundle_in settings g) (named_in settings g) (places_in settings g) g f3 new)
       → IfOk r (AddsLooks settings (g ∷ []) old new)
@@ -89,18 +90,19 @@ module _ (settings : Settings) (g : Group) (old f1 f2 f3 new : Vec Finding Globa
   one_ok (Err e) ids patterns differences linted = linted
 
   -- by what the code has of it
-  pub one_look : {R : Type 0} (r : Result Bool R) (b : Bundle Text) (c : Categories) (all ss : List Standing) → b ≡ bundle_in settings g → c ≡ categories_if settings.language settings.has_all_categories
+  pub one_look : {R : Type 0} (r : Result Bool R) (b : Bundle Text) (there : Names Text) (c : Categories) (all ss : List Standing) → b ≡ bundle_in settings g → there ≡ reference_names g → c ≡ categories_if settings.language settings.has_all_categories
       → all ≡ standings_loaded g → ss ≡ places_in settings g
       → found_in f1 ≡ found_in old ++ found_ids all
-      → AddsPatterns (names_of b) (texts settings.functions.now) c ss f1 f2
+      → AddsPatterns (names_of b) there (texts settings.functions.now) c ss f1 f2
       → AddsDifferences g (names_of b) ss f2 f3
       → IfOk r (AddsLinted b (names_of b) ss g f3 new)
       → IfOk r (AddsLooks settings (g ∷ []) old new)
-  one_look r b c all ss b_is c_is all_is ss_is ids patterns differences linted =
+  one_look r b there c all ss b_is there_is c_is all_is ss_is ids patterns differences linted =
       one_ok r (ids ∙ ap (λ l. found_in old ++ found_ids l) all_is)
-      (subst (λ l. AddsPatterns (named_in settings g) (texts settings.functions.now) (categories_if settings.language settings.has_all_categories) l f1 f2) ss_is
-      (subst (λ k. AddsPatterns (named_in settings g) (texts settings.functions.now) k ss f1 f2) c_is
-      (subst (λ d. AddsPatterns (names_of d) (texts settings.functions.now) c ss f1 f2) b_is patterns)))
+      (subst (λ l. AddsPatterns (named_in settings g) (reference_names g) (texts settings.functions.now) (categories_if settings.language settings.has_all_categories) l f1 f2) ss_is
+      (subst (λ k. AddsPatterns (named_in settings g) (reference_names g) (texts settings.functions.now) k ss f1 f2) c_is
+      (subst (λ n. AddsPatterns (named_in settings g) n (texts settings.functions.now) c ss f1 f2) there_is
+      (subst (λ d. AddsPatterns (names_of d) there (texts settings.functions.now) c ss f1 f2) b_is patterns))))
       (subst (λ l. AddsDifferences g (named_in settings g) l f2 f3) ss_is (subst (λ d. AddsDifferences g (names_of d) ss f2 f3) b_is differences))
       (subst (λ l. IfOk r (AddsLinted (bundle_in settings g) (named_in settings g) l g f3 new)) ss_is (subst (λ d. IfOk r (AddsLinted d (names_of d) ss g f3 new)) b_is linted))
 

@@ -1,5 +1,5 @@
 -- Names in sets, and what is told of each once.
-use Rattle.std.proofs.Common.{◌≡◌, ◌∙◌, ◌||◌, if◌then◌else◌, Bool, true, false, ℕ, ◌+◌, ◌<◌, ◌≤◌, List, [], ◌∷◌, ◌++◌, length, get_or, map, take, drop, cond, Option, Some, None, refl, sym, ap, subst, filter}
+use Rattle.std.proofs.Common.{◌≡◌, ◌∙◌, ◌||◌, if◌then◌else◌, not, Bool, true, false, ℕ, ◌+◌, ◌<◌, ◌≤◌, List, [], ◌∷◌, ◌++◌, length, get_or, map, take, drop, cond, Option, Some, None, refl, sym, ap, subst, filter}
 use Rattle.std.specs.List.{list_any, filter_map, cons_option}
 use Rattle.std.specs.Option.{option_map}
 use Rattle.std.specs.Prelude.{Result, Ok, Err}
@@ -171,18 +171,18 @@ terms_rule places us vs h k (a_function f) = refl
 terms_rule places us vs h k (a_variable v) = refl
 terms_rule places us vs h k a_default = refl
 
-functions_rule : (us vs : List Text) → ((v : Text) → is_in v us ≡ is_in v vs) → (k : ℕ) (x : Need) → of_functions_left_out us k x ≡ of_functions_left_out vs k x
-functions_rule us vs h k (a_message m a) = refl
-functions_rule us vs h k (a_term t a names) = refl
-functions_rule us vs h k (a_function f) = ap (λ b. told_unless (is_number f || b) f (whole, function_left_out f)) (h f)
-functions_rule us vs h k (a_variable v) = refl
-functions_rule us vs h k a_default = refl
+functions_rule : (us vs shows : List Text) → ((v : Text) → is_in v us ≡ is_in v vs) → (k : ℕ) (x : Need) → of_functions_left_out us shows k x ≡ of_functions_left_out vs shows k x
+functions_rule us vs shows h k (a_message m a) = refl
+functions_rule us vs shows h k (a_term t a names) = refl
+functions_rule us vs shows h k (a_function f) = ap (λ b. told_unless ((is_number f || b) || not (is_in f shows)) f (whole, function_left_out f)) (h f)
+functions_rule us vs shows h k (a_variable v) = refl
+functions_rule us vs shows h k a_default = refl
 
 pub terms_same : (places : List Place) (us vs : List Text) (xs : List Need) → ((v : Text) → is_in v us ≡ is_in v vs) → flaws_by (of_terms_left_out places us) xs ≡ flaws_by (of_terms_left_out places vs) xs
 terms_same places us vs xs h = flaws_same (of_terms_left_out places us) (of_terms_left_out places vs) xs (terms_rule places us vs h)
 
-pub functions_same : (us vs : List Text) (xs : List Need) → ((v : Text) → is_in v us ≡ is_in v vs) → flaws_by (of_functions_left_out us) xs ≡ flaws_by (of_functions_left_out vs) xs
-functions_same us vs xs h = flaws_same (of_functions_left_out us) (of_functions_left_out vs) xs (functions_rule us vs h)
+pub functions_same : (us vs shows : List Text) (xs : List Need) → ((v : Text) → is_in v us ≡ is_in v vs) → flaws_by (of_functions_left_out us shows) xs ≡ flaws_by (of_functions_left_out vs shows) xs
+functions_same us vs shows xs h = flaws_same (of_functions_left_out us shows) (of_functions_left_out vs shows) xs (functions_rule us vs shows h)
 
 -- ---- lists of flaws, one after another
 

@@ -1,5 +1,7 @@
 -- Bundles of the code, by the entries of its resources.
-use Rattle.std.specs.Prelude.{true, List, [], map, None}
+use Rattle.std.specs.Prelude.{◌≡◌, true, List, [], ◌∷◌, ◌++◌, map, None}
+use Rattle.std.specs.declared.vec.Vec.{Vec}
+use Rattle.std.proofs.Common.{Global}
 use Rattle.fluent_ast.specs.Tree.{Text, Entry}
 use Rattle.fluent_plural_rules.specs.RuleTexts.{category_of}
 use Rattle.fluent_plural_rules.specs.declared.rule_texts.RuleTexts.{RuleTexts}
@@ -12,9 +14,12 @@ use Rattle.fluent_values.specs.declared.types.custom.NoCustom.{NoCustom}
 use Rattle.fluent_bundle.specs.BundleView.{meant, entries_of}
 use Rattle.fluent_bundle.specs.declared.bundle.FluentBundle.{FluentBundle}
 use Rattle.fluent_bundle.specs.declared.resource.FluentResource.{FluentResource}
-use Rattle.fluent_check.specs.Languages.{bundle_of}
+use Rattle.fluent_check.specs.Languages.{bundle_with}
 
-abbrev pub bundle_view : FluentBundle RuleTexts NoCustom NoFunction NoFormatter NoTransform → Bundle Text
+abbrev pub Code : Type 0
+Code = FluentBundle RuleTexts NoCustom NoFunction NoFormatter NoTransform
+
+abbrev pub bundle_view : Code → Bundle Text
 bundle_view =
     meant category_of (λ t. []) (λ s t. true) (λ f vs as'. error_value) (λ g v m. None) (λ x t. t)
 
@@ -26,5 +31,11 @@ entries_of_all resources = map entries_of resources
 abbrev pub adding : FluentResource → Bundle Text → Bundle Text
 adding resource b = after (add_resource (entries_of resource)) b
 
-abbrev pub alone : Text → FluentResource → Bundle Text
-alone tag resource = bundle_of tag (entries_of resource)
+-- a bundle of a resource, with functions and those that are loaded before it
+abbrev pub resource_bundle : Text → List Text → List (List Entry) → FluentResource → Bundle Text
+resource_bundle tag functions beside resource = bundle_with tag functions beside (entries_of resource)
+
+-- one more bundle was added, whatever comes after it
+abbrev pub AddsBundle : Text → List Text → List (List Entry) → FluentResource → Vec Code Global → Vec Code Global → Type 0
+AddsBundle tag functions beside r old new =
+    (rest : List (Bundle Text)) → map bundle_view new.items ++ rest ≡ map bundle_view old.items ++ resource_bundle tag functions beside r ∷ rest

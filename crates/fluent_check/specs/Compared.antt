@@ -1,5 +1,5 @@
 -- How a value or an attribute of a translation differs from that of the reference.
-use Rattle.std.specs.Prelude.{◌||◌, ◌+◌, ℕ, Bool, true, false, List, [], ◌∷◌, ◌++◌, filter, Option, Some, None, codes, if◌then◌else◌}
+use Rattle.std.specs.Prelude.{◌||◌, ◌+◌, ℕ, Bool, true, false, List, [], ◌∷◌, ◌++◌, filter, not, Option, Some, None, codes, if◌then◌else◌}
 use Rattle.std.specs.List.{filter_map}
 use Rattle.fluent_ast.specs.Tree.{Text, Pattern}
 use Rattle.fluent_ast.specs.View.{pattern_view}
@@ -8,7 +8,10 @@ use Rattle.fluent_lint.specs.Asked.{texts}
 use Rattle.fluent_lint.specs.Clean.{Place, of_term, Need, a_message, a_term, a_function, a_variable, a_default, needs}
 use Rattle.fluent_check.specs.Among.{is_at, is_in}
 use Rattle.fluent_check.specs.Found.{unknown_variable, variable_left_out, term_left_out, function_left_out, Flaw, whole, the_reference, flaw_view}
+use Rattle.fluent_check.specs.Names.{once}
+use Rattle.fluent_check.specs.Shown.{shown}
 use Rattle.fluent_check.specs.declared.rules.Told as code_told
+use Rattle.fluent_check.specs.declared.shown.Wanted.TheVariants.{Variables, Functions}
 use Rattle.fluent_check.specs.declared.compared.Wording as code
 
 -- ---- what patterns refer to
@@ -63,13 +66,13 @@ of_unknown_variables asked n (a_function f) = None
 of_unknown_variables asked n (a_variable v) = told_unless (is_in v asked) v (the_reference n, unknown_variable v)
 of_unknown_variables asked n a_default = None
 
--- a variable of the reference for which the translation doesn't ask
-abbrev pub of_variables_left_out : List Text → Rule
-of_variables_left_out asked n (a_message m a) = None
-of_variables_left_out asked n (a_term t a names) = None
-of_variables_left_out asked n (a_function f) = None
-of_variables_left_out asked n (a_variable v) = told_unless (is_in v asked) v (whole, variable_left_out v)
-of_variables_left_out asked n a_default = None
+-- a variable that the reference shows and for which the translation doesn't ask: these are those for which it does, and those that are shown
+abbrev pub of_variables_left_out : List Text → List Text → Rule
+of_variables_left_out asked shows n (a_message m a) = None
+of_variables_left_out asked shows n (a_term t a names) = None
+of_variables_left_out asked shows n (a_function f) = None
+of_variables_left_out asked shows n (a_variable v) = told_unless (is_in v asked || not (is_in v shows)) v (whole, variable_left_out v)
+of_variables_left_out asked shows n a_default = None
 
 -- a term of the reference that the translation has (`places` are all of it), and to which it doesn't refer: these are those to which it does
 abbrev pub of_terms_left_out : List Place → List Text → Rule
@@ -83,13 +86,14 @@ of_terms_left_out places own n a_default = None
 abbrev pub is_number : Text → Bool
 is_number f = is_text f (codes "NUMBER")
 
--- a function of the reference that the translation doesn't call: these are those that it does. A number is shown without `NUMBER` too.
-abbrev pub of_functions_left_out : List Text → Rule
-of_functions_left_out called n (a_message m a) = None
-of_functions_left_out called n (a_term t a names) = None
-of_functions_left_out called n (a_function f) = told_unless (is_number f || is_in f called) f (whole, function_left_out f)
-of_functions_left_out called n (a_variable v) = None
-of_functions_left_out called n a_default = None
+-- A function that the reference calls to show what it answers, and the translation doesn't call: these are those that it does, and those that are
+-- called so. A number is shown without `NUMBER` too.
+abbrev pub of_functions_left_out : List Text → List Text → Rule
+of_functions_left_out called shows n (a_message m a) = None
+of_functions_left_out called shows n (a_term t a names) = None
+of_functions_left_out called shows n (a_function f) = told_unless ((is_number f || is_in f called) || not (is_in f shows)) f (whole, function_left_out f)
+of_functions_left_out called shows n (a_variable v) = None
+of_functions_left_out called shows n a_default = None
 
 -- ---- what is told by a rule
 
@@ -117,12 +121,20 @@ pub record Wording : Type 0 where
 abbrev pub wording_view : code.Wording → Wording
 wording_view w = record { pattern = pattern_view w.pattern.now; asked = texts w.asked.now.keys }
 
+-- the variables that a pattern of the reference shows and for which the translation doesn't ask: these are those for which it does
+abbrev pub variables_left_out : Pattern → List Text → List Need → List Flaw
+variables_left_out p asked there = flaws_by (of_variables_left_out asked (once (shown Variables p))) there
+
+-- the functions that a pattern of the reference calls to show what they answer, and that are not called
+abbrev pub functions_left_out : Pattern → List Text → List Need → List Flaw
+functions_left_out p called there = flaws_by (of_functions_left_out called (once (shown Functions p))) there
+
 -- `places` are those of the translation
 abbrev pub differences : List Place → Wording → Wording → List Flaw
 differences places reference translation =
     let there = references reference.pattern in
     let here = references translation.pattern in
     flaws_by (of_unknown_variables reference.asked) here
-    ++ (flaws_by (of_variables_left_out translation.asked) there
+    ++ (variables_left_out reference.pattern translation.asked there
     ++ (flaws_by (of_terms_left_out places (filter_map term_of here)) there
-    ++ flaws_by (of_functions_left_out (filter_map function_of here)) there))
+    ++ functions_left_out reference.pattern (filter_map function_of here) there))

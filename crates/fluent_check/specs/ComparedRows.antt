@@ -160,6 +160,17 @@ row_no_term = refl
 row_function_left_out : differing (wording (put (fun "DATETIME" (var "day" ∷ []) []) ∷ []) ("day" ∷ [])) (wording (put (var "day") ∷ []) ("day" ∷ [])) ≡ (whole, function_left_out (codes "DATETIME")) ∷ []
 row_function_left_out = refl
 
+-- { $n -> [one] words *[other] words } to words: what the reference only chooses by may be left out
+row_chosen_by_variable : differing (wording (choose (var "n") (case "one" words ∷ default "other" words ∷ []) ∷ []) ("n" ∷ [])) (wording words []) ≡ []
+row_chosen_by_variable = refl
+
+-- { PLATFORM() -> [macos] words *[other] { DATETIME($n) } } to words
+row_chosen_by_function : differing
+    (wording (choose (fun "PLATFORM" [] []) (case "macos" words ∷ default "other" (put (fun "DATETIME" (var "n" ∷ []) []) ∷ []) ∷ []) ∷ []) ("n" ∷ []))
+    (wording words [])
+    ≡ (whole, variable_left_out (codes "n")) ∷ (whole, function_left_out (codes "DATETIME")) ∷ []
+row_chosen_by_function = refl
+
 -- { NUMBER($n) } to { $n }: none
 row_number : differing (wording (put (fun "NUMBER" (var "n" ∷ []) []) ∷ []) ("n" ∷ [])) (wording (put (var "n") ∷ []) ("n" ∷ [])) ≡ []
 row_number = refl

@@ -34,6 +34,7 @@ pub data Problem : Type 0 where
   missing_term : Text → Problem
   missing_term_attribute : Text → Text → Problem
   missing_function : Text → Problem
+  not_a_function : Text → Problem
   cycle : Place → Problem
   too_many_placeables : ℕ → ℕ → Problem
   may_open_too_many : ℕ → ℕ → Problem
@@ -64,6 +65,7 @@ problem_view (problem.MissingValue id) = missing_value id.now
 problem_view (problem.MissingTerm id) = missing_term id.now
 problem_view (problem.MissingTermAttribute id a) = missing_term_attribute id.now a.now
 problem_view (problem.MissingFunction id) = missing_function id.now
+problem_view (problem.NotAFunction id) = not_a_function id.now
 problem_view (problem.Cycle next) = cycle (place_view next)
 problem_view (problem.TooManyPlaceables count limit) = too_many_placeables count limit
 problem_view (problem.MayOpenTooMany count limit) = may_open_too_many count limit

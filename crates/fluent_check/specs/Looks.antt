@@ -9,7 +9,7 @@ use Rattle.fluent_lint.specs.Clean.{Place, Names, names_of}
 use Rattle.fluent_lint.specs.declared.finding.Finding as lint
 use Rattle.fluent_check.specs.Called.{with_functions}
 use Rattle.fluent_check.specs.Categories.{Categories, categories_of, no_categories}
-use Rattle.fluent_check.specs.Differences.{AreDifferences}
+use Rattle.fluent_check.specs.Differences.{AreDifferences, reference_names}
 use Rattle.fluent_check.specs.Faultless.{tag_of}
 use Rattle.fluent_check.specs.Found as found
 use Rattle.fluent_check.specs.Found.{found_in}
@@ -75,7 +75,7 @@ abbrev pub found_patterns : Settings → Group → (Place → Text → Bool) →
 found_patterns settings g asks =
     let named = named_in settings g in
     found_in_patterns (record { named = named; functions = texts settings.functions.now; asks = asks }) (places_in settings g)
-    ++ found_selects named (categories_if settings.language settings.has_all_categories) (places_in settings g)
+    ++ found_selects named (reference_names g) (categories_if settings.language settings.has_all_categories) (places_in settings g)
 
 -- all that is found in a group
 abbrev pub found_in_look : Settings → Look → List found.Found

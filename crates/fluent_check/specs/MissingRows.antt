@@ -5,7 +5,7 @@ use Rattle.fluent_semantics.specs.Arguments.{get, set}
 use Rattle.fluent_semantics.specs.Bundle.{added, number_builtin}
 use Rattle.fluent_semantics.specs.Examples.{say, put, var, str, msg, msg_attribute, own, fun, case, choose, entry, private}
 use Rattle.fluent_lint.specs.Clean.{Names, a_message, a_term, a_function, a_variable}
-use Rattle.fluent_check.specs.Found.{missing_message, missing_attribute, missing_value, missing_term, missing_term_attribute, missing_function, the_reference}
+use Rattle.fluent_check.specs.Found.{missing_message, missing_attribute, missing_value, missing_term, missing_term_attribute, missing_function, not_a_function, the_reference}
 use Rattle.fluent_check.specs.Numbered.{references}
 use Rattle.fluent_check.specs.Missing.{missing}
 
@@ -44,5 +44,5 @@ pub record Rows : Type 0 where
   pub no_default : references without_default ≡ a_variable (codes "n") ∷ a_variable (codes "a") ∷ a_message (codes "nothing") no_attribute ∷ []
   pub of_messages : missing ids [] messages ≡ (the_reference 1, missing_message (codes "nothing")) ∷ (the_reference 2, missing_attribute (codes "greeting") (codes "x")) ∷ (the_reference 3, missing_value (codes "only")) ∷ []
   pub of_terms : missing ids [] terms ≡ (the_reference 1, missing_term (codes "nothing")) ∷ (the_reference 2, missing_term_attribute (codes "brand") (codes "x")) ∷ (the_reference 3, missing_term (codes "greeting")) ∷ []
-  pub of_functions : missing ids (codes "F" ∷ []) functions ≡ (the_reference 3, missing_function (codes "G")) ∷ (the_reference 5, missing_function (codes "greeting")) ∷ []
+  pub of_functions : missing ids (codes "F" ∷ []) functions ≡ (the_reference 3, missing_function (codes "G")) ∷ (the_reference 5, not_a_function (codes "greeting")) ∷ []
   pub after_a_select : missing ids [] without_default ≡ (the_reference 2, missing_message (codes "nothing")) ∷ []

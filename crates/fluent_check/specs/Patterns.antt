@@ -7,6 +7,7 @@ use Rattle.fluent_lint.specs.Clean.{Place, Names, names_of, place_target, needs}
 use Rattle.fluent_check.specs.Bundles.{bundle_view}
 use Rattle.fluent_check.specs.Called.{functions_in}
 use Rattle.fluent_check.specs.Categories.{Categories}
+use Rattle.fluent_check.specs.Copied.{is_copied, unless_copied}
 use Rattle.fluent_check.specs.Found.{Flaw, Found}
 use Rattle.fluent_check.specs.Missing.{missing}
 use Rattle.fluent_check.specs.Numbers.{no_numbers}
@@ -67,10 +68,12 @@ select_flaws_if c unknown = []
 select_flaws_if c without_value = []
 select_flaws_if c (found p) = select_flaws c p
 
--- what is wrong with the selects of what stands there, by the categories of a language
-abbrev pub found_selects_at : Names Text → Categories → Standing → List Found
-found_selects_at named c s = flaws_at s (select_flaws_if c (place_target named s.1.place))
+-- What is wrong with the selects of what stands there, by the categories of a language. What is word for word the reference's is not translated yet,
+-- and not held against them: `there` is what ids name in the reference.
+abbrev pub found_selects_at : Names Text → Names Text → Categories → Standing → List Found
+found_selects_at named there c s =
+    flaws_at s (select_flaws_if (unless_copied (is_copied named there s.1.place) c) (place_target named s.1.place))
 
-abbrev pub found_selects : Names Text → Categories → List Standing → List Found
-found_selects named c [] = []
-found_selects named c (s ∷ ss) = found_selects_at named c s ++ found_selects named c ss
+abbrev pub found_selects : Names Text → Names Text → Categories → List Standing → List Found
+found_selects named there c [] = []
+found_selects named there c (s ∷ ss) = found_selects_at named there c s ++ found_selects named there c ss

@@ -1,7 +1,7 @@
 -- The name of a problem, and whether it is an error.
 use Rattle.std.specs.Prelude.{Bool, true, false, codes}
 use Rattle.fluent_ast.specs.Tree.{Text}
-use Rattle.fluent_check.specs.Found.{Problem, unreadable, taken_id, function_id, repeated_attribute, missing_message, missing_attribute, missing_value, missing_term, missing_term_attribute, missing_function, cycle, too_many_placeables, may_open_too_many, leads_to, not_given, unused_argument, no_number, no_category, never_comes, repeated_variant, not_translated, value_not_translated, value_not_in_reference, not_in_reference, unknown_variable, variable_left_out, term_left_out, function_left_out}
+use Rattle.fluent_check.specs.Found.{Problem, unreadable, taken_id, function_id, repeated_attribute, missing_message, missing_attribute, missing_value, missing_term, missing_term_attribute, missing_function, not_a_function, cycle, too_many_placeables, may_open_too_many, leads_to, not_given, unused_argument, no_number, no_category, never_comes, repeated_variant, not_translated, value_not_translated, value_not_in_reference, not_in_reference, unknown_variable, variable_left_out, term_left_out, function_left_out}
 
 abbrev pub name_of : Problem → Text
 name_of (unreadable start expected) = codes "unreadable"
@@ -14,6 +14,7 @@ name_of (missing_value id) = codes "missing-value"
 name_of (missing_term id) = codes "missing-term"
 name_of (missing_term_attribute id a) = codes "missing-term-attribute"
 name_of (missing_function id) = codes "missing-function"
+name_of (not_a_function id) = codes "not-a-function"
 name_of (cycle next) = codes "cycle"
 name_of (too_many_placeables count limit) = codes "too-many-placeables"
 name_of (may_open_too_many count limit) = codes "may-open-too-many"
@@ -45,6 +46,7 @@ is_error (missing_value id) = true
 is_error (missing_term id) = true
 is_error (missing_term_attribute id a) = true
 is_error (missing_function id) = false
+is_error (not_a_function id) = true
 is_error (cycle next) = true
 is_error (too_many_placeables count limit) = true
 is_error (may_open_too_many count limit) = false

@@ -9,6 +9,7 @@ use Rattle.fluent_syntax.specs.Parsed.{error_range}
 use Rattle.fluent_ast.specs.declared.errors.ParserError.{ParserError}
 use Rattle.fluent_bundle.specs.BundleView.{entries_of, source_in}
 use Rattle.fluent_bundle.specs.declared.resource.FluentResource.{FluentResource}
+use Rattle.fluent_check.specs.Files as spec
 use Rattle.fluent_check.specs.Reading.{junk_read}
 use Rattle.fluent_check.specs.Sites.{Site, sites}
 use Rattle.fluent_check.specs.SiteView.{site_views}
@@ -51,6 +52,11 @@ file_with number text es junk =
 -- the same, as the grammar reads a text
 abbrev pub file_of : ℕ → Text → ReadFile
 file_of number text = file_with number text (entries text) (junk_ranges text)
+
+-- files by what is read, of which the first has this number
+abbrev pub files_of : ℕ → List spec.Read → List ReadFile
+files_of number [] = []
+files_of number (read ∷ reads) = file_of number read.text ∷ files_of (suc number) reads
 
 -- files by their resources, of which the first has this number; `ranges` are what can't be read in each
 abbrev pub files_with : ℕ → List FluentResource → List (List (ℕ × ℕ)) → List ReadFile

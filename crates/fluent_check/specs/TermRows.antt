@@ -9,6 +9,7 @@ use Rattle.fluent_check.specs.Found.{not_given, unused_argument, the_reference}
 use Rattle.fluent_check.specs.Names.{is_one_of, once, without}
 use Rattle.fluent_check.specs.Shown.{shown}
 use Rattle.fluent_check.specs.Terms.{term_flaws}
+use Rattle.fluent_check.specs.declared.shown.Wanted.TheVariants.{Variables, Functions}
 
 -- { $name }{ $n ->
 --     [one] { $a }
@@ -43,7 +44,8 @@ abbrev pub term : Place
 term = of_term (codes "hello") no_attribute
 
 pub record Rows : Type 0 where
-  pub outside_of_selectors : shown hello ≡ codes "name" ∷ codes "a" ∷ codes "name" ∷ codes "m" ∷ []
-  pub each_once : once (shown hello) ≡ codes "name" ∷ codes "a" ∷ codes "m" ∷ []
+  pub outside_of_selectors : shown Variables hello ≡ codes "name" ∷ codes "a" ∷ codes "name" ∷ codes "m" ∷ []
+  pub functions : shown Functions hello ≡ codes "NUMBER" ∷ []
+  pub each_once : once (shown Variables hello) ≡ codes "name" ∷ codes "a" ∷ codes "m" ∷ []
   pub left : without (codes "a" ∷ []) (codes "b" ∷ codes "a" ∷ codes "c" ∷ []) ≡ codes "b" ∷ codes "c" ∷ []
   pub of_references : term_flaws ids asks caller ≡ (the_reference 1, not_given (codes "name") term) ∷ (the_reference 1, not_given (codes "m") term) ∷ (the_reference 1, unused_argument (codes "y") term) ∷ []

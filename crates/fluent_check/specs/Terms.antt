@@ -13,6 +13,7 @@ use Rattle.fluent_lint.specs.declared.place.Place as code
 use Rattle.indexmap.specs.IndexSet.{IndexSet}
 use Rattle.fluent_check.specs.Found.{Problem, problem_view, not_given, unused_argument, Flaw}
 use Rattle.fluent_check.specs.declared.finding.Problem as code_problem
+use Rattle.fluent_check.specs.declared.shown.Wanted.TheVariants.{Variables}
 use Rattle.fluent_check.specs.declared.terms.Terms.{Terms}
 use Rattle.fluent_check.specs.Names.{is_one_of, once, without}
 use Rattle.fluent_check.specs.Numbered.{flaws_of}
@@ -33,7 +34,7 @@ abbrev pub against : Place → List Text → List Text → (Text → Bool) → L
 against term given shows asks = not_givens term given shows ++ unuseds term given asks
 
 abbrev pub at_target : Target → Place → List Text → (Text → Bool) → List Problem
-at_target (found p) term given asks = against term given (once (shown p)) asks
+at_target (found p) term given asks = against term given (once (shown Variables p)) asks
 at_target unknown term given asks = []
 at_target without_value term given asks = []
 
@@ -68,7 +69,7 @@ kept_of table x = option_map (λ set. texts set.keys) (lookup (λ k. is_yes (pla
 
 -- these are all that a pattern shows, which stands there
 abbrev pub AreShownAt : Names Text → Place → List Text → Type 0
-AreShownAt named x names = (p : Pattern) × (place_target named x ≡ found p) × (names ≡ once (shown p))
+AreShownAt named x names = (p : Pattern) × (place_target named x ≡ found p) × (names ≡ once (shown Variables p))
 
 -- so is what is kept of each place
 abbrev pub AreShown : {S : Type 0} → Names Text → List (code.Place × IndexSet (Bor Text) S) → Type 0

@@ -5,7 +5,7 @@ use Rattle.std.specs.Str.{bytes_eq}
 use Rattle.fluent_ast.specs.Tree.{Text, Attribute, no_attribute, attribute}
 use Rattle.fluent_lint.specs.Clean.{Place, of_message, of_term}
 use Rattle.fluent_reasons.specs.ExpectedText.{expected_text}
-use Rattle.fluent_check.specs.Found.{Spot, Problem, unreadable, taken_id, function_id, repeated_attribute, missing_message, missing_attribute, missing_value, missing_term, missing_term_attribute, missing_function, cycle, too_many_placeables, may_open_too_many, leads_to, not_given, unused_argument, no_number, no_category, never_comes, repeated_variant, not_translated, value_not_translated, value_not_in_reference, not_in_reference, unknown_variable, variable_left_out, term_left_out, function_left_out}
+use Rattle.fluent_check.specs.Found.{Spot, Problem, unreadable, taken_id, function_id, repeated_attribute, missing_message, missing_attribute, missing_value, missing_term, missing_term_attribute, missing_function, not_a_function, cycle, too_many_placeables, may_open_too_many, leads_to, not_given, unused_argument, no_number, no_category, never_comes, repeated_variant, not_translated, value_not_translated, value_not_in_reference, not_in_reference, unknown_variable, variable_left_out, term_left_out, function_left_out}
 
 -- ---- places, as they are written in a reference
 
@@ -68,6 +68,7 @@ text_of line shown own (missing_value id) = said_in own (codes "no value of mess
 text_of line shown own (missing_term id) = said_in own (codes "no term '-") id (codes "'")
 text_of line shown own (missing_term_attribute id a) = said_in own (codes "no attribute '-") (id ++ (codes "." ++ a)) (codes "'")
 text_of line shown own (missing_function id) = said_in own (codes "no function '") id (codes "', unless the application adds it")
+text_of line shown own (not_a_function id) = said_in own (codes "no function '") id (codes "': a message or a term has that id")
 text_of line shown own (cycle next) = cycle_text own (place_text next)
 text_of line shown own (too_many_placeables count limit) = too_many_text own (codes " can open ") count limit
 text_of line shown own (may_open_too_many count limit) = too_many_text own (codes " may open ") count limit

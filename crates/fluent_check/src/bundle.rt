@@ -1,10 +1,12 @@
 //! Bundles of sources.
 ghost use Rattle.std.specs.Prelude.{◌≡◌, IfOk, OnOk, map};
-ghost use Rattle.fluent_check.specs.Bundles.{adding, alone, bundle_view};
+ghost use Rattle.fluent_lint.specs.Asked.{texts};
+ghost use Rattle.fluent_check.specs.Bundles.{AddsBundle, adding, bundle_view, entries_of_all, resource_bundle};
 ghost use Rattle.fluent_check.specs.Groups.{entries_loaded, group_view};
 ghost use Rattle.fluent_check.specs.Languages.{adding_all, all_of, language_rules, start_of};
 ghost use Rattle.fluent_check.specs.ReadFiles.{entries_in, file_view};
 
+use crate::called::add_functions;
 use crate::files::Read;
 use crate::groups::Group;
 use fluent_bundle::{
@@ -68,15 +70,34 @@ fn add<'r, 's>(
     }
 }
 
-/// A bundle of one resource.
-fn bundle_alone<'r, 's>(
+/// Adds resources in order.
+fn add_resources<'r, 's>(
+    bundle: &mut Bundle<'r, 's>,
+    resources: &'r [FluentResource<'s>],
+) -> Result<(), AllocError>
+    ensures { OnOk result
+        (bundle_view bundle.new ≡ adding_all (entries_of_all resources.now) (bundle_view bundle.old)) }
+{
+    for resource in resources {
+        add(bundle, resource)?;
+    }
+    Ok(())
+}
+
+/// A bundle of one resource, with functions of an application, and resources that are loaded before it.
+fn bundle_with<'r, 's>(
     alloc: Global,
     tag: &str,
+    functions: &[&str],
+    beside: &'r [FluentResource<'s>],
     resource: &'r FluentResource<'s>,
 ) -> Result<Bundle<'r, 's>, AllocError>
-    ensures { IfOk result (λ bundle. bundle_view bundle ≡ alone tag.now resource.now) }
+    ensures { IfOk result
+        (λ bundle. bundle_view bundle ≡ resource_bundle tag.now (texts functions.now) (entries_of_all beside.now) resource.now) }
 {
     let mut bundle = start(alloc, tag)?;
+    add_functions(&mut bundle, functions)?;
+    add_resources(&mut bundle, beside)?;
     add(&mut bundle, resource)?;
     Ok(bundle)
 }
@@ -107,18 +128,36 @@ pub(crate) fn bundle_of_group<'r, 's>(
     Ok(bundle)
 }
 
-/// A bundle of each of these resources.
+/// Adds a bundle of one more resource.
+fn add_bundle<'r, 's>(
+    alloc: Global,
+    tag: &str,
+    functions: &[&str],
+    beside: &'r [FluentResource<'s>],
+    resource: &'r FluentResource<'s>,
+    bundles: &mut Vec<Bundle<'r, 's>>,
+) -> Result<(), AllocError>
+    ensures { OnOk result (AddsBundle tag.now (texts functions.now) (entries_of_all beside.now) resource.now bundles.old bundles.new) }
+{
+    let bundle = bundle_with(alloc, tag, functions, beside, resource)?;
+    bundles.push(bundle)?;
+    Ok(())
+}
+
+/// A bundle of each of these resources, with functions that an application adds, and with those that are loaded before each.
 pub fn bundles_of<'r, 's>(
     alloc: Global,
     tag: &str,
+    functions: &[&str],
+    beside: &'r [FluentResource<'s>],
     resources: &'r [FluentResource<'s>],
 ) -> Result<Vec<Bundle<'r, 's>>, AllocError>
     ensures { IfOk result
-        (λ list. map bundle_view list.items ≡ map (alone tag.now) resources.now) }
+        (λ list. map bundle_view list.items ≡ map (resource_bundle tag.now (texts functions.now) (entries_of_all beside.now)) resources.now) }
 {
     let mut bundles = Vec::new(alloc);
     for resource in resources {
-        bundles.push(bundle_alone(alloc, tag, resource)?)?;
+        add_bundle(alloc, tag, functions, beside, resource, &mut bundles)?;
     }
     Ok(bundles)
 }

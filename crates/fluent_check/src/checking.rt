@@ -1,19 +1,22 @@
 //! All that is found in files.
 
 ghost use Rattle.std.specs.Prelude.{◌≡◌, [], ◌∷◌, IfOk, IsTrue, OnOk, map};
-ghost use Rattle.fluent_lint.specs.Asked.{texts};
 ghost use Rattle.fluent_lint.specs.Clean.{names_of};
 ghost use Rattle.fluent_check.specs.Bundles.{bundle_view};
 ghost use Rattle.fluent_check.specs.CategoryView.{categories_view};
+ghost use Rattle.fluent_check.specs.Differences.{reference_names};
 ghost use Rattle.fluent_check.specs.Faultless.{AreFaultlessBy, tag_of};
-ghost use Rattle.fluent_check.specs.Found.{AddsFound};
+ghost use Rattle.fluent_check.specs.Faults.{faults_of, ids_in, ids_of};
+ghost use Rattle.fluent_check.specs.Found.{AddsFound, found_in};
 ghost use Rattle.fluent_check.specs.Groups.{entries_loaded, group_view, groups_from, groups_of, loaded, read_group};
 ghost use Rattle.fluent_check.specs.Inside.Faultless.{AreEachFaultless, AreFaultlessFiles, IsFaultlessBy, calling};
-ghost use Rattle.fluent_check.specs.Inside.Looks.{AddsAllDifferences, AddsDifferences, AddsLinted, AddsLooks, AddsPatterns};
+ghost use Rattle.fluent_check.specs.Inside.Looks.{AddsAllDifferences, AddsDifferences, AddsLinted, AddsLooks, AddsPatternsBy};
+ghost use Rattle.fluent_check.specs.Inside.Names.{names_by};
 ghost use Rattle.fluent_check.specs.Inside.Places.{place_found};
 ghost use Rattle.fluent_check.specs.Linted.{NoneFails};
 ghost use Rattle.fluent_check.specs.Looks.{IsFound, categories_if, found_ids};
 ghost use Rattle.fluent_check.specs.Places.{keys_of, place_of};
+ghost use Rattle.fluent_check.specs.ReadFiles.{file_view, files_read};
 ghost use Rattle.fluent_check.specs.Reading.{entries_read};
 ghost use Rattle.fluent_check.specs.Standing.{standing_view, standings};
 ghost use Rattle.fluent_check.specs.Whole.{found_whole, found_wholes, whole_view, wholes};
@@ -21,7 +24,7 @@ ghost use Rattle.fluent_check.specs.Whole.{found_whole, found_wholes, whole_view
 use crate::bundle::{Bundle, bundle_of_group};
 use crate::called::add_functions;
 use crate::categories::{Categories, categories_of, no_categories};
-use crate::files::{add_sources, all_files};
+use crate::files::{Read, add_sources, all_files};
 use crate::finding::{Finding, Part};
 use crate::groups::Group;
 use crate::linted::lint_all;
@@ -94,17 +97,18 @@ fn add_names<'s>(
     add_repeated(alloc, standings, findings)
 }
 
-/// Adds what is wrong in the patterns of a bundle's places.
+/// Adds what is wrong in the patterns of a bundle's places, beside those of a reference.
 fn add_of_patterns<'r, 's>(
     alloc: Global,
     settings: &Settings<'_>,
     categories: &Categories,
+    reference: &Bundle<'r, 's>,
     bundle: &Bundle<'r, 's>,
     places: &Places<'_, 's>,
     findings: &mut Vec<Finding<'s>>,
 ) -> Result<(), AllocError>
     requires { keys_of places.now ≡ map place_of (standings places.now.list) }
-    ensures { OnOk result (AddsPatterns (names_of (bundle_view bundle.now)) (texts settings.now.functions.now)
+    ensures { OnOk result (AddsPatternsBy settings.now (names_by bundle.now) (names_by reference.now)
         (categories_view categories.now) (standings places.now.list) findings.old findings.new) }
 {
     let terms = terms_at(alloc, bundle, places.keys.as_slice())?;
@@ -114,7 +118,7 @@ fn add_of_patterns<'r, 's>(
         functions: settings.functions,
     };
     add_patterns(alloc, &against, places, findings)?;
-    add_selects(alloc, bundle, categories, places, findings)
+    add_selects(alloc, bundle, reference, categories, places, findings)
 }
 
 /// Adds what is wrong with a whole value or attribute, where it stands.
@@ -187,28 +191,33 @@ fn add_files<'s>(
     add_names(alloc, standings.as_slice(), findings)?;
     let mut bundle = bundle_of_group(alloc, tag_of(settings.language), group)?;
     let places = places_of(alloc, &bundle, standings.as_slice())?;
-    add_of_patterns(alloc, settings, categories, &bundle, &places, findings)?;
-    add_compared(alloc, group, &bundle, &places, findings)?;
+    let references = Group::alone(group.references);
+    let english = bundle_of_group(alloc, "en", &references)?;
+    add_of_patterns(
+        alloc, settings, categories, &english, &bundle, &places, findings,
+    )?;
+    add_compared(alloc, group, &english, &bundle, &places, findings)?;
     add_linted(alloc, &mut bundle, group, &places, findings)
 }
 
-/// Adds how the own files of a group differ from those that they were translated from.
+/// Adds how the own files of a group differ from those that they were translated from, of which this is the bundle.
 fn add_differences<'s>(
     alloc: Global,
     group: &Group<'_, '_, 's>,
+    english: &Bundle<'_, 's>,
     bundle: &Bundle<'_, 's>,
     places: &Places<'_, 's>,
     findings: &mut Vec<Finding<'s>>,
 ) -> Result<(), AllocError>
-    requires { keys_of places.now ≡ map place_of (standings places.now.list) }
+    requires english { names_of (bundle_view english.now) ≡ reference_names (group_view group.now) }
+    requires keys { keys_of places.now ≡ map place_of (standings places.now.list) }
     ensures { OnOk result (AddsAllDifferences (group_view group.now) (names_of (bundle_view bundle.now))
         (standings places.now.list) findings.old findings.new) }
 {
     let references = Group::alone(group.references);
     let standings = standings_in(alloc, &references)?;
-    let english = bundle_of_group(alloc, "en", &references)?;
-    let there = places_of(alloc, &english, standings.as_slice())?;
-    let reference = Edition::new(alloc, &english, &there)?;
+    let there = places_of(alloc, english, standings.as_slice())?;
+    let reference = Edition::new(alloc, english, &there)?;
     let translation = Edition::new(alloc, bundle, places)?;
     let first = group.beside.len();
     add_referred(alloc, &reference, &translation, first, findings)
@@ -218,18 +227,20 @@ fn add_differences<'s>(
 fn add_compared<'s>(
     alloc: Global,
     group: &Group<'_, '_, 's>,
+    english: &Bundle<'_, 's>,
     bundle: &Bundle<'_, 's>,
     places: &Places<'_, 's>,
     findings: &mut Vec<Finding<'s>>,
 ) -> Result<(), AllocError>
-    requires { keys_of places.now ≡ map place_of (standings places.now.list) }
+    requires english { names_of (bundle_view english.now) ≡ reference_names (group_view group.now) }
+    requires keys { keys_of places.now ≡ map place_of (standings places.now.list) }
     ensures { OnOk result (AddsDifferences (group_view group.now) (names_of (bundle_view bundle.now))
         (standings places.now.list) findings.old findings.new) }
 {
     let Some(_) = group.references.first() else {
         return Ok(());
     };
-    add_differences(alloc, group, bundle, places, findings)
+    add_differences(alloc, group, english, bundle, places, findings)
 }
 
 /// The language of the files, or English.
@@ -315,20 +326,46 @@ pub fn findings<'s>(
     Ok(Found { findings, is_clean })
 }
 
+/// Adds which ids come again in a file, and which is that of the function.
+fn add_ids<'s>(
+    alloc: Global,
+    file: &Read<'_, 's>,
+    findings: &mut Vec<Finding<'s>>,
+) -> Result<(), AllocError>
+    ensures { OnOk result (AddsFound (ids_in (file_view file.now)) findings.old findings.new) }
+{
+    let group = Group::alone(slice::from_ref(file));
+    let standings = standings_in(alloc, &group)?;
+    add_taken(alloc, standings.as_slice(), findings)?;
+    add_function_ids(standings.as_slice(), findings)
+}
+
+/// The same of each file for itself.
+fn add_all_ids<'s>(
+    alloc: Global,
+    files: &[Read<'_, 's>],
+    findings: &mut Vec<Finding<'s>>,
+) -> Result<(), AllocError>
+    ensures { OnOk result (AddsFound (ids_of (map file_view files.now)) findings.old findings.new) }
+{
+    for file in files {
+        add_ids(alloc, file, findings)?;
+    }
+    Ok(())
+}
+
 /// What can't be read in these files, and which ids come again in the same file.
 ///
 /// # Errors
 ///
 /// An allocation failed.
-pub fn faults<'s>(alloc: Global, sources: &Sources<'s>) -> Result<Vec<Finding<'s>>, AllocError> {
+pub fn faults<'s>(alloc: Global, sources: &Sources<'s>) -> Result<Vec<Finding<'s>>, AllocError>
+    ensures { IfOk result (λ found. found_in found ≡ faults_of (files_read 0 sources.now)) }
+{
     let mut findings = Vec::new(alloc);
     let mut files = Vec::new(alloc);
     add_sources(alloc, sources, &mut files)?;
     add_unreadable(alloc, files.as_slice(), &mut findings)?;
-    for file in files.as_slice() {
-        let standings = standings_in(alloc, &Group::alone(slice::from_ref(file)))?;
-        add_taken(alloc, standings.as_slice(), &mut findings)?;
-        add_function_ids(standings.as_slice(), &mut findings)?;
-    }
+    add_all_ids(alloc, files.as_slice(), &mut findings)?;
     Ok(findings)
 }

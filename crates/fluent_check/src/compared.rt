@@ -3,9 +3,10 @@
 ghost use Rattle.std.specs.Prelude.{◌≡◌, [], ◌∷◌, IfOk, OnOk, Some, map};
 ghost use Rattle.std.specs.Option.{option_map};
 ghost use Rattle.fluent_ast.specs.View.{pattern_view};
+ghost use Rattle.fluent_lint.specs.Asked.{texts};
 ghost use Rattle.fluent_lint.specs.Clean.{views};
 ghost use Rattle.fluent_lint.specs.NeedsView.{need_view, needs_view};
-ghost use Rattle.fluent_check.specs.Compared.{differences, flaws_by, function_of, is_reference, references, term_of, told_view, wording_view};
+ghost use Rattle.fluent_check.specs.Compared.{differences, flaws_by, function_of, functions_left_out, is_reference, references, term_of, told_view, variables_left_out, wording_view};
 ghost use Rattle.fluent_check.specs.Found.{AddsFlaws};
 ghost use Rattle.fluent_check.specs.Inside.Names.{AddsReference, HasMore, IsOwn, TellsOnce, names_if};
 
@@ -14,6 +15,7 @@ use crate::finding::Flaw;
 use crate::rules::{
     FunctionsLeftOut, Rule, TermsLeftOut, Told, UnknownVariables, VariablesLeftOut,
 };
+use crate::shown::{Wanted, shown_in};
 use fluent_bundle::ast::Pattern;
 use fluent_lint::{Need, Place, needs};
 use indexmap::IndexSet;
@@ -171,6 +173,46 @@ fn add_by<'s, R: Rule<'s>>(
     Ok(())
 }
 
+/// Adds the variables that a pattern of the reference shows and for which the translation doesn't ask.
+fn add_variables_left_out<'s>(
+    alloc: Global,
+    pattern: &Pattern<'s>,
+    asked: &IndexSet<&'s str>,
+    there: &[Need<'_, 's>],
+    flaws: &mut Vec<Flaw<'s>>,
+) -> Result<(), AllocError>
+    ensures { OnOk result (AddsFlaws
+        (variables_left_out (pattern_view pattern.now) (texts asked.now.keys) (map need_view there.now))
+        flaws.old flaws.new) }
+{
+    let shows = shown_in(alloc, Wanted::Variables, pattern)?;
+    let rule = VariablesLeftOut {
+        asked,
+        shows: &shows,
+    };
+    add_by(alloc, there, &rule, flaws)
+}
+
+/// Adds the functions whose answers a pattern of the reference shows, and which are not called.
+fn add_functions_left_out<'s>(
+    alloc: Global,
+    pattern: &Pattern<'s>,
+    called: &IndexSet<&'s str>,
+    there: &[Need<'_, 's>],
+    flaws: &mut Vec<Flaw<'s>>,
+) -> Result<(), AllocError>
+    ensures { OnOk result (AddsFlaws
+        (functions_left_out (pattern_view pattern.now) (texts called.now.keys) (map need_view there.now))
+        flaws.old flaws.new) }
+{
+    let shows = shown_in(alloc, Wanted::Functions, pattern)?;
+    let rule = FunctionsLeftOut {
+        called,
+        shows: &shows,
+    };
+    add_by(alloc, there, &rule, flaws)
+}
+
 /// Adds how a value or an attribute of a translation differs from that of the reference. The places are those of the
 /// translation.
 pub(crate) fn add_differences<'s>(
@@ -190,18 +232,12 @@ pub(crate) fn add_differences<'s>(
     let unknown = UnknownVariables {
         asked: reference.asked,
     };
-    let left_out = VariablesLeftOut {
-        asked: translation.asked,
-    };
     let terms = TermsLeftOut {
         places,
         terms: &own.terms,
     };
-    let functions = FunctionsLeftOut {
-        called: &own.functions,
-    };
     add_by(alloc, &here, &unknown, flaws)?;
-    add_by(alloc, &there, &left_out, flaws)?;
+    add_variables_left_out(alloc, reference.pattern, translation.asked, &there, flaws)?;
     add_by(alloc, &there, &terms, flaws)?;
-    add_by(alloc, &there, &functions, flaws)
+    add_functions_left_out(alloc, reference.pattern, &own.functions, &there, flaws)
 }

@@ -1,4 +1,5 @@
 //! Worked rows of what is found.
+ghost use Rattle.fluent_check.specs.GroupRows as groups;
 ghost use Rattle.fluent_check.specs.MissingRows as missing;
 ghost use Rattle.fluent_check.specs.NumberRows as numbers;
 ghost use Rattle.fluent_check.specs.TermRows as terms;
@@ -10,4 +11,9 @@ pub fn what_is_wrong_with_references()
     ensures terms { terms.Rows }
     ensures numbers { numbers.Rows }
     ensures wholes { wholes.Rows }
+{}
+
+/// What is found in groups of files.
+pub fn what_is_found_in_groups()
+    ensures { groups.Rows }
 {}

@@ -42,6 +42,8 @@ pub enum Problem<'s> {
     MissingTermAttribute { id: &'s str, attribute: &'s str },
     /// A call of a function that neither Fluent nor the application has.
     MissingFunction { id: &'s str },
+    /// Error: a call of what a message or a term has for its id, so that no function can be added.
+    NotAFunction { id: &'s str },
     /// Error: a pattern refers to this one, which leads back to it.
     Cycle { next: Place<'s> },
     /// Error: a pattern can open so many placeables, or 2^64 - 1 where there are more, and no more than the limit are opened.

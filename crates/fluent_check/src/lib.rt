@@ -7,6 +7,7 @@ mod among;
 pub mod bundle;
 mod called;
 mod categories;
+pub mod causes;
 pub mod checking;
 mod choices;
 mod compared;
@@ -43,6 +44,7 @@ mod unreadable;
 mod whole;
 pub mod wording;
 
+pub use causes::{Folded, fold};
 pub use checking::{Found, Grouping, Settings, faults, findings};
 pub use finding::{Finding, Problem, Spot};
 pub use listing::{Listing, list_places};

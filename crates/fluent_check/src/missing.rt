@@ -1,13 +1,13 @@
 //! References to what isn't there.
 
-ghost use Rattle.std.specs.Prelude.{◌≡◌, ◌||◌, OnOk, map};
+ghost use Rattle.std.specs.Prelude.{◌≡◌, OnOk, map};
 ghost use Rattle.std.specs.Option.{option_map};
 ghost use Rattle.fluent_ast.specs.View.{attribute_of, pattern_view};
 ghost use Rattle.fluent_semantics.specs.Bundle.{is_function, is_message, is_term, message_target, term_target};
 ghost use Rattle.fluent_lint.specs.Asked.{texts};
 ghost use Rattle.fluent_lint.specs.NeedsView.{need_view};
 ghost use Rattle.fluent_check.specs.Found.{problem_view, AddsFlaws};
-ghost use Rattle.fluent_check.specs.Missing.{lacking_message, lacking_term, missing, problem_of, unless_found};
+ghost use Rattle.fluent_check.specs.Missing.{function_lack, is_taken, lacking_message, lacking_term, missing, problem_of, unless_found};
 
 use crate::finding::{Flaw, Problem};
 use crate::names::is_one_of;
@@ -47,13 +47,7 @@ fn problem_of<'s, F, B: GetEntry<'s, F>>(
     match need {
         Need::Message(id, attribute) => message_problem(bundle, id, attribute),
         Need::Term(id, attribute, _) => term_problem(bundle, id, attribute),
-        Need::Function(id) => {
-            if is_function(bundle, id.name) || is_one_of(functions, id.name) {
-                None
-            } else {
-                Some(Problem::MissingFunction { id: id.name })
-            }
-        }
+        Need::Function(id) => function_problem(bundle, functions, id.name),
         Need::Variable(_) | Need::Default => None,
     }
 }
@@ -132,6 +126,34 @@ fn lacking_term<'s, F, B: GetEntry<'s, F>>(
             },
         },
     }
+}
+
+/// What is missing of a function.
+fn function_problem<'s, F, B: GetEntry<'s, F>>(
+    bundle: &B,
+    functions: &[&str],
+    id: &'s str,
+) -> Option<Problem<'s>>
+    ensures { option_map problem_view result
+        ≡ function_lack (B.named bundle.now) (texts functions.now) id.now }
+{
+    if is_function(bundle, id) {
+        return None;
+    }
+    if is_taken(bundle, id) {
+        return Some(Problem::NotAFunction { id });
+    }
+    if is_one_of(functions, id) {
+        return None;
+    }
+    Some(Problem::MissingFunction { id })
+}
+
+/// Whether a message or a term of the bundle has an id.
+fn is_taken<'s, F, B: GetEntry<'s, F>>(bundle: &B, id: &str) -> bool
+    ensures { result ≡ is_taken (B.named bundle.now id.now) }
+{
+    bundle.get_entry_message(id).is_some() || bundle.get_entry_term(id).is_some()
 }
 
 /// Whether the bundle has a function.

@@ -1,20 +1,24 @@
 //! What is wrong in patterns.
 
-ghost use Rattle.std.specs.Prelude.{◌≡◌, IfOk, OnOk};
+ghost use Rattle.std.specs.Prelude.{◌≡◌, IfOk, OnOk, Some};
 ghost use Rattle.fluent_ast.specs.View.{pattern_view};
 ghost use Rattle.fluent_lint.specs.Asked.{texts};
 ghost use Rattle.fluent_lint.specs.Clean.{names_of};
+ghost use Rattle.fluent_lint.specs.PlaceView.{pattern_at};
 ghost use Rattle.fluent_check.specs.Bundles.{bundle_view};
 ghost use Rattle.fluent_check.specs.Called.{AddsNames};
+ghost use Rattle.fluent_check.specs.Categories.{no_categories};
 ghost use Rattle.fluent_check.specs.CategoryView.{categories_view};
+ghost use Rattle.fluent_check.specs.Copied.{is_same, unless_copied};
 ghost use Rattle.fluent_check.specs.Found.{AddsFound, flaws_in};
+ghost use Rattle.fluent_check.specs.Inside.Names.{names_by};
 ghost use Rattle.fluent_check.specs.Patterns.{against_view, called_at, called_in, flaws_of, found_in_pattern, found_in_patterns, found_selects, found_selects_at};
 ghost use Rattle.fluent_check.specs.Standing.{standing_view, standings};
 ghost use Rattle.fluent_check.specs.Terms.{AreOf};
 
 use crate::bundle::Bundle;
 use crate::called::add_called;
-use crate::categories::Categories;
+use crate::categories::{Categories, no_categories};
 use crate::finding::{Finding, Flaw};
 use crate::missing::add_missing;
 use crate::numbers::add_no_numbers;
@@ -23,7 +27,7 @@ use crate::selects::add_select_flaws;
 use crate::standing::{Standing, add_flaws};
 use crate::terms::{Terms, add_term_flaws};
 use fluent_bundle::ast::Pattern;
-use fluent_lint::pattern_at;
+use fluent_lint::{Place, pattern_at};
 use std::alloc::{AllocError, Global};
 
 /// What patterns are held against.
@@ -137,44 +141,72 @@ pub(crate) fn called_in<'s>(
     Ok(ids)
 }
 
+/// Whether the same pattern stands at a place of the reference.
+fn is_copied<'s>(pattern: &Pattern<'s>, reference: &Bundle<'_, 's>, place: &Place<'s>) -> bool
+    ensures { result
+        ≡ is_same (Some (pattern_view pattern.now)) (pattern_at (names_of (bundle_view reference.now)) place.now) }
+{
+    match pattern_at(reference, place) {
+        Some(other) => *pattern == *other,
+        None => false,
+    }
+}
+
+/// The categories that a text is held against: none, where it is copied.
+fn unless_copied<'c>(
+    is_copied: bool,
+    categories: &'c Categories,
+    none: &'c Categories,
+) -> &'c Categories
+    requires { categories_view none.now ≡ no_categories }
+    ensures { categories_view result.now ≡ unless_copied is_copied (categories_view categories.now) }
+{
+    if is_copied { none } else { categories }
+}
+
 /// Adds what is wrong with the selects of the pattern that stands there.
 fn add_selects_at<'s>(
     alloc: Global,
     bundle: &Bundle<'_, 's>,
+    reference: &Bundle<'_, 's>,
     categories: &Categories,
     standing: &Standing<'_, 's>,
     findings: &mut Vec<Finding<'s>>,
 ) -> Result<(), AllocError>
     ensures { OnOk result
         (AddsFound
-        (found_selects_at (names_of (bundle_view bundle.now)) (categories_view categories.now)
-        (standing_view standing.now))
+        (found_selects_at (names_by bundle.now) (names_by reference.now)
+        (categories_view categories.now) (standing_view standing.now))
         findings.old findings.new) }
 {
     let Some(pattern) = pattern_at(bundle, &standing.site.place) else {
         return Ok(());
     };
+    let is_copied = is_copied(pattern, reference, &standing.site.place);
+    let none = no_categories(alloc);
+    let judging = unless_copied(is_copied, categories, &none);
     let mut flaws = Vec::new(alloc);
-    add_select_flaws(alloc, categories, pattern, &mut flaws)?;
+    add_select_flaws(alloc, judging, pattern, &mut flaws)?;
     add_flaws(standing, flaws.as_slice(), findings)
 }
 
-/// Adds what is wrong with the selects of the patterns of these places.
+/// Adds what is wrong with the selects of the patterns of these places, beside those of a reference.
 pub(crate) fn add_selects<'s>(
     alloc: Global,
     bundle: &Bundle<'_, 's>,
+    reference: &Bundle<'_, 's>,
     categories: &Categories,
     places: &Places<'_, 's>,
     findings: &mut Vec<Finding<'s>>,
 ) -> Result<(), AllocError>
     ensures { OnOk result
         (AddsFound
-        (found_selects (names_of (bundle_view bundle.now)) (categories_view categories.now)
-        (standings places.now.list))
+        (found_selects (names_by bundle.now) (names_by reference.now)
+        (categories_view categories.now) (standings places.now.list))
         findings.old findings.new) }
 {
     for standing in places.list.as_slice() {
-        add_selects_at(alloc, bundle, categories, standing, findings)?;
+        add_selects_at(alloc, bundle, reference, categories, standing, findings)?;
     }
     Ok(())
 }

@@ -22,6 +22,7 @@ impl Problem<'_> {
             Problem::MissingTerm { .. } => "missing-term",
             Problem::MissingTermAttribute { .. } => "missing-term-attribute",
             Problem::MissingFunction { .. } => "missing-function",
+            Problem::NotAFunction { .. } => "not-a-function",
             Problem::Cycle { .. } => "cycle",
             Problem::TooManyPlaceables { .. } => "too-many-placeables",
             Problem::MayOpenTooMany { .. } => "may-open-too-many",

@@ -36,11 +36,13 @@ pub(crate) struct UnknownVariables<'p, 's> {
     pub asked: &'p IndexSet<&'s str>,
 }
 
-/// Of variables for which the translation doesn't ask.
+/// Of variables that the reference shows and for which the translation doesn't ask.
 #[derive(Clone, Copy, Drop)]
 pub(crate) struct VariablesLeftOut<'p, 's> {
     /// Those for which it does.
     pub asked: &'p IndexSet<&'s str>,
+    /// Those that the reference shows.
+    pub shows: &'p IndexSet<&'s str>,
 }
 
 /// Of terms to which the translation doesn't refer, though it has them.
@@ -52,11 +54,13 @@ pub(crate) struct TermsLeftOut<'p, 's> {
     pub terms: &'p IndexSet<&'s str>,
 }
 
-/// Of functions that the translation doesn't call.
+/// Of functions whose answers the reference shows, and which the translation doesn't call.
 #[derive(Clone, Copy, Drop)]
 pub(crate) struct FunctionsLeftOut<'p, 's> {
     /// Those that it does.
     pub called: &'p IndexSet<&'s str>,
+    /// Those whose answers the reference shows.
+    pub shows: &'p IndexSet<&'s str>,
 }
 
 fn told_unless<'s>(is_known: bool, name: &'s str, flaw: Flaw<'s>) -> Option<Told<'s>>
@@ -95,14 +99,18 @@ impl<'s> Rule<'s> for UnknownVariables<'_, 's> {
 }
 
 impl<'s> Rule<'s> for VariablesLeftOut<'_, 's> {
-    ghost rule = { λ r. of_variables_left_out (texts r.asked.now.keys) };
+    ghost rule = { λ r. of_variables_left_out (texts r.asked.now.keys) (texts r.shows.now.keys) };
 
     fn told(&self, _number: usize, need: &Need<'_, 's>) -> Option<Told<'s>> {
         let Need::Variable(id) = need else {
             return None;
         };
         let flaw = of_whole(Problem::VariableLeftOut { variable: id.name });
-        told_unless(has(self.asked, id.name), id.name, flaw)
+        told_unless(
+            has(self.asked, id.name) || !has(self.shows, id.name),
+            id.name,
+            flaw,
+        )
     }
 }
 
@@ -123,7 +131,7 @@ impl<'s> Rule<'s> for TermsLeftOut<'_, 's> {
 }
 
 impl<'s> Rule<'s> for FunctionsLeftOut<'_, 's> {
-    ghost rule = { λ r. of_functions_left_out (texts r.called.now.keys) };
+    ghost rule = { λ r. of_functions_left_out (texts r.called.now.keys) (texts r.shows.now.keys) };
 
     fn told(&self, _number: usize, need: &Need<'_, 's>) -> Option<Told<'s>> {
         let Need::Function(id) = need else {
@@ -131,7 +139,7 @@ impl<'s> Rule<'s> for FunctionsLeftOut<'_, 's> {
         };
         let flaw = of_whole(Problem::FunctionLeftOut { id: id.name });
         told_unless(
-            id.name == "NUMBER" || has(self.called, id.name),
+            id.name == "NUMBER" || has(self.called, id.name) || !has(self.shows, id.name),
             id.name,
             flaw,
         )

@@ -15,7 +15,7 @@ ghost use Rattle.fluent_check.specs.Terms.{against, asks_by, asks_of, at_target,
 use crate::finding::{Flaw, Problem};
 use crate::names::{has, once};
 use crate::numbered::{add_problems, references};
-use crate::shown::shown_in;
+use crate::shown::{Wanted, shown_in};
 use fluent_ast::ast::{CallArguments, NamedArgument, Pattern};
 use fluent_bundle_entries::GetEntry;
 use fluent_lint::{Asked, Need, Place, pattern_at, variables_at};
@@ -77,7 +77,7 @@ fn keep<'s, F, B: GetEntry<'s, F>>(
     let Some(pattern) = pattern_at(bundle, place) else {
         return Ok(());
     };
-    let set = shown_in(alloc, pattern)?;
+    let set = shown_in(alloc, Wanted::Variables, pattern)?;
     table.insert(*place, set)?;
     Ok(())
 }
@@ -152,7 +152,7 @@ fn problems_at<'s, F, B: GetEntry<'s, F>>(
     match kept(&terms.shown, term) {
         Some(shown) => against(alloc, term, given, shown, &terms.asked),
         None => {
-            let shown = shown_in(alloc, pattern)?;
+            let shown = shown_in(alloc, Wanted::Variables, pattern)?;
             against(alloc, term, given, &shown, &terms.asked)
         }
     }

@@ -22,6 +22,9 @@ use std::alloc::{AllocError, Global};
 /// What stands behind a function that isn't there.
 const MAYBE_ADDED: &str = "', unless the application adds it";
 
+/// What stands behind a function whose id is another's.
+const ID_TAKEN: &str = "': a message or a term has that id";
+
 /// Writes the name of an attribute behind a dot, where there is one.
 fn put_attribute(name: &Option<Identifier<'_>>, text: &mut String) -> Result<(), AllocError>
     ensures { OnOk result (Adds (attribute_text (attribute_of name.now)) text.old text.new) }
@@ -276,6 +279,7 @@ pub fn put_problem(
             text,
         ),
         Problem::MissingFunction { id } => put_in(own, "no function '", id, MAYBE_ADDED, text),
+        Problem::NotAFunction { id } => put_in(own, "no function '", id, ID_TAKEN, text),
         Problem::Cycle { next } => put_cycle(alloc, own, &next, text),
         Problem::TooManyPlaceables { count, limit } => {
             put_too_many(own, " can open ", count, limit, text)

@@ -1,6 +1,6 @@
-pub mod Alone
 pub mod Anywhere
 pub mod FineRuns
+pub mod Lines
+pub mod Loaded
 pub mod PairsRead
-pub mod Told
 pub mod Whole

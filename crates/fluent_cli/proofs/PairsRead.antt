@@ -1,9 +1,8 @@
 -- Reading pairs of files one by one.
 use Rattle.std.proofs.Common.{◌≡◌, ◌∙◌, ◌++◌, ◌⊎◌, true, false, cond, List, [], ◌∷◌, ap, ap₂, append_assoc, inl, inr, refl, sym}
 use Rattle.std.specs.List.{zip}
-use Rattle.fluent_ast.specs.Tree.{Text}
-use Rattle.fluent_cli.specs.Files.{both_can_be_read, pair_lines, readable_pairs}
-use Rattle.fluent_cli.specs.Inside.Reading.{says}
+use Rattle.fluent_cli_report.specs.Unread.{Unread}
+use Rattle.fluent_cli.specs.Files.{both_can_be_read, readable_pairs, unread_of, unread_pairs}
 use Rattle.fluent_cli.specs.declared.reading.File.{File}
 
 one_more : (pair : File × File) (rest : List (File × File)) → readable_pairs (pair ∷ rest) ≡ readable_pairs (pair ∷ []) ++ readable_pairs rest
@@ -21,13 +20,13 @@ left_more all before x y xs ys xs' ys' first second left =
     ∙ (ap (λ pairs. before ++ pairs) (sym (one_more (x, y) (zip xs' ys')))
     ∙ (ap₂ (λ us vs. before ++ readable_pairs (zip us vs)) (sym first) (sym second) ∙ left))
 
--- what is left to say
-pub said_more : (all told told' : Text) (x y : File) (xs ys xs' ys' : List File) → xs ≡ x ∷ xs' → ys ≡ y ∷ ys'
-    → told' ≡ told ++ (says x ++ says y) → told ++ pair_lines (zip xs ys) ≡ all → told' ++ pair_lines (zip xs' ys') ≡ all
-said_more all told told' x y xs ys xs' ys' first second more left =
-    ap (λ t. t ++ pair_lines (zip xs' ys')) more
-    ∙ (append_assoc told (says x ++ says y) (pair_lines (zip xs' ys'))
-    ∙ (ap₂ (λ us vs. told ++ pair_lines (zip us vs)) (sym first) (sym second) ∙ left))
+-- what is left that can't be read
+pub unread_more : (all told told' : List Unread) (x y : File) (xs ys xs' ys' : List File) → xs ≡ x ∷ xs' → ys ≡ y ∷ ys'
+    → told' ≡ told ++ (unread_of x ++ unread_of y) → told ++ unread_pairs (zip xs ys) ≡ all → told' ++ unread_pairs (zip xs' ys') ≡ all
+unread_more all told told' x y xs ys xs' ys' first second more left =
+    ap (λ t. t ++ unread_pairs (zip xs' ys')) more
+    ∙ (append_assoc told (unread_of x ++ unread_of y) (unread_pairs (zip xs' ys'))
+    ∙ (ap₂ (λ us vs. told ++ unread_pairs (zip us vs)) (sym first) (sym second) ∙ left))
 
 pub zip_ended : (xs ys : List File) → (xs ≡ []) ⊎ (ys ≡ []) → zip xs ys ≡ []
 zip_ended [] ys none = refl

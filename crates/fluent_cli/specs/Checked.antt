@@ -11,8 +11,9 @@ use Rattle.fluent_check.specs.declared.checking.Found.{Found}
 use Rattle.fluent_check.specs.declared.checking.Grouping.{Grouping}
 use Rattle.fluent_check.specs.declared.checking.Grouping.TheVariants.{Together, Each, Pairs}
 use Rattle.fluent_check.specs.declared.checking.Settings.{Settings}
-use Rattle.fluent_cli_report.specs.Report.{report}
-use Rattle.fluent_cli_report.specs.Rows.{Row, errors_in, rows_of, warnings_in}
+use Rattle.fluent_cli_report.specs.Reported.{Manner, folds, whole_report}
+use Rattle.fluent_cli_report.specs.Rows.{Row, errors_in, rows_of, rows_told, warnings_in}
+use Rattle.fluent_cli_report.specs.Unread.{Unread}
 use Rattle.fluent_cli_words.specs.declared.request.CheckRequest.{CheckRequest}
 use Rattle.fluent_cli.specs.Answers.{Leaves}
 use Rattle.fluent_cli.specs.Inputs.{texts_in}
@@ -71,13 +72,33 @@ status_for request inputs found =
     status_over (is_well request found.is_clean)
     (status_by request.is_strict (errors_in (rows_for request inputs found)) (warnings_in (rows_for request inputs found)))
 
--- the report of what was found is printed, and the status goes by it
-abbrev pub IsReported : CheckRequest → Inputs → Found → Answer → Type 0
-IsReported request inputs found =
-    Leaves (status_for request inputs found) (report request.format request.is_quiet (rows_for request inputs found)) []
+-- how the report is written
+abbrev pub manner_for : CheckRequest → Manner
+manner_for request = record {
+  format = request.format;
+  look = record { has_caret = request.has_caret; has_color = request.has_color };
+  quiet = request.is_quiet;
+  every = request.is_every;
+  strict = request.is_strict;
+}
 
--- What is found is reported.
-pub record IsChecked (request : CheckRequest) (inputs : Inputs) (answer : Answer) : Type 0 where
+-- the rows that are told: the first of the findings with one cause may stand for all
+abbrev pub told_for : CheckRequest → Inputs → Found → List Row
+told_for request inputs found =
+    rows_told (folds (manner_for request)) (texts_in inputs) request.allowed.items (found_in found.findings)
+
+abbrev pub report_for : CheckRequest → Inputs → List Unread → Found → Text
+report_for request inputs unread found =
+    whole_report (manner_for request) unread (is_well request found.is_clean)
+    (errors_in (rows_for request inputs found)) (warnings_in (rows_for request inputs found)) (told_for request inputs found)
+
+-- the report of what was found is printed, and the status goes by it
+abbrev pub IsReported : CheckRequest → Inputs → List Unread → Found → Answer → Type 0
+IsReported request inputs unread found =
+    Leaves (status_for request inputs found) (report_for request inputs unread found) []
+
+-- What is found is reported, and which files can't be read.
+pub record IsChecked (request : CheckRequest) (inputs : Inputs) (unread : List Unread) (answer : Answer) : Type 0 where
   pub found : Found
   pub finds : FindsIn request inputs found
-  pub reported : IsReported request inputs found answer
+  pub reported : IsReported request inputs unread found answer

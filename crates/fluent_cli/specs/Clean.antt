@@ -19,7 +19,7 @@ entries_in reads = map (λ read. entries read.text) reads
 
 -- All files could be read, and nothing in them and those beside them ever shows an error, in a bundle that has them and the functions that they call.
 pub record IsFaultless (check : CheckRequest) (all : Readable) : Type 0 where
-  pub faults : all.faults ≡ []
+  pub unread : all.unread ≡ []
   pub faultless : AreFaultlessBy (grouping_of check) (tag_of check.language) (entries_in all.beside) (entries_in all.files)
 
 -- so it is where no kind of finding is allowed, and the status is 0

@@ -1,14 +1,16 @@
--- Files that are named: what is read of each, or else what is said of it.
+-- Files that are named: what is read of each, or else why it can't be.
 -- Words of other crates: `Read`, the name of a file, its text, and whether that stood after a byte order mark; `utf8_valid_len`, the length of
 -- the longest front that is UTF-8.
-use Rattle.std.specs.Prelude.{◌≡◌, ◌==◌, ◌+◌, ◌&&◌, ℕ, Bool, true, false, not, List, [], ◌∷◌, ◌++◌, map, filter, flat_map, take, drop, Option, Some, None, Result, Ok, Err, is_some, unwrap_or, count_by, nat_eq, codes, if◌then◌else◌}
+use Rattle.std.specs.Prelude.{◌≡◌, ◌==◌, ◌+◌, ◌&&◌, ℕ, Bool, true, false, not, List, [], ◌∷◌, ◌++◌, map, filter, flat_map, take, drop, Option, Some, None, Result, Ok, Err, is_some, count_by, nat_eq, codes, if◌then◌else◌}
 use Rattle.std.specs.Borrow.{Bor}
 use Rattle.std.specs.Fmt.{decimal}
 use Rattle.std.specs.List.{starts_with, zip}
+use Rattle.std.specs.Option.{option_to_list}
 use Rattle.std.specs.Str.{is_utf8}
 use Rattle.std.specs.Str.Lossy.{utf8_valid_len}
 use Rattle.fluent_ast.specs.Tree.{Text}
 use Rattle.fluent_check.specs.Files.{Read}
+use Rattle.fluent_cli_report.specs.Unread.{Unread}
 use Rattle.fluent_cli.specs.declared.reading.File.{File}
 
 -- a byte order mark
@@ -21,7 +23,7 @@ has_mark bytes = starts_with nat_eq bytes mark
 abbrev pub without_mark : List ℕ → List ℕ
 without_mark bytes = if has_mark bytes then drop 3 bytes else bytes
 
--- ---- what is said of a file that can't be read
+-- ---- why a file can't be read
 
 -- where a text begins
 abbrev pub start_of : List ℕ → ℕ
@@ -39,25 +41,31 @@ lines_in bytes = count_by (λ b. b == 10) bytes
 abbrev pub line_at : List ℕ → ℕ → ℕ
 line_at bytes at = lines_in (take at bytes) + 1
 
-abbrev pub no_text_line : Text → ℕ → ℕ → Text
-no_text_line name line at =
-    codes "fluent: " ++ (name ++ (codes ":" ++ (decimal line ++ (codes ": not UTF-8 at byte " ++ (decimal at ++ 10 ∷ [])))))
+abbrev pub no_text : Text → ℕ → ℕ → Unread
+no_text name line at = record { file = name; line = Some line; reason = codes "not UTF-8 at byte " ++ decimal at }
 
-abbrev pub unreadable_line : Text → Text → Text
-unreadable_line name reason = codes "fluent: " ++ (name ++ (codes ": " ++ (reason ++ 10 ∷ [])))
+abbrev pub no_file : Text → Text → Unread
+no_file name reason = record { file = name; line = None; reason = reason }
 
-abbrev pub fault_by : Text → Result (Bor (List ℕ)) (Bor Text) → Option Text
+abbrev pub fault_by : Text → Result (Bor (List ℕ)) (Bor Text) → Option Unread
 fault_by name (Ok bytes) =
     if is_utf8 (without_mark bytes.now) then None
-    else Some (no_text_line name (line_at bytes.now (bad_byte bytes.now)) (bad_byte bytes.now))
-fault_by name (Err reason) = Some (unreadable_line name reason.now)
+    else Some (no_text name (line_at bytes.now (bad_byte bytes.now)) (bad_byte bytes.now))
+fault_by name (Err reason) = Some (no_file name reason.now)
 
--- what is said of a file, if it can't be read
-abbrev pub fault_of : File → Option Text
+-- why a file can't be read, if it can't
+abbrev pub fault_of : File → Option Unread
 fault_of file = fault_by file.name.now file.contents
 
-abbrev pub fault_lines : List File → Text
-fault_lines files = flat_map (λ file. unwrap_or (fault_of file) []) files
+abbrev pub unread_by : Text → Result (Bor (List ℕ)) (Bor Text) → List Unread
+unread_by name contents = option_to_list (fault_by name contents)
+
+abbrev pub unread_of : File → List Unread
+unread_of file = unread_by file.name.now file.contents
+
+-- those of some files that can't be read
+abbrev pub unread_in : List File → List Unread
+unread_in files = flat_map unread_of files
 
 -- ---- what is read of the others
 
@@ -94,6 +102,6 @@ both_can_be_read pair = can_be_read pair.0 && can_be_read pair.1
 abbrev pub readable_pairs : List (File × File) → List (File × File)
 readable_pairs pairs = filter both_can_be_read pairs
 
--- what is said of the files of pairs, pair by pair
-abbrev pub pair_lines : List (File × File) → Text
-pair_lines pairs = flat_map (λ pair. unwrap_or (fault_of pair.0) [] ++ unwrap_or (fault_of pair.1) []) pairs
+-- those that can't be read, pair by pair
+abbrev pub unread_pairs : List (File × File) → List Unread
+unread_pairs pairs = flat_map (λ pair. unread_of pair.0 ++ unread_of pair.1) pairs

@@ -1,19 +1,18 @@
 -- What is read for a request.
 use Rattle.std.specs.Prelude.{Bool, true, false, List, ◌++◌, map}
-use Rattle.fluent_ast.specs.Tree.{Text}
 use Rattle.fluent_check.specs.Files.{Read}
 use Rattle.fluent_check.specs.Reading.{AreRead, texts_read}
-use Rattle.fluent_cli.specs.Files.{fault_lines, pair_lines, pairs, read_of, readable_pairs, reads_of}
+use Rattle.fluent_cli.specs.Files.{pairs, read_of, readable_pairs, reads_of, unread_in, unread_pairs}
+use Rattle.fluent_cli_report.specs.Unread.{Unread}
 use Rattle.fluent_cli.specs.declared.reading.File.{File}
 use Rattle.fluent_cli.specs.declared.reading.Inputs.{Inputs}
 
--- What can be read of files, of those that are loaded with each of them, and of those that they were translated from; and what is said of those that
--- can't be read.
+-- What can be read of files, of those that are loaded with each of them, and of those that they were translated from; and those that can't be read.
 pub record Readable : Type 0 where
   pub beside : List Read
   pub files : List Read
   pub references : List Read
-  pub faults : Text
+  pub unread : List Unread
 
 -- of pairs, those of which both files can be read; else all files that can be
 abbrev pub readable : Bool → List File → List File → List File → Readable
@@ -21,13 +20,13 @@ readable true beside files references = record {
   beside = reads_of beside;
   files = map (λ pair. read_of pair.0) (readable_pairs (pairs files references));
   references = map (λ pair. read_of pair.1) (readable_pairs (pairs files references));
-  faults = fault_lines beside ++ pair_lines (pairs files references);
+  unread = unread_in beside ++ unread_pairs (pairs files references);
 }
 readable false beside files references = record {
   beside = reads_of beside;
   files = reads_of files;
   references = reads_of references;
-  faults = fault_lines beside ++ (fault_lines files ++ fault_lines references);
+  unread = unread_in beside ++ (unread_in files ++ unread_in references);
 }
 
 -- all that can be read was read, and nothing else

@@ -1,2 +1,3 @@
 -- How private functions stand to the definitions beside this file. No public contract cites these.
+pub mod Listing
 pub mod Reading

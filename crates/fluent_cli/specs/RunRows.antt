@@ -1,13 +1,10 @@
 -- Worked rows: what is said of files that can't be read and of messages that aren't there, and the status.
 use Rattle.std.specs.Prelude.{◌≡◌, true, false, [], ◌∷◌, ◌++◌, None, codes, refl}
 use Rattle.fluent_cli.specs.Checked.{status_by, status_over}
-use Rattle.fluent_cli.specs.Files.{line_at, mark, start_of, unreadable_line, without_mark}
-use Rattle.fluent_cli.specs.Runs.{status_after}
+use Rattle.fluent_cli.specs.Files.{line_at, mark, start_of, without_mark}
+use Rattle.fluent_cli.specs.Runs.{status_by_whole}
 use Rattle.fluent_cli.specs.Shown.{missing_by, status_shown}
 use Rattle.fluent_cli.specs.declared.answer.Status.TheVariants.{Fine, Wrong, Fault}
-
-row_unreadable : unreadable_line (codes "b.ftl") (codes "no such file") ≡ codes "fluent: b.ftl: no such file\n"
-row_unreadable = refl
 
 -- a line feed stands in the line that it ends
 row_first_line : line_at (codes "a\nb") 1 ≡ 1
@@ -41,10 +38,10 @@ row_error = refl
 row_not_well : status_over false Fine ≡ Wrong
 row_not_well = refl
 
-row_whole : status_after [] Wrong ≡ Wrong
+row_whole : status_by_whole true Wrong ≡ Wrong
 row_whole = refl
 
-row_fault : status_after (codes "fluent: b.ftl: no such file\n") Fine ≡ Fault
+row_fault : status_by_whole false Fine ≡ Fault
 row_fault = refl
 
 row_shown : status_shown true false true ≡ Fine

@@ -1,27 +1,25 @@
 -- What is shown of a message.
 -- Words of other crates: `pattern_asked id name`, the value of the message that an id names, or its first attribute where a name is given; `shown_of`,
 -- the text of a pattern that was found and what went wrong in it, or the id alone.
-use Rattle.std.specs.Prelude.{◌≡◌, ◌==◌, Bool, true, false, not, List, [], ◌∷◌, ◌++◌, map, flat_map, Option, Some, None, is_some, codes, String, string_bytes, string_len, if◌then◌else◌}
+use Rattle.std.specs.Prelude.{◌≡◌, ◌==◌, Bool, true, false, not, List, [], ◌∷◌, ◌++◌, map, flat_map, Option, Some, None, is_some, codes, string_bytes, string_len, if◌then◌else◌}
 use Rattle.std.specs.Borrow.{Bor}
 use Rattle.std.specs.List.{list_any}
-use Rattle.std.proofs.Common.{Global}
 use Rattle.fluent_ast.specs.Tree.{Text, Entry, Pattern}
 use Rattle.fluent_semantics.specs.Value.{Value, text_value, try_number}
 use Rattle.fluent_semantics.specs.Arguments.{Map, set_all}
 use Rattle.fluent_semantics.specs.Bundle.{Bundle}
 use Rattle.fluent_semantics.specs.Errors.{Error, error_text}
 use Rattle.fluent_fallback.specs.Chain.{Shown, first_with, pattern_asked, shown_of}
-use Rattle.fluent_check.specs.Files.{Read}
-use Rattle.fluent_check.specs.Found.{Found}
-use Rattle.fluent_check.specs.Languages.{bundle_of}
-use Rattle.fluent_check.specs.Reading.{entries_read, texts_read}
-use Rattle.fluent_check.specs.declared.source.Sources.{Sources}
-use Rattle.fluent_cli_report.specs.Rows.{line_text, rows_in_order}
+use Rattle.fluent_lint.specs.Asked.{texts}
+use Rattle.fluent_check.specs.Languages.{bundle_with}
+use Rattle.fluent_check.specs.Reading.{entries_read}
+use Rattle.fluent_cli_report.specs.Reported.{fault_lines}
 use Rattle.fluent_cli_words.specs.declared.request.Argument.{Argument}
 use Rattle.fluent_cli_words.specs.declared.request.ShowRequest.{ShowRequest}
 use Rattle.fluent_cli.specs.declared.answer.Answer.{Answer}
 use Rattle.fluent_cli.specs.declared.answer.Status.{Status}
 use Rattle.fluent_cli.specs.declared.answer.Status.TheVariants.{Fine, Wrong}
+use Rattle.fluent_cli.specs.declared.reading.Inputs.{Inputs}
 
 -- ---- the text
 
@@ -41,9 +39,9 @@ arguments_of list = set_all (map argument list) []
 abbrev pub asked_of : ShowRequest → Bundle Text → Option Pattern
 asked_of request = pattern_asked request.id.now request.attribute
 
--- a bundle of each file
-abbrev pub bundles_for : ShowRequest → List (List Entry) → List (Bundle Text)
-bundles_for request files = map (bundle_of request.language.now) files
+-- a bundle of each file, with the functions and the files that are loaded before it
+abbrev pub bundles_for : ShowRequest → List (List Entry) → List (List Entry) → List (Bundle Text)
+bundles_for request beside files = map (bundle_with request.language.now (texts request.functions.items) beside) files
 
 -- what the first bundle that has it gives, or the id
 abbrev pub shown_by : ShowRequest → List (Bundle Text) → Shown
@@ -71,10 +69,10 @@ missing_by id (Some name) = codes "fluent: no attribute '" ++ (id ++ (codes "." 
 abbrev pub missing_line : ShowRequest → Bool → Text
 missing_line request there = if there then [] else missing_by request.id.now request.attribute
 
--- lines of what was found in the files are said first
-abbrev pub Says : ShowRequest → List Read → List Error → Bool → String Global → Type 0
-Says request reads errors there said =
-    (found : List Found) × (string_bytes said ≡ flat_map line_text (rows_in_order reads found) ++ (error_lines errors ++ missing_line request there))
+-- what is wrong in the files is said first
+abbrev pub said_of : ShowRequest → Inputs → List Error → Bool → Text
+said_of request inputs errors there =
+    (fault_lines inputs.beside ++ fault_lines inputs.sources) ++ (error_lines errors ++ missing_line request there)
 
 -- ---- the status
 
@@ -86,11 +84,12 @@ status_shown true true false = Fine
 status_shown true true true = Wrong
 
 -- By these bundles the text is printed, what went wrong in it is said, and the status goes by whether it is there and anything is said.
-pub record ShowsBy (request : ShowRequest) (reads : List Read) (bundles : List (Bundle Text)) (answer : Answer) : Type 0 where
+pub record ShowsBy (request : ShowRequest) (inputs : Inputs) (bundles : List (Bundle Text)) (answer : Answer) : Type 0 where
   pub output : string_bytes answer.output ≡ (shown_by request bundles).text ++ 10 ∷ []
-  pub errors : Says request reads (shown_by request bundles).errors (is_there request bundles) answer.errors
+  pub errors : string_bytes answer.errors ≡ said_of request inputs (shown_by request bundles).errors (is_there request bundles)
   pub status : answer.status ≡ status_shown (is_there request bundles) request.is_strict (not (string_len answer.errors == 0))
 
 -- of what was read
-abbrev pub IsShown : ShowRequest → Sources → Answer → Type 0
-IsShown request sources answer = ShowsBy request (texts_read sources) (bundles_for request (entries_read sources)) answer
+abbrev pub IsShown : ShowRequest → Inputs → Answer → Type 0
+IsShown request inputs answer =
+    ShowsBy request inputs (bundles_for request (entries_read inputs.beside) (entries_read inputs.sources)) answer

@@ -1,12 +1,14 @@
 //! What is wrong with the files of a language.
 
 ghost use Rattle.std.specs.Prelude.{◌≡◌, IfOk};
-ghost use Rattle.fluent_cli.specs.Checked.{FindsIn, IsChecked, IsReported, grouping_of, is_well, status_by, status_over};
+ghost use Rattle.fluent_cli.specs.Checked.{FindsIn, IsChecked, IsReported, grouping_of, is_well, manner_for, status_by, status_over};
+ghost use Rattle.fluent_cli_report.specs.Reported.{manner_of};
+ghost use Rattle.fluent_cli_report.specs.Unread.{unread_views};
 
 use crate::answer::{Answer, Status};
 use crate::reading::Inputs;
 use fluent_check::{Found, Grouping, Settings, findings};
-use fluent_cli_report::{Counts, ReportOptions, put_report};
+use fluent_cli_report::{Counts, Look, Outcome, ReportOptions, UnreadFile, put_report};
 use fluent_cli_words::CheckRequest;
 use std::alloc::{AllocError, Global};
 
@@ -71,47 +73,64 @@ fn status_over(is_well: bool, status: Status) -> Status
     if is_well { status } else { Status::Wrong }
 }
 
-/// Reports what was found in these files.
+/// How a report is written that is asked for.
+fn options_of<'r>(request: &'r CheckRequest<'_>) -> ReportOptions<'r>
+    ensures manner { manner_of result ≡ manner_for request.now }
+    ensures allowed { result.allowed.now ≡ request.now.allowed.items }
+{
+    ReportOptions {
+        format: request.format,
+        look: Look {
+            has_caret: request.has_caret,
+            has_color: request.has_color,
+        },
+        is_quiet: request.is_quiet,
+        is_every: request.is_every,
+        is_strict: request.is_strict,
+        allowed: request.allowed.as_slice(),
+    }
+}
+
+/// Reports what was found in these files, and which can't be read.
 fn report(
     alloc: Global,
     request: &CheckRequest<'_>,
     inputs: &Inputs<'_>,
+    unread: &[UnreadFile<'_>],
     found: &Found<'_>,
 ) -> Result<Answer, AllocError>
-    ensures { IfOk result (IsReported request.now inputs.now found.now) }
+    ensures { IfOk result (IsReported request.now inputs.now (unread_views unread.now) found.now) }
 {
     let texts = inputs.texts(alloc)?;
-    let options = ReportOptions {
-        format: request.format,
-        is_quiet: request.is_quiet,
-        allowed: request.allowed.as_slice(),
+    let is_well = is_well(request, found.is_clean);
+    let outcome = Outcome {
+        findings: found.findings.as_slice(),
+        is_well,
     };
     let mut output = String::new(alloc);
     let counts = put_report(
         alloc,
         texts.as_slice(),
-        found.findings.as_slice(),
-        &options,
+        unread,
+        &outcome,
+        &options_of(request),
         &mut output,
     )?;
-    let status = status_by(request.is_strict, counts);
-    Ok(Answer::prints(
-        alloc,
-        status_over(is_well(request, found.is_clean), status),
-        output,
-    ))
+    let status = status_over(is_well, status_by(request.is_strict, counts));
+    Ok(Answer::prints(alloc, status, output))
 }
 
-/// Checks files, and reports what is found. Status 0 says that no error was found. Where no kind of finding is allowed, no
-/// value and no attribute of the files then ever shows an error, for all arguments that give what it asks for, in a bundle
-/// that has them and each function that they call.
+/// Checks files, and reports what is found, and which can't be read. Status 0 says that no error was found. Where no kind of
+/// finding is allowed, no value and no attribute of the files then ever shows an error, for all arguments that give what it
+/// asks for, in a bundle that has them and each function that they call.
 pub(crate) fn check(
     alloc: Global,
     request: &CheckRequest<'_>,
     inputs: &Inputs<'_>,
+    unread: &[UnreadFile<'_>],
 ) -> Result<Answer, AllocError>
-    ensures { IfOk result (IsChecked request.now inputs.now) }
+    ensures { IfOk result (IsChecked request.now inputs.now (unread_views unread.now)) }
 {
     let found = found_in(alloc, request, inputs)?;
-    report(alloc, request, inputs, &found)
+    report(alloc, request, inputs, unread, &found)
 }

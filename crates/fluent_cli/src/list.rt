@@ -1,33 +1,50 @@
 //! What messages and terms ask for.
 
-ghost use Rattle.std.specs.Prelude.{IfOk};
-ghost use Rattle.fluent_cli.specs.Listed.{IsListed};
+ghost use Rattle.std.specs.Prelude.{IfOk, OnOk, flat_map};
+ghost use Rattle.fluent_check.specs.Files.{Adds};
+ghost use Rattle.fluent_lint.specs.Asked.{texts};
+ghost use Rattle.fluent_lint.specs.Clean.{place_view, views};
+ghost use Rattle.fluent_cli.specs.Inside.Listing.{line_by};
+ghost use Rattle.fluent_cli.specs.Listed.{IsListed, variable_text};
 
 use crate::answer::{Answer, Status};
-use fluent_check::{Listing, Sources, list_places};
+use fluent_check::wording::put_place;
+use fluent_check::{Sources, list_places};
 use fluent_cli_report::say_faults;
-use fluent_lint::Place;
+use fluent_lint::{Asked, Place};
 use std::alloc::{AllocError, Global};
 
+/// Writes variables.
+fn put_variables(variables: &[&str], text: &mut String) -> Result<(), AllocError>
+    ensures { OnOk result (Adds (flat_map variable_text (texts variables.now)) text.old text.new) }
+{
+    for variable in variables {
+        write!(text, " ${variable}")?;
+    }
+    Ok(())
+}
+
 /// Writes the line of a value or an attribute: its name, and the variables that it asks for.
-fn put_line<'s>(
-    listing: &Listing<'s>,
-    place: &Place<'s>,
-    text: &mut String,
-) -> Result<(), AllocError> {
-    write!(text, "{place}")?;
-    if let Some(variables) = listing.asked.of(place) {
-        for variable in variables.as_slice() {
-            write!(text, " ${variable}")?;
-        }
+fn put_line<'s>(asked: &Asked<'s>, place: &Place<'s>, text: &mut String) -> Result<(), AllocError>
+    ensures { OnOk result (Adds (line_by asked.now (place_view place.now)) text.old text.new) }
+{
+    put_place(place, text)?;
+    if let Some(variables) = asked.of(place) {
+        put_variables(variables.as_slice(), text)?;
     }
     text.push_str("\n")
 }
 
-/// Writes the lines of all values and attributes.
-fn put_lines(listing: &Listing<'_>, text: &mut String) -> Result<(), AllocError> {
-    for place in &listing.places {
-        put_line(listing, place, text)?;
+/// Writes the lines of values and attributes.
+fn put_lines<'s>(
+    asked: &Asked<'s>,
+    places: &[Place<'s>],
+    text: &mut String,
+) -> Result<(), AllocError>
+    ensures { OnOk result (Adds (flat_map (line_by asked.now) (views places.now)) text.old text.new) }
+{
+    for place in places {
+        put_line(asked, place, text)?;
     }
     Ok(())
 }
@@ -38,7 +55,7 @@ pub(crate) fn list(alloc: Global, sources: &Sources<'_>) -> Result<Answer, Alloc
 {
     let listing = list_places(alloc, sources)?;
     let mut output = String::new(alloc);
-    put_lines(&listing, &mut output)?;
+    put_lines(&listing.asked, listing.places.as_slice(), &mut output)?;
     let mut errors = String::new(alloc);
     say_faults(alloc, sources, &mut errors)?;
     Ok(Answer {

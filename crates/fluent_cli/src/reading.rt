@@ -1,13 +1,14 @@
-//! Files that are named: their texts, and what is said of those that can't be read.
+//! Files that are named: their texts, and which can't be read.
 
 ghost use Rattle.std.specs.Prelude.{◌≡◌, ◌≤◌, ◌++◌, IfOk, IsTrue, Ok, OnOk, length, map};
-ghost use Rattle.fluent_check.specs.Files.{Adds};
 ghost use Rattle.fluent_check.specs.Reading.{AreRead, read_view};
-ghost use Rattle.fluent_cli.specs.Files.{fault_lines, has_mark, line_at, lines_in, no_text_line, pair_lines, pairs, readable_pairs, reads_of, start_of, unreadable_line, without_mark};
+ghost use Rattle.fluent_cli.specs.Files.{has_mark, line_at, lines_in, no_file, no_text, pairs, readable_pairs, reads_of, start_of, unread_by, unread_in, unread_of, unread_pairs, without_mark};
 ghost use Rattle.fluent_cli.specs.Inputs.{HasRead, readable, texts_in};
-ghost use Rattle.fluent_cli.specs.Inside.Reading.{AddsPair, AreReadPairs, IsTextOf, ReadsBy, ReadsFile, says, says_by};
+ghost use Rattle.fluent_cli.specs.Inside.Reading.{AddsPair, AddsUnread, AreReadPairs, IsTextOf, ReadsBy, ReadsFile};
+ghost use Rattle.fluent_cli_report.specs.Unread.{unread_view};
 
 use fluent_check::source::{Source, Sources};
+use fluent_cli_report::UnreadFile;
 use std::alloc::{AllocError, Global};
 use std::str;
 
@@ -69,29 +70,42 @@ fn line_at(bytes: &[u8], at: usize) -> usize
     lines_in(&bytes[..at.min(bytes.len())]) + 1
 }
 
-/// Says that a file is no text, from its byte `at` on.
-fn say_no_text(errors: &mut String, name: &str, bytes: &[u8], at: usize) -> Result<(), AllocError>
-    ensures { OnOk result (Adds (no_text_line name.now (line_at bytes.now at) at) errors.old errors.new) }
+/// A file that is no text from its byte `at` on.
+fn no_text<'f>(
+    alloc: Global,
+    name: &'f str,
+    bytes: &[u8],
+    at: usize,
+) -> Result<UnreadFile<'f>, AllocError>
+    ensures { IfOk result (λ file. unread_view file ≡ no_text name.entry.now (line_at bytes.now at) at) }
 {
-    let line = line_at(bytes, at);
-    write!(errors, "fluent: {name}:{line}: not UTF-8 at byte {at}\n")
+    Ok(UnreadFile {
+        file: name,
+        line: Some(line_at(bytes, at)),
+        reason: format!(in alloc; "not UTF-8 at byte {at}")?,
+    })
 }
 
-/// Says why a file can't be read.
-fn say_unreadable(errors: &mut String, name: &str, reason: &str) -> Result<(), AllocError>
-    ensures { OnOk result (Adds (unreadable_line name.now reason.now) errors.old errors.new) }
+/// A file that can't be read at all.
+fn no_file<'f>(alloc: Global, name: &'f str, reason: &str) -> Result<UnreadFile<'f>, AllocError>
+    ensures { IfOk result (λ file. unread_view file ≡ no_file name.entry.now reason.now) }
 {
-    write!(errors, "fluent: {name}: {reason}\n")
+    Ok(UnreadFile {
+        file: name,
+        line: None,
+        reason: String::from_str(alloc, reason)?,
+    })
 }
 
-/// The source of a file that has these bytes. Where they are no text, `None`, and that is said.
+/// The source of a file that has these bytes. Where they are no text, `None`, and that is noted.
 fn read_bytes<'f>(
+    alloc: Global,
     name: &'f str,
     bytes: &'f [u8],
-    errors: &mut String,
+    unread: &mut Vec<UnreadFile<'f>>,
 ) -> Result<Option<Source<'f>>, AllocError>
-    ensures read { IfOk result (ReadsBy name.now (Ok bytes.entry)) }
-    ensures said { OnOk result (Adds (says_by name.now (Ok bytes.entry)) errors.old errors.new) }
+    ensures read { IfOk result (ReadsBy name.entry.now (Ok bytes.entry)) }
+    ensures unread { OnOk result (AddsUnread (unread_by name.entry.now (Ok bytes.entry)) unread.old unread.new) }
 {
     match text_of(bytes) {
         Ok(text) => Ok(Some(Source {
@@ -100,38 +114,42 @@ fn read_bytes<'f>(
             had_mark: has_mark(bytes),
         })),
         Err(at) => {
-            say_no_text(errors, name, bytes, at)?;
+            unread.push(no_text(alloc, name, bytes, at)?)?;
             Ok(None)
         }
     }
 }
 
-/// The source of a file. Where it can't be read, `None`, and that is said.
-fn read_file<'f>(file: &File<'f>, errors: &mut String) -> Result<Option<Source<'f>>, AllocError>
+/// The source of a file. Where it can't be read, `None`, and that is noted.
+fn read_file<'f>(
+    alloc: Global,
+    file: &File<'f>,
+    unread: &mut Vec<UnreadFile<'f>>,
+) -> Result<Option<Source<'f>>, AllocError>
     ensures read { IfOk result (ReadsFile file.now) }
-    ensures said { OnOk result (Adds (says file.now) errors.old errors.new) }
+    ensures unread { OnOk result (AddsUnread (unread_of file.now) unread.old unread.new) }
 {
     match file.contents {
-        Ok(bytes) => read_bytes(file.name, bytes, errors),
+        Ok(bytes) => read_bytes(alloc, file.name, bytes, unread),
         Err(reason) => {
-            say_unreadable(errors, file.name, reason)?;
+            unread.push(no_file(alloc, file.name, reason)?)?;
             Ok(None)
         }
     }
 }
 
-/// The sources of files. Of those that can't be read, it is said why.
+/// The sources of files. Of those that can't be read, it is noted why.
 fn read_files<'f>(
     alloc: Global,
     files: &[File<'f>],
-    errors: &mut String,
+    unread: &mut Vec<UnreadFile<'f>>,
 ) -> Result<Sources<'f>, AllocError>
     ensures read { IfOk result (AreRead (reads_of files.now)) }
-    ensures said { OnOk result (Adds (fault_lines files.now) errors.old errors.new) }
+    ensures unread { OnOk result (AddsUnread (unread_in files.now) unread.old unread.new) }
 {
     let mut sources = Sources::new(alloc);
     for file in files {
-        if let Some(source) = read_file(file, errors)? {
+        if let Some(source) = read_file(alloc, file, unread)? {
             sources.add(alloc, source)?;
         }
     }
@@ -175,14 +193,14 @@ impl<'f> Inputs<'f> {
         alloc: Global,
         file: &File<'f>,
         reference: &File<'f>,
-        errors: &mut String,
+        unread: &mut Vec<UnreadFile<'f>>,
     ) -> Result<(), AllocError>
         ensures beside { self.new.beside ≡ self.old.beside }
         ensures pair { OnOk result (AddsPair file.now reference.now self.old self.new) }
-        ensures said { OnOk result (Adds (says file.now ++ says reference.now) errors.old errors.new) }
+        ensures unread { OnOk result (AddsUnread (unread_of file.now ++ unread_of reference.now) unread.old unread.new) }
     {
-        let source = read_file(file, errors)?;
-        let reference = read_file(reference, errors)?;
+        let source = read_file(alloc, file, unread)?;
+        let reference = read_file(alloc, reference, unread)?;
         if let (Some(source), Some(reference)) = (source, reference) {
             self.sources.add(alloc, source)?;
             self.references.add(alloc, reference)?;
@@ -192,17 +210,17 @@ impl<'f> Inputs<'f> {
 }
 
 /// The sources of files, each with that of the file at its place in another list, where both can be read, beside others. Of
-/// those that can't be, it is said why.
+/// those that can't be, it is noted why.
 fn read_pairs<'f>(
     alloc: Global,
     beside: Sources<'f>,
     files: &[File<'f>],
     references: &[File<'f>],
-    errors: &mut String,
+    unread: &mut Vec<UnreadFile<'f>>,
 ) -> Result<Inputs<'f>, AllocError>
     ensures beside { IfOk result (λ inputs. inputs.beside ≡ beside.entry) }
     ensures read { IfOk result (AreReadPairs (readable_pairs (pairs files.now references.now))) }
-    ensures said { OnOk result (Adds (pair_lines (pairs files.now references.now)) errors.old errors.new) }
+    ensures unread { OnOk result (AddsUnread (unread_pairs (pairs files.now references.now)) unread.old unread.new) }
 {
     let mut inputs = Inputs {
         beside,
@@ -210,30 +228,30 @@ fn read_pairs<'f>(
         references: Sources::new(alloc),
     };
     for (file, reference) in files.iter().zip(references) {
-        inputs.add_pair(alloc, file, reference, errors)?;
+        inputs.add_pair(alloc, file, reference, unread)?;
     }
     Ok(inputs)
 }
 
-/// What is read of the files of a request, as pairs or not. Of those that can't be read, it is said why.
+/// What is read of the files of a request, as pairs or not. Of those that can't be read, it is noted why.
 pub(crate) fn read_inputs<'f>(
     alloc: Global,
     are_pairs: bool,
     beside: &[File<'f>],
     files: &[File<'f>],
     references: &[File<'f>],
-    errors: &mut String,
+    unread: &mut Vec<UnreadFile<'f>>,
 ) -> Result<Inputs<'f>, AllocError>
     ensures read { IfOk result (HasRead (readable are_pairs beside.now files.now references.now)) }
-    ensures said { OnOk result
-        (Adds (readable are_pairs beside.now files.now references.now).faults errors.old errors.new) }
+    ensures unread { OnOk result
+        (AddsUnread (readable are_pairs beside.now files.now references.now).unread unread.old unread.new) }
 {
-    let beside = read_files(alloc, beside, errors)?;
+    let beside = read_files(alloc, beside, unread)?;
     if are_pairs {
-        return read_pairs(alloc, beside, files, references, errors);
+        return read_pairs(alloc, beside, files, references, unread);
     }
-    let sources = read_files(alloc, files, errors)?;
-    let references = read_files(alloc, references, errors)?;
+    let sources = read_files(alloc, files, unread)?;
+    let references = read_files(alloc, references, unread)?;
     Ok(Inputs {
         beside,
         sources,

@@ -3,18 +3,17 @@
 ghost use Rattle.std.specs.Prelude.{◌≡◌, [], IfOk, OnOk, map, string_bytes};
 ghost use Rattle.fluent_check.specs.Bundles.{bundle_view};
 ghost use Rattle.fluent_check.specs.Files.{Adds};
-ghost use Rattle.fluent_check.specs.Reading.{texts_read};
 ghost use Rattle.fluent_fallback.specs.Chain.{bundles_of};
 ghost use Rattle.fluent_bundle.specs.Formatted.{AddsAll};
 ghost use Rattle.fluent_resolver_state.specs.Status.{reported};
 ghost use Rattle.fluent_values.specs.View.{named, value_view};
-ghost use Rattle.fluent_cli.specs.Shown.{IsShown, Says, arguments_of, error_lines, is_there, missing_line, shown_by, status_shown, value_of};
+ghost use Rattle.fluent_cli.specs.Shown.{IsShown, arguments_of, error_lines, is_there, missing_line, said_of, shown_by, status_shown, value_of};
 
 use crate::answer::{Answer, Status};
+use crate::reading::Inputs;
 use fluent_bundle::{
     FluentArgs, FluentError, FluentValue, NoCustom, NoFormatter, NoFunction, NoTransform,
 };
-use fluent_check::Sources;
 use fluent_check::bundle::bundles_of;
 use fluent_cli_report::say_faults;
 use fluent_cli_words::{Argument, ShowRequest};
@@ -123,14 +122,15 @@ fn say_missing(
 fn said_of(
     alloc: Global,
     request: &ShowRequest<'_>,
-    sources: &Sources<'_>,
+    inputs: &Inputs<'_>,
     errors: &[FluentError],
     is_there: bool,
 ) -> Result<String, AllocError>
-    ensures { IfOk result (Says request.now (texts_read sources.now) (reported errors.now) is_there) }
+    ensures { IfOk result (λ said. string_bytes said ≡ said_of request.now inputs.now (reported errors.now) is_there) }
 {
     let mut said = String::new(alloc);
-    say_faults(alloc, sources, &mut said)?;
+    say_faults(alloc, &inputs.beside, &mut said)?;
+    say_faults(alloc, &inputs.sources, &mut said)?;
     say_errors(errors, &mut said)?;
     say_missing(request, is_there, &mut said)?;
     Ok(said)
@@ -147,21 +147,27 @@ fn status_of(is_there: bool, is_strict: bool, is_wrong: bool) -> Status
     }
 }
 
-/// Shows the message, or the attribute, of the first of these sources that has it.
+/// Shows the message, or the attribute, of the first of these files that has it, with those that are loaded beside each.
 pub(crate) fn show(
     alloc: Global,
     request: &ShowRequest<'_>,
-    sources: &Sources<'_>,
+    inputs: &Inputs<'_>,
 ) -> Result<Answer, AllocError>
-    ensures { IfOk result (IsShown request.now sources.now) }
+    ensures { IfOk result (IsShown request.now inputs.now) }
 {
-    let bundles = bundles_of(alloc, request.language, sources.resources.as_slice())?;
+    let bundles = bundles_of(
+        alloc,
+        request.language,
+        request.functions.as_slice(),
+        inputs.beside.resources.as_slice(),
+        inputs.sources.resources.as_slice(),
+    )?;
     let texts = Chain::of(bundles.as_slice());
     let mut errors = Vec::new(alloc);
     let mut output = text_of(alloc, &texts, request, &mut errors)?;
     output.push_str("\n")?;
     let is_there = has(&texts, request);
-    let said = said_of(alloc, request, sources, errors.as_slice(), is_there)?;
+    let said = said_of(alloc, request, inputs, errors.as_slice(), is_there)?;
     Ok(Answer {
         status: status_of(is_there, request.is_strict, !said.is_empty()),
         output,

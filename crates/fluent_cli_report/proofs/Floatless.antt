@@ -13,11 +13,11 @@ no_float : {X : Type 0} (f : X → Data) → ((x : X) → has_float (f x) ≡ fa
 no_float f none [] = refl
 no_float f none (x ∷ xs) = ap (λ b. b || items_have_float (items_of (map f xs))) (none x) ∙ no_float f none xs
 
-pub json_has_none : (quiet : Bool) (rows : List Row) → has_float (json_rows quiet rows) ≡ false
-json_has_none quiet rows = no_float json_row (λ r. refl) (told quiet rows)
+pub json_has_none : (little : Bool) (rows : List Row) → has_float (json_rows little rows) ≡ false
+json_has_none little rows = no_float json_row (λ r. refl) (told little rows)
 
-pub sarif_has_none : (names : List Text) (quiet : Bool) (rows : List Row) → has_float (sarif_log (sarif_rules names) (sarif_results quiet rows)) ≡ false
-sarif_has_none names quiet rows =
+pub sarif_has_none : (names : List Text) (little : Bool) (rows : List Row) → has_float (sarif_log (sarif_rules names) (sarif_results little rows)) ≡ false
+sarif_has_none names little rows =
     ap₂ (λ results rules. ((results || (((rules || false) || false) || false)) || false) || false)
-    (no_float sarif_row (λ r. refl) (told quiet rows))
+    (no_float sarif_row (λ r. refl) (told little rows))
     (no_float sarif_rule (λ name. refl) names)

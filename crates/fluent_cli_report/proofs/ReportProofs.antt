@@ -10,12 +10,24 @@ pub reports : Reports
 unfolding digits chars serde_json_on_literals
 reports = record {
   people = refl;
-  people_quiet = refl;
+  people_little = refl;
   people_none = refl;
+  caret = refl;
+  colored = refl;
+  counts = refl;
+  counts_quiet = refl;
+  counts_json = refl;
+  reason_errors = refl;
+  reason_strict = refl;
+  reason_maybe = refl;
+  reason_unread = refl;
+  unread = refl;
+  unread_people = refl;
+  unread_commands = refl;
   commands = refl;
   json_error = refl;
   json_warning = refl;
-  json_quiet = refl;
+  json_little = refl;
   json_none = refl;
 }
 
@@ -23,7 +35,7 @@ pub logs : Logs
 unfolding digits serde_json_on_literals percent_encoding_on_literals
 logs = record {
   result = refl;
-  quiet = refl;
+  little = refl;
   rules = refl;
   log = refl;
 }

@@ -1,7 +1,7 @@
 -- Each kind of problem has a rule.
 use Rattle.std.proofs.Common.{refl}
-use Rattle.fluent_check.specs.Found.{unreadable, taken_id, function_id, repeated_attribute, missing_message, missing_attribute, missing_value, missing_term, missing_term_attribute, missing_function, cycle, too_many_placeables, may_open_too_many, leads_to, not_given, unused_argument, no_number, no_category, never_comes, repeated_variant, not_translated, value_not_translated, value_not_in_reference, not_in_reference, unknown_variable, variable_left_out, term_left_out, function_left_out}
-use Rattle.fluent_cli_report.specs.Rules.{EachHasRule}
+use Rattle.fluent_check.specs.Found.{unreadable, taken_id, function_id, repeated_attribute, missing_message, missing_attribute, missing_value, missing_term, missing_term_attribute, missing_function, not_a_function, cycle, too_many_placeables, may_open_too_many, leads_to, not_given, unused_argument, no_number, no_category, never_comes, repeated_variant, not_translated, value_not_translated, value_not_in_reference, not_in_reference, unknown_variable, variable_left_out, term_left_out, function_left_out}
+use Rattle.fluent_cli_report.specs.Rules.{EachHasRule, UnreadHasRule}
 
 pub each_has_rule : EachHasRule
 each_has_rule (unreadable start expected) = refl
@@ -14,6 +14,7 @@ each_has_rule (missing_value id) = refl
 each_has_rule (missing_term id) = refl
 each_has_rule (missing_term_attribute id a) = refl
 each_has_rule (missing_function id) = refl
+each_has_rule (not_a_function id) = refl
 each_has_rule (cycle next) = refl
 each_has_rule (too_many_placeables count limit) = refl
 each_has_rule (may_open_too_many count limit) = refl
@@ -32,3 +33,6 @@ each_has_rule (unknown_variable v) = refl
 each_has_rule (variable_left_out v) = refl
 each_has_rule (term_left_out term) = refl
 each_has_rule (function_left_out id) = refl
+
+pub unread_has_rule : UnreadHasRule
+unread_has_rule = refl

@@ -19,8 +19,8 @@ json_row r = object (
 
 -- each row that is told
 abbrev pub json_rows : Bool → List Row → Data
-json_rows quiet rows = array (items_of (map json_row (told quiet rows)))
+json_rows little rows = array (items_of (map json_row (told little rows)))
 
 -- on one line
 abbrev pub json_report : Bool → List Row → Text
-json_report quiet rows = compact_text (json_rows quiet rows) ++ 10 ∷ []
+json_report little rows = compact_text (json_rows little rows) ++ 10 ∷ []

@@ -1,5 +1,7 @@
 pub mod Json
 pub mod Kept
+pub mod Pages
+pub mod Picture
 pub mod Report
 pub mod ReportRows
 pub mod Reported
@@ -8,6 +10,7 @@ pub mod Rules
 pub mod Sarif
 pub mod Sorting
 pub mod Told
+pub mod Unread
 pub mod Uri
 pub mod UriRows
 pub mod Written

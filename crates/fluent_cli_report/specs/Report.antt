@@ -3,26 +3,22 @@ use Rattle.std.specs.Prelude.{ℕ, ◌==◌, Bool, List, [], ◌∷◌, ◌++◌
 use Rattle.std.specs.Fmt.{decimal}
 use Rattle.std.specs.Str.{chars}
 use Rattle.fluent_ast.specs.Tree.{Text}
-use Rattle.fluent_cli_report.specs.Written.{end_of}
 use Rattle.fluent_cli_words.specs.declared.request.Format.{Format}
 use Rattle.fluent_cli_words.specs.declared.request.Format.TheVariants as format
 use Rattle.fluent_cli_report.specs.Json.{json_report}
-use Rattle.fluent_cli_report.specs.Rows.{Row, errors_in, line_text, severity, warnings_in}
+use Rattle.fluent_cli_report.specs.Picture.{picture}
+use Rattle.fluent_cli_report.specs.Rows.{Row, severity}
 use Rattle.fluent_cli_report.specs.Sarif.{sarif_report}
 use Rattle.fluent_cli_report.specs.Told.{is_told}
+use Rattle.fluent_cli_report.specs.declared.options.Look.{Look}
 
 abbrev pub if_told : (Row → Text) → Bool → Row → Text
-if_told shown quiet r = if is_told quiet r then shown r else []
-
--- the rows that are told, and the counts
-abbrev pub report_by : (Row → Text) → Bool → List Row → Text
-report_by shown quiet rows =
-    flat_map (if_told shown quiet) rows ++ end_of quiet (errors_in rows) (warnings_in rows)
+if_told shown little r = if is_told little r then shown r else []
 
 -- ---- lines for people
 
-abbrev pub text_report : Bool → List Row → Text
-text_report = report_by line_text
+abbrev pub text_report : Look → Bool → List Row → Text
+text_report look little rows = flat_map (if_told (picture look) little) rows
 
 -- ---- commands of GitHub's workflows
 
@@ -47,12 +43,13 @@ github_line r =
     codes "::" ++ (severity r.is_error ++ (codes " file=" ++ (property_text r.file ++ (codes ",line=" ++ (decimal r.line ++ (codes ",col=" ++ (decimal r.column ++ (codes ",title=" ++ (r.name ++ (codes "::" ++ (message_text r.text ++ 10 ∷ [])))))))))))
 
 abbrev pub github_report : Bool → List Row → Text
-github_report = report_by github_line
+github_report little rows = flat_map (if_told github_line little) rows
 
 -- ---- in a format
 
-unfoldable pub report : Format → Bool → List Row → Text
-report format.Text = text_report
-report format.Json = json_report
-report format.Github = github_report
-report format.Sarif = sarif_report
+-- the rows that are told
+unfoldable pub report : Format → Look → Bool → List Row → Text
+report format.Text look little rows = text_report look little rows
+report format.Json look little rows = json_report little rows
+report format.Github look little rows = github_report little rows
+report format.Sarif look little rows = sarif_report little rows

@@ -1,28 +1,69 @@
--- What a report is, by what is asked of it, the files and what was found in them.
-use Rattle.std.specs.Prelude.{◌≡◌, Bool, List, flat_map, String}
+-- What a report is, by what is asked of it, the files, what was found in them, and those that can't be read.
+use Rattle.std.specs.Prelude.{◌≡◌, ◌==◌, ◌&&◌, ℕ, Bool, false, not, List, length, ◌++◌, flat_map, map, String}
 use Rattle.std.proofs.Common.{Global}
-use Rattle.fluent_check.specs.Files.{Read, Adds}
-use Rattle.fluent_check.specs.Found.{Found}
+use Rattle.fluent_check.specs.Faults.{faults_of}
+use Rattle.fluent_check.specs.Files.{Adds, Read}
+use Rattle.fluent_check.specs.Found.{found_view}
+use Rattle.fluent_check.specs.ReadFiles.{files_read}
+use Rattle.fluent_check.specs.Reading.{texts_read}
+use Rattle.fluent_check.specs.declared.source.Sources.{Sources}
+use Rattle.fluent_ast.specs.Tree.{Text}
 use Rattle.fluent_cli_report.specs.Report.{report}
-use Rattle.fluent_cli_report.specs.Rows.{Row, errors_in, line_text, rows_in_order, rows_of, warnings_in}
+use Rattle.fluent_cli_report.specs.Rows.{Row, errors_in, line_text, rows_in_order, rows_of, rows_told, warnings_in}
+use Rattle.fluent_cli_report.specs.Unread.{Unread, unread_rows}
+use Rattle.fluent_cli_report.specs.Written.{end_of, reason_of}
 use Rattle.fluent_cli_words.specs.declared.request.Format.{Format}
+use Rattle.fluent_cli_words.specs.declared.request.Format.TheVariants as format
+use Rattle.fluent_cli_report.specs.declared.options.Look.{Look}
 use Rattle.fluent_cli_report.specs.declared.options.ReportOptions.{ReportOptions}
+use Rattle.fluent_cli_report.specs.declared.report.Outcome.{Outcome}
 use Rattle.fluent_cli_report.specs.declared.rows.Counts.{Counts}
 
--- rows were written
-abbrev pub Writes : Format → Bool → List Row → String Global → String Global → Type 0
-Writes format quiet rows = Adds (report format quiet rows)
+-- How a report is written: its format, how it looks, whether what makes the status 1 is told alone, whether each finding is told, and whether a
+-- warning makes the status 1.
+pub record Manner : Type 0 where
+  pub format : Format
+  pub look : Look
+  pub quiet : Bool
+  pub every : Bool
+  pub strict : Bool
 
--- those that are asked for
-abbrev pub asked_rows : ReportOptions → List Read → List Found → List Row
-asked_rows options reads found = rows_of reads options.allowed.now found
+abbrev pub manner_of : ReportOptions → Manner
+manner_of options = record {
+  format = options.format;
+  look = options.look;
+  quiet = options.is_quiet;
+  every = options.is_every;
+  strict = options.is_strict;
+}
 
--- They were written, and are so many.
-pub record Reports (options : ReportOptions) (reads : List Read) (found : List Found) (old new : String Global) (counts : Counts) : Type 0 where
-  pub written : Writes options.format options.is_quiet (asked_rows options reads found) old new
-  pub errors : counts.errors ≡ errors_in (asked_rows options reads found)
-  pub warnings : counts.warnings ≡ warnings_in (asked_rows options reads found)
+-- whether the first of the findings with one cause stand for all
+abbrev pub folds_by : Format → Bool → Bool
+folds_by format.Text every = not every
+folds_by format.Json every = false
+folds_by format.Github every = false
+folds_by format.Sarif every = false
 
--- the lines of some findings were written
-abbrev pub SaysLines : List Read → String Global → String Global → Type 0
-SaysLines reads old new = (found : List Found) × Adds (flat_map line_text (rows_in_order reads found)) old new
+abbrev pub folds : Manner → Bool
+folds m = folds_by m.format m.every
+
+-- files that can't be read, the rows that are told, and what ends them, by how many errors and warnings there are
+abbrev pub whole_report : Manner → List Unread → Bool → ℕ → ℕ → List Row → Text
+whole_report m unread well errors warnings told =
+    report m.format m.look (m.quiet && not m.strict) (unread_rows m.format unread ++ told)
+    ++ end_of m.format m.quiet errors warnings (reason_of (length unread == 0) well m.strict errors warnings)
+
+-- rows were written as it is asked for
+abbrev pub WritesRows : ReportOptions → List Unread → Bool → Counts → List Row → String Global → String Global → Type 0
+WritesRows options unread well counts told = Adds (whole_report (manner_of options) unread well counts.errors counts.warnings told)
+
+-- The rows that are told were written, and the rows of all are so many.
+pub record Reports (options : ReportOptions) (reads : List Read) (unread : List Unread) (outcome : Outcome) (old new : String Global) (counts : Counts) : Type 0 where
+  pub written : WritesRows options unread outcome.is_well counts
+      (rows_told (folds (manner_of options)) reads options.allowed.now (map found_view outcome.findings.now)) old new
+  pub errors : counts.errors ≡ errors_in (rows_of reads options.allowed.now (map found_view outcome.findings.now))
+  pub warnings : counts.warnings ≡ warnings_in (rows_of reads options.allowed.now (map found_view outcome.findings.now))
+
+-- what is said of files beside an answer: what can't be read in them, and which ids come again in the same file
+abbrev pub fault_lines : Sources → Text
+fault_lines sources = flat_map line_text (rows_in_order (texts_read sources) (faults_of (files_read 0 sources)))

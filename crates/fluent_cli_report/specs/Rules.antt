@@ -1,5 +1,5 @@
--- Each kind of problem has a rule in a log.
-use Rattle.std.specs.Prelude.{◌≡◌, Bool, true}
+-- Each kind of problem has a rule in a log, and a file that can't be read.
+use Rattle.std.specs.Prelude.{◌≡◌, Bool, true, codes}
 use Rattle.std.specs.List.{list_any}
 use Rattle.std.specs.Str.{bytes_eq}
 use Rattle.fluent_ast.specs.Tree.{Text}
@@ -12,3 +12,6 @@ has_rule name = list_any (bytes_eq name) kinds
 
 abbrev pub EachHasRule : Type 0
 EachHasRule = (p : Problem) → has_rule (name_of p) ≡ true
+
+abbrev pub UnreadHasRule : Type 0
+UnreadHasRule = has_rule (codes "unreadable-file") ≡ true

@@ -59,11 +59,12 @@ sarif_rules names = array (items_of (map sarif_rule names))
 
 -- each row that is told
 abbrev pub sarif_results : Bool → List Row → Data
-sarif_results quiet rows = array (items_of (map sarif_row (told quiet rows)))
+sarif_results little rows = array (items_of (map sarif_row (told little rows)))
 
+-- the kinds of problems, and that of a file that can't be read
 abbrev pub kinds : List Text
-kinds = map (λ kind. kind.now) KINDS
+kinds = map (λ kind. kind.now) KINDS ++ codes "unreadable-file" ∷ []
 
 -- on one line
 abbrev pub sarif_report : Bool → List Row → Text
-sarif_report quiet rows = compact_text (sarif_log (sarif_rules kinds) (sarif_results quiet rows)) ++ 10 ∷ []
+sarif_report little rows = compact_text (sarif_log (sarif_rules kinds) (sarif_results little rows)) ++ 10 ∷ []

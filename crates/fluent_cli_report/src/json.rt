@@ -37,14 +37,14 @@ fn object_of(alloc: Global, row: &Row<'_>) -> Result<Value, AllocError>
 /// Adds a row as an object, if it is told.
 fn add_if_told(
     alloc: Global,
-    is_quiet: bool,
+    is_little: bool,
     row: &Row<'_>,
     list: &mut Vec<Value>,
 ) -> Result<(), AllocError>
     ensures { OnOk result
-        (map view list.new.items ≡ map view list.old.items ++ map json_row (told is_quiet (row_view row.now ∷ []))) }
+        (map view list.new.items ≡ map view list.old.items ++ map json_row (told is_little (row_view row.now ∷ []))) }
 {
-    if is_told(is_quiet, row) {
+    if is_told(is_little, row) {
         let object = object_of(alloc, row)?;
         list.push(object)?;
     }
@@ -53,12 +53,12 @@ fn add_if_told(
 
 /// The rows that are told, each as an object.
 #[tactic(auto, using(crate::proofs::Told::told_further))]
-fn objects_of(alloc: Global, is_quiet: bool, rows: &[Row<'_>]) -> Result<Value, AllocError>
-    ensures { IfOk result (λ value. view value ≡ json_rows is_quiet (row_views rows.now)) }
+fn objects_of(alloc: Global, is_little: bool, rows: &[Row<'_>]) -> Result<Value, AllocError>
+    ensures { IfOk result (λ value. view value ≡ json_rows is_little (row_views rows.now)) }
 {
     let mut list = Vec::new(alloc);
     for row in rows {
-        add_if_told(alloc, is_quiet, row, &mut list)?;
+        add_if_told(alloc, is_little, row, &mut list)?;
     }
     Ok(Value::from(list))
 }
@@ -77,12 +77,12 @@ pub(crate) fn put_value(alloc: Global, value: &Value, output: &mut String) -> Re
 #[tactic(auto, using(crate::proofs::Floatless::json_has_none))]
 pub(crate) fn put_json(
     alloc: Global,
-    is_quiet: bool,
+    is_little: bool,
     rows: &[Row<'_>],
     output: &mut String,
 ) -> Result<(), AllocError>
-    ensures { OnOk result (Adds (json_report is_quiet (row_views rows.now)) output.old output.new) }
+    ensures { OnOk result (Adds (json_report is_little (row_views rows.now)) output.old output.new) }
 {
-    let list = objects_of(alloc, is_quiet, rows)?;
+    let list = objects_of(alloc, is_little, rows)?;
     put_value(alloc, &list, output)
 }

@@ -4,11 +4,15 @@
 mod github;
 mod json;
 mod options;
+mod pages;
+mod picture;
 mod report;
 mod rows;
 mod sarif;
 mod sorting;
+mod unread;
 
-pub use options::ReportOptions;
-pub use report::{put_report, say_faults};
+pub use options::{Look, ReportOptions};
+pub use report::{Outcome, put_report, say_faults};
 pub use rows::Counts;
+pub use unread::{UnreadFile, say_unread};

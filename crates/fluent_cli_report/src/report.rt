@@ -1,23 +1,31 @@
 //! How findings are reported.
 
-ghost use Rattle.std.specs.Prelude.{◌≡◌, OnOk, IfOk, flat_map, map};
+ghost use Rattle.std.specs.Prelude.{◌≡◌, ◌++◌, OnOk, IfOk, flat_map, map};
 ghost use Rattle.fluent_check.specs.Files.{Adds};
 ghost use Rattle.fluent_check.specs.Found.{found_in, found_view};
 ghost use Rattle.fluent_check.specs.Reading.{read_view};
 ghost use Rattle.fluent_cli_report.specs.Kept.{row_view, row_views};
-ghost use Rattle.fluent_cli_report.specs.Report.{github_line, github_report, if_told, text_report};
-ghost use Rattle.fluent_cli_report.specs.Reported.{Reports, SaysLines, Writes};
-ghost use Rattle.fluent_cli_report.specs.Rows.{errors_in, line_text, rows_in_order, warnings_in};
-ghost use Rattle.fluent_cli_report.specs.Written.{counted, counts_line, end_of};
+ghost use Rattle.fluent_cli_report.specs.Picture.{picture};
+ghost use Rattle.fluent_cli_report.specs.Report.{github_line, github_report, if_told, report, text_report};
+ghost use Rattle.fluent_cli_report.specs.Reported.{Reports, WritesRows, fault_lines, folds, manner_of};
+ghost use Rattle.fluent_check.specs.Lined.{lined_views};
+ghost use Rattle.fluent_cli_report.specs.Pages.{page_views, pages_of};
+ghost use Rattle.fluent_cli_report.specs.Rows.{kept_in_order, line_text, rows_in_order, told_rows};
+ghost use Rattle.fluent_cli_report.specs.Unread.{unread_views};
+ghost use Rattle.fluent_cli_report.specs.Written.{counted, counts_line, end_of, has_counts, reason_of};
 
 use crate::github::put_annotation;
 use crate::json::put_json;
-use crate::options::ReportOptions;
-use crate::rows::{Counts, Row, counts_of, is_told, put_line, rows_of};
+use crate::options::{Look, ReportOptions};
+use crate::pages::pages_of;
+use crate::picture::put_picture;
+use crate::rows::{Counts, Row, counts_of, folded_rows, is_told, kept_of, put_line, rows_of};
 use crate::sarif::put_sarif;
 use crate::sorting::{left_of, sort};
+use crate::unread::{UnreadFile, first_rows};
+use fluent_check::lines::Lined;
 use fluent_check::positions::lined_of;
-use fluent_check::{Finding, Source, Sources, faults};
+use fluent_check::{Finding, Source, Sources, faults, fold};
 use fluent_cli_words::Format;
 use std::alloc::{AllocError, Global};
 
@@ -32,45 +40,88 @@ fn put_number(number: usize, noun: &str, text: &mut String) -> Result<(), AllocE
     }
 }
 
+/// Why the status isn't 0, where the counts don't say it.
+fn reason_of(is_whole: bool, is_well: bool, is_strict: bool, counts: Counts) -> &'static str
+    ensures { result.now ≡ reason_of is_whole is_well is_strict counts.errors counts.warnings }
+{
+    if !is_whole {
+        " (status 3: a file can't be read)"
+    } else if counts.errors != 0 {
+        ""
+    } else if is_strict && counts.warnings != 0 {
+        " (status 1: --strict)"
+    } else if !is_well {
+        " (status 1: a text may open too many placeables)"
+    } else {
+        ""
+    }
+}
+
 /// Writes the line with the counts.
-fn put_counts(counts: Counts, text: &mut String) -> Result<(), AllocError>
-    ensures { OnOk result (Adds (counts_line counts.errors counts.warnings) text.old text.new) }
+fn put_counts(counts: Counts, reason: &str, text: &mut String) -> Result<(), AllocError>
+    ensures { OnOk result (Adds (counts_line counts.errors counts.warnings reason.now) text.old text.new) }
 {
     put_number(counts.errors, "error", text)?;
     text.push_str(", ")?;
     put_number(counts.warnings, "warning", text)?;
+    text.push_str(reason)?;
     text.push_str("\n")
 }
 
-/// Writes what comes after the rows.
-fn put_end(is_quiet: bool, counts: Counts, text: &mut String) -> Result<(), AllocError>
-    ensures { OnOk result (Adds (end_of is_quiet counts.errors counts.warnings) text.old text.new) }
+/// Whether a report in a format ends with the counts.
+fn has_counts(format: Format, is_quiet: bool) -> bool
+    ensures { result ≡ has_counts format is_quiet }
 {
-    if is_quiet {
-        Ok(())
-    } else {
-        put_counts(counts, text)
+    match format {
+        Format::Text | Format::Github => !is_quiet,
+        Format::Json | Format::Sarif => false,
     }
 }
 
-/// Writes the line of a row, if it is told.
-fn put_told_line(is_quiet: bool, row: &Row<'_>, output: &mut String) -> Result<(), AllocError>
+/// Writes what comes after the rows.
+fn put_end(
+    format: Format,
+    is_quiet: bool,
+    counts: Counts,
+    reason: &str,
+    text: &mut String,
+) -> Result<(), AllocError>
     ensures { OnOk result
-        (Adds (if_told line_text is_quiet (row_view row.now)) output.old output.new) }
+        (Adds (end_of format is_quiet counts.errors counts.warnings reason.now) text.old text.new) }
 {
-    if is_told(is_quiet, row) {
-        put_line(row, output)
+    if has_counts(format, is_quiet) {
+        put_counts(counts, reason, text)
+    } else {
+        Ok(())
+    }
+}
+
+/// Writes a row as it looks, if it is told.
+fn put_told_picture(
+    look: Look,
+    is_little: bool,
+    row: &Row<'_>,
+    output: &mut String,
+) -> Result<(), AllocError>
+    ensures { OnOk result (Adds (if_told (picture look) is_little (row_view row.now)) output.old output.new) }
+{
+    if is_told(is_little, row) {
+        put_picture(look, row, output)
     } else {
         Ok(())
     }
 }
 
 /// Writes the command for a row, if it is told.
-fn put_told_annotation(is_quiet: bool, row: &Row<'_>, output: &mut String) -> Result<(), AllocError>
+fn put_told_annotation(
+    is_little: bool,
+    row: &Row<'_>,
+    output: &mut String,
+) -> Result<(), AllocError>
     ensures { OnOk result
-        (Adds (if_told github_line is_quiet (row_view row.now)) output.old output.new) }
+        (Adds (if_told github_line is_little (row_view row.now)) output.old output.new) }
 {
-    if is_told(is_quiet, row) {
+    if is_told(is_little, row) {
         put_annotation(row, output)
     } else {
         Ok(())
@@ -79,36 +130,27 @@ fn put_told_annotation(is_quiet: bool, row: &Row<'_>, output: &mut String) -> Re
 
 /// Writes lines for people.
 fn put_text(
-    is_quiet: bool,
+    look: Look,
+    is_little: bool,
     rows: &[Row<'_>],
-    counts: Counts,
     output: &mut String,
 ) -> Result<(), AllocError>
-    requires errors { counts.errors ≡ errors_in (row_views rows.now) }
-    requires warnings { counts.warnings ≡ warnings_in (row_views rows.now) }
-    ensures { OnOk result (Adds (text_report is_quiet (row_views rows.now)) output.old output.new) }
+    ensures { OnOk result (Adds (text_report look is_little (row_views rows.now)) output.old output.new) }
 {
     for row in rows {
-        put_told_line(is_quiet, row, output)?;
+        put_told_picture(look, is_little, row, output)?;
     }
-    put_end(is_quiet, counts, output)
+    Ok(())
 }
 
 /// Writes commands of GitHub's workflows.
-fn put_github(
-    is_quiet: bool,
-    rows: &[Row<'_>],
-    counts: Counts,
-    output: &mut String,
-) -> Result<(), AllocError>
-    requires errors { counts.errors ≡ errors_in (row_views rows.now) }
-    requires warnings { counts.warnings ≡ warnings_in (row_views rows.now) }
-    ensures { OnOk result (Adds (github_report is_quiet (row_views rows.now)) output.old output.new) }
+fn put_github(is_little: bool, rows: &[Row<'_>], output: &mut String) -> Result<(), AllocError>
+    ensures { OnOk result (Adds (github_report is_little (row_views rows.now)) output.old output.new) }
 {
     for row in rows {
-        put_told_annotation(is_quiet, row, output)?;
+        put_told_annotation(is_little, row, output)?;
     }
-    put_end(is_quiet, counts, output)
+    Ok(())
 }
 
 /// Writes rows in a format.
@@ -116,62 +158,166 @@ fn put_github(
 fn put_rows(
     alloc: Global,
     format: Format,
-    is_quiet: bool,
+    look: Look,
+    is_little: bool,
     rows: &[Row<'_>],
-    counts: Counts,
     output: &mut String,
 ) -> Result<(), AllocError>
-    requires errors { counts.errors ≡ errors_in (row_views rows.now) }
-    requires warnings { counts.warnings ≡ warnings_in (row_views rows.now) }
-    ensures { OnOk result (Writes format is_quiet (row_views rows.now) output.old output.new) }
+    ensures { OnOk result (Adds (report format look is_little (row_views rows.now)) output.old output.new) }
 {
     match format {
-        Format::Text => put_text(is_quiet, rows, counts, output),
-        Format::Json => put_json(alloc, is_quiet, rows, output),
-        Format::Github => put_github(is_quiet, rows, counts, output),
-        Format::Sarif => put_sarif(alloc, is_quiet, rows, output),
+        Format::Text => put_text(look, is_little, rows, output),
+        Format::Json => put_json(alloc, is_little, rows, output),
+        Format::Github => put_github(is_little, rows, output),
+        Format::Sarif => put_sarif(alloc, is_little, rows, output),
     }
 }
 
+/// Findings in files, in order, each line once.
+#[tactic(auto, unfolding(crate::specs::Rows::kept_in_order))]
+fn kept_in_order<'f, 's>(
+    alloc: Global,
+    files: &[Lined<'f>],
+    pages: &[Vec<&'f str>],
+    mut findings: Vec<Finding<'s>>,
+) -> Result<Vec<Finding<'s>>, AllocError>
+    requires { page_views pages.now ≡ pages_of (lined_views files.now) }
+    ensures { IfOk result
+        (λ list. found_in list ≡ kept_in_order (lined_views files.now) (found_in findings.entry)) }
+{
+    sort(&mut findings)?;
+    kept_of(alloc, files, pages, findings.as_slice())
+}
+
 /// What is reported of findings in files, in order.
-#[tactic(auto, unfolding(crate::specs::Rows::rows_in_order))]
 fn rows_in_order<'f>(
     alloc: Global,
     sources: &[Source<'f>],
-    mut findings: Vec<Finding<'_>>,
+    findings: Vec<Finding<'_>>,
 ) -> Result<Vec<Row<'f>>, AllocError>
     ensures { IfOk result
         (λ rows. row_views rows.items ≡ rows_in_order (map read_view sources.now) (found_in findings.entry)) }
 {
-    sort(&mut findings)?;
     let files = lined_of(alloc, sources)?;
-    rows_of(alloc, files.as_slice(), findings.as_slice())
+    let pages = pages_of(alloc, sources)?;
+    let kept = kept_in_order(alloc, files.as_slice(), pages.as_slice(), findings)?;
+    rows_of(alloc, files.as_slice(), pages.as_slice(), kept.as_slice())
 }
 
-/// Writes what is reported of findings in files, and gives how many errors and warnings there are.
+/// Whether the first of the findings with one cause stand for all.
+fn folds(options: &ReportOptions<'_>) -> bool
+    ensures { result ≡ folds (manner_of options.now) }
+{
+    match options.format {
+        Format::Text => !options.is_every,
+        Format::Json | Format::Github | Format::Sarif => false,
+    }
+}
+
+/// The rows that are told of findings.
+fn told_rows<'f>(
+    alloc: Global,
+    folds: bool,
+    files: &[Lined<'f>],
+    pages: &[Vec<&'f str>],
+    findings: &[Finding<'_>],
+) -> Result<Vec<Row<'f>>, AllocError>
+    requires { page_views pages.now ≡ pages_of (lined_views files.now) }
+    ensures { IfOk result
+        (λ rows. row_views rows.items ≡ told_rows folds (lined_views files.now) (map found_view findings.now)) }
+{
+    if folds {
+        let list = fold(alloc, findings)?;
+        folded_rows(alloc, files, pages, list.as_slice())
+    } else {
+        rows_of(alloc, files, pages, findings)
+    }
+}
+
+/// What was found.
+#[derive(Clone, Copy, Drop)]
+pub struct Outcome<'o, 's> {
+    pub findings: &'o [Finding<'s>],
+    /// Whether no text is left that may show an error.
+    pub is_well: bool,
+}
+
+/// Adds rows to others.
+fn add_rows<'f>(rows: Vec<Row<'f>>, all: &mut Vec<Row<'f>>) -> Result<(), AllocError>
+    ensures { OnOk result (row_views all.new.items ≡ row_views all.old.items ++ row_views rows.entry.items) }
+{
+    for row in rows {
+        all.push(row)?;
+    }
+    Ok(())
+}
+
+/// Writes the rows that are told, in their format, and what comes after them.
+fn put_all<'f>(
+    alloc: Global,
+    unread: &[UnreadFile<'f>],
+    is_well: bool,
+    options: &ReportOptions<'_>,
+    counts: Counts,
+    told: Vec<Row<'f>>,
+    output: &mut String,
+) -> Result<(), AllocError>
+    ensures { OnOk result (WritesRows options.now (unread_views unread.now) is_well counts
+        (row_views told.entry.items) output.old output.new) }
+{
+    let mut all = first_rows(alloc, options.format, unread)?;
+    add_rows(told, &mut all)?;
+    let is_little = options.is_quiet && !options.is_strict;
+    put_rows(
+        alloc,
+        options.format,
+        options.look,
+        is_little,
+        all.as_slice(),
+        output,
+    )?;
+    let is_whole = unread.is_empty();
+    let reason = reason_of(is_whole, is_well, options.is_strict, counts);
+    put_end(options.format, options.is_quiet, counts, reason, output)
+}
+
+/// Writes what is reported of findings in files, and of those that can't be read, and gives how many errors and warnings are
+/// found.
 ///
 /// # Errors
 ///
 /// An allocation failed.
-pub fn put_report(
+pub fn put_report<'f>(
     alloc: Global,
-    sources: &[Source<'_>],
-    findings: &[Finding<'_>],
+    sources: &[Source<'f>],
+    unread: &[UnreadFile<'f>],
+    outcome: &Outcome<'_, '_>,
     options: &ReportOptions<'_>,
     output: &mut String,
 ) -> Result<Counts, AllocError>
     ensures { IfOk result
-        (Reports options.now (map read_view sources.now) (map found_view findings.now) output.old output.new) }
+        (Reports options.now (map read_view sources.now) (unread_views unread.now) outcome.now output.old output.new) }
 {
-    let left = left_of(alloc, options.allowed, findings)?;
-    let rows = rows_in_order(alloc, sources, left)?;
+    let left = left_of(alloc, options.allowed, outcome.findings)?;
+    let files = lined_of(alloc, sources)?;
+    let pages = pages_of(alloc, sources)?;
+    let kept = kept_in_order(alloc, files.as_slice(), pages.as_slice(), left)?;
+    let rows = rows_of(alloc, files.as_slice(), pages.as_slice(), kept.as_slice())?;
     let counts = counts_of(rows.as_slice());
-    put_rows(
+    let told = told_rows(
         alloc,
-        options.format,
-        options.is_quiet,
-        rows.as_slice(),
+        folds(options),
+        files.as_slice(),
+        pages.as_slice(),
+        kept.as_slice(),
+    )?;
+    put_all(
+        alloc,
+        unread,
+        outcome.is_well,
+        options,
         counts,
+        told,
         output,
     )?;
     Ok(counts)
@@ -198,7 +344,7 @@ pub fn say_faults(
     sources: &Sources<'_>,
     errors: &mut String,
 ) -> Result<(), AllocError>
-    ensures { OnOk result (SaysLines (map read_view sources.now.texts.items) errors.old errors.new) }
+    ensures { OnOk result (Adds (fault_lines sources.now) errors.old errors.new) }
 {
     let rows = rows_in_order(alloc, sources.texts.as_slice(), faults(alloc, sources)?)?;
     put_lines(rows.as_slice(), errors)

@@ -4,19 +4,23 @@ ghost use Rattle.std.specs.Prelude.{◌≡◌, [], ◌∷◌, ◌++◌, false, O
 ghost use Rattle.std.specs.List.{list_any};
 ghost use Rattle.std.specs.Str.{bytes_eq};
 ghost use Rattle.fluent_check.specs.Files.{Adds};
-ghost use Rattle.fluent_check.specs.Found.{found_view};
+ghost use Rattle.fluent_check.specs.Causes.{folded_view};
+ghost use Rattle.fluent_check.specs.Found.{found_in, found_view};
 ghost use Rattle.fluent_check.specs.Lined.{lined_views};
 ghost use Rattle.fluent_check.specs.Wording.{entry_text};
 ghost use Rattle.fluent_cli_report.specs.Kept.{KeepsMore, row_view, row_views};
-ghost use Rattle.fluent_cli_report.specs.Rows.{errors_in, line_text, once, row_of, severity, warnings_in};
+ghost use Rattle.fluent_cli_report.specs.Rows.{errors_in, folded_row, kept, line_text, line_with, row_of, severity, warnings_in};
+ghost use Rattle.fluent_cli_report.specs.Pages.{page_views, pages_of};
 ghost use Rattle.fluent_cli_report.specs.Told.{is_told};
 ghost use Rattle.std.specs.Option.{option_map};
 ghost use Rattle.fluent_lint.specs.Clean.{place_view};
 
-use fluent_check::Finding;
+use crate::pages::line_in;
+use fluent_check::causes::put_others;
 use fluent_check::lines::Lined;
 use fluent_check::positions::{name_at, position_at};
 use fluent_check::wording::{put_place, put_problem};
+use fluent_check::{Finding, Folded};
 use fluent_lint::Place;
 use indexmap::IndexSet;
 use std::alloc::{AllocError, Global};
@@ -33,6 +37,8 @@ pub(crate) struct Row<'f> {
     /// The value or the attribute that it is of, empty where it is of none.
     pub entry: String,
     pub text: String,
+    /// The line of the file in which it stands, empty where there is none.
+    pub source: &'f str,
 }
 
 /// How many rows there are of each kind.
@@ -49,11 +55,11 @@ pub(crate) fn severity(is_error: bool) -> &'static str
     if is_error { "error" } else { "warning" }
 }
 
-/// Whether a row is told: where errors alone are, a warning isn't.
-pub(crate) fn is_told(is_quiet: bool, row: &Row<'_>) -> bool
-    ensures { result ≡ is_told is_quiet (row_view row.now) }
+/// Whether a row is told. Where little is told, it is what makes the status 1: errors, and what may be one.
+pub(crate) fn is_told(is_little: bool, row: &Row<'_>) -> bool
+    ensures { result ≡ is_told is_little (row_view row.now) }
 {
-    !is_quiet || row.is_error
+    !is_little || row.is_error || row.name == "may-open-too-many"
 }
 
 /// The text of a place, empty where there is none.
@@ -71,8 +77,10 @@ fn entry_of(alloc: Global, place: &Option<Place<'_>>) -> Result<String, AllocErr
 fn row_of<'f>(
     alloc: Global,
     files: &[Lined<'f>],
+    pages: &[Vec<&'f str>],
     finding: &Finding<'_>,
 ) -> Result<Row<'f>, AllocError>
+    requires { page_views pages.now ≡ pages_of (lined_views files.now) }
     ensures { IfOk result (λ row. row_view row ≡ row_of (lined_views files.now) (found_view finding.now)) }
 {
     let spot = finding.spot;
@@ -89,19 +97,30 @@ fn row_of<'f>(
         name: problem.name(),
         entry,
         text,
+        source: line_in(pages, spot.file, at.line),
     })
+}
+
+/// Writes the line of a row, with a word for how bad it is.
+pub(crate) fn put_line_with(
+    word: &str,
+    row: &Row<'_>,
+    output: &mut String,
+) -> Result<(), AllocError>
+    ensures { OnOk result (Adds (line_with word.now (row_view row.now)) output.old output.new) }
+{
+    let file = row.file;
+    let line = row.line;
+    let column = row.column;
+    let text = row.text.as_str();
+    write!(output, "{file}:{line}:{column}: {word}: {text}\n")
 }
 
 /// Writes the line of a row.
 pub(crate) fn put_line(row: &Row<'_>, output: &mut String) -> Result<(), AllocError>
     ensures { OnOk result (Adds (line_text (row_view row.now)) output.old output.new) }
 {
-    let file = row.file;
-    let line = row.line;
-    let column = row.column;
-    let word = severity(row.is_error);
-    let text = row.text.as_str();
-    write!(output, "{file}:{line}:{column}: {word}: {text}\n")
+    put_line_with(severity(row.is_error), row, output)
 }
 
 /// The line of a row.
@@ -129,39 +148,95 @@ fn note(lines: &mut IndexSet<String>, line: String) -> Result<(), AllocError>
     Ok(())
 }
 
-/// Keeps a row, if its line isn't known.
-fn keep<'f>(
+/// Keeps a finding, if the line of its row isn't known.
+fn keep<'f, 's>(
     alloc: Global,
-    row: Row<'f>,
+    files: &[Lined<'f>],
+    pages: &[Vec<&'f str>],
+    finding: &Finding<'s>,
     lines: &mut IndexSet<String>,
-    kept: &mut Vec<Row<'f>>,
+    kept: &mut Vec<Finding<'s>>,
 ) -> Result<(), AllocError>
-    ensures { OnOk result
-        (KeepsMore (row_view row.entry) lines.old.keys lines.new.keys kept.old.items kept.new.items) }
+    requires { page_views pages.now ≡ pages_of (lined_views files.now) }
+    ensures { OnOk result (KeepsMore (lined_views files.now) (found_view finding.now)
+        lines.old.keys lines.new.keys kept.old kept.new) }
 {
+    let row = row_of(alloc, files, pages, finding)?;
     let line = line_of(alloc, &row)?;
     if is_known(lines, line.as_str()) {
         return Ok(());
     }
     note(lines, line)?;
-    kept.push(row)?;
+    kept.push(*finding)?;
     Ok(())
 }
 
-/// What is reported of findings, no line twice.
+/// Findings without those whose line came before.
+pub(crate) fn kept_of<'f, 's>(
+    alloc: Global,
+    files: &[Lined<'f>],
+    pages: &[Vec<&'f str>],
+    findings: &[Finding<'s>],
+) -> Result<Vec<Finding<'s>>, AllocError>
+    requires { page_views pages.now ≡ pages_of (lined_views files.now) }
+    ensures { IfOk result (λ list. found_in list ≡ kept (lined_views files.now) (map found_view findings.now)) }
+{
+    let mut lines = IndexSet::new(alloc);
+    let mut kept = Vec::new(alloc);
+    for finding in findings {
+        keep(alloc, files, pages, finding, &mut lines, &mut kept)?;
+    }
+    Ok(kept)
+}
+
+/// What is reported of findings.
 pub(crate) fn rows_of<'f>(
     alloc: Global,
     files: &[Lined<'f>],
+    pages: &[Vec<&'f str>],
     findings: &[Finding<'_>],
 ) -> Result<Vec<Row<'f>>, AllocError>
+    requires { page_views pages.now ≡ pages_of (lined_views files.now) }
     ensures { IfOk result
-        (λ rows. row_views rows.items ≡ once (map (row_of (lined_views files.now)) (map found_view findings.now))) }
+        (λ rows. row_views rows.items ≡ map (row_of (lined_views files.now)) (map found_view findings.now)) }
 {
-    let mut lines = IndexSet::new(alloc);
     let mut rows = Vec::new(alloc);
     for finding in findings {
-        let row = row_of(alloc, files, finding)?;
-        keep(alloc, row, &mut lines, &mut rows)?;
+        rows.push(row_of(alloc, files, pages, finding)?)?;
+    }
+    Ok(rows)
+}
+
+/// What is told of a finding that stands for others, too.
+fn folded_row<'f>(
+    alloc: Global,
+    files: &[Lined<'f>],
+    pages: &[Vec<&'f str>],
+    folded: &Folded<'_>,
+) -> Result<Row<'f>, AllocError>
+    requires { page_views pages.now ≡ pages_of (lined_views files.now) }
+    ensures { IfOk result
+        (λ row. row_view row ≡ folded_row (lined_views files.now) (folded_view folded.now)) }
+{
+    let mut row = row_of(alloc, files, pages, &folded.finding)?;
+    put_others(folded.others, &mut row.text)?;
+    Ok(row)
+}
+
+/// What is told of findings that stand for others, too.
+pub(crate) fn folded_rows<'f>(
+    alloc: Global,
+    files: &[Lined<'f>],
+    pages: &[Vec<&'f str>],
+    list: &[Folded<'_>],
+) -> Result<Vec<Row<'f>>, AllocError>
+    requires { page_views pages.now ≡ pages_of (lined_views files.now) }
+    ensures { IfOk result
+        (λ rows. row_views rows.items ≡ map (folded_row (lined_views files.now)) (map folded_view list.now)) }
+{
+    let mut rows = Vec::new(alloc);
+    for folded in list {
+        rows.push(folded_row(alloc, files, pages, folded)?)?;
     }
     Ok(rows)
 }

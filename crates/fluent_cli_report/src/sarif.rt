@@ -5,12 +5,13 @@ ghost use Rattle.serde_json.specs.Data.{array};
 ghost use Rattle.serde_json.specs.View.{items_of, view};
 ghost use Rattle.fluent_check.specs.Files.{Adds};
 ghost use Rattle.fluent_cli_report.specs.Kept.{row_view, row_views};
-ghost use Rattle.fluent_cli_report.specs.Sarif.{location_of, sarif_log, sarif_report, sarif_results, sarif_row, sarif_rule, sarif_rules, sarif_tool};
+ghost use Rattle.fluent_cli_report.specs.Sarif.{kinds, location_of, sarif_log, sarif_report, sarif_results, sarif_row, sarif_rule, sarif_rules, sarif_tool};
 ghost use Rattle.fluent_cli_report.specs.Told.{told};
 ghost use Rattle.fluent_cli_report.specs.Uri.{uri_text};
 
 use crate::json::put_value;
 use crate::rows::{Row, is_told, severity};
+use crate::unread::UNREADABLE_FILE;
 use fluent_cli_words::KINDS;
 use percent_encoding::{AsciiSet, NON_ALPHANUMERIC, ascii_set, utf8_percent_encode};
 use serde_json::{Value, json};
@@ -70,14 +71,14 @@ fn result_of(alloc: Global, row: &Row<'_>) -> Result<Value, AllocError>
 /// Adds a row as a result, if it is told.
 fn add_if_told(
     alloc: Global,
-    is_quiet: bool,
+    is_little: bool,
     row: &Row<'_>,
     list: &mut Vec<Value>,
 ) -> Result<(), AllocError>
     ensures { OnOk result
-        (map view list.new.items ≡ map view list.old.items ++ map sarif_row (told is_quiet (row_view row.now ∷ []))) }
+        (map view list.new.items ≡ map view list.old.items ++ map sarif_row (told is_little (row_view row.now ∷ []))) }
 {
-    if is_told(is_quiet, row) {
+    if is_told(is_little, row) {
         let value = result_of(alloc, row)?;
         list.push(value)?;
     }
@@ -86,13 +87,13 @@ fn add_if_told(
 
 /// The rows that are told, each as a result.
 #[tactic(auto, using(crate::proofs::Told::told_further))]
-fn results_of(alloc: Global, is_quiet: bool, rows: &[Row<'_>]) -> Result<Value, AllocError>
+fn results_of(alloc: Global, is_little: bool, rows: &[Row<'_>]) -> Result<Value, AllocError>
     ensures { IfOk result
-        (λ value. view value ≡ sarif_results is_quiet (row_views rows.now)) }
+        (λ value. view value ≡ sarif_results is_little (row_views rows.now)) }
 {
     let mut list = Vec::new(alloc);
     for row in rows {
-        add_if_told(alloc, is_quiet, row, &mut list)?;
+        add_if_told(alloc, is_little, row, &mut list)?;
     }
     Ok(Value::from(list))
 }
@@ -105,15 +106,24 @@ fn rule_of(alloc: Global, name: &str) -> Result<Value, AllocError>
 }
 
 /// A rule for each name.
-fn rules_of(alloc: Global, names: &[&str]) -> Result<Value, AllocError>
-    ensures { IfOk result (λ value. view value ≡ sarif_rules (map (λ name. name.now) names.now)) }
+fn rules_of(alloc: Global, names: &[&str]) -> Result<Vec<Value>, AllocError>
+    ensures { IfOk result (λ rules. map view rules.items ≡ map sarif_rule (map (λ name. name.now) names.now)) }
 {
     let mut list = Vec::new(alloc);
     for name in names {
         let rule = rule_of(alloc, *name)?;
         list.push(rule)?;
     }
-    Ok(Value::from(list))
+    Ok(list)
+}
+
+/// A rule for each kind of problem, and one for files that can't be read.
+fn all_rules(alloc: Global) -> Result<Value, AllocError>
+    ensures { IfOk result (λ value. view value ≡ sarif_rules kinds) }
+{
+    let mut rules = rules_of(alloc, KINDS.as_slice())?;
+    rules.push(rule_of(alloc, UNREADABLE_FILE)?)?;
+    Ok(Value::from(rules))
 }
 
 /// The program, with the rules that it goes by.
@@ -139,14 +149,14 @@ fn log_of(alloc: Global, rules: Value, results: Value) -> Result<Value, AllocErr
 #[tactic(auto, using(crate::proofs::Floatless::sarif_has_none))]
 pub(crate) fn put_sarif(
     alloc: Global,
-    is_quiet: bool,
+    is_little: bool,
     rows: &[Row<'_>],
     output: &mut String,
 ) -> Result<(), AllocError>
-    ensures { OnOk result (Adds (sarif_report is_quiet (row_views rows.now)) output.old output.new) }
+    ensures { OnOk result (Adds (sarif_report is_little (row_views rows.now)) output.old output.new) }
 {
-    let rules = rules_of(alloc, KINDS.as_slice())?;
-    let results = results_of(alloc, is_quiet, rows)?;
+    let rules = all_rules(alloc)?;
+    let results = results_of(alloc, is_little, rows)?;
     let log = log_of(alloc, rules, results)?;
     put_value(alloc, &log, output)
 }

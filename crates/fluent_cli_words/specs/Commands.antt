@@ -62,7 +62,10 @@ check_of_files = command (codes "check")
 
 abbrev pub with_telling : App → App
 with_telling app =
-    with_rule (with_rule (with_rule app (option (codes "format"))) (flag (codes "quiet"))) (flag (codes "strict"))
+    with_rule (with_rule (with_rule (with_rule app (option (codes "format"))) (flag (codes "quiet"))) (flag (codes "strict"))) (flag (codes "every"))
+
+abbrev pub with_marks : App → App
+with_marks app = with_rule (with_rule app (flag (codes "caret"))) (flag (codes "color"))
 
 abbrev pub with_looking : App → App
 with_looking app =
@@ -70,7 +73,7 @@ with_looking app =
     (repeated_option (codes "function"))) (repeated_option (codes "allow"))
 
 abbrev pub check_command : Shape
-check_command = (with_rule (with_looking (with_telling (alone check_of_files))) (any_words (codes "file"))).top
+check_command = (with_rule (with_looking (with_marks (with_telling (alone check_of_files)))) (any_words (codes "file"))).top
 
 abbrev pub show_with_options : Shape
 show_with_options = command (codes "show")
@@ -79,8 +82,12 @@ show_with_options = command (codes "show")
     ∷ (repeated_option (codes "text")
     ∷ (flag (codes "strict") ∷ []))))
 
+abbrev pub with_loading : App → App
+with_loading app = with_rule (with_rule app (repeated_option (codes "with"))) (repeated_option (codes "function"))
+
 abbrev pub show_command : Shape
-show_command = (with_rule (with_rule (with_rule (alone show_with_options) (one_word (codes "file"))) (one_word (codes "id")))
+show_command =
+    (with_rule (with_rule (with_rule (with_loading (alone show_with_options)) (one_word (codes "file"))) (one_word (codes "id")))
     (any_words (codes "argument"))).top
 
 abbrev pub list_command : Shape

@@ -6,7 +6,7 @@ use Rattle.std.specs.Str.{bytes_eq}
 use Rattle.clap.specs.Walk.{Row, Text, first_of}
 use Rattle.fluent_plural_rules.specs.Languages.{Texts, rules_of}
 use Rattle.fluent_plural_rules.specs.LanguageTable.{cldr_plurals}
-use Rattle.fluent_cli_words.specs.Given.{argument_words, format_named, is_argument, values_of}
+use Rattle.fluent_cli_words.specs.Given.{argument_words, format_named, is_argument, is_given, values_of}
 use Rattle.fluent_cli_words.specs.declared.request.Format.{Format}
 
 abbrev pub tag_fault : Text → Option Texts → Option Text
@@ -30,11 +30,11 @@ abbrev pub kind_names : List Text
 kind_names =
     codes "unreadable" ∷ (codes "id-taken" ∷ (codes "function-id" ∷ (codes "repeated-attribute"
     ∷ (codes "missing-message" ∷ (codes "missing-attribute" ∷ (codes "missing-value" ∷ (codes "missing-term"
-    ∷ (codes "missing-term-attribute" ∷ (codes "missing-function" ∷ (codes "cycle" ∷ (codes "too-many-placeables"
+    ∷ (codes "missing-term-attribute" ∷ (codes "missing-function" ∷ (codes "not-a-function" ∷ (codes "cycle" ∷ (codes "too-many-placeables"
     ∷ (codes "may-open-too-many" ∷ (codes "refers-to-unclean" ∷ (codes "variable-not-given" ∷ (codes "unused-argument" ∷ (codes "not-a-number"
     ∷ (codes "plural-category" ∷ (codes "unused-category" ∷ (codes "repeated-variant" ∷ (codes "not-translated"
     ∷ (codes "not-in-reference" ∷ (codes "unknown-variable" ∷ (codes "variable-left-out" ∷ (codes "term-left-out"
-    ∷ (codes "function-left-out" ∷ [])))))))))))))))))))))))))
+    ∷ (codes "function-left-out" ∷ []))))))))))))))))))))))))))
 
 unfoldable pub is_kind : Text → Bool
 is_kind name = list_any (λ kind. bytes_eq kind name) kind_names
@@ -59,9 +59,18 @@ files_fault rows =
     count_fault (is_some (first_of (codes "translation") rows)) (length (values_of (codes "file") rows))
     (length (values_of (codes "reference") rows))
 
+-- each file is to be checked for itself, and against references with which files are compared together
+abbrev pub each_fault : List Row → Option Text
+each_fault rows =
+    if is_given (codes "each") rows && is_some (first_of (codes "reference") rows)
+    then Some (codes "--each goes without --reference; --translation takes each file for itself")
+    else None
+
 -- the first fault of the words behind `check`, and behind `show`
 abbrev pub check_fault : List Row → Option Text
-check_fault rows = option_or (language_fault rows) (option_or (format_fault rows) (option_or (kind_fault rows) (files_fault rows)))
+check_fault rows =
+    option_or (language_fault rows)
+    (option_or (format_fault rows) (option_or (kind_fault rows) (option_or (files_fault rows) (each_fault rows))))
 
 abbrev pub no_argument : Text → Text
 no_argument word = codes "an argument is NAME=VALUE, and '" ++ (word ++ codes "' is not")

@@ -16,6 +16,9 @@ pub record IsCheck (rows : List Row) (check : CheckRequest) : Type 0 where
   pub format : check.format ≡ format_of rows
   pub is_quiet : check.is_quiet ≡ is_given (codes "quiet") rows
   pub is_strict : check.is_strict ≡ is_given (codes "strict") rows
+  pub is_every : check.is_every ≡ is_given (codes "every") rows
+  pub has_caret : check.has_caret ≡ is_given (codes "caret") rows
+  pub has_color : check.has_color ≡ is_given (codes "color") rows
   pub is_each : check.is_each ≡ is_given (codes "each") rows
   pub has_all_categories : check.has_all_categories ≡ is_given (codes "all-categories") rows
   pub functions : texts check.functions.items ≡ values_of (codes "function") rows
@@ -25,6 +28,8 @@ pub record IsShow (rows : List Row) (show : ShowRequest) : Type 0 where
   pub language : show.language.now ≡ unwrap_or (first_of (codes "language") rows) (codes "en")
   pub is_strict : show.is_strict ≡ is_given (codes "strict") rows
   pub files : texts show.files.items ≡ values_of (codes "file") rows ++ values_of (codes "fallback") rows
+  pub beside : texts show.beside.items ≡ values_of (codes "with") rows
+  pub functions : texts show.functions.items ≡ values_of (codes "function") rows
   pub id : show.id.now ≡ before_first is_dot (id_in rows)
   pub attribute : text_of show.attribute ≡ attribute_in (id_in rows)
   pub arguments : map argument_view show.arguments.items ≡ arguments_in rows

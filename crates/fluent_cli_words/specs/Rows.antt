@@ -21,10 +21,10 @@ given_in words = option_map_or (λ found. found.1) (subcommand_of program words)
 
 -- ---- check
 
--- check --strict --with brand.ftl pl.ftl --reference en.ftl --with=more.ftl --format json - --allow cycle --function F
+-- check --strict --color --with brand.ftl pl.ftl --reference en.ftl --with=more.ftl --format json - --allow cycle --function F
 abbrev checked : List Text
 checked =
-    codes "check" ∷ codes "--strict" ∷ codes "--with" ∷ codes "brand.ftl" ∷ codes "pl.ftl" ∷ codes "--reference" ∷ codes "en.ftl"
+    codes "check" ∷ codes "--strict" ∷ codes "--color" ∷ codes "--with" ∷ codes "brand.ftl" ∷ codes "pl.ftl" ∷ codes "--reference" ∷ codes "en.ftl"
     ∷ codes "--with=more.ftl" ∷ codes "--format" ∷ codes "json" ∷ codes "-" ∷ codes "--allow" ∷ codes "cycle"
     ∷ codes "--function" ∷ codes "F" ∷ []
 
@@ -40,11 +40,12 @@ unfolding clap_on_literals
 check_files = (refl, refl, refl, refl)
 
 check_options : (is_given (codes "strict") (given_in checked) ≡ true) × (is_given (codes "each") (given_in checked) ≡ false)
+    × (is_given (codes "caret") (given_in checked) ≡ false) × (is_given (codes "color") (given_in checked) ≡ true)
     × (is_given (codes "quiet") (given_in checked) ≡ false) × (is_given (codes "all-categories") (given_in checked) ≡ false)
     × (format_of (given_in checked) ≡ format.Json) × (values_of (codes "allow") (given_in checked) ≡ codes "cycle" ∷ [])
     × (values_of (codes "function") (given_in checked) ≡ codes "F" ∷ [])
 unfolding clap_on_literals
-check_options = (refl, refl, refl, refl, refl, refl, refl)
+check_options = (refl, refl, refl, refl, refl, refl, refl, refl, refl)
 
 check_fine : check_fault (given_in checked) ≡ None
 unfolding clap_on_literals is_kind
@@ -92,7 +93,18 @@ too_much : check_fault (given_in (codes "check" ∷ codes "--translation" ∷ co
 unfolding clap_on_literals
 too_much = refl
 
-kinds_there_are : length kind_names ≡ 26
+-- check --each --reference en.ftl pl.ftl
+each_reference : check_fault (given_in (codes "check" ∷ codes "--each" ∷ codes "--reference" ∷ codes "en.ftl" ∷ codes "pl.ftl" ∷ []))
+    ≡ Some (codes "--each goes without --reference; --translation takes each file for itself")
+unfolding clap_on_literals
+each_reference = refl
+
+-- check --each pl.ftl
+each_alone : check_fault (given_in (codes "check" ∷ codes "--each" ∷ codes "pl.ftl" ∷ [])) ≡ None
+unfolding clap_on_literals
+each_alone = refl
+
+kinds_there_are : length kind_names ≡ 27
 kinds_there_are = refl
 
 fault_said : fault_text (codes "no") ≡ codes "error: no\n\nFor more information, try '--help'.\n"
@@ -121,6 +133,16 @@ no_value : show_fault (given_in (codes "show" ∷ codes "pl.ftl" ∷ codes "abou
     ≡ Some (codes "an argument is NAME=VALUE, and 'n' is not")
 unfolding clap_on_literals
 no_value = refl
+
+-- show --with brand.ftl --function F pl.ftl about --function G
+abbrev pub loaded : List Row
+loaded =
+    given_in (codes "show" ∷ codes "--with" ∷ codes "brand.ftl" ∷ codes "--function" ∷ codes "F" ∷ codes "pl.ftl" ∷ codes "about"
+    ∷ codes "--function" ∷ codes "G" ∷ [])
+
+show_loaded : (values_of (codes "with") loaded ≡ codes "brand.ftl" ∷ []) × (values_of (codes "function") loaded ≡ codes "F" ∷ codes "G" ∷ [])
+unfolding clap_on_literals
+show_loaded = (refl, refl)
 
 no_attribute_named : attribute_in (codes "about") ≡ None
 no_attribute_named = refl

@@ -33,7 +33,7 @@ reference_names (request.List list) = []
 -- the names of those that are loaded with each of the others
 abbrev pub beside_names : Request → List (Bor Text)
 beside_names (request.Check check) = check.beside.items
-beside_names (request.Show show) = []
+beside_names (request.Show show) = show.beside.items
 beside_names (request.List list) = []
 
 -- ---- what is said in place of a request

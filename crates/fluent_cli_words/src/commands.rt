@@ -2,13 +2,21 @@
 
 ghost use Rattle.std.specs.Prelude.{IfOk};
 ghost use Rattle.clap.specs.Words.{App, Rule, with_rule, with_subcommand};
-ghost use Rattle.fluent_cli_words.specs.Commands.{IsArgument, Reads, alone, any_words, bare_program, check_command, check_of_files, flag, list_command, one_word, option, program, repeated_option, show_command, show_with_options, some_words, with_looking, with_telling};
+ghost use Rattle.fluent_cli_words.specs.Commands.{IsArgument, Reads, alone, any_words, bare_program, check_command, check_of_files, flag, list_command, one_word, option, program, repeated_option, show_command, show_with_options, some_words, with_loading, with_looking, with_marks, with_telling};
 
 use clap::{Arg, ArgAction, Command};
 use std::alloc::{AllocError, Global};
 
 /// The version of the program.
 const VERSION: &str = "0.1.0";
+
+/// What `--allow` takes: the names of all kinds of findings.
+const KINDS_HELP: &str = "A kind of finding that is not told (may be given again), one of{n}\
+    unreadable, id-taken, function-id, repeated-attribute, repeated-variant,{n}\
+    missing-message, missing-attribute, missing-value, missing-term, missing-term-attribute,{n}\
+    missing-function, not-a-function, cycle, too-many-placeables, may-open-too-many, refers-to-unclean,{n}\
+    variable-not-given, unused-argument, not-a-number, plural-category, unused-category,{n}\
+    not-translated, not-in-reference, unknown-variable, variable-left-out, term-left-out, function-left-out";
 
 /// An option with a value.
 fn option<'a>(alloc: Global, name: &'a str, value: &'a str, help: &'a str) -> Arg<'a>
@@ -134,15 +142,43 @@ fn with_telling<'a>(alloc: Global, command: Command<'a>) -> Result<Command<'a>, 
         "FORMAT",
         "How findings are written: text, json, github or sarif [default: text]",
     );
-    let quiet = flag(alloc, "quiet", "Tells errors alone, without the counts");
+    let quiet = flag(
+        alloc,
+        "quiet",
+        "Tells only what makes the status 1, without the counts",
+    );
     let strict = flag(
         alloc,
         "strict",
         "Ends with status 1 where there is a warning, too",
     );
+    let every = flag(
+        alloc,
+        "every",
+        "Tells each finding, also where the first three with one cause would stand for all",
+    );
     let command = with_argument(command, format)?;
     let command = with_argument(command, quiet)?;
-    with_argument(command, strict)
+    let command = with_argument(command, strict)?;
+    with_argument(command, every)
+}
+
+/// Adds how findings look where they are read on a screen.
+fn with_marks<'a>(alloc: Global, command: Command<'a>) -> Result<Command<'a>, AllocError>
+    ensures { IfOk result (λ c. (app : App) → Reads app command.entry → Reads (with_marks app) c) }
+{
+    let caret = flag(
+        alloc,
+        "caret",
+        "Shows below each finding its line, with a mark under the place",
+    );
+    let color = flag(
+        alloc,
+        "color",
+        "Colors errors and warnings, as a terminal shows them",
+    );
+    let command = with_argument(command, caret)?;
+    with_argument(command, color)
 }
 
 /// Adds what `check` looks for.
@@ -165,12 +201,7 @@ fn with_looking<'a>(alloc: Global, command: Command<'a>) -> Result<Command<'a>, 
         "NAME",
         "A function that the application adds (may be given again)",
     );
-    let allow = repeated_option(
-        alloc,
-        "allow",
-        "KIND",
-        "A kind of finding that is not told, as 'unused-category' (may be given again)",
-    );
+    let allow = repeated_option(alloc, "allow", "KIND", KINDS_HELP);
     let command = with_argument(command, each)?;
     let command = with_argument(command, all_categories)?;
     let command = with_argument(command, function)?;
@@ -181,6 +212,7 @@ fn check_command<'a>(alloc: Global) -> Result<Command<'a>, AllocError>
     ensures { IfOk result (Reads (alone check_command)) }
 {
     let command = with_telling(alloc, check_of_files(alloc)?)?;
+    let command = with_marks(alloc, command)?;
     let command = with_looking(alloc, command)?;
     let files = any_words(
         alloc,
@@ -227,10 +259,30 @@ fn show_with_options<'a>(alloc: Global) -> Result<Command<'a>, AllocError>
     with_argument(command, strict)
 }
 
+/// Adds what an application loads and adds beside the files.
+fn with_loading<'a>(alloc: Global, command: Command<'a>) -> Result<Command<'a>, AllocError>
+    ensures { IfOk result (λ c. (app : App) → Reads app command.entry → Reads (with_loading app) c) }
+{
+    let with = repeated_option(
+        alloc,
+        "with",
+        "FILE",
+        "A file or folder that is loaded with each of the others, as that of a brand's terms (may be given again)",
+    );
+    let function = repeated_option(
+        alloc,
+        "function",
+        "NAME",
+        "A function that the application adds: what it gives is shown as NAME() (may be given again)",
+    );
+    let command = with_argument(command, with)?;
+    with_argument(command, function)
+}
+
 fn show_command<'a>(alloc: Global) -> Result<Command<'a>, AllocError>
     ensures { IfOk result (Reads (alone show_command)) }
 {
-    let command = show_with_options(alloc)?;
+    let command = with_loading(alloc, show_with_options(alloc)?)?;
     let file = one_word(alloc, "file", "FILE", "The file of the message");
     let id = one_word(
         alloc,

@@ -2,13 +2,13 @@
 
 ghost use Rattle.std.specs.Prelude.{◌≡◌, IfOk, find, not, option_map, string_bytes};
 ghost use Rattle.clap.specs.Words.{HasKind, Kinds, found_of, kind_of, rows_of};
-ghost use Rattle.fluent_cli_words.specs.Faults.{check_fault, files_fault, format_fault, kind_fault, language_fault, show_fault};
+ghost use Rattle.fluent_cli_words.specs.Faults.{check_fault, each_fault, files_fault, format_fault, kind_fault, language_fault, show_fault};
 ghost use Rattle.fluent_cli_words.specs.Given.{is_argument, texts};
 ghost use Rattle.fluent_cli_words.specs.Words.{Refuses, Tells, TellsOneOf};
 
 use crate::kinds::no_kind;
 use crate::request::{Asked, Format};
-use crate::values::{add_values, value, values};
+use crate::values::{add_values, is_given, value, values};
 use clap::error::ErrorKind;
 use clap::{ArgMatches, Error};
 use fluent_plural_rules::{cldr_plurals, rules_for};
@@ -99,6 +99,17 @@ fn files_fault(alloc: Global, matches: &ArgMatches<'_>) -> Result<Option<String>
     Ok(Some(String::from_str(alloc, why)?))
 }
 
+/// Why `--each` is refused: it stands beside references, with which files are compared together.
+fn each_fault(alloc: Global, matches: &ArgMatches<'_>) -> Result<Option<String>, AllocError>
+    ensures { IfOk result (λ why. option_map string_bytes why ≡ each_fault (rows_of (found_of matches.now))) }
+{
+    if is_given(matches, "each") && value(matches, "reference").is_some() {
+        let why = "--each goes without --reference; --translation takes each file for itself";
+        return Ok(Some(String::from_str(alloc, why)?));
+    }
+    Ok(None)
+}
+
 /// Why the words after `check` are refused.
 pub fn check_fault(alloc: Global, matches: &ArgMatches<'_>) -> Result<Option<String>, AllocError>
     ensures { IfOk result (λ why. option_map string_bytes why ≡ check_fault (rows_of (found_of matches.now))) }
@@ -112,7 +123,10 @@ pub fn check_fault(alloc: Global, matches: &ArgMatches<'_>) -> Result<Option<Str
     if let Some(why) = kind_fault(alloc, matches)? {
         return Ok(Some(why));
     }
-    files_fault(alloc, matches)
+    if let Some(why) = files_fault(alloc, matches)? {
+        return Ok(Some(why));
+    }
+    each_fault(alloc, matches)
 }
 
 /// Whether a word is NAME=VALUE.

@@ -7,7 +7,7 @@ ghost use Rattle.fluent_cli_words.specs.Faults.{is_kind};
 ghost use Rattle.fluent_cli_words.specs.Given.{texts};
 
 /// The names of the kinds of findings.
-pub const KINDS: [&str; 26] = [
+pub const KINDS: [&str; 27] = [
     "unreadable",
     "id-taken",
     "function-id",
@@ -18,6 +18,7 @@ pub const KINDS: [&str; 26] = [
     "missing-term",
     "missing-term-attribute",
     "missing-function",
+    "not-a-function",
     "cycle",
     "too-many-placeables",
     "may-open-too-many",

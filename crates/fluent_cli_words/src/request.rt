@@ -25,10 +25,15 @@ pub struct CheckRequest<'w> {
     /// A folder, of which each file is checked against that of its path in the folder of references.
     pub translation: Option<&'w str>,
     pub format: Format,
-    /// Whether the counts are left out.
+    /// Whether only what makes the status 1 is told.
     pub is_quiet: bool,
     /// Whether warnings count as errors do.
     pub is_strict: bool,
+    /// Whether each finding is told, also where others have its cause.
+    pub is_every: bool,
+    /// Whether the line of each finding is shown, with a mark under the place.
+    pub has_caret: bool,
+    pub has_color: bool,
     /// Whether each file is checked for itself.
     pub is_each: bool,
     /// Whether plural categories of fractions alone are asked for.
@@ -59,6 +64,10 @@ pub struct ShowRequest<'w> {
     pub is_strict: bool,
     /// The file, and after it its fallbacks.
     pub files: Vec<&'w str>,
+    /// Files and folders that are loaded with each of the others, as those of a brand's terms.
+    pub beside: Vec<&'w str>,
+    /// Functions that the application adds.
+    pub functions: Vec<&'w str>,
     pub id: &'w str,
     pub attribute: Option<&'w str>,
     pub arguments: Vec<Argument<'w>>,
@@ -136,7 +145,8 @@ impl<'w> Request<'w> {
     {
         match self {
             Request::Check(request) => request.beside.as_slice(),
-            _ => &[],
+            Request::Show(request) => request.beside.as_slice(),
+            Request::List(_) => &[],
         }
     }
 }

@@ -26,10 +26,14 @@ use Rattle.fluent_check.specs.declared.checking.Settings.{Settings}
 use Rattle.fluent_check.specs.declared.finding.Finding.{Finding}
 
 -- what is wrong in the patterns of places
-pub record AddsPatterns (named : Names Text) (functions : List Text) (c : Categories) (ss : List Standing) (old new : Vec Finding Global) : Type 0 where
+pub record AddsPatterns (named there : Names Text) (functions : List Text) (c : Categories) (ss : List Standing) (old new : Vec Finding Global) : Type 0 where
   pub asks : Place → Text → Bool
   pub right : AllByRecursion (TellsAskedAt named asks) (map place_of ss)
-  pub found_is : found_in new ≡ found_in old ++ (found_in_patterns (record { named = named; functions = functions; asks = asks }) ss ++ found_selects named c ss)
+  pub found_is : found_in new ≡ found_in old ++ (found_in_patterns (record { named = named; functions = functions; asks = asks }) ss ++ found_selects named there c ss)
+
+-- the same, where the application adds the functions of settings
+abbrev pub AddsPatternsBy : Settings → Names Text → Names Text → Categories → List Standing → Vec Finding Global → Vec Finding Global → Type 0
+AddsPatternsBy settings named there c ss = AddsPatterns named there (texts settings.functions.now) c ss
 
 -- the differences from references, where there are any
 pub record AddsAllDifferences (g : Group) (named : Names Text) (ss : List Standing) (old new : Vec Finding Global) : Type 0 where

@@ -1,11 +1,15 @@
 -- What single steps read.
-use Rattle.std.specs.Prelude.{◌≡◌, ℕ, true, false, List, [], ◌∷◌, ◌++◌, map, Option, Some, None, Result, Ok, Err, is_some, unwrap_or}
+use Rattle.std.specs.Prelude.{◌≡◌, ℕ, true, false, List, [], ◌∷◌, ◌++◌, map, Option, Some, None, Result, Ok, Err, is_some}
 use Rattle.std.specs.Borrow.{Bor}
 use Rattle.std.specs.Str.{is_utf8}
+use Rattle.std.specs.declared.vec.Vec.{Vec}
+use Rattle.std.proofs.Common.{Global}
 use Rattle.fluent_ast.specs.Tree.{Text}
 use Rattle.fluent_check.specs.Reading.{AreRead, read_view}
 use Rattle.fluent_check.specs.declared.source.Source.{Source}
 use Rattle.fluent_cli.specs.Files.{bad_byte, fault_by, read_by, read_of, readable_pairs, without_mark}
+use Rattle.fluent_cli_report.specs.Unread.{Unread, unread_views}
+use Rattle.fluent_cli_report.specs.declared.unread.UnreadFile.{UnreadFile}
 use Rattle.fluent_cli.specs.declared.reading.File.{File}
 use Rattle.fluent_cli.specs.declared.reading.Inputs.{Inputs}
 
@@ -22,12 +26,9 @@ ReadsBy name contents None = is_some (fault_by name contents) ≡ true
 abbrev pub ReadsFile : File → Option Source → Type 0
 ReadsFile file = ReadsBy file.name.now file.contents
 
--- what is said of it
-abbrev pub says_by : Text → Result (Bor (List ℕ)) (Bor Text) → Text
-says_by name contents = unwrap_or (fault_by name contents) []
-
-abbrev pub says : File → Text
-says file = says_by file.name.now file.contents
+-- more can't be read
+abbrev pub AddsUnread : List Unread → Vec UnreadFile Global → Vec UnreadFile Global → Type 0
+AddsUnread more old new = unread_views new.items ≡ unread_views old.items ++ more
 
 -- these were read of the first and of the second files of pairs
 abbrev pub AreReadPairs : List (File × File) → Inputs → Type 0

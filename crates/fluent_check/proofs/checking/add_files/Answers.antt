@@ -1,7 +1,8 @@
-use Rattle.std.proofs.Common.{◌≡◌, ◌∙◌, ap, map}
+use Rattle.std.proofs.Common.{◌≡◌, ◌∙◌, ap, codes, map}
 use Rattle.fluent_lint.specs.Clean.{names_of}
 use Rattle.fluent_check.specs.Bundles.{bundle_view}
 use Rattle.fluent_check.specs.CategoryView.{categories_view}
+use Rattle.fluent_check.specs.Differences.{reference_names}
 use Rattle.fluent_check.specs.Groups.{entries_loaded, group_view, loaded}
 use Rattle.fluent_check.specs.Languages.{all_of}
 use Rattle.fluent_check.specs.Looks.{bundle_in, places_in, standings_loaded}
@@ -20,8 +21,9 @@ returns-clause-looks c =
     let places = c.in_ok-places.places in
     let b_is : b ≡ bundle_in settings g = c.in_ok-bundle.ensures ∙ ap (λ t. all_of t (entries_loaded g)) c.tag_of.ensures in
     let all : map standing_view c.as_slice-2.result.now ≡ standings_loaded g = ap (map standing_view) c.as_slice-2.ensures.value ∙ c.in_ok-standings.ensures in
+    let there_is : names_of (bundle_view c.in_ok-english.english) ≡ reference_names g = ap names_of (c.in_ok-english.ensures ∙ ap (λ h. all_of (codes "en") (entries_loaded h)) c.alone-references.ensures) in
     one_look settings g c.args.findings.now c.add_names.new.findings c.add_of_patterns.new.findings c.add_compared.new.findings c.add_linted.new.findings
-    c.add_linted.result b (categories_view c.args.categories.now) (map standing_view c.as_slice.result.now) (standings places.list) b_is c.requires
+    c.add_linted.result b (names_of (bundle_view c.in_ok-english.english)) (categories_view c.args.categories.now) (map standing_view c.as_slice.result.now) (standings places.list) b_is there_is c.requires
     (ap (map standing_view) c.as_slice.ensures.value ∙ c.in_ok-standings.ensures)
     (c.in_ok-places.ensures.list ∙ (ap (places_of (names_of b)) all ∙ ap (λ d. places_of (names_of d) (standings_loaded g)) b_is))
     c.in_ok-add_names.ensures c.in_ok-add_of_patterns.ensures c.in_ok-add_compared.ensures c.add_linted.ensures.linted
@@ -37,3 +39,7 @@ returns-clause-clean c =
     clean_ok c.add_linted.result (tag_of settings.language) (loaded g) b (standings places.list) b_is
     (c.in_ok-places.ensures.list ∙ (ap (places_of (names_of b)) all ∙ ap (λ d. places_of (names_of d) (standings_loaded g)) b_is))
     c.add_linted.ensures.clean
+
+pub add_compared-requires-clause-english : goal.add_compared-requires-clause-english
+add_compared-requires-clause-english c =
+    ap names_of (c.in_ok-english.ensures ∙ ap (λ h. all_of (codes "en") (entries_loaded h)) c.alone-references.ensures)

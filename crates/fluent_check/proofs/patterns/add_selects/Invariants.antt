@@ -9,5 +9,5 @@ use Rattle.fluent_check.proofs.patterns.add_selects.Given as goal
 
 abbrev pub invariant-loop-standing : goal.invariant-loop-standing
 invariant-loop-standing l =
-    found_in l.findings ++ found_selects (names_of (bundle_view l.bundle)) (categories_view l.categories) (map standing_view (drop l.standing-index l.standing-items))
-    ≡ found_in l.initial.findings ++ found_selects (names_of (bundle_view l.bundle)) (categories_view l.categories) (map standing_view l.standing-items)
+    found_in l.findings ++ found_selects (names_of (bundle_view l.bundle)) (names_of (bundle_view l.reference)) (categories_view l.categories) (map standing_view (drop l.standing-index l.standing-items))
+    ≡ found_in l.initial.findings ++ found_selects (names_of (bundle_view l.bundle)) (names_of (bundle_view l.reference)) (categories_view l.categories) (map standing_view l.standing-items)

@@ -1,7 +1,7 @@
 use Rattle.std.proofs.Common.{◌∙◌, sym, subst}
 use Rattle.std.specs.Prelude.{is_some}
 use Rattle.fluent_check.specs.Faultless.{AreFaultlessBy, tag_of}
-use Rattle.fluent_check.specs.Reading.{entries_read, texts_read}
+use Rattle.fluent_check.specs.Reading.{entries_read}
 use Rattle.fluent_cli_words.specs.declared.request.Request.TheVariants as request
 use Rattle.fluent_cli.specs.Checked.{grouping_of, status_by}
 use Rattle.fluent_cli.specs.Clean.{IsFaultless, entries_in}
@@ -13,7 +13,7 @@ pub returns : goal.returns
 returns c = λ check beside files references answer runs fine none.
     let all = readable (is_some check.translation) beside files references in
     let inputs = runs.inputs in
-    let gives = fine_gives (texts_read inputs.sources) all.faults (request.Check check) inputs answer runs.gives fine in
+    let gives = fine_gives (request.Check check) inputs all.unread answer runs.gives fine in
     let checked = gives.gives in
     let found = checked.found in
     let finds = checked.finds in
@@ -21,7 +21,7 @@ returns c = λ check beside files references answer runs fine none.
     let tag = tag_of check.language in
     let beside_read = entries_read inputs.beside in
     record {
-      faults = gives.none;
+      unread = gives.none;
       faultless = subst (λ others. AreFaultlessBy (grouping_of check) tag others (entries_in all.files)) runs.has_read.beside.entries
           (subst (λ own. AreFaultlessBy (grouping_of check) tag beside_read own) runs.has_read.files.entries
           (subst (λ grouping. AreFaultlessBy grouping tag beside_read (entries_read inputs.sources)) finds.set.grouping

@@ -7,5 +7,5 @@ use Rattle.fluent_cli_report.proofs.json.objects_of.Given as goal
 
 abbrev pub invariant-loop-row : goal.invariant-loop-row
 invariant-loop-row l =
-    map view l.list.items ++ map json_row (told l.is_quiet (row_views (drop l.row-index l.rows)))
-    ≡ map json_row (told l.is_quiet (row_views l.rows))
+    map view l.list.items ++ map json_row (told l.is_little (row_views (drop l.row-index l.rows)))
+    ≡ map json_row (told l.is_little (row_views l.rows))

@@ -5,5 +5,5 @@ use Rattle.fluent_cli_report.proofs.report.put_github.Given as goal
 
 abbrev pub invariant-loop-row : goal.invariant-loop-row
 invariant-loop-row l =
-    string_bytes l.output ++ flat_map (if_told github_line l.is_quiet) (row_views (drop l.row-index l.rows))
-    ≡ string_bytes l.initial.output ++ flat_map (if_told github_line l.is_quiet) (row_views l.rows)
+    string_bytes l.output ++ flat_map (if_told github_line l.is_little) (row_views (drop l.row-index l.rows))
+    ≡ string_bytes l.initial.output ++ flat_map (if_told github_line l.is_little) (row_views l.rows)

@@ -3,6 +3,10 @@ use Rattle.fluent_cli_words.proofs.commands.with_telling.Goals as goal
 
 pub returns : goal.returns
 returns c =
-    IfOk-weaker c.with_argument-3.result _ _
-    (λ command adds app reads. adds _ _ (c.in_ok-command-2.ensures _ _ (c.in_ok-command.ensures app _ reads c.option-format.ensures) c.flag-quiet.ensures) c.flag-strict.ensures)
-    c.with_argument-3.ensures
+    IfOk-weaker c.with_argument-4.result _ _
+    (λ command adds app reads.
+    let format = c.in_ok-command.ensures app _ reads c.option-format.ensures in
+    let quiet = c.in_ok-command-2.ensures _ _ format c.flag-quiet.ensures in
+    let strict = c.in_ok-command-3.ensures _ _ quiet c.flag-strict.ensures in
+    adds _ _ strict c.flag-every.ensures)
+    c.with_argument-4.ensures

@@ -1,0 +1,11 @@
+-- A bundle of each resource, by its entries.
+use Rattle.std.proofs.Common.{◌≡◌, List, [], ◌∷◌, map, refl, ap}
+use Rattle.fluent_ast.specs.Tree.{Text, Entry}
+use Rattle.fluent_bundle.specs.declared.resource.FluentResource.{FluentResource}
+use Rattle.fluent_check.specs.Bundles.{entries_of_all, resource_bundle}
+use Rattle.fluent_check.specs.Languages.{bundle_with}
+
+pub each_loaded : (tag : Text) (functions : List Text) (beside : List (List Entry)) (rs : List FluentResource)
+    → map (resource_bundle tag functions beside) rs ≡ map (bundle_with tag functions beside) (entries_of_all rs)
+each_loaded tag functions beside [] = refl
+each_loaded tag functions beside (r ∷ rs) = ap (λ bundles. resource_bundle tag functions beside r ∷ bundles) (each_loaded tag functions beside rs)
