@@ -105,8 +105,16 @@ static void closed(void) {
 }
 
 static void opened(void) {
-    check(fluent_open(&bundle, TEXT("xx"), false) == FLUENT_NO_LANGUAGE, "opens no language");
-    check(!bundle.is_open, "open for no language");
+    check(fluent_open(&bundle, TEXT("xx"), false) == FLUENT_NO_LANGUAGE && bundle.is_open, "another status of no language");
+    check(fluent_add(&bundle, TEXT("a = { 1 ->\n    [one] one\n   *[other] other\n }\n")) == FLUENT_OK, "does not add");
+    check(format("a", "other") == FLUENT_OK, "a number of no language is not other");
+    fluent_close(&bundle);
+    check(fluent_open(&bundle, TEXT("en-Latn-US-x-abcdefgh-abcdefgh-abcd"), false) == FLUENT_OK, "35 bytes are too long");
+    fluent_close(&bundle);
+    check(fluent_open(&bundle, TEXT("en-Latn-US-x-abcdefgh-abcdefgh-abcde"), false) == FLUENT_NO_LANGUAGE,
+          "36 bytes are a language");
+    fluent_close(&bundle);
+    check(fluent_open(&bundle, TEXT("\xff"), false) == FLUENT_LANGUAGE_NOT_UTF8 && !bundle.is_open, "opens no text");
     check(fluent_open(&bundle, TEXT("en"), false) == FLUENT_OK, "does not open");
     check(fluent_add(&bundle, FIRST) == FLUENT_OK, "does not add");
     check(fluent_open(&bundle, TEXT("en"), false) == FLUENT_OPEN_BUNDLE, "opens twice");

@@ -8,7 +8,7 @@ class Lengths(ctypes.Structure):
 
 
 class Handle(ctypes.Structure):
-    _fields_ = [("at", ctypes.c_void_p), ("is_open", ctypes.c_bool)]
+    _fields_ = [("at", ctypes.c_void_p), ("is_open", ctypes.c_bool), ("asks", ctypes.c_void_p)]
 
 
 library = ctypes.CDLL(sys.argv[1])

@@ -26,25 +26,28 @@ extern "C" {
 #endif
 
 /* The version of this header, and of the library that is called. */
-#define FLUENT_VERSION "0.1.0"
+#define FLUENT_VERSION "0.2.0"
 const char *fluent_version(void);
 
-/* What a call answers. From FLUENT_NO_MEMORY on no buffer is written, and each length is 0. */
+/* What a call answers. From FLUENT_NO_MEMORY on no buffer is written, and each length is 0, but at FLUENT_ASKS. */
 enum fluent_status {
     FLUENT_OK = 0,                    /* the text and the lines of its errors are in their buffers */
     FLUENT_TOO_SMALL = 1,             /* the lengths are written; where there is less room, a buffer stays */
     FLUENT_NO_MEMORY = 2,             /* malloc or realloc answered null */
     FLUENT_SOURCE_NOT_UTF8 = 3,       /* told before any memory is taken */
     FLUENT_LANGUAGE_NOT_UTF8 = 4,     /* the tag, or a text of plural rules */
-    FLUENT_NO_LANGUAGE = 5,           /* the Unicode CLDR has no plural rules for the tag */
+    FLUENT_NO_LANGUAGE = 5,           /* the Unicode CLDR has no plural rules for the tag: the bundle is open all the same */
     FLUENT_BAD_RULES = 6,             /* the plural rules can't be read */
     FLUENT_ID_NOT_UTF8 = 7,           /* the id, or the name of the attribute */
     FLUENT_NO_MESSAGE = 8,            /* no such message with a value, or with that attribute */
-    FLUENT_ARGUMENTS_CUT = 9,         /* the arguments are cut short, or one begins with no kind of value */
+    FLUENT_ARGUMENTS_CUT = 9,         /* the arguments, or answers, are cut short, or one begins with no kind of value */
     FLUENT_ARGUMENTS_NOT_UTF8 = 10,   /* the name or the value of one of them */
     FLUENT_CLOSED_BUNDLE = 11,        /* the bundle is not open */
     FLUENT_OPEN_BUNDLE = 12,          /* the bundle is open, and stays as it was */
-    FLUENT_OUT_OF_RANGE = 13          /* the limit is 0 or above 10,000, and the bundle stays as it was */
+    FLUENT_OUT_OF_RANGE = 13,         /* the limit is 0 or above 10,000, and the bundle stays as it was */
+    FLUENT_ASKS = 14,                 /* of fluent_format_asking: the question is in the buffer of the text */
+    FLUENT_ID_TAKEN = 15,             /* something has the id, and the bundle stays as it was */
+    FLUENT_FUNCTION_FAILED = 16       /* a function of the program said so, or is not registered */
 };
 
 /* How many bytes a text has, and the lines of its errors. */
@@ -55,7 +58,7 @@ struct fluent_lengths {
 
 /* Formats the value of a message of a source, or its attribute where the length of the attribute's name is not 0.
 
-   language    a tag such as "en" or "pt-PT", whose plural rules choose
+   language    a tag such as "en" or "pt-PT", whose plural rules choose; where there are none, each number is "other"
    isolate     whether placeables stand between U+2068 and U+2069
    source      FTL; what can't be read in it is passed over, and so is a message or a term whose id stands in it before
    arguments   one after the other, as fluent_put_argument writes them; the last of a repeated name stands
@@ -73,12 +76,18 @@ uint8_t fluent_format_source(const uint8_t *language, size_t language_length, bo
 struct fluent_bundle {
     uint8_t *at;
     bool is_open;
+    struct fluent_asks *asks; /* what the program registered for it */
 };
 
-#define FLUENT_CLOSED {NULL, false}
+#define FLUENT_CLOSED {NULL, false, NULL}
 
-/* Opens a bundle that is closed, for the plural rules of a language: FLUENT_OK, or it stays closed. */
+/* Opens a bundle that is closed, for the plural rules of a language: FLUENT_OK, or FLUENT_NO_LANGUAGE where the Unicode
+   CLDR has no rules for the tag. Then the bundle is open too, and each number is "other" in it. So it is of every tag of
+   more than 35 bytes. Else it stays closed. */
 uint8_t fluent_open(struct fluent_bundle *bundle, const uint8_t *language, size_t language_length, bool isolate);
+
+/* The same without the function NUMBER. */
+uint8_t fluent_open_bare(struct fluent_bundle *bundle, const uint8_t *language, size_t language_length, bool isolate);
 
 /* Opens a bundle that is closed, for the plural rules of two texts, which are written as in the Unicode CLDR: a rule on each
    line, such as "one: i = 1 and v = 0". A text may be empty: what no rule takes is "other". FLUENT_OK, or it stays closed. */
@@ -87,6 +96,9 @@ uint8_t fluent_open_rules(struct fluent_bundle *bundle, const uint8_t *cardinal,
 
 /* Sets how many placeables one call opens, 1 to 10,000; a bundle opens with 100. FLUENT_OK or FLUENT_OUT_OF_RANGE. */
 uint8_t fluent_set_limit(struct fluent_bundle *bundle, size_t limit);
+
+/* Adds the function NUMBER to a bundle that was opened without it: FLUENT_OK or FLUENT_ID_TAKEN. */
+uint8_t fluent_add_builtins(struct fluent_bundle *bundle);
 
 /* Adds a source, of which the bundle takes a copy: FLUENT_OK, or nothing was added. What can't be read in it is passed over,
    and so is a message or a term whose id is there; fluent_report tells what was passed over. */
@@ -119,9 +131,9 @@ uint8_t fluent_has(struct fluent_bundle *bundle, const uint8_t *id, size_t id_le
 uint8_t fluent_find(struct fluent_bundle *bundle, const uint8_t *id, size_t id_length, const uint8_t *attribute,
                     size_t attribute_length);
 
-/* Formats the value of a message of the bundle, or its attribute, as fluent_format_source does. The bundle stays as it was.
-   Of several causes the first is told: FLUENT_CLOSED_BUNDLE, FLUENT_ID_NOT_UTF8, FLUENT_NO_MESSAGE, and then the first fault of
-   the arguments. */
+/* Formats the value of a message of the bundle, or its attribute, as fluent_format_source does. The bundle stays as it
+   was. Of several causes the first is told: FLUENT_CLOSED_BUNDLE, FLUENT_ID_NOT_UTF8, FLUENT_NO_MESSAGE, and then the
+   first fault of the arguments. */
 uint8_t fluent_format(struct fluent_bundle *bundle, const uint8_t *id, size_t id_length, const uint8_t *attribute,
                       size_t attribute_length, const uint8_t *arguments, size_t arguments_length, uint8_t *out,
                       size_t out_room, uint8_t *err, size_t err_room, struct fluent_lengths *lengths);
@@ -153,9 +165,19 @@ uint8_t fluent_find_chain(struct fluent_bundle *bundles, size_t count, const uin
 /* Gives back all memory of the bundle, which is closed then. Nothing happens where it is closed. */
 void fluent_close(struct fluent_bundle *bundle);
 
-/* The kinds of values: a text, or the text of a number, which keeps the digits after its point. A text that is no number
-   is taken as a text. */
-enum fluent_kind { FLUENT_TEXT = 't', FLUENT_NUMBER = 'n' };
+/* The kinds of values, of arguments as of what functions are asked and answer.
+
+   FLUENT_TEXT     a text
+   FLUENT_NUMBER   the text of a number, which keeps the digits after its point, and its options, if it has some: behind
+                   a ";" come key=value pairs, parted by ";", with the keys and values of the function NUMBER, and
+                   currency= last, as in "1.50;style=currency;currency=EUR". Where the first of them is empty, as in
+                   "1.50;", the digits after the point are no minimum. A text that is no number is taken as a text.
+   FLUENT_OWN      a value of the program's own, such as a date: a token that the program chooses, a line feed, and the text
+                   that the value is shown as. Functions and formatters get it as it is, so they find their object by the
+                   token. It takes no variant.
+   FLUENT_NONE     no value, and no text
+   FLUENT_ERROR    an error, and no text */
+enum fluent_kind { FLUENT_TEXT = 't', FLUENT_NUMBER = 'n', FLUENT_OWN = 'c', FLUENT_NONE = 'o', FLUENT_ERROR = 'e' };
 
 /* How many bytes an argument takes: its kind, and its name and its value, each after its length in four bytes, the lowest
    first. */
@@ -178,6 +200,130 @@ static inline uint8_t *fluent_put_argument(uint8_t *at, enum fluent_kind kind, c
     *at = (uint8_t)kind;
     return fluent_put_sized(fluent_put_sized(at + 1, name, name_length), value, value_length);
 }
+
+/* ---- functions of the program
+
+   A message calls a function by its name, as in { DATE($now, month: "long") }. This one answers by the C library:
+
+       static bool date(void *user, const struct fluent_call *call, struct fluent_answer *answer) {
+           char text[64];
+           time_t at = *(const time_t *)user;
+           const struct fluent_value *month = fluent_named(call, "month");
+           bool is_long = month && month->length == 4 && !memcmp(month->text, "long", 4);
+           size_t length = strftime(text, sizeof text, is_long ? "%B %e" : "%x", localtime(&at));
+           fluent_answer(answer, FLUENT_TEXT, text, length);
+           return true;
+       }
+
+       fluent_add_function(&bundle, (const uint8_t *)"DATE", 4, date, &now);
+
+   Formatting a message asks a function once for each different call, with its positional and its named arguments, and
+   then goes on with what it answered. A text that asks k different questions is formatted k + 1 times, so a function must
+   give equal answers to equal questions while one text is made. A function may format messages itself, also of the same
+   bundle. It may not close that bundle. */
+
+/* A value that is asked about, whose texts last as long as the call of the function. The name is that of a named argument. */
+struct fluent_value {
+    enum fluent_kind kind;
+    const uint8_t *name;
+    size_t name_length;
+    const uint8_t *text;
+    size_t length;
+};
+
+/* The arguments of a function: positional ones in order, and named ones in the order of their names' bytes. */
+struct fluent_call {
+    const struct fluent_value *positional;
+    size_t positional_count;
+    const struct fluent_value *named;
+    size_t named_count;
+};
+
+/* Where the answer goes, and how: its text is copied, and of several answers the last stands. */
+struct fluent_answer;
+void fluent_answer(struct fluent_answer *answer, enum fluent_kind kind, const void *text, size_t length);
+
+/* A function: it answers, and gives true. Without an answer it has no value (FLUENT_NONE). False says that it failed:
+   then no text is made, and the call that formats gives FLUENT_FUNCTION_FAILED. */
+typedef bool fluent_function(void *user, const struct fluent_call *call, struct fluent_answer *answer);
+
+/* A formatter: it is asked about each value that is placed in a text, but not about one that chooses a variant, nor about
+   the whole text. Where it doesn't answer a text, the value is shown as usual. */
+typedef bool fluent_formatter(void *user, const struct fluent_value *value, struct fluent_answer *answer);
+
+/* A transform: it is asked about each text element of a pattern, as for a pseudolocale. Where it doesn't answer a text,
+   the element stays as it is. */
+typedef bool fluent_transform(void *user, const uint8_t *text, size_t length, struct fluent_answer *answer);
+
+/* Registers a function under a free id: FLUENT_OK, or FLUENT_ID_TAKEN, and the bundle stays. A message, a term or a
+   function may have the id, such as NUMBER. user is handed to the function. A message that is added later has to have
+   another id, unless it overrides. */
+uint8_t fluent_add_function(struct fluent_bundle *bundle, const uint8_t *name, size_t name_length,
+                            fluent_function *function, void *user);
+
+/* The same in place of what has the id, also NUMBER. */
+uint8_t fluent_override_function(struct fluent_bundle *bundle, const uint8_t *name, size_t name_length,
+                                 fluent_function *function, void *user);
+
+/* Registers a formatter or a transform in place of the one before, or none by a null pointer. */
+uint8_t fluent_set_formatter(struct fluent_bundle *bundle, fluent_formatter *formatter, void *user);
+uint8_t fluent_set_transform(struct fluent_bundle *bundle, fluent_transform *transform, void *user);
+
+/* The named argument of this name, or null. */
+static inline const struct fluent_value *fluent_named(const struct fluent_call *call, const char *name) {
+    for (size_t i = 0; i < call->named_count; i++)
+        if (call->named[i].name_length == strlen(name) && !memcmp(call->named[i].name, name, strlen(name)))
+            return &call->named[i];
+    return NULL;
+}
+
+/* An option of a number, such as "currency", and its length; or null. An empty key gives the number without options. */
+static inline const uint8_t *fluent_option(const struct fluent_value *number, const char *key, size_t *length) {
+    const uint8_t *at = number->text, *end = at + number->length, *next;
+    size_t size = strlen(key);
+    for (bool is_first = true; at < end; is_first = false, at = next + 1) {
+        bool is_last = !is_first && (size_t)(end - at) > 9 && !memcmp(at, "currency=", 9);
+        for (next = at; next < end && (is_last || *next != ';');)
+            next++;
+        *length = (size_t)(next - at);
+        if (is_first && size == 0)
+            return at;
+        if (!is_first && size && *length > size && at[size] == '=' && !memcmp(at, key, size)) {
+            *length -= size + 1;
+            return at + size + 1;
+        }
+        if (next == end)
+            break;
+    }
+    *length = 0;
+    return NULL;
+}
+
+/* ---- functions by questions and answers, for languages that no pointer calls
+
+   What is declared is asked by fluent_format_asking: FLUENT_ASKS says that the buffer of the text begins with a question,
+   or, where its length is above the room, that it has to be called again with more. The program puts the answer behind
+   those of before and calls again with all of them, until it gets a text. A question is
+
+       f   the name of a function after its length, each positional argument and each named one, as fluent_put_argument writes
+           them; the positional ones have an empty name
+       v   for a formatter: the value as an argument of an empty name
+       x   for a transform: the text element after its length
+
+   An answer is written as an argument whose name is the whole question. Of several to one question the first stands. */
+
+/* Has an id stand for a function, in place of what has it where over is set: FLUENT_OK or FLUENT_ID_TAKEN. */
+uint8_t fluent_declare_function(struct fluent_bundle *bundle, const uint8_t *name, size_t name_length, bool over);
+
+/* Has each value that is placed, or each text element, be asked about, or no longer. */
+uint8_t fluent_declare_formatter(struct fluent_bundle *bundle, bool on);
+uint8_t fluent_declare_transform(struct fluent_bundle *bundle, bool on);
+
+/* Formats as fluent_format_records does, by answers. */
+uint8_t fluent_format_asking(struct fluent_bundle *bundle, const uint8_t *id, size_t id_length, const uint8_t *attribute,
+                             size_t attribute_length, const uint8_t *arguments, size_t arguments_length,
+                             const uint8_t *answers, size_t answers_length, uint8_t *out, size_t out_room, uint8_t *err,
+                             size_t err_room, struct fluent_lengths *lengths);
 
 /* The kinds of errors in a text. */
 enum fluent_error_kind {

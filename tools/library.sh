@@ -33,7 +33,7 @@ names_behind() {
 
 # The calls that a header declares.
 declared_names() {
-    sed -nE '/^static/d; s/^[a-z].*[ *](fluent_[a-z_]+)\(.*/\1/p' "$1" | sort -u
+    sed -nE '/^(static|typedef)/d; s/^[a-z].*[ *](fluent_[a-z_]+)\(.*/\1/p' "$1" | sort -u
 }
 
 # The names that a library shows to others.
@@ -41,17 +41,17 @@ shown_names() {
     nm -g --defined-only -P "$@" | awk 'NF > 2 { print $1 }' | sort -u
 }
 
-# One object of all: what Rattle's compiler made, c/library.c before it and c/heap.c below it. Only fluent_.. is seen from
+# One object of all: what Rattle's compiler made, c/library.c and c/asking.c before it and c/heap.c below it. Only fluent_.. is seen from
 # outside.
 link_object() {
     local archive=$1 c=$2 work=$3 part
     names_behind "$archive" > "$work/names" && [ -s "$work/names" ] || return 1
     ld -r --whole-archive "$archive" -o "$work/proved.o" &&
         objcopy --redefine-syms="$work/names" "$work/proved.o" || return 1
-    for part in library heap; do
+    for part in library asking heap; do
         "${CC:-cc}" -std=c11 -O2 -fPIC -Wall -Wextra -Werror -c "$c/$part.c" -o "$work/$part.o" || return 1
     done
-    ld -r "$work/proved.o" "$work/library.o" "$work/heap.o" -o "$work/fluent.o" &&
+    ld -r "$work/proved.o" "$work/library.o" "$work/asking.o" "$work/heap.o" -o "$work/fluent.o" &&
         objcopy --wildcard --keep-global-symbol='fluent_*' "$work/fluent.o"
 }
 

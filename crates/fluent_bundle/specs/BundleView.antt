@@ -11,8 +11,8 @@ use Rattle.fluent_syntax.specs.Chunks.{entries, junk_ranges}
 use Rattle.fluent_syntax.specs.Parsed.{error_range}
 use Rattle.fluent_intl.specs.declared.language.LanguageIdentifier.{LanguageIdentifier}
 use Rattle.fluent_semantics.specs.Value.{Value, Plurals, Custom}
-use Rattle.fluent_semantics.specs.Arguments.{get}
-use Rattle.fluent_semantics.specs.Bundle.{Bundle, Function, transform_of, formatter_of, Call, after, answered}
+use Rattle.fluent_semantics.specs.Arguments.{get, set}
+use Rattle.fluent_semantics.specs.Bundle.{Bundle, Function, a_function, transform_of, formatter_of, Call, after, answered}
 use Rattle.fluent_bundle_entries.specs.ErrorView.{error_view}
 use Rattle.fluent_values.specs.View.{value_view}
 use Rattle.fluent_bundle_entries.specs.MessageView.{Content, first_named}
@@ -147,6 +147,10 @@ abbrev pub AnswersCall : {C : Type 0} → Bundle C → Call C → Bundle C → R
 AnswersCall old call new (Ok u) = (new ≡ after call old) × (answered call old ≡ [])
 AnswersCall old call new (Err (fault.Overriding errors)) = (new ≡ after call old) × (map error_view errors.items ≡ answered call old) × (answered call old ≢ [])
 AnswersCall old call new (Err fault.Memory) = new ≡ old
+
+-- a bundle in which an id names this function, whatever it named
+abbrev pub with_function : {C : Type 0} → Text → Function C → Bundle C → Bundle C
+with_function id f b = record b { ids = set id (a_function f) b.ids }
 
 -- whether a bundle changes no text
 abbrev pub is_plain : {M C F G X : Type 0} → FluentBundle M C F G X → Bool

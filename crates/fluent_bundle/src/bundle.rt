@@ -5,7 +5,7 @@ ghost use Rattle.std.specs.Prelude.{◌≡◌, ◌≤◌, ◌↔◌, is_some, ma
 ghost use Rattle.std.specs.Option.{option_map};
 ghost use Rattle.fluent_intl.specs.Plurals.{english};
 ghost use Rattle.fluent_semantics.specs.Bundle.{add_builtins, add_function, add_resource, add_resource_overriding, after, answered, empty_bundle, set_formatter, set_placeable_limit, set_transform, set_use_isolating};
-ghost use Rattle.fluent_bundle.specs.BundleView.{custom_by, entries_in, entries_of, formatter_in, intls_in, message_at, message_entry_at, shown_by, transform_in, AnswersCall, AreUndetermined, KeepsSettings, KeepsLanguages};
+ghost use Rattle.fluent_bundle.specs.BundleView.{custom_by, entries_in, entries_of, formatter_in, intls_in, message_at, message_entry_at, shown_by, transform_in, with_function, AnswersCall, AreUndetermined, KeepsSettings, KeepsLanguages};
 ghost use Rattle.fluent_bundle_entries.specs.MessageView.{entry_seen, message_view};
 ghost use Rattle.fluent_bundle_entries.specs.ErrorView.{error_view};
 ghost use Rattle.fluent_bundle.specs.Inside.AddAnswers.{answer_of};
@@ -245,6 +245,21 @@ impl<
     {
         let id = CowStr::Owned(String::from_str(self.alloc, id)?);
         self.entries.add_function(self.alloc, id, function)
+    }
+
+    /// Puts a function of the application under an id, which is copied, in place of what had it: also a message or a term.
+    ///
+    /// # Errors
+    ///
+    /// An allocation failed: the bundle is as before, and the function is dropped.
+    pub fn override_function(&mut self, id: &str, function: F) -> Result<(), AllocError>
+        ensures ok { OnOk result (⟦<Self as Means>⟧.meaning self.new
+            ≡ with_function id.now (F.answer function) (⟦<Self as Means>⟧.meaning self.old)) }
+        ensures err { OnErr result (⟦<Self as Means>⟧.meaning self.new ≡ ⟦<Self as Means>⟧.meaning self.old) }
+        ensures kept { KeepsSettings self.old self.new }
+    {
+        let id = CowStr::Owned(String::from_str(self.alloc, id)?);
+        self.entries.override_function(id, function)
     }
 
     /// Adds the function `NUMBER`, which gives a number the options in its named arguments.

@@ -9,7 +9,7 @@ ghost use Rattle.fluent_ast.specs.declared.ast.Entry as tree;
 ghost use Rattle.fluent_semantics.specs.Arguments.{set_all};
 ghost use Rattle.fluent_semantics.specs.Bundle.{added, overridden, not_added};
 ghost use Rattle.fluent_semantics.specs.Errors as e;
-ghost use Rattle.fluent_bundle_entries.specs.Inside.Changes.{AddsFree, Becomes, KeepsEntries, Reports, ReportsIfTaken};
+ghost use Rattle.fluent_bundle_entries.specs.Inside.Changes.{AddsFree, Becomes, KeepsEntries, Reports, ReportsIfTaken, SetsEntry};
 ghost use Rattle.fluent_bundle_entries.specs.ErrorView.{error_view, kind_view};
 ghost use Rattle.fluent_bundle_entries.specs.IdNumbers.{Grown, numbers, table};
 ghost use Rattle.fluent_bundle_entries.specs.Inside.AddingSteps.{AddsAll, AddsAt, AllWait, HasNumberToo, ReportsAll, ReportsAt, TakesFirst, TellsTaken, WaitsToo};
@@ -353,6 +353,24 @@ fn add_where_free<'r, 's, F: Drop>(
     Ok(errors)
 }
 
+/// Puts an entry in place of what an id names, if anything.
+fn set_entry<'r, 's, F: Drop>(
+    known: &mut Ids<'r, 's, F>,
+    id: CowStr<'s>,
+    function: Entry<'r, 's, F>,
+) -> Result<(), AllocError>
+    requires own { IsNamed (cow_str_bytes id) function }
+    requires value { value_in function ≡ None }
+    requires attributes { attributes_in function ≡ [] }
+    ensures grown { Grown known.old known.new }
+    ensures after { OnOk result (SetsEntry known.old known.new id.entry function.entry) }
+    ensures err { OnErr result (KeepsEntries known.old known.new) }
+{
+    let number = known.number_of(id)?;
+    known.put(number, plain(function));
+    Ok(())
+}
+
 impl<'r, 's, F: Drop> Ids<'r, 's, F> {
     /// Adds each message and term whose id is free when its turn comes, in order. The answer has an error for each
     /// other one, in order too. Junk is passed over.
@@ -414,6 +432,19 @@ impl<'r, 's, F: Drop> Ids<'r, 's, F> {
         ensures err { OnErr result (KeepsEntries self.old self.new) }
     {
         add_where_free(alloc, self, id, Entry::Function(function))
+    }
+
+    /// Puts a function in place of what its id names, if anything.
+    ///
+    /// # Errors
+    ///
+    /// An allocation failed, which only an id that was never seen can meet: each id names what it named.
+    pub fn override_function(&mut self, id: CowStr<'s>, function: F) -> Result<(), AllocError>
+        ensures grown { Grown self.old self.new }
+        ensures after { OnOk result (SetsEntry self.old self.new id.entry (entry.Function function)) }
+        ensures err { OnErr result (KeepsEntries self.old self.new) }
+    {
+        set_entry(self, id, Entry::Function(function))
     }
 
     /// Adds the built-in function `NUMBER` under a free id. Where the id is taken, the answer has an error.

@@ -1,13 +1,17 @@
 //! What C calls: `c/fluent.h` says how.
 #![tactic(auto)]
 
+ghost use Rattle.std.specs.Prelude.{◌≡◌, false, true};
 ghost use Rattle.fluent_c_handles.specs.Calls.Adding.{AddsOverriding, AddsSource, TellsReport};
+ghost use Rattle.fluent_c_handles.specs.Calls.Declaring.{AddsBuiltins, DeclaresFormatter, DeclaresFunction, DeclaresTransform};
 ghost use Rattle.fluent_c_handles.specs.Calls.Finding.{HasMessage, HasPattern, ListsAttributes, ListsIds};
-ghost use Rattle.fluent_c_handles.specs.Calls.Formatting.{FindsFirst, Formats, FormatsFirst, FormatsRecords, FormatsSource};
+ghost use Rattle.fluent_answers.specs.Answered.{AllAgree};
+ghost use Rattle.fluent_c_handles.specs.Calls.Formatting.{FindsFirst, FormatsBy, FormatsFirst, FormatsSource, told_as, told_in};
 ghost use Rattle.fluent_c_handles.specs.Calls.Opening.{OpensByRules, OpensByTag, SetsLimit};
-ghost use Rattle.fluent_c_handles.specs.Answers.{SlotDoes, SlotGivesText, SlotGivesTexts, SlotIsClosed, SlotsStay, WhenOpen};
+ghost use Rattle.fluent_c_handles.specs.Answers.{SlotDoes, SlotGivesText, SlotGivesTexts, SlotCloses, SlotsStay, WhenOpen};
 
-use fluent_c_handles::{Lengths, Slot};
+use fluent_answers::Meant;
+use fluent_c_handles::{Form, Lengths, Slot};
 use std::alloc::Global;
 
 /// Formats a message of one source, in a bundle with the plural rules of a language and the function `NUMBER`, isolated as
@@ -17,7 +21,7 @@ use std::alloc::Global;
 /// 0: `out` begins with the text, `err` with a line for each of its errors, and `sizes` has both lengths. 1: so too, but a
 /// buffer that is too small for its text is as it was. From 2 on both buffers are as they were, both lengths are 0, and the
 /// number's cause holds. 2: an allocation failed. 3: the source is not UTF-8, which is told before all else. 4: the tag is
-/// not UTF-8. 5: the CLDR has no rules for it. 6: its rules can't be read. 7: the id or the name is not UTF-8. 8: there is no
+/// not UTF-8. 6: the CLDR's rules can't be read; where it has none for the tag, the root's choose. 7: the id or the name is not UTF-8. 8: there is no
 /// such message with a value, or with the attribute, which is told before the arguments are read. 9: these are cut short, or one
 /// begins with no kind of value. 10: the name or the value of one is not UTF-8.
 #[unsafe(no_mangle)]
@@ -41,13 +45,22 @@ pub extern "C" fn fluent_format_source(
 /// Opens a bundle for the tag of a language: it has the rules that the CLDR has for the tag, the function `NUMBER` and nothing
 /// else, isolates as asked, has a limit of 100 placeables, and its report is empty.
 ///
-/// 0: it is open. 12: one was open, and stays as it was. Else none is open: 2, an allocation failed; 4, the tag is not
-/// UTF-8; 5, the CLDR has no rules for it; 6, its rules can't be read.
+/// 0: it is open. 5: it is open with the rules of the root, by which each number is `other`, since the CLDR has none for the tag;
+/// of a tag of more than 35 bytes this is so whatever it is. 12: one was open, and stays as it was. Else none is open: 2, an
+/// allocation failed; 4, the tag is not UTF-8; 6, its rules can't be read.
 #[unsafe(no_mangle)]
 pub extern "C" fn fluent_open(alloc: Global, slot: &mut Slot, tag: &[u8], isolate: bool) -> u8
-    ensures { SlotDoes (OpensByTag tag.now isolate) slot result }
+    ensures { SlotDoes (OpensByTag tag.now isolate false) slot result }
 {
     slot.open(alloc, tag, isolate)
+}
+
+/// Opens a bundle as `fluent_open` does, without the function `NUMBER`.
+#[unsafe(no_mangle)]
+pub extern "C" fn fluent_open_bare(alloc: Global, slot: &mut Slot, tag: &[u8], isolate: bool) -> u8
+    ensures { SlotDoes (OpensByTag tag.now isolate true) slot result }
+{
+    slot.open_bare(alloc, tag, isolate)
 }
 
 /// Opens a bundle for the plural rules of two texts, as `fluent_open` does by a tag.
@@ -75,6 +88,53 @@ pub extern "C" fn fluent_set_limit(alloc: Global, slot: &mut Slot, limit: usize)
     ensures { SlotDoes (WhenOpen (SetsLimit limit)) slot result }
 {
     slot.set_limit(alloc, limit)
+}
+
+/// Adds the function `NUMBER`.
+///
+/// 0: it is added. Else the bundle stays as it was: 15, an entry or a function has its id; 2, an allocation failed; 11, no bundle
+/// is open.
+#[unsafe(no_mangle)]
+pub extern "C" fn fluent_add_builtins(alloc: Global, slot: &mut Slot) -> u8
+    ensures { SlotDoes (WhenOpen AddsBuiltins) slot result }
+{
+    slot.add_builtins(alloc)
+}
+
+/// Has an id stand for a function of the caller's from now on, in place of what has the id where `over` is set.
+///
+/// 0: it does. Else the bundle stays as it was: 15, an entry or a function has the id; 7, it is not UTF-8; 2, an allocation
+/// failed; 11, no bundle is open.
+#[unsafe(no_mangle)]
+pub extern "C" fn fluent_declare_function(
+    alloc: Global,
+    slot: &mut Slot,
+    name: &[u8],
+    over: bool,
+) -> u8
+    ensures { SlotDoes (WhenOpen (DeclaresFunction name.now over)) slot result }
+{
+    slot.declare_function(alloc, name, over)
+}
+
+/// Has the caller be asked how each value is shown from now on, or no longer.
+///
+/// 0: so it is. 11: no bundle is open.
+#[unsafe(no_mangle)]
+pub extern "C" fn fluent_declare_formatter(alloc: Global, slot: &mut Slot, on: bool) -> u8
+    ensures { SlotDoes (WhenOpen (DeclaresFormatter on)) slot result }
+{
+    slot.declare_formatter(alloc, on)
+}
+
+/// Has the caller be asked what each text element becomes from now on, or no longer.
+///
+/// 0: so it is. 11: no bundle is open.
+#[unsafe(no_mangle)]
+pub extern "C" fn fluent_declare_transform(alloc: Global, slot: &mut Slot, on: bool) -> u8
+    ensures { SlotDoes (WhenOpen (DeclaresTransform on)) slot result }
+{
+    slot.declare_transform(alloc, on)
 }
 
 /// Adds a source: of its entries those whose id is free, and of each id the first. Its report takes the place of the one
@@ -172,67 +232,91 @@ pub extern "C" fn fluent_find(alloc: Global, slot: &mut Slot, id: &[u8], name: &
     slot.find(alloc, id, name)
 }
 
-/// Formats the value of a message, or the attribute of the name where that isn't empty. The bundle stays as it was.
+/// Formats the value of a message, or the attribute of the name where that isn't empty, by what the caller's functions, formatter
+/// and transform answered: `meant` says what they answer to all questions, and `answers` some of it. The bundle stays as it was.
 ///
-/// 0: `out` begins with the text, `err` with a line for each of its errors, and `sizes` has both lengths. 1: so too, but a
-/// buffer that is too small for its text is as it was. From 2 on both buffers are as they were, both lengths are 0, and the
-/// number's cause holds. 2: an allocation failed. 7: the id or the name is not UTF-8. 8: there is no such message with a value, or
-/// with the attribute, which is told before the arguments are read. 9: these are cut short, or one begins with no kind of value.
-/// 10: the name or the value of one is not UTF-8. 11: no bundle is open.
+/// 0: `out` begins with the text, `err` with a line for each of its errors, or with a record where `records` is set: the letter of
+/// its kind, an id and the name of an attribute, each of which may be empty and is followed by a zero byte; `sizes` has both
+/// lengths. 1: so too, but a buffer that is too small for its text is as it was. 14: something was declared, and the answers lack
+/// one: `out` begins with the question unless it is too small for it, `sizes` has its length, and `err` is as it was. Else both
+/// buffers are as they were, both lengths are 0, and the number's cause holds. 2: an allocation failed. 7: the id or the name is
+/// not UTF-8. 8: there is no such message with a value, or with the attribute, which is told before the arguments are read. 9: these
+/// are cut short, or one begins with no kind of value, or so it is of the answers. 10: the name or the value of one is not UTF-8.
+/// 11: no bundle is open. Where nothing was declared no answers are read.
 #[unsafe(no_mangle)]
-pub extern "C" fn fluent_format(
+pub extern "C" fn fluent_format_asking(
     alloc: Global,
     slot: &mut Slot,
+    meant: &Meant,
+    records: bool,
     id: &[u8],
     name: &[u8],
     args: &[u8],
+    answers: &[u8],
     out: &mut [u8],
     err: &mut [u8],
     sizes: &mut Lengths,
 ) -> u8
-    ensures { SlotGivesTexts (WhenOpen (Formats id.now name.now args.now)) slot out err sizes result }
+    requires { AllAgree meant.now.table answers.now }
+    ensures { SlotGivesTexts (WhenOpen (FormatsBy meant.now.table answers.now (told_as records) id.now name.now args.now)) slot out err sizes result }
 {
-    slot.format(alloc, id, name, args, out, err, sizes)
+    slot.format(
+        alloc,
+        meant,
+        form_of(records),
+        id,
+        name,
+        args,
+        answers,
+        out,
+        err,
+        sizes,
+    )
 }
 
-/// Formats as `fluent_format` does, with a record for each error in place of a line: the letter of its kind, an id and the name of
-/// an attribute, each of which may be empty and is followed by a zero byte.
-#[unsafe(no_mangle)]
-pub extern "C" fn fluent_format_records(
-    alloc: Global,
-    slot: &mut Slot,
-    id: &[u8],
-    name: &[u8],
-    args: &[u8],
-    out: &mut [u8],
-    err: &mut [u8],
-    sizes: &mut Lengths,
-) -> u8
-    ensures { SlotGivesTexts (WhenOpen (FormatsRecords id.now name.now args.now)) slot out err sizes result }
+/// How errors are told.
+fn form_of(records: bool) -> Form
+    ensures { told_in result ≡ told_as records }
 {
-    slot.format_records(alloc, id, name, args, out, err, sizes)
+    if records { Form::Records } else { Form::Lines }
 }
 
 /// Formats a message by the first of some bundles that has the value, or the attribute of the name where that isn't empty, or
-/// that isn't open: status, buffers and lengths are as those of `fluent_format` for this one. All bundles stay as they were.
+/// that isn't open: status, buffers and lengths are as those of `fluent_format_asking` for this one. All bundles stay as they were.
 ///
 /// Where the id or the name is not UTF-8 (7), or all bundles are open and none has it (8), both buffers are as they were, and
 /// both lengths are 0.
 #[unsafe(no_mangle)]
 pub extern "C" fn fluent_format_chain(
     alloc: Global,
+    meant: &Meant,
+    records: bool,
     slots: &mut [Slot],
     id: &[u8],
     name: &[u8],
     args: &[u8],
+    answers: &[u8],
     out: &mut [u8],
     err: &mut [u8],
     sizes: &mut Lengths,
 ) -> u8
+    requires { AllAgree meant.now.table answers.now }
     ensures left { SlotsStay slots.old slots.new }
-    ensures text { FormatsFirst id.now name.now args.now slots out err sizes result }
+    ensures text { FormatsFirst meant.now.table answers.now (told_as records) id.now name.now args.now slots out err sizes result }
 {
-    fluent_c_handles::format_first(alloc, slots, id, name, args, out, err, sizes)
+    fluent_c_handles::format_first(
+        alloc,
+        meant,
+        form_of(records),
+        slots,
+        id,
+        name,
+        args,
+        answers,
+        out,
+        err,
+        sizes,
+    )
 }
 
 /// Says which of some bundles `fluent_format_chain` asks: the first that has the value, or the attribute of the name where that
@@ -256,7 +340,7 @@ pub extern "C" fn fluent_find_chain(
 /// Closes a bundle: none is open then.
 #[unsafe(no_mangle)]
 pub extern "C" fn fluent_close(alloc: Global, slot: &mut Slot)
-    ensures { SlotIsClosed slot.new }
+    ensures { SlotCloses slot }
 {
     slot.close(alloc)
 }

@@ -1,8 +1,6 @@
-mod Stands
-mod Written
 mod Gathered
+pub mod Family
 mod Inserted
-mod InOrder
 mod NoArguments
 mod Line
 mod Ordered
@@ -12,11 +10,15 @@ pub mod Counting
 pub mod Going
 pub mod Writing
 pub mod Placing
+pub mod Putting
+pub mod Stocks
 pub mod From
 pub mod Global
 pub mod Handles
 pub mod Limits
 pub mod Opens
+pub mod Alike
+pub mod AskedBy
 pub mod Places
 pub mod Found
 pub mod FirstGiven

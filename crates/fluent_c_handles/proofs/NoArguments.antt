@@ -10,10 +10,11 @@ use Rattle.fluent_semantics.specs.Bundle.{Bundle}
 use Rattle.fluent_semantics.specs.Result.{formatted, written_pattern}
 use Rattle.fluent_semantics.specs.Value.{Value}
 use Rattle.fluent_values.specs.declared.args.FluentArgs.{FluentArgs}
-use Rattle.fluent_values.specs.declared.types.custom.NoCustom.{NoCustom}
+use Rattle.fluent_answers.specs.ArgumentView.{args_view}
+use Rattle.fluent_answers.specs.Records.{Are}
+use Rattle.fluent_answers.specs.declared.own.OwnValue.{OwnValue}
 use Rattle.fluent_c_handles.specs.Answers.{found_at}
-use Rattle.fluent_c_handles.specs.Calls.Formatting.{Are, NotFormattedIn, TextsIn, told_in}
-use Rattle.fluent_c_handles.specs.Inside.ArgumentView.{args_view}
+use Rattle.fluent_c_handles.specs.Calls.Formatting.{NotFormattedIn, TextsIn, told_in}
 use Rattle.fluent_c_handles.specs.Inside.Shown.{NotShown, Shows, ShowsFound}
 use Rattle.fluent_c_handles.specs.declared.texts.Form.{Form}
 use Rattle.fluent_c_handles.specs.declared.texts.FormatFault.{FormatFault}
@@ -30,7 +31,7 @@ module _ (bundle : Bundle Text) (id name : Text) (bytes : List ℕ) (none : byte
   no_bytes : Are [] bytes
   no_bytes = record { whole = none; texts = λ k d h. absurd (omega arith) }
 
-  module _ (form : Form) (args : FluentArgs NoCustom) (empty : args_view args ≡ []) where
+  module _ (form : Form) (args : FluentArgs OwnValue) (empty : args_view args ≡ []) where
     texts_by : (t : Shown) (found : Option Pattern) → found_at id name bundle ≡ found → ShowsFound form bundle args found (Some t) → TextsIn (told_in form) bundle id name bytes (cow_str_bytes t.0) (string_bytes t.1)
     texts_by t None is s = absurd cc
     texts_by t (Some pattern) is s = record {
@@ -52,6 +53,7 @@ module _ (bundle : Bundle Text) (id name : Text) (bytes : List ℕ) (none : byte
   not_by fault.Memory n = (record { texts = texts; found = n }, record { all = []; read = no_bytes })
   not_by fault.NotText n = absurd n
   not_by (fault.Arguments f) n = absurd n
+  not_by (fault.Answers f) n = absurd n
 
   not_shown : (r : Result Shown FormatFault) → IfErr r (NotShown bundle id name) → IfErr r (NotFormattedIn bundle id name bytes)
   not_shown (Ok t) n = n
@@ -59,7 +61,7 @@ module _ (bundle : Bundle Text) (id name : Text) (bytes : List ℕ) (none : byte
 
 -- the same by an id and a name that are those
 module _ (bundle : Bundle Text) (id name : Text) (bytes : List ℕ) (none : bytes ≡ []) (texts : IsUtf8 id × IsUtf8 name) (i n : Text) (is_id : i ≡ id) (is_name : n ≡ name) (r : Result Shown FormatFault) where
-  pub shown_by : (form : Form) (args : FluentArgs NoCustom) → args_view args ≡ [] → IfOk r (λ t. Shows form bundle i n args (Some t)) → IfOk r (λ t. TextsIn (told_in form) bundle id name bytes (cow_str_bytes t.0) (string_bytes t.1))
+  pub shown_by : (form : Form) (args : FluentArgs OwnValue) → args_view args ≡ [] → IfOk r (λ t. Shows form bundle i n args (Some t)) → IfOk r (λ t. TextsIn (told_in form) bundle id name bytes (cow_str_bytes t.0) (string_bytes t.1))
   shown_by form args empty s =
       shown bundle id name bytes none texts form args empty r
       (subst (λ m. IfOk r (λ t. Shows form bundle id m args (Some t))) is_name (subst (λ j. IfOk r (λ t. Shows form bundle j n args (Some t))) is_id s))

@@ -9,7 +9,7 @@ use Rattle.std.proofs.lemmas.Option.{slice_get-get_or, slice_get_past}
 use Rattle.std.proofs.lemmas.List.Folds.{find_at}
 use Rattle.std.proofs.lemmas.List.Sums.{position_or_len_is}
 use Rattle.std.proofs.lemmas.List.Quantifiers.{position-Some}
-use Rattle.fluent_c_handles.specs.Answers.{Meant, all_kept, kept_in}
+use Rattle.fluent_c_handles.specs.Answers.{SlotsStay, all_kept, kept_in}
 use Rattle.fluent_c_handles.specs.declared.slot.Slot.{Slot}
 
 module _ {X : Type 0} (test : X → Bool) (xs : List X) where
@@ -38,9 +38,9 @@ module _ {X : Type 0} (test : X → Bool) (xs : List X) where
       let n : length xs ≤ position_or_len test xs = grind (arith, common_steps) in
       find_at test xs ∙ slice_get_past xs _ n
 
-module _ (slots : List Slot) (old : List (Option Meant)) (same : all_kept slots ≡ old) (i : ℕ) (lt : i < length slots) (d : Slot) where
-  pub stands_at : get_or old i None ≡ kept_in (get_or slots i d)
-  stands_at = ap (λ ks. get_or ks i None) (sym same) ∙ get_or-map kept_in slots i d None lt
+module _ (slots before : List Slot) (same : SlotsStay before slots) (i : ℕ) (lt : i < length slots) (d : Slot) where
+  pub stands_at : get_or (all_kept before) i None ≡ kept_in (get_or slots i d)
+  stands_at = ap (λ ks. get_or ks i None) (sym same.0) ∙ get_or-map kept_in slots i d None lt
 
-  pub left_by : (new : Slot) → kept_in new ≡ kept_in (get_or slots i d) → all_kept (set slots i new) ≡ old
-  left_by new alike = map-set_same kept_in slots i new d alike ∙ same
+  pub left_by : (new : Slot) → kept_in new ≡ kept_in (get_or slots i d) → new.beside ≡ (get_or slots i d).beside → SlotsStay before (set slots i new)
+  left_by new alike beside = (map-set_same kept_in slots i new d alike ∙ same.0, map-set_same (λ (slot : Slot). slot.beside) slots i new d beside ∙ same.1)

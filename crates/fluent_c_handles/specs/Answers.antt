@@ -1,29 +1,34 @@
 -- What a slot keeps, what a call may do of it, and how C is told: the status by its number, and texts in buffers.
-use Rattle.std.specs.Prelude.{◌≡◌, ◌≤◌, ◌<◌, ℕ, Bool, true, List, [], ◌∷◌, ◌++◌, length, drop, map, Option, Some, None, String, string_bytes, Ok, Err, is_some}
+use Rattle.std.specs.Prelude.{◌≡◌, ◌≤◌, ◌<◌, ◌⊎◌, ℕ, Bool, List, [], ◌∷◌, ◌++◌, length, drop, map, Option, Some, None, String, string_bytes, Ok, Err, if◌then◌else◌, nat_lt, unwrap_or}
 use Rattle.std.specs.Option.{option_map}
 use Rattle.std.specs.Str.{IsUtf8}
 use Rattle.std.proofs.Common.{Global}
 use Rattle.fluent_text.specs.Changes.{Change, new, old}
 use Rattle.fluent_ast.specs.Tree.{Text, Pattern}
 use Rattle.fluent_plural_rules.specs.LanguageTable.{cldr_plurals}
-use Rattle.fluent_plural_rules.specs.Languages.{rules_of}
-use Rattle.fluent_plural_rules.specs.RuleTexts.{category_of}
+use Rattle.fluent_plural_rules.specs.Languages.{Texts, rules_of}
+use Rattle.fluent_plural_rules.specs.RuleTexts.{IsParse, category_of}
 use Rattle.fluent_plural_rules.specs.RuleTree.{Rules}
 use Rattle.fluent_plural_rules.specs.declared.rule_texts.fault.RuleFault.TheVariants as rule
 use Rattle.fluent_syntax.specs.Chunks.{entries}
 use Rattle.fluent_semantics.specs.Bundle.{Bundle, empty_bundle, after, after_all, add_builtins, add_resource, set_use_isolating}
-use Rattle.fluent_semantics.specs.Value.{Custom, Plurals, error_value}
-use Rattle.fluent_values.specs.declared.formatter.NoFormatter.{NoFormatter}
-use Rattle.fluent_values.specs.declared.function.NoFunction.{NoFunction}
-use Rattle.fluent_values.specs.declared.transform.NoTransform.{NoTransform}
-use Rattle.fluent_values.specs.declared.types.custom.NoCustom.{NoCustom}
+use Rattle.fluent_semantics.specs.Number.{is_text}
+use Rattle.fluent_semantics.specs.Value.{Plurals}
 use Rattle.fluent_bundle.specs.BundleView.{attribute_at, meant, value_at}
 use Rattle.fluent_bundle.specs.declared.bundle.FluentBundle.{FluentBundle}
-use Rattle.fluent_catalog.specs.Language.{HasPlurals}
 use Rattle.fluent_catalog.specs.declared.language.LanguageFault.TheVariants as language
+use Rattle.fluent_answers.specs.Asked.{formatter_of, function_of, transform_of}
+use Rattle.fluent_answers.specs.OwnValues.{own_custom, own_text}
+use Rattle.fluent_answers.specs.Tables.{Table}
+use Rattle.fluent_answers.specs.declared.fault.Fault.TheVariants as argument
+use Rattle.fluent_answers.specs.declared.formatter.AskedFormatter.{AskedFormatter}
+use Rattle.fluent_answers.specs.declared.function.AskedFunction.{AskedFunction}
+use Rattle.fluent_answers.specs.declared.own.OwnValue.{OwnValue}
+use Rattle.fluent_answers.specs.declared.transform.AskedTransform.{AskedTransform}
+use Rattle.fluent_c_handles.specs.Family.{Declares, answered_by, nothing_declared}
 use Rattle.fluent_c_handles.specs.declared.answer.Answer.{Answer}
 use Rattle.fluent_c_handles.specs.declared.answer.Answer.TheVariants as answer
-use Rattle.fluent_c_handles.specs.declared.encoded.Fault.TheVariants as argument
+use Rattle.fluent_c_handles.specs.declared.declared.Declared.{Declared}
 use Rattle.fluent_c_handles.specs.declared.opening.OpenFault.{OpenFault}
 use Rattle.fluent_c_handles.specs.declared.opening.OpenFault.TheVariants as opening
 use Rattle.fluent_c_handles.specs.declared.slot.Slot.{Slot}
@@ -35,33 +40,51 @@ use Rattle.fluent_c_handles.specs.declared.texts.Lengths.{Lengths}
 
 -- ---- what is kept
 
--- A bundle, and what was told of the source that was added last.
-pub record Meant : Type 0 where
-  pub bundle : Bundle Text
+-- What a bundle is by all that the caller answers, what the caller declared that it answers, and what was told of the source that
+-- was added last.
+pub record Kept : Type 0 where
+  pub by : Table → Bundle Text
+  pub declared : Declares
   pub told : Text
 
--- The bundle of the code, by content: it has no values and functions of the application, no formatter, no transform.
-abbrev pub bundle_view : FluentBundle Rules NoCustom NoFunction NoFormatter NoTransform → Bundle Text
-bundle_view =
-    meant category_of (λ t. []) (λ s t. true) (λ f vs args. error_value) (λ g v m. None) (λ x t. t)
+-- Where nothing is answered each function gives an error. What an id names is, but for functions, the same whatever is answered.
+abbrev pub unanswered : Kept → Bundle Text
+unanswered m = m.by []
 
--- what the code keeps
-abbrev pub stock_content : Stock → Meant
-stock_content stock = record { bundle = bundle_view stock.bundle; told = string_bytes stock.told }
+abbrev pub Code : Type 0
+Code = FluentBundle Rules OwnValue AskedFunction AskedFormatter AskedTransform
+
+-- The bundle of the code, by content: its functions, formatter and transform answer as in the last call.
+abbrev pub bundle_view : Code → Bundle Text
+bundle_view = meant category_of own_text is_text function_of (λ g v m. formatter_of g v) transform_of
+
+abbrev pub declared_view : Declared → Declares
+declared_view d = record { functions = map string_bytes d.functions.items; formatter = d.formatter; transform = d.transform }
+
+-- what the code keeps, whatever was answered in the last call
+abbrev pub stock_content : Stock → Kept
+stock_content stock = record {
+  by = λ all. answered_by all (declared_view stock.declared) (bundle_view stock.bundle);
+  declared = declared_view stock.declared;
+  told = string_bytes stock.told;
+}
 
 -- the same, or nothing where no bundle is open
-abbrev pub held_content : Option Stock → Option Meant
+abbrev pub held_content : Option Stock → Option Kept
 held_content held = option_map stock_content held
 
-abbrev pub kept_in : Slot → Option Meant
+abbrev pub kept_in : Slot → Option Kept
 kept_in slot = held_content slot.handle.held
 
-abbrev pub all_kept : List Slot → List (Option Meant)
+abbrev pub all_kept : List Slot → List (Option Kept)
 all_kept slots = map kept_in slots
+
+abbrev pub all_beside : List Slot → List ℕ
+all_beside slots = map (λ slot. slot.beside) slots
 
 -- each slot keeps what it kept
 abbrev pub SlotsStay : List Slot → List Slot → Type 0
-SlotsStay before after = all_kept after ≡ all_kept before
+SlotsStay before after = (all_kept after ≡ all_kept before) × (all_beside after ≡ all_beside before)
 
 -- no bundle is open in it
 abbrev pub SlotIsClosed : Slot → Type 0
@@ -69,31 +92,44 @@ SlotIsClosed slot = slot.handle.held ≡ None
 
 -- ---- bundles
 
--- the application has no values of its own
-abbrev pub no_custom : Custom Text
-no_custom = record { text = λ t. []; same = λ s t. true }
+-- a bundle with the built-in function alone, or bare, without it
+abbrev pub new_bundle : Plurals → Bool → Bool → Bundle Text
+new_bundle plurals on bare =
+    after_all (set_use_isolating on ∷ (if bare then [] else add_builtins ∷ [])) (empty_bundle plurals own_custom)
 
--- a bundle with the built-in function alone
-abbrev pub new_bundle : Plurals → Bool → Bundle Text
-new_bundle plurals on =
-    after_all (set_use_isolating on ∷ add_builtins ∷ []) (empty_bundle plurals no_custom)
+-- a bundle that was just opened: nothing is declared, and nothing was told
+abbrev pub new_kept : Bundle Text → Kept
+new_kept bundle = record { by = λ all. bundle; declared = nothing_declared; told = [] }
 
--- The same with the rules that the Unicode CLDR has for the tag of a language.
-pub record OpenedByTag (tag : Text) (on : Bool) (bundle : Bundle Text) : Type 0 where
-  pub text : IsUtf8 tag
+-- the rules that the Unicode CLDR has for the tag of a language, which has at most 35 bytes
+abbrev pub language_rules : Text → Option Texts
+language_rules tag = if nat_lt 35 (length tag) then None else rules_of cldr_plurals tag
+
+-- those, or the root's: none, so that each number is `other`
+abbrev pub rules_for_tag : Text → Texts
+rules_for_tag tag = unwrap_or (language_rules tag) (record { cardinal = []; ordinal = [] })
+
+-- rules can be read
+abbrev pub CanBeRead : Text → Text → Type 0
+CanBeRead cardinal ordinal = (rules : Rules) × IsParse cardinal ordinal (Ok rules)
+
+-- a tag is text; of one that is too long for a language nothing is asked
+abbrev pub IsTag : Text → Type 0
+IsTag tag = (35 < length tag) ⊎ IsUtf8 tag
+
+-- A bundle with the rules for a tag.
+pub record OpenedByTag (tag : Text) (on bare : Bool) (bundle : Bundle Text) : Type 0 where
+  pub text : IsTag tag
   pub rules : Rules
-  pub has : HasPlurals (rules_of cldr_plurals tag) (Ok rules)
-  pub is : bundle ≡ new_bundle (category_of rules) on
-
--- the Unicode CLDR has rules for the tag
-abbrev pub IsLanguage : Text → Type 0
-IsLanguage tag = is_some (rules_of cldr_plurals tag) ≡ true
+  pub read : IsParse (rules_for_tag tag).cardinal (rules_for_tag tag).ordinal (Ok rules)
+  pub is : bundle ≡ new_bundle (category_of rules) on bare
 
 -- why there is none
 abbrev pub NotOpenedByTag : Text → OpenFault → Type 0
-NotOpenedByTag tag opening.NotText = ¬ (IsUtf8 tag)
-NotOpenedByTag tag (opening.Language f) = HasPlurals (rules_of cldr_plurals tag) (Err f)
-NotOpenedByTag tag opening.Memory = IsUtf8 tag × IsLanguage tag
+NotOpenedByTag tag opening.NotText = ¬ (IsTag tag)
+NotOpenedByTag tag (opening.Language (language.Rules f)) = IsParse (rules_for_tag tag).cardinal (rules_for_tag tag).ordinal (Err f)
+NotOpenedByTag tag (opening.Language language.Unknown) = ⊥
+NotOpenedByTag tag opening.Memory = IsTag tag × CanBeRead (rules_for_tag tag).cardinal (rules_for_tag tag).ordinal
 
 -- a bundle with the entries of a source, of each id the first
 abbrev pub with_source : Text → Bundle Text → Bundle Text
@@ -108,11 +144,11 @@ found_at id (c ∷ cs) bundle = attribute_at id (c ∷ cs) bundle
 
 -- what a call may leave of a bundle that is open, and answer
 abbrev pub BundleCall : Type 1
-BundleCall = Meant → Meant → Answer → Type 0
+BundleCall = Kept → Kept → Answer → Type 0
 
 -- the same where perhaps no bundle is open
 abbrev pub KeptCall : Type 1
-KeptCall = Option Meant → Option Meant → Answer → Type 0
+KeptCall = Option Kept → Option Kept → Answer → Type 0
 
 -- a call of a bundle that is open; where none is, it does nothing, and says so
 abbrev pub WhenOpen : BundleCall → KeptCall
@@ -141,14 +177,20 @@ fault_status (source_fault.Format format.NoMessage) = 8
 fault_status (source_fault.Format (format.Arguments argument.Cut)) = 9
 fault_status (source_fault.Format (format.Arguments argument.NotText)) = 10
 fault_status (source_fault.Format (format.Arguments argument.Memory)) = 2
+fault_status (source_fault.Format (format.Answers argument.Cut)) = 9
+fault_status (source_fault.Format (format.Answers argument.NotText)) = 10
+fault_status (source_fault.Format (format.Answers argument.Memory)) = 2
 
 -- the status of an answer
 abbrev pub answer_status : Answer → ℕ
 answer_status answer.Done = 0
+answer_status answer.Root = 5
 answer_status (answer.Texts text lines) = 0
+answer_status (answer.Asks question) = 14
 answer_status answer.Closed = 11
 answer_status answer.Open = 12
 answer_status answer.OutOfRange = 13
+answer_status answer.Taken = 15
 answer_status (answer.Fault f) = fault_status f
 
 -- ---- texts in buffers
@@ -173,12 +215,19 @@ GivenOneBy (answer.Texts text lines) out out' n status = GivesOne text out out' 
 GivenOneBy a out out' n status = (status ≡ answer_status a) × (out' ≡ out) × (n ≡ 0)
 
 -- Two texts were given: both buffers had room, or (1) one had not.
-pub record GivesTwo (text lines : String Global) (out out' err err' : List ℕ) (lengths : Lengths) (status : ℕ) : Type 0 where
-  pub text_given : Given (string_bytes text) out out' lengths.text
-  pub lines_given : Given (string_bytes lines) err err' lengths.errors
+pub record GivesTwo (text lines : Text) (out out' err err' : List ℕ) (lengths : Lengths) (status : ℕ) : Type 0 where
+  pub text_given : Given text out out' lengths.text
+  pub lines_given : Given lines err err' lengths.errors
   pub below : status ≤ 1
   pub fits : status ≡ 0 → (lengths.text ≤ length out) × (lengths.errors ≤ length err)
   pub short : status ≡ 1 → ¬ ((lengths.text ≤ length out) × (lengths.errors ≤ length err))
+
+-- A question was given, where there is room for it.
+pub record GivesQuestion (question : List ℕ) (out out' err err' : List ℕ) (lengths : Lengths) (status : ℕ) : Type 0 where
+  pub is : status ≡ 14
+  pub given : Given question out out' lengths.text
+  pub err_left : err' ≡ err
+  pub no_errors : lengths.errors ≡ 0
 
 -- Nothing was given.
 pub record GivesNone (out out' err err' : List ℕ) (lengths : Lengths) : Type 0 where
@@ -188,42 +237,52 @@ pub record GivesNone (out out' err err' : List ℕ) (lengths : Lengths) : Type 0
 
 -- the texts of an answer, or its status alone
 abbrev pub GivenBy : Answer → List ℕ → List ℕ → List ℕ → List ℕ → Lengths → ℕ → Type 0
-GivenBy (answer.Texts text lines) out out' err err' lengths status = GivesTwo text lines out out' err err' lengths status
+GivenBy (answer.Texts text lines) out out' err err' lengths status = GivesTwo (string_bytes text) (string_bytes lines) out out' err err' lengths status
+GivenBy (answer.Asks question) out out' err err' lengths status = GivesQuestion question.items out out' err err' lengths status
 GivenBy answer.Done out out' err err' lengths status = (status ≡ 0) × GivesNone out out' err err' lengths
+GivenBy answer.Root out out' err err' lengths status = (status ≡ 5) × GivesNone out out' err err' lengths
 GivenBy answer.Closed out out' err err' lengths status = (status ≡ 11) × GivesNone out out' err err' lengths
 GivenBy answer.Open out out' err err' lengths status = (status ≡ 12) × GivesNone out out' err err' lengths
 GivenBy answer.OutOfRange out out' err err' lengths status = (status ≡ 13) × GivesNone out out' err err' lengths
+GivenBy answer.Taken out out' err err' lengths status = (status ≡ 15) × GivesNone out out' err err' lengths
 GivenBy (answer.Fault f) out out' err err' lengths status = (status ≡ fault_status f) × GivesNone out out' err err' lengths
 
 -- ---- a call on a slot, which keeps this before it and after it
 
 -- It was done, or it was not, as the status says.
-pub record Done (call : KeptCall) (before after : Option Meant) (status : ℕ) : Type 0 where
+pub record Done (call : KeptCall) (before after : Option Kept) (status : ℕ) : Type 0 where
   pub answer : Answer
   pub done : call before after answer
   pub is : status ≡ answer_status answer
 
 -- It gave a text, or nothing, as the status says.
-pub record TextGiven (call : KeptCall) (before after : Option Meant) (out out' : List ℕ) (n status : ℕ) : Type 0 where
+pub record TextGiven (call : KeptCall) (before after : Option Kept) (out out' : List ℕ) (n status : ℕ) : Type 0 where
   pub answer : Answer
   pub done : call before after answer
   pub given : GivenOneBy answer out out' n status
 
 -- It gave a text and the lines of its errors, or nothing, as the status says.
-pub record TextsGiven (call : KeptCall) (before after : Option Meant) (out out' err err' : List ℕ) (lengths : Lengths) (status : ℕ) : Type 0 where
+pub record TextsGiven (call : KeptCall) (before after : Option Kept) (out out' err err' : List ℕ) (lengths : Lengths) (status : ℕ) : Type 0 where
   pub answer : Answer
   pub done : call before after answer
   pub given : GivenBy answer out out' err err' lengths status
 
 -- ---- the same of what the code is handed
 
+-- what the caller keeps beside a bundle is left to it
+abbrev pub StaysBeside : Change Slot → Type 0
+StaysBeside slot = (new slot).beside ≡ (old slot).beside
+
 abbrev pub SlotDoes : KeptCall → Change Slot → ℕ → Type 0
-SlotDoes call slot status = Done call (kept_in (old slot)) (kept_in (new slot)) status
+SlotDoes call slot status = Done call (kept_in (old slot)) (kept_in (new slot)) status × StaysBeside slot
 
 abbrev pub SlotGivesText : KeptCall → Change Slot → Change (List ℕ) → Change ℕ → ℕ → Type 0
 SlotGivesText call slot out length status =
-    TextGiven call (kept_in (old slot)) (kept_in (new slot)) (old out) (new out) (new length) status
+    TextGiven call (kept_in (old slot)) (kept_in (new slot)) (old out) (new out) (new length) status × StaysBeside slot
 
 abbrev pub SlotGivesTexts : KeptCall → Change Slot → Change (List ℕ) → Change (List ℕ) → Change Lengths → ℕ → Type 0
 SlotGivesTexts call slot out err lengths status =
-    TextsGiven call (kept_in (old slot)) (kept_in (new slot)) (old out) (new out) (old err) (new err) (new lengths) status
+    TextsGiven call (kept_in (old slot)) (kept_in (new slot)) (old out) (new out) (old err) (new err) (new lengths) status × StaysBeside slot
+
+abbrev pub SlotCloses : Change Slot → Type 0
+SlotCloses slot = SlotIsClosed (new slot) × StaysBeside slot

@@ -1,7 +1,7 @@
 pub mod Answers
 pub mod Calls
-pub mod Encoded
 pub mod Facts
+pub mod Family
 pub mod Handles
 pub mod Inside
 pub mod Rows

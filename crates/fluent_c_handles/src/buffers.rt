@@ -6,9 +6,16 @@ ghost use Rattle.fluent_c_handles.specs.Answers.{Given};
 pub fn put_text(text: &str, buffer: &mut [u8]) -> usize
     ensures { Given text.now buffer.old buffer.new result }
 {
-    let length = text.len();
+    put_bytes(text.as_bytes(), buffer)
+}
+
+/// The same of bytes.
+pub(crate) fn put_bytes(bytes: &[u8], buffer: &mut [u8]) -> usize
+    ensures { Given bytes.now buffer.old buffer.new result }
+{
+    let length = bytes.len();
     if length <= buffer.len() {
-        buffer[..length].copy_from_slice(text.as_bytes());
+        buffer[..length].copy_from_slice(bytes);
     }
     length
 }

@@ -1,11 +1,13 @@
 //! The first of several kept bundles that has a message.
 ghost use Rattle.std.specs.Prelude.{◌≡◌};
 ghost use Rattle.std.specs.List.{position};
-ghost use Rattle.fluent_c_handles.specs.Calls.Formatting.{FindsFirst, FormatsFirst, answers};
+ghost use Rattle.fluent_c_handles.specs.Calls.Formatting.{FindsFirst, FormatsFirst, answers, told_in};
+ghost use Rattle.fluent_answers.specs.Answered.{AllAgree};
 ghost use Rattle.fluent_c_handles.specs.Answers.{SlotsStay, all_kept};
 
 use crate::slot::Slot;
-use crate::texts::Lengths;
+use crate::texts::{Form, Lengths};
+use fluent_answers::Meant;
 use std::alloc::Global;
 use std::str;
 
@@ -29,22 +31,28 @@ const NO_MESSAGE: u8 = 8;
 /// buffers are as before, and both lengths are 0.
 pub fn format_first(
     alloc: Global,
+    meant: &Meant,
+    form: Form,
     slots: &mut [Slot],
     id: &[u8],
     name: &[u8],
     args: &[u8],
+    answers: &[u8],
     out: &mut [u8],
     err: &mut [u8],
     sizes: &mut Lengths,
 ) -> u8
+    requires { AllAgree meant.now.table answers.now }
     ensures left { SlotsStay slots.old slots.new }
-    ensures text { FormatsFirst id.now name.now args.now slots out err sizes result }
+    ensures text { FormatsFirst meant.now.table answers.now (told_in form) id.now name.now args.now slots out err sizes result }
 {
     let (Ok(message), Ok(attribute)) = (str::from_utf8(id), str::from_utf8(name)) else {
         return refuse(sizes, NOT_TEXT);
     };
     match first_to_answer(alloc, slots, message, attribute) {
-        Some(index) => slots[index].format(alloc, id, name, args, out, err, sizes),
+        Some(index) => slots[index].format(
+            alloc, meant, form, id, name, args, answers, out, err, sizes,
+        ),
         None => refuse(sizes, NO_MESSAGE),
     }
 }

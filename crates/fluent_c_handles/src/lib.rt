@@ -4,15 +4,16 @@
 
 mod adding;
 mod answer;
+mod answering;
+mod asking;
 mod attributes;
 mod buffers;
 mod calls;
 mod closing;
 mod counted;
-mod encoded;
+mod declared;
 mod first;
 mod handle;
-pub mod laws;
 mod left;
 mod lines;
 mod lookup;
@@ -26,9 +27,11 @@ mod stock;
 mod telling;
 mod texts;
 mod turns;
+mod written;
 
+pub use buffers::put_text;
 pub use first::{find_first, format_first};
 pub use handle::Handle;
 pub use slot::Slot;
 pub use sources::format_source;
-pub use texts::Lengths;
+pub use texts::{Form, Lengths};

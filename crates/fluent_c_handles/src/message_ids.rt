@@ -1,12 +1,13 @@
 //! The ids of the messages of a bundle, a line each.
 ghost use Rattle.std.specs.Prelude.{◌≡◌, IfOk, OnOk, string_bytes};
 ghost use Rattle.fluent_bundle.specs.BundleView.{entries_of};
-ghost use Rattle.fluent_c_handles.specs.Answers.{bundle_view};
+ghost use Rattle.fluent_c_handles.specs.Answers.{bundle_view, stock_content, unanswered};
 ghost use Rattle.fluent_c_handles.specs.Inside.Gathered.{PutsId, PutsIds, texts_of};
 ghost use Rattle.fluent_c_handles.specs.Inside.Resources.{ComeFrom};
 ghost use Rattle.fluent_c_handles.specs.Calls.Finding.{id_lines, message_ids};
 
-use crate::opening::Plain;
+use crate::opening::Asking;
+use crate::stock::Stock;
 use fluent_bundle::FluentResource;
 use fluent_syntax::ast;
 use std::alloc::{AllocError, Global};
@@ -26,7 +27,7 @@ pub struct Added<'r, 's> {
 /// An allocation failed.
 pub fn listed(
     alloc: Global,
-    bundle: &Plain<'_, '_>,
+    bundle: &Asking<'_, '_>,
     resources: &[Added<'_, '_>],
 ) -> Result<String, AllocError>
     requires { ComeFrom resources.now bundle.now }
@@ -39,9 +40,20 @@ pub fn listed(
     lines(alloc, ids)
 }
 
+/// The same of a stock, whatever the caller answers.
+///
+/// # Errors
+///
+/// An allocation failed.
+pub(crate) fn listed_of(alloc: Global, stock: &Stock<'_, '_>) -> Result<String, AllocError>
+    ensures { IfOk result (λ t. string_bytes t ≡ id_lines (message_ids (unanswered (stock_content stock.now)))) }
+{
+    listed(alloc, &stock.bundle, stock.added.as_slice())
+}
+
 /// Puts the ids of the messages of a bundle that are among the entries of a resource beside others.
 fn put_entries<'s>(
-    bundle: &Plain<'_, '_>,
+    bundle: &Asking<'_, '_>,
     resource: &FluentResource<'s>,
     ids: &mut BTreeSet<&'s str>,
 ) -> Result<(), AllocError>
@@ -57,7 +69,7 @@ fn put_entries<'s>(
 
 /// Puts an id beside others where it names a message of the bundle.
 fn put<'s>(
-    bundle: &Plain<'_, '_>,
+    bundle: &Asking<'_, '_>,
     id: &'s str,
     ids: &mut BTreeSet<&'s str>,
 ) -> Result<(), AllocError>

@@ -7,17 +7,18 @@ use crate::turns::{Call, OnOpen, Turn};
 use std::alloc::Global;
 use std::mem;
 
-/// What C holds. All bytes zero, it is closed. Its calls stand in `calls`.
+/// What C holds. All bytes zero, it is closed. Its calls stand in `calls`; none reads or changes what C keeps beside the bundle.
 #[repr(C)]
 #[derive(Drop)]
 pub struct Slot {
     pub handle: Handle,
     pub is_open: bool,
+    pub beside: usize,
     ghost agrees: { is_open ≡ is_some handle.held },
 }
 
 impl Slot {
-    ghost use Rattle.fluent_c_handles.specs.Answers.{SlotIsClosed, WhenOpen, kept_in};
+    ghost use Rattle.fluent_c_handles.specs.Answers.{SlotCloses, WhenOpen, kept_in};
 
     /// Holds nothing.
     fn closed(alloc: Global) -> Slot
@@ -26,31 +27,47 @@ impl Slot {
         Slot {
             handle: Handle::none(alloc),
             is_open: false,
+            beside: 0,
         }
     }
 
     /// Does something of what is kept.
     pub(crate) fn turn<T: Turn>(&mut self, alloc: Global, what: &T) -> Answer
-        ensures { T.does what.now (kept_in self.old) (kept_in self.new) result }
+        ensures does { T.does what.now (kept_in self.old) (kept_in self.new) result }
+        ensures beside { self.new.beside ≡ self.old.beside }
     {
-        let Slot { handle, is_open } = mem::replace(self, Slot::closed(alloc));
+        let Slot {
+            handle,
+            is_open,
+            beside,
+        } = mem::replace(self, Slot::closed(alloc));
         let (handle, is_open, answer) = handle.turn(alloc, is_open, what);
-        *self = Slot { handle, is_open };
+        *self = Slot {
+            handle,
+            is_open,
+            beside,
+        };
         answer
     }
 
     /// Makes a call where a bundle is open.
     pub(crate) fn ask<C: Call>(&mut self, alloc: Global, call: &C) -> Answer
-        ensures { WhenOpen (C.does call.now) (kept_in self.old) (kept_in self.new) result }
+        ensures does { WhenOpen (C.does call.now) (kept_in self.old) (kept_in self.new) result }
+        ensures beside { self.new.beside ≡ self.old.beside }
     {
         self.turn(alloc, &OnOpen { call })
     }
 
     /// Drops the bundle and frees its resources and sources.
     pub fn close(&mut self, alloc: Global)
-        ensures { SlotIsClosed self.new }
+        ensures { SlotCloses self }
     {
-        let Slot { handle, is_open } = mem::replace(self, Slot::closed(alloc));
+        let Slot {
+            handle,
+            is_open,
+            beside,
+        } = mem::replace(self, Slot::closed(alloc));
+        self.beside = beside;
         if is_open {
             handle.close();
         }

@@ -7,7 +7,7 @@ ghost use Rattle.fluent_c_handles.specs.Calls.Formatting.{FormatsSource, GivesOf
 
 use crate::adding::add_free;
 use crate::answer::status;
-use crate::opening::{OpenFault, open};
+use crate::opening::{OpenFault, Opened, open};
 use crate::texts::{FormatFault, Lengths, format};
 use fluent_bundle::FluentResource;
 use std::alloc::{AllocError, Global};
@@ -85,8 +85,13 @@ fn try_format_source(
     let Ok(text) = str::from_utf8(source) else {
         return Err(SourceFault::NotText);
     };
-    let opened = match open(alloc, tag, isolate) {
-        Ok(opened) => opened,
+    let opened = match open(alloc, tag, isolate, false) {
+        Ok(
+            Opened {
+                bundle,
+                is_known: _,
+            },
+        ) => bundle,
         Err(fault) => return Err(SourceFault::Open(fault)),
     };
     let Ok(resource) = resource_of(alloc, text) else {

@@ -11,7 +11,7 @@ ghost use Rattle.fluent_c_handles.specs.Inside.Telling.{IsReport, AddsLeft, Adds
 
 use crate::left::{Left, left_of};
 use crate::lines::Lines;
-use crate::opening::Plain;
+use crate::opening::Asking;
 use fluent_bundle::{FluentResource, Ids, ParserError, ast};
 use fluent_syntax::entry_starts;
 use std::alloc::{AllocError, Global};
@@ -26,7 +26,7 @@ use std::alloc::{AllocError, Global};
 /// An allocation failed.
 pub fn told(
     alloc: Global,
-    bundle: &Plain<'_, '_>,
+    bundle: &Asking<'_, '_>,
     resource: &FluentResource<'_>,
     unreadable: &[ParserError],
 ) -> Result<String, AllocError>

@@ -5,14 +5,15 @@ ghost use Rattle.fluent_resolver_state.specs.Status.{reported};
 ghost use Rattle.fluent_c_handles.specs.Calls.Formatting.{FormatsIn, NotFormattedIn, TextsIn, error_line, error_lines, told_in};
 ghost use Rattle.fluent_bundle_entries.specs.ErrorView.{error_view};
 ghost use Rattle.fluent_c_handles.specs.Answers.{bundle_view, found_at};
-ghost use Rattle.fluent_c_handles.specs.Inside.Shown.{NotShown, Shows};
+ghost use Rattle.fluent_c_handles.specs.Inside.Shown.{HasNoValues, HasValues, NotShown, Shows};
+ghost use Rattle.fluent_answers.specs.ArgumentView.{args_view};
 
 use crate::buffers::put_text;
-use crate::encoded::{Fault, arguments};
-use crate::lookup::{is_there, values};
-use crate::opening::Plain;
+use crate::lookup::is_there;
+use crate::opening::Asking;
 use crate::records::records;
-use fluent_bundle::{FluentArgs, FluentError, NoCustom};
+use fluent_answers::{Fault, OwnValue, arguments, values};
+use fluent_bundle::{FluentArgs, FluentError};
 use std::alloc::{AllocError, Global};
 use std::borrow::CowStr;
 use std::str;
@@ -32,6 +33,8 @@ pub enum FormatFault {
     NotText,
     /// The arguments can't be read.
     Arguments(Fault),
+    /// The answers can't be read.
+    Answers(Fault),
     /// There is no such message with a value, or with such an attribute.
     NoMessage,
     /// An allocation failed.
@@ -56,7 +59,7 @@ pub enum Form {
 /// As [`FormatFault`] says: both buffers are as before.
 pub(crate) fn format(
     alloc: Global,
-    bundle: &Plain<'_, '_>,
+    bundle: &Asking<'_, '_>,
     id: &[u8],
     name: &[u8],
     args: &[u8],
@@ -85,7 +88,7 @@ pub(crate) fn format(
 /// As [`FormatFault`] says.
 pub(crate) fn texts<'r, 's: 'r>(
     alloc: Global,
-    bundle: &Plain<'r, 's>,
+    bundle: &Asking<'r, 's>,
     form: Form,
     id: &[u8],
     name: &[u8],
@@ -104,24 +107,36 @@ pub(crate) fn texts<'r, 's: 'r>(
     if !is_there(bundle, id, name) {
         return Err(FormatFault::NoMessage);
     }
+    let args = read_values(alloc, args)?;
+    texts_with(alloc, bundle, form, id, name, &args)
+}
+
+/// The values of arguments.
+pub(crate) fn read_values(
+    alloc: Global,
+    args: &[u8],
+) -> Result<FluentArgs<'_, OwnValue>, FormatFault>
+    ensures ok { IfOk result (λ values. HasValues args.now (args_view values)) }
+    ensures err { IfErr result (HasNoValues args.now) }
+{
     let list = match arguments(alloc, args) {
         Ok(list) => list,
         Err(fault) => return Err(FormatFault::Arguments(fault)),
     };
-    let Ok(args) = values(alloc, list) else {
-        return Err(FormatFault::Memory);
-    };
-    texts_with(alloc, bundle, form, id, name, &args)
+    match values(alloc, list) {
+        Ok(args) => Ok(args),
+        Err(AllocError) => Err(FormatFault::Memory),
+    }
 }
 
 /// The same of a value or an attribute, with arguments that were read.
-fn texts_with<'r, 's: 'r>(
+pub(crate) fn texts_with<'r, 's: 'r>(
     alloc: Global,
-    bundle: &Plain<'r, 's>,
+    bundle: &Asking<'r, 's>,
     form: Form,
     id: &str,
     attribute: &str,
-    args: &FluentArgs<'_, NoCustom>,
+    args: &FluentArgs<'_, OwnValue>,
 ) -> Result<(CowStr<'s>, String), FormatFault>
     ensures ok { IfOk result (λ t. Shows form (bundle_view bundle.now) id.now attribute.now args.now (Some t)) }
     ensures err { IfErr result (NotShown (bundle_view bundle.now) id.now attribute.now) }
@@ -136,11 +151,11 @@ fn texts_with<'r, 's: 'r>(
 /// The text of a value or an attribute, and what is told of its errors.
 fn shown<'r, 's: 'r>(
     alloc: Global,
-    bundle: &Plain<'r, 's>,
+    bundle: &Asking<'r, 's>,
     form: Form,
     id: &str,
     attribute: &str,
-    args: &FluentArgs<'_, NoCustom>,
+    args: &FluentArgs<'_, OwnValue>,
 ) -> Result<Option<(CowStr<'s>, String)>, AllocError>
     ensures shows { IfOk result (Shows form (bundle_view bundle.now) id.now attribute.now args.now) }
     ensures there { OnErr result (found_at id.now attribute.now (bundle_view bundle.now) ≢ None) }
@@ -158,7 +173,7 @@ fn shown<'r, 's: 'r>(
 }
 
 /// What is told of errors.
-fn told(alloc: Global, form: Form, errors: &[FluentError]) -> Result<String, AllocError>
+pub(crate) fn told(alloc: Global, form: Form, errors: &[FluentError]) -> Result<String, AllocError>
     ensures { IfOk result (λ text. string_bytes text ≡ told_in form (reported errors.now)) }
 {
     match form {

@@ -39,3 +39,7 @@ Reports {F} old told errors = (answer : F → Function Text) → map error_view 
 -- a function was not added where its id was taken; there is no other error
 abbrev pub ReportsIfTaken : {F : Type 0} → Ids F → CowStr Global → Vec FluentError Global → Type 0
 ReportsIfTaken old id errors = Reports old (error_if_taken function_kind (cow_str_bytes id)) errors
+
+-- an id names this, whatever it named
+abbrev pub SetsEntry : {F : Type 0} → Ids F → Ids F → CowStr Global → Entry F → Type 0
+SetsEntry {F} old new id x = (answer : F → Function Text) → ids answer new ≡ set (cow_str_bytes id) (entry_of answer x) (ids answer old)

@@ -10,7 +10,7 @@ use Rattle.fluent_semantics.specs.Arguments.{Map}
 use Rattle.fluent_semantics.specs.Bundle as bundles
 use Rattle.fluent_semantics.specs.Bundle.{Bundle, add_resource_overriding, added, after, not_added}
 use Rattle.fluent_semantics.specs.Errors.{Error, error_text}
-use Rattle.fluent_c_handles.specs.Answers.{BundleCall, IsOneText, Meant, with_source}
+use Rattle.fluent_c_handles.specs.Answers.{BundleCall, IsOneText, Kept, unanswered, with_source}
 use Rattle.fluent_c_handles.specs.declared.answer.Answer.TheVariants as answer
 use Rattle.fluent_c_handles.specs.declared.sources.SourceFault.{SourceFault}
 use Rattle.fluent_c_handles.specs.declared.sources.SourceFault.TheVariants as source_fault
@@ -68,13 +68,13 @@ told_overriding_of source = unreadable_lines source (junk_ranges source)
 -- ---- the calls
 
 -- a source was added, of which is told what was passed over
-abbrev pub added_to : Text → Meant → Meant
-added_to source m = record { bundle = with_source source m.bundle; told = told_of source m.bundle }
+abbrev pub added_to : Text → Kept → Kept
+added_to source m = record m { by = λ all. with_source source (m.by all); told = told_of source (unanswered m) }
 
 -- the entries of a source took the place of what had their ids, and what can't be read in it is told
-abbrev pub overridden_by : Text → Meant → Meant
+abbrev pub overridden_by : Text → Kept → Kept
 overridden_by source m =
-    record { bundle = after (add_resource_overriding (entries source)) m.bundle; told = told_overriding_of source }
+    record m { by = λ all. after (add_resource_overriding (entries source)) (m.by all); told = told_overriding_of source }
 
 -- why a source was not added
 abbrev pub NotAdded : Text → SourceFault → Type 0

@@ -7,7 +7,7 @@ use Rattle.fluent_ast.specs.Tree.{Text}
 use Rattle.fluent_semantics.specs.Bundle.{Bundle}
 use Rattle.fluent_bundle_entries.specs.MessageView.{Content}
 use Rattle.fluent_bundle.specs.BundleView.{message_at}
-use Rattle.fluent_c_handles.specs.Answers.{BundleCall, IsOneText, found_at}
+use Rattle.fluent_c_handles.specs.Answers.{BundleCall, IsOneText, found_at, unanswered}
 use Rattle.fluent_c_handles.specs.declared.answer.Answer.TheVariants as answer
 use Rattle.fluent_c_handles.specs.declared.sources.SourceFault.TheVariants as source_fault
 use Rattle.fluent_c_handles.specs.declared.texts.FormatFault.{FormatFault}
@@ -30,7 +30,7 @@ id_lines (id ∷ ids) = id ++ 10 ∷ id_lines ids
 
 -- these lines; or there was no memory
 abbrev pub ListsIds : BundleCall
-ListsIds m new (answer.Texts text lines) = (new ≡ m) × IsOneText (id_lines (message_ids m.bundle)) text lines
+ListsIds m new (answer.Texts text lines) = (new ≡ m) × IsOneText (id_lines (message_ids (unanswered m))) text lines
 ListsIds m new (answer.Fault source_fault.Memory) = new ≡ m
 ListsIds m new a = ⊥
 
@@ -44,8 +44,8 @@ HasNoMessage bundle id f = ⊥
 
 -- whether there is one of the id
 abbrev pub HasMessage : Text → BundleCall
-HasMessage id m new answer.Done = (new ≡ m) × (IsUtf8 id × (is_some (message_at id m.bundle) ≡ true))
-HasMessage id m new (answer.Fault (source_fault.Format f)) = (new ≡ m) × HasNoMessage m.bundle id f
+HasMessage id m new answer.Done = (new ≡ m) × (IsUtf8 id × (is_some (message_at id (unanswered m)) ≡ true))
+HasMessage id m new (answer.Fault (source_fault.Format f)) = (new ≡ m) × HasNoMessage (unanswered m) id f
 HasMessage id m new a = ⊥
 
 -- ---- the attributes of one
@@ -61,9 +61,9 @@ TellsNames (Some message) text lines = IsOneText (id_lines (attribute_names mess
 
 -- the same of the message of the id; or there is none, or no memory
 abbrev pub ListsAttributes : Text → BundleCall
-ListsAttributes id m new (answer.Texts text lines) = (new ≡ m) × (IsUtf8 id × TellsNames (message_at id m.bundle) text lines)
-ListsAttributes id m new (answer.Fault source_fault.Memory) = (new ≡ m) × (IsUtf8 id × (is_some (message_at id m.bundle) ≡ true))
-ListsAttributes id m new (answer.Fault (source_fault.Format f)) = (new ≡ m) × HasNoMessage m.bundle id f
+ListsAttributes id m new (answer.Texts text lines) = (new ≡ m) × (IsUtf8 id × TellsNames (message_at id (unanswered m)) text lines)
+ListsAttributes id m new (answer.Fault source_fault.Memory) = (new ≡ m) × (IsUtf8 id × (is_some (message_at id (unanswered m)) ≡ true))
+ListsAttributes id m new (answer.Fault (source_fault.Format f)) = (new ≡ m) × HasNoMessage (unanswered m) id f
 ListsAttributes id m new a = ⊥
 
 -- ---- by an id and the name of an attribute, which may be empty
@@ -76,6 +76,6 @@ HasNoPattern bundle id name f = ⊥
 
 -- whether there is one with the value or the attribute
 abbrev pub HasPattern : Text → Text → BundleCall
-HasPattern id name m new answer.Done = (new ≡ m) × (IsUtf8 id × IsUtf8 name × (is_some (found_at id name m.bundle) ≡ true))
-HasPattern id name m new (answer.Fault (source_fault.Format f)) = (new ≡ m) × HasNoPattern m.bundle id name f
+HasPattern id name m new answer.Done = (new ≡ m) × (IsUtf8 id × IsUtf8 name × (is_some (found_at id name (unanswered m)) ≡ true))
+HasPattern id name m new (answer.Fault (source_fault.Format f)) = (new ≡ m) × HasNoPattern (unanswered m) id name f
 HasPattern id name m new a = ⊥

@@ -1,22 +1,21 @@
--- A message is formatted: its value or an attribute, with arguments in bytes, by one bundle, by the first of several, or by
--- the bundle of one source.
-use Rattle.std.specs.Prelude.{◌≡◌, ◌≢◌, ◌≤◌, ◌<◌, ◌==◌, ℕ, Bool, true, false, List, [], ◌∷◌, ◌++◌, length, take, drop, get_or, map, Option, Some, None, is_some, if◌then◌else◌, nat_lt, string_bytes}
-use Rattle.std.specs.List.{All, find, position}
-use Rattle.std.specs.Int.{w32, from_le_bytes}
+-- A message is formatted: its value or an attribute, with arguments in bytes and what the caller answered, by one bundle, by the
+-- first of several, or by the bundle of one source.
+use Rattle.std.specs.Prelude.{◌≡◌, ◌≢◌, ◌≤◌, ◌<◌, ℕ, Bool, true, false, List, [], ◌∷◌, ◌++◌, length, get_or, Option, Some, None, is_some, string_bytes}
+use Rattle.std.specs.List.{find, position}
 use Rattle.std.specs.Option.{option_map}
 use Rattle.std.specs.Str.{IsUtf8}
 use Rattle.fluent_text.specs.Changes.{Change, new, old}
-use Rattle.fluent_text.specs.Parser.{Parser, ◌>>=◌, pure}
 use Rattle.fluent_ast.specs.Tree.{Text, Pattern, no_attribute, attribute}
-use Rattle.fluent_semantics.specs.Arguments.{Map, set_all}
 use Rattle.fluent_semantics.specs.Bundle.{Bundle}
 use Rattle.fluent_semantics.specs.Errors.{Error, Reference, to_function, to_message, to_term, to_variable, lost, no_value, missing_default, cyclic, too_many_placeables, overriding, parser_error, resolver_error, error_text}
 use Rattle.fluent_semantics.specs.Result.{formatted, written_pattern}
-use Rattle.fluent_semantics.specs.Value.{Value, text_value, try_number}
-use Rattle.fluent_c_handles.specs.Answers.{BundleCall, Given, GivesNone, KeptCall, Meant, NotOpenedByTag, OpenedByTag, TextsGiven, WhenOpen, all_kept, fault_status, found_at, with_source}
+use Rattle.fluent_answers.specs.Answered.{first_answer}
+use Rattle.fluent_answers.specs.Records.{Are, AreAnswers, NotRead, NotReadAsAnswers, Record}
+use Rattle.fluent_answers.specs.Tables.{Table}
+use Rattle.fluent_answers.specs.Values.{argument_values}
+use Rattle.fluent_c_handles.specs.Family.{Declares, is_something, may_ask}
+use Rattle.fluent_c_handles.specs.Answers.{BundleCall, Given, GivesNone, KeptCall, Kept, NotOpenedByTag, OpenedByTag, TextsGiven, WhenOpen, all_kept, fault_status, found_at, unanswered, with_source}
 use Rattle.fluent_c_handles.specs.declared.answer.Answer.TheVariants as answer
-use Rattle.fluent_c_handles.specs.declared.encoded.Fault.{Fault}
-use Rattle.fluent_c_handles.specs.declared.encoded.Fault.TheVariants as argument_fault
 use Rattle.fluent_c_handles.specs.declared.slot.Slot.{Slot}
 use Rattle.fluent_c_handles.specs.declared.sources.SourceFault.{SourceFault}
 use Rattle.fluent_c_handles.specs.declared.sources.SourceFault.TheVariants as source_fault
@@ -25,99 +24,6 @@ use Rattle.fluent_c_handles.specs.declared.texts.FormatFault.TheVariants as faul
 use Rattle.fluent_c_handles.specs.declared.texts.Form.{Form}
 use Rattle.fluent_c_handles.specs.declared.texts.Form.TheVariants as form
 use Rattle.fluent_c_handles.specs.declared.texts.Lengths.{Lengths}
-
--- ---- one argument in bytes: the kind of its value, `t` for a text and `n` for a number, and then its name and its value,
--- each after its length, which is four bytes, the lowest first
-
-pub record Argument : Type 0 where
-  pub name : Text
-  pub value : Text
-  pub is_number : Bool
-
-abbrev pub kind_of : ℕ → Option Bool
-kind_of c = if c == 116 then Some false else (if c == 110 then Some true else None)
-
-abbrev pub kind_by : Option Bool → Parser Bool
-kind_by None s = None
-kind_by (Some k) s = Some (k, s)
-
-abbrev pub kind : Parser Bool
-kind [] = None
-kind (c ∷ s) = kind_by (kind_of c) s
-
--- so many bytes
-abbrev pub exactly : ℕ → Parser Text
-exactly n s = if nat_lt (length s) n then None else Some (take n s, drop n s)
-
--- a text after its length
-abbrev pub sized : Parser Text
-sized = exactly 4 >>= (λ size. exactly (from_le_bytes w32 size))
-
-abbrev pub argument : Parser Argument
-argument = kind >>= (λ k. sized >>= (λ name. sized >>= (λ value.
-    pure (record { name = name; value = value; is_number = k }))))
-
-abbrev pub HasTexts : Argument → Type 0
-HasTexts a = IsUtf8 a.name × IsUtf8 a.value
-
--- ---- arguments one after the other
-
--- these stand before a rest
-abbrev pub StandBefore : List Argument → List ℕ → List ℕ → Type 0
-StandBefore [] s rest = s ≡ rest
-StandBefore (a ∷ all) s rest =
-    (next : List ℕ) × (argument s ≡ Some (a, next)) × StandBefore all next rest
-
--- bytes are these arguments
-pub record Are (all : List Argument) (bytes : List ℕ) : Type 0 where
-  pub whole : StandBefore all bytes []
-  pub texts : All HasTexts all
-
--- After some arguments there is something, and no argument at its start.
-pub record IsCut (bytes : List ℕ) : Type 0 where
-  pub all : List Argument
-  pub rest : List ℕ
-  pub before : StandBefore all bytes rest
-  pub texts : All HasTexts all
-  pub some : rest ≢ []
-  pub none : argument rest ≡ None
-
--- After some arguments there is one with a name or a value that is no text.
-pub record HasNotText (bytes : List ℕ) : Type 0 where
-  pub all : List Argument
-  pub next : Argument
-  pub rest : List ℕ
-  pub after : List ℕ
-  pub before : StandBefore all bytes rest
-  pub texts : All HasTexts all
-  pub some : argument rest ≡ Some (next, after)
-  pub none : ¬ (HasTexts next)
-
--- At the start there is an argument with texts, which takes memory.
-pub record HasFirst (bytes : List ℕ) : Type 0 where
-  pub first : Argument
-  pub after : List ℕ
-  pub some : argument bytes ≡ Some (first, after)
-  pub texts : HasTexts first
-
--- why bytes were not read as arguments
-abbrev pub NotRead : List ℕ → Fault → Type 0
-NotRead bytes argument_fault.Cut = IsCut bytes
-NotRead bytes argument_fault.NotText = HasNotText bytes
-NotRead bytes argument_fault.Memory = HasFirst bytes
-
--- ---- their values
-
--- a text, or the number that a text is, where it is one
-abbrev pub argument_value : Argument → Value Text
-argument_value a = if a.is_number then try_number a.value else text_value a.value
-
-abbrev pub argument_pair : Argument → Text × Value Text
-argument_pair a = (a.name, argument_value a)
-
--- the arguments, set in order; the last of a repeated name stands
-abbrev pub argument_values : List Argument → Map (Value Text)
-argument_values all = set_all (map argument_pair all) []
 
 -- ---- the lines of errors
 
@@ -162,7 +68,11 @@ abbrev pub error_records : List Error → Text
 error_records [] = []
 error_records (error ∷ errors) = error_record error ++ error_records errors
 
--- how errors are told
+-- how errors are told: a line for each, or a record
+abbrev pub told_as : Bool → List Error → Text
+told_as true = error_records
+told_as false = error_lines
+
 abbrev pub told_in : Form → List Error → Text
 told_in form.Lines = error_lines
 told_in form.Records = error_records
@@ -173,10 +83,20 @@ told_in form.Records = error_records
 pub record TextsIn (tell : List Error → Text) (bundle : Bundle Text) (id name args shown told : List ℕ) : Type 0 where
   pub texts : IsUtf8 id × IsUtf8 name
   pub pattern : Pattern
-  pub all : List Argument
+  pub all : List Record
   pub found : found_at id name bundle ≡ Some pattern
   pub read : Are all args
   pub text : shown ≡ formatted bundle (written_pattern bundle (argument_values all) pattern).value
+  pub errors : told ≡ tell (written_pattern bundle (argument_values all) pattern).errors
+
+-- The same as it is written: the formatter is asked about what is placed in the text, and not about the whole.
+pub record WritesIn (tell : List Error → Text) (bundle : Bundle Text) (id name args shown told : List ℕ) : Type 0 where
+  pub texts : IsUtf8 id × IsUtf8 name
+  pub pattern : Pattern
+  pub all : List Record
+  pub found : found_at id name bundle ≡ Some pattern
+  pub read : Are all args
+  pub text : shown ≡ (written_pattern bundle (argument_values all) pattern).value
   pub errors : told ≡ tell (written_pattern bundle (argument_values all) pattern).errors
 
 -- The id and the name are texts, and there is such a message.
@@ -186,7 +106,7 @@ pub record IsThere (bundle : Bundle Text) (id name : Text) : Type 0 where
 
 -- The arguments can be read.
 pub record AreArguments (args : List ℕ) : Type 0 where
-  pub all : List Argument
+  pub all : List Record
   pub read : Are all args
 
 -- Why nothing is formatted. A message that is not there is told before its arguments are read.
@@ -194,21 +114,34 @@ abbrev pub NotFormattedIn : Bundle Text → Text → Text → List ℕ → Forma
 NotFormattedIn bundle id name args fault.NotText = ¬ (IsUtf8 id × IsUtf8 name)
 NotFormattedIn bundle id name args fault.NoMessage = (IsUtf8 id × IsUtf8 name) × (found_at id name bundle ≡ None)
 NotFormattedIn bundle id name args (fault.Arguments f) = IsThere bundle id name × NotRead args f
+NotFormattedIn bundle id name args (fault.Answers f) = ⊥
 NotFormattedIn bundle id name args fault.Memory = IsThere bundle id name × AreArguments args
 
--- its text, and what is told of its errors
-abbrev pub FormatsBy : (List Error → Text) → Text → Text → List ℕ → BundleCall
-FormatsBy tell id name args m new (answer.Texts text told) = (new ≡ m) × TextsIn tell m.bundle id name args (string_bytes text) (string_bytes told)
-FormatsBy tell id name args m new (answer.Fault (source_fault.Format f)) = (new ≡ m) × NotFormattedIn m.bundle id name args f
-FormatsBy tell id name args m new a = ⊥
+-- ---- by one that is kept, and what the caller answered
 
--- a line for each error
-abbrev pub Formats : Text → Text → List ℕ → BundleCall
-Formats = FormatsBy error_lines
+-- Why nothing is formatted: the answers, where there may be some, are read after the arguments.
+abbrev pub NotFormattedBy : Bundle Text → Declares → List ℕ → Text → Text → List ℕ → FormatFault → Type 0
+NotFormattedBy bundle d answers id name args fault.NotText = NotFormattedIn bundle id name args fault.NotText
+NotFormattedBy bundle d answers id name args fault.NoMessage = NotFormattedIn bundle id name args fault.NoMessage
+NotFormattedBy bundle d answers id name args (fault.Arguments f) = NotFormattedIn bundle id name args (fault.Arguments f)
+NotFormattedBy bundle d answers id name args (fault.Answers f) = (is_something d ≡ true) × (IsThere bundle id name × AreArguments args) × NotReadAsAnswers answers f
+NotFormattedBy bundle d answers id name args fault.Memory = NotFormattedIn bundle id name args fault.Memory
 
--- a record for each error
-abbrev pub FormatsRecords : Text → Text → List ℕ → BundleCall
-FormatsRecords = FormatsBy error_records
+-- The caller is asked something of what it declared, which it has not answered. Message, arguments and answers are there.
+pub record Asks (bundle : Bundle Text) (d : Declares) (answers id name args question : List ℕ) : Type 0 where
+  pub there : IsThere bundle id name
+  pub arguments : AreArguments args
+  pub records : List Record
+  pub read : AreAnswers records answers
+  pub unanswered : first_answer question records ≡ None
+  pub asks : may_ask d question ≡ true
+
+-- its text, and what is told of its errors, by all that the caller answers; or a question
+abbrev pub FormatsBy : Table → List ℕ → (List Error → Text) → Text → Text → List ℕ → BundleCall
+FormatsBy all answers tell id name args m new (answer.Texts text told) = (new ≡ m) × WritesIn tell (m.by all) id name args (string_bytes text) (string_bytes told)
+FormatsBy all answers tell id name args m new (answer.Asks question) = (new ≡ m) × Asks (m.by all) m.declared answers id name args question.items
+FormatsBy all answers tell id name args m new (answer.Fault (source_fault.Format f)) = (new ≡ m) × NotFormattedBy (m.by all) m.declared answers id name args f
+FormatsBy all answers tell id name args m new a = ⊥
 
 -- ---- by the first of several
 
@@ -218,43 +151,43 @@ has_or_closed id name None = true
 has_or_closed id name (Some bundle) = is_some (found_at id name bundle)
 
 -- the same of what is kept
-abbrev pub answers : Text → Text → Option Meant → Bool
-answers id name kept = has_or_closed id name (option_map (λ m. m.bundle) kept)
+abbrev pub answers : Text → Text → Option Kept → Bool
+answers id name kept = has_or_closed id name (option_map unanswered kept)
 
 -- the first that does
-abbrev pub first_to_answer : Text → Text → List (Option Meant) → Option (Option Meant)
+abbrev pub first_to_answer : Text → Text → List (Option Kept) → Option (Option Kept)
 first_to_answer id name all = find (answers id name) all
 
 -- as a call of it alone, which leaves it as it is; nothing is given (8) where none answers
-abbrev pub AnswersFirst : Option (Option Meant) → KeptCall → List ℕ → List ℕ → List ℕ → List ℕ → Lengths → ℕ → Type 0
+abbrev pub AnswersFirst : Option (Option Kept) → KeptCall → List ℕ → List ℕ → List ℕ → List ℕ → Lengths → ℕ → Type 0
 AnswersFirst None call out out' err err' lengths status = (status ≡ 8) × GivesNone out out' err err' lengths
 AnswersFirst (Some kept) call out out' err err' lengths status = TextsGiven call kept kept out out' err err' lengths status
 
 -- The first of these bundles formats a message, where its id and the attribute's name are UTF-8; else nothing is given (7).
-pub record FirstGives (id name : Text) (args : List ℕ) (slots : List Slot) (out out' err err' : List ℕ) (lengths : Lengths) (status : ℕ) : Type 0 where
+pub record FirstGives (all : Table) (given : List ℕ) (tell : List Error → Text) (id name : Text) (args : List ℕ) (slots : List Slot) (out out' err err' : List ℕ) (lengths : Lengths) (status : ℕ) : Type 0 where
   pub texts : IsUtf8 id × IsUtf8 name
-      → AnswersFirst (first_to_answer id name (all_kept slots)) (WhenOpen (Formats id name args)) out out' err err' lengths status
+      → AnswersFirst (first_to_answer id name (all_kept slots)) (WhenOpen (FormatsBy all given tell id name args)) out out' err err' lengths status
   pub no_texts : ¬ (IsUtf8 id × IsUtf8 name) → (status ≡ 7) × GivesNone out out' err err' lengths
 
 -- the same of what the code is handed
-abbrev pub FormatsFirst : Text → Text → List ℕ → Change (List Slot) → Change (List ℕ) → Change (List ℕ) → Change Lengths → ℕ → Type 0
-FormatsFirst id name args slots out err lengths status =
-    FirstGives id name args (old slots) (old out) (new out) (old err) (new err) (new lengths) status
+abbrev pub FormatsFirst : Table → List ℕ → (List Error → Text) → Text → Text → List ℕ → Change (List Slot) → Change (List ℕ) → Change (List ℕ) → Change Lengths → ℕ → Type 0
+FormatsFirst all given tell id name args slots out err lengths status =
+    FirstGives all given tell id name args (old slots) (old out) (new out) (old err) (new err) (new lengths) status
 
 -- ---- which one answers
 
 -- the status: it has the message, or is not open
-abbrev pub found_status : Option Meant → ℕ
+abbrev pub found_status : Option Kept → ℕ
 found_status None = 11
 found_status (Some m) = 0
 
 -- the index of the first that answers, and its status; or how many there are, where none does (8)
-abbrev pub IsFoundAt : List (Option Meant) → Option ℕ → ℕ → ℕ → Type 0
+abbrev pub IsFoundAt : List (Option Kept) → Option ℕ → ℕ → ℕ → Type 0
 IsFoundAt all None index status = (index ≡ length all) × (status ≡ 8)
 IsFoundAt all (Some at) index status = (index ≡ at) × (status ≡ found_status (get_or all at None))
 
 -- The same where the id and the attribute's name are UTF-8; else none is asked (7).
-pub record FirstFound (id name : Text) (all : List (Option Meant)) (index status : ℕ) : Type 0 where
+pub record FirstFound (id name : Text) (all : List (Option Kept)) (index status : ℕ) : Type 0 where
   pub texts : IsUtf8 id × IsUtf8 name → IsFoundAt all (position (answers id name) all) index status
   pub no_texts : ¬ (IsUtf8 id × IsUtf8 name) → (index ≡ length all) × (status ≡ 7)
 
@@ -267,7 +200,7 @@ FindsFirst id name slots index status = FirstFound id name (all_kept (old slots)
 -- The message is there and the arguments can be read: its text and the lines of its errors were given.
 pub record FormatsIn (bundle : Bundle Text) (id name args out out' err err' : List ℕ) (lengths : Lengths) : Type 0 where
   pub pattern : Pattern
-  pub all : List Argument
+  pub all : List Record
   pub found : found_at id name bundle ≡ Some pattern
   pub read : Are all args
   pub text : Given (formatted bundle (written_pattern bundle (argument_values all) pattern).value) out out' lengths.text
@@ -276,13 +209,13 @@ pub record FormatsIn (bundle : Bundle Text) (id name args out out' err err' : Li
 -- The bundle of the language with the source formats the message.
 pub record GivesOf (tag : Text) (on : Bool) (source id name args out out' err err' : List ℕ) (lengths : Lengths) : Type 0 where
   pub bundle : Bundle Text
-  pub opened : OpenedByTag tag on bundle
+  pub opened : OpenedByTag tag on false bundle
   pub formats : FormatsIn (with_source source bundle) id name args out out' err err' lengths
 
 -- That bundle doesn't, and why.
 pub record FailsOf (tag : Text) (on : Bool) (source id name args : List ℕ) (f : FormatFault) : Type 0 where
   pub bundle : Bundle Text
-  pub opened : OpenedByTag tag on bundle
+  pub opened : OpenedByTag tag on false bundle
   pub fails : NotFormattedIn (with_source source bundle) id name args f
 
 -- There is something to read, for a bundle that is opened.
@@ -290,7 +223,7 @@ pub record TakesMemory (tag : Text) (on : Bool) (source : Text) : Type 0 where
   pub text : IsUtf8 source
   pub some : source ≢ []
   pub bundle : Bundle Text
-  pub opened : OpenedByTag tag on bundle
+  pub opened : OpenedByTag tag on false bundle
 
 -- why nothing is answered
 abbrev pub RefusesOf : Text → Bool → Text → Text → Text → List ℕ → SourceFault → Type 0

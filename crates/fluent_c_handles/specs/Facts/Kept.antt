@@ -19,8 +19,9 @@ use Rattle.fluent_c_handles.specs.Calls.Finding.{names_message}
 use Rattle.fluent_c_handles.specs.Facts.Added.{added_there, overridden_there, or_left, or_right}
 
 -- a bundle that was just opened has none
-pub all_from_none : (plurals : Plurals) (on : Bool) → AllFrom [] (new_bundle plurals on).ids
-all_from_none plurals on id h = by (eq_by_cmp (slice_cmp nat_cmp) id (codes "NUMBER")) h
+pub all_from_none : (plurals : Plurals) (on bare : Bool) → AllFrom [] (new_bundle plurals on bare).ids
+all_from_none plurals on true id h = h
+all_from_none plurals on false id h = by (eq_by_cmp (slice_cmp nat_cmp) id (codes "NUMBER")) h
   where
     by : (b : Bool) → is_some (message_content (cond {A = Option (m.Entry Text)} b (Some number_builtin) None)) ≡ true → false ≡ true
     by true j = j

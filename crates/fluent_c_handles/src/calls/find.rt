@@ -4,8 +4,8 @@ ghost use Rattle.fluent_c_handles.specs.Answers.{SlotDoes, SlotGivesText, WhenOp
 
 use crate::answer::Answer;
 use crate::attributes::attribute_lines;
-use crate::lookup::is_there;
-use crate::message_ids::listed;
+use crate::lookup::{has_pattern, message_of};
+use crate::message_ids::listed_of;
 use crate::slot::Slot;
 use crate::sources::SourceFault;
 use crate::stock::Stock;
@@ -76,7 +76,7 @@ impl Call for Ids {
     ghost does = { λ _. ListsIds };
 
     fn done<'r, 's: 'r>(&self, alloc: Global, stock: &mut Stock<'r, 's>) -> Answer {
-        match listed(alloc, &stock.bundle, stock.added.as_slice()) {
+        match listed_of(alloc, stock) {
             Ok(text) => Answer::Texts {
                 text,
                 lines: String::new(alloc),
@@ -93,7 +93,7 @@ impl Call for Attributes<'_> {
         let Ok(id) = str::from_utf8(self.id) else {
             return Answer::Fault(SourceFault::Format(FormatFault::NotText));
         };
-        let Some(message) = stock.bundle.get_message(id) else {
+        let Some(message) = message_of(stock, id) else {
             return Answer::Fault(SourceFault::Format(FormatFault::NoMessage));
         };
         match attribute_lines(alloc, &message) {
@@ -113,7 +113,7 @@ impl Call for Message<'_> {
         let Ok(id) = str::from_utf8(self.id) else {
             return Answer::Fault(SourceFault::Format(FormatFault::NotText));
         };
-        if stock.bundle.has_message(id) {
+        if message_of(stock, id).is_some() {
             Answer::Done
         } else {
             Answer::Fault(SourceFault::Format(FormatFault::NoMessage))
@@ -128,7 +128,7 @@ impl Call for Part<'_> {
         let (Ok(id), Ok(name)) = (str::from_utf8(self.id), str::from_utf8(self.name)) else {
             return Answer::Fault(SourceFault::Format(FormatFault::NotText));
         };
-        if is_there(&stock.bundle, id, name) {
+        if has_pattern(stock, id, name) {
             Answer::Done
         } else {
             Answer::Fault(SourceFault::Format(FormatFault::NoMessage))

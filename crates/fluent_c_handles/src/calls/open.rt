@@ -1,5 +1,5 @@
 //! Opens a bundle, and sets it up.
-ghost use Rattle.std.specs.Prelude.{◌≡◌, None, is_some};
+ghost use Rattle.std.specs.Prelude.{◌≡◌, None, false, is_some, true};
 ghost use Rattle.fluent_c_handles.specs.Calls.Opening.{OpensByRules, OpensByTag, SetsLimit};
 ghost use Rattle.fluent_c_handles.specs.Answers.{SlotDoes, WhenOpen, held_content};
 ghost use Rattle.fluent_c_handles.specs.Inside.Boxed.{Boxed};
@@ -18,6 +18,7 @@ use std::alloc::Global;
 struct ByTag<'w> {
     tag: &'w [u8],
     isolate: bool,
+    bare: bool,
 }
 
 /// By the texts of its plural rules.
@@ -35,12 +36,30 @@ struct Limit {
 }
 
 impl Slot {
-    /// Opens a bundle (0), by the tag of its language, with an empty report. One that is open stays (12). Else none is open: 2, an
-    /// allocation failed; 4, the tag is not UTF-8; 5 or 6, there are no rules for it, or they can't be read.
+    /// Opens a bundle by the tag of its language (0), or by the rules of the root where there are none for the tag (5), with an
+    /// empty report. One that is open stays (12). Else none is open: 2, an
+    /// allocation failed; 4, the tag is not UTF-8; 6, its rules can't be read.
     pub fn open(&mut self, alloc: Global, tag: &[u8], isolate: bool) -> u8
-        ensures { SlotDoes (OpensByTag tag.now isolate) self result }
+        ensures { SlotDoes (OpensByTag tag.now isolate false) self result }
     {
-        self.turn(alloc, &ByTag { tag, isolate }).status()
+        let by = ByTag {
+            tag,
+            isolate,
+            bare: false,
+        };
+        self.turn(alloc, &by).status()
+    }
+
+    /// The same without the function `NUMBER`.
+    pub fn open_bare(&mut self, alloc: Global, tag: &[u8], isolate: bool) -> u8
+        ensures { SlotDoes (OpensByTag tag.now isolate true) self result }
+    {
+        let by = ByTag {
+            tag,
+            isolate,
+            bare: true,
+        };
+        self.turn(alloc, &by).status()
     }
 
     /// Opens a bundle (0), by the texts of its plural rules, with an empty report. One that is open stays (12). Else none is
@@ -72,7 +91,7 @@ impl Slot {
 }
 
 impl Turn for ByTag<'_> {
-    ghost does = { λ by. OpensByTag by.tag.now by.isolate };
+    ghost does = { λ by. OpensByTag by.tag.now by.isolate by.bare };
 
     fn done<'r, 's: 'r>(
         &self,
@@ -83,7 +102,7 @@ impl Turn for ByTag<'_> {
         if is_open {
             return (stock, true, Answer::Open);
         }
-        open_by_tag(alloc, stock, self.tag, self.isolate)
+        open_by_tag(alloc, stock, self)
     }
 }
 
@@ -106,9 +125,8 @@ impl Turn for ByRules<'_> {
 impl Call for Limit {
     ghost does = { λ it. SetsLimit it.limit };
 
-    #[tactic(auto, using(crate::proofs::Limits::limits))]
     fn done<'r, 's: 'r>(&self, _: Global, stock: &mut Stock<'r, 's>) -> Answer {
-        if stock.bundle.set_placeable_limit(self.limit) {
+        if stock.set_limit(self.limit) {
             Answer::Done
         } else {
             Answer::OutOfRange
@@ -120,15 +138,17 @@ impl Call for Limit {
 fn open_by_tag<'r, 's: 'r>(
     alloc: Global,
     none: RawBox<Stock<'r, 's>, Global>,
-    tag: &[u8],
-    isolate: bool,
+    by: &ByTag<'_>,
 ) -> (RawBox<Stock<'r, 's>, Global>, bool, Answer)
     requires { none.held ≡ None }
-    ensures opens { OpensByTag tag.now isolate None (held_content result.0.held) result.2 }
+    ensures opens { OpensByTag by.now.tag.now by.now.isolate by.now.bare None (held_content result.0.held) result.2 }
     ensures open { result.1 ≡ is_some result.0.held }
 {
-    let opened = Stock::open(alloc, tag, isolate);
-    boxed(alloc, none, opened)
+    match Stock::open(alloc, by.tag, by.isolate, by.bare) {
+        Ok((stock, true)) => boxed(alloc, none, Ok(stock), Answer::Done),
+        Ok((stock, false)) => boxed(alloc, none, Ok(stock), Answer::Root),
+        Err(fault) => boxed(alloc, none, Err(fault), Answer::Done),
+    }
 }
 
 /// Opens a bundle where there is none.
@@ -142,7 +162,7 @@ fn open_by_rules<'r, 's: 'r>(
     ensures open { result.1 ≡ is_some result.0.held }
 {
     let opened = Stock::open_by_rules(alloc, by.cardinal, by.ordinal, by.isolate);
-    boxed(alloc, none, opened)
+    boxed(alloc, none, opened, Answer::Done)
 }
 
 /// Puts a bundle that was opened into a box.
@@ -150,14 +170,15 @@ fn boxed<'r, 's: 'r>(
     alloc: Global,
     none: RawBox<Stock<'r, 's>, Global>,
     opened: Result<Stock<'r, 's>, OpenFault>,
+    done: Answer,
 ) -> (RawBox<Stock<'r, 's>, Global>, bool, Answer)
     requires { none.held ≡ None }
-    ensures boxed { Boxed opened.entry (held_content result.0.held) result.2 }
+    ensures boxed { Boxed done opened.entry (held_content result.0.held) result.2 }
     ensures open { result.1 ≡ is_some result.0.held }
 {
     match opened {
         Ok(stock) => match Box::new(alloc, stock) {
-            Ok(stock) => (RawBox::of(stock), true, Answer::Done),
+            Ok(stock) => (RawBox::of(stock), true, done),
             Err(_) => (none, false, Answer::Fault(SourceFault::Memory)),
         },
         Err(fault) => (none, false, Answer::Fault(SourceFault::Open(fault))),

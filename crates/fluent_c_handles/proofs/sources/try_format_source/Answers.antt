@@ -14,6 +14,6 @@ returns-then-is_err-clause-err c =
     record {
       text = search rules;
       some = λ none. added (c.in-Ok-resource_of.ensures.read ∙ ap entries (same ∙ none));
-      bundle = bundle_view c.in-Ok-open.opened;
+      bundle = bundle_view c.in-Ok-open.field-0.bundle;
       opened = c.in-Ok-open.ensures.ok;
     }

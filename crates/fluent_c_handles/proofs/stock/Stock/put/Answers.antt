@@ -1,13 +1,30 @@
-use Rattle.std.proofs.Common.{sym, subst}
-use Rattle.fluent_c_handles.specs.Answers.{bundle_view}
-use Rattle.fluent_c_handles.specs.Inside.Resources.{AllFrom, given}
+use Rattle.std.proofs.Common.{◌∙◌, ap, is_some, map, string_bytes, sym, subst}
+use Rattle.fluent_ast.specs.Tree.{Text}
+use Rattle.fluent_semantics.specs.Bundle.{Bundle}
+use Rattle.fluent_bundle.specs.BundleView.{entries_of, source_in}
+use Rattle.fluent_c_handles.specs.Answers.{bundle_view, declared_view}
+use Rattle.fluent_c_handles.specs.Inside.Resources.{AllFrom, AreAmong, given}
 use Rattle.fluent_c_handles.proofs.From.{added_from}
+use Rattle.fluent_c_handles.proofs.Stocks.{added_kept, among_added}
 use Rattle.fluent_c_handles.proofs.stock.Stock.put.Goals as goal
 
 -- the resource was added, and stands behind those before it
 pub invariant_of-self-2 : goal.invariant_of-self-2
 invariant_of-self-2 c =
-    let b = bundle_view c.args.self.now.bundle in
+    let old = c.args.self.now in
+    let b = bundle_view old.bundle in
     let b' = bundle_view c.add_free.new.bundle in
-    let before = subst (λ all. AllFrom (given all) b.ids) (sym c.reserve.ensures.items) c.args.self.now.from in
-    record { from = subst (λ all. AllFrom (given all) b'.ids) (sym c.push_reserved.ensures.items) (added_from c.reserve.new.self.items (record { resource = c.args.resource }) b b' c.in_ok-add_free.ensures.ok before) }
+    let names = map string_bytes old.declared.functions.items in
+    let before = subst (λ all. AllFrom (given all) b.ids) (sym c.reserve.ensures.items) old.from in
+    record {
+      from = subst (λ all. AllFrom (given all) b'.ids) (sym c.push_reserved.ensures.items) (added_from c.reserve.new.self.items (record { resource = c.args.resource }) b b' c.in_ok-add_free.ensures.ok before);
+      names = subst (λ (x : Bundle Text). AreAmong names x.ids) (sym c.in_ok-add_free.ensures.ok) (among_added names b.ids old.names (entries_of c.args.resource.now));
+      shows = ap is_some c.in_ok-add_free.ensures.kept.formatter ∙ old.shows;
+      changes = ap is_some c.in_ok-add_free.ensures.kept.transform ∙ old.changes;
+    }
+
+pub returns-clause-ok : goal.returns-clause-ok
+returns-clause-ok c =
+    let old = c.args.self.now in
+    added_kept (declared_view old.declared) (bundle_view old.bundle) (bundle_view c.add_free.new.bundle) (source_in c.args.resource.now) (string_bytes c.in_ok-told.told) (string_bytes old.told)
+    (entries_of c.args.resource.now) c.requires.read c.in_ok-add_free.ensures.ok c.in_ok-told.ensures

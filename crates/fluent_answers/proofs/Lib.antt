@@ -1,0 +1,5 @@
+mod Stands
+mod Written
+mod InOrder
+mod NumberProofs
+mod AnswerProofs

@@ -1,0 +1,14 @@
+pub mod Kinds
+pub mod Records
+pub mod Encoded
+pub mod Numbers
+pub mod OwnValues
+pub mod OwnContent
+pub mod Values
+pub mod ArgumentView
+pub mod Questions
+pub mod Tables
+pub mod Answered
+pub mod Asked
+pub mod Rows
+pub mod Inside
