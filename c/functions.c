@@ -368,6 +368,8 @@ static void questions(void) {
 /* ---- memory that is refused */
 
 static uint8_t live(void) {
+    uint8_t arguments[32];
+    size_t length = (size_t)(fluent_put_argument(arguments, FLUENT_OWN, "d", 1, "7\nmay", 5) - arguments);
     uint8_t status = fluent_open_bare(&bundle, TEXT("en"), false);
     if (!status)
         status = fluent_add_builtins(&bundle);
@@ -380,9 +382,12 @@ static uint8_t live(void) {
     if (!status)
         status = fluent_set_transform(&bundle, shout, NULL);
     if (!status)
-        status = fluent_add(&bundle, TEXT("a = x{ UP(UP(\"y\"), z: 1) }{ SAY() ->\n    [7] b\n   *[other] c\n }{ 5 }\n"));
+        status = fluent_add(&bundle, TEXT("a = x{ UP(UP(\"y\"), z: 1) }{ SAY() ->\n    [7] b\n   *[other] c\n }{ 5 }\n"
+                                          "o = { $d }{ SAY($d) }\n"));
     if (!status)
         status = format("a", "XYB<5>");
+    if (!status)
+        status = format_with("o", arguments, length, "may<7>", "");
     if (!status)
         status = fluent_override_function(&bundle, TEXT("NUMBER"), say, "o");
     if (!status)
