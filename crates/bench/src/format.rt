@@ -120,20 +120,24 @@ fn time_format<'s>(
     Ok(best)
 }
 
-/// Writes a pattern to a list of bytes, which it clears first.
+/// A writer as it was, without its bytes.
+pub fn emptied(writer: Counting<Vec<u8>>) -> Counting<Vec<u8>> {
+    let mut bytes = writer.into_inner();
+    bytes.clear();
+    Counting::new(bytes)
+}
+
+/// Writes a pattern to a list of bytes.
 fn write_once<'s>(
     bundle: &Bundle<'_, 's>,
     pattern: &Pattern<'s>,
     args: &FluentArgs<'_, NoCustom>,
-    bytes: Vec<u8>,
+    writer: &mut Counting<Vec<u8>>,
     errors: &mut Vec<FluentError>,
-) -> io::Result<Vec<u8>> {
-    let mut bytes = bytes;
-    bytes.clear();
+) -> io::Result<()> {
     errors.clear();
-    let mut writer = Counting::new(bytes);
-    match bundle.write_pattern(&mut writer, pattern, Some(args), errors) {
-        Ok(()) => Ok(writer.into_inner()),
+    match bundle.write_pattern(writer, pattern, Some(args), errors) {
+        Ok(()) => Ok(()),
         Err(WriteFault::Writer(error)) => Err(error),
         Err(_) => Err(out_of_memory()),
     }
@@ -148,16 +152,17 @@ fn time_write<'s>(
     args: &FluentArgs<'_, NoCustom>,
 ) -> io::Result<(u128, usize, usize)> {
     let mut errors = Vec::new(rt.alloc());
-    let mut bytes = Vec::new(rt.alloc());
+    let mut writer = Counting::new(Vec::new(rt.alloc()));
     let mut best = u128::MAX;
     for _ in 0..BATCHES {
         let start = Instant::now(rt)?;
         for _ in 0..turns {
-            bytes = write_once(bundle, pattern, args, bytes, &mut errors)?;
+            writer = emptied(writer);
+            write_once(bundle, pattern, args, &mut writer, &mut errors)?;
         }
         best = best.min(start.elapsed(rt)?.as_nanos());
     }
-    Ok((best, bytes.len(), errors.len()))
+    Ok((best, writer.into_inner().len(), errors.len()))
 }
 
 /// Formats the message that the words name, in batches of so many calls; says how long a call takes, and what it

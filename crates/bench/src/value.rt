@@ -1,7 +1,8 @@
 //! Times the calls by id of a bundle.
 
 use crate::format::{
-    BATCHES, Bundle, arguments, bundle_of, is_isolating, out_of_memory, read, say, say_answer,
+    BATCHES, Bundle, arguments, bundle_of, emptied, is_isolating, out_of_memory, read, say,
+    say_answer,
 };
 use crate::request::bad_usage;
 use fluent_bundle::{Counting, FluentArgs, FluentError, NoCustom, WriteFault};
@@ -65,24 +66,21 @@ fn time_format(
     Ok(best)
 }
 
-/// Writes what is asked for to a list of bytes, which it clears first.
+/// Writes what is asked for to a list of bytes.
 fn write_once(
     bundle: &Bundle<'_, '_>,
     asked: Asked<'_>,
     args: &FluentArgs<'_, NoCustom>,
-    bytes: Vec<u8>,
+    writer: &mut Counting<Vec<u8>>,
     errors: &mut Vec<FluentError>,
-) -> io::Result<Vec<u8>> {
-    let mut bytes = bytes;
-    bytes.clear();
+) -> io::Result<()> {
     errors.clear();
-    let mut writer = Counting::new(bytes);
     let written = match asked.attribute {
-        Some(name) => bundle.write_attribute(&mut writer, asked.id, name, Some(args), errors),
-        None => bundle.write_value(&mut writer, asked.id, Some(args), errors),
+        Some(name) => bundle.write_attribute(writer, asked.id, name, Some(args), errors),
+        None => bundle.write_value(writer, asked.id, Some(args), errors),
     };
     match written {
-        Ok(_) => Ok(writer.into_inner()),
+        Ok(_) => Ok(()),
         Err(WriteFault::Writer(error)) => Err(error),
         Err(_) => Err(out_of_memory()),
     }
@@ -97,16 +95,17 @@ fn time_write(
     args: &FluentArgs<'_, NoCustom>,
 ) -> io::Result<(u128, usize, usize)> {
     let mut errors = Vec::new(rt.alloc());
-    let mut bytes = Vec::new(rt.alloc());
+    let mut writer = Counting::new(Vec::new(rt.alloc()));
     let mut best = u128::MAX;
     for _ in 0..BATCHES {
         let start = Instant::now(rt)?;
         for _ in 0..turns {
-            bytes = write_once(bundle, asked, args, bytes, &mut errors)?;
+            writer = emptied(writer);
+            write_once(bundle, asked, args, &mut writer, &mut errors)?;
         }
         best = best.min(start.elapsed(rt)?.as_nanos());
     }
-    Ok((best, bytes.len(), errors.len()))
+    Ok((best, writer.into_inner().len(), errors.len()))
 }
 
 /// Looks the message that the words name up and formats it, in batches of so many calls; says how long a call takes,

@@ -34,6 +34,11 @@ use std::io::Write;
 /// How many bytes are kept ready for a text that is answered: most are no longer, so most take memory once.
 const ROOM: usize = 64;
 
+/// The same for a pattern of more than a few elements.
+const MORE_ROOM: usize = 128;
+
+const FEW: usize = 2;
+
 impl<
     'r,
     's: 'r,
@@ -264,7 +269,7 @@ impl<
         ensures errors { OnOk result (Adds (written (⟦<Self as Means>⟧.meaning self.now) C.content args.entry pattern.now).errors errors) }
         ensures prefix { AddsSome (written (⟦<Self as Means>⟧.meaning self.now) C.content args.entry pattern.now).errors errors }
     {
-        let mut text = String::with_capacity(self.alloc, ROOM)?;
+        let mut text = String::with_capacity(self.alloc, room_for(pattern))?;
         let mut unused = Counting::new(Vec::new(self.alloc));
         match self.write_into(&mut text, &mut unused, pattern, cursor, args, errors) {
             Ok(()) => Ok(text),
@@ -301,5 +306,15 @@ impl<
             is_kept: false,
         };
         self.write_out(&mut out, pattern, cursor, args, errors)
+    }
+}
+
+/// How many bytes are kept ready for the text of a pattern.
+#[inline(always)]
+fn room_for(pattern: &Pattern<'_>) -> usize {
+    if pattern.elements.len() <= FEW {
+        ROOM
+    } else {
+        MORE_ROOM
     }
 }

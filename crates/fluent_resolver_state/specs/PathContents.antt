@@ -1,10 +1,10 @@
 -- The patterns that are being written, by content: the first, and those above it.
-use Rattle.std.specs.Prelude.{◌≡◌, ℕ, Bool, true, false, not, nat_eq, List, [], ◌∷◌, ◌++◌, map, slice_get, is_none, Option, None, Some}
+use Rattle.std.specs.Prelude.{◌≡◌, ℕ, Bool, true, false, not, nat_eq, List, [], ◌∷◌, ◌++◌, length, map, slice_get, is_none, Option, None, Some}
 use Rattle.std.specs.Borrow.{Bor}
 use Rattle.std.specs.List.{list_all}
 use Rattle.std.specs.Option.{option_map, option_to_list, unwrap_or}
 use Rattle.fluent_ast.specs.Tree as t
-use Rattle.fluent_ast.specs.Tree.{is_yes, more, nothing, pattern_same, placeable, text}
+use Rattle.fluent_ast.specs.Tree.{function, inline, is_yes, message, more, nested, nothing, number, pattern_same, placeable, select, string, term, text, variable}
 use Rattle.fluent_ast.specs.References.{references}
 use Rattle.fluent_ast.specs.View.{pattern_view}
 use Rattle.fluent_ast.specs.declared.ast.Pattern as of_pattern
@@ -107,8 +107,33 @@ abbrev pub StayClassedWith : t.Pattern → Option ℕ → Path → Path → Type
 StayClassedWith q class p p' =
     (table : List t.Pattern) → IsClassOf table q class → AreClassed table (above_on p) → AreClassed table (above_on p')
 
--- whether the first element of a pattern is a text
-abbrev pub begins_with_text : t.Pattern → Bool
-begins_with_text nothing = false
-begins_with_text (more (text t) p) = true
-begins_with_text (more (placeable e) p) = false
+-- how long the id of a message is that an expression refers to
+abbrev pub id_length : t.Expression → Option ℕ
+id_length (inline (message id a)) = Some (length id)
+id_length (inline (term id a c)) = None
+id_length (inline (string t)) = None
+id_length (inline (number t)) = None
+id_length (inline (function id b)) = None
+id_length (inline (variable id)) = None
+id_length (inline (nested e)) = None
+id_length (select x vs) = None
+
+-- whether two lengths are the same where both are known
+abbrev pub may_be_same : Option ℕ → Option ℕ → Bool
+may_be_same (Some m) (Some n) = nat_eq m n
+may_be_same (Some m) None = true
+may_be_same None n = true
+
+-- whether two expressions may be the same, by the lengths of ids where both are references to messages
+abbrev pub are_alike : t.Expression → t.Expression → Bool
+are_alike e f = may_be_same (id_length e) (id_length f)
+
+-- whether two patterns may begin with the same element: with texts of one length, or with placeables that may be the same
+abbrev pub begin_alike : t.Pattern → t.Pattern → Bool
+begin_alike nothing nothing = true
+begin_alike nothing (more x q) = false
+begin_alike (more x p) nothing = false
+begin_alike (more (text t) p) (more (text u) q) = nat_eq (length t) (length u)
+begin_alike (more (text t) p) (more (placeable f) q) = false
+begin_alike (more (placeable e) p) (more (text u) q) = false
+begin_alike (more (placeable e) p) (more (placeable f) q) = are_alike e f

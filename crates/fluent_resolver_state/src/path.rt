@@ -3,10 +3,10 @@
 
 ghost use Rattle.std.specs.Prelude.{◌≡◌};
 ghost use Rattle.fluent_ast.specs.Tree.{is_yes, pattern_same};
-ghost use Rattle.fluent_ast.specs.View.{pattern_view};
-ghost use Rattle.fluent_resolver_state.specs.PathContents.{begins_with_text};
+ghost use Rattle.fluent_ast.specs.View.{expression_view, pattern_view};
+ghost use Rattle.fluent_resolver_state.specs.PathContents.{are_alike, begin_alike};
 
-use fluent_ast::ast::{Pattern, PatternElement};
+use fluent_ast::ast::{Expression, InlineExpression, Pattern, PatternElement};
 use smallvec::SmallVec;
 use std::alloc::{AllocError, Global};
 
@@ -330,20 +330,43 @@ fn is_like<'s>(one: &Pattern<'s>, other: &Pattern<'s>) -> bool
     if one.elements.len() != other.elements.len() {
         return false;
     }
-    if begins_with_text(one) != begins_with_text(other) {
+    if !begin_alike(one, other) {
         return false;
     }
     is_equal(one, other)
 }
 
-/// Whether the first element of a pattern is a text.
+/// Whether two patterns may begin with the same element: with texts of one length, or with placeables that may be the
+/// same.
 #[inline(always)]
-fn begins_with_text(pattern: &Pattern<'_>) -> bool
-    ensures { result ≡ begins_with_text (pattern_view pattern.now) }
+fn begin_alike(one: &Pattern<'_>, other: &Pattern<'_>) -> bool
+    ensures { result ≡ begin_alike (pattern_view one.now) (pattern_view other.now) }
 {
-    match pattern.elements.first() {
-        Some(PatternElement::TextElement { .. }) => true,
+    match (one.elements.first(), other.elements.first()) {
+        (
+            Some(PatternElement::TextElement { value: own }),
+            Some(PatternElement::TextElement { value }),
+        ) => own.len() == value.len(),
+        (
+            Some(PatternElement::Placeable { expression: own }),
+            Some(PatternElement::Placeable { expression }),
+        ) => are_alike(own, expression),
+        (None, None) => true,
         _ => false,
+    }
+}
+
+/// Whether two expressions may be the same, by the lengths of ids where both are references to messages.
+#[inline(always)]
+fn are_alike(one: &Expression<'_>, other: &Expression<'_>) -> bool
+    ensures { result ≡ are_alike (expression_view one.now) (expression_view other.now) }
+{
+    match (one, other) {
+        (
+            Expression::Inline(InlineExpression::MessageReference { id: own, .. }),
+            Expression::Inline(InlineExpression::MessageReference { id, .. }),
+        ) => own.name.len() == id.name.len(),
+        _ => true,
     }
 }
 

@@ -1,6 +1,6 @@
 //! What stands round a placeable: its marks, and its fallback where the limit was reached.
 
-ghost use Rattle.std.specs.Prelude.{◌≡◌};
+ghost use Rattle.std.specs.Prelude.{◌≡◌, true};
 ghost use Rattle.fluent_ast.specs.Fallback.{fallback, fallback_of};
 ghost use Rattle.fluent_ast.specs.View.{expression_view, inline_view, pattern_view};
 ghost use Rattle.fluent_semantics.specs.Meaning.{first_mark, last_mark, ending};
@@ -11,7 +11,7 @@ ghost use Rattle.fluent_resolver_state.specs.StateCalls.{Puts};
 use crate::budget::Budget;
 use crate::fallback::put_in_braces;
 use fluent_ast::ast::{Expression, InlineExpression, Pattern};
-use fluent_values::output::{Halt, Output, put_text};
+use fluent_values::output::{Halt, Output, put_here};
 use fluent_values::{Context, FluentType};
 use std::io::Write;
 
@@ -52,22 +52,30 @@ fn is_bare(expression: &Expression) -> bool
 pub fn put_first_mark<W: Write>(out: &mut Output<W>, marked: bool) -> Result<(), Halt>
     ensures { Puts W.contents (first_mark marked) result out }
 {
-    if marked {
-        put_text(out, "\u{2068}")
-    } else {
-        Ok(())
-    }
+    if marked { put_first(out) } else { Ok(()) }
+}
+
+/// The mark itself. It stands by itself, as do all that write literals, since they take room where they are written.
+#[inline(never)]
+fn put_first<W: Write>(out: &mut Output<W>) -> Result<(), Halt>
+    ensures { Puts W.contents (first_mark true) result out }
+{
+    put_here(out, "\u{2068}")
 }
 
 /// U+2069 POP DIRECTIONAL ISOLATE, where it is wanted.
 pub fn put_last_mark<W: Write>(out: &mut Output<W>, marked: bool) -> Result<(), Halt>
     ensures { Puts W.contents (last_mark marked) result out }
 {
-    if marked {
-        put_text(out, "\u{2069}")
-    } else {
-        Ok(())
-    }
+    if marked { put_last(out) } else { Ok(()) }
+}
+
+/// The mark itself.
+#[inline(never)]
+fn put_last<W: Write>(out: &mut Output<W>) -> Result<(), Halt>
+    ensures { Puts W.contents (last_mark true) result out }
+{
+    put_here(out, "\u{2069}")
 }
 
 /// A placeable that was open where the limit was reached ends with its fallback.

@@ -88,11 +88,11 @@ fn choose_local<'p, 's, C: FluentType, B: Context<C>>(
     match locals {
         Locals::Values(args) => match args.get(name) {
             Some(value) => Ok(choose(bundle, value, variants, cursor)),
-            None => Ok(choose(bundle, &FluentValue::Error, variants, cursor)),
+            None => Ok(first_default(variants, cursor)),
         },
         Locals::Literals(arguments) => match literal(*arguments, name) {
             Some(found) => choose_by_literal(bundle, found, variants, cursor),
-            None => Ok(choose(bundle, &FluentValue::Error, variants, cursor)),
+            None => Ok(first_default(variants, cursor)),
         },
     }
 }

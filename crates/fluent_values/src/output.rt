@@ -86,9 +86,9 @@ pub fn put_three<W: Write>(
     put_here(out, third)
 }
 
-/// Writes a text, without a call.
+/// Writes a text, without a call: of a literal the length is known then, which is up to half of what it takes.
 #[inline(always)]
-fn put_here<W: Write>(out: &mut Output<W>, text: &str) -> Result<(), Halt>
+pub fn put_here<W: Write>(out: &mut Output<W>, text: &str) -> Result<(), Halt>
     ensures took { Puts W.contents result text.now out.old out.new }
     ensures memory { GoesThrough out.old → result ≢ Err Halt.Memory }
 {

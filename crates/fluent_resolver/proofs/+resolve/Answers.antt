@@ -1491,7 +1491,7 @@ inline_expression::follow-returns-in_ok-report_no_value-in-WithoutValue-clause-g
     let last = c.put_id_in_braces.new.out in
     none_waits content b.bundle (frames_in work) (k b.bundle) (λ u. None) (viewed last b values) c.requires.nothing
     (laid_last _ (λ u. ap (λ m. k m None (viewed last b values)) (sym c.report_no_value.ensures.stays.bundle))
-    (laid contents out last a b values a.bundle (k a.bundle) (resolver_error (no_value id) ∷ []) (in_braces id) (did_tell_and_put c.in_ok-report_no_value-in-WithoutValue.was c.report_no_value.ensures c.put_id_in_braces.ensures) way))
+    (laid contents out last a b values a.bundle (k a.bundle) (resolver_error (no_value id) ∷ []) (in_braces id) (did_tell_and_put c.in_ok-report_no_value-in-WithoutValue.was c.report_no_value.ensures c.put_id_in_braces.ensures.took) way))
 
 pub inline_expression::follow-returns-in-Pattern-clause-goes : goal.inline_expression::follow-returns-in-Pattern-clause-goes
 unfolding state_parts
@@ -2194,7 +2194,7 @@ pattern::write_from-loop-element-preserved g t c =
           let first = from_next p c.deref.result.now at x (text r.in-TextElement.value.now) c.deref.ensures.value (ltb-true _ _ (sym c.in-Some.ensures.lookup.0)) c.in-Some.ensures.lookup.1 view in
           rw r.scope-is (rw r.out-is (rw r.work-is (record {
             along = λ k n. let way = turns (ap (λ q. parts.elements one q a.bundle (k a.bundle) v) first ∙ text_first one a.bundle (k a.bundle) v r.in-TextElement.value.now (elements_from (at + 1) p) (λ x. true≢false (sym (c.if-dirty.ensures.1 x)))) (c.loop-element.invariant.along k n) in let laid = put contents out r.put_changed.new.out a values a.bundle (λ given u. parts.elements one (elements_from (at + 1) p) a.bundle (k a.bundle) u) _ r.put_changed.ensures.took (starts way) in laid_ok r.in_ok-put_changed-in-TextElement.was laid;
-            placed = placed_back a.stored.numbers (references (elements_from at p)) (in_element (text r.in-TextElement.value.now)) (references (elements_from (at + 1) p)) c.loop-element.cursor c.after_element-cursor.result (ap references first) (c.after_element-cursor.ensures ∙ ap (λ x. past (in_element x) (seen c.loop-element.cursor)) view) c.loop-element.invariant.placed;
+            placed = placed_back a.stored.numbers (references (elements_from at p)) (in_element (text r.in-TextElement.value.now)) (references (elements_from (at + 1) p)) c.loop-element.cursor c.passed-cursor.result (ap references first) (c.passed-cursor.ensures ∙ ap (λ x. past (in_element x) (seen c.loop-element.cursor)) view) c.loop-element.invariant.placed;
             nothing = c.loop-element.invariant.nothing;
             texts = λ t. subst IsTextAlone first (c.loop-element.invariant.texts t);
             through = λ t h. stays_through contents out r.put_changed.new.out r.put_changed.ensures.took.beside (c.loop-element.invariant.through t h);
@@ -2207,7 +2207,7 @@ pattern::write_from-loop-element-preserved g t c =
           let work1 = r.write_placeable.new.work in
           let stored = (at_ok r.in_ok-write_placeable-in-Placeable.was (r.write_placeable.ensures.goes (λ s given u. nowhere) 0).ok).happened.stays.stored in
           let rest = references (elements_from (at + 1) p) in
-          let cursor = placed_still a d rest c.after_element-cursor.result stored (placed_back a.stored.numbers (references (elements_from at p)) (in_expression e) rest c.loop-element.cursor c.after_element-cursor.result (ap references first) (c.after_element-cursor.ensures ∙ ap (λ x. past (in_element x) (seen c.loop-element.cursor)) view) c.loop-element.invariant.placed) in
+          let cursor = placed_still a d rest c.passed-cursor.result stored (placed_back a.stored.numbers (references (elements_from at p)) (in_expression e) rest c.loop-element.cursor c.passed-cursor.result (ap references first) (c.passed-cursor.ensures ∙ ap (λ x. past (in_element x) (seen c.loop-element.cursor)) view) c.loop-element.invariant.placed) in
           let none = r.is_done.ensures.0 r.if-not-is_done.false in
           rw r.scope-is (rw r.out-is (rw r.work-is (record {
             along = λ k n. let next : Bundle Text → Following = λ s given u. parts.elements one (elements_from (at + 1) p) s (k s) u in let way = turns (ap (λ q. parts.elements one q a.bundle (k a.bundle) v) first ∙ placeable_first one a.bundle (k a.bundle) v e (elements_from (at + 1) p) (λ x. true≢false (sym (c.if-dirty.ensures.1 x))) ∙ ap (λ y. begins (parts.part y e a.bundle (next a.bundle) v)) (sym r.has_one.ensures)) (c.loop-element.invariant.along k n) in let paid = waits (suc n) (omega arith) way in let there = goes r.in_ok-write_placeable-in-Placeable.was paid (r.write_placeable.ensures.goes next (suc n)) in let last = viewed r.write_placeable.new.out d (values_view content (values_in work1)) in with_fewer n (omega arith) (is_done content d.bundle (frames_in work1) (next d.bundle) None last none there);

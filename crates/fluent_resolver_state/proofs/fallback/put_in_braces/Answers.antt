@@ -8,16 +8,16 @@ use Rattle.fluent_resolver_state.proofs.fallback.put_in_braces.Goals as goal
 pub returns-in-FunctionReference-clause-took : goal.returns-in-FunctionReference-clause-took
 returns-in-FunctionReference-clause-took g c =
     let id = c.in-FunctionReference.id.name.now in
-    took_same (ap (λ t. 123 ∷ t) (sym (append_assoc id (40 ∷ 41 ∷ []) (125 ∷ []))) ∙ ap in_braces (function_fallback_in c.args.expression.now c.in-FunctionReference.id c.in-FunctionReference.arguments c.in-FunctionReference.is)) c.put_three.ensures.took
+    took_same (ap (λ t. 123 ∷ t) (sym (append_assoc id (40 ∷ 41 ∷ []) (125 ∷ []))) ∙ ap in_braces (function_fallback_in c.args.expression.now c.in-FunctionReference.id c.in-FunctionReference.arguments c.in-FunctionReference.is)) c.put_function_in_braces.ensures.took
 
 pub returns-in-MessageReference-clause-took : goal.returns-in-MessageReference-clause-took
-returns-in-MessageReference-clause-took g c = took_same (ap in_braces (message_fallback_in c.args.expression.now c.in-MessageReference.id c.in-MessageReference.attribute c.in-MessageReference.is)) c.put_dotted_in.ensures.took
+returns-in-MessageReference-clause-took g c = took_same (ap in_braces (message_fallback_in c.args.expression.now c.in-MessageReference.id c.in-MessageReference.attribute c.in-MessageReference.is)) c.put_message_in_braces.ensures.took
 
 pub returns-in-TermReference-clause-took : goal.returns-in-TermReference-clause-took
-returns-in-TermReference-clause-took g c = took_same (ap in_braces (term_fallback_in c.args.expression.now c.in-TermReference.id c.in-TermReference.attribute c.in-TermReference.arguments c.in-TermReference.is)) c.put_dotted_in-in-TermReference.ensures.took
+returns-in-TermReference-clause-took g c = took_same (ap in_braces (term_fallback_in c.args.expression.now c.in-TermReference.id c.in-TermReference.attribute c.in-TermReference.arguments c.in-TermReference.is)) c.put_term_in_braces.ensures.took
 
 pub returns-in-VariableReference-clause-took : goal.returns-in-VariableReference-clause-took
-returns-in-VariableReference-clause-took g c = took_same (ap in_braces (variable_fallback_in c.args.expression.now c.in-VariableReference.id c.in-VariableReference.is)) c.put_three-in-VariableReference.ensures.took
+returns-in-VariableReference-clause-took g c = took_same (ap in_braces (variable_fallback_in c.args.expression.now c.in-VariableReference.id c.in-VariableReference.is)) c.put_variable_in_braces.ensures.took
 
 pub returns-in_err-put_text-in_default-clause-took : goal.returns-in_err-put_text-in_default-clause-took
 returns-in_err-put_text-in_default-clause-took g c = took_stops (fallback (inline_view c.args.expression.now) ++ 125 ∷ []) c.in_err-put_text-in_default.was (search rules) c.put_text.ensures.took
