@@ -3,7 +3,7 @@ ghost use Rattle.fluent_plural_rules.specs.LanguageTable.{cldr_plurals};
 ghost use Rattle.fluent_plural_rules.specs.Languages.{rules_of};
 ghost use Rattle.fluent_catalog.specs.Language.{HasPlurals};
 
-use fluent_plural_rules::{RuleFault, RuleTexts, cldr_plurals, rules_for};
+use fluent_plural_rules::{RuleFault, RuleTexts};
 use std::alloc::Global;
 use std::error::Error;
 use std::fmt;
@@ -33,21 +33,16 @@ impl fmt::Display for LanguageFault {
 
 impl Error for LanguageFault {}
 
-/// The plural rules of a language by its tag, as [`rules_for`] finds them in [`cldr_plurals`]: `pt-AO` has those of
-/// `pt`.
+/// The plural rules of a language by its tag, as [`RuleTexts::of_language`] has them: `pt-AO` has those of `pt`.
 ///
 /// # Errors
 ///
-/// `Unknown` where the Unicode CLDR has no rules for the tag, which takes no memory; `Rules` where they can't be read
-/// or an allocation failed.
-pub fn plurals_for(alloc: Global, tag: &str) -> Result<RuleTexts, LanguageFault>
+/// `Unknown` where the Unicode CLDR has no rules for the tag. It takes no memory.
+pub fn plurals_for(_alloc: Global, tag: &str) -> Result<RuleTexts, LanguageFault>
     ensures { HasPlurals (rules_of cldr_plurals tag.now) result }
 {
-    match rules_for(cldr_plurals(), tag) {
-        Some(rules) => match RuleTexts::parse(alloc, rules.cardinal, rules.ordinal) {
-            Ok(plurals) => Ok(plurals),
-            Err(fault) => Err(LanguageFault::Rules(fault)),
-        },
+    match RuleTexts::of_language(tag) {
+        Some(plurals) => Ok(plurals),
         None => Err(LanguageFault::Unknown),
     }
 }

@@ -1,5 +1,7 @@
 mod TabLemmas
 mod TagLemmas
+mod CldrRows
+mod CldrTable
 mod RuleRuns
 mod RuleValues
 mod RuleLines

@@ -1,1 +1,3 @@
 pub mod RuleReading
+pub mod Known
+pub mod Rows

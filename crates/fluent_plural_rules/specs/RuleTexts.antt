@@ -1,5 +1,5 @@
 -- What the reading of two rule texts answers.
-use Rattle.std.specs.Prelude.{◌≡◌, ℕ, [], ◌++◌, codes, Result, Ok, Err, IsOk}
+use Rattle.std.specs.Prelude.{◌≡◌, ℕ, [], ◌++◌, codes, Option, Some, None, Result, Ok, Err, IsOk}
 use Rattle.std.specs.Fmt.{decimal}
 use Rattle.fluent_text.specs.Parser.{Text}
 use Rattle.fluent_intl.specs.declared.operands.PluralOperands.{PluralOperands}
@@ -8,6 +8,7 @@ use Rattle.fluent_intl.specs.declared.plurals.PluralRuleType.{PluralRuleType}
 use Rattle.fluent_intl.specs.declared.plurals.PluralRuleType.TheVariants.{CARDINAL, ORDINAL}
 use Rattle.fluent_plural_rules.specs.declared.rule_texts.fault.RuleFault.{RuleFault}
 use Rattle.fluent_plural_rules.specs.declared.rule_texts.fault.RuleFault.TheVariants.{Syntax, Memory}
+use Rattle.fluent_plural_rules.specs.Languages.{Texts}
 use Rattle.fluent_plural_rules.specs.RuleTree.{Rules, rules_for}
 use Rattle.fluent_plural_rules.specs.RuleGrammar.{rules}
 use Rattle.fluent_plural_rules.specs.RuleMeaning.{category_by}
@@ -22,6 +23,13 @@ abbrev pub IsParse : Text → Text → Result Rules RuleFault → Type 0
 IsParse cardinal ordinal (Ok texts) = (rules cardinal ≡ Ok texts.cardinal) × (rules ordinal ≡ Ok texts.ordinal)
 IsParse cardinal ordinal (Err (Syntax kind at)) = IsFault cardinal ordinal kind at
 IsParse cardinal ordinal (Err Memory) = ¬ ((rules cardinal ≡ Ok []) × (rules ordinal ≡ Ok []))
+
+-- where there are texts, the rules are theirs
+abbrev pub HasRules : Option Texts → Option Rules → Type 0
+HasRules None None = Unit {0}
+HasRules None (Some r) = ⊥
+HasRules (Some texts) None = ⊥
+HasRules (Some texts) (Some r) = IsParse texts.cardinal texts.ordinal (Ok r)
 
 -- what a fault says
 abbrev pub fault_text : RuleFault → Text

@@ -81,14 +81,14 @@ fn rules_in(line: &str) -> Option<LanguageRules<'_>>
 }
 
 /// Whether two tags are the same but for the case of letters, and `_` for `-`.
-fn is_same_tag(a: &[u8], b: &[u8]) -> bool
+pub(crate) fn is_same_tag(a: &[u8], b: &[u8]) -> bool
     ensures { result ≡ same_tag a.now b.now }
 {
     a.len() == b.len() && a.iter().zip(b).all(|(x, y)| folded(*x) == folded(*y))
 }
 
 /// The tag without its last subtag, unless it has just one.
-fn parent(tag: &[u8]) -> Option<&[u8]>
+pub(crate) fn parent(tag: &[u8]) -> Option<&[u8]>
     ensures shorter { IfSome result (λ prefix. length prefix.now < length tag.now) }
     ensures steps { IsParentOf tag.now result }
 {
@@ -108,7 +108,7 @@ fn is_separator(byte: u8) -> bool
 }
 
 /// A byte of a tag as it is compared.
-fn folded(byte: u8) -> u8
+pub(crate) fn folded(byte: u8) -> u8
     ensures { result ≡ folded byte }
 {
     if byte == b'_' {

@@ -4,7 +4,7 @@ ghost use Rattle.fluent_intl.specs.LanguageTags.{shortened};
 ghost use Rattle.test_internals.specs.Lines.{after, line, line_rules, rules_in};
 
 use crate::check::{Row, check_rows, is_same};
-use fluent_plural_rules::{LanguageRules, cldr_plurals, rules_for};
+use fluent_plural_rules::{LanguageRules, cldr_plurals, cldr_rules, rules_for};
 use std::alloc::Global;
 
 /// The cardinal and the ordinal rules of a language.
@@ -107,17 +107,24 @@ const LANGUAGES: &[Language] = &[
     ),
 ];
 
-fn are_rules(found: LanguageRules<'_>, rules: Rules) -> bool {
-    is_same(found.cardinal, rules.0) && is_same(found.ordinal, rules.1)
+fn are_rules(found: Option<LanguageRules<'_>>, wanted: Option<Rules>) -> bool {
+    match (found, wanted) {
+        (Some(found), Some(rules)) => {
+            is_same(found.cardinal, rules.0) && is_same(found.ordinal, rules.1)
+        }
+        (None, None) => true,
+        _ => false,
+    }
 }
 
 impl Row for Language {
     fn holds(&self, _alloc: Global) -> bool {
-        let table = self.1.unwrap_or(cldr_plurals());
-        match (rules_for(table, self.2), self.3) {
-            (Some(found), Some(rules)) => are_rules(found, rules),
-            (None, None) => true,
-            _ => false,
+        match self.1 {
+            Some(table) => are_rules(rules_for(table, self.2), self.3),
+            None => {
+                are_rules(rules_for(cldr_plurals(), self.2), self.3)
+                    && are_rules(cldr_rules(self.2), self.3)
+            }
         }
     }
 }

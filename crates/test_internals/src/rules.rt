@@ -1,5 +1,5 @@
 //! Plural rules from text.
-use crate::check::{Row, check_rows, is_text};
+use crate::check::{Row, check, check_rows, is_text};
 use crate::numbers::operands;
 use fluent_intl::{MemoizerKind, PluralCategory, PluralOperands, PluralRuleType};
 use fluent_plural_rules::{RuleFault, RuleTexts};
@@ -157,4 +157,56 @@ fn rules_select_categories(rt: HostRuntime) {
 fn rules_that_cannot_be_read_are_named(rt: HostRuntime) {
     check_rows(&rt, rt.alloc(), FAULTS);
     check_rows(&rt, rt.alloc(), TEXTS);
+}
+
+/// A language of the Unicode CLDR, a number and its category.
+type Known = (&'static str, PluralRuleType, &'static str, PluralCategory);
+
+const KNOWN: &[Known] = &[
+    ("en", PluralRuleType::CARDINAL, "1", PluralCategory::ONE),
+    ("en", PluralRuleType::CARDINAL, "1.0", PluralCategory::OTHER),
+    ("en-GB", PluralRuleType::ORDINAL, "22", PluralCategory::TWO),
+    (
+        "en-GB",
+        PluralRuleType::ORDINAL,
+        "12",
+        PluralCategory::OTHER,
+    ),
+    ("pl", PluralRuleType::CARDINAL, "22", PluralCategory::FEW),
+    ("pl", PluralRuleType::CARDINAL, "12", PluralCategory::MANY),
+    ("ar", PluralRuleType::CARDINAL, "0", PluralCategory::ZERO),
+    ("ar", PluralRuleType::CARDINAL, "103", PluralCategory::FEW),
+    ("ar", PluralRuleType::CARDINAL, "111", PluralCategory::MANY),
+    (
+        "pt",
+        PluralRuleType::CARDINAL,
+        "2000000",
+        PluralCategory::MANY,
+    ),
+    ("pt", PluralRuleType::CARDINAL, "0", PluralCategory::ONE),
+    (
+        "pt-PT",
+        PluralRuleType::CARDINAL,
+        "0",
+        PluralCategory::OTHER,
+    ),
+];
+
+impl Row for Known {
+    fn holds(&self, _alloc: Global) -> bool {
+        match (RuleTexts::of_language(self.0), operands(self.2)) {
+            (Some(rules), Some(number)) => rules.select(self.1, &number) == self.3,
+            _ => false,
+        }
+    }
+}
+
+#[test]
+fn languages_have_rules_that_are_read(rt: HostRuntime) {
+    check_rows(&rt, rt.alloc(), KNOWN);
+    check(
+        &rt,
+        RuleTexts::of_language("xx").is_none(),
+        "no such language",
+    );
 }

@@ -20,7 +20,7 @@ fn whole_number(n: &Decimal) -> Option<u64>
 }
 
 /// The value of an operand, where it is whole.
-fn whole_value(operand: Operand, operands: &PluralOperands) -> Option<u64>
+pub(super) fn whole_value(operand: Operand, operands: &PluralOperands) -> Option<u64>
     ensures { IsWhole (spec.units operand operands.now) result }
 {
     match operand {
@@ -36,7 +36,7 @@ fn whole_value(operand: Operand, operands: &PluralOperands) -> Option<u64>
 }
 
 /// The whole number, or what a division of it leaves.
-fn remainder(x: u64, divisor: Option<NonZeroU64>) -> u64
+pub(super) fn remainder(x: u64, divisor: Option<NonZeroU64>) -> u64
     ensures { spec.remainder (option_map number_view divisor) (x * 10 ^ 18) ≡ result * 10 ^ 18 }
 {
     match divisor {
@@ -45,13 +45,13 @@ fn remainder(x: u64, divisor: Option<NonZeroU64>) -> u64
     }
 }
 
-fn is_within(x: u64, range: &Range) -> bool
+pub(super) fn is_within(x: u64, range: &Range) -> bool
     ensures { result ≡ spec.is_within x range.now }
 {
     range.first <= x && x <= range.last
 }
 
-fn is_in(x: u64, ranges: &[Range]) -> bool
+pub(super) fn is_in(x: u64, ranges: &[Range]) -> bool
     ensures { result ≡ list_any (spec.is_within x) ranges.now }
 {
     ranges.iter().any(|range| is_within(x, range))

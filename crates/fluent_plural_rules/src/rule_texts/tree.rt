@@ -39,3 +39,13 @@ pub(crate) struct Rule {
     pub category: PluralCategory,
     pub condition: Option<Vec<Vec<Relation>>>,
 }
+
+/// From a place in a table up to another.
+pub(crate) type Span = (usize, usize);
+
+/// What a `Relation` has: the operand, what it is divided by or 0, whether it is in one of the ranges, the first of these by its ends, and from
+/// where to where the others stand.
+pub(crate) type KnownRelation = (Operand, u64, bool, u64, u64, usize, usize);
+
+/// What a `Rule` has: the category, and where the groups of its condition stand.
+pub(crate) type KnownRule = (PluralCategory, Option<Span>);
