@@ -15,7 +15,6 @@ pub mod KeyTests
 pub mod KeysRead
 pub mod Lacking
 pub mod LargeShown
-pub mod LinesOn
 pub mod Looking
 pub mod Naming
 pub mod NoneFails

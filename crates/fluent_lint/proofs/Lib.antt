@@ -16,7 +16,6 @@ pub mod Explained
 pub mod Looked
 pub mod CountedEnds
 pub mod PlaceLists
-pub mod LinesOn
 pub mod Gathering
 pub mod Shared
 mod Missing

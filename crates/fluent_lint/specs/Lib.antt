@@ -4,6 +4,7 @@ pub mod Laws
 pub mod Asked
 pub mod Twice
 pub mod Columns
+pub mod Facts
 pub mod PlaceView
 pub mod NeedsView
 pub mod Rows

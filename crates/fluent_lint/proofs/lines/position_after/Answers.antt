@@ -1,5 +1,5 @@
 use Rattle.std.proofs.Common.{inl, inr, ◌∙◌, rules, arith}
-use Rattle.fluent_lint.proofs.LinesOn.{feed_line, feed_column, same_line, next_column, same_column}
+use Rattle.fluent_lint.specs.Facts.LinesOn.{feed_line, feed_column, same_line, next_column, same_column}
 use Rattle.fluent_lint.proofs.lines.position_after.Goals as goal
 use Rattle.fluent_lint.proofs.lines.position_after.Goals.{then-byte-eq10, else-byte-eq10+then-byte-lt128, then-byte-lt128-via-then-byte-lt128, then-byte-lt128-via-else-byte-lt128+then-byte-ge192, else-byte-eq10+else-byte-lt128+else-byte-ge192}
 

@@ -1,4 +1,4 @@
--- Lines and columns, a byte further.
+-- Lines and columns, a byte further. No contract cites these facts.
 use Rattle.std.proofs.Common.{◌≡◌, ◌⊎◌, inl, inr, ℕ, ◌+◌, ◌==◌, ◌<◌, ◌≤◌, nat_lt, nat_le, rules, Bool, true, false, ◌||◌, List, [], ◌∷◌, ◌++◌, length, get_or, take, if◌then◌else◌, refl, sym, ap, ◌∙◌, subst, arith}
 use Rattle.std.proofs.lemmas.List.{take_more}
 use Rattle.fluent_lint.specs.Columns.{is_feed, begins, one_if, feeds, characters, has_feed, after_last, line_after, column_after}
