@@ -1,5 +1,5 @@
 -- What a caller is asked, in bytes: a letter, and records of the values.
-use Rattle.std.specs.Prelude.{ℕ, List, [], ◌∷◌, ◌++◌, map}
+use Rattle.std.specs.Prelude.{◌≡◌, ℕ, List, [], ◌∷◌, ◌++◌, map, string_bytes}
 use Rattle.fluent_ast.specs.Tree.{Text}
 use Rattle.fluent_semantics.specs.Arguments.{Map}
 use Rattle.fluent_semantics.specs.Value.{Value, text_value, number_value, custom_value, no_value, error_value}
@@ -8,6 +8,8 @@ use Rattle.fluent_answers.specs.Numbers.{number_text}
 use Rattle.fluent_answers.specs.Records.{Record}
 use Rattle.fluent_answers.specs.declared.kind.Kind.{Kind}
 use Rattle.fluent_answers.specs.declared.kind.Kind.TheVariants as kind
+use Rattle.fluent_answers.specs.declared.question.Asker.{Asker}
+use Rattle.fluent_answers.specs.declared.question.Asker.TheVariants as asker
 
 -- ---- values as records
 
@@ -49,3 +51,26 @@ formatter_question v = 118 ∷ encoded (record_of [] v)
 -- `x`, and the text element after its length
 abbrev pub transform_question : Text → List ℕ
 transform_question t = 120 ∷ sized_bytes t
+
+-- ---- who asks
+
+-- a function of this name asks, with some arguments
+pub record FunctionAsks (name : Text) (q : List ℕ) : Type 0 where
+  pub positional : List (Value Text)
+  pub named : Map (Value Text)
+  pub is : q ≡ function_question name positional named
+
+-- the formatter asks about a value
+pub record FormatterAsks (q : List ℕ) : Type 0 where
+  pub value : Value Text
+  pub is : q ≡ formatter_question value
+
+-- the transform asks about a text element
+pub record TransformAsks (q : List ℕ) : Type 0 where
+  pub element : Text
+  pub is : q ≡ transform_question element
+
+abbrev pub IsQuestion : Asker → List ℕ → Type 0
+IsQuestion (asker.Function name) q = FunctionAsks (string_bytes name) q
+IsQuestion asker.Formatter q = FormatterAsks q
+IsQuestion asker.Transform q = TransformAsks q

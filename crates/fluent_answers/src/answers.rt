@@ -7,6 +7,7 @@ use crate::answer::Answer;
 use crate::fault::Fault;
 use crate::meant::Meant;
 use crate::own::OwnValue;
+use crate::question::Question;
 use crate::value::value;
 use fluent_values::FluentValue;
 use given::{read_given, rows_of};
@@ -20,7 +21,7 @@ pub struct Answers {
     /// All that the caller answers, of which these are a part.
     pub meant: Meant,
     rows: BTreeMap<Vec<u8>, Answer>,
-    asked: RefCell<Option<Vec<u8>>>,
+    asked: RefCell<Option<Question>>,
     ghost agrees: { AgreeOn meant.table (kept_answer rows) },
 }
 
@@ -59,55 +60,49 @@ impl Answers {
     }
 
     /// Takes the question that was not answered, if there is one.
-    pub fn asked(&self) -> Option<Vec<u8>>
-        ensures { IfSome result (λ question. answered_in self.now question.items ≡ None) }
+    pub fn asked(&self) -> Option<Question>
+        ensures { IfSome result (λ question. answered_in self.now question.bytes.items ≡ None) }
     {
         match self.asked.try_take() {
-            Ok(Some(question)) if !self.rows.contains_key(question.as_slice()) => Some(question),
+            Ok(Some(question)) if !self.rows.contains_key(question.bytes.as_slice()) => {
+                Some(question)
+            }
             _ => None,
         }
     }
 
-    /// The value that was answered to a question. Without one the question is kept.
-    ///
-    /// # Errors
-    ///
-    /// An allocation failed, or there is no answer.
+    /// Keeps a question that was not answered.
+    pub(crate) fn keep(&self, question: Question) {
+        let _ = self.asked.try_replace(Some(question));
+    }
+
+    /// The value that was answered to a question, if it was.
     pub(crate) fn value<'a>(
         &self,
         alloc: Global,
-        question: Vec<u8>,
-    ) -> Result<FluentValue<'a, OwnValue>, AllocError>
-        ensures { IfOk result (λ v. value_view own_content v ≡ answer_in self.now.meant.table question.items) }
+        question: &[u8],
+    ) -> Result<Option<FluentValue<'a, OwnValue>>, AllocError>
+        ensures { IfOk result (λ found. IfSome found (λ v. value_view own_content v ≡ answer_in self.now.meant.table question.now)) }
     {
-        match self.rows.get(question.as_slice()) {
-            Some(answer) => {
-                let value = value(alloc, answer.kind, answer.text.as_str())?;
-                value.into_owned(alloc)
-            }
-            None => {
-                let _ = self.asked.try_replace(Some(question));
-                Err(AllocError)
-            }
-        }
+        let Some(answer) = self.rows.get(question) else {
+            return Ok(None);
+        };
+        let value = value(alloc, answer.kind, answer.text.as_str())?;
+        Ok(Some(value.into_owned(alloc)?))
     }
 
-    /// The text that was answered to a question, or nothing where the answer is no text. Without an answer the question is
-    /// kept.
-    ///
-    /// # Errors
-    ///
-    /// An allocation failed, or there is no answer.
+    /// The text that was answered to a question, if it was: nothing where the answer is no text.
     pub(crate) fn text(
         &self,
         alloc: Global,
-        question: Vec<u8>,
-    ) -> Result<Option<String>, AllocError>
-        ensures { IfOk result (λ text. option_map string_bytes text ≡ text_answered (answer_in self.now.meant.table question.items)) }
+        question: &[u8],
+    ) -> Result<Option<Option<String>>, AllocError>
+        ensures { IfOk result (λ found. IfSome found (λ text. option_map string_bytes text ≡ text_answered (answer_in self.now.meant.table question.now))) }
     {
         match self.value(alloc, question)? {
-            FluentValue::String(text) => Ok(Some(text.into_owned(alloc)?)),
-            _ => Ok(None),
+            Some(FluentValue::String(text)) => Ok(Some(Some(text.into_owned(alloc)?))),
+            Some(_) => Ok(Some(None)),
+            None => Ok(None),
         }
     }
 }

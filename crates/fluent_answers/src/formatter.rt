@@ -3,6 +3,7 @@ ghost use Rattle.std.specs.Prelude.{◌≡◌, IfOk};
 
 use crate::answers::Answers;
 use crate::own::OwnValue;
+use crate::question::{Asker, Question};
 use crate::questions::formatter_question;
 use fluent_values::{FluentFormatter, FluentValue};
 use std::alloc::{AllocError, Global};
@@ -60,7 +61,14 @@ impl<M> FluentFormatter<OwnValue, M> for AskedFormatter {
         let Some(answers) = &self.answers else {
             return Err(AllocError);
         };
-        let question = formatter_question(alloc, value)?;
-        answers.text(alloc, question)
+        let bytes = formatter_question(alloc, value)?;
+        match answers.text(alloc, bytes.as_slice())? {
+            Some(text) => Ok(text),
+            None => {
+                let asker = Asker::Formatter;
+                answers.keep(Question { asker, bytes });
+                Err(AllocError)
+            }
+        }
     }
 }

@@ -3,6 +3,7 @@ ghost use Rattle.std.specs.Prelude.{◌≡◌, IfOk};
 
 use crate::answers::Answers;
 use crate::own::OwnValue;
+use crate::question::{Asker, Question};
 use crate::questions::function_question;
 use fluent_values::{FluentArgs, FluentFunction, FluentValue};
 use std::alloc::{AllocError, Global};
@@ -67,7 +68,14 @@ impl FluentFunction<OwnValue> for AskedFunction {
         let Some(answers) = &self.answers else {
             return Err(AllocError);
         };
-        let question = function_question(alloc, self.name.as_str(), positional, arguments)?;
-        answers.value(alloc, question)
+        let bytes = function_question(alloc, self.name.as_str(), positional, arguments)?;
+        match answers.value(alloc, bytes.as_slice())? {
+            Some(value) => Ok(value),
+            None => {
+                let asker = Asker::Function(String::from_str(alloc, self.name.as_str())?);
+                answers.keep(Question { asker, bytes });
+                Err(AllocError)
+            }
+        }
     }
 }

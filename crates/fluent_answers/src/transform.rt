@@ -2,6 +2,7 @@
 ghost use Rattle.std.specs.Prelude.{◌≡◌, IfOk};
 
 use crate::answers::Answers;
+use crate::question::{Asker, Question};
 use crate::questions::transform_question;
 use fluent_values::Transform;
 use std::alloc::{AllocError, Global};
@@ -52,10 +53,15 @@ impl Transform for AskedTransform {
         let Some(answers) = &self.answers else {
             return Err(AllocError);
         };
-        let question = transform_question(alloc, text)?;
-        match answers.text(alloc, question)? {
-            Some(changed) => Ok(changed),
-            None => String::from_str(alloc, text),
+        let bytes = transform_question(alloc, text)?;
+        match answers.text(alloc, bytes.as_slice())? {
+            Some(Some(changed)) => Ok(changed),
+            Some(None) => String::from_str(alloc, text),
+            None => {
+                let asker = Asker::Transform;
+                answers.keep(Question { asker, bytes });
+                Err(AllocError)
+            }
         }
     }
 }
