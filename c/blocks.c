@@ -6,6 +6,9 @@
 /* How many more blocks there are: below 0, all that are asked for. */
 long blocks = -1;
 
+/* Whether the first that is refused is the only one. */
+bool only_one;
+
 /* How many blocks are taken and not given back. */
 _Atomic long taken;
 
@@ -16,8 +19,10 @@ void __real_free(void *at);
 static bool is_refused(void) {
     if (blocks > 0)
         blocks--;
-    else if (blocks == 0)
+    else if (blocks == 0) {
+        blocks = only_one ? -1 : 0;
         return true;
+    }
     return false;
 }
 

@@ -40,6 +40,17 @@ static uint8_t attributes(const char *id, const char *names) {
     return status;
 }
 
+/* Compares the names of the variables that a message asks for, or its attribute. */
+static uint8_t variables(const char *id, const char *attribute, const char *names) {
+    uint8_t out[16];
+    size_t length;
+    uint8_t status = fluent_variables(&bundle, (const uint8_t *)id, strlen(id), (const uint8_t *)attribute,
+                                      strlen(attribute), out, sizeof out, &length);
+    if (status == FLUENT_OK)
+        check(length == strlen(names) && !memcmp(out, names, length), names);
+    return status;
+}
+
 /* Compares a text that a call gives by itself. */
 static uint8_t gives(uint8_t (*call)(struct fluent_bundle *, uint8_t *, size_t, size_t *), const char *text) {
     uint8_t out[64];
@@ -52,6 +63,7 @@ static uint8_t gives(uint8_t (*call)(struct fluent_bundle *, uint8_t *, size_t, 
 
 #define FIRST TEXT("a = { 1 }{ b }\nb = B\n")
 #define SECOND TEXT("b = again\nc = { b } and { b }\nd = { e }\n    .f = F\n")
+#define THIRD TEXT("-t = { $u }\nv = { w }{ $x }{ $n ->\n   *[a] { $x }\n } { -t($m, u: 1) }\n    .f = F\nw = { $w }{ v }\n")
 #define RULES TEXT("one: i = 1 and v = 0; other:"), TEXT("few: n % 10 = 3; other:")
 
 /* All calls of a bundle's life; the first status from 1 on ends it. */
@@ -71,6 +83,12 @@ static uint8_t live(bool by_rules) {
         status = gives(fluent_ids, "a\nb\nc\nd\n");
     if (!status)
         status = attributes("d", "f\n");
+    if (!status)
+        status = fluent_add(&bundle, THIRD);
+    if (!status)
+        status = variables("v", "", "m\nn\nw\nx\n");
+    if (!status)
+        status = variables("v", "f", "");
     if (!status)
         status = records("d", "m e. ");
     if (!status)
@@ -97,6 +115,7 @@ static void closed(void) {
         check(fluent_add(&bundle, FIRST) == FLUENT_CLOSED_BUNDLE, "adds to nothing");
         check(fluent_add_overriding(&bundle, FIRST) == FLUENT_CLOSED_BUNDLE, "overrides in nothing");
         check(format("a", "") == FLUENT_CLOSED_BUNDLE, "formats of nothing");
+        check(variables("a", "", "") == FLUENT_CLOSED_BUNDLE, "asks in nothing");
         check(fluent_has(&bundle, TEXT("a")) == FLUENT_CLOSED_BUNDLE, "has in nothing");
         check(fluent_find(&bundle, TEXT("a"), TEXT("")) == FLUENT_CLOSED_BUNDLE, "finds in nothing");
         fluent_close(&bundle);
@@ -155,6 +174,24 @@ static void attributes_are_listed(void) {
     check(attributes("t", "") == FLUENT_NO_MESSAGE && attributes("gone", "") == FLUENT_NO_MESSAGE, "no message");
     check(attributes("\xff", "") == FLUENT_ID_NOT_UTF8, "an id that is not UTF-8");
     check(attributes("l", "") == FLUENT_TOO_SMALL, "a buffer that is too small");
+    fluent_close(&bundle);
+}
+
+static void variables_are_listed(void) {
+    check(variables("a", "", "") == FLUENT_CLOSED_BUNDLE, "of nothing");
+    check(fluent_open(&bundle, TEXT("en"), false) == FLUENT_OK, "does not open");
+    check(fluent_add(&bundle, TEXT("a = A\nb =\n    .c = { $c }\n    .c = { $d }\n-t = { $t }\n    .c = { $u }\n"
+                                   "r = { $z }{ -t($y, t: 1) }{ b.c }{ F($x, o: 1) }{ gone }{ $z }{ $Z }\n"
+                                   "s = { -t.c ->\n    [one] { s }\n   *[other] { a } { $o }\n }\n"
+                                   "l = { $a-name-of-its-own }\n")) == FLUENT_OK, "does not add");
+    check(variables("a", "", "") == FLUENT_OK, "none");
+    check(variables("b", "c", "c\n") == FLUENT_OK, "of the first attribute of a name");
+    check(variables("r", "", "Z\nc\nx\ny\nz\n") == FLUENT_OK, "in the order of bytes, once, and of no term");
+    check(variables("s", "", "o\n") == FLUENT_OK, "of each variant, and of a message that refers to itself");
+    check(variables("b", "", "") == FLUENT_NO_MESSAGE && variables("a", "c", "") == FLUENT_NO_MESSAGE, "no pattern");
+    check(variables("t", "", "") == FLUENT_NO_MESSAGE && variables("t", "c", "") == FLUENT_NO_MESSAGE, "a term");
+    check(variables("\xff", "", "") == FLUENT_ID_NOT_UTF8 && variables("a", "\xff", "") == FLUENT_ID_NOT_UTF8, "no text");
+    check(variables("l", "", "") == FLUENT_TOO_SMALL, "a buffer that is too small");
     fluent_close(&bundle);
 }
 
@@ -284,6 +321,7 @@ int main(void) {
     run("a bundle is asked", asked);
     run("values and attributes are looked for", looked_for);
     run("attributes are listed", attributes_are_listed);
+    run("variables are listed", variables_are_listed);
     run("errors are recorded", errors_are_recorded);
     run("causes come in order", causes_in_order);
     run("many arguments", many_arguments);

@@ -8,8 +8,10 @@
 #define TEXT(s) (const uint8_t *)(s), sizeof(s) - 1
 #define COUNT(list) (sizeof(list) / sizeof *(list))
 
-/* Of blocks.c: how many more blocks the library gets (below 0: all that it asks for), and how many it has. */
+/* Of blocks.c: how many more blocks the library gets (below 0: all that it asks for), whether only one is refused behind them, and
+   how many it has. */
 extern long blocks;
+extern bool only_one;
 extern _Atomic long taken;
 
 static const char *case_name = "";

@@ -1,6 +1,7 @@
-/* Asks for patterns that are as deep as may be, on little stack: depths FILE [KILOBYTES], where tools/depths.py has
-   written FILE. A source is read by a thread with the stack that ulimit gave, and formatted by one with so many kilobytes.
-   Each case is a process of its own, which ends within SECONDS. */
+/* Asks for patterns that are as deep as may be, or hostile, on little stack: depths FILE [KILOBYTES], where tools/depths.py or
+   tools/hostile has written FILE. A source is read by a thread with the stack that ulimit gave, and formatted by one with so many
+   kilobytes. Each case is a process of its own, which ends within SECONDS. In some the program is asked, too: a function that
+   answers its first argument, a formatter and a transform that change nothing. */
 #include "fluent.h"
 #include "records.h"
 #include <pthread.h>
@@ -29,10 +30,41 @@ static bool holds(const uint8_t *buffer, size_t length, struct text text) {
     return length == text.length && !memcmp(buffer, text.at, length);
 }
 
+static bool first(void *user, const struct fluent_call *call, struct fluent_answer *answer) {
+    const struct fluent_value *value = call->positional;
+    (void)user;
+    if (call->positional_count)
+        fluent_answer(answer, value->kind, value->text, value->length);
+    else
+        fluent_answer(answer, FLUENT_ERROR, NULL, 0);
+    return true;
+}
+
+static bool leave_value(void *user, const struct fluent_value *value, struct fluent_answer *answer) {
+    (void)user;
+    return value && answer;
+}
+
+static bool leave_text(void *user, const uint8_t *text, size_t length, struct fluent_answer *answer) {
+    (void)user;
+    return text && length && answer;
+}
+
+static bool is_made(struct text source, const struct record *row) {
+    if (fluent_open(&bundle, (const uint8_t *)"en", 2, true) || fluent_set_limit(&bundle, number(row->texts[1])))
+        return false;
+    if (row->kind == 'a' && (fluent_add_function(&bundle, (const uint8_t *)"F", 1, first, NULL) ||
+                             fluent_set_formatter(&bundle, leave_value, NULL) ||
+                             fluent_set_transform(&bundle, leave_text, NULL)))
+        return false;
+    return fluent_add(&bundle, source.at, source.length) == FLUENT_OK;
+}
+
 /* Formats what a record asks for, into a byte more than what is wanted has, and compares. */
 static void *format(void *at) {
     static enum ending ending;
-    const struct text *t = ((const struct record *)at)->texts;
+    const struct record *row = at;
+    const struct text *t = row->texts;
     size_t out_room = t[3].length + 1, err_room = t[4].length + 1;
     uint8_t *out = malloc(out_room), *err = malloc(err_room);
     struct fluent_lengths lengths;
@@ -40,8 +72,9 @@ static void *format(void *at) {
         abort();
     uint8_t status = fluent_format(&bundle, (const uint8_t *)"a", 1, NULL, 0, t[2].at, t[2].length, out, out_room, err,
                                    err_room, &lengths);
-    ending = status == FLUENT_OK && holds(out, lengths.text, t[3]) && holds(err, lengths.errors, t[4]) ? RIGHT
-                                                                                                      : WRONG_ANSWER;
+    bool is_right = row->kind == 'm' ? status == FLUENT_NO_MESSAGE
+                                     : status == FLUENT_OK && holds(out, lengths.text, t[3]) && holds(err, lengths.errors, t[4]);
+    ending = is_right ? RIGHT : WRONG_ANSWER;
     free(out);
     free(err);
     return &ending;
@@ -51,8 +84,7 @@ static enum ending asked(struct text source, struct record *row) {
     pthread_attr_t small;
     pthread_t thread;
     void *ending;
-    if (fluent_open(&bundle, (const uint8_t *)"en", 2, true) || fluent_set_limit(&bundle, number(row->texts[1])) ||
-        fluent_add(&bundle, source.at, source.length))
+    if (!is_made(source, row))
         return NO_BUNDLE;
     if (pthread_attr_init(&small) || pthread_attr_setstacksize(&small, stack_size) ||
         pthread_create(&thread, &small, format, row) || pthread_join(thread, &ending))

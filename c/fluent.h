@@ -1,9 +1,9 @@
 /* Fluent for C: messages of one source, or of a bundle that is kept, formatted as the proved crates below say.
 
-   Texts are UTF-8, each by where it begins and how many bytes it has; a zero byte is a byte like any other, and none is
-   written after a text: print it by its length, as by "%.*s". A pointer to a text or a buffer may be null where that has no
-   bytes. Every other null pointer, as to a bundle or to lengths, is the caller's fault, and no call looks for it. What is
-   written lies apart from all else that is handed over.
+   Texts are UTF-8, each by where it begins and how many bytes it has, as (const uint8_t *)"en" and 2. A zero byte is a byte
+   like any other, and none is written after a text: print it by its length, as by "%.*s". A pointer to a text or a buffer may
+   be null where that has no bytes. Every other null pointer, as to a bundle or to lengths, is the caller's fault, and no call
+   looks for it. What is written lies apart from all else that is handed over.
 
    Memory is taken by malloc and realloc and given back by free, all of it before a call ends, but for that of a bundle. A
    call keeps none of the memory that it was given: a bundle has copies of its sources. Each copy, with what was read in it,
@@ -40,12 +40,12 @@ enum fluent_status {
     FLUENT_BAD_RULES = 6,             /* the plural rules can't be read */
     FLUENT_ID_NOT_UTF8 = 7,           /* the id, or the name of the attribute */
     FLUENT_NO_MESSAGE = 8,            /* no such message with a value, or with that attribute */
-    FLUENT_ARGUMENTS_CUT = 9,         /* the arguments, or answers, are cut short, or one begins with no kind of value */
+    FLUENT_ARGUMENTS_CUT = 9,         /* arguments, or answers, are cut short, or one begins with no kind of value */
     FLUENT_ARGUMENTS_NOT_UTF8 = 10,   /* the name or the value of one of them */
     FLUENT_CLOSED_BUNDLE = 11,        /* the bundle is not open */
     FLUENT_OPEN_BUNDLE = 12,          /* the bundle is open, and stays as it was */
     FLUENT_OUT_OF_RANGE = 13,         /* the limit is 0 or above 10,000, and the bundle stays as it was */
-    FLUENT_ASKS = 14,                 /* of fluent_format_asking: the question is in the buffer of the text */
+    FLUENT_ASKS = 14,                 /* what is declared lacks an answer: the question is in the buffer of the text */
     FLUENT_ID_TAKEN = 15,             /* something has the id, and the bundle stays as it was */
     FLUENT_FUNCTION_FAILED = 16       /* a function of the program said so, or is not registered */
 };
@@ -59,7 +59,7 @@ struct fluent_lengths {
 /* Formats the value of a message of a source, or its attribute where the length of the attribute's name is not 0.
 
    language    a tag such as "en" or "pt-PT", whose plural rules choose; where there are none, each number is "other"
-   isolate     whether placeables stand between U+2068 and U+2069
+   isolate     whether placeables stand between U+2068 and U+2069, which keep texts of other directions apart
    source      FTL; what can't be read in it is passed over, and so is a message or a term whose id stands in it before
    arguments   one after the other, as fluent_put_argument writes them; the last of a repeated name stands
    out         the text
@@ -123,6 +123,12 @@ uint8_t fluent_ids(struct fluent_bundle *bundle, uint8_t *out, size_t out_room, 
 uint8_t fluent_attributes(struct fluent_bundle *bundle, const uint8_t *id, size_t id_length, uint8_t *out,
                           size_t out_room, size_t *length);
 
+/* Gives the names of the variables that the value of a message, or its attribute, asks the arguments for, a line each, as
+   fluent_report gives its text: its own, those in what it gives to terms and functions, in all variants, and those of messages
+   that it refers to. Each stands there once, in the order of its bytes. FLUENT_NO_MESSAGE where fluent_find answers so. */
+uint8_t fluent_variables(struct fluent_bundle *bundle, const uint8_t *id, size_t id_length, const uint8_t *attribute,
+                         size_t attribute_length, uint8_t *out, size_t out_room, size_t *length);
+
 /* Whether there is a message of the id: FLUENT_OK or FLUENT_NO_MESSAGE. */
 uint8_t fluent_has(struct fluent_bundle *bundle, const uint8_t *id, size_t id_length);
 
@@ -150,6 +156,8 @@ uint8_t fluent_format_records(struct fluent_bundle *bundle, const uint8_t *id, s
    bundles     an array of them, each opened where it lies, of which bundles[0] is asked first
    count       how many there are, which may be 0
 
+   Its errors are lines. For records ask fluent_find_chain, and then fluent_format_records of the bundle that it names.
+
    FLUENT_ID_NOT_UTF8 is told before any bundle is asked. FLUENT_CLOSED_BUNDLE says that one which is not open stands before
    the first that has the message, or anywhere where none has it, and FLUENT_NO_MESSAGE that all are open and none has it. */
 uint8_t fluent_format_chain(struct fluent_bundle *bundles, size_t count, const uint8_t *id, size_t id_length,
@@ -172,9 +180,10 @@ void fluent_close(struct fluent_bundle *bundle);
                    a ";" come key=value pairs, parted by ";", with the keys and values of the function NUMBER, and
                    currency= last, as in "1.50;style=currency;currency=EUR". Where the first of them is empty, as in
                    "1.50;", the digits after the point are no minimum. A text that is no number is taken as a text.
+                   It is shown by its digits, whatever the language and the style: a formatter can show it otherwise.
    FLUENT_OWN      a value of the program's own, such as a date: a token that the program chooses, a line feed, and the text
-                   that the value is shown as. Functions and formatters get it as it is, so they find their object by the
-                   token. It takes no variant.
+                   that the value is shown as, as in "1795910400\n2026-11-29". Functions and formatters get it as it is, so they
+                   find their object by the token. It takes no variant. Without a line feed it is shown as an empty text.
    FLUENT_NONE     no value, and no text
    FLUENT_ERROR    an error, and no text */
 enum fluent_kind { FLUENT_TEXT = 't', FLUENT_NUMBER = 'n', FLUENT_OWN = 'c', FLUENT_NONE = 'o', FLUENT_ERROR = 'e' };
@@ -194,7 +203,12 @@ static inline uint8_t *fluent_put_sized(uint8_t *at, const void *text, size_t le
 }
 
 /* Writes an argument where fluent_argument_length bytes are free, and gives where the next one goes. Name and value are
-   shorter than 4 gigabytes each, and may be null where they have no bytes. */
+   shorter than 4 gigabytes each, and may be null where they have no bytes.
+
+       uint8_t arguments[64], *end = arguments;
+       end = fluent_put_argument(end, FLUENT_TEXT, "name", 4, "Ada", 3);
+       end = fluent_put_argument(end, FLUENT_NUMBER, "mails", 5, "3", 1);
+       .. fluent_format(.., arguments, (size_t)(end - arguments), ..) .. */
 static inline uint8_t *fluent_put_argument(uint8_t *at, enum fluent_kind kind, const void *name, size_t name_length,
                                            const void *value, size_t value_length) {
     *at = (uint8_t)kind;
@@ -203,26 +217,29 @@ static inline uint8_t *fluent_put_argument(uint8_t *at, enum fluent_kind kind, c
 
 /* ---- functions of the program
 
-   A message calls a function by its name, as in { DATE($now, month: "long") }. This one answers by the C library:
+   A message calls a function by its name, as in { DATE($when, month: "long") }. This one has a date whose token is its seconds:
 
        static bool date(void *user, const struct fluent_call *call, struct fluent_answer *answer) {
            char text[64];
-           time_t at = *(const time_t *)user;
-           const struct fluent_value *month = fluent_named(call, "month");
+           const struct fluent_value *when = call->positional, *month = fluent_named(call, "month");
            bool is_long = month && month->length == 4 && !memcmp(month->text, "long", 4);
-           size_t length = strftime(text, sizeof text, is_long ? "%B %e" : "%x", localtime(&at));
-           fluent_answer(answer, FLUENT_TEXT, text, length);
+           if (call->positional_count != 1 || when->kind != FLUENT_OWN)
+               return true;
+           time_t at = (time_t)strtoll((const char *)when->text, NULL, 10);
+           fluent_answer(answer, FLUENT_TEXT, text, strftime(text, sizeof text, is_long ? "%B %e" : "%x", localtime(&at)));
            return true;
        }
 
-       fluent_add_function(&bundle, (const uint8_t *)"DATE", 4, date, &now);
+       fluent_add_function(&bundle, (const uint8_t *)"DATE", 4, date, NULL);
+       .. fluent_put_argument(end, FLUENT_OWN, "when", 4, "1795910400\n2026-11-29", 21) ..
 
    Formatting a message asks a function once for each different call, with its positional and its named arguments, and
    then goes on with what it answered. A text that asks k different questions is formatted k + 1 times, so a function must
    give equal answers to equal questions while one text is made. A function may format messages itself, also of the same
    bundle. It may not close that bundle. */
 
-/* A value that is asked about, whose texts last as long as the call of the function. The name is that of a named argument. */
+/* A value that is asked about, whose texts last as long as the call of the function, and end with no zero byte. The name is
+   that of a named argument. */
 struct fluent_value {
     enum fluent_kind kind;
     const uint8_t *name;
@@ -256,8 +273,9 @@ typedef bool fluent_formatter(void *user, const struct fluent_value *value, stru
 typedef bool fluent_transform(void *user, const uint8_t *text, size_t length, struct fluent_answer *answer);
 
 /* Registers a function under a free id: FLUENT_OK, or FLUENT_ID_TAKEN, and the bundle stays. A message, a term or a
-   function may have the id, such as NUMBER. user is handed to the function. A message that is added later has to have
-   another id, unless it overrides. */
+   function may have the id, such as NUMBER. Messages can call it where the id is of capital letters, digits, "-" and "_", and
+   begins with a letter. Each bundle of a chain has functions of its own. user is handed to the function. A message that is
+   added later has to have another id, unless it overrides. */
 uint8_t fluent_add_function(struct fluent_bundle *bundle, const uint8_t *name, size_t name_length,
                             fluent_function *function, void *user);
 
@@ -359,6 +377,63 @@ static inline bool fluent_next_error(const uint8_t **at, const uint8_t *end, str
     error->attribute = error->id + strlen(error->id) + 1;
     *at = (const uint8_t *)error->attribute + strlen(error->attribute) + 1;
     return true;
+}
+
+/* ---- what is wrong in sources, for tools and tests
+
+   A tool tells what is wrong in a source by
+
+       uint8_t *records = malloc(fluent_argument_length(7, length)), text[4096];
+       uint8_t *end = fluent_put_argument(records, FLUENT_TEXT, "app.ftl", 7, source, length);
+       struct fluent_checked told;
+       fluent_check((const uint8_t *)"pl", 2, records, (size_t)(end - records), NULL, 0, NULL, 0, NULL, 0, false, text,
+                    sizeof text, &told);
+
+   whose text then has a line for each finding, such as "app.ftl:1:7: error: no message 'b' (in 'a')\n". */
+
+/* What a check tells beside its text. */
+struct fluent_checked {
+    size_t text;     /* how many bytes the text has, so also how much room it needs */
+    size_t errors;   /* how many findings are errors */
+    size_t warnings; /* how many are warnings */
+    bool is_clean;   /* then no text of the sources ever shows an error, where its variables and functions are given */
+};
+
+/* Tells what `./fluent check` tells of files: what is wrong in sources of a language, which count as one.
+
+   language     whose plural categories selects are held against; none are looked at where the tag has no bytes
+   sources      one after the other, as fluent_put_argument writes them: each with its name and its text
+   beside       so too, sources that are loaded before them, such as a brand's terms
+   references   so too, what the sources were translated from; nothing is compared where there is none
+   functions    the names of the program's functions, each as an argument without a value
+   as_json      whether the text is one line with a list of objects, which have file, line, column, severity, kind, entry and
+                text, in place of a line for each finding
+   out          the text: findings by source, and then by byte. Columns count characters
+   told         all is 0 where the status is above FLUENT_TOO_SMALL
+
+   Of several causes the first is told: FLUENT_LANGUAGE_NOT_UTF8, and then the first fault of sources, beside, references
+   and functions: FLUENT_ARGUMENTS_CUT or FLUENT_ARGUMENTS_NOT_UTF8. The kinds of arguments don't matter here. Who wants
+   the numbers alone needs no buffer. */
+uint8_t fluent_check(const uint8_t *language, size_t language_length, const uint8_t *sources, size_t sources_length,
+                     const uint8_t *beside, size_t beside_length, const uint8_t *references, size_t references_length,
+                     const uint8_t *functions, size_t functions_length, bool as_json, uint8_t *out, size_t out_room,
+                     struct fluent_checked *told);
+
+/* ---- programs that find another libfluent.so than the one that they were compiled for
+
+   The sizes of the structs that programs and library share, as this header has them, and as the library that is called does.
+   They part where a struct has grown. A program that is linked to libfluent.so asks once, before all else:
+
+       if (!fluent_fits()) .. the library of fluent_version() is not the one of FLUENT_VERSION .. */
+#define FLUENT_SIZES                                                                                                   \
+    ((uint64_t)sizeof(struct fluent_bundle) | (uint64_t)sizeof(struct fluent_lengths) << 8 |                           \
+     (uint64_t)sizeof(struct fluent_value) << 16 | (uint64_t)sizeof(struct fluent_call) << 24 |                        \
+     (uint64_t)sizeof(struct fluent_checked) << 32)
+
+uint64_t fluent_sizes(void);
+
+static inline bool fluent_fits(void) {
+    return fluent_sizes() == FLUENT_SIZES;
 }
 
 #ifdef __cplusplus

@@ -368,8 +368,10 @@ static void questions(void) {
 /* ---- memory that is refused */
 
 static uint8_t live(void) {
-    uint8_t arguments[32];
-    size_t length = (size_t)(fluent_put_argument(arguments, FLUENT_OWN, "d", 1, "7\nmay", 5) - arguments);
+    /* The question about the second of them is longer than 256 bytes. */
+    static const char long_text[300];
+    uint8_t arguments[400], *end = fluent_put_argument(arguments, FLUENT_OWN, "d", 1, "7\nmay", 5);
+    size_t length = (size_t)(fluent_put_argument(end, FLUENT_TEXT, "l", 1, long_text, sizeof long_text) - arguments);
     uint8_t status = fluent_open_bare(&bundle, TEXT("en"), false);
     if (!status)
         status = fluent_add_builtins(&bundle);
@@ -383,11 +385,11 @@ static uint8_t live(void) {
         status = fluent_set_transform(&bundle, shout, NULL);
     if (!status)
         status = fluent_add(&bundle, TEXT("a = x{ UP(UP(\"y\"), z: 1) }{ SAY() ->\n    [7] b\n   *[other] c\n }{ 5 }\n"
-                                          "o = { $d }{ SAY($d) }\n"));
+                                          "o = { $d }{ SAY($d) }{ SAY($l) }\n"));
     if (!status)
         status = format("a", "XYB<5>");
     if (!status)
-        status = format_with("o", arguments, length, "may<7>", "");
+        status = format_with("o", arguments, length, "may<7><7>", "");
     if (!status)
         status = fluent_override_function(&bundle, TEXT("NUMBER"), say, "o");
     if (!status)
@@ -398,16 +400,24 @@ static uint8_t live(void) {
     return status;
 }
 
+/* Refuses the first block, then the second, .., until there are enough: only that one, or all behind it too. */
 static void refused_in_turn(void) {
     check(live() == FLUENT_OK, "no life");
     for (long turn = 0; is_right; turn++) {
         blocks = turn;
         uint8_t status = live();
+        bool is_refused = blocks < 0 || status != FLUENT_OK;
         blocks = -1;
-        if (status == FLUENT_OK)
+        if (!is_refused)
             break;
         check(status == FLUENT_NO_MEMORY, "refused memory gives another status");
     }
+}
+
+static void one_is_refused(void) {
+    only_one = true;
+    refused_in_turn();
+    only_one = false;
 }
 
 static void many_lives(void) {
@@ -432,6 +442,7 @@ int main(void) {
     run("chains", chains);
     run("questions and answers", questions);
     run("memory that is refused", refused_in_turn);
+    run("a block that is refused", one_is_refused);
     run("1,000 lives", many_lives);
     return finish();
 }

@@ -42,6 +42,10 @@ static void not_utf8(void) {
         check(fluent_has(&bundle, at, length) == FLUENT_ID_NOT_UTF8, "an id that is asked for");
         check(fluent_attributes(&bundle, at, length, out, sizeof out, &lengths.text) == FLUENT_ID_NOT_UTF8,
               "an id whose attributes are asked for");
+        check(fluent_variables(&bundle, at, length, TEXT(""), out, sizeof out, &lengths.text) == FLUENT_ID_NOT_UTF8,
+              "an id whose variables are asked for");
+        check(fluent_variables(&bundle, TEXT("a"), at, length, out, sizeof out, &lengths.text) == FLUENT_ID_NOT_UTF8,
+              "an attribute whose variables are asked for");
         check(fluent_find(&bundle, at, length, TEXT("")) == FLUENT_ID_NOT_UTF8, "an id that is looked for");
         check(fluent_find(&bundle, TEXT("a"), at, length) == FLUENT_ID_NOT_UTF8, "an attribute that is looked for");
         check(format(at, length, TEXT(""), TEXT("")) == FLUENT_ID_NOT_UTF8, "an id");
@@ -61,6 +65,8 @@ static void null_texts(void) {
     check(fluent_add(&bundle, NULL, 0) == FLUENT_OK, "a source");
     check(fluent_has(&bundle, NULL, 0) == FLUENT_NO_MESSAGE, "an id that is asked for");
     check(fluent_find(&bundle, NULL, 0, NULL, 0) == FLUENT_NO_MESSAGE, "an id that is looked for");
+    check(fluent_variables(&bundle, NULL, 0, NULL, 0, NULL, 0, &lengths.text) == FLUENT_NO_MESSAGE,
+          "an id whose variables are asked for");
     check(format(NULL, 0, NULL, 0, NULL, 0) == FLUENT_NO_MESSAGE, "an id");
     check(format(TEXT("a"), NULL, 0, NULL, 0) == FLUENT_OK && lengths.text == 9, "an attribute and arguments");
     check(fluent_format_source(NULL, 0, false, NULL, 0, NULL, 0, NULL, 0, NULL, 0, NULL, 0, NULL, 0, &lengths) ==

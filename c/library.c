@@ -18,9 +18,11 @@ PROVED(fluent_add_overriding);
 PROVED(fluent_report);
 PROVED(fluent_ids);
 PROVED(fluent_attributes);
+PROVED(fluent_variables);
 PROVED(fluent_has);
 PROVED(fluent_find);
 PROVED(fluent_find_chain);
+PROVED(fluent_check);
 PROVED(fluent_close);
 
 /* The proved calls that format. What the program means by its answers has no bytes; it is pointed at all the same. */
@@ -119,6 +121,12 @@ uint8_t fluent_attributes(struct fluent_bundle *bundle, const uint8_t *id, size_
     return rattle_fluent_attributes(bundle, text(id, id_length), id_length, buffer(out, out_room), out_room, length);
 }
 
+uint8_t fluent_variables(struct fluent_bundle *bundle, const uint8_t *id, size_t id_length, const uint8_t *attribute,
+                         size_t attribute_length, uint8_t *out, size_t out_room, size_t *length) {
+    return rattle_fluent_variables(bundle, text(id, id_length), id_length, text(attribute, attribute_length),
+                                   attribute_length, buffer(out, out_room), out_room, length);
+}
+
 uint8_t fluent_has(struct fluent_bundle *bundle, const uint8_t *id, size_t id_length) {
     return rattle_fluent_has(bundle, text(id, id_length), id_length);
 }
@@ -147,23 +155,35 @@ uint8_t fluent_format_asking(struct fluent_bundle *bundle, const uint8_t *id, si
     return format_round(bundle, &wanted, answers, answers_length, out, out_room);
 }
 
+/* A formatting call with a line for each error, or a record. Where the bundle asks nothing it is one round. */
+static inline uint8_t format(struct fluent_bundle *bundle, bool records, const uint8_t *id, size_t id_length,
+                             const uint8_t *attribute, size_t attribute_length, const uint8_t *arguments,
+                             size_t arguments_length, uint8_t *out, size_t out_room, uint8_t *err, size_t err_room,
+                             struct fluent_lengths *lengths) {
+    if (bundle->asks) {
+        struct wanted wanted = {records, id, id_length, attribute, attribute_length, arguments, arguments_length, out,
+                                out_room, err, err_room, lengths};
+        return format_by_asking(bundle, &wanted, format_round);
+    }
+    return rattle_fluent_format_asking(bundle, &nothing, records, text(id, id_length), id_length,
+                                       text(attribute, attribute_length), attribute_length,
+                                       text(arguments, arguments_length), arguments_length, &nothing, 0,
+                                       buffer(out, out_room), out_room, buffer(err, err_room), err_room, lengths);
+}
+
 uint8_t fluent_format(struct fluent_bundle *bundle, const uint8_t *id, size_t id_length, const uint8_t *attribute,
                       size_t attribute_length, const uint8_t *arguments, size_t arguments_length, uint8_t *out,
                       size_t out_room, uint8_t *err, size_t err_room, struct fluent_lengths *lengths) {
-    struct wanted wanted = {false, id, id_length, attribute, attribute_length, arguments, arguments_length, out, out_room,
-                            err, err_room, lengths};
-    return bundle->asks ? format_by_asking(bundle, &wanted, format_round)
-                        : format_round(bundle, &wanted, NULL, 0, out, out_room);
+    return format(bundle, false, id, id_length, attribute, attribute_length, arguments, arguments_length, out, out_room,
+                  err, err_room, lengths);
 }
 
 uint8_t fluent_format_records(struct fluent_bundle *bundle, const uint8_t *id, size_t id_length,
                               const uint8_t *attribute, size_t attribute_length, const uint8_t *arguments,
                               size_t arguments_length, uint8_t *out, size_t out_room, uint8_t *err, size_t err_room,
                               struct fluent_lengths *lengths) {
-    struct wanted wanted = {true, id, id_length, attribute, attribute_length, arguments, arguments_length, out, out_room,
-                            err, err_room, lengths};
-    return bundle->asks ? format_by_asking(bundle, &wanted, format_round)
-                        : format_round(bundle, &wanted, NULL, 0, out, out_room);
+    return format(bundle, true, id, id_length, attribute, attribute_length, arguments, arguments_length, out, out_room,
+                  err, err_room, lengths);
 }
 
 static bool some_ask(const struct fluent_bundle *bundles, size_t count) {
@@ -198,8 +218,28 @@ uint8_t fluent_find_chain(struct fluent_bundle *bundles, size_t count, const uin
                                     text(attribute, attribute_length), attribute_length, index);
 }
 
+uint8_t fluent_check(const uint8_t *language, size_t language_length, const uint8_t *sources, size_t sources_length,
+                     const uint8_t *beside, size_t beside_length, const uint8_t *references, size_t references_length,
+                     const uint8_t *functions, size_t functions_length, bool as_json, uint8_t *out, size_t out_room,
+                     struct fluent_checked *told) {
+    return rattle_fluent_check(text(language, language_length), language_length, text(sources, sources_length),
+                               sources_length, text(beside, beside_length), beside_length,
+                               text(references, references_length), references_length,
+                               text(functions, functions_length), functions_length, as_json, buffer(out, out_room),
+                               out_room, told);
+}
+
 const char *fluent_version(void) {
     return FLUENT_VERSION;
+}
+
+_Static_assert(sizeof(struct fluent_bundle) < 256 && sizeof(struct fluent_lengths) < 256 &&
+                   sizeof(struct fluent_value) < 256 && sizeof(struct fluent_call) < 256 &&
+                   sizeof(struct fluent_checked) < 256,
+               "each size has a byte");
+
+uint64_t fluent_sizes(void) {
+    return FLUENT_SIZES;
 }
 
 void fluent_close(struct fluent_bundle *bundle) {

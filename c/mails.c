@@ -18,7 +18,8 @@ static void show(struct fluent_bundle *bundle, const char *id, enum fluent_kind 
 
 int main(void) {
     struct fluent_bundle bundle = FLUENT_CLOSED;
-    if (fluent_open(&bundle, TEXT("en"), false) == FLUENT_OK && fluent_add(&bundle, TEXT(source)) == FLUENT_OK) {
+    if (fluent_fits() && fluent_open(&bundle, TEXT("en"), false) == FLUENT_OK &&
+        fluent_add(&bundle, TEXT(source)) == FLUENT_OK) {
         show(&bundle, "hello", FLUENT_TEXT, "name", "Ada");
         show(&bundle, "mails", FLUENT_NUMBER, "n", "1");
         show(&bundle, "mails", FLUENT_NUMBER, "n", "3");

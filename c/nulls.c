@@ -18,6 +18,7 @@ static void put_nothing(void) {
 int main(void) {
     struct fluent_bundle bundle = FLUENT_CLOSED;
     struct fluent_lengths lengths;
+    struct fluent_checked told;
     size_t length;
 #include "null_calls.h"
     put_nothing();

@@ -6,7 +6,7 @@
 #include <stdio.h>
 #include <stdlib.h>
 
-#define MOST_TEXTS 6
+#define MOST_TEXTS 7
 
 struct text {
     const uint8_t *at;

@@ -1,14 +1,24 @@
-/* Replays the rows of the fixtures over the library: rows FILE, where bindings/python/tests/rows.py has written FILE. */
+/* Replays the rows of the fixtures over the library: rows FILE, where bindings/python/tests/rows.py has written FILE. Functions,
+   formatters and transforms are asked both through pointers and by questions. */
 #include "check.h"
 #include "fence.h"
+#include "objects.h"
 #include "records.h"
 
 #define MOST_LINKS 8
 
-/* The bundles of a chain, or one alone, in which rows are asked both by itself and as a chain. */
+/* The bundles of a chain, or one alone, and what they were given. */
 static struct fluent_bundle bundles[MOST_LINKS];
+static struct objects objects[MOST_LINKS];
 static size_t links;
-static bool by_chain;
+static bool has_objects;
+
+/* How a row is asked: a bundle that is alone also as a chain. The last two ask the bundle that fluent_find_chain names, and
+   have records of errors. */
+static enum way { BY_BUNDLE, BY_CHAIN, BY_RECORDS, BY_HAND, WAYS } way;
+
+/* How much memory is taken without bundles. */
+static long taken_before;
 
 /* Where what is handed over ends: three texts and two buffers. */
 static struct fence fences[5];
@@ -20,21 +30,58 @@ static const uint8_t *lent(size_t fence, struct text text) {
 /* The two buffers of a call, and what it answered. */
 struct answer {
     uint8_t *out;
+    size_t out_room;
     uint8_t *err;
+    size_t err_room;
     uint8_t status;
     struct fluent_lengths lengths;
 };
 
+#define LENT(fence, text) lent(fence, text), (text).length
+#define TARGET(row) LENT(0, (row)->texts[1]), LENT(1, (row)->texts[2])
+#define ASKED(row) TARGET(row), LENT(2, (row)->texts[3])
+#define ROOMS(a) (a)->out, (a)->out_room, (a)->err, (a)->err_room, &(a)->lengths
+
+/* Asks by hand: what was asked, and the answers to it. */
+static uint8_t by_hand(size_t index, const struct record *row, struct answer *a) {
+    static uint8_t question[1 << 16], answers[1 << 20];
+    uint8_t status, *end = answers;
+    while ((status = fluent_format_asking(&bundles[index], ASKED(row), answers, (size_t)(end - answers), question,
+                                          sizeof question, NULL, 0, &a->lengths)) == FLUENT_ASKS) {
+        size_t length = a->lengths.text;
+        struct fluent_value value = answer_of(&objects[index], question, length);
+        if (fluent_argument_length(length, value.length) > (size_t)(answers + sizeof answers - end))
+            abort();
+        end = fluent_put_argument(end, value.kind, question, length, value.text, value.length);
+    }
+    return status > FLUENT_TOO_SMALL ? status : fluent_format_asking(&bundles[index], ASKED(row), answers,
+                                                                     (size_t)(end - answers), ROOMS(a));
+}
+
+static uint8_t by_index(const struct record *row, struct answer *a) {
+    size_t index = 99;
+    uint8_t status = fluent_find_chain(bundles, links, TARGET(row), &index);
+    if (status != FLUENT_OK) {
+        a->lengths = (struct fluent_lengths){0, 0};
+        return status;
+    }
+    return way == BY_HAND ? by_hand(index, row, a) : fluent_format_records(&bundles[index], ASKED(row), ROOMS(a));
+}
+
 /* Formats what a record asks for into buffers of these rooms. */
 static struct answer format(const struct record *row, size_t out_room, size_t err_room) {
-    struct text id = row->texts[1], name = row->texts[2], arguments = row->texts[3];
-    struct answer a = {fenced_room(fences[3], out_room), fenced_room(fences[4], err_room), 99, {99, 99}};
-    const uint8_t *at[] = {lent(0, id), lent(1, name), lent(2, arguments)};
-    a.status = by_chain ? fluent_format_chain(bundles, links, at[0], id.length, at[1], name.length, at[2],
-                                              arguments.length, a.out, out_room, a.err, err_room, &a.lengths)
-                        : fluent_format(bundles, at[0], id.length, at[1], name.length, at[2], arguments.length, a.out,
-                                        out_room, a.err, err_room, &a.lengths);
+    struct answer a = {fenced_room(fences[3], out_room), out_room, fenced_room(fences[4], err_room), err_room, 99, {99, 99}};
+    switch (way) {
+    case BY_BUNDLE: a.status = fluent_format(bundles, ASKED(row), ROOMS(&a)); break;
+    case BY_CHAIN: a.status = fluent_format_chain(bundles, links, ASKED(row), ROOMS(&a)); break;
+    default: a.status = by_index(row, &a);
+    }
     return a;
+}
+
+/* The errors that a row wants, as lines or as records. */
+static struct text errors_of(const struct record *row) {
+    return row->texts[way < BY_RECORDS ? 5 : 6];
 }
 
 static bool holds(const uint8_t *buffer, struct text text) {
@@ -55,7 +102,7 @@ static void compare(const char *what, const uint8_t *came, size_t length, struct
 
 /* A row's text and errors, into buffers with just as much room, and with a byte less for either. */
 static void ask_format(const struct record *row) {
-    struct text text = row->texts[4], errors = row->texts[5];
+    struct text text = row->texts[4], errors = errors_of(row);
     struct answer a = format(row, text.length, errors.length);
     check(a.status == FLUENT_OK, "another status");
     check(has_lengths(&a, text.length, errors.length) && holds(a.out, text) && holds(a.err, errors), "another answer");
@@ -77,16 +124,18 @@ static void ask_format(const struct record *row) {
     }
 }
 
-/* The same with the first request for memory refused, then with the second, .., until there is enough. */
+/* The same with the first request for memory refused, then with the second, .., until there is enough: only that one, or all
+   behind it too. A bundle that asks keeps what its last call was answered. */
 static void refuse_in_turn(const struct record *row) {
-    struct text text = row->texts[4], errors = row->texts[5];
+    struct text text = row->texts[4], errors = errors_of(row);
     long before = taken;
     for (long turn = 0; is_right; turn++) {
         blocks = turn;
         struct answer a = format(row, text.length, errors.length);
+        bool is_refused = blocks < 0 || a.status != FLUENT_OK;
         blocks = -1;
-        check(taken == before, "memory that is not given back");
-        if (a.status == FLUENT_OK) {
+        check(taken == before || (has_objects && a.status == FLUENT_NO_MEMORY), "memory that is not given back");
+        if (!is_refused) {
             check(holds(a.out, text) && holds(a.err, errors), "another answer after a refusal");
             return;
         }
@@ -133,26 +182,32 @@ static void ask_attributes(const struct record *row) {
     check(status == FLUENT_OK && length == names.length && holds(out, names), "other attributes");
 }
 
-/* Asks a row by the bundle alone, and by the chain. */
+/* Asks a row in each way. */
 static void ask_each_way(const struct record *row) {
     bool is_there = row->kind == 'f';
     check((found(row) > 0) == is_there, is_there ? "it is not found" : "it is found");
-    for (int way = links > 1; way < 2; way++) {
-        by_chain = way;
+    for (way = links > 1 ? BY_CHAIN : BY_BUNDLE; way < WAYS; way++) {
         if (is_there) {
             ask_format(row);
-            refuse_in_turn(row);
+            for (int one = 0; one < 2; one++) {
+                only_one = one;
+                refuse_in_turn(row);
+            }
         } else
             ask_missing(row);
     }
 }
 
 /* What makes a bundle is no case, and must be right all the same. */
-static void must(uint8_t status) {
-    if (status == FLUENT_OK)
+static void must_be(uint8_t wanted, uint8_t status) {
+    if (status == wanted)
         return;
     printf("a bundle can't be made: status %d\n", status);
     exit(1);
+}
+
+static void must(uint8_t status) {
+    must_be(FLUENT_OK, status);
 }
 
 static void add(struct text source, bool is_overriding) {
@@ -186,10 +241,35 @@ static void open_bundle(const struct record *r) {
     if (links == MOST_LINKS)
         abort();
     struct fluent_bundle *bundle = &bundles[links++];
-    if (r->kind == 'o')
-        must(fluent_open(bundle, lent(0, t[0]), t[0].length, t[1].length > 0));
+    if (r->kind == 'r')
+        must(fluent_open_rules(bundle, LENT(0, t[0]), LENT(1, t[1]), t[2].length > 0));
     else
-        must(fluent_open_rules(bundle, lent(0, t[0]), t[0].length, lent(1, t[1]), t[1].length, t[2].length > 0));
+        must((t[2].length ? fluent_open_bare : fluent_open)(bundle, LENT(0, t[0]), t[1].length > 0));
+}
+
+/* Adds a function of a kind, or finds its name taken, as a record says. */
+static void add_function(const struct text *t) {
+    struct objects *own = &objects[links - 1];
+    struct named_kind *function = &own->functions[own->count];
+    if (own->count == MOST_FUNCTIONS)
+        abort();
+    *function = (struct named_kind){t[0], t[1]};
+    must_be(t[2].length ? FLUENT_ID_TAKEN : FLUENT_OK,
+            fluent_add_function(&bundles[links - 1], LENT(0, t[0]), call_kind, function));
+    own->count += t[2].length == 0;
+    has_objects = true;
+}
+
+static void set_formatter(struct text way_of_it) {
+    struct text *formatter = &objects[links - 1].formatter;
+    *formatter = way_of_it;
+    must(fluent_set_formatter(&bundles[links - 1], show_value, formatter));
+    has_objects = true;
+}
+
+static void set_transform(void) {
+    must(fluent_set_transform(&bundles[links - 1], raise_text, NULL));
+    has_objects = true;
 }
 
 static void set_limit(struct text digits) {
@@ -200,8 +280,13 @@ static void set_limit(struct text digits) {
 }
 
 static void close_all(void) {
-    while (links > 0)
+    while (links > 0) {
         fluent_close(&bundles[--links]);
+        objects[links].count = 0;
+    }
+    has_objects = false;
+    if (taken != taken_before)
+        exit(printf("memory is not given back with a bundle\n") > 0);
 }
 
 /* What is to be done where a record is no case. */
@@ -210,7 +295,10 @@ static void make(const struct record *r) {
     case 'o':
     case 'r': open_bundle(r); break;
     case 'l': set_limit(r->texts[0]); break;
-    case 'a': add(r->texts[0], r->texts[1].length > 0); break;
+    case 'n': must_be(r->texts[2].length ? FLUENT_ID_TAKEN : FLUENT_OK, fluent_add_builtins(&bundles[links - 1])); break;
+    case 'u': add_function(r->texts); break;
+    case 'v': set_formatter(r->texts[0]); break;
+    case 'x': set_transform(); break;
     case 'c': close_all(); break;
     default: abort();
     }
@@ -234,6 +322,7 @@ int main(int count, char **words) {
         return 2;
     struct text file = read_file(words[1]);
     const uint8_t *at = file.at;
+    taken_before = taken;
     for (size_t i = 0; i < COUNT(fences); i++)
         fences[i] = new_fence(file.length);
     while (at < file.at + file.length) {

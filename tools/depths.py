@@ -4,6 +4,7 @@ that they are shown as. `tools/hostile` gives them to fluent_show; `tools/depths
 asks the library for C with each of LIMITS. What is wanted comes from the rules below alone, by functions that call
 themselves: Python 3.11 takes no stack for these, however deep they are."""
 import gc
+import re
 import sys
 from collections import namedtuple
 from itertools import cycle
@@ -81,8 +82,10 @@ TOO_MANY, CYCLIC = "Too many placeables", "Cyclical dependency detected"
 class Formatting:
     """One call for a pattern: a text of text, a Number, or None for the value of what has none."""
 
-    def __init__(self, entries, limit):
+    def __init__(self, entries, limit, has_functions):
         self.entries, self.errors, self.path = entries, [], set()
+        # Whether each function but NUMBER is one that answers its first argument. Else there is none.
+        self.has_functions = has_functions
         # How many placeables may still be opened, and None once one more was tried.
         self.left = limit
 
@@ -142,6 +145,9 @@ class Formatting:
             case Function(id="NUMBER"):
                 value = self.value(x, values)
                 return value.digits if value else fallback(x)
+            case Function() if self.has_functions:
+                value = self.value(x, values)
+                return fallback(x) if value is None else value.digits if isinstance(value, Number) else value
             case Function():
                 self.values(x.positional, values)
                 return self.loses(x)
@@ -161,9 +167,9 @@ class Formatting:
                     self.loses(x)
                 return values.get(x.id)
             case Function():
-                positional = self.values(x.positional, values)
-                is_number = x.id == "NUMBER" and positional and isinstance(positional[0], Number)
-                return positional[0] if is_number else None
+                first = next(iter(self.values(x.positional, values)), None)
+                is_answer = isinstance(first, Number) if x.id == "NUMBER" else self.has_functions
+                return first if is_answer else None
         return self.text(x, values)
 
     def values(self, several, values):
@@ -184,10 +190,10 @@ def chosen(value, variants):
 Product = namedtuple("Product", "name source entries")
 
 
-def wanted(product, limit):
+def wanted(product, limit, has_functions=False):
     """The text of the message `a`, and the lines of its errors."""
     values = {name: Number(digits) for name, digits in WORDS.items()}
-    call = Formatting(product.entries, limit)
+    call = Formatting(product.entries, limit, has_functions)
     text = call.refers(Message("a", None), values)
     return text, "".join(f"Resolver error: {error}\n" for error in call.errors)
 
@@ -302,14 +308,25 @@ def record(kind, *texts):
     return kind + bytes([len(texts)]) + b"".join(map(sized, texts))
 
 
+def arguments(words):
+    """Numbers by their names, as the library takes them."""
+    return "".join("n" + sized(name).decode() + sized(digits).decode() for name, digits in words.items())
+
+
+def asks_too_often(product, limit):
+    """Whether so many questions come of one text, which is then made as often, that it takes seconds."""
+    return limit == LIMITS[-1] and re.search("^arguments of unknown functions|messages in arguments", product.name)
+
+
 def main():
-    values = "".join("n" + sized(name).decode() + sized(digits).decode() for name, digits in WORDS.items())
     with open(sys.argv[1], "wb") as file:
         for product in products():
             file.write(record(b"s", product.source))
             for limit in LIMITS:
-                name = f"{product.name}, with a limit of {limit}"
+                name, values = f"{product.name}, with a limit of {limit}", arguments(WORDS)
                 file.write(record(b"f", name, str(limit), values, *wanted(product, limit)))
+                if not asks_too_often(product, limit):
+                    file.write(record(b"a", name + ", and asked", str(limit), values, *wanted(product, limit, True)))
 
 
 if __name__ == "__main__":

@@ -70,19 +70,19 @@ Cflags: -I\${includedir}
 END
 }
 
-# Makes libfluent.a and libfluent.so of the archive $1, which Rattle's compiler made of the crate fluent_c, and puts both
-# into the folder $2 with fluent.h and fluent.pc. Programs find the shared one by the name libfluent.so.0.
+# Makes libfluent.a and libfluent.so.0 of the archive $1, which Rattle's compiler made of the crate fluent_c, and puts both into
+# the folder $2 with fluent.h and fluent.pc. Programs find the shared one by this name, which has the first number of the
+# version, and compilers by libfluent.so, which is a link to it.
 link_library() {
-    local archive=$1 to=$2 top c work version
+    local archive=$1 to=$2 top c work version shared
     top=$(cd "$(dirname "${BASH_SOURCE[0]}")/.." && pwd) && c=$top/c || return 1
     version=$(sed -nE 's/^version = "(.*)"$/\1/p' "$top/bindings/python/pyproject.toml") && [ -n "$version" ] || return 1
-    work=$(mktemp -d) || return 1
-    mkdir -p "$to" && link_object "$archive" "$c" "$work" && rm -f "$to/libfluent.a" &&
+    work=$(mktemp -d) && shared=libfluent.so.${version%%.*} || return 1
+    mkdir -p "$to" && link_object "$archive" "$c" "$work" && rm -f "$to"/libfluent.{a,so} "$to"/libfluent.so.* &&
         ar rcs "$to/libfluent.a" "$work/fluent.o" &&
-        "${CC:-cc}" -shared -Wl,-soname,"libfluent.so.${version%%.*}" -Wl,--version-script="$c/fluent.map" \
-            -Wl,--no-undefined -Wl,-z,relro,-z,now "$work/fluent.o" -o "$to/libfluent.so" &&
-        ln -sf libfluent.so "$to/libfluent.so.${version%%.*}" && cp "$c/fluent.h" "$to" &&
-        describe_library "$version" > "$to/fluent.pc"
+        "${CC:-cc}" -shared -Wl,-soname,"$shared" -Wl,--version-script="$c/fluent.map" -Wl,--no-undefined -Wl,-z,relro,-z,now \
+            "$work/fluent.o" -o "$to/$shared" &&
+        ln -s "$shared" "$to/libfluent.so" && cp "$c/fluent.h" "$to" && describe_library "$version" > "$to/fluent.pc"
     set -- $?
     rm -rf "${work:?}"
     return "$1"

@@ -92,6 +92,8 @@ export class FluentBundle {
     formatPattern(pattern: Pattern | string, args?: Record<string, FluentVariable> | null, errors?: Array<Error> | null): string;
     /** The ids of all messages, in the order of their bytes. */
     messageIds(): Array<string>;
+    /** The names of the arguments that a pattern may need: those of variables in it, and in messages that it refers to, in order. */
+    variables(pattern: Pattern): Array<string>;
     /** Gives the memory back. The bundle can't be asked any more. */
     close(): void;
 }

@@ -33,6 +33,7 @@ PROVED(fluent_add_overriding);
 PROVED(fluent_report);
 PROVED(fluent_ids);
 PROVED(fluent_attributes);
+PROVED(fluent_variables);
 PROVED(fluent_has);
 PROVED(fluent_find);
 PROVED(fluent_close);
@@ -155,6 +156,10 @@ CALL(word, ids, word bundle, ROOM_OF(out)) {
 
 CALL(word, attributes, word bundle, TEXT_OF(id), ROOM_OF(out)) {
     return rattle_fluent_attributes(BUNDLE(bundle), TEXT(id), ROOM(out), &lengths.text);
+}
+
+CALL(word, variables, word bundle, TEXT_OF(id), TEXT_OF(name), ROOM_OF(out)) {
+    return rattle_fluent_variables(BUNDLE(bundle), TEXT(id), TEXT(name), ROOM(out), &lengths.text);
 }
 
 CALL(word, has, word bundle, TEXT_OF(id)) {

@@ -65,9 +65,20 @@ export class Bundle {
         return lines(this.#slot.text("ids").text);
     }
 
+    #own(pattern) {
+        if (!(pattern instanceof Pattern) || pattern.bundle !== this) throw new TypeError("No pattern of this bundle");
+        return pattern;
+    }
+
+    variables(pattern) {
+        const {id, name} = this.#own(pattern), {status, text} = this.#slot.text("variables", id, name);
+        if (status !== Status.OK) throw new FluentFault(status);
+        return lines(text);
+    }
+
     formatPattern(pattern, args = null, errors = null) {
         if (typeof pattern === "string") return this.#transform ? this.#transform(pattern) : pattern;
-        if (!(pattern instanceof Pattern) || pattern.bundle !== this) throw new TypeError("No pattern of this bundle");
+        this.#own(pattern);
         const scope = new Scope(this, this.#intl, args, errors);
         try {
             return this.#format(pattern, scope);

@@ -32,6 +32,15 @@ export function surface(FluentBundle) {
             same(["a", "b", "c", "-c"].map(id => bundle.hasMessage(id)), [true, true, false, false]);
             same(bundle.messageIds(), ["a", "b"]);
         },
+        "a pattern tells what it asks for"() {
+            const bundle = made("-t = { $t }\na = { $x }{ -t($m, u: 1) }{ F($n) }{ b.u }{ $x }\nb =\n    .u = { $b }{ a }\nc = C\n");
+            const {value} = bundle.getMessage("a"), {u} = bundle.getMessage("b").attributes;
+            same([bundle.variables(value), bundle.variables(u)], [["b", "m", "n", "x"], ["b", "m", "n", "x"]]);
+            same(bundle.variables(bundle.getMessage("c").value), []);
+            for (const other of [null, "a", made("a = A\n").getMessage("a").value]) throws(() => bundle.variables(other), TypeError);
+            bundle.addResource(new FluentResource("a = { $y }\n"), {allowOverrides: true});
+            same(bundle.variables(value), ["y"]);
+        },
         "what is added twice is told, and overrides where that is allowed"() {
             const bundle = made("a = 1\n-t = 1\n"), again = new FluentResource("a = 2\n-t = 2\nb = { $\n");
             same(bundle.addResource(again).map(error => [error.name, error.message, error.line]), [

@@ -18,6 +18,7 @@ const message = bundle.getMessage("a");
 const errors: Array<Error> = [];
 if (message?.value) console.log(bundle.formatPattern(message.value, args, errors));
 for (const [name, pattern] of Object.entries(message?.attributes ?? {})) console.log(name, bundle.formatPattern(pattern));
+const names: Array<string> = message?.value ? bundle.variables(message.value) : [];
 const ids: Array<string> = bundle.messageIds();
-console.log(ids.length, bundle.hasMessage("a"));
+console.log(names.length, ids.length, bundle.hasMessage("a"));
 bundle.close();

@@ -5,10 +5,13 @@ from ._messages import FluentResource, Message, Pattern
 from .bundle import FluentBundle
 from .errors import FluentCyclicReferenceError, FluentFormatError, FluentReferenceError
 from .fallback import AbstractResourceLoader, FluentLocalization, FluentResourceLoader
+from .findings import Finding, Findings, check
 from .types import FluentNone, FluentType, fluent_date, fluent_number
 
 __all__ = [
     "AbstractResourceLoader",
+    "Finding",
+    "Findings",
     "FluentBundle",
     "FluentChain",
     "FluentCyclicReferenceError",
@@ -22,6 +25,7 @@ __all__ = [
     "Message",
     "Pattern",
     "__version__",
+    "check",
     "fluent_date",
     "fluent_number",
 ]

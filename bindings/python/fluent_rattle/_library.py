@@ -38,6 +38,12 @@ class Lengths(ctypes.Structure):
     _fields_ = [("text", ctypes.c_size_t), ("errors", ctypes.c_size_t)]
 
 
+class Checked(ctypes.Structure):
+    """What a check tells beside its text: how many bytes that has, errors and warnings, and whether nothing shows an error."""
+
+    _fields_ = [("text", ctypes.c_size_t), ("errors", ctypes.c_size_t), ("warnings", ctypes.c_size_t), ("is_clean", ctypes.c_bool)]
+
+
 class Handle(ctypes.Structure):
     """A bundle of the library. As it is made, it is closed."""
 
@@ -61,6 +67,7 @@ SIGNATURES: Dict[str, List[Any]] = {
     "fluent_report": [_BUNDLE, *_ROOM, _LENGTH],
     "fluent_ids": [_BUNDLE, *_ROOM, _LENGTH],
     "fluent_attributes": [_BUNDLE, *_TEXT, *_ROOM, _LENGTH],
+    "fluent_variables": [_BUNDLE, *_TEXT, *_TEXT, *_ROOM, _LENGTH],
     "fluent_has": [_BUNDLE, *_TEXT],
     "fluent_find": [_BUNDLE, *_TEXT, *_TEXT],
     "fluent_declare_function": [_BUNDLE, *_TEXT, ctypes.c_bool],
@@ -69,6 +76,7 @@ SIGNATURES: Dict[str, List[Any]] = {
     "fluent_format": [_BUNDLE, *_TEXT, *_TEXT, *_TEXT, *_WRITTEN],
     "fluent_format_asking": [_BUNDLE, *_TEXT, *_TEXT, *_TEXT, *_TEXT, *_WRITTEN],
     "fluent_find_chain": [_BUNDLE, ctypes.c_size_t, *_TEXT, *_TEXT, _LENGTH],
+    "fluent_check": [*_TEXT, *_TEXT, *_TEXT, *_TEXT, *_TEXT, ctypes.c_bool, *_ROOM, ctypes.POINTER(Checked)],
     "fluent_close": [_BUNDLE],
 }
 

@@ -197,6 +197,15 @@ class FluentBundle(Formats):
         missing = f"no message {message_id!r}"
         return self._calls.lines("fluent_attributes", self._index, *lent(message_id, "an id"), missing=missing)
 
+    def variables(self, message_id: str, attribute: Optional[str] = None) -> List[str]:
+        """The names of the arguments that a message's value may need, or its attribute: those of variables in it, and in messages
+        that it refers to. Each is there once, in the order of its characters. LookupError: there is no such value or attribute."""
+        missing = no_value(message_id) if attribute is None else no_attribute(message_id, attribute)
+        if attribute == "":
+            raise LookupError(missing)
+        words = *lent(message_id, "an id"), *lent(attribute or "", "the name of an attribute")
+        return self._calls.lines("fluent_variables", self._index, *words, missing=missing)
+
     def get_message(self, message_id: str) -> Message:
         """A message, whose value and attributes format_pattern takes. KeyError: there is none of the id.
 

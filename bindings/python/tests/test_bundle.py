@@ -31,6 +31,18 @@ broken = { gone }{ $x }{ broken }
 terms = { -term }
 ?? this is Junk
 """
+ASKING = f"""\
+-t = {{ $of_a_term }}
+all = {{ $x }}{{ -t($m, u: 1) }}{{ F($a) }}{{ only.b }}{{ $n ->
+    [one] {{ $x }}
+   *[other] {{ $n }}
+ }}
+only =
+ .b = {{ $b }}
+ .none = None
+loop = {{ $l }}{{ loop }}{{ gone }}
+far = {{ ${"x" * 300} }}
+"""
 LONE = "a\ud800"
 
 
@@ -156,7 +168,7 @@ class Lookups(unittest.TestCase):
     def test_lone_surrogates(self):
         made = bundle()
         for call in (lambda: FluentBundle([LONE]), lambda: made.add_resource(LONE), lambda: made.has_message(LONE),
-                     lambda: made.format_value(LONE), lambda: made.format_attribute("hello", LONE),
+                     lambda: made.variables(LONE), lambda: made.variables("hello", LONE), lambda: made.format_value(LONE), lambda: made.format_attribute("hello", LONE),
                      lambda: made.format_value("hello", {LONE: 1}), lambda: made.format_value("hello", {"name": LONE})):
             with self.assertRaisesRegex(ValueError, "lone surrogate at [01]") as raised:
                 call()
@@ -165,7 +177,7 @@ class Lookups(unittest.TestCase):
     def test_other_types(self):
         made = bundle()
         for call in (lambda: FluentBundle([1]), lambda: FluentBundle(b"en"), lambda: made.add_resource(b"a = b"),
-                     lambda: made.has_message(None), lambda: made.format_value(b"hello"),
+                     lambda: made.has_message(None), lambda: made.variables("hello", 1), lambda: made.format_value(b"hello"),
                      lambda: made.format_attribute("hello", None), lambda: made.format_value("hello", {1: 1})):
             with self.assertRaises(TypeError):
                 call()
@@ -177,6 +189,20 @@ class Lookups(unittest.TestCase):
         found = [made.has_attribute(*pair) for pair in (("mails", "title"), ("only", "title"), ("only", ""), ("a", "b"))]
         self.assertEqual(found, [True, True, False, False])
         self.assertIs(made.has_value("hello"), True)
+
+    def test_variables(self):
+        made = bundle(source=ASKING)
+        self.assertEqual(made.variables("all"), ["a", "b", "m", "n", "x"])
+        self.assertEqual([made.variables("only", "b"), made.variables("only", attribute="none")], [["b"], []])
+        self.assertEqual([made.variables("loop"), made.variables("far")], [["l"], ["x" * 300]])
+        for message in ("only", "gone", "t", "-t", ""):
+            with self.assertRaisesRegex(LookupError, "no message"):
+                made.variables(message)
+        for message, name in (("only", "c"), ("gone", "b"), ("t", "b"), ("all", "")):
+            with self.assertRaisesRegex(LookupError, "no attribute"):
+                made.variables(message, name)
+        made.add_resource("loop = { $other }", allow_overrides=True)
+        self.assertEqual(made.variables("loop"), ["other"])
 
     def test_ids(self):
         made = FluentBundle("en")

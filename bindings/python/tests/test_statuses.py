@@ -68,6 +68,9 @@ class ByCause(unittest.TestCase):
         self.assertIs(self.raw.handle.is_open, True)
         self.assertTrue(self.raw.handle.at)
         self.assertEqual(ctypes.sizeof(Handle), 24)
+        call = self.raw.library.fluent_sizes
+        call.restype = ctypes.c_uint64
+        self.assertEqual((call() & 0xFF, call() >> 8 & 0xFF), (ctypes.sizeof(Handle), ctypes.sizeof(Lengths)))
         self.assertEqual(bytes(self.raw.handle)[8], 1)
         self.raw.close()
         self.assertIs(self.raw.handle.is_open, False)

@@ -4,13 +4,15 @@
 ghost use Rattle.std.specs.Prelude.{◌≡◌, false, true};
 ghost use Rattle.fluent_c_handles.specs.Calls.Adding.{AddsOverriding, AddsSource, TellsReport};
 ghost use Rattle.fluent_c_handles.specs.Calls.Declaring.{AddsBuiltins, DeclaresFormatter, DeclaresFunction, DeclaresTransform};
-ghost use Rattle.fluent_c_handles.specs.Calls.Finding.{HasMessage, HasPattern, ListsAttributes, ListsIds};
+ghost use Rattle.fluent_c_handles.specs.Calls.Finding.{HasMessage, HasPattern, ListsAttributes, ListsIds, ListsVariables};
 ghost use Rattle.fluent_answers.specs.Answered.{AllAgree};
 ghost use Rattle.fluent_c_handles.specs.Calls.Formatting.{FindsFirst, FormatsBy, FormatsFirst, FormatsSource, told_as, told_in};
+ghost use Rattle.fluent_c_check.specs.Checks.{ChecksSources};
 ghost use Rattle.fluent_c_handles.specs.Calls.Opening.{OpensByRules, OpensByTag, SetsLimit};
 ghost use Rattle.fluent_c_handles.specs.Answers.{SlotDoes, SlotGivesText, SlotGivesTexts, SlotCloses, SlotsStay, WhenOpen};
 
 use fluent_answers::Meant;
+use fluent_c_check::Checked;
 use fluent_c_handles::{Form, Lengths, Slot};
 use std::alloc::Global;
 
@@ -211,6 +213,26 @@ pub extern "C" fn fluent_attributes(
     slot.attributes(alloc, id, out, length)
 }
 
+/// Gives the names of the variables that the value of a message asks the arguments for, or the attribute of the name where that
+/// isn't empty: its own, those in what it gives to terms and functions, and those of messages that it refers to. Each stands there
+/// once, in the order of its bytes, with a line feed after each. The bundle stays as it was.
+///
+/// The status, `out` and `length` are as those of `fluent_report`, and beside them: 7, the id or the name is not UTF-8; 8, there is
+/// no such message with a value, or with the attribute.
+#[unsafe(no_mangle)]
+pub extern "C" fn fluent_variables(
+    alloc: Global,
+    slot: &mut Slot,
+    id: &[u8],
+    name: &[u8],
+    out: &mut [u8],
+    length: &mut usize,
+) -> u8
+    ensures { SlotGivesText (WhenOpen (ListsVariables id.now name.now)) slot out length result }
+{
+    slot.variables(alloc, id, name, out, length)
+}
+
 /// Says whether there is a message of an id. The bundle stays as it was.
 ///
 /// 0: there is. 8: there is none. 7: the id is not UTF-8. 11: no bundle is open.
@@ -343,4 +365,34 @@ pub extern "C" fn fluent_close(alloc: Global, slot: &mut Slot)
     ensures { SlotCloses slot }
 {
     slot.close(alloc)
+}
+
+/// Tells what is wrong in sources of a language, which count as one: a line for each finding, or a list in JSON; and in `told` the
+/// length of that, how many errors and how many warnings there are, and whether the linter finds nothing, so that no text of the
+/// sources ever shows an error.
+///
+/// `sources`, `beside` and `references` are records, of which each is a source by its name and its text: those that are checked,
+/// those that are loaded before them, and those that they were translated from, if any. Each name of the records `functions` is a
+/// function of the program. Where `language` is empty no plural categories are looked at.
+///
+/// 0: `out` begins with the text. 1: so it is told, but `out` is too small, and as it was. Else `out` is as it was, and in `told` all
+/// is 0: 2, an allocation failed; 4, the language is not UTF-8, which is told first; of the first run of records that can't be
+/// read: 9, it is cut short, or a record begins with no kind of value; 10, a name or a text in it is not UTF-8.
+#[unsafe(no_mangle)]
+pub extern "C" fn fluent_check(
+    alloc: Global,
+    language: &[u8],
+    sources: &[u8],
+    beside: &[u8],
+    references: &[u8],
+    functions: &[u8],
+    as_json: bool,
+    out: &mut [u8],
+    told: &mut Checked,
+) -> u8
+    ensures { ChecksSources language.now sources.now beside.now references.now functions.now as_json out told result }
+{
+    fluent_c_check::check_sources(
+        alloc, language, sources, beside, references, functions, as_json, out, told,
+    )
 }

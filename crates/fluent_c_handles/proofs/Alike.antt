@@ -91,7 +91,7 @@ answered t stock b1 b2 e1 e2 =
 
 -- ---- names
 
-any_map : (p : Text → Bool) (xs : List (String Global)) → list_any p (map string_bytes xs) ≡ list_any (λ x. p (string_bytes x)) xs
+pub any_map : (p : Text → Bool) (xs : List (String Global)) → list_any p (map string_bytes xs) ≡ list_any (λ x. p (string_bytes x)) xs
 any_map p [] = refl
 any_map p (x ∷ xs) = ap (λ b. p (string_bytes x) || b) (any_map p xs)
 

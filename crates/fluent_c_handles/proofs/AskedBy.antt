@@ -1,5 +1,5 @@
 -- A text by what was answered, a question, or neither.
-use Rattle.std.proofs.Common.{◌≡◌, ◌∙◌, ℕ, Bool, true, false, List, [], ◌∷◌, length, Option, Some, None, is_some, String, Global, string_bytes, refl, sym, ap, subst, map, arith}
+use Rattle.std.proofs.Common.{◌≡◌, ◌∙◌, ℕ, Bool, true, false, List, [], ◌∷◌, Option, Some, None, is_some, String, Global, string_bytes, refl, sym, ap, subst, arith}
 use Rattle.std.specs.Prelude.{◌≢◌}
 use Rattle.std.proofs.lemmas.Grind.{common_steps}
 use Rattle.std.specs.Str.{IsUtf8}
@@ -15,7 +15,7 @@ use Rattle.fluent_answers.specs.Tables.{Table}
 use Rattle.fluent_answers.specs.Values.{argument_values}
 use Rattle.fluent_answers.specs.declared.answers.Answers.{Answers}
 use Rattle.fluent_answers.specs.declared.own.OwnValue.{OwnValue}
-use Rattle.fluent_c_handles.specs.Answers.{Code, Kept, bundle_view, declared_view, found_at, stock_content}
+use Rattle.fluent_c_handles.specs.Answers.{Kept, bundle_view, declared_view, found_at, stock_content}
 use Rattle.fluent_c_handles.specs.Calls.Formatting.{FormatsBy, NotFormattedBy, NotFormattedIn, TextsIn, WritesIn, told_in}
 use Rattle.fluent_c_handles.specs.Family.{Declares, answered_by, formatter_at, is_something, nothing_declared}
 use Rattle.fluent_c_handles.specs.Inside.Asking.{AnswersBy}

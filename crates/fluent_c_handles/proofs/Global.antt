@@ -1,4 +1,4 @@
--- The allocator of a handle, the handle and the answers as rows.
+-- The allocator of a handle, the handle and what is left at last as rows.
 use Rattle.std.proofs.alloc.Calls.{Al}
 use Rattle.std.proofs.alloc.Global.TheLaws.{the_row_laws}
 use Rattle.std.specs.contracts.alloc.Global as G
@@ -9,8 +9,6 @@ use base.Fml.{Fml, ftrue}
 use denote.RattleType.{RattleType}
 use denote.RawPtr.{Ptr}
 use Rattle.fluent_c_handles.specs.contracts.handle.Handle as H
-use Rattle.fluent_c_handles.specs.contracts.answer.Answer as A
-use Rattle.fluent_c_handles.proofs.answer.Answer.TheLaws.{the_row_laws as answer_laws}
 use Rattle.fluent_c_handles.specs.contracts.closing.Last as L
 use Rattle.fluent_c_handles.proofs.closing.Last.TheLaws.{the_row_laws as last_laws}
 
@@ -22,12 +20,6 @@ frees = ghosts.dealloc_token
 
 abbrev pub Hn : RattleType
 Hn = H.the_row
-
-abbrev pub An : RattleType
-An = A.the_row
-
-abbrev pub Ya : Al
-Ya = record { row = An; laws = answer_laws; g = record { dealloc_token = λ a τ p. ftrue }; d = dict; drops = dict }
 
 abbrev pub Ls : Al
 Ls = record { row = L.the_row; laws = last_laws; g = record { dealloc_token = λ a τ p. ftrue }; d = dict; drops = dict }

@@ -1,7 +1,8 @@
 mod Gathered
 pub mod Family
 mod Inserted
-mod NoArguments
+mod Asked
+pub mod Giving
 mod Line
 mod Ordered
 mod RecordRows

@@ -1,5 +1,5 @@
 -- What a bundle means by what the caller answers: something else at each table of all answers.
-use Rattle.std.specs.Prelude.{◌==◌, ◌||◌, ℕ, Bool, true, false, not, List, [], ◌∷◌, ◌++◌, map, length, Option, Some, None, if◌then◌else◌}
+use Rattle.std.specs.Prelude.{◌==◌, ◌||◌, ℕ, Bool, true, false, not, List, [], ◌∷◌, ◌++◌, map, length, Option, Some, None, string_bytes, if◌then◌else◌}
 use Rattle.std.specs.List.{list_any}
 use Rattle.fluent_ast.specs.Tree.{Text}
 use Rattle.fluent_semantics.specs.Arguments.{Map}
@@ -8,6 +8,8 @@ use Rattle.fluent_semantics.specs.Number.{is_text}
 use Rattle.fluent_semantics.specs.Value.{Value}
 use Rattle.fluent_answers.specs.Answered.{changed_in, formatted_in, function_in}
 use Rattle.fluent_answers.specs.Tables.{Table}
+use Rattle.fluent_answers.specs.declared.question.Asker.{Asker}
+use Rattle.fluent_answers.specs.declared.question.Asker.TheVariants as asker
 
 -- ---- what the caller declared
 
@@ -29,10 +31,11 @@ is_something d = not (length d.functions == 0) || (d.formatter || d.transform)
 abbrev pub with_name : Text → List Text → List Text
 with_name name names = if list_any (is_text name) names then names else names ++ name ∷ []
 
--- whether a question can be asked, by its first byte: `f`, a function; `v`, the formatter; `x`, the transform
-abbrev pub may_ask : Declares → List ℕ → Bool
-may_ask d [] = false
-may_ask d (c ∷ q) = if c == 102 then not (length d.functions == 0) else (if c == 118 then d.formatter else (if c == 120 then d.transform else false))
+-- whether who asks is something that was declared
+abbrev pub is_declared : Asker → Declares → Bool
+is_declared (asker.Function name) d = list_any (is_text (string_bytes name)) d.functions
+is_declared asker.Formatter d = d.formatter
+is_declared asker.Transform d = d.transform
 
 -- ---- by a table
 

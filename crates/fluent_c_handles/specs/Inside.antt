@@ -3,6 +3,7 @@ pub mod Asking
 pub mod Boxed
 pub mod Counted
 pub mod Gathered
+pub mod Into
 pub mod Limits
 pub mod Lines
 pub mod Opened
@@ -12,5 +13,7 @@ pub mod Rules
 pub mod Seen
 pub mod Shown
 pub mod Telling
+pub mod Turns
 pub mod Unasked
+pub mod Visits
 pub mod Written

@@ -76,7 +76,9 @@ fn by_answers<'r, 's: 'r>(
     match written(alloc, &stock.bundle, form, id, name, args) {
         Ok((text, lines)) => Answer::Texts { text, lines },
         Err(FormatFault::Memory) => match answers.asked() {
-            Some(question) if stock.declared.may_ask(question.as_slice()) => Answer::Asks(question),
+            Some(question) if stock.declared.has_asker(&question.asker) => {
+                Answer::Asks(question.bytes)
+            }
             _ => Answer::Fault(SourceFault::Format(FormatFault::Memory)),
         },
         Err(fault) => Answer::Fault(SourceFault::Format(fault)),

@@ -4,4 +4,5 @@ mod add;
 mod declare;
 mod find;
 mod format;
+mod need;
 mod open;

@@ -3,8 +3,9 @@ ghost use Rattle.std.specs.Prelude.{◌≡◌, string_bytes};
 ghost use Rattle.std.specs.List.{list_any};
 ghost use Rattle.fluent_semantics.specs.Number.{is_text};
 ghost use Rattle.fluent_c_handles.specs.Answers.{declared_view};
-ghost use Rattle.fluent_c_handles.specs.Family.{is_something, may_ask, nothing_declared};
+ghost use Rattle.fluent_c_handles.specs.Family.{is_declared, is_something, nothing_declared};
 
+use fluent_answers::Asker;
 use std::alloc::Global;
 
 /// What the caller answers itself.
@@ -44,15 +45,14 @@ impl Declared {
         self.functions.iter().any(|one| name == one.as_str())
     }
 
-    /// Whether a question can be asked of it, by its first byte.
-    pub(crate) fn may_ask(&self, question: &[u8]) -> bool
-        ensures { result ≡ may_ask (declared_view self.now) question.now }
+    /// Whether who asks is something of it.
+    pub(crate) fn has_asker(&self, asker: &Asker) -> bool
+        ensures { result ≡ is_declared asker.now (declared_view self.now) }
     {
-        match question {
-            [b'f', ..] => !self.functions.is_empty(),
-            [b'v', ..] => self.formatter,
-            [b'x', ..] => self.transform,
-            _ => false,
+        match asker {
+            Asker::Function(name) => self.has(name.as_str()),
+            Asker::Formatter => self.formatter,
+            Asker::Transform => self.transform,
         }
     }
 }

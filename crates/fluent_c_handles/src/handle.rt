@@ -4,10 +4,9 @@ ghost use Rattle.self_borrow.specs.Owned.{IsHeld};
 ghost use Rattle.fluent_c_handles.specs.Handles.{handle_owns, held_coded};
 ghost use Rattle.fluent_c_handles.specs.declared.stock.Stock.{Stock as Kept};
 
-use crate::answer::Answer;
 use crate::closing::{drop_bundle, free_resources, free_sources};
 use crate::stock::Stock;
-use crate::turns::{Turn, take_turn};
+use crate::turns::{Visit, make_visit};
 use self_borrow::{Ended, Lifetime, RawBox};
 use std::alloc::Global;
 use std::marker::Model;
@@ -40,21 +39,21 @@ impl Handle {
     }
 
     /// Does something of what is held, and says whether a bundle is open then.
-    pub(crate) fn turn<T: Turn>(
+    pub(crate) fn visit<V: Visit>(
         self,
         alloc: Global,
         is_open: bool,
-        what: &T,
-    ) -> (Handle, bool, Answer)
+        visitor: &mut V,
+    ) -> (Handle, bool)
         requires { is_open ≡ is_some self.held }
-        ensures { T.does what.now (held_content self.held) (held_content result.0.held) result.2 × (result.1 ≡ is_some result.0.held) }
+        ensures { V.does visitor.old visitor.new (held_content self.held) (held_content result.0.held) × (result.1 ≡ is_some result.0.held) }
     {
         let Handle { ptr, alloc: own } = self;
         let stock = RawBox {
             ptr: ptr as *mut Stock,
             alloc: own,
         };
-        let (stock, is_open, answer) = take_turn(alloc, stock, is_open, what);
+        let (stock, is_open) = make_visit(alloc, stock, is_open, visitor);
         let RawBox { ptr, alloc: own } = stock;
         (
             Handle {
@@ -62,7 +61,6 @@ impl Handle {
                 alloc: own,
             },
             is_open,
-            answer,
         )
     }
 

@@ -19,6 +19,7 @@ mod lines;
 mod lookup;
 mod message_ids;
 mod opening;
+mod place;
 mod records;
 mod shelves;
 mod slot;
@@ -27,6 +28,7 @@ mod stock;
 mod telling;
 mod texts;
 mod turns;
+mod variables;
 mod written;
 
 pub use buffers::put_text;

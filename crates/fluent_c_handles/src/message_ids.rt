@@ -82,7 +82,7 @@ fn put<'s>(
 }
 
 /// A line for each id.
-fn lines(alloc: Global, ids: BTreeSet<&str>) -> Result<String, AllocError>
+pub(crate) fn lines(alloc: Global, ids: BTreeSet<&str>) -> Result<String, AllocError>
     ensures { IfOk result (λ text. string_bytes text ≡ id_lines (texts_of ids.entry.keys)) }
 {
     let mut text = String::new(alloc);

@@ -3,7 +3,7 @@ ghost use Rattle.std.specs.Prelude.{◌≡◌, None, is_some};
 
 use crate::answer::Answer;
 use crate::handle::Handle;
-use crate::turns::{Call, OnOpen, Turn};
+use crate::turns::{Answering, Call, OnOpen, Turn, Visit};
 use std::alloc::Global;
 use std::mem;
 
@@ -32,8 +32,8 @@ impl Slot {
     }
 
     /// Does something of what is kept.
-    pub(crate) fn turn<T: Turn>(&mut self, alloc: Global, what: &T) -> Answer
-        ensures does { T.does what.now (kept_in self.old) (kept_in self.new) result }
+    pub(crate) fn visit<V: Visit>(&mut self, alloc: Global, visitor: &mut V)
+        ensures does { V.does visitor.old visitor.new (kept_in self.old) (kept_in self.new) }
         ensures beside { self.new.beside ≡ self.old.beside }
     {
         let Slot {
@@ -41,13 +41,25 @@ impl Slot {
             is_open,
             beside,
         } = mem::replace(self, Slot::closed(alloc));
-        let (handle, is_open, answer) = handle.turn(alloc, is_open, what);
+        let (handle, is_open) = handle.visit(alloc, is_open, visitor);
         *self = Slot {
             handle,
             is_open,
             beside,
         };
-        answer
+    }
+
+    /// Does something of what is kept, and answers.
+    pub(crate) fn turn<T: Turn>(&mut self, alloc: Global, what: &T) -> Answer
+        ensures does { T.does what.now (kept_in self.old) (kept_in self.new) result }
+        ensures beside { self.new.beside ≡ self.old.beside }
+    {
+        let mut answering = Answering {
+            turn: what,
+            answer: Answer::Closed,
+        };
+        self.visit(alloc, &mut answering);
+        answering.answer
     }
 
     /// Makes a call where a bundle is open.

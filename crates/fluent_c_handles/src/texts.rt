@@ -1,11 +1,10 @@
 //! The texts that a bundle gives, in memory of their own or in buffers of the caller.
-ghost use Rattle.std.specs.Prelude.{◌≡◌, ◌≢◌, None, Some, IfOk, IfErr, OnErr, string_bytes};
-ghost use Rattle.std.specs.Cow.{cow_str_bytes};
+ghost use Rattle.std.specs.Prelude.{◌≡◌, ◌++◌, IfOk, IfErr, OnErr, OnOk, string_bytes};
 ghost use Rattle.fluent_resolver_state.specs.Status.{reported};
-ghost use Rattle.fluent_c_handles.specs.Calls.Formatting.{FormatsIn, NotFormattedIn, TextsIn, error_line, error_lines, told_in};
+ghost use Rattle.fluent_c_handles.specs.Calls.Formatting.{FormatsIn, NotFormattedIn, error_line, error_lines, told_in};
 ghost use Rattle.fluent_bundle_entries.specs.ErrorView.{error_view};
 ghost use Rattle.fluent_c_handles.specs.Answers.{bundle_view, found_at};
-ghost use Rattle.fluent_c_handles.specs.Inside.Shown.{HasNoValues, HasValues, NotShown, Shows};
+ghost use Rattle.fluent_c_handles.specs.Inside.Shown.{FirstFault, GivesHeld, GivesIn, GivesShown, HasNoValues, HasValues, NotShown};
 ghost use Rattle.fluent_answers.specs.ArgumentView.{args_view};
 
 use crate::buffers::put_text;
@@ -15,7 +14,6 @@ use crate::records::records;
 use fluent_answers::{Fault, OwnValue, arguments, values};
 use fluent_bundle::{FluentArgs, FluentError};
 use std::alloc::{AllocError, Global};
-use std::borrow::CowStr;
 use std::str;
 
 /// How many bytes a text and the lines of its errors have.
@@ -70,45 +68,56 @@ pub(crate) fn format(
     ensures err { IfErr result (NotFormattedIn (bundle_view bundle.now) id.now name.now args.now) }
     ensures left { OnErr result ((out.new ≡ out.old) × (err.new ≡ err.old)) }
 {
-    match texts(alloc, bundle, Form::Lines, id, name, args) {
-        Ok((text, lines)) => Ok(Lengths {
-            text: put_text(text.as_str(), out),
-            errors: put_text(lines.as_str(), err),
-        }),
-        Err(fault) => Err(fault),
-    }
+    format_in(alloc, bundle, Form::Lines, id, name, args, out, err)
 }
 
-/// The text of the value of a message, or of its attribute of a name that is not empty, with arguments that
-/// [`arguments`] reads, and what is told of the errors in the text. A message that is not there is told before the
-/// arguments are read.
+/// The same, and what is told of the errors in a form. A message that is not there is told before its arguments.
 ///
 /// # Errors
 ///
-/// As [`FormatFault`] says.
-pub(crate) fn texts<'r, 's: 'r>(
+/// As of [`format`].
+#[inline(always)]
+pub(crate) fn format_in(
     alloc: Global,
-    bundle: &Asking<'r, 's>,
+    bundle: &Asking<'_, '_>,
     form: Form,
     id: &[u8],
     name: &[u8],
     args: &[u8],
-) -> Result<(CowStr<'s>, String), FormatFault>
-    ensures ok { IfOk result (λ t. TextsIn (told_in form) (bundle_view bundle.now) id.now name.now args.now (cow_str_bytes t.0) (string_bytes t.1)) }
+    out: &mut [u8],
+    err: &mut [u8],
+) -> Result<Lengths, FormatFault>
+    ensures ok { IfOk result (GivesIn form (bundle_view bundle.now) id.now name.now args.now out.old out.new err.old err.new) }
     ensures err { IfErr result (NotFormattedIn (bundle_view bundle.now) id.now name.now args.now) }
+    ensures left { OnErr result ((out.new ≡ out.old) × (err.new ≡ err.old)) }
 {
     let (Ok(id), Ok(name)) = (str::from_utf8(id), str::from_utf8(name)) else {
         return Err(FormatFault::NotText);
     };
-    // Without arguments there is nothing to read, and the message is looked up once.
+    // Without arguments there is nothing to read.
     if args.is_empty() {
-        return texts_with(alloc, bundle, form, id, name, &FluentArgs::new(alloc));
+        return format_with(alloc, bundle, form, id, name, None, out, err);
     }
-    if !is_there(bundle, id, name) {
-        return Err(FormatFault::NoMessage);
+    match read_values(alloc, args) {
+        Ok(args) => format_with(alloc, bundle, form, id, name, Some(&args), out, err),
+        Err(fault) => Err(first_fault(bundle, id, name, fault)),
     }
-    let args = read_values(alloc, args)?;
-    texts_with(alloc, bundle, form, id, name, &args)
+}
+
+/// What is told of a message whose arguments can't be read: where it is not there, that.
+fn first_fault(
+    bundle: &Asking<'_, '_>,
+    id: &str,
+    name: &str,
+    of_arguments: FormatFault,
+) -> FormatFault
+    ensures { FirstFault (found_at id.now name.now (bundle_view bundle.now)) of_arguments result }
+{
+    if is_there(bundle, id, name) {
+        of_arguments
+    } else {
+        FormatFault::NoMessage
+    }
 }
 
 /// The values of arguments.
@@ -129,46 +138,65 @@ pub(crate) fn read_values(
     }
 }
 
-/// The same of a value or an attribute, with arguments that were read.
-pub(crate) fn texts_with<'r, 's: 'r>(
+/// Formats a value or an attribute with arguments that were read.
+#[inline(always)]
+fn format_with(
     alloc: Global,
-    bundle: &Asking<'r, 's>,
+    bundle: &Asking<'_, '_>,
     form: Form,
     id: &str,
-    attribute: &str,
-    args: &FluentArgs<'_, OwnValue>,
-) -> Result<(CowStr<'s>, String), FormatFault>
-    ensures ok { IfOk result (λ t. Shows form (bundle_view bundle.now) id.now attribute.now args.now (Some t)) }
-    ensures err { IfErr result (NotShown (bundle_view bundle.now) id.now attribute.now) }
+    name: &str,
+    args: Option<&FluentArgs<'_, OwnValue>>,
+    out: &mut [u8],
+    err: &mut [u8],
+) -> Result<Lengths, FormatFault>
+    ensures ok { IfOk result (GivesShown form (bundle_view bundle.now) id.now name.now args.entry out.old out.new err.old err.new) }
+    ensures err { IfErr result (NotShown (bundle_view bundle.now) id.now name.now) }
+    ensures left { OnErr result ((out.new ≡ out.old) × (err.new ≡ err.old)) }
 {
-    match shown(alloc, bundle, form, id, attribute, args) {
-        Ok(Some(texts)) => Ok(texts),
+    let mut errors = Vec::new(alloc);
+    let text = if name.is_empty() {
+        bundle.format_value(id, args, &mut errors)
+    } else {
+        bundle.format_attribute(id, name, args, &mut errors)
+    };
+    match text {
+        Ok(Some(text)) => put_shown(alloc, form, text.as_str(), errors.as_slice(), out, err),
         Ok(None) => Err(FormatFault::NoMessage),
         Err(AllocError) => Err(FormatFault::Memory),
     }
 }
 
-/// The text of a value or an attribute, and what is told of its errors.
-fn shown<'r, 's: 'r>(
+/// Puts a text, and what is told of the errors in it, into buffers.
+#[inline(always)]
+fn put_shown(
     alloc: Global,
-    bundle: &Asking<'r, 's>,
     form: Form,
-    id: &str,
-    attribute: &str,
-    args: &FluentArgs<'_, OwnValue>,
-) -> Result<Option<(CowStr<'s>, String)>, AllocError>
-    ensures shows { IfOk result (Shows form (bundle_view bundle.now) id.now attribute.now args.now) }
-    ensures there { OnErr result (found_at id.now attribute.now (bundle_view bundle.now) ≢ None) }
+    text: &str,
+    errors: &[FluentError],
+    out: &mut [u8],
+    err: &mut [u8],
+) -> Result<Lengths, FormatFault>
+    ensures ok { IfOk result (GivesHeld text.now (told_in form (reported errors.now)) out.old out.new err.old err.new) }
+    ensures err { IfErr result (λ f. f ≡ FormatFault.Memory) }
+    ensures left { OnErr result ((out.new ≡ out.old) × (err.new ≡ err.old)) }
 {
-    let mut errors = Vec::new(alloc);
-    let text = if attribute.is_empty() {
-        bundle.format_value(id, Some(args), &mut errors)?
-    } else {
-        bundle.format_attribute(id, attribute, Some(args), &mut errors)?
-    };
-    match text {
-        Some(text) => Ok(Some((text, told(alloc, form, errors.as_slice())?))),
-        None => Ok(None),
+    if errors.is_empty() {
+        return Ok(put_both(text, "", out, err));
+    }
+    match told(alloc, form, errors) {
+        Ok(lines) => Ok(put_both(text, lines.as_str(), out, err)),
+        Err(AllocError) => Err(FormatFault::Memory),
+    }
+}
+
+/// Puts two texts into buffers.
+fn put_both(text: &str, lines: &str, out: &mut [u8], err: &mut [u8]) -> Lengths
+    ensures { GivesHeld text.now lines.now out.old out.new err.old err.new result }
+{
+    Lengths {
+        text: put_text(text, out),
+        errors: put_text(lines, err),
     }
 }
 
@@ -188,15 +216,14 @@ fn lines(alloc: Global, errors: &[FluentError]) -> Result<String, AllocError>
 {
     let mut text = String::new(alloc);
     for error in errors {
-        let line = line(alloc, error)?;
-        text.push_str(line.as_str())?;
+        put_line(&mut text, error)?;
     }
     Ok(text)
 }
 
-/// The text of an error, and a line feed.
-fn line(alloc: Global, error: &FluentError) -> Result<String, AllocError>
-    ensures { IfOk result (λ text. string_bytes text ≡ error_line (error_view error.now)) }
+/// Puts the text of an error, and a line feed, behind others.
+fn put_line(text: &mut String, error: &FluentError) -> Result<(), AllocError>
+    ensures { OnOk result (string_bytes text.new ≡ string_bytes text.old ++ error_line (error_view error.now)) }
 {
-    format!(in alloc; "{error}\n")
+    write!(text, "{error}\n")
 }

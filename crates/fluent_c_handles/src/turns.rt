@@ -1,6 +1,7 @@
 //! What is done of a bundle that may be open.
 ghost use Rattle.std.specs.Prelude.{◌≡◌, is_some};
 ghost use Rattle.fluent_c_handles.specs.Answers.{BundleCall, KeptCall, WhenOpen, held_content, stock_content};
+ghost use Rattle.fluent_c_handles.specs.Inside.Turns.{KeptVisit};
 
 use crate::answer::Answer;
 use crate::stock::Stock;
@@ -23,17 +24,55 @@ pub(crate) trait Turn {
         ensures open { result.1 ≡ is_some result.0.held };
 }
 
+/// What is done of a bundle that may be open by something that keeps what came of it, or hands it on.
+pub(crate) trait Visit {
+    ghost does: { Self → Self → KeptVisit };
+
+    /// Does it, and says whether a bundle is open then.
+    fn done<'r, 's: 'r>(
+        &mut self,
+        alloc: Global,
+        stock: RawBox<Stock<'r, 's>, Global>,
+        is_open: bool,
+    ) -> (RawBox<Stock<'r, 's>, Global>, bool)
+        requires { is_open ≡ is_some stock.held }
+        ensures does { does self.old self.new (held_content stock.entry.held) (held_content result.0.held) }
+        ensures open { result.1 ≡ is_some result.0.held };
+}
+
 /// Does it.
-pub(crate) fn take_turn<'r, 's: 'r, T: Turn>(
+pub(crate) fn make_visit<'r, 's: 'r, V: Visit>(
     alloc: Global,
     stock: RawBox<Stock<'r, 's>, Global>,
     is_open: bool,
-    what: &T,
-) -> (RawBox<Stock<'r, 's>, Global>, bool, Answer)
+    visitor: &mut V,
+) -> (RawBox<Stock<'r, 's>, Global>, bool)
     requires { is_open ≡ is_some stock.held }
-    ensures { T.does what.now (held_content stock.entry.held) (held_content result.0.held) result.2 × (result.1 ≡ is_some result.0.held) }
+    ensures { V.does visitor.old visitor.new (held_content stock.entry.held) (held_content result.0.held) × (result.1 ≡ is_some result.0.held) }
 {
-    what.done(alloc, stock, is_open)
+    visitor.done(alloc, stock, is_open)
+}
+
+/// A turn, and what was answered.
+#[derive(Drop)]
+pub(crate) struct Answering<'t, T> {
+    pub turn: &'t T,
+    pub answer: Answer,
+}
+
+impl<T: Turn> Visit for Answering<'_, T> {
+    ghost does = { λ before after old new. T.does before.turn.now old new after.answer };
+
+    fn done<'r, 's: 'r>(
+        &mut self,
+        alloc: Global,
+        stock: RawBox<Stock<'r, 's>, Global>,
+        is_open: bool,
+    ) -> (RawBox<Stock<'r, 's>, Global>, bool) {
+        let (stock, is_open, answer) = self.turn.done(alloc, stock, is_open);
+        self.answer = answer;
+        (stock, is_open)
+    }
 }
 
 /// A call of a bundle that is open.

@@ -1,12 +1,17 @@
--- Which messages a bundle has, and their attributes.
-use Rattle.std.specs.Prelude.{◌≡◌, Bool, true, false, List, [], ◌∷◌, ◌++◌, map, Option, Some, None, String, is_some}
+-- Which messages a bundle has, their attributes, and the variables that they ask for.
+use Rattle.std.specs.Prelude.{◌≡◌, Bool, true, false, List, [], ◌∷◌, ◌++◌, map, Option, Some, None, String, is_some, string_bytes}
 use Rattle.std.specs.List.{filter}
+use Rattle.std.specs.List.Sorted.{IsStrictlySortedBy}
+use Rattle.std.specs.Ordering.{nat_cmp}
+use Rattle.std.specs.Cmp.Lexicographic.{slice_cmp}
 use Rattle.std.specs.Str.{IsUtf8}
 use Rattle.std.proofs.Common.{Global}
-use Rattle.fluent_ast.specs.Tree.{Text}
+use Rattle.fluent_ast.specs.Tree.{Text, attribute, no_attribute}
 use Rattle.fluent_semantics.specs.Bundle.{Bundle}
 use Rattle.fluent_bundle_entries.specs.MessageView.{Content}
 use Rattle.fluent_bundle.specs.BundleView.{message_at}
+use Rattle.fluent_lint.specs.Asked.{AreAsked}
+use Rattle.fluent_lint.specs.Clean.{Names, Place, names_of, of_message}
 use Rattle.fluent_c_handles.specs.Answers.{BundleCall, IsOneText, found_at, unanswered}
 use Rattle.fluent_c_handles.specs.declared.answer.Answer.TheVariants as answer
 use Rattle.fluent_c_handles.specs.declared.sources.SourceFault.TheVariants as source_fault
@@ -79,3 +84,32 @@ abbrev pub HasPattern : Text → Text → BundleCall
 HasPattern id name m new answer.Done = (new ≡ m) × (IsUtf8 id × IsUtf8 name × (is_some (found_at id name (unanswered m)) ≡ true))
 HasPattern id name m new (answer.Fault (source_fault.Format f)) = (new ≡ m) × HasNoPattern (unanswered m) id name f
 HasPattern id name m new a = ⊥
+
+-- ---- the variables that a value or an attribute asks for
+
+-- as it is referred to
+abbrev pub place_at : Text → Text → Place
+place_at id [] = of_message id no_attribute
+place_at id (c ∷ cs) = of_message id (attribute (c ∷ cs))
+
+-- each stands before those after it by its bytes, so none is there twice
+abbrev pub Rise : List Text → Type 0
+Rise = IsStrictlySortedBy (slice_cmp nat_cmp)
+
+-- A text has a line for each variable that what stands at a place asks for, and for no other; they rise.
+pub record ListsAsked (named : Names Text) (place : Place) (text : Text) : Type 0 where
+  pub names : List Text
+  pub asked : AreAsked named place names
+  pub rise : Rise names
+  pub is : text ≡ id_lines names
+
+-- those lines, and none of errors
+abbrev pub TellsAsked : Bundle Text → Place → String Global → String Global → Type 0
+TellsAsked bundle place text lines = ListsAsked (names_of bundle) place (string_bytes text) × (string_bytes lines ≡ [])
+
+-- the same of the value or the attribute; or there is none, or no memory
+abbrev pub ListsVariables : Text → Text → BundleCall
+ListsVariables id name m new (answer.Texts text lines) = HasPattern id name m new answer.Done × TellsAsked (unanswered m) (place_at id name) text lines
+ListsVariables id name m new (answer.Fault source_fault.Memory) = HasPattern id name m new answer.Done
+ListsVariables id name m new (answer.Fault (source_fault.Format f)) = (new ≡ m) × HasNoPattern (unanswered m) id name f
+ListsVariables id name m new a = ⊥

@@ -10,10 +10,12 @@ use Rattle.fluent_semantics.specs.Bundle.{Bundle}
 use Rattle.fluent_semantics.specs.Errors.{Error, Reference, to_function, to_message, to_term, to_variable, lost, no_value, missing_default, cyclic, too_many_placeables, overriding, parser_error, resolver_error, error_text}
 use Rattle.fluent_semantics.specs.Result.{formatted, written_pattern}
 use Rattle.fluent_answers.specs.Answered.{first_answer}
+use Rattle.fluent_answers.specs.Questions.{IsQuestion}
 use Rattle.fluent_answers.specs.Records.{Are, AreAnswers, NotRead, NotReadAsAnswers, Record}
 use Rattle.fluent_answers.specs.Tables.{Table}
 use Rattle.fluent_answers.specs.Values.{argument_values}
-use Rattle.fluent_c_handles.specs.Family.{Declares, is_something, may_ask}
+use Rattle.fluent_answers.specs.declared.question.Asker.{Asker}
+use Rattle.fluent_c_handles.specs.Family.{Declares, is_declared, is_something}
 use Rattle.fluent_c_handles.specs.Answers.{BundleCall, Given, GivesNone, KeptCall, Kept, NotOpenedByTag, OpenedByTag, TextsGiven, WhenOpen, all_kept, fault_status, found_at, unanswered, with_source}
 use Rattle.fluent_c_handles.specs.declared.answer.Answer.TheVariants as answer
 use Rattle.fluent_c_handles.specs.declared.slot.Slot.{Slot}
@@ -127,14 +129,20 @@ NotFormattedBy bundle d answers id name args (fault.Arguments f) = NotFormattedI
 NotFormattedBy bundle d answers id name args (fault.Answers f) = (is_something d ≡ true) × (IsThere bundle id name × AreArguments args) × NotReadAsAnswers answers f
 NotFormattedBy bundle d answers id name args fault.Memory = NotFormattedIn bundle id name args fault.Memory
 
--- The caller is asked something of what it declared, which it has not answered. Message, arguments and answers are there.
+-- A question is what something that was declared asks: a function of its name, the formatter, or the transform.
+pub record IsAsked (d : Declares) (question : List ℕ) : Type 0 where
+  pub asker : Asker
+  pub declared : is_declared asker d ≡ true
+  pub asks : ∥ IsQuestion asker question ∥₁
+
+-- The caller is asked what it has not answered. Message, arguments and answers are there.
 pub record Asks (bundle : Bundle Text) (d : Declares) (answers id name args question : List ℕ) : Type 0 where
   pub there : IsThere bundle id name
   pub arguments : AreArguments args
   pub records : List Record
   pub read : AreAnswers records answers
   pub unanswered : first_answer question records ≡ None
-  pub asks : may_ask d question ≡ true
+  pub asks : IsAsked d question
 
 -- its text, and what is told of its errors, by all that the caller answers; or a question
 abbrev pub FormatsBy : Table → List ℕ → (List Error → Text) → Text → Text → List ℕ → BundleCall

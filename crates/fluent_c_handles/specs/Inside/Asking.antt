@@ -8,8 +8,8 @@ use Rattle.fluent_answers.specs.Tables.{Table}
 use Rattle.fluent_answers.specs.declared.answers.Answers.{Answers}
 use Rattle.fluent_answers.specs.declared.own.OwnValue.{OwnValue}
 use Rattle.fluent_c_handles.specs.Answers.{BundleCall, Kept, found_at}
-use Rattle.fluent_c_handles.specs.Calls.Formatting.{FormatsBy, told_in}
-use Rattle.fluent_c_handles.specs.Family.{Declares, may_ask}
+use Rattle.fluent_c_handles.specs.Calls.Formatting.{FormatsBy, IsAsked, told_in}
+use Rattle.fluent_c_handles.specs.Family.{Declares}
 use Rattle.fluent_c_handles.specs.Calls.Declaring.{is_taken, with_builtins, with_declared}
 use Rattle.fluent_c_handles.specs.Calls.Opening.{IsLimit, limited_to}
 use Rattle.fluent_c_handles.specs.Inside.Written.{AreTexts}
@@ -23,7 +23,7 @@ use Rattle.fluent_c_handles.specs.declared.texts.FormatFault.TheVariants as faul
 -- a text, a question, or why none
 abbrev pub AnswersBy : Form → Bundle Text → Declares → Answers → Text → Text → FluentArgs OwnValue → Answer → Type 0
 AnswersBy form bundle d answers id name args (answer.Texts text lines) = AreTexts form bundle args (found_at id name bundle) text lines
-AnswersBy form bundle d answers id name args (answer.Asks question) = (answered_in answers question.items ≡ None) × (may_ask d question.items ≡ true)
+AnswersBy form bundle d answers id name args (answer.Asks question) = (answered_in answers question.items ≡ None) × IsAsked d question.items
 AnswersBy form bundle d answers id name args (answer.Fault (source_fault.Format fault.NoMessage)) = found_at id name bundle ≡ None
 AnswersBy form bundle d answers id name args (answer.Fault (source_fault.Format fault.Memory)) = Unit {0}
 AnswersBy form bundle d answers id name args a = ⊥

@@ -1,10 +1,11 @@
--- The ids that are gathered from the entries of resources.
-use Rattle.std.specs.Prelude.{◌≡◌, Bool, List, [], ◌∷◌, map, if◌then◌else◌}
+-- The ids that are gathered from the entries of resources, and the names of variables.
+use Rattle.std.specs.Prelude.{◌≡◌, ◌↔◌, Bool, List, [], ◌∷◌, map, if◌then◌else◌}
 use Rattle.std.specs.Borrow.{Bor}
 use Rattle.std.specs.BTreeSet.{BTreeSet}
 use Rattle.fluent_ast.specs.Tree.{Text, Entry, message_entry, term_entry, junk_entry}
 use Rattle.fluent_semantics.specs.Arguments.{Map, set}
 use Rattle.fluent_semantics.specs.Bundle.{Bundle}
+use Rattle.fluent_lint.specs.Clean.{IsAmong}
 use Rattle.fluent_c_handles.specs.Calls.Finding.{names_message}
 
 -- ids, each once, in the order of their bytes
@@ -38,6 +39,10 @@ gathered ids = seen ids.keys
 -- the same as a list
 abbrev pub texts_of : List (Bor Text) → List Text
 texts_of ids = map (λ id. id.now) ids
+
+-- lists that have the same texts
+abbrev pub HaveSame : List Text → List Text → Type 0
+HaveSame xs ys = (t : Text) → IsAmong t xs ↔ IsAmong t ys
 
 -- an id was put beside these where it names a message
 abbrev pub PutsId : Bundle Text → Text → BTreeSet (Bor Text) → BTreeSet (Bor Text) → Type 0

@@ -1,5 +1,5 @@
 -- A text where there is nothing to ask.
-use Rattle.std.specs.Prelude.{◌≡◌, ℕ, List, string_bytes}
+use Rattle.std.specs.Prelude.{ℕ, List, string_bytes}
 use Rattle.fluent_ast.specs.Tree.{Text}
 use Rattle.fluent_semantics.specs.Bundle.{Bundle}
 use Rattle.fluent_c_handles.specs.Calls.Formatting.{NotFormattedIn, TextsIn, told_in}

@@ -1,0 +1,3 @@
+-- What private functions and proofs cite.
+pub mod Handed
+pub mod Manner
