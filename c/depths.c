@@ -1,7 +1,7 @@
 /* Asks for patterns that are as deep as may be, or hostile, on little stack: depths FILE [KILOBYTES], where tools/depths.py or
-   tools/hostile has written FILE. A source is read by a thread with the stack that ulimit gave, and formatted by one with so many
-   kilobytes. Each case is a process of its own, which ends within SECONDS. In some the program is asked, too: a function that
-   answers its first argument, a formatter and a transform that change nothing. */
+   tools/hostile has written FILE. A source is read, and with the first limit checked, by a thread with the stack that ulimit
+   gave, and formatted by one with so many kilobytes. Each case is a process of its own, which ends within SECONDS. In some the
+   program is asked, too: a function that answers its first argument, a formatter and a transform that change nothing. */
 #include "fluent.h"
 #include "records.h"
 #include <pthread.h>
@@ -60,6 +60,19 @@ static bool is_made(struct text source, const struct record *row) {
     return fluent_add(&bundle, source.at, source.length) == FLUENT_OK;
 }
 
+/* Whether a check of a source comes to an end. */
+static bool is_checked(struct text source) {
+    size_t room = fluent_argument_length(1, source.length);
+    uint8_t *records = malloc(room);
+    struct fluent_checked told;
+    if (!records)
+        abort();
+    fluent_put_argument(records, FLUENT_TEXT, "x", 1, source.at, source.length);
+    uint8_t status = fluent_check((const uint8_t *)"en", 2, records, room, NULL, 0, NULL, 0, NULL, 0, true, NULL, 0, &told);
+    free(records);
+    return status == FLUENT_TOO_SMALL && told.text > 0;
+}
+
 /* Formats what a record asks for, into a byte more than what is wanted has, and compares. */
 static void *format(void *at) {
     static enum ending ending;
@@ -86,6 +99,8 @@ static enum ending asked(struct text source, struct record *row) {
     void *ending;
     if (!is_made(source, row))
         return NO_BUNDLE;
+    if (number(row->texts[1]) == 1 && !is_checked(source))
+        return WRONG_ANSWER;
     if (pthread_attr_init(&small) || pthread_attr_setstacksize(&small, stack_size) ||
         pthread_create(&thread, &small, format, row) || pthread_join(thread, &ending))
         return NO_ROOM;

@@ -5,7 +5,7 @@ use anyhow::{Context, Result};
 use fluent_bundle::{
     FluentArgs, FluentBundle, FluentResource, FluentValue, NoCustom, NoFormatter, NoFunction,
 };
-use fluent_plural_rules::{RuleTexts, cldr_plurals, rules_for};
+use fluent_plural_rules::RuleTexts;
 use std::borrow::CowStr;
 
 /// A bundle with the plural rules of a language.
@@ -14,8 +14,7 @@ type Bundle<'r, 's> = FluentBundle<'r, 's, RuleTexts, NoCustom, NoFunction, NoFo
 /// Shows a Polish message with numbers.
 pub fn show_plurals(rt: &HostRuntime, resource: &FluentResource<'_>) -> Result<()> {
     let alloc = rt.alloc();
-    let rules = rules_for(cldr_plurals(), "pl").context("no such language")?; // "ar", "cy-GB" ..
-    let plurals = RuleTexts::parse(alloc, rules.cardinal, rules.ordinal)?;
+    let plurals = RuleTexts::of_language("pl").context("no such language")?; // "ar", "cy-GB" ..
     let mut bundle: Bundle<'_, '_> = FluentBundle::new(alloc, Vec::new(alloc), plurals);
     show_left(rt, bundle.add_resource(resource))?;
 

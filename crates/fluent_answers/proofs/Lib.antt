@@ -1,4 +1,6 @@
 mod Stands
+mod SetSoFar
+mod Shorter
 mod Written
 mod InOrder
 mod NumberProofs

@@ -6,7 +6,7 @@ use Rattle.std.proofs.lemmas.List.{map_push}
 use Rattle.std.proofs.lemmas.List.Elements.{All-push, All-head}
 use Rattle.fluent_answers.specs.Records.{AreWith, HasFirstWith, Record, StandBefore, one_record}
 
-one_more : (all : List Record) (s rest next : List ℕ) (r : Record) → StandBefore all s rest → one_record rest ≡ Some (r, next) → StandBefore (all ++ r ∷ []) s next
+pub one_more : (all : List Record) (s rest next : List ℕ) (r : Record) → StandBefore all s rest → one_record rest ≡ Some (r, next) → StandBefore (all ++ r ∷ []) s next
 one_more [] s rest next r e is = (next, subst (λ t. one_record t ≡ Some (r, next)) (sym e) is, refl)
 one_more (b ∷ all) s rest next r before is = (before.0, before.1, one_more all before.0 rest next r before.2 is)
 

@@ -1,3 +1,4 @@
 -- What private functions and proofs cite.
 pub mod Raw
 pub mod Given
+pub mod Setting

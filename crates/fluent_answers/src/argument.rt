@@ -45,7 +45,7 @@ pub fn arguments(alloc: Global, bytes: &[u8]) -> Result<Vec<Argument<'_>>, Fault
 }
 
 /// An argument whose name and value are UTF-8.
-fn text(raw: Raw<'_>) -> Option<Argument<'_>>
+pub(crate) fn text(raw: Raw<'_>) -> Option<Argument<'_>>
     ensures { TextsOf (raw_view raw.entry) result }
 {
     let Ok(name) = str::from_utf8(raw.name) else {

@@ -4,6 +4,7 @@
 
 mod answer;
 mod answers;
+mod args;
 mod argument;
 mod fault;
 mod formatter;
@@ -20,6 +21,7 @@ mod transform;
 mod value;
 
 pub use answers::Answers;
+pub use args::read_args;
 pub use argument::{Argument, arguments};
 pub use fault::Fault;
 pub use formatter::AskedFormatter;

@@ -18,7 +18,7 @@ use Rattle.fluent_answers.specs.declared.own.OwnValue.{OwnValue}
 use Rattle.fluent_c_handles.specs.Answers.{BundleCall, Given, WhenOpen, found_at, held_content}
 use Rattle.fluent_c_handles.specs.Calls.Formatting.{FormatsIn, NotFormattedIn, TextsIn, told_in}
 use Rattle.fluent_c_handles.specs.Inside.Into.{IsFitStatus, UnaskedGiven}
-use Rattle.fluent_c_handles.specs.Inside.Shown.{FirstFault, GivesIn, GivesShown, HasNoValues, IsHeldText, NotShown}
+use Rattle.fluent_c_handles.specs.Inside.Shown.{GivesIn, GivesShown, HasNoValues, IsHeldText, NotShown}
 use Rattle.fluent_c_handles.specs.declared.answer.Answer.TheVariants as answer
 use Rattle.fluent_c_handles.specs.declared.asking.Wanted.{Wanted}
 use Rattle.fluent_c_handles.specs.declared.stock.Stock.{Stock}
@@ -27,6 +27,7 @@ use Rattle.fluent_c_handles.specs.declared.texts.Form.TheVariants as form
 use Rattle.fluent_c_handles.specs.declared.texts.FormatFault.{FormatFault}
 use Rattle.fluent_c_handles.specs.declared.texts.FormatFault.TheVariants as fault
 use Rattle.fluent_c_handles.specs.declared.texts.Lengths.{Lengths}
+use Rattle.fluent_c_handles.proofs.Opens.{is_none}
 
 pub no_length : (xs : List ℕ) → (length xs == 0) ≡ true → xs ≡ []
 no_length [] h = refl
@@ -90,16 +91,20 @@ module _ (bundle : Bundle Text) (id name : Text) (bytes : List ℕ) (texts : IsU
     not_shown_by (Err f) h = not_by f h
 
   -- where they can't be read
-  first_by : (f g : FormatFault) (found : Option Pattern) → found_at i n bundle ≡ found → HasNoValues bytes f → FirstFault found f g → NotFormattedIn bundle id name bytes g
-  first_by f g None is has first = subst (NotFormattedIn bundle id name bytes) (sym first) (texts, is_found None is)
-  first_by (fault.Arguments f) g (Some p) is has first = subst (NotFormattedIn bundle id name bytes) (sym first) (record { texts = texts; found = λ none. absurd cc }, has)
-  first_by fault.Memory g (Some p) is has first = subst (NotFormattedIn bundle id name bytes) (sym first) (record { texts = texts; found = λ none. absurd cc }, has)
-  first_by fault.NotText g (Some p) is has first = absurd has
-  first_by fault.NoMessage g (Some p) is has first = absurd has
-  first_by (fault.Answers f) g (Some p) is has first = absurd has
+  there_by : (f : FormatFault) (found : Option Pattern) → found_at i n bundle ≡ found → is_some found ≡ true → HasNoValues bytes f → NotFormattedIn bundle id name bytes f
+  there_by f None is there has = absurd cc
+  there_by (fault.Arguments f) (Some p) is there has = (record { texts = texts; found = λ none. absurd cc }, has)
+  there_by fault.Memory (Some p) is there has = (record { texts = texts; found = λ none. absurd cc }, has)
+  there_by fault.NotText (Some p) is there has = absurd has
+  there_by fault.NoMessage (Some p) is there has = absurd has
+  there_by (fault.Answers f) (Some p) is there has = absurd has
 
-  pub not_read_by : (f g : FormatFault) → HasNoValues bytes f → FirstFault (found_at i n bundle) f g → NotFormattedIn bundle id name bytes g
-  not_read_by f g = first_by f g (found_at i n bundle) refl
+  pub not_read_by : (f : FormatFault) → is_some (found_at i n bundle) ≡ true → HasNoValues bytes f → NotFormattedIn bundle id name bytes f
+  not_read_by f there has = there_by f (found_at i n bundle) refl there has
+
+  -- where the message is not there
+  pub not_there_by : is_some (found_at i n bundle) ≡ false → NotFormattedIn bundle id name bytes fault.NoMessage
+  not_there_by none = (texts, is_found None (is_none (found_at i n bundle) none))
 
 -- errors by lines
 module _ (bundle : Bundle Text) (id name bytes out out' err err' : List ℕ) where

@@ -1,5 +1,5 @@
 //! Errors as records, which a program reads without knowing their texts.
-ghost use Rattle.std.specs.Prelude.{◌≡◌, ◌++◌, IfOk, string_bytes};
+ghost use Rattle.std.specs.Prelude.{◌≡◌, ◌++◌, IfOk, OnOk, string_bytes};
 ghost use Rattle.fluent_resolver_state.specs.Status.{reported};
 ghost use Rattle.fluent_bundle_entries.specs.ErrorView.{error_view, reference_view, resolver_error_view};
 ghost use Rattle.fluent_semantics.specs.Errors.{resolver_error};
@@ -14,65 +14,64 @@ pub(crate) fn records(alloc: Global, errors: &[FluentError]) -> Result<String, A
 {
     let mut text = String::new(alloc);
     for error in errors {
-        let record = record(alloc, error)?;
-        text.push_str(record.as_str())?;
+        put_record(&mut text, error)?;
     }
     Ok(text)
 }
 
-/// The record of an error.
-fn record(alloc: Global, error: &FluentError) -> Result<String, AllocError>
-    ensures { IfOk result (λ text. string_bytes text ≡ error_record (error_view error.now)) }
+/// Puts the record of an error behind others.
+fn put_record(text: &mut String, error: &FluentError) -> Result<(), AllocError>
+    ensures { OnOk result (string_bytes text.new ≡ string_bytes text.old ++ error_record (error_view error.now)) }
 {
     match error {
-        FluentError::ResolverError(error) => resolver_record(alloc, error),
-        FluentError::Overriding { kind: _, id } => named(alloc, "?", id.as_str(), ""),
-        FluentError::ParserError(_) => named(alloc, "?", "", ""),
+        FluentError::ResolverError(error) => put_resolver_record(text, error),
+        FluentError::Overriding { kind: _, id } => put_named(text, "?", id.as_str(), ""),
+        FluentError::ParserError(_) => put_named(text, "?", "", ""),
     }
 }
 
-/// The record of what went wrong in a pattern.
-fn resolver_record(alloc: Global, error: &ResolverError) -> Result<String, AllocError>
-    ensures { IfOk result (λ text. string_bytes text ≡ error_record (resolver_error (resolver_error_view error.now))) }
+/// Puts the record of what went wrong in a pattern.
+fn put_resolver_record(text: &mut String, error: &ResolverError) -> Result<(), AllocError>
+    ensures { OnOk result (string_bytes text.new ≡ string_bytes text.old ++ error_record (resolver_error (resolver_error_view error.now))) }
 {
     match error {
-        ResolverError::Reference(reference) => lost_record(alloc, reference),
-        ResolverError::NoValue(id) => named(alloc, "n", id.as_str(), ""),
-        ResolverError::MissingDefault => named(alloc, "d", "", ""),
-        ResolverError::Cyclic => named(alloc, "c", "", ""),
-        ResolverError::TooManyPlaceables => named(alloc, "p", "", ""),
+        ResolverError::Reference(reference) => put_lost_record(text, reference),
+        ResolverError::NoValue(id) => put_named(text, "n", id.as_str(), ""),
+        ResolverError::MissingDefault => put_named(text, "d", "", ""),
+        ResolverError::Cyclic => put_named(text, "c", "", ""),
+        ResolverError::TooManyPlaceables => put_named(text, "p", "", ""),
     }
 }
 
-/// The record of what was referred to and isn't there.
-fn lost_record(alloc: Global, reference: &ReferenceKind) -> Result<String, AllocError>
-    ensures { IfOk result (λ text. string_bytes text ≡ reference_record (reference_view reference.now)) }
+/// Puts the record of what was referred to and isn't there.
+fn put_lost_record(text: &mut String, reference: &ReferenceKind) -> Result<(), AllocError>
+    ensures { OnOk result (string_bytes text.new ≡ string_bytes text.old ++ reference_record (reference_view reference.now)) }
 {
     match reference {
-        ReferenceKind::Function { id } => named(alloc, "f", id.as_str(), ""),
+        ReferenceKind::Function { id } => put_named(text, "f", id.as_str(), ""),
         ReferenceKind::Message {
             id,
             attribute: None,
-        } => named(alloc, "m", id.as_str(), ""),
+        } => put_named(text, "m", id.as_str(), ""),
         ReferenceKind::Message {
             id,
             attribute: Some(name),
-        } => named(alloc, "a", id.as_str(), name.as_str()),
+        } => put_named(text, "a", id.as_str(), name.as_str()),
         ReferenceKind::Term {
             id,
             attribute: None,
-        } => named(alloc, "t", id.as_str(), ""),
+        } => put_named(text, "t", id.as_str(), ""),
         ReferenceKind::Term {
             id,
             attribute: Some(name),
-        } => named(alloc, "b", id.as_str(), name.as_str()),
-        ReferenceKind::Variable { id } => named(alloc, "v", id.as_str(), ""),
+        } => put_named(text, "b", id.as_str(), name.as_str()),
+        ReferenceKind::Variable { id } => put_named(text, "v", id.as_str(), ""),
     }
 }
 
-/// A record by its parts.
-fn named(alloc: Global, letter: &str, id: &str, name: &str) -> Result<String, AllocError>
-    ensures { IfOk result (λ text. string_bytes text ≡ letter.now ++ record_after id.now name.now) }
+/// Puts a record by its parts.
+fn put_named(text: &mut String, letter: &str, id: &str, name: &str) -> Result<(), AllocError>
+    ensures { OnOk result (string_bytes text.new ≡ string_bytes text.old ++ (letter.now ++ record_after id.now name.now)) }
 {
-    format!(in alloc; "{letter}{id}\0{name}\0")
+    write!(text, "{letter}{id}\0{name}\0")
 }

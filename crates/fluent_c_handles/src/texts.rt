@@ -3,15 +3,15 @@ ghost use Rattle.std.specs.Prelude.{◌≡◌, ◌++◌, IfOk, IfErr, OnErr, OnO
 ghost use Rattle.fluent_resolver_state.specs.Status.{reported};
 ghost use Rattle.fluent_c_handles.specs.Calls.Formatting.{FormatsIn, NotFormattedIn, error_line, error_lines, told_in};
 ghost use Rattle.fluent_bundle_entries.specs.ErrorView.{error_view};
-ghost use Rattle.fluent_c_handles.specs.Answers.{bundle_view, found_at};
-ghost use Rattle.fluent_c_handles.specs.Inside.Shown.{FirstFault, GivesHeld, GivesIn, GivesShown, HasNoValues, HasValues, NotShown};
+ghost use Rattle.fluent_c_handles.specs.Answers.{bundle_view};
+ghost use Rattle.fluent_c_handles.specs.Inside.Shown.{GivesHeld, GivesIn, GivesShown, HasNoValues, HasValues, NotShown};
 ghost use Rattle.fluent_answers.specs.ArgumentView.{args_view};
 
 use crate::buffers::put_text;
 use crate::lookup::is_there;
 use crate::opening::Asking;
 use crate::records::records;
-use fluent_answers::{Fault, OwnValue, arguments, values};
+use fluent_answers::{Fault, OwnValue, read_args};
 use fluent_bundle::{FluentArgs, FluentError};
 use std::alloc::{AllocError, Global};
 use std::str;
@@ -49,7 +49,7 @@ pub enum Form {
 }
 
 /// Formats the value of a message, or its attribute of a name that is not empty, with arguments that
-/// [`arguments`] reads. Each buffer that is too small is left as it was: the lengths say which room is needed. Of what
+/// [`read_args`] reads. Each buffer that is too small is left as it was: the lengths say which room is needed. Of what
 /// went wrong in the text each error has a line.
 ///
 /// # Errors
@@ -94,29 +94,16 @@ pub(crate) fn format_in(
     let (Ok(id), Ok(name)) = (str::from_utf8(id), str::from_utf8(name)) else {
         return Err(FormatFault::NotText);
     };
-    // Without arguments there is nothing to read.
+    // Without arguments there is nothing to read, and the message is looked up once.
     if args.is_empty() {
         return format_with(alloc, bundle, form, id, name, None, out, err);
     }
+    if !is_there(bundle, id, name) {
+        return Err(FormatFault::NoMessage);
+    }
     match read_values(alloc, args) {
         Ok(args) => format_with(alloc, bundle, form, id, name, Some(&args), out, err),
-        Err(fault) => Err(first_fault(bundle, id, name, fault)),
-    }
-}
-
-/// What is told of a message whose arguments can't be read: where it is not there, that.
-fn first_fault(
-    bundle: &Asking<'_, '_>,
-    id: &str,
-    name: &str,
-    of_arguments: FormatFault,
-) -> FormatFault
-    ensures { FirstFault (found_at id.now name.now (bundle_view bundle.now)) of_arguments result }
-{
-    if is_there(bundle, id, name) {
-        of_arguments
-    } else {
-        FormatFault::NoMessage
+        Err(fault) => Err(fault),
     }
 }
 
@@ -128,13 +115,9 @@ pub(crate) fn read_values(
     ensures ok { IfOk result (λ values. HasValues args.now (args_view values)) }
     ensures err { IfErr result (HasNoValues args.now) }
 {
-    let list = match arguments(alloc, args) {
-        Ok(list) => list,
-        Err(fault) => return Err(FormatFault::Arguments(fault)),
-    };
-    match values(alloc, list) {
+    match read_args(alloc, args) {
         Ok(args) => Ok(args),
-        Err(AllocError) => Err(FormatFault::Memory),
+        Err(fault) => Err(FormatFault::Arguments(fault)),
     }
 }
 

@@ -10,8 +10,8 @@ use Rattle.fluent_semantics.specs.Value.{Value}
 use Rattle.fluent_values.specs.declared.args.FluentArgs.{FluentArgs}
 use Rattle.fluent_resolver_state.specs.Status.{arguments_view}
 use Rattle.fluent_answers.specs.OwnContent.{own_content}
-use Rattle.fluent_answers.specs.Records.{Are, NotRead, Record}
-use Rattle.fluent_answers.specs.Values.{argument_values}
+use Rattle.fluent_answers.specs.Records.{NotRead}
+use Rattle.fluent_answers.specs.Values.{HaveValues}
 use Rattle.fluent_answers.specs.declared.own.OwnValue.{OwnValue}
 use Rattle.fluent_c_handles.specs.Calls.Formatting.{AreArguments, TextsIn, told_in}
 use Rattle.fluent_c_handles.specs.Answers.{Given, found_at}
@@ -53,18 +53,11 @@ NotShown bundle id attribute fault.NoMessage = found_at id attribute bundle ≡ 
 NotShown bundle id attribute fault.Memory = found_at id attribute bundle ≢ None
 NotShown bundle id attribute f = ⊥
 
--- what is told of a message whose arguments can't be read
-abbrev pub FirstFault : Option Pattern → FormatFault → FormatFault → Type 0
-FirstFault None f result = result ≡ fault.NoMessage
-FirstFault (Some pattern) f result = result ≡ f
-
 -- ---- the values of arguments
 
 -- they are those of the records that the bytes are
-pub record HasValues (args : List ℕ) (values : Map (Value Text)) : Type 0 where
-  pub all : List Record
-  pub read : Are all args
-  pub are : values ≡ argument_values all
+abbrev pub HasValues : List ℕ → Map (Value Text) → Type 0
+HasValues = HaveValues
 
 -- why there are none
 abbrev pub HasNoValues : List ℕ → FormatFault → Type 0

@@ -73,6 +73,7 @@ impl Slot {
     }
 
     /// Formats so.
+    #[inline(always)]
     fn format_by(&mut self, alloc: Global, format: &mut Format<'_, '_, '_>)
         ensures out { format.new.out.ghost_name ≡ format.old.out.ghost_name }
         ensures err { format.new.err.ghost_name ≡ format.old.err.ghost_name }

@@ -1,6 +1,6 @@
-use Rattle.std.proofs.Common.{◌≡◌, ◌∙◌, [], None, refl, sym}
+use Rattle.std.proofs.Common.{rules, ◌≡◌, ◌∙◌, [], None, refl, sym}
 use Rattle.fluent_c_handles.specs.Answers.{bundle_view}
-use Rattle.fluent_c_handles.proofs.Giving.{gives_in, no_bytes, no_length, not_read_by, not_shown_by}
+use Rattle.fluent_c_handles.proofs.Giving.{gives_in, no_bytes, no_length, not_read_by, not_shown_by, not_there_by}
 use Rattle.fluent_c_handles.proofs.texts.format_in.Goals as goal
 
 pub returns-then-is_empty-clause-ok : goal.returns-then-is_empty-clause-ok
@@ -18,7 +18,12 @@ returns-then-is_empty-clause-err c =
 pub returns-in-Err-clause-err : goal.returns-in-Err-clause-err
 returns-in-Err-clause-err c =
     not_read_by (bundle_view c.args.bundle.now) c.args.id.now c.args.name.now c.args.args.now (c.in-Ok-Ok.ensures.cases.1, c.in-Ok-Ok.ensures'.cases.1)
-    c.in-Ok-Ok.id.now c.in-Ok-Ok.name.now c.in-Ok-Ok.ensures.cases.0 c.in-Ok-Ok.ensures'.cases.0 c.in-Err.fault c.first_fault.result c.in-Err.ensures.err c.first_fault.ensures
+    c.in-Ok-Ok.id.now c.in-Ok-Ok.name.now c.in-Ok-Ok.ensures.cases.0 c.in-Ok-Ok.ensures'.cases.0 c.in-Err.fault (search (rules, c.if-not-is_there.false)) c.in-Err.ensures.err
+
+pub returns-then-not-is_there-clause-err : goal.returns-then-not-is_there-clause-err
+returns-then-not-is_there-clause-err c =
+    not_there_by (bundle_view c.args.bundle.now) c.args.id.now c.args.name.now c.args.args.now (c.in-Ok-Ok.ensures.cases.1, c.in-Ok-Ok.ensures'.cases.1)
+    c.in-Ok-Ok.id.now c.in-Ok-Ok.name.now c.in-Ok-Ok.ensures.cases.0 c.in-Ok-Ok.ensures'.cases.0 (search (rules, c.if-not-is_there.true))
 
 pub returns-in-Ok-clause-ok : goal.returns-in-Ok-clause-ok
 returns-in-Ok-clause-ok c =
