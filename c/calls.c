@@ -122,7 +122,7 @@ static uint8_t out[64], err[64];
 #define RULES TEXT("one: n = 1"), TEXT("two: n = 2")
 #define CUT TEXT("t\1\0\0\0x\2\0\0\0y")
 #define NO_UTF8 TEXT("t\1\0\0\0x\1\0\0\0\xff")
-#define NAMED TEXT("t\1\0\0\0x\5\0\0\0a = A")
+#define NAMED TEXT("t\1\0\0\0x\5\0\0\0a={b}")
 #define ROOM out, sizeof out, err, sizeof err, &lengths
 #define LINES out, sizeof out, &length
 #define NO_LINES out, 1, &length

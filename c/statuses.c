@@ -129,7 +129,7 @@ int main(void) {
         end_case();
     }
     begin_case("memory is asked for");
-    check(refused > 500, "it hardly is");
+    check(refused > 300, "it hardly is");
     end_case();
     return finish();
 }
