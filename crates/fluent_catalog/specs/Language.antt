@@ -8,14 +8,13 @@ use Rattle.fluent_plural_rules.specs.RuleTexts.{IsParse}
 use Rattle.fluent_catalog.specs.declared.language.LanguageFault.{LanguageFault}
 use Rattle.fluent_catalog.specs.declared.language.LanguageFault.TheVariants as fault
 
--- where there are rule texts, they are read as by themselves
+-- the rules of the texts, where there are some
 abbrev pub HasPlurals : Option Texts → Result Rules LanguageFault → Type 0
 HasPlurals None (Err fault.Unknown) = Unit {0}
 HasPlurals None (Err (fault.Rules f)) = ⊥
 HasPlurals None (Ok r) = ⊥
 HasPlurals (Some texts) (Ok r) = IsParse texts.cardinal texts.ordinal (Ok r)
-HasPlurals (Some texts) (Err (fault.Rules f)) = IsParse texts.cardinal texts.ordinal (Err f)
-HasPlurals (Some texts) (Err fault.Unknown) = ⊥
+HasPlurals (Some texts) (Err f) = ⊥
 
 -- what a fault says
 abbrev pub fault_text : LanguageFault → Text

@@ -13,7 +13,7 @@ use std::fmt;
 pub enum LanguageFault {
     /// The Unicode CLDR has none for its tag.
     Unknown,
-    /// They could not be read: of CLDR's rules, only since an allocation failed.
+    /// They could not be read, which [`plurals_for`] never answers: the Unicode CLDR's are read already.
     Rules(RuleFault),
 }
 
