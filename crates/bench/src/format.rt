@@ -4,7 +4,7 @@ use crate::request::bad_usage;
 use fluent_bundle::ast::Pattern;
 use fluent_bundle::{
     AddFault, Counting, FluentArgs, FluentBundle, FluentError, FluentResource, FluentValue,
-    NoCustom, NoFormatter, NoFunction, NoTransform, TryNewFault, WriteFault,
+    NoCustom, NoFormatter, NoFunction, NoTransform, TryNewFault,
 };
 use fluent_intl::EnglishPlurals;
 use std::alloc::Global;
@@ -99,6 +99,14 @@ pub fn is_isolating(words: &[String]) -> bool {
     !words.iter().any(|word| word.as_str() == "--no-isolate")
 }
 
+/// Takes out what a call before added, if it added any.
+#[inline(always)]
+pub fn empty(errors: &mut Vec<FluentError>) {
+    if !errors.is_empty() {
+        errors.clear();
+    }
+}
+
 /// The least time of a batch of calls that answer a text.
 fn time_format<'s>(
     rt: &HostRuntime,
@@ -112,7 +120,7 @@ fn time_format<'s>(
     for _ in 0..BATCHES {
         let start = Instant::now(rt)?;
         for _ in 0..turns {
-            errors.clear();
+            empty(&mut errors);
             bundle.format_pattern(pattern, Some(args), &mut errors)?;
         }
         best = best.min(start.elapsed(rt)?.as_nanos());
@@ -120,27 +128,19 @@ fn time_format<'s>(
     Ok(best)
 }
 
-/// A writer as it was, without its bytes.
-pub fn emptied(writer: Counting<Vec<u8>>) -> Counting<Vec<u8>> {
-    let mut bytes = writer.into_inner();
-    bytes.clear();
-    Counting::new(bytes)
-}
-
-/// Writes a pattern to a list of bytes.
+/// Writes a pattern to a list of bytes, and says whether it was written whole.
 fn write_once<'s>(
     bundle: &Bundle<'_, 's>,
     pattern: &Pattern<'s>,
     args: &FluentArgs<'_, NoCustom>,
-    writer: &mut Counting<Vec<u8>>,
+    bytes: &mut Vec<u8>,
     errors: &mut Vec<FluentError>,
-) -> io::Result<()> {
-    errors.clear();
-    match bundle.write_pattern(writer, pattern, Some(args), errors) {
-        Ok(()) => Ok(()),
-        Err(WriteFault::Writer(error)) => Err(error),
-        Err(_) => Err(out_of_memory()),
-    }
+) -> bool {
+    empty(errors);
+    bytes.clear();
+    bundle
+        .write_pattern(&mut Counting::new(bytes), pattern, Some(args), errors)
+        .is_ok()
 }
 
 /// The least time of a batch of calls that write, and how many bytes and errors such a call gives.
@@ -152,17 +152,18 @@ fn time_write<'s>(
     args: &FluentArgs<'_, NoCustom>,
 ) -> io::Result<(u128, usize, usize)> {
     let mut errors = Vec::new(rt.alloc());
-    let mut writer = Counting::new(Vec::new(rt.alloc()));
+    let mut bytes = Vec::new(rt.alloc());
     let mut best = u128::MAX;
     for _ in 0..BATCHES {
         let start = Instant::now(rt)?;
         for _ in 0..turns {
-            writer = emptied(writer);
-            write_once(bundle, pattern, args, &mut writer, &mut errors)?;
+            if !write_once(bundle, pattern, args, &mut bytes, &mut errors) {
+                return Err(out_of_memory());
+            }
         }
         best = best.min(start.elapsed(rt)?.as_nanos());
     }
-    Ok((best, writer.into_inner().len(), errors.len()))
+    Ok((best, bytes.len(), errors.len()))
 }
 
 /// Formats the message that the words name, in batches of so many calls; says how long a call takes, and what it

@@ -1,11 +1,12 @@
 //! Times the calls by id of a bundle.
 
 use crate::format::{
-    BATCHES, Bundle, arguments, bundle_of, emptied, is_isolating, out_of_memory, read, say,
+    BATCHES, Bundle, arguments, bundle_of, empty, is_isolating, out_of_memory, read, say,
     say_answer,
 };
 use crate::request::bad_usage;
-use fluent_bundle::{Counting, FluentArgs, FluentError, NoCustom, WriteFault};
+use fluent_bundle::{Counting, FluentArgs, FluentError, NoCustom};
+use std::alloc::AllocError;
 use std::io;
 use std::time::Instant;
 
@@ -37,8 +38,8 @@ fn format_once(
     asked: Asked<'_>,
     args: &FluentArgs<'_, NoCustom>,
     errors: &mut Vec<FluentError>,
-) -> io::Result<bool> {
-    errors.clear();
+) -> Result<bool, AllocError> {
+    empty(errors);
     let text = match asked.attribute {
         Some(name) => bundle.format_attribute(asked.id, name, Some(args), errors)?,
         None => bundle.format_value(asked.id, Some(args), errors)?,
@@ -66,24 +67,22 @@ fn time_format(
     Ok(best)
 }
 
-/// Writes what is asked for to a list of bytes.
+/// Writes what is asked for to a list of bytes, and says whether it was written whole.
 fn write_once(
     bundle: &Bundle<'_, '_>,
     asked: Asked<'_>,
     args: &FluentArgs<'_, NoCustom>,
-    writer: &mut Counting<Vec<u8>>,
+    bytes: &mut Vec<u8>,
     errors: &mut Vec<FluentError>,
-) -> io::Result<()> {
-    errors.clear();
+) -> bool {
+    empty(errors);
+    bytes.clear();
+    let writer = &mut Counting::new(bytes);
     let written = match asked.attribute {
         Some(name) => bundle.write_attribute(writer, asked.id, name, Some(args), errors),
         None => bundle.write_value(writer, asked.id, Some(args), errors),
     };
-    match written {
-        Ok(_) => Ok(()),
-        Err(WriteFault::Writer(error)) => Err(error),
-        Err(_) => Err(out_of_memory()),
-    }
+    written.is_ok()
 }
 
 /// The least time of a batch of calls that write, and how many bytes and errors such a call gives.
@@ -95,17 +94,18 @@ fn time_write(
     args: &FluentArgs<'_, NoCustom>,
 ) -> io::Result<(u128, usize, usize)> {
     let mut errors = Vec::new(rt.alloc());
-    let mut writer = Counting::new(Vec::new(rt.alloc()));
+    let mut bytes = Vec::new(rt.alloc());
     let mut best = u128::MAX;
     for _ in 0..BATCHES {
         let start = Instant::now(rt)?;
         for _ in 0..turns {
-            writer = emptied(writer);
-            write_once(bundle, asked, args, &mut writer, &mut errors)?;
+            if !write_once(bundle, asked, args, &mut bytes, &mut errors) {
+                return Err(out_of_memory());
+            }
         }
         best = best.min(start.elapsed(rt)?.as_nanos());
     }
-    Ok((best, writer.into_inner().len(), errors.len()))
+    Ok((best, bytes.len(), errors.len()))
 }
 
 /// Looks the message that the words name up and formats it, in batches of so many calls; says how long a call takes,
